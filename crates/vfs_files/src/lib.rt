@@ -1,0 +1,2 @@
+//! A file system as the server sees it: its calls, its answers, and a relation over both.
+#![tactic(auto)]

@@ -1,0 +1,2 @@
+//! The numbers of the FUSE protocol: flag sets, opcodes, ids, error numbers and constants.
+#![tactic(auto)]

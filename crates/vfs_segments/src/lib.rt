@@ -1,0 +1,2 @@
+//! Readers and writers over memory that is cut into segments.
+#![tactic(auto)]

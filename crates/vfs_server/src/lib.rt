@@ -1,0 +1,2 @@
+//! A server of FUSE requests over any file system.
+#![tactic(auto)]

@@ -1,0 +1,2 @@
+//! The records of the FUSE protocol as bytes.
+#![tactic(auto)]
