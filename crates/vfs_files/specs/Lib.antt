@@ -1,0 +1,5 @@
+pub mod Names
+pub mod Entries
+pub mod Items
+pub mod Calls
+pub mod Runs

@@ -1,2 +1,20 @@
 //! A file system as the server sees it: its calls, its answers, and a relation over both.
+//!
+//! [`FileSystem`] is what a file system implements and the server calls. This crate knows nothing
+//! of requests and replies as bytes, but for the records that an [`Entry`] and a [`Context`] are
+//! turned into and made from.
 #![tactic(auto)]
+
+pub mod defaults;
+mod directory;
+mod entry;
+mod filesystem;
+pub mod laws;
+mod name;
+mod number;
+
+pub use directory::{DirEntry, DirectoryIterator};
+pub use entry::{Context, Entry};
+pub use filesystem::FileSystem;
+pub use name::CStr;
+pub use number::Number;

@@ -1,0 +1,16 @@
+-- Names: byte lists that end at their only 0.
+use Rattle.std.specs.Prelude.{ℕ, List, Option, Some, None, ◌+◌, ◌==◌, length, take, position, if◌then◌else◌}
+use Rattle.vfs_files.specs.declared.name.CStr.{CStr}
+
+-- the bytes before the first 0, where it stands at this place and is the last byte
+abbrev pub name_to : List ℕ → Option ℕ → Option (List ℕ)
+name_to bytes None = None
+name_to bytes (Some i) = if i + 1 == length bytes then Some (take i bytes) else None
+
+-- the text of a name: a byte list is a name where its last byte is 0 and no other is, and its text is the rest
+abbrev pub name_of : List ℕ → Option (List ℕ)
+name_of bytes = name_to bytes (position (λ b. b == 0) bytes)
+
+-- the bytes of a name, without the 0 behind them
+abbrev pub name_text : CStr → List ℕ
+name_text name = name.bytes.now
