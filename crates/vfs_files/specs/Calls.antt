@@ -31,9 +31,13 @@ pub data Handed (I : Type 0) : Type 0 where
   Plain : Answer → Handed I
   Iterator : I → Handed I
 
--- the answer of a call that a file system doesn't serve: the fault ENOSYS
+-- the fault of a call that a file system doesn't serve: ENOSYS
+abbrev pub not_served : Option ℕ
+not_served = Some 38
+
+-- its answer
 abbrev pub no_such_call : Answer
-no_such_call = Failed (Some 38)
+no_such_call = Failed not_served
 
 -- the answer of each call that a file system doesn't serve: no options for `init`, nothing for `forget`, else the fault ENOSYS
 abbrev pub default_answer : Call → Answer

@@ -27,5 +27,6 @@ pub trait DirectoryIterator {
     /// The next entry, which borrows from the iterator, or `None` at the end. An iterator that has
     /// ended may be asked again.
     fn next(&mut self) -> Option<DirEntry<'_>>
-        ensures* { sem 𝓛 (Rests Self.row self.entry (λ new. gives self.old (item_of result) new)) };
+        ensures* { sem 𝓛 (Rests Self.row self.entry
+            (λ new. gives self.old (item_of result) new)) };
 }

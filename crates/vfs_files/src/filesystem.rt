@@ -3,7 +3,8 @@
 ghost use Rattle.std.specs.Prelude.{option_map};
 ghost use Rattle.vfs_flags.specs.Flags.{fs_options_bits};
 ghost use Rattle.vfs_files.specs.Names.{name_text};
-ghost use Rattle.vfs_files.specs.Calls.{Call, Init, Lookup, Forget, Getattr, Handed, Plain, Done, init_answer, entry_answer, attr_answer};
+ghost use Rattle.vfs_files.specs.Calls.{Call, Init, Lookup, Forget, Getattr};
+ghost use Rattle.vfs_files.specs.Calls.{Handed, Plain, Done, init_answer, entry_answer, attr_answer};
 
 use crate::directory::DirectoryIterator;
 use crate::entry::{Context, Entry};
@@ -35,16 +36,25 @@ pub trait FileSystem {
     /// supports; answers those that the file system wants, of which the server agrees to the ones
     /// that are capable.
     fn init(&mut self, capable: FsOptions) -> Result<FsOptions, Fault>
-        ensures { allows self.old (Init (fs_options_bits capable)) (Plain (init_answer result)) self.new };
+        ensures { allows self.old
+            (Init (fs_options_bits capable))
+            (Plain (init_answer result))
+            self.new };
 
     /// The node of this name in the directory `parent` (LOOKUP). Where the answer reaches the
     /// kernel it counts one more lookup of the node.
     fn lookup(&mut self, ctx: Context, parent: Self::Inode, name: CStr<'_>) -> Result<Entry, Fault>
-        ensures { allows self.old (Lookup ctx (Self.Inode.value parent) (name_text name.entry)) (Plain (entry_answer result)) self.new };
+        ensures { allows self.old
+            (Lookup ctx (Self.Inode.value parent) (name_text name.entry))
+            (Plain (entry_answer result))
+            self.new };
 
     /// The kernel takes back `count` lookups of a node (FORGET). There is no reply.
     fn forget(&mut self, ctx: Context, inode: Self::Inode, count: u64)
-        ensures { allows self.old (Forget ctx (Self.Inode.value inode) count) (Plain Done) self.new };
+        ensures { allows self.old
+            (Forget ctx (Self.Inode.value inode) count)
+            (Plain Done)
+            self.new };
 
     /// The attributes of a node, and how long the kernel may take them for true (GETATTR).
     /// `handle` is there where the kernel asks through an open file.
@@ -56,5 +66,8 @@ pub trait FileSystem {
         inode: Self::Inode,
         handle: Option<Self::Handle>,
     ) -> Result<(Attr, Duration), Fault>
-        ensures { allows self.old (Getattr ctx (Self.Inode.value inode) (option_map Self.Handle.value handle)) (Plain (attr_answer result)) self.new };
+        ensures { allows self.old
+            (Getattr ctx (Self.Inode.value inode) (option_map Self.Handle.value handle))
+            (Plain (attr_answer result))
+            self.new };
 }

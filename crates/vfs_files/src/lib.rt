@@ -12,6 +12,8 @@ mod filesystem;
 pub mod laws;
 mod name;
 mod number;
+#[cfg(test)]
+mod tests;
 
 pub use directory::{DirEntry, DirectoryIterator};
 pub use entry::{Context, Entry};

@@ -29,7 +29,9 @@ impl<'a> CStr<'a> {
     /// where there is no 0, where one stands before the end, and for no bytes at all. A single 0
     /// is the empty name.
     pub fn from_bytes_with_nul(bytes: &'a [u8]) -> Option<CStr<'a>>
-        ensures { MatchOption result (name_of bytes.now ≡ None) (λ name. name_of bytes.now ≡ Some (name_text name)) }
+        ensures { MatchOption result
+            (name_of bytes.now ≡ None)
+            (λ name. name_of bytes.now ≡ Some (name_text name)) }
     {
         let end = first_nul(bytes)?;
         if end + 1 == bytes.len() {
