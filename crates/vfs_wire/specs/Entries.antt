@@ -4,6 +4,8 @@ use Rattle.vfs_wire.specs.Fields.{Table}
 use Rattle.vfs_wire.specs.Attributes.{attr}
 use Rattle.vfs_wire.specs.declared.entries.EntryOut.{EntryOut}
 use Rattle.vfs_wire.specs.declared.entries.ForgetIn.{ForgetIn}
+use Rattle.vfs_wire.specs.declared.entries.ForgetOne.{ForgetOne}
+use Rattle.vfs_wire.specs.declared.entries.BatchForgetIn.{BatchForgetIn}
 
 -- EntryOut: 128 bytes
 abbrev pub entry_out : Table EntryOut
@@ -29,5 +31,27 @@ forget_in = record {
   fields = λ r. r.nlookup ∷ [];
   made = λ xs. record {
     nlookup = slice_index xs 0;
+  };
+}
+
+-- ForgetOne: 16 bytes
+abbrev pub forget_one : Table ForgetOne
+forget_one = record {
+  widths = 8 ∷ 8 ∷ [];
+  fields = λ r. r.nodeid ∷ r.nlookup ∷ [];
+  made = λ xs. record {
+    nodeid = slice_index xs 0;
+    nlookup = slice_index xs 1;
+  };
+}
+
+-- BatchForgetIn: 8 bytes
+abbrev pub batch_forget_in : Table BatchForgetIn
+batch_forget_in = record {
+  widths = 4 ∷ 4 ∷ [];
+  fields = λ r. r.count ∷ r.dummy ∷ [];
+  made = λ xs. record {
+    count = slice_index xs 0;
+    dummy = slice_index xs 1;
   };
 }

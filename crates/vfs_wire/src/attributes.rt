@@ -2,7 +2,7 @@
 
 ghost use Rattle.std.specs.Prelude.{refl};
 ghost use Rattle.std.proofs.Common.{lit≤};
-ghost use Rattle.vfs_wire.specs.Attributes.{attr, attr_out, getattr_in};
+ghost use Rattle.vfs_wire.specs.Attributes.{attr, attr_out, getattr_in, setattr_in};
 
 use crate::ByteValued;
 use crate::bytes::Field::{Eight, Four};
@@ -188,6 +188,105 @@ impl ByteValued for AttrOut {
             attr_valid_nsec: u32_at(b, 8),
             dummy: u32_at(b, 12),
             attr: part_at(b, 16),
+        }
+    }
+
+    ghost size_is = { refl };
+
+    ghost size_small = { lit≤ tt };
+
+    ghost made_fields = { λ x h. refl };
+
+    ghost fields_made = { λ b h. refl };
+}
+
+/// The record of SETATTR (`struct fuse_setattr_in`, 88 bytes). `valid` says which of the other
+/// fields are set.
+#[derive(Clone, Copy, Debug, Default)]
+pub struct SetattrIn {
+    /// Which attributes to set, bits of `SetattrValid`, and bit 6 (FATTR_FH): `fh` is set.
+    pub valid: u32,
+    /// Not used; a sender writes 0.
+    pub padding: u32,
+    /// Handle of the open file, where it has one.
+    pub fh: u64,
+    /// New size in bytes.
+    pub size: u64,
+    /// Owner of the caller's locks, a number that the kernel makes up.
+    pub lock_owner: u64,
+    /// New time of the last access, in seconds since 1970 (the bits of a signed number).
+    pub atime: u64,
+    /// New time of the last change of the data, likewise.
+    pub mtime: u64,
+    /// New time of the last change of the attributes, likewise.
+    pub ctime: u64,
+    /// The nanoseconds beside `atime`.
+    pub atimensec: u32,
+    /// The nanoseconds beside `mtime`.
+    pub mtimensec: u32,
+    /// The nanoseconds beside `ctime`.
+    pub ctimensec: u32,
+    /// New permission bits.
+    pub mode: u32,
+    /// Not used; a sender writes 0.
+    pub unused4: u32,
+    /// New owner.
+    pub uid: GuestUid,
+    /// New group.
+    pub gid: GuestGid,
+    /// Not used; a sender writes 0.
+    pub unused5: u32,
+}
+
+impl ByteValued for SetattrIn {
+    const SIZE: usize = 88;
+
+    ghost SIZE = { 88 };
+
+    ghost table = { setattr_in };
+
+    fn put(&self, out: &mut [u8]) {
+        put_fields(
+            out,
+            &[
+                Four(self.valid),
+                Four(self.padding),
+                Eight(self.fh),
+                Eight(self.size),
+                Eight(self.lock_owner),
+                Eight(self.atime),
+                Eight(self.mtime),
+                Eight(self.ctime),
+                Four(self.atimensec),
+                Four(self.mtimensec),
+                Four(self.ctimensec),
+                Four(self.mode),
+                Four(self.unused4),
+                Four(self.uid.into_inner()),
+                Four(self.gid.into_inner()),
+                Four(self.unused5),
+            ],
+        );
+    }
+
+    fn take(b: &[u8]) -> SetattrIn {
+        SetattrIn {
+            valid: u32_at(b, 0),
+            padding: u32_at(b, 4),
+            fh: u64_at(b, 8),
+            size: u64_at(b, 16),
+            lock_owner: u64_at(b, 24),
+            atime: u64_at(b, 32),
+            mtime: u64_at(b, 40),
+            ctime: u64_at(b, 48),
+            atimensec: u32_at(b, 56),
+            mtimensec: u32_at(b, 60),
+            ctimensec: u32_at(b, 64),
+            mode: u32_at(b, 68),
+            unused4: u32_at(b, 72),
+            uid: GuestUid::from(u32_at(b, 76)),
+            gid: GuestGid::from(u32_at(b, 80)),
+            unused5: u32_at(b, 84),
         }
     }
 

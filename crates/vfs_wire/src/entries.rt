@@ -2,7 +2,7 @@
 
 ghost use Rattle.std.specs.Prelude.{refl};
 ghost use Rattle.std.proofs.Common.{lit≤};
-ghost use Rattle.vfs_wire.specs.Entries.{entry_out, forget_in};
+ghost use Rattle.vfs_wire.specs.Entries.{batch_forget_in, entry_out, forget_in, forget_one};
 
 use crate::ByteValued;
 use crate::attributes::Attr;
@@ -96,6 +96,79 @@ impl ByteValued for ForgetIn {
     fn take(b: &[u8]) -> ForgetIn {
         ForgetIn {
             nlookup: u64_at(b, 0),
+        }
+    }
+
+    ghost size_is = { refl };
+
+    ghost size_small = { lit≤ tt };
+
+    ghost made_fields = { λ x h. refl };
+
+    ghost fields_made = { λ b h. refl };
+}
+
+/// One pair of BATCH_FORGET (`struct fuse_forget_one`, 16 bytes).
+#[derive(Clone, Copy, Debug, Default)]
+pub struct ForgetOne {
+    /// The node that is forgotten.
+    pub nodeid: u64,
+    /// By how much its lookup count falls.
+    pub nlookup: u64,
+}
+
+impl ByteValued for ForgetOne {
+    const SIZE: usize = 16;
+
+    ghost SIZE = { 16 };
+
+    ghost table = { forget_one };
+
+    fn put(&self, out: &mut [u8]) {
+        put_fields(out, &[Eight(self.nodeid), Eight(self.nlookup)]);
+    }
+
+    fn take(b: &[u8]) -> ForgetOne {
+        ForgetOne {
+            nodeid: u64_at(b, 0),
+            nlookup: u64_at(b, 8),
+        }
+    }
+
+    ghost size_is = { refl };
+
+    ghost size_small = { lit≤ tt };
+
+    ghost made_fields = { λ x h. refl };
+
+    ghost fields_made = { λ b h. refl };
+}
+
+/// The record of BATCH_FORGET (`struct fuse_batch_forget_in`, 8 bytes); as many `ForgetOne` follow
+/// as `count` says.
+#[derive(Clone, Copy, Debug, Default)]
+pub struct BatchForgetIn {
+    /// Number of pairs.
+    pub count: u32,
+    /// Not used; a sender writes 0.
+    pub dummy: u32,
+}
+
+impl ByteValued for BatchForgetIn {
+    const SIZE: usize = 8;
+
+    ghost SIZE = { 8 };
+
+    ghost table = { batch_forget_in };
+
+    fn put(&self, out: &mut [u8]) {
+        put_fields(out, &[Four(self.count), Four(self.dummy)]);
+    }
+
+    fn take(b: &[u8]) -> BatchForgetIn {
+        BatchForgetIn {
+            count: u32_at(b, 0),
+            dummy: u32_at(b, 4),
         }
     }
 

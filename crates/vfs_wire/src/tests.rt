@@ -1,7 +1,7 @@
 ghost use Rattle.std.specs.Prelude.{◌≡◌, length};
 
 use super::*;
-use vfs_flags::{GuestGid, GuestUid};
+use vfs_flags::{Errno, GuestGid, GuestUid};
 
 /// Whether `x` is written as `want`, and what is read from `want` is written so again.
 fn is_written_as<T: ByteValued + Drop>(x: &T, want: &[u8]) -> bool
@@ -193,4 +193,102 @@ fn laws_hold_of_a_record(_rt: HostRuntime) {
     take_after_put::<EntryOut>();
     put_after_take::<EntryOut>();
     bytes_have_size::<EntryOut>();
+}
+
+#[test]
+fn pairs_of_batch_forget(rt: HostRuntime) {
+    let pair = ForgetOne {
+        nodeid: 1,
+        nlookup: 2,
+    };
+    let want = [1, 0, 0, 0, 0, 0, 0, 0, 2, 0, 0, 0, 0, 0, 0, 0];
+    assert!(rt; is_written_as(&pair, &want));
+}
+
+#[test]
+fn counts_of_a_file_system(rt: HostRuntime) {
+    let counts = Kstatfs::from(Statvfs64 {
+        f_bsize: 0x1_0000_0200,
+        f_frsize: 0x5_0000_0400,
+        f_blocks: 0x1_0000_0001,
+        f_bfree: 2,
+        f_bavail: 3,
+        f_files: 4,
+        f_ffree: 0xffff_ffff_ffff_ffff,
+        f_namemax: 255,
+    });
+    let want = [
+        1, 0, 0, 0, 1, 0, 0, 0, 2, 0, 0, 0, 0, 0, 0, 0, 3, 0, 0, 0, 0, 0, 0, 0, 4, 0, 0, 0, 0, 0,
+        0, 0, 0xff, 0xff, 0xff, 0xff, 0xff, 0xff, 0xff, 0xff, 0, 2, 0, 0, 255, 0, 0, 0, 0, 4, 0, 0,
+        0, 0, 0, 0, 0, 0, 0, 0, 0, 0, 0, 0, 0, 0, 0, 0, 0, 0, 0, 0, 0, 0, 0, 0, 0, 0, 0, 0,
+    ];
+    assert!(rt; is_written_as(&counts, &want));
+    assert_eq!(rt; counts.bsize, 512);
+}
+
+#[test]
+fn attributes_of_a_host_file(rt: HostRuntime) {
+    let st = Stat64 {
+        st_ino: 9,
+        st_nlink: 0x1_0000_0002,
+        st_rdev: 0x7_0000_0003,
+        st_size: -1,
+        st_blocks: 8,
+        st_blksize: 4096,
+        st_atime: -2,
+        st_mtime: 5,
+        st_ctime: 6,
+        st_atime_nsec: -1,
+        st_mtime_nsec: 7,
+        st_ctime_nsec: 0x1_0000_0008,
+        st_mode: 0o100_644,
+        st_uid: 1000,
+        st_gid: 100,
+    };
+    let mapped = Attr::try_with_flags(
+        st,
+        1,
+        |_| Ok(GuestUid::from(5)),
+        |gid| Ok(GuestGid::from(gid.into_inner())),
+    );
+    let Ok(a) = mapped else {
+        panic!(rt; "the maps have no fault");
+    };
+    assert_eq!(rt;
+        (a.ino, a.size, a.blocks, a.atime),
+        (9, u64::MAX, 8, u64::MAX - 1)
+    );
+    assert_eq!(rt; (a.mtime, a.ctime), (5, 6));
+    assert_eq!(rt;
+        (a.atimensec, a.mtimensec, a.ctimensec),
+        (0xffff_ffff, 7, 8)
+    );
+    assert_eq!(rt; (a.mode, a.nlink, a.rdev), (0o100_644, 2, 3));
+    assert_eq!(rt; (a.uid, a.gid), (GuestUid::from(5), GuestGid::from(100)));
+    assert_eq!(rt; (a.blksize, a.flags), (4096, 1));
+}
+
+#[test]
+fn the_group_is_not_mapped_after_a_fault_of_the_owner(rt: HostRuntime) {
+    let mut called = false;
+    let answer = Attr::try_from_stat64(
+        Stat64::default(),
+        |_| Err(Errno::new(34)),
+        |gid| {
+            called = true;
+            Ok(GuestGid::from(gid.into_inner()))
+        },
+    );
+    assert!(rt; matches!(answer, Err(Some(e)) if e.get() == 34));
+    assert!(rt; !called);
+}
+
+#[test]
+fn a_fault_of_the_group_is_the_answer(rt: HostRuntime) {
+    let answer = Attr::try_from_stat64(
+        Stat64::default(),
+        |uid| Ok(GuestUid::from(uid.into_inner())),
+        |_| Err(None),
+    );
+    assert!(rt; matches!(answer, Err(None)));
 }
