@@ -1,0 +1,6 @@
+pub mod Lists
+pub mod Segments
+pub mod Places
+pub mod Puts
+pub mod Writers
+pub mod Records

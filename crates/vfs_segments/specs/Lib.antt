@@ -1,0 +1,5 @@
+pub mod Segments
+pub mod Unread
+pub mod Written
+pub mod Reader
+pub mod Writer

@@ -1,2 +1,19 @@
 //! Readers and writers over memory that is cut into segments.
+//!
+//! A request of the guest lies in one list of segments, and its reply goes into another. A `Reader`
+//! and a `Writer` hide the cuts: each call is an operation on flat bytes, those of one segment after
+//! another, and on a count. Nothing here knows what the bytes mean.
 #![tactic(auto)]
+
+mod error;
+mod gather;
+mod reader;
+mod record;
+mod scatter;
+#[cfg(test)]
+mod tests;
+mod writer;
+
+pub use error::{Error, Result};
+pub use reader::Reader;
+pub use writer::Writer;

@@ -1,0 +1,15 @@
+-- How a reader's fields stand for what its callers see.
+use Rattle.std.specs.Prelude.{ℕ, ◌-◌, ◌≤◌, List, length, take, drop}
+use Rattle.vfs_segments.specs.Segments.{segments_of, flat_bytes}
+use Rattle.vfs_segments.specs.Unread.{Unread}
+use Rattle.vfs_segments.specs.declared.reader.Reader.TheInside.{Inside}
+
+-- the bytes between the two places, and how far the first has come
+abbrev pub unread_of : Inside → Unread
+unread_of r = record { left = take (r.end - r.at) (drop r.at (flat_bytes (segments_of r.segments.now))); taken = r.at - r.start }
+
+-- the places of a reader are in order and lie in its segments
+pub record IsReader (r : Inside) : Type 0 where
+  pub after_start : r.start ≤ r.at
+  pub before_end : r.at ≤ r.end
+  pub within : r.end ≤ length (flat_bytes (segments_of r.segments.now))

@@ -1,0 +1,147 @@
+//! Reads the bytes of a request from segments.
+
+ghost use Rattle.std.specs.Prelude.{◌≡◌, ◌+◌, ◌^◌, ◌<◌, ◌≤◌, ◌++◌, ◌↔◌, length, take, drop, min, IfOk, IfErr, IsOk, OnOk, OnErr};
+ghost use Rattle.std.specs.IoError.{error_kind};
+ghost use Rattle.std.specs.Io.{ReadsAtMost};
+ghost use Rattle.std.specs.Io.KnownBytes.{Consumes, ReadConsumes};
+ghost use Rattle.vfs_segments.specs.Segments.{segments_of, flat_bytes};
+ghost use Rattle.vfs_segments.specs.Unread.{advanced};
+ghost use Rattle.vfs_wire.specs.Fields.{Fit, value_of};
+
+use crate::error::{Error, Result};
+use crate::gather::{gather, total_of};
+use crate::record::LARGEST_RECORD;
+use std::alloc::Global;
+use std::io;
+use std::io::{ErrorKind, Read};
+use std::marker::Model;
+use vfs_wire::ByteValued;
+
+/// Reads bytes from segments, wherever they are cut. It lends the segments, and takes each byte once.
+///
+/// Contracts see the flat bytes that are left and how many were taken.
+#[derive(Drop)]
+pub struct Reader<'a> {
+    segments: &'a [&'a [u8]],
+    start: usize,
+    at: usize,
+    end: usize,
+}
+
+impl<'a> Model for Reader<'a> {
+    ghost use Rattle.vfs_segments.specs.Unread.{Unread};
+
+    ghost Value = { Unread };
+
+    ghost use Rattle.vfs_segments.specs.Reader.{unread_of, IsReader};
+
+    ghost view = { unread_of };
+
+    ghost invariant = { IsReader };
+}
+
+impl<'a> Reader<'a> {
+    /// A reader of all bytes of the segments, of which any may be empty.
+    ///
+    /// `Error::DescriptorChainOverflow` where their lengths sum past `usize::MAX`, and
+    /// `Error::OutOfMemory` where memory is refused.
+    pub fn new(_alloc: Global, segments: &'a [&'a [u8]]) -> Result<Reader<'a>>
+        ensures ok { IfOk result (λ r. (r.left ≡ flat_bytes (segments_of segments.now)) × (r.taken ≡ 0)) }
+        ensures too_long { 2 ^ 64 ≤ length (flat_bytes (segments_of segments.now)) →
+            result ≡ Err Error.DescriptorChainOverflow }
+        ensures fits { length (flat_bytes (segments_of segments.now)) < 2 ^ 64 →
+            IfErr result (λ e. e ≡ Error.OutOfMemory) }
+    {
+        let Some(end) = total_of(segments) else {
+            return Err(Error::DescriptorChainOverflow);
+        };
+        Ok(Reader {
+            segments,
+            start: 0,
+            at: 0,
+            end,
+        })
+    }
+
+    /// How many bytes are left.
+    pub fn available_bytes(&self) -> usize
+        ensures { result ≡ length self.now.left }
+    {
+        self.end - self.at
+    }
+
+    /// How many bytes were taken.
+    pub fn bytes_read(&self) -> usize
+        ensures { result ≡ self.now.taken }
+    {
+        self.at - self.start
+    }
+
+    // Takes the next bytes, as many as the buffer has.
+    fn take_next(&mut self, buf: &mut [u8])
+        requires { length buf.old ≤ length self.old.left }
+        ensures copied { buf.new ≡ take (length buf.old) self.old.left }
+        ensures moved { self.new ≡ advanced self.old (length buf.old) }
+    {
+        gather(self.segments, self.at, buf);
+        self.at += buf.len();
+    }
+
+    /// Takes a record, as many bytes as it has.
+    ///
+    /// Where fewer are left the error's kind is `UnexpectedEof`, and all of them are taken.
+    pub fn read_obj<T: ByteValued>(&mut self) -> io::Result<T>
+        ensures variant { IsOk result ↔ (T.SIZE ≤ length self.old.left) }
+        ensures value { IfOk result (λ x. x ≡ value_of T.table self.old.left) }
+        ensures in_width { IfOk result (λ x. Fit T.table.widths (T.table.fields x)) }
+        ensures in_range { IfOk result (λ x. T.in_range x) }
+        ensures moved { OnOk result (self.new ≡ advanced self.old T.SIZE) }
+        ensures eof { IfErr result (λ e. error_kind e ≡ ErrorKind.UnexpectedEof) }
+        ensures at_end { OnErr result (self.new ≡ advanced self.old (length self.old.left)) }
+    {
+        let mut buf = [0u8; LARGEST_RECORD];
+        match self.read_exact(&mut buf[..T::SIZE]) {
+            Ok(()) => Ok(T::take(&buf[..T::SIZE])),
+            Err(e) => Err(e),
+        }
+    }
+}
+
+impl<'a> Read for Reader<'a> {
+    ghost use Rattle.std.specs.Prelude.{Some};
+
+    ghost remaining = { λ r. Some r.left };
+
+    /// Takes the next bytes, as many as the buffer has or all that are left. It never fails.
+    fn read(&mut self, buf: &mut [u8]) -> io::Result<usize>
+        ensures bound { ReadsAtMost result buf.new }
+        ensures bytes { ReadConsumes (Some self.old.left) (Some self.new.left) result buf.new }
+        ensures count { result ≡ Ok (min (length buf.old) (length self.old.left)) }
+        ensures copied { IfOk result (λ n. buf.new ≡ take n self.old.left ++ drop n buf.old) }
+        ensures moved { IfOk result (λ n. self.new ≡ advanced self.old n) }
+    {
+        let n = buf.len().min(self.available_bytes());
+        self.take_next(&mut buf[..n]);
+        Ok(n)
+    }
+
+    /// Fills the buffer.
+    ///
+    /// Where fewer bytes are left the error's kind is `UnexpectedEof`, all of them are taken, and
+    /// what the buffer holds then is open.
+    fn read_exact(&mut self, buf: &mut [u8]) -> io::Result<()>
+        ensures bytes { OnOk result (Consumes (Some self.old.left) (Some self.new.left) buf.new) }
+        ensures variant { IsOk result ↔ (length buf.old ≤ length self.old.left) }
+        ensures copied { OnOk result (buf.new ≡ take (length buf.old) self.old.left) }
+        ensures moved { OnOk result (self.new ≡ advanced self.old (length buf.old)) }
+        ensures eof { IfErr result (λ e. error_kind e ≡ ErrorKind.UnexpectedEof) }
+        ensures at_end { OnErr result (self.new ≡ advanced self.old (length self.old.left)) }
+    {
+        if buf.len() > self.available_bytes() {
+            self.at = self.end;
+            return Err(io::Error::from(ErrorKind::UnexpectedEof));
+        }
+        self.take_next(buf);
+        Ok(())
+    }
+}

@@ -1,0 +1,4 @@
+//! What a reader and a writer know of records.
+
+/// The size of the largest record, in bytes.
+pub(crate) const LARGEST_RECORD: usize = 152;

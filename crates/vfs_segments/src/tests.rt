@@ -1,0 +1,227 @@
+use crate::{Error, Reader, Writer};
+use std::alloc::{AllocError, Global};
+use std::io;
+use std::io::{ErrorKind, Read, Write};
+use std::test::Fail;
+
+// Segments of zeros, of these lengths.
+fn zeros(alloc: Global, lengths: &[usize]) -> Result<Vec<Vec<u8>>, AllocError> {
+    let mut segments = Vec::new(alloc);
+    for n in lengths {
+        segments.push(vec![in alloc; 0u8; *n]?)?;
+    }
+    Ok(segments)
+}
+
+// Which kind of error came, if one did.
+fn kind<T: Drop>(answer: io::Result<T>) -> Option<ErrorKind> {
+    match answer {
+        Ok(_) => None,
+        Err(e) => Some(e.kind()),
+    }
+}
+
+// The numbers from 1 on.
+const NUMBERED: [u8; 8] = [1, 2, 3, 4, 5, 6, 7, 8];
+
+#[test]
+fn reads_106_bytes_of_four_segments(rt: HostRuntime) -> Result<(), Fail> {
+    let bytes = [7u8; 106];
+    let segments = [&bytes[..8], &bytes[8..24], &bytes[24..42], &bytes[42..]];
+    let mut reader = Reader::new(rt.alloc(), &segments)?;
+    assert_eq!(rt; reader.available_bytes(), 106);
+    assert_eq!(rt; reader.bytes_read(), 0);
+    let mut buf = [0u8; 64];
+    assert_eq!(rt; reader.read(&mut buf)?, 64);
+    assert_eq!(rt; reader.available_bytes(), 42);
+    assert_eq!(rt; reader.bytes_read(), 64);
+    assert_eq!(rt; reader.read(&mut buf)?, 42);
+    assert_eq!(rt; reader.available_bytes(), 0);
+    assert_eq!(rt; reader.bytes_read(), 106);
+    assert_eq!(rt; reader.read(&mut buf)?, 0);
+    Ok(())
+}
+
+#[test]
+fn writes_106_bytes_of_four_segments(rt: HostRuntime) -> Result<(), Fail> {
+    let alloc = rt.alloc();
+    let mut writer = Writer::new(alloc, zeros(alloc, &[8, 16, 18, 64])?)?;
+    assert_eq!(rt; writer.available_bytes(), 106);
+    assert_eq!(rt; writer.bytes_written(), 0);
+    assert_eq!(rt; writer.write(&[7u8; 64])?, 64);
+    assert_eq!(rt; writer.available_bytes(), 42);
+    assert_eq!(rt; writer.bytes_written(), 64);
+    assert_eq!(rt; writer.write(&[7u8; 64])?, 42);
+    assert_eq!(rt; writer.available_bytes(), 0);
+    assert_eq!(rt; writer.bytes_written(), 106);
+    for segment in &writer.into_segments() {
+        assert!(rt; segment.iter().all(|b| *b == 7));
+    }
+    Ok(())
+}
+
+#[test]
+fn refuses_records_over_no_segments(rt: HostRuntime) -> Result<(), Fail> {
+    let alloc = rt.alloc();
+    let mut reader = Reader::new(alloc, &[])?;
+    assert_eq!(rt; (reader.available_bytes(), reader.bytes_read()), (0, 0));
+    assert_eq!(rt;
+        kind(reader.read_obj::<u8>()),
+        Some(ErrorKind::UnexpectedEof)
+    );
+    assert_eq!(rt; (reader.available_bytes(), reader.bytes_read()), (0, 0));
+    let mut writer = Writer::new(alloc, Vec::new(alloc))?;
+    assert_eq!(rt; (writer.available_bytes(), writer.bytes_written()), (0, 0));
+    assert_eq!(rt; kind(writer.write_obj(0u8)), Some(ErrorKind::WriteZero));
+    assert_eq!(rt; (writer.available_bytes(), writer.bytes_written()), (0, 0));
+    Ok(())
+}
+
+#[test]
+fn reads_into_a_larger_buffer_and_writes_a_whole_room(rt: HostRuntime) -> Result<(), Fail> {
+    let alloc = rt.alloc();
+    let bytes = [5u8; 128];
+    let segments = [&bytes[..16], &bytes[16..32], &bytes[32..]];
+    let mut reader = Reader::new(alloc, &segments)?;
+    let mut writer = Writer::new(alloc, zeros(alloc, &[64, 1, 3])?)?;
+    let mut buf = [0u8; 200];
+    assert_eq!(rt; reader.read(&mut buf)?, 128);
+    assert!(rt; buf[..128].iter().all(|b| *b == 5));
+    assert!(rt; buf[128..].iter().all(|b| *b == 0));
+    writer.write_all(&buf[..68])?;
+    assert_eq!(rt; (reader.available_bytes(), reader.bytes_read()), (0, 128));
+    assert_eq!(rt; (writer.available_bytes(), writer.bytes_written()), (0, 68));
+    Ok(())
+}
+
+#[test]
+fn a_record_goes_over_segments_of_one_byte_and_comes_back(rt: HostRuntime) -> Result<(), Fail> {
+    let alloc = rt.alloc();
+    let mut writer = Writer::new(alloc, zeros(alloc, &[1, 1, 1, 1])?)?;
+    writer.write_obj(0x1234_5678u32)?;
+    assert_eq!(rt; writer.available_bytes(), 0);
+    let written = writer.into_segments();
+    assert_eq!(rt; written.len(), 4);
+    let segments: [&[u8]; 4] = [&written[0], &written[1], &written[2], &written[3]];
+    for (segment, byte) in segments.iter().zip(&[[0x78u8], [0x56], [0x34], [0x12]]) {
+        assert_eq!(rt; *segment, byte.as_slice());
+    }
+    let mut reader = Reader::new(alloc, &segments)?;
+    assert_eq!(rt; reader.read_obj::<u32>()?, 0x1234_5678);
+    assert_eq!(rt; (reader.available_bytes(), reader.bytes_read()), (0, 4));
+    Ok(())
+}
+
+#[test]
+fn a_read_past_the_end_takes_all(rt: HostRuntime) -> Result<(), Fail> {
+    let bytes = [9u8; 512];
+    let segments = [&bytes[..256], &bytes[256..]];
+    let mut reader = Reader::new(rt.alloc(), &segments)?;
+    let mut buf = [0u8; 1024];
+    assert_eq!(rt;
+        kind(reader.read_exact(&mut buf)),
+        Some(ErrorKind::UnexpectedEof)
+    );
+    assert_eq!(rt; (reader.available_bytes(), reader.bytes_read()), (0, 512));
+    Ok(())
+}
+
+#[test]
+fn a_record_that_is_cut_off_takes_all(rt: HostRuntime) -> Result<(), Fail> {
+    let segments = [&NUMBERED[..2], &NUMBERED[2..3]];
+    let mut reader = Reader::new(rt.alloc(), &segments)?;
+    assert_eq!(rt;
+        kind(reader.read_obj::<u32>()),
+        Some(ErrorKind::UnexpectedEof)
+    );
+    assert_eq!(rt; (reader.available_bytes(), reader.bytes_read()), (0, 3));
+    Ok(())
+}
+
+#[test]
+fn a_write_past_the_room_fills_it(rt: HostRuntime) -> Result<(), Fail> {
+    let alloc = rt.alloc();
+    let mut writer = Writer::new(alloc, zeros(alloc, &[16, 16, 16])?)?;
+    assert_eq!(rt;
+        kind(writer.write_all(&[3u8; 64])),
+        Some(ErrorKind::WriteZero)
+    );
+    assert_eq!(rt; (writer.available_bytes(), writer.bytes_written()), (0, 48));
+    for segment in &writer.into_segments() {
+        assert_eq!(rt; segment.as_slice(), [3u8; 16].as_slice());
+    }
+    Ok(())
+}
+
+#[test]
+fn a_record_past_the_room_leaves_its_beginning(rt: HostRuntime) -> Result<(), Fail> {
+    let alloc = rt.alloc();
+    let mut writer = Writer::new(alloc, zeros(alloc, &[1, 2])?)?;
+    assert_eq!(rt;
+        kind(writer.write_obj(0x0403_0201u32)),
+        Some(ErrorKind::WriteZero)
+    );
+    let written = writer.into_segments();
+    assert_eq!(rt; written.len(), 2);
+    assert_eq!(rt; written[0].as_slice(), [1u8].as_slice());
+    assert_eq!(rt; written[1].as_slice(), [2u8, 3].as_slice());
+    Ok(())
+}
+
+#[test]
+fn read_and_write_of_64_move_the_48_that_are_there(rt: HostRuntime) -> Result<(), Fail> {
+    let alloc = rt.alloc();
+    let bytes = [1u8; 48];
+    let segments = [&bytes[..16], &bytes[16..32], &bytes[32..]];
+    let mut reader = Reader::new(alloc, &segments)?;
+    let mut writer = Writer::new(alloc, zeros(alloc, &[16, 16, 16])?)?;
+    let mut buf = [0u8; 64];
+    assert_eq!(rt; reader.read(&mut buf)?, 48);
+    assert_eq!(rt; writer.write(&buf)?, 48);
+    writer.flush()?;
+    assert_eq!(rt; writer.bytes_written(), 48);
+    Ok(())
+}
+
+#[test]
+fn empty_segments_are_passed_over(rt: HostRuntime) -> Result<(), Fail> {
+    let alloc = rt.alloc();
+    let segments = [&[], &NUMBERED[..2], &[], &NUMBERED[2..4]];
+    let mut reader = Reader::new(alloc, &segments)?;
+    assert_eq!(rt; reader.available_bytes(), 4);
+    let mut buf = [0u8; 3];
+    assert_eq!(rt; reader.read(&mut buf)?, 3);
+    assert_eq!(rt; buf.as_slice(), [1u8, 2, 3].as_slice());
+    assert_eq!(rt; (reader.available_bytes(), reader.bytes_read()), (1, 3));
+    let mut writer = Writer::new(alloc, zeros(alloc, &[0, 2, 0, 2])?)?;
+    writer.write_all(&NUMBERED[..3])?;
+    let written = writer.into_segments();
+    assert_eq!(rt; written.len(), 4);
+    assert_eq!(rt; written[1].as_slice(), [1u8, 2].as_slice());
+    assert_eq!(rt; written[3].as_slice(), [3u8, 0].as_slice());
+    Ok(())
+}
+
+#[test]
+fn held_bytes_are_filled_after_those_behind_them(rt: HostRuntime) -> Result<(), Fail> {
+    let alloc = rt.alloc();
+    let mut writer = Writer::new(alloc, zeros(alloc, &[10, 10])?)?;
+    writer.hold(16)?;
+    assert_eq!(rt; (writer.bytes_written(), writer.available_bytes()), (16, 4));
+    assert_eq!(rt; writer.held(), 16);
+    assert_eq!(rt; writer.write(&[0xaa, 0xbb])?, 2);
+    let header = [0u8, 1, 2, 3, 4, 5, 6, 7, 8, 9, 10, 11, 12, 13, 14, 15];
+    assert_eq!(rt; writer.held(), header.len());
+    writer.fill_held(&header);
+    assert_eq!(rt; writer.held(), 0);
+    assert_eq!(rt; writer.hold(3), Err(Error::SplitOutOfBounds(3)));
+    assert_eq!(rt; writer.available_bytes(), 2);
+    let written = writer.into_segments();
+    assert_eq!(rt; written.len(), 2);
+    assert_eq!(rt; written[0].as_slice(), &header[..10]);
+    assert_eq!(rt;
+        written[1].as_slice(),
+        [10u8, 11, 12, 13, 14, 15, 0xaa, 0xbb, 0, 0].as_slice()
+    );
+    Ok(())
+}

@@ -1,0 +1,202 @@
+//! Writes the bytes of a reply into segments.
+
+ghost use Rattle.std.specs.Prelude.{◌≡◌, ◌+◌, ◌^◌, ◌<◌, ◌≤◌, ◌↔◌, [], length, take, min, IfOk, IfErr, IsOk, OnOk, OnErr};
+ghost use Rattle.std.specs.IoError.{error_kind};
+ghost use Rattle.std.specs.Io.{WritesAtMost};
+ghost use Rattle.std.specs.Io.KnownBytes.{Appends, Keeps, WriteAppends};
+ghost use Rattle.vfs_segments.specs.Segments.{contents, flat_bytes};
+ghost use Rattle.vfs_segments.specs.Written.{unwritten, wrote, held_over, held_filled, whole};
+ghost use Rattle.vfs_wire.specs.Fields.{Fit, bytes_of};
+
+use crate::error::{Error, Result};
+use crate::record::LARGEST_RECORD;
+use crate::scatter::{room_of, scatter};
+use std::alloc::Global;
+use std::io;
+use std::io::{ErrorKind, Write};
+use std::marker::Model;
+use vfs_wire::ByteValued;
+
+/// Writes bytes over those of its segments, wherever they are cut. The segments' lengths are its room.
+///
+/// It can pass over some bytes and hold their place, as that of a header whose numbers are known
+/// only once what follows it is written.
+///
+/// Contracts see the flat bytes that it has passed, those that are left, and the held place.
+#[derive(Drop)]
+pub struct Writer {
+    segments: Vec<Vec<u8>>,
+    at: usize,
+    end: usize,
+    held_at: usize,
+    held: usize,
+}
+
+impl Model for Writer {
+    ghost use Rattle.vfs_segments.specs.Written.{Written};
+
+    ghost Value = { Written };
+
+    ghost use Rattle.vfs_segments.specs.Writer.{written_of, IsWriter};
+
+    ghost view = { written_of };
+
+    ghost invariant = { IsWriter };
+}
+
+impl Writer {
+    /// A writer over the segments, of which any may be empty. Their bytes are there to be written over.
+    ///
+    /// `Error::DescriptorChainOverflow` where their lengths sum past `usize::MAX`, and
+    /// `Error::OutOfMemory` where memory is refused, which can't be where there are no segments.
+    /// A refusal drops the segments.
+    pub fn new(_alloc: Global, segments: Vec<Vec<u8>>) -> Result<Writer>
+        ensures ok { IfOk result (λ w. w ≡ unwritten (flat_bytes (contents segments.items))) }
+        ensures too_long { 2 ^ 64 ≤ length (flat_bytes (contents segments.items)) →
+            result ≡ Err Error.DescriptorChainOverflow }
+        ensures fits { length (flat_bytes (contents segments.items)) < 2 ^ 64 →
+            IfErr result (λ e. e ≡ Error.OutOfMemory) }
+        ensures none { segments.items ≡ [] → IsOk result }
+    {
+        let Some(end) = room_of(&segments) else {
+            return Err(Error::DescriptorChainOverflow);
+        };
+        Ok(Writer {
+            segments,
+            at: 0,
+            end,
+            held_at: 0,
+            held: 0,
+        })
+    }
+
+    /// How many bytes of the room are left.
+    pub fn available_bytes(&self) -> usize
+        ensures { result ≡ length self.now.left }
+    {
+        self.end - self.at
+    }
+
+    /// How many bytes were written or passed over.
+    pub fn bytes_written(&self) -> usize
+        ensures { result ≡ length self.now.passed }
+    {
+        self.at
+    }
+
+    /// How many bytes are held.
+    pub fn held(&self) -> usize
+        ensures { result ≡ self.now.held }
+    {
+        self.held
+    }
+
+    /// Passes over the next `n` bytes, which then count as written, and keeps their place. What was
+    /// held before is held no more.
+    ///
+    /// `Error::SplitOutOfBounds` with `n` where fewer are left; then nothing changes.
+    pub fn hold(&mut self, n: usize) -> Result<()>
+        ensures variant { IsOk result ↔ (n ≤ length self.old.left) }
+        ensures held { OnOk result (self.new ≡ held_over self.old n) }
+        ensures out_of_bounds { IfErr result (λ e. e ≡ Error.SplitOutOfBounds n) }
+        ensures err { OnErr result (self.new ≡ self.old) }
+    {
+        if n > self.available_bytes() {
+            return Err(Error::SplitOutOfBounds(n));
+        }
+        self.held_at = self.at;
+        self.held = n;
+        self.at += n;
+        Ok(())
+    }
+
+    /// Writes the bytes over those that are held, which must be as many. Nothing is held then.
+    pub fn fill_held(&mut self, bytes: &[u8])
+        requires { length bytes.now ≡ self.old.held }
+        ensures { self.new ≡ held_filled self.old bytes.now }
+    {
+        scatter(&mut self.segments, self.held_at, bytes);
+        self.held = 0;
+    }
+
+    // Writes the bytes into the next bytes of the room.
+    fn put_next(&mut self, bytes: &[u8])
+        requires { length bytes.now ≤ length self.old.left }
+        ensures { self.new ≡ wrote self.old bytes.now }
+    {
+        scatter(&mut self.segments, self.at, bytes);
+        self.at += bytes.len();
+    }
+
+    /// Writes a record, as many bytes as it has.
+    ///
+    /// Where fewer are left the error's kind is `WriteZero`, and the record's beginning fills them.
+    pub fn write_obj<T: ByteValued + Drop>(&mut self, x: T) -> io::Result<()>
+        ensures variant { IsOk result ↔ (T.SIZE ≤ length self.old.left) }
+        ensures wrote { self.new ≡ wrote self.old (take (length self.old.left) (bytes_of T.table x)) }
+        ensures full { IfErr result (λ e. error_kind e ≡ ErrorKind.WriteZero) }
+        ensures in_width { Fit T.table.widths (T.table.fields x) }
+        ensures in_range { T.in_range x }
+    {
+        let mut buf = [0u8; LARGEST_RECORD];
+        x.put(&mut buf[..T::SIZE]);
+        self.write_all(&buf[..T::SIZE])
+    }
+
+    /// The segments, with what was written.
+    pub fn into_segments(self) -> Vec<Vec<u8>>
+        ensures { flat_bytes (contents result.items) ≡ whole self }
+    {
+        let Writer {
+            segments,
+            at: _,
+            end: _,
+            held_at: _,
+            held: _,
+        } = self;
+        segments
+    }
+}
+
+impl Write for Writer {
+    ghost use Rattle.std.specs.Prelude.{Some};
+
+    ghost contents = { λ w. Some w.passed };
+
+    /// Writes the beginning of the bytes that fits. It never fails.
+    fn write(&mut self, buf: &[u8]) -> io::Result<usize>
+        ensures bound { WritesAtMost result buf.now }
+        ensures bytes { WriteAppends (Some self.old.passed) (Some self.new.passed) result buf.now }
+        ensures count { result ≡ Ok (min (length buf.now) (length self.old.left)) }
+        ensures wrote { self.new ≡ wrote self.old (take (length self.old.left) buf.now) }
+    {
+        let n = buf.len().min(self.available_bytes());
+        self.put_next(&buf[..n]);
+        Ok(n)
+    }
+
+    /// Does nothing, since each byte is in its segment once it is written. It never fails.
+    fn flush(&mut self) -> io::Result<()>
+        ensures bytes { Keeps (Some self.old.passed) (Some self.new.passed) }
+        ensures same { self.new ≡ self.old }
+        ensures ok { IsOk result }
+    {
+        Ok(())
+    }
+
+    /// Writes the bytes.
+    ///
+    /// Where fewer are left the error's kind is `WriteZero`, and the beginning that fits is written.
+    fn write_all(&mut self, buf: &[u8]) -> io::Result<()>
+        ensures bytes { OnOk result (Appends (Some self.old.passed) (Some self.new.passed) buf.now) }
+        ensures variant { IsOk result ↔ (length buf.now ≤ length self.old.left) }
+        ensures wrote { self.new ≡ wrote self.old (take (length self.old.left) buf.now) }
+        ensures full { IfErr result (λ e. error_kind e ≡ ErrorKind.WriteZero) }
+    {
+        let n = self.write(buf)?;
+        if n < buf.len() {
+            return Err(io::Error::from(ErrorKind::WriteZero));
+        }
+        Ok(())
+    }
+}
