@@ -3,4 +3,3 @@ pub mod Segments
 pub mod Places
 pub mod Puts
 pub mod Writers
-pub mod Records

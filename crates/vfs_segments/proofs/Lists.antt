@@ -1,7 +1,7 @@
 -- `take` and `drop` over two lists.
 use Rattle.vfs_segments.specs.Segments.{with_bytes_at}
-use Rattle.std.proofs.lemmas.List.{take_at, take-append-le}
-use Rattle.std.proofs.Common.{◌≡◌, ℕ, ◌+◌, ◌-◌, ◌<◌, ◌≤◌, List, [], ◌∷◌, ◌++◌, zero, suc, length, take, drop, min, ap, ◌∙◌, sym, refl, arith, append_assoc, append-nil, length-append, length-drop, length-take, get_or, take-append-drop}
+use Rattle.std.proofs.lemmas.List.{take_at}
+use Rattle.std.proofs.Common.{◌≡◌, ℕ, ◌+◌, ◌-◌, ◌≤◌, List, [], ◌∷◌, ◌++◌, zero, suc, length, take, drop, min, ap, ◌∙◌, sym, arith, append_assoc, length-append, length-drop, length-take}
 
 pub drop-append_min : (xs ys : List ℕ) (n : ℕ) → drop n (xs ++ ys) ≡ drop (min n (length xs)) xs ++ drop (n - min n (length xs)) ys
 drop-append_min [] ys n =

@@ -1,5 +1,5 @@
 -- Bytes that are written over a list of segments.
-use Rattle.std.proofs.Common.{◌≡◌, ℕ, ◌+◌, ◌-◌, ◌<◌, ◌≤◌, List, [], ◌∷◌, ◌++◌, zero, suc, length, take, drop, map, min, set, get_or, ap, ◌∙◌, sym, refl, arith, append_assoc, append-nil, length-append, length-drop, length-take, take-append-drop, ⊎_elim}
+use Rattle.std.proofs.Common.{◌≡◌, ℕ, ◌+◌, ◌-◌, ◌<◌, ◌≤◌, List, [], ◌∷◌, ◌++◌, zero, suc, length, take, drop, map, min, set, get_or, ap, ◌∙◌, sym, arith, append_assoc, append-nil, length-append, length-drop, length-take, take-append-drop, ⊎_elim}
 use Rattle.std.proofs.lemmas.List.{take_all, drop_all, take-append-le, drop-append-le, drop-drop, take_more_set, drop-set-lt, drop_more, map-set, set-get_or, get_or-map, nil_from_length}
 use Rattle.std.proofs.lemmas.Bool.{cases_lt}
 use Rattle.std.specs.List.{concat}
@@ -47,10 +47,6 @@ put_step s rest bs skip from n e f =
     (ap (λ l. take skip s ++ (l ++ drop (length bs - n) rest)) (sym (take-append-drop n bs)) ∙ simp append_assoc)))
     (cases_lt (length bs) (length s - skip)))
     (cases_lt (length s) skip)
-
-pub length-with_bytes_at : (at : ℕ) (bs xs : List ℕ) → at + length bs ≤ length xs → length (with_bytes_at at bs xs) ≡ length xs
-unfolding with_bytes_at
-length-with_bytes_at at bs xs h = simp (length-append, length-take, length-drop) (omega arith)
 
 -- what a write to a part of a Vec leaves
 pub vec_written : (len at : ℕ) (w xs : List ℕ) → len ≡ length xs → at + length w ≤ length xs → take len ((take at xs ++ (w ++ drop (length w) (drop at xs))) ++ drop (length (take at xs ++ (w ++ drop (length w) (drop at xs)))) xs) ≡ with_bytes_at at w xs

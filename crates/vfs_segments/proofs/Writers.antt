@@ -1,12 +1,13 @@
 -- A writer's bytes after a write.
-use Rattle.std.proofs.Common.{◌≡◌, ℕ, ◌+◌, ◌-◌, ◌<◌, ◌≤◌, List, [], ◌∷◌, ◌++◌, length, take, drop, map, ap, ◌∙◌, sym, refl, arith, append_assoc, length-append, length-drop, length-take, take-append-drop, take_at, drop_at}
+use Rattle.std.proofs.Common.{◌≡◌, ℕ, ◌+◌, ◌≤◌, List, [], ◌∷◌, ◌++◌, length, take, drop, map, ap, ◌∙◌, sym, refl, arith, append_assoc, length-append, length-take, take-append-drop, take_at, drop_at}
 use Rattle.std.proofs.lemmas.List.{drop-append-le, drop-drop, take-take}
 use Rattle.std.specs.List.{concat}
 use Rattle.vfs_segments.specs.Segments.{contents, with_bytes_at}
 use Rattle.vfs_segments.specs.Written.{Written, wrote, held_filled, held_over}
 use Rattle.vfs_segments.specs.Writer.{IsWriter, written_of, room_bytes}
 use Rattle.vfs_segments.specs.declared.writer.Writer.TheInside.{Inside}
-use Rattle.vfs_segments.proofs.Puts.{take-append_past, length-with_bytes_at}
+use Rattle.vfs_segments.proofs.Lists.{length-with_bytes_at}
+use Rattle.vfs_segments.proofs.Puts.{take-append_past}
 
 pub same_size : (xs ys : List (List ℕ)) → map length ys ≡ map length xs → length (concat ys) ≡ length (concat xs)
 same_size [] [] e = refl

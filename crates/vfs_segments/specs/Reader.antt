@@ -1,5 +1,5 @@
 -- How a reader's fields stand for what its callers see.
-use Rattle.std.specs.Prelude.{ℕ, ◌-◌, ◌≤◌, List, length, take, drop}
+use Rattle.std.specs.Prelude.{◌-◌, ◌≤◌, length, take, drop}
 use Rattle.vfs_segments.specs.Segments.{segments_of, flat_bytes}
 use Rattle.vfs_segments.specs.Unread.{Unread}
 use Rattle.vfs_segments.specs.declared.reader.Reader.TheInside.{Inside}

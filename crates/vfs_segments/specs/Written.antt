@@ -1,5 +1,5 @@
 -- What a writer is to its callers: the bytes of its room, those passed and those left, and a held place.
-use Rattle.std.specs.Prelude.{ℕ, ◌+◌, List, [], ◌++◌, length, take, drop}
+use Rattle.std.specs.Prelude.{ℕ, List, [], ◌++◌, length, take, drop}
 use Rattle.vfs_segments.specs.Segments.{with_bytes_at}
 
 -- The bytes that a writer has passed, those of its room that are left, and the part of the passed ones that it holds:

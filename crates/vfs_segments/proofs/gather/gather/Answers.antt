@@ -1,6 +1,5 @@
-use Rattle.std.proofs.Common.{arith, ap, ◌∙◌, sym, Bor, get_or, length, drop, take, ℕ, List, [], ◌≡◌, ◌+◌, ◌-◌, ◌++◌, ◌≤◌, refl}
-use Rattle.vfs_segments.specs.Segments.{with_bytes_at}
-use Rattle.vfs_segments.proofs.Lists.{turn, length-with_bytes_at}
+use Rattle.std.proofs.Common.{arith, ap, Bor, get_or, drop, take, ℕ, List, [], ◌≡◌, ◌+◌, ◌-◌}
+use Rattle.vfs_segments.proofs.Lists.{turn}
 use Rattle.vfs_segments.proofs.Segments.{flat, flat-drop_more}
 use Rattle.vfs_segments.proofs.gather.gather.Goals as goal
 

@@ -1,4 +1,4 @@
-use Rattle.std.proofs.Common.{arith, ap, ◌+◌, ◌-◌, ◌≡◌, ◌++◌, ◌∙◌, drop, take}
+use Rattle.std.proofs.Common.{arith}
 use Rattle.std.proofs.lemmas.Grind.{common_steps}
 use Rattle.vfs_segments.specs.Segments.{with_bytes_at}
 use Rattle.vfs_segments.proofs.gather.put_at.Goals as goal

@@ -1,11 +1,11 @@
-use Rattle.std.proofs.Common.{arith, ap, ◌∙◌, ◌≡◌, ◌<◌, ◌+◌, ◌-◌, ◌≤◌, ◌++◌, List, [], length, sym, take, drop, min, length-drop, length-take, map, refl, get_or, set, append-nil, ℕ}
-use Rattle.std.proofs.lemmas.List.{map-set, get_or-map, drop-drop, take_all, drop_all, nil_from_length, length-map}
-use Rattle.std.specs.List.{concat}
+use Rattle.std.proofs.Common.{arith, ap, ◌∙◌, ◌≡◌, ◌<◌, ◌+◌, ◌-◌, List, [], length, sym, take, drop, min, length-drop, length-take, get_or, set, ℕ}
+use Rattle.std.proofs.lemmas.List.{map-set, get_or-map, drop-drop, length-map}
 use Rattle.std.specs.declared.vec.Vec.{Vec}
 use Rattle.std.specs.declared.alloc.Global.{Global}
 use Rattle.vfs_segments.specs.Segments.{with_bytes_at}
 use Rattle.vfs_segments.specs.Segments.{contents}
-use Rattle.vfs_segments.proofs.Puts.{turn, same_lengths, nothing_put, length-with_bytes_at, ended}
+use Rattle.vfs_segments.proofs.Lists.{length-with_bytes_at}
+use Rattle.vfs_segments.proofs.Puts.{turn, same_lengths, ended}
 use Rattle.vfs_segments.proofs.scatter.scatter.Goals as goal
 
 pub loop-segment-preserved : goal.loop-segment-preserved

@@ -1,4 +1,4 @@
-use Rattle.std.proofs.Common.{arith, ap, ◌∙◌, ◌≡◌, ◌-◌, ◌+◌, ◌≤◌, length, take, drop, length-take, length-drop}
+use Rattle.std.proofs.Common.{arith, ap, ◌∙◌, ◌≡◌, ◌-◌, ◌+◌, ◌≤◌, length, drop, length-take, length-drop}
 use Rattle.vfs_segments.specs.Unread.{Unread}
 use Rattle.vfs_segments.proofs.Segments.{flat}
 use Rattle.vfs_segments.proofs.Places.{left_moved, unread-eq}
@@ -12,4 +12,4 @@ returns-clause-moved c =
     let same : length c.gather.new.buf ≡ n = c.gather.auto.buf in
     let h : r.at + n ≤ r.end = omega (arith, c.requires, c.self.invariant.before_end, c.self.invariant.within, ap (λ (u : Unread). length u.left) c.self.view_is, length-take (r.end - r.at) (drop r.at bytes), length-drop r.at bytes) in
     rw same (unread-eq (left_moved bytes r.at r.end n h ∙ ap (λ (u : Unread). drop n u.left) c.self.view_is)
-      (omega (arith, c.self.invariant.after_start, ap (λ (u : Unread). u.taken) c.self.view_is)))
+    (omega (arith, c.self.invariant.after_start, ap (λ (u : Unread). u.taken) c.self.view_is)))

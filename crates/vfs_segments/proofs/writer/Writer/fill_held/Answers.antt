@@ -1,10 +1,9 @@
-use Rattle.std.proofs.Common.{arith, ap, ◌∙◌, ◌≡◌, ◌+◌, ◌-◌, ◌≤◌, refl, sym, length, map, ℕ}
+use Rattle.std.proofs.Common.{arith, ap, ◌∙◌, ◌≡◌, refl, sym, length, map, ℕ}
 use Rattle.std.proofs.lemmas.List.{with_items_is}
 use Rattle.std.specs.List.{concat}
 use Rattle.std.specs.Vec.{with_items}
 use Rattle.vfs_segments.specs.Segments.{contents}
 use Rattle.vfs_segments.specs.Written.{Written, held_filled}
-use Rattle.vfs_segments.specs.Writer.{room_bytes}
 use Rattle.vfs_segments.proofs.Writers.{filled, still_writer}
 use Rattle.vfs_segments.proofs.writer.Writer.fill_held.Goals as goal
 

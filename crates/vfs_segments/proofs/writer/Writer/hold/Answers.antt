@@ -1,4 +1,4 @@
-use Rattle.std.proofs.Common.{arith, ap, ◌∙◌, ◌≡◌, ◌+◌, ◌-◌, ◌≤◌, length, length-drop, refl}
+use Rattle.std.proofs.Common.{arith, ap, ◌∙◌, ◌+◌, ◌≤◌, length, length-drop, refl}
 use Rattle.vfs_segments.specs.Written.{Written, held_over}
 use Rattle.vfs_segments.specs.Writer.{room_bytes}
 use Rattle.vfs_segments.proofs.Writers.{holds}
