@@ -1,2 +1,3 @@
+pub mod ExtType
 pub mod Flags
 pub mod Opcode

@@ -3,15 +3,39 @@
 
 mod constants;
 mod errno;
+mod ext_type;
 mod flag_list;
 mod fs_options;
 mod ids;
+mod ioctl_flags;
+mod notify_inval_entry_out_flags;
+mod notify_opcode;
 mod opcode;
+mod open_options;
+mod setattr_valid;
+mod setupmapping_flags;
+mod setxattr_flags;
 #[cfg(test)]
 mod tests;
 
-pub use constants::{KERNEL_MINOR_VERSION, KERNEL_VERSION, MIN_KERNEL_MINOR_VERSION, ROOT_ID};
+pub use constants::{
+    ATTR_DAX, ATTR_SUBMOUNT, FATTR_FH, FATTR_LOCKOWNER, FSYNC_FDATASYNC,
+    FUSE_COMPAT_22_INIT_OUT_SIZE, FUSE_COMPAT_ATTR_OUT_SIZE, FUSE_COMPAT_ENTRY_OUT_SIZE,
+    FUSE_COMPAT_INIT_OUT_SIZE, FUSE_COMPAT_MKNOD_IN_SIZE, FUSE_COMPAT_SETXATTR_IN_SIZE,
+    FUSE_COMPAT_STATFS_SIZE, FUSE_COMPAT_WRITE_IN_SIZE, FUSE_MIN_READ_BUFFER, GETATTR_FH,
+    KERNEL_MINOR_VERSION, KERNEL_VERSION, LK_FLOCK, MIN_KERNEL_MINOR_VERSION, OPEN_KILL_SUIDGID,
+    POLL_SCHEDULE_NOTIFY, READ_LOCKOWNER, RELEASE_FLOCK_UNLOCK, RELEASE_FLUSH, ROOT_ID,
+    WRITE_CACHE, WRITE_KILL_PRIV, WRITE_LOCKOWNER,
+};
 pub use errno::{Errno, Fault};
+pub use ext_type::ExtType;
 pub use fs_options::FsOptions;
 pub use ids::{GuestGid, GuestUid, HostGid, HostUid};
+pub use ioctl_flags::IoctlFlags;
+pub use notify_inval_entry_out_flags::NotifyInvalEntryOutFlags;
+pub use notify_opcode::NotifyOpcode;
 pub use opcode::Opcode;
+pub use open_options::OpenOptions;
+pub use setattr_valid::SetattrValid;
+pub use setupmapping_flags::SetupmappingFlags;
+pub use setxattr_flags::SetxattrFlags;
