@@ -28,6 +28,7 @@ impl<'a> CStr<'a> {
     /// The name in these bytes: all but the last, where the last is 0 and no other is. `None`
     /// where there is no 0, where one stands before the end, and for no bytes at all. A single 0
     /// is the empty name.
+    #[tactic(auto, using(crate::proofs::Texts::text_has_no_nul))]
     pub fn from_bytes_with_nul(bytes: &'a [u8]) -> Option<CStr<'a>>
         ensures { MatchOption result
             (name_of bytes.now ≡ None)
