@@ -3,8 +3,8 @@ use Rattle.std.proofs.Common.{◌≡◌, ◌≤◌, ◌+◌, ◌-◌, ◌<◌, �
 use Rattle.std.proofs.lemmas.List.{take_all, drop_all, drop-drop}
 use Rattle.std.proofs.lemmas.Bool.{cases_lt}
 use Rattle.std.proofs.lemmas.Bool.Decides.{nat_tests}
-use Rattle.vfs_segments.specs.Written.{Written, whole, wrote}
-use Rattle.vfs_server.specs.Room.{put_outcome, put_room, IsPut, Leaves, Replies}
+use Rattle.vfs_segments.specs.Written.{Written, wrote}
+use Rattle.vfs_server.specs.Room.{put_outcome, put_room, Leaves, Replies}
 use Rattle.vfs_wire.specs.Fields.{bytes_of}
 use Rattle.vfs_wire.specs.FieldLaws.{length-little}
 use Rattle.vfs_wire.specs.Headers.{out_header}

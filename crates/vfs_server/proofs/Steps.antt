@@ -1,5 +1,5 @@
 -- From what a handler says of one request to the step that it is.
-use Rattle.std.proofs.Common.{◌≡◌, ◌≤◌, ℕ, Bool, true, false, List, [], ◌∷◌, Option, Some, None, Result, Ok, Err, length, drop, refl, ap, sym, ◌∙◌, inl, inr, arith, nat_lt, if◌then◌else◌, subst}
+use Rattle.std.proofs.Common.{◌≡◌, ◌≤◌, ℕ, Bool, true, false, List, [], ◌∷◌, Option, None, Result, Ok, Err, length, drop, refl, ap, sym, inl, inr, arith, nat_lt, if◌then◌else◌, subst}
 use Rattle.std.proofs.lemmas.Bool.Decides.{nat_tests}
 use Rattle.vfs_flags.specs.Opcode.{opcode_of}
 use Rattle.vfs_wire.specs.Fields.{Table, value_of}
@@ -12,7 +12,7 @@ use Rattle.vfs_files.specs.Runs.{Happening, Calls, IsRun, events_of}
 use Rattle.vfs_server.specs.Ask.{Ask, Refused, Says, Silent, Tells, Asks, Agrees, ask, ask_header, refused_or, record_of, size_of, max_len, TakesMemory}
 use Rattle.vfs_server.specs.Handled.{Handles, HandlesOrLacks, TakesHeader}
 use Rattle.vfs_server.specs.Room.{Leaves}
-use Rattle.vfs_server.specs.Step.{At, Turn, Follows, IsStep}
+use Rattle.vfs_server.specs.Step.{At, Follows, IsStep}
 use Rattle.vfs_server.specs.declared.error.Error.{Error}
 use Rattle.vfs_server.specs.declared.error.Error.TheVariants.{OutOfMemory}
 

@@ -1,5 +1,5 @@
 -- What a request asks, by its bytes alone.
-use Rattle.std.specs.Prelude.{◌≡◌, ℕ, ◌+◌, ◌-◌, ◌==◌, bit_and, List, [], ◌∷◌, length, take, drop, sum, nat_lt, if◌then◌else◌, Option, Some, None, Result, Ok, Err, IsOk}
+use Rattle.std.specs.Prelude.{ℕ, ◌+◌, ◌-◌, ◌==◌, bit_and, List, length, take, drop, sum, nat_lt, if◌then◌else◌, Option, Some, None, Result, Ok, Err, IsOk}
 use Rattle.vfs_flags.specs.Opcode.{opcode_of}
 use Rattle.vfs_flags.specs.declared.opcode.Opcode.{Opcode}
 use Rattle.vfs_flags.specs.declared.opcode.Opcode.TheVariants.{Lookup, Forget, Getattr, Init}

@@ -1,5 +1,5 @@
 -- What the client and the server agree on at INIT, as sets of bits.
-use Rattle.std.specs.Prelude.{ℕ, ◌+◌, ◌*◌, ◌^◌, ◌==◌, bit_and, bit_or, if◌then◌else◌}
+use Rattle.std.specs.Prelude.{ℕ, ◌+◌, ◌*◌, ◌^◌, bit_and, bit_or}
 use Rattle.vfs_flags.specs.Flags.{known_fs_options}
 
 -- the options that the client offers: of its two words of flags, those bits that are known

@@ -9,7 +9,7 @@ use Rattle.vfs_wire.specs.Entries.{entry_out}
 use Rattle.vfs_wire.specs.declared.init.InitOut.{InitOut}
 use Rattle.vfs_wire.specs.declared.attributes.Attr.{Attr}
 use Rattle.vfs_wire.specs.declared.attributes.AttrOut.{AttrOut}
-use Rattle.vfs_files.specs.Calls.{Answer, Done, Failed, Options, Found, Attributes}
+use Rattle.vfs_files.specs.Calls.{Answer, Failed, Options, Found, Attributes}
 use Rattle.vfs_files.specs.Entries.{entry_out_of, whole_seconds, nanoseconds_beyond}
 use Rattle.vfs_server.specs.Options.{agreed}
 

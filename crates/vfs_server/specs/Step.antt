@@ -1,15 +1,15 @@
 -- A request and all that comes of it.
-use Rattle.std.specs.Prelude.{◌≡◌, ◌≤◌, ◌⊎◌, ℕ, List, [], ◌∷◌, Option, Some, None, Result, Ok, Err, length, drop}
+use Rattle.std.specs.Prelude.{◌≡◌, ◌≤◌, ◌⊎◌, ℕ, List, [], ◌∷◌, Option, None, Result, Ok, Err, length, drop}
 use Rattle.vfs_flags.specs.Opcode.{opcode_of}
 use Rattle.vfs_wire.specs.Fields.{value_of}
 use Rattle.vfs_wire.specs.Headers.{in_header}
 use Rattle.vfs_segments.specs.Written.{Written}
 use Rattle.vfs_files.specs.Items.{Item}
-use Rattle.vfs_files.specs.Calls.{Call, Init, Answer, Done, Handed, Plain, kind_of, IsAnswer}
+use Rattle.vfs_files.specs.Calls.{Call, Init, Answer, Done, Handed, kind_of, IsAnswer}
 use Rattle.vfs_files.specs.Runs.{Event, Called, Happening, IsRun, events_of}
 use Rattle.vfs_server.specs.Ask.{Ask, Refused, Says, Silent, Tells, Asks, Agrees, ask, max_len, TakesMemory}
 use Rattle.vfs_server.specs.Reply.{reply_of, init_reply, options_after}
-use Rattle.vfs_server.specs.Room.{IsPut, IsReplied, Leaves, Replies}
+use Rattle.vfs_server.specs.Room.{IsPut, IsReplied, Leaves}
 use Rattle.vfs_server.specs.declared.error.Error.{Error}
 use Rattle.vfs_server.specs.declared.error.Error.TheVariants.{OutOfMemory}
 

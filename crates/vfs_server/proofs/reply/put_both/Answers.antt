@@ -1,4 +1,4 @@
-use Rattle.std.proofs.Common.{◌≡◌, ◌≤◌, ◌-◌, ◌∙◌, sym, arith, length}
+use Rattle.std.proofs.Common.{◌≤◌, ◌∙◌, sym, arith, length}
 use Rattle.vfs_server.proofs.Rooms.{wrote_both, length-behind_header}
 use Rattle.vfs_server.proofs.reply.put_both.Goals as goal
 

@@ -1,4 +1,4 @@
-use Rattle.std.proofs.Common.{◌≡◌, ◌∙◌, ap, refl, take, length}
+use Rattle.std.proofs.Common.{◌∙◌, ap, refl, take, length}
 use Rattle.vfs_wire.specs.Fields.{bytes_of}
 use Rattle.vfs_wire.specs.Headers.{out_header}
 use Rattle.vfs_wire.specs.declared.headers.OutHeader.{OutHeader}
