@@ -8,11 +8,11 @@ use Rattle.vfs_flags.specs.declared.setxattr_flags.SetxattrFlags.{SetxattrFlags}
 use Rattle.vfs_flags.specs.declared.notify_inval_entry_out_flags.NotifyInvalEntryOutFlags.{NotifyInvalEntryOutFlags}
 use Rattle.vfs_flags.specs.declared.setupmapping_flags.SetupmappingFlags.{SetupmappingFlags}
 
--- the bits of the options of INIT, as a number
+-- a set of the options of INIT, as a number
 abbrev pub fs_options_bits : FsOptions → ℕ
 fs_options_bits flags = flags.0
 
--- the name and the bit of each flag of the options of INIT
+-- the name and the bit of each of the options of INIT
 abbrev pub fs_options_table : List (List ℕ × ℕ)
 fs_options_table =
     (codes "ASYNC_READ", 0x1) ∷
@@ -53,15 +53,15 @@ fs_options_table =
     (codes "ALLOW_IDMAP", 0x10000000000) ∷
     []
 
--- the bits of all the flags of the options of INIT
+-- the bits of all the options of INIT
 abbrev pub known_fs_options : ℕ
 known_fs_options = 0x117fbffffff
 
--- the bits of what SETATTR changes, as a number
+-- a set of the attributes that a SETATTR changes, as a number
 abbrev pub setattr_valid_bits : SetattrValid → ℕ
 setattr_valid_bits flags = flags.0
 
--- the name and the bit of each flag of what SETATTR changes
+-- the name and the bit of each of the attributes that a SETATTR changes
 abbrev pub setattr_valid_table : List (List ℕ × ℕ)
 setattr_valid_table =
     (codes "MODE", 0x1) ∷
@@ -76,15 +76,15 @@ setattr_valid_table =
     (codes "KILL_SUIDGID", 0x800) ∷
     []
 
--- the bits of all the flags of what SETATTR changes
+-- the bits of all the attributes that a SETATTR changes
 abbrev pub known_setattr_valid : ℕ
 known_setattr_valid = 0xdbf
 
--- the bits of how a file is open, as a number
+-- a set of the properties of an open file, as a number
 abbrev pub open_options_bits : OpenOptions → ℕ
 open_options_bits flags = flags.0
 
--- the name and the bit of each flag of how a file is open
+-- the name and the bit of each of the properties of an open file
 abbrev pub open_options_table : List (List ℕ × ℕ)
 open_options_table =
     (codes "DIRECT_IO", 0x1) ∷
@@ -96,15 +96,15 @@ open_options_table =
     (codes "PARALLEL_DIRECT_WRITES", 0x40) ∷
     []
 
--- the bits of all the flags of how a file is open
+-- the bits of all the properties of an open file
 abbrev pub known_open_options : ℕ
 known_open_options = 0x7f
 
--- the bits of an IOCTL, as a number
+-- a set of the flags of an IOCTL, as a number
 abbrev pub ioctl_flags_bits : IoctlFlags → ℕ
 ioctl_flags_bits flags = flags.0
 
--- the name and the bit of each flag of an IOCTL
+-- the name and the bit of each of the flags of an IOCTL
 abbrev pub ioctl_flags_table : List (List ℕ × ℕ)
 ioctl_flags_table =
     (codes "IOCTL_COMPAT", 0x1) ∷
@@ -120,45 +120,45 @@ ioctl_flags_table =
 abbrev pub known_ioctl_flags : ℕ
 known_ioctl_flags = 0x13f
 
--- the bits of the further ones of a SETXATTR, as a number
+-- a set of the further flags of a SETXATTR, as a number
 abbrev pub setxattr_flags_bits : SetxattrFlags → ℕ
 setxattr_flags_bits flags = flags.0
 
--- the name and the bit of each flag of the further ones of a SETXATTR
+-- the name and the bit of each of the further flags of a SETXATTR
 abbrev pub setxattr_flags_table : List (List ℕ × ℕ)
 setxattr_flags_table =
     (codes "SETXATTR_ACL_KILL_SGID", 0x1) ∷
     []
 
--- the bits of all the flags of the further ones of a SETXATTR
+-- the bits of all the further flags of a SETXATTR
 abbrev pub known_setxattr_flags : ℕ
 known_setxattr_flags = 0x1
 
--- the bits of a notice that a name is out of date, as a number
+-- a set of the flags of the notice that a name is out of date, as a number
 abbrev pub notify_inval_entry_out_flags_bits : NotifyInvalEntryOutFlags → ℕ
 notify_inval_entry_out_flags_bits flags = flags.0
 
--- the name and the bit of each flag of a notice that a name is out of date
+-- the name and the bit of each of the flags of the notice that a name is out of date
 abbrev pub notify_inval_entry_out_flags_table : List (List ℕ × ℕ)
 notify_inval_entry_out_flags_table =
     (codes "EXPIRE_ONLY", 0x1) ∷
     []
 
--- the bits of all the flags of a notice that a name is out of date
+-- the bits of all the flags of the notice that a name is out of date
 abbrev pub known_notify_inval_entry_out_flags : ℕ
 known_notify_inval_entry_out_flags = 0x1
 
--- the bits of a mapping, as a number
+-- a set of the rights of a mapping, as a number
 abbrev pub setupmapping_flags_bits : SetupmappingFlags → ℕ
 setupmapping_flags_bits flags = flags.0
 
--- the name and the bit of each flag of a mapping
+-- the name and the bit of each of the rights of a mapping
 abbrev pub setupmapping_flags_table : List (List ℕ × ℕ)
 setupmapping_flags_table =
     (codes "WRITE", 0x1) ∷
     (codes "READ", 0x2) ∷
     []
 
--- the bits of all the flags of a mapping
+-- the bits of all the rights of a mapping
 abbrev pub known_setupmapping_flags : ℕ
 known_setupmapping_flags = 0x3

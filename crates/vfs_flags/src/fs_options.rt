@@ -214,7 +214,8 @@ impl Flags for FsOptions {
 impl BitOr for FsOptions {
     type Output = FsOptions;
 
-    ghost bitor_gives = { λ a b r. fs_options_bits r ≡ bit_or (fs_options_bits a) (fs_options_bits b) };
+    ghost bitor_gives = { λ a b r. fs_options_bits r
+        ≡ bit_or (fs_options_bits a) (fs_options_bits b) };
 
     fn bitor(self, other: FsOptions) -> FsOptions {
         FsOptions(self.0 | other.0)
@@ -224,7 +225,8 @@ impl BitOr for FsOptions {
 impl BitAnd for FsOptions {
     type Output = FsOptions;
 
-    ghost bitand_gives = { λ a b r. fs_options_bits r ≡ bit_and (fs_options_bits a) (fs_options_bits b) };
+    ghost bitand_gives = { λ a b r. fs_options_bits r
+        ≡ bit_and (fs_options_bits a) (fs_options_bits b) };
 
     fn bitand(self, other: FsOptions) -> FsOptions {
         FsOptions(self.0 & other.0)

@@ -72,7 +72,8 @@ impl Flags for IoctlFlags {
 impl BitOr for IoctlFlags {
     type Output = IoctlFlags;
 
-    ghost bitor_gives = { λ a b r. ioctl_flags_bits r ≡ bit_or (ioctl_flags_bits a) (ioctl_flags_bits b) };
+    ghost bitor_gives = { λ a b r. ioctl_flags_bits r
+        ≡ bit_or (ioctl_flags_bits a) (ioctl_flags_bits b) };
 
     fn bitor(self, other: IoctlFlags) -> IoctlFlags {
         IoctlFlags(self.0 | other.0)
@@ -82,7 +83,8 @@ impl BitOr for IoctlFlags {
 impl BitAnd for IoctlFlags {
     type Output = IoctlFlags;
 
-    ghost bitand_gives = { λ a b r. ioctl_flags_bits r ≡ bit_and (ioctl_flags_bits a) (ioctl_flags_bits b) };
+    ghost bitand_gives = { λ a b r. ioctl_flags_bits r
+        ≡ bit_and (ioctl_flags_bits a) (ioctl_flags_bits b) };
 
     fn bitand(self, other: IoctlFlags) -> IoctlFlags {
         IoctlFlags(self.0 & other.0)

@@ -47,7 +47,8 @@ impl Flags for NotifyInvalEntryOutFlags {
 impl BitOr for NotifyInvalEntryOutFlags {
     type Output = NotifyInvalEntryOutFlags;
 
-    ghost bitor_gives = { λ a b r. notify_inval_entry_out_flags_bits r ≡ bit_or (notify_inval_entry_out_flags_bits a) (notify_inval_entry_out_flags_bits b) };
+    ghost bitor_gives = { λ a b r. notify_inval_entry_out_flags_bits r
+        ≡ bit_or (notify_inval_entry_out_flags_bits a) (notify_inval_entry_out_flags_bits b) };
 
     fn bitor(self, other: NotifyInvalEntryOutFlags) -> NotifyInvalEntryOutFlags {
         NotifyInvalEntryOutFlags(self.0 | other.0)
@@ -57,7 +58,8 @@ impl BitOr for NotifyInvalEntryOutFlags {
 impl BitAnd for NotifyInvalEntryOutFlags {
     type Output = NotifyInvalEntryOutFlags;
 
-    ghost bitand_gives = { λ a b r. notify_inval_entry_out_flags_bits r ≡ bit_and (notify_inval_entry_out_flags_bits a) (notify_inval_entry_out_flags_bits b) };
+    ghost bitand_gives = { λ a b r. notify_inval_entry_out_flags_bits r
+        ≡ bit_and (notify_inval_entry_out_flags_bits a) (notify_inval_entry_out_flags_bits b) };
 
     fn bitand(self, other: NotifyInvalEntryOutFlags) -> NotifyInvalEntryOutFlags {
         NotifyInvalEntryOutFlags(self.0 & other.0)

@@ -112,7 +112,9 @@ impl TryFrom<u32> for Opcode {
     type Error = ();
 
     // The opcode of the number, whose own number it is, and an error where there is none.
-    ghost try_from_gives = { λ n r. (result_ok r ≡ opcode_of n) × IfOk r (λ o. number_of o ≡ n) × (IsOk r ↔ IsOpcode n) };
+    ghost try_from_gives = { λ n r. (result_ok r ≡ opcode_of n)
+        × IfOk r (λ o. number_of o ≡ n)
+        × (IsOk r ↔ IsOpcode n) };
 
     #[tactic(auto, unfolding(crate::specs::Opcode::opcode_of))]
     fn try_from(n: u32) -> Result<Opcode, ()> {

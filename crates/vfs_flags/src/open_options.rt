@@ -73,7 +73,8 @@ impl Flags for OpenOptions {
 impl BitOr for OpenOptions {
     type Output = OpenOptions;
 
-    ghost bitor_gives = { λ a b r. open_options_bits r ≡ bit_or (open_options_bits a) (open_options_bits b) };
+    ghost bitor_gives = { λ a b r. open_options_bits r
+        ≡ bit_or (open_options_bits a) (open_options_bits b) };
 
     fn bitor(self, other: OpenOptions) -> OpenOptions {
         OpenOptions(self.0 | other.0)
@@ -83,7 +84,8 @@ impl BitOr for OpenOptions {
 impl BitAnd for OpenOptions {
     type Output = OpenOptions;
 
-    ghost bitand_gives = { λ a b r. open_options_bits r ≡ bit_and (open_options_bits a) (open_options_bits b) };
+    ghost bitand_gives = { λ a b r. open_options_bits r
+        ≡ bit_and (open_options_bits a) (open_options_bits b) };
 
     fn bitand(self, other: OpenOptions) -> OpenOptions {
         OpenOptions(self.0 & other.0)

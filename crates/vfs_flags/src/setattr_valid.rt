@@ -83,7 +83,8 @@ impl Flags for SetattrValid {
 impl BitOr for SetattrValid {
     type Output = SetattrValid;
 
-    ghost bitor_gives = { λ a b r. setattr_valid_bits r ≡ bit_or (setattr_valid_bits a) (setattr_valid_bits b) };
+    ghost bitor_gives = { λ a b r. setattr_valid_bits r
+        ≡ bit_or (setattr_valid_bits a) (setattr_valid_bits b) };
 
     fn bitor(self, other: SetattrValid) -> SetattrValid {
         SetattrValid(self.0 | other.0)
@@ -93,7 +94,8 @@ impl BitOr for SetattrValid {
 impl BitAnd for SetattrValid {
     type Output = SetattrValid;
 
-    ghost bitand_gives = { λ a b r. setattr_valid_bits r ≡ bit_and (setattr_valid_bits a) (setattr_valid_bits b) };
+    ghost bitand_gives = { λ a b r. setattr_valid_bits r
+        ≡ bit_and (setattr_valid_bits a) (setattr_valid_bits b) };
 
     fn bitand(self, other: SetattrValid) -> SetattrValid {
         SetattrValid(self.0 & other.0)

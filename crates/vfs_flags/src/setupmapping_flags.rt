@@ -50,7 +50,8 @@ impl Flags for SetupmappingFlags {
 impl BitOr for SetupmappingFlags {
     type Output = SetupmappingFlags;
 
-    ghost bitor_gives = { λ a b r. setupmapping_flags_bits r ≡ bit_or (setupmapping_flags_bits a) (setupmapping_flags_bits b) };
+    ghost bitor_gives = { λ a b r. setupmapping_flags_bits r
+        ≡ bit_or (setupmapping_flags_bits a) (setupmapping_flags_bits b) };
 
     fn bitor(self, other: SetupmappingFlags) -> SetupmappingFlags {
         SetupmappingFlags(self.0 | other.0)
@@ -60,7 +61,8 @@ impl BitOr for SetupmappingFlags {
 impl BitAnd for SetupmappingFlags {
     type Output = SetupmappingFlags;
 
-    ghost bitand_gives = { λ a b r. setupmapping_flags_bits r ≡ bit_and (setupmapping_flags_bits a) (setupmapping_flags_bits b) };
+    ghost bitand_gives = { λ a b r. setupmapping_flags_bits r
+        ≡ bit_and (setupmapping_flags_bits a) (setupmapping_flags_bits b) };
 
     fn bitand(self, other: SetupmappingFlags) -> SetupmappingFlags {
         SetupmappingFlags(self.0 & other.0)

@@ -48,7 +48,8 @@ impl Flags for SetxattrFlags {
 impl BitOr for SetxattrFlags {
     type Output = SetxattrFlags;
 
-    ghost bitor_gives = { λ a b r. setxattr_flags_bits r ≡ bit_or (setxattr_flags_bits a) (setxattr_flags_bits b) };
+    ghost bitor_gives = { λ a b r. setxattr_flags_bits r
+        ≡ bit_or (setxattr_flags_bits a) (setxattr_flags_bits b) };
 
     fn bitor(self, other: SetxattrFlags) -> SetxattrFlags {
         SetxattrFlags(self.0 | other.0)
@@ -58,7 +59,8 @@ impl BitOr for SetxattrFlags {
 impl BitAnd for SetxattrFlags {
     type Output = SetxattrFlags;
 
-    ghost bitand_gives = { λ a b r. setxattr_flags_bits r ≡ bit_and (setxattr_flags_bits a) (setxattr_flags_bits b) };
+    ghost bitand_gives = { λ a b r. setxattr_flags_bits r
+        ≡ bit_and (setxattr_flags_bits a) (setxattr_flags_bits b) };
 
     fn bitand(self, other: SetxattrFlags) -> SetxattrFlags {
         SetxattrFlags(self.0 & other.0)
