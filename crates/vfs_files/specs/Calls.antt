@@ -80,12 +80,12 @@ IsFault None = Unit {0}
 IsFault (Some number) = (0 < number) × (number < 2 ^ 31)
 
 -- each number of an entry is within its width in the reply
-pub record FitsEntry (entry : Entry) : Type 0 where
-  pub within : Fit entry_out.widths (entry_out.fields (entry_out_of entry))
+abbrev pub FitsEntry : Entry → Type 0
+FitsEntry entry = Fit entry_out.widths (entry_out.fields (entry_out_of entry))
 
 -- each number of attributes and of their timeout, in whole seconds and the nanoseconds beyond, is within its width in the reply
-pub record FitsAttributes (attributes : Attr) (timeout : Duration) : Type 0 where
-  pub within : Fit attr_out.widths (whole_seconds timeout ∷ nanoseconds_beyond timeout ∷ 0 ∷ attr.fields attributes)
+abbrev pub FitsAttributes : Attr → Duration → Type 0
+FitsAttributes attributes timeout = Fit attr_out.widths (whole_seconds timeout ∷ nanoseconds_beyond timeout ∷ 0 ∷ attr.fields attributes)
 
 -- an answer of this kind, with its numbers in their widths
 abbrev pub IsAnswer : Kind → Answer → Type 0
