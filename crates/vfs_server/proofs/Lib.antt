@@ -1,2 +1,4 @@
 pub mod Steps
 pub mod Rooms
+pub mod Asking
+pub mod Turns

@@ -1,11 +1,11 @@
 -- From what a handler says of one request to the step that it is.
-use Rattle.std.proofs.Common.{◌≡◌, ◌≤◌, ℕ, Bool, true, false, List, [], ◌∷◌, Option, None, Result, Ok, Err, length, drop, refl, ap, sym, inl, inr, arith, nat_lt, if◌then◌else◌, subst}
+use Rattle.std.proofs.Common.{◌≡◌, ◌∙◌, ◌≤◌, ℕ, Bool, true, false, List, [], ◌∷◌, Option, None, Result, Ok, Err, length, drop, refl, ap, sym, inl, inr, arith, nat_lt, if◌then◌else◌, subst, ◌++◌, append-nil}
 use Rattle.std.proofs.lemmas.Bool.Decides.{nat_tests}
 use Rattle.vfs_flags.specs.Opcode.{opcode_of}
 use Rattle.vfs_wire.specs.Fields.{Table, value_of}
 use Rattle.vfs_wire.specs.Headers.{in_header}
 use Rattle.vfs_wire.specs.declared.headers.InHeader.{InHeader}
-use Rattle.vfs_segments.specs.Written.{Written}
+use Rattle.vfs_segments.specs.Written.{Written, held_over}
 use Rattle.vfs_files.specs.Items.{Item}
 use Rattle.vfs_files.specs.Calls.{Call, Done, Handed, Init}
 use Rattle.vfs_files.specs.Runs.{Happening, Calls, IsRun, events_of}
@@ -74,9 +74,7 @@ module _ {S I : Type 0} (allows : S → Call → Handed I → S → Type 0) (giv
         is_run = f.is_run;
         leaves = f.leaves;
         turn = inr (record {
-          header = is.0;
-          in_limit = subst limit (sym is.1) d.0.in_limit;
-          takes = subst takes (sym is.1) d.0.takes;
+          wants = record { header = is.0; in_limit = subst limit (sym is.1) d.0.in_limit; tail = subst takes (sym is.1) d.0.takes };
           no_call = f.follows.0;
           refused = f.follows.1;
           room = f.follows.2;
@@ -84,3 +82,14 @@ module _ {S I : Type 0} (allows : S → Call → Handed I → S → Type 0) (giv
         });
         same_page_size = f.same_page_size;
       }
+
+  -- a hold that was given up changes no byte
+  pub step_of_hold : IsStep allows gives old request (held_over writer 0) outcome after new → IsStep allows gives old request writer outcome after new
+  step_of_hold s = record {
+    run = s.run;
+    left = s.left;
+    is_run = s.is_run;
+    leaves = record { kept = s.leaves.kept ∙ ap (λ (p : List ℕ). p ++ s.left) (append-nil writer.passed); long = s.leaves.long };
+    turn = s.turn;
+    same_page_size = s.same_page_size;
+  }

@@ -5,3 +5,4 @@ pub mod Ask
 pub mod Parts
 pub mod Step
 pub mod Handled
+pub mod Laws

@@ -36,11 +36,15 @@ Follows page_size options (Agrees unique max_readahead offered) t after =
     × IsReplied (init_reply page_size max_readahead offered answer unique) t.room t.outcome t.left
     × (after ≡ options_after offered answer options)
 
+-- a request that takes memory: its header is whole, its `len` in the limit, and its record and its tail are whole
+pub record WantsMemory (request : List ℕ) : Type 0 where
+  pub header : 40 ≤ length request
+  pub in_limit : (value_of in_header request).len ≤ max_len
+  pub tail : TakesMemory (opcode_of (value_of in_header request).opcode) (value_of in_header request) (drop 40 request)
+
 -- a request that was refused for want of memory, as only those may be that take some
 pub record LacksMemory (options : ℕ) (t : Turn) (after : ℕ) : Type 0 where
-  pub header : 40 ≤ length t.request
-  pub in_limit : (value_of in_header t.request).len ≤ max_len
-  pub takes : TakesMemory (opcode_of (value_of in_header t.request).opcode) (value_of in_header t.request) (drop 40 t.request)
+  pub wants : WantsMemory t.request
   pub no_call : t.events ≡ []
   pub refused : t.outcome ≡ Err OutOfMemory
   pub room : t.left ≡ t.room

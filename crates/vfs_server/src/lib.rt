@@ -8,6 +8,7 @@ pub mod descriptor_utils;
 mod error;
 pub mod filesystem;
 pub mod fuse;
+pub mod laws;
 mod options;
 mod reply;
 mod request;

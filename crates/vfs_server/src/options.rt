@@ -41,6 +41,7 @@ pub(crate) fn read_second_flags(flags: u32, reader: &mut Reader<'_>) -> Result<u
 }
 
 /// The known options among those that the client offers in its two words of flags.
+#[tactic(auto, unfolding(bitflags::proofs::OnLiterals::bitflags_on_literals))]
 pub(crate) fn offered_options(flags: u32, flags2: u32) -> FsOptions
     ensures { fs_options_bits result ≡ capable flags flags2 }
 {
@@ -48,6 +49,7 @@ pub(crate) fn offered_options(flags: u32, flags2: u32) -> FsOptions
 }
 
 /// The options that are agreed on: those offered that the file system wants or the server supports.
+#[tactic(auto, unfolding(bitflags::proofs::OnLiterals::bitflags_on_literals))]
 fn agree(offered: FsOptions, want: FsOptions) -> FsOptions
     ensures { fs_options_bits result ≡ agreed (fs_options_bits offered) (fs_options_bits want) }
 {

@@ -2,7 +2,7 @@
 
 ghost use Rattle.std.specs.Prelude.{◌≡◌, ◌≤◌, ◌⊎◌, Some, IsOk, length};
 ghost use Rattle.vfs_flags.specs.Flags.{fs_options_bits};
-ghost use Rattle.vfs_segments.specs.Written.{Written};
+ghost use Rattle.vfs_segments.specs.Written.{Written, held_over};
 ghost use Rattle.vfs_server.specs.Ask.{ask_lookup, ask_name, ask_forget, ask_getattr, ask_attributes, ask_init, ask_version, ask_opcode, ask_header, tail_of, TakesMemory};
 ghost use Rattle.vfs_server.specs.Handled.{Handles, HandlesOrLacks, TakesHeader};
 ghost use Rattle.vfs_server.specs.Step.{IsStep};
@@ -17,15 +17,20 @@ use bitflags::Flags;
 use std::alloc::Global;
 use std::marker::Model;
 use vfs_files::{CStr, Context, FileSystem, Number};
-use vfs_flags::{Errno, FsOptions, KERNEL_VERSION, MIN_KERNEL_MINOR_VERSION, Opcode};
+use vfs_flags::{Errno, FsOptions, GETATTR_FH, KERNEL_VERSION, MIN_KERNEL_MINOR_VERSION, Opcode};
 use vfs_segments::{Reader, Writer};
 use vfs_wire::{ForgetIn, GetattrIn, InHeader, InitInCompat};
 
 /// The largest `len` of a request, in bytes: the largest payload and a page for what stands before it.
-const GETATTR_FH: u32 = 1;
-
-/// The largest `len`
+/// The largest `len` of a request, in bytes: the largest payload and a page for what stands before it.
 const MAX_LEN: u32 = 1_048_576 + 4096;
+
+/// Gives up a hold that the caller left.
+fn give_up_hold(w: &mut Writer)
+    ensures { w.new ≡ held_over w.old 0 }
+{
+    let _ = w.hold(0);
+}
 
 /// A server of one client over a file system.
 #[derive(Drop)]
@@ -93,7 +98,8 @@ impl<F: FileSystem> Server<F> {
     ///
     /// After any error but `EncodeMessage` no call was made, nothing was written, and the options are the old ones.
     /// After `EncodeMessage` the room holds the beginning of a reply that was too long for it.
-    /// What `w` had passed before stays; where it stands afterwards isn't said.
+    /// A hold that the caller left on `w` is given up first. What `w` had passed before stays, held bytes too; where it
+    /// stands afterwards isn't said.
     pub fn handle_message(
         &mut self,
         alloc: Global,
@@ -102,8 +108,15 @@ impl<F: FileSystem> Server<F> {
     ) -> Result<usize>
         ensures { IsStep F.allows F.DirIter.gives self.old r.entry.left w.old result w.new self.new }
     {
-        match read_record::<InHeader>(&mut r) {
-            Ok(header) => self.handle_header(alloc, &header, &mut r, w),
+        give_up_hold(w);
+        self.handle(alloc, &mut r, w)
+    }
+
+    fn handle(&mut self, alloc: Global, r: &mut Reader<'_>, w: &mut Writer) -> Result<usize>
+        ensures { IsStep F.allows F.DirIter.gives self.old r.old.left w.old result w.new self.new }
+    {
+        match read_record::<InHeader>(r) {
+            Ok(header) => self.handle_header(alloc, &header, r, w),
             Err(error) => Err(error),
         }
     }

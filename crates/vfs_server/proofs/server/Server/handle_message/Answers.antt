@@ -1,11 +1,7 @@
-use Rattle.std.proofs.Common.{refl}
-use Rattle.vfs_server.proofs.Steps.{step_of_header, step_short}
+use Rattle.vfs_server.proofs.Steps.{step_of_hold}
 use Rattle.vfs_server.proofs.server.Server.handle_message.Goals as goal
 
-pub returns-in-Ok : goal.returns-in-Ok
-returns-in-Ok g c =
-    step_of_header g.F.FileSystem.allows g.F.DirIter.DirectoryIterator.gives c.args.self.now c.args.r.left c.args.w.now c.handle_header.result c.handle_header.new.w c.handle_header.new.self
-    c.in-Ok.header c.in-Ok.ensures.value (rw c.in-Ok.ensures.moved at c.handle_header.ensures)
-
-pub returns-in-Err : goal.returns-in-Err
-returns-in-Err g c = step_short _ _ _ _ _ _ _ _ c.in-Err.error c.in-Err.ensures.value refl refl refl
+pub returns : goal.returns
+returns g c =
+    step_of_hold g.F.FileSystem.allows g.F.DirIter.DirectoryIterator.gives c.args.self.now c.args.r.left c.args.w.now c.handle.result c.handle.new.w c.handle.new.self
+      (rw c.give_up_hold.ensures at c.handle.ensures)
