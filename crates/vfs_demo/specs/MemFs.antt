@@ -1,0 +1,106 @@
+-- The file system in memory: its files in order of creation, and what its calls answer of them.
+use Rattle.std.specs.Prelude.{◌≡◌, ℕ, ◌==◌, List, [], ◌∷◌, length, find, codes, Option, Some, None, if◌then◌else◌}
+use Rattle.std.specs.Str.{bytes_eq}
+use Rattle.std.specs.Duration.{as_nanos}
+use Rattle.std.specs.declared.time.Duration.{Duration}
+use Rattle.vfs_wire.specs.declared.attributes.Attr.{Attr}
+use Rattle.vfs_files.specs.declared.entry.Entry.{Entry}
+use Rattle.vfs_files.specs.Calls.{Call, Init, Lookup, Forget, Getattr, Answer, Done, Failed, Options, Found, Attributes, Handed, Plain, Iterator}
+
+-- a file: its node, its name and its contents
+pub record Stored : Type 0 where
+  pub node : ℕ
+  pub name : List ℕ
+  pub contents : List ℕ
+
+-- the files of the root in order of creation, and the node of the next one
+pub record Stock : Type 0 where
+  pub files : List Stored
+  pub next : ℕ
+
+-- what a new file system holds: one file
+abbrev pub first_stock : Stock
+first_stock = record { files = record { node = 2; name = codes "a"; contents = codes "hello" } ∷ []; next = 3 }
+
+-- the attributes of a node of this kind and permissions, with so many names and bytes
+abbrev pub attr_of : (node mode nlink size : ℕ) → Attr
+attr_of node mode nlink size =
+    record {
+      ino = node;
+      size = size;
+      blocks = 0;
+      atime = 0;
+      mtime = 0;
+      ctime = 0;
+      atimensec = 0;
+      mtimensec = 0;
+      ctimensec = 0;
+      mode = mode;
+      nlink = nlink;
+      uid = 0;
+      gid = 0;
+      rdev = 0;
+      blksize = 4096;
+      flags = 0;
+    }
+
+-- the attributes of the root: a directory that all may read and search, and its owner write
+abbrev pub root_attr : Attr
+root_attr = attr_of 1 0o40755 2 0
+
+-- the attributes of a file: one that all may read and its owner write
+abbrev pub file_attr : Stored → Attr
+file_attr file = attr_of file.node 0o100644 1 (length file.contents)
+
+-- the file of this name in this directory, which only the root can be
+abbrev pub file_named : Stock → (parent : ℕ) → (name : List ℕ) → Option Stored
+file_named stock parent name = if parent == 1 then find (λ file. bytes_eq file.name name) stock.files else None
+
+-- the file of this node
+abbrev pub file_at : Stock → (node : ℕ) → Option Stored
+file_at stock node = find (λ file. file.node == node) stock.files
+
+-- the attributes of a file, if there is one
+abbrev pub attr_option : Option Stored → Option Attr
+attr_option None = None
+attr_option (Some file) = Some (file_attr file)
+
+-- the attributes of this node
+abbrev pub attr_at : Stock → (node : ℕ) → Option Attr
+attr_at stock node = if node == 1 then Some root_attr else attr_option (file_at stock node)
+
+-- one second
+abbrev pub IsSecond : Duration → Type 0
+IsSecond time = as_nanos time ≡ 1000000000
+
+-- the entry of a file
+pub record IsEntryOf (file : Stored) (entry : Entry) : Type 0 where
+  pub inode : entry.inode ≡ file.node
+  pub generation : entry.generation ≡ 0
+  pub attr : entry.attr ≡ file_attr file
+  pub attr_timeout : IsSecond entry.attr_timeout
+  pub entry_timeout : IsSecond entry.entry_timeout
+
+-- a file's entry is answered, or that there is no such file
+abbrev pub AnswersEntry : Option Stored → Answer → Type 0
+AnswersEntry (Some file) (Found entry) = IsEntryOf file entry
+AnswersEntry None (Failed fault) = fault ≡ Some 2
+AnswersEntry _ _ = ⊥
+
+-- attributes are answered, or that there is no such node
+abbrev pub AnswersAttr : Option Attr → Answer → Type 0
+AnswersAttr (Some attr) (Attributes found timeout) = (found ≡ attr) × IsSecond timeout
+AnswersAttr None (Failed fault) = fault ≡ Some 2
+AnswersAttr _ _ = ⊥
+
+-- what a call is answered
+abbrev pub AnswersOf : Stock → Call → Answer → Type 0
+AnswersOf stock (Init capable) answer = answer ≡ Options 0x2000
+AnswersOf stock (Lookup ctx parent name) answer = AnswersEntry (file_named stock parent name) answer
+AnswersOf stock (Forget ctx inode count) answer = answer ≡ Done
+AnswersOf stock (Getattr ctx inode handle) answer = AnswersAttr (attr_at stock inode) answer
+
+-- a call is answered so, and the files stay
+abbrev pub AllowsHere : {I : Type 0} → Stock → Call → Handed I → Stock → Type 0
+AllowsHere old call (Plain answer) new = AnswersOf old call answer × (new ≡ old)
+AllowsHere old call (Iterator opened) new = ⊥

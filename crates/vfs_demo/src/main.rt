@@ -1,0 +1,32 @@
+//! A file server in memory that answers the requests of a session, line by line.
+//!
+//! Standard input has a line for each request, with the rooms for its reply and its bytes, and
+//! standard output gets a line for each answer. The program takes no arguments and opens no file.
+#![tactic(auto)]
+
+mod answer;
+mod error;
+mod line;
+mod memfs;
+mod run;
+#[cfg(test)]
+mod tests;
+
+use error::{RunError, exit_status};
+use std::io;
+use std::process::ExitCode;
+
+fn main(rt: HostRuntime) -> ExitCode {
+    let outcome = run::run(rt.alloc(), &mut rt.stdin(), &mut rt.stdout());
+    let _ = report(&rt, &outcome);
+    ExitCode::from(exit_status(&outcome))
+}
+
+// Says an error that the answers do not say, where it can still be printed.
+fn report(rt: &impl Print, outcome: &Result<(), RunError>) -> io::Result<()> {
+    match outcome {
+        Err(RunError::Io) => println!(rt; "i/o error"),
+        Err(RunError::OutOfMemory) => println!(rt; "out of memory"),
+        Err(RunError::BadLine(_)) | Ok(()) => Ok(()),
+    }
+}

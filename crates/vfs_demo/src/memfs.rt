@@ -1,0 +1,213 @@
+//! A file system in memory: a root directory, and files in it.
+ghost use Rattle.std.specs.Prelude.{◌≡◌, ◌==◌, find, Some, None, MatchResult};
+ghost use Rattle.std.specs.Option.{option_copied};
+ghost use Rattle.std.specs.Str.{bytes_eq};
+ghost use Rattle.vfs_files.specs.Calls.{attr_answer};
+ghost use Rattle.vfs_demo.specs.MemFs.{AllowsHere, AnswersAttr, attr_of, file_attr, attr_at, first_stock, IsEntryOf};
+
+use std::alloc::Global;
+use std::marker::Model;
+use std::time::Duration;
+use vfs_files::{CStr, Context, DirEntry, DirectoryIterator, Entry, FileSystem};
+use vfs_flags::{Errno, Fault, FsOptions, GuestGid, GuestUid, ROOT_ID};
+use vfs_wire::Attr;
+
+/// How long a client may rely on an answer.
+const TIMEOUT_SECONDS: u64 = 1;
+
+/// The kind and permissions of the root.
+const ROOT_MODE: u32 = 0o40755;
+
+/// The kind and permissions of a file.
+const FILE_MODE: u32 = 0o100644;
+
+/// The preferred size of reads and writes in bytes.
+const BLOCK_SIZE: u32 = 4096;
+
+/// A file of the root.
+#[derive(Debug, Drop)]
+struct File {
+    node: u64,
+    name: Vec<u8>,
+    contents: Vec<u8>,
+}
+
+impl Model for File {
+    ghost use Rattle.vfs_demo.specs.MemFs.{Stored};
+
+    ghost Value = { Stored };
+
+    ghost view = { λ file. record { node = file.node; name = file.name.items; contents = file.contents.items } };
+}
+
+/// A file system in memory. It has a root directory, node 1, and begins with one file in it: node
+/// 2, named `a`, with the contents `hello`. It says of each answer that it holds for a second.
+#[derive(Debug, Drop)]
+pub struct MemFs {
+    files: Vec<File>,
+    next: u64,
+}
+
+impl Model for MemFs {
+    ghost use Rattle.vfs_demo.specs.MemFs.{Stock};
+
+    ghost Value = { Stock };
+
+    ghost view = { λ fs. record { files = fs.files.items; next = fs.next } };
+}
+
+impl MemFs {
+    /// A new file system, with its one file. ENOMEM where there is no memory for it, and no other
+    /// fault.
+    pub fn new(alloc: Global) -> Result<MemFs, Fault>
+        ensures { MatchResult result (λ fs. fs ≡ first_stock) (λ fault. fault ≡ Some 12) }
+    {
+        let file = File {
+            node: ROOT_ID + 1,
+            name: copied(alloc, b"a")?,
+            contents: copied(alloc, b"hello")?,
+        };
+        let mut files = Vec::new(alloc);
+        match files.push(file) {
+            Ok(()) => Ok(MemFs {
+                files,
+                next: ROOT_ID + 2,
+            }),
+            Err(_) => Err(Some(Errno::ENOMEM)),
+        }
+    }
+}
+
+// The bytes in memory of their own.
+fn copied(alloc: Global, bytes: &[u8]) -> Result<Vec<u8>, Fault>
+    ensures { MatchResult result (λ v. v.items ≡ bytes.now) (λ fault. fault ≡ Some 12) }
+{
+    match Vec::from_slice(alloc, bytes) {
+        Ok(v) => Ok(v),
+        Err(_) => Err(Some(Errno::ENOMEM)),
+    }
+}
+
+// The fault ENOENT: what was asked for is not there.
+fn not_found() -> Fault
+    ensures { result ≡ Some 2 }
+{
+    Errno::new(2)
+}
+
+// The attributes of a node of this kind and permissions, with so many names and bytes.
+fn make_attr(node: u64, mode: u32, nlink: u32, size: u64) -> Attr
+    ensures { result ≡ attr_of node mode nlink size }
+{
+    Attr {
+        ino: node,
+        size,
+        blocks: 0,
+        atime: 0,
+        mtime: 0,
+        ctime: 0,
+        atimensec: 0,
+        mtimensec: 0,
+        ctimensec: 0,
+        mode,
+        nlink,
+        uid: GuestUid::from(0),
+        gid: GuestGid::from(0),
+        rdev: 0,
+        blksize: BLOCK_SIZE,
+        flags: 0,
+    }
+}
+
+// The attributes of a file.
+fn attr(file: &File) -> Attr
+    ensures { result ≡ file_attr file.now }
+{
+    make_attr(file.node, FILE_MODE, 1, file.contents.len() as u64)
+}
+
+// The entry of a file.
+fn entry(file: &File) -> Entry
+    ensures { IsEntryOf file.now result }
+{
+    Entry {
+        inode: file.node,
+        generation: 0,
+        attr: attr(file),
+        attr_timeout: Duration::from_secs(TIMEOUT_SECONDS),
+        entry_timeout: Duration::from_secs(TIMEOUT_SECONDS),
+    }
+}
+
+// The first file of this name.
+fn find_name<'a>(files: &'a [File], name: &[u8]) -> Option<&'a File>
+    ensures { option_copied result ≡ find (λ file. bytes_eq file.name name.now) files.now }
+{
+    files.iter().find(|file| file.name.as_slice() == name)
+}
+
+// The first file of this node.
+fn find_node(files: &[File], node: u64) -> Option<&File>
+    ensures { option_copied result ≡ find (λ file. file.node == node) files.now }
+{
+    files.iter().find(|file| file.node == node)
+}
+
+/// What a directory of the file system lists: nothing, since no directory can be read.
+#[derive(Debug, Drop)]
+pub struct NoEntries;
+
+impl DirectoryIterator for NoEntries {
+    ghost gives = { λ old item new. (item ≡ None) × (new ≡ old) };
+
+    fn next(&mut self) -> Option<DirEntry<'_>> {
+        None
+    }
+}
+
+impl FileSystem for MemFs {
+    type Inode = u64;
+
+    type Handle = u64;
+
+    type DirIter = NoEntries;
+
+    ghost allows = { AllowsHere };
+
+    fn init(&mut self, _capable: FsOptions) -> Result<FsOptions, Fault> {
+        Ok(FsOptions::DO_READDIRPLUS)
+    }
+
+    fn lookup(&mut self, _ctx: Context, parent: u64, name: CStr<'_>) -> Result<Entry, Fault> {
+        if parent != ROOT_ID {
+            return Err(not_found());
+        }
+        match find_name(&self.files, name.to_bytes()) {
+            Some(file) => Ok(entry(file)),
+            None => Err(not_found()),
+        }
+    }
+
+    fn forget(&mut self, _ctx: Context, _inode: u64, _count: u64) {
+        vfs_files::defaults::forget();
+    }
+
+    fn getattr(
+        &mut self,
+        _ctx: Context,
+        inode: u64,
+        _handle: Option<u64>,
+    ) -> Result<(Attr, Duration), Fault>
+        ensures answer { AnswersAttr (attr_at self.old inode) (attr_answer result) }
+        ensures same { self.new ≡ self.old }
+    {
+        let timeout = Duration::from_secs(TIMEOUT_SECONDS);
+        if inode == ROOT_ID {
+            return Ok((make_attr(ROOT_ID, ROOT_MODE, 2, 0), timeout));
+        }
+        match find_node(&self.files, inode) {
+            Some(file) => Ok((attr(file), timeout)),
+            None => Err(not_found()),
+        }
+    }
+}
