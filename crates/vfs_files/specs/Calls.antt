@@ -1,4 +1,5 @@
--- Calls, answers, and which kind of answer a call has. Nothing here knows a file system's state or its iterators.
+-- Calls, answers, and which kind of answer a call has. Nothing here knows a file system's state or
+-- its iterators.
 use Rattle.std.specs.Prelude.{◌<◌, ◌^◌, ℕ, List, ◌∷◌, Option, Some, None, Result, Ok, Err}
 use Rattle.std.specs.declared.time.Duration.{Duration}
 use Rattle.vfs_flags.specs.Flags.{fs_options_bits}
@@ -18,7 +19,8 @@ pub data Call : Type 0 where
   Forget : (ctx : Context) (inode count : ℕ) → Call
   Getattr : (ctx : Context) (inode : ℕ) (handle : Option ℕ) → Call
 
--- every answer that is a value: nothing, a fault, the options that are wanted, an entry, or attributes with their timeout
+-- every answer that is a value: nothing, a fault, the options that are wanted, an entry, or attributes
+-- with their timeout
 pub data Answer : Type 0 where
   Done : Answer
   Failed : (fault : Option ℕ) → Answer
@@ -39,7 +41,8 @@ not_served = Some 38
 abbrev pub no_such_call : Answer
 no_such_call = Failed not_served
 
--- the answer of each call that a file system doesn't serve: no options for `init`, nothing for `forget`, else the fault ENOSYS
+-- the answer of each call that a file system doesn't serve: no options for `init`, nothing for `forget`,
+-- else the fault ENOSYS
 abbrev pub default_answer : Call → Answer
 default_answer (Init _) = Options 0
 default_answer (Forget _ _ _) = Done
@@ -83,9 +86,11 @@ IsFault (Some number) = (0 < number) × (number < 2 ^ 31)
 abbrev pub FitsEntry : Entry → Type 0
 FitsEntry entry = Fit entry_out.widths (entry_out.fields (entry_out_of entry))
 
--- each number of attributes and of their timeout, in whole seconds and the nanoseconds beyond, is within its width in the reply
+-- each number of attributes and of their timeout, in whole seconds and the nanoseconds beyond, is within
+-- its width in the reply
 abbrev pub FitsAttributes : Attr → Duration → Type 0
-FitsAttributes attributes timeout = Fit attr_out.widths (whole_seconds timeout ∷ nanoseconds_beyond timeout ∷ 0 ∷ attr.fields attributes)
+FitsAttributes attributes timeout =
+    Fit attr_out.widths (whole_seconds timeout ∷ nanoseconds_beyond timeout ∷ 0 ∷ attr.fields attributes)
 
 -- an answer of this kind, with its numbers in their widths
 abbrev pub IsAnswer : Kind → Answer → Type 0

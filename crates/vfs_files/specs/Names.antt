@@ -7,7 +7,8 @@ abbrev pub name_to : List ℕ → Option ℕ → Option (List ℕ)
 name_to bytes None = None
 name_to bytes (Some i) = if i + 1 == length bytes then Some (take i bytes) else None
 
--- the text of a name: a byte list is a name where its last byte is 0 and no other is, and its text is the rest
+-- the text of a name: a byte list is a name where its last byte is 0 and no other is, and its text is
+-- the rest
 abbrev pub name_of : List ℕ → Option (List ℕ)
 name_of bytes = name_to bytes (position (λ b. b == 0) bytes)
 

@@ -3,7 +3,8 @@ use Rattle.std.specs.Prelude.{◌≡◌, List, [], ◌∷◌, ◌++◌, Option, 
 use Rattle.vfs_files.specs.Items.{Item}
 use Rattle.vfs_files.specs.Calls.{Call, Answer, Handed, Plain, Iterator}
 
--- what is seen of a file system from outside: a call with its answer, a call that opened an iterator, and a taking from the iterator at hand
+-- what is seen of a file system from outside: a call with its answer, a call that opened an iterator,
+-- and a taking from the iterator at hand
 pub data Event : Type 0 where
   Called : (call : Call) (answer : Answer) → Event
   Opened : (call : Call) → Event
@@ -28,7 +29,9 @@ at_hand it (Opens call opened) = Some opened
 at_hand it (Takes before item after) = Some after
 
 module _ {S I : Type 0} (allows : S → Call → Handed I → S → Type 0) (gives : I → Option Item → I → Type 0) where
-  -- what may happen in a state with this iterator at hand, and the state after it: a call is allowed by the file system's relation, a taking begins with the iterator at hand, is allowed by the iterator's relation, and keeps the state
+  -- what may happen in a state with this iterator at hand, and the state after it: a call is allowed by
+  -- the file system's relation; a taking begins with the iterator at hand, is allowed by the iterator's
+  -- relation, and keeps the state
   abbrev pub MayHappen : Option I → S → Happening I → S → Type 0
   MayHappen it old (Calls call answer) new = allows old call (Plain answer) new
   MayHappen it old (Opens call opened) new = allows old call (Iterator opened) new
@@ -41,7 +44,10 @@ module _ {S I : Type 0} (allows : S → Call → Handed I → S → Type 0) (giv
 
   -- a run, and behind it one that begins with no iterator at hand, are a run
   abbrev pub RunsJoin : Type 0
-  RunsJoin = (it : Option I) (first middle last : S) (before after : List (Happening I × S)) → IsRun it first before middle → IsRun None middle after last → IsRun it first (before ++ after) last
+  RunsJoin =
+      (it : Option I) (first middle last : S) (before after : List (Happening I × S))
+      → IsRun it first before middle → IsRun None middle after last
+      → IsRun it first (before ++ after) last
 
 -- the events of a run, without states and iterators
 abbrev pub events_of : {S I : Type 0} → List (Happening I × S) → List Event
@@ -50,4 +56,6 @@ events_of (h ∷ hs) = event_of h.0 ∷ events_of hs
 
 -- the events of two lists in a row are those of the first, and then those of the second
 abbrev pub EventsJoin : (S I : Type 0) → Type 0
-EventsJoin S I = (before after : List (Happening I × S)) → events_of (before ++ after) ≡ events_of before ++ events_of after
+EventsJoin S I =
+    (before after : List (Happening I × S))
+    → events_of (before ++ after) ≡ events_of before ++ events_of after
