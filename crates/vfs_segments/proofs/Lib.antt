@@ -3,3 +3,5 @@ pub mod Segments
 pub mod Places
 pub mod Puts
 pub mod Writers
+pub mod Cuts
+pub mod AnswerLemmas

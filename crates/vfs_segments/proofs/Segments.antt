@@ -53,7 +53,7 @@ pub ruleset segments = (length-flat-drop_more, flat-take_more, length-flat-take_
 abbrev pub held_flat : List (Vec ℕ Global) → List ℕ
 held_flat xs = flat_bytes (contents xs)
 
-held_flat-append : (xs ys : List (Vec ℕ Global)) → held_flat (xs ++ ys) ≡ held_flat xs ++ held_flat ys
+pub held_flat-append : (xs ys : List (Vec ℕ Global)) → held_flat (xs ++ ys) ≡ held_flat xs ++ held_flat ys
 held_flat-append xs ys = ap concat (map-append (λ (v : Vec ℕ Global). v.items) xs ys) ∙ concat-append (contents xs) (contents ys)
 
 pub length-held_flat-drop_more : (xs : List (Vec ℕ Global)) (i : ℕ) (d : Vec ℕ Global) → i < length xs → length (held_flat (drop i xs)) ≡ length (get_or xs i d).items + length (held_flat (drop (i + 1) xs))

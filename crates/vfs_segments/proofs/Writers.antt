@@ -1,9 +1,9 @@
 -- A writer's bytes after a write.
 use Rattle.std.proofs.Common.{◌≡◌, ℕ, ◌+◌, ◌≤◌, List, [], ◌∷◌, ◌++◌, length, take, drop, map, ap, ◌∙◌, sym, refl, arith, append_assoc, length-append, length-take, take-append-drop, take_at, drop_at}
-use Rattle.std.proofs.lemmas.List.{drop-append-le, drop-drop, take-take}
+use Rattle.std.proofs.lemmas.List.{drop-append-le, drop-drop, drop-take, take-take}
 use Rattle.std.specs.List.{concat}
 use Rattle.vfs_segments.specs.Segments.{contents, with_bytes_at}
-use Rattle.vfs_segments.specs.Written.{Written, wrote, held_filled, held_over}
+use Rattle.vfs_segments.specs.Written.{Written, wrote, first_room, held_filled, held_over}
 use Rattle.vfs_segments.specs.Writer.{IsWriter, written_of, room_bytes}
 use Rattle.vfs_segments.specs.declared.writer.Writer.TheInside.{Inside}
 use Rattle.vfs_segments.proofs.Lists.{length-with_bytes_at}
@@ -71,3 +71,8 @@ holds w n k e h at held_at held =
     let parts : take (w.at + k) (room_bytes w) ≡ take w.at (room_bytes w) ++ take k (drop w.at (room_bytes w)) =
     ap (take (w.at + k)) (sym (take-append-drop w.at (room_bytes w))) ∙ take-append_past (take w.at (room_bytes w)) (drop w.at (room_bytes w)) k (w.at + k) (omega arith) in
     rw (at, e) (written-eq parts (sym (drop-drop k w.at (room_bytes w))) (held_at ∙ sym size) held)
+
+-- a writer whose room was cut n bytes past its place
+pub keeps : (w v : Inside) (n : ℕ) → room_bytes v ≡ take (w.at + n) (room_bytes w) → v.at ≡ w.at → v.held_at ≡ w.held_at → v.held ≡ w.held → written_of v ≡ first_room (written_of w) n
+keeps w v n e at held_at held =
+    rw at (written-eq (ap (take w.at) e ∙ take-take w.at (w.at + n) (room_bytes w) (omega arith)) (ap (drop w.at) e ∙ drop-take w.at n (room_bytes w)) held_at held)

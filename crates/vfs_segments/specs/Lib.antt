@@ -3,3 +3,4 @@ pub mod Unread
 pub mod Written
 pub mod Reader
 pub mod Writer
+pub mod Answers

@@ -6,6 +6,10 @@ pub record Unread : Type 0 where
   pub left : List ℕ
   pub taken : ℕ
 
+-- a reader that has given nothing of these bytes
+abbrev pub unread : List ℕ → Unread
+unread bytes = record { left = bytes; taken = 0 }
+
 -- the same, n bytes on
 abbrev pub advanced : Unread → ℕ → Unread
 advanced u n = record { left = drop n u.left; taken = u.taken + n }

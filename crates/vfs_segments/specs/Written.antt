@@ -18,6 +18,14 @@ unwritten room = record { passed = []; left = room; held_at = 0; held = 0 }
 abbrev pub wrote : Written → List ℕ → Written
 wrote w bs = record { passed = w.passed ++ bs; left = drop (length bs) w.left; held_at = w.held_at; held = w.held }
 
+-- what a writer keeps when its room is cut after the next n bytes
+abbrev pub first_room : Written → ℕ → Written
+first_room w n = record { passed = w.passed; left = take n w.left; held_at = w.held_at; held = w.held }
+
+-- what a cut after the next n bytes answers
+abbrev pub rest_room : Written → ℕ → Written
+rest_room w n = unwritten (drop n w.left)
+
 -- the next n bytes are passed over and held
 abbrev pub held_over : Written → ℕ → Written
 held_over w n = record { passed = w.passed ++ take n w.left; left = drop n w.left; held_at = length w.passed; held = n }

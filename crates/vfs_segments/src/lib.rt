@@ -5,8 +5,11 @@
 //! another, and on a count. Nothing here knows what the bytes mean.
 #![tactic(auto)]
 
+mod cut;
+mod descriptor_type;
 mod error;
 mod gather;
+pub mod laws;
 mod reader;
 mod record;
 mod scatter;
@@ -14,6 +17,7 @@ mod scatter;
 mod tests;
 mod writer;
 
+pub use descriptor_type::DescriptorType;
 pub use error::{Error, Result};
 pub use reader::Reader;
 pub use writer::Writer;

@@ -5,7 +5,7 @@ ghost use Rattle.std.specs.IoError.{error_kind};
 ghost use Rattle.std.specs.Io.{ReadsAtMost};
 ghost use Rattle.std.specs.Io.KnownBytes.{Consumes, ReadConsumes};
 ghost use Rattle.vfs_segments.specs.Segments.{segments_of, flat_bytes};
-ghost use Rattle.vfs_segments.specs.Unread.{advanced};
+ghost use Rattle.vfs_segments.specs.Unread.{advanced, first_of, rest_of};
 ghost use Rattle.vfs_wire.specs.Fields.{Fit, value_of};
 
 use crate::error::{Error, Result};
@@ -75,6 +75,47 @@ impl<'a> Reader<'a> {
         ensures { result ≡ self.now.taken }
     {
         self.at - self.start
+    }
+
+    /// Cuts this reader after the next `n` bytes. It keeps them and its count; the answer has the
+    /// rest, of which nothing is taken.
+    ///
+    /// `Error::SplitOutOfBounds` with `n` where fewer are left, and `Error::OutOfMemory` where memory
+    /// is refused. A refusal changes nothing.
+    pub fn split_at(&mut self, n: usize) -> Result<Reader<'a>>
+        ensures rest { IfOk result (λ r. r ≡ rest_of self.old n) }
+        ensures kept { OnOk result (self.new ≡ first_of self.old n) }
+        ensures out_of_bounds { length self.old.left < n → result ≡ Err (Error.SplitOutOfBounds n) }
+        ensures within { n ≤ length self.old.left → IfErr result (λ e. e ≡ Error.OutOfMemory) }
+        ensures err { OnErr result (self.new ≡ self.old) }
+    {
+        if n > self.available_bytes() {
+            return Err(Error::SplitOutOfBounds(n));
+        }
+        let middle = self.at + n;
+        let rest = Reader {
+            segments: self.segments,
+            start: middle,
+            at: middle,
+            end: self.end,
+        };
+        self.end = middle;
+        Ok(rest)
+    }
+
+    /// A reader of the same bytes, with the same count.
+    ///
+    /// `Error::OutOfMemory` where memory is refused.
+    pub fn clone(&self) -> Result<Reader<'a>>
+        ensures ok { IfOk result (λ r. r ≡ self.now) }
+        ensures err { IfErr result (λ e. e ≡ Error.OutOfMemory) }
+    {
+        Ok(Reader {
+            segments: self.segments,
+            start: self.start,
+            at: self.at,
+            end: self.end,
+        })
     }
 
     // Takes the next bytes, as many as the buffer has.

@@ -1,4 +1,7 @@
-use crate::{Error, Reader, Writer};
+ghost use Rattle.std.specs.Prelude.{length, IfOk, MatchResult};
+ghost use Rattle.vfs_segments.specs.Answers.{Answers, Available, Taken, Read, ReadExact, Count, Moved, Filled, TooFew};
+
+use crate::{DescriptorType, Error, Reader, Writer};
 use std::alloc::{AllocError, Global};
 use std::io;
 use std::io::{ErrorKind, Read, Write};
@@ -224,4 +227,191 @@ fn held_bytes_are_filled_after_those_behind_them(rt: HostRuntime) -> Result<(), 
         [10u8, 11, 12, 13, 14, 15, 0xaa, 0xbb, 0, 0].as_slice()
     );
     Ok(())
+}
+
+// What each call of a reader promises is an answer, of which the law on readers of equal bytes speaks.
+
+fn asks_what_is_left(reader: &mut Reader) -> usize
+    ensures { Answers reader.old Available (Count result) reader.new }
+{
+    reader.available_bytes()
+}
+
+fn asks_what_was_taken(reader: &mut Reader) -> usize
+    ensures { Answers reader.old Taken (Count result) reader.new }
+{
+    reader.bytes_read()
+}
+
+fn asks_to_read(reader: &mut Reader, buf: &mut [u8]) -> io::Result<usize>
+    ensures { IfOk result (λ n. Answers reader.old (Read buf.old) (Moved n buf.new) reader.new) }
+{
+    reader.read(buf)
+}
+
+fn asks_to_fill(reader: &mut Reader, buf: &mut [u8]) -> io::Result<()>
+    ensures { MatchResult result (λ _. Answers reader.old (ReadExact (length buf.old)) (Filled buf.new) reader.new)
+        (λ _. Answers reader.old (ReadExact (length buf.old)) TooFew reader.new) }
+{
+    reader.read_exact(buf)
+}
+
+#[test]
+fn a_reader_answers_what_it_is_asked(rt: HostRuntime) -> Result<(), Fail> {
+    let segments = [&NUMBERED[..1], &NUMBERED[1..4]];
+    let mut reader = Reader::new(rt.alloc(), &segments)?;
+    assert_eq!(rt; asks_what_is_left(&mut reader), 4);
+    let mut buf = [0u8; 3];
+    asks_to_fill(&mut reader, &mut buf)?;
+    assert_eq!(rt; buf, [1, 2, 3]);
+    assert_eq!(rt; asks_to_read(&mut reader, &mut buf)?, 1);
+    assert_eq!(rt; buf, [4, 2, 3]);
+    assert_eq!(rt; asks_what_was_taken(&mut reader), 4);
+    Ok(())
+}
+
+#[test]
+fn a_reader_is_split_at_the_cuts_and_between_them(rt: HostRuntime) -> Result<(), Fail> {
+    let alloc = rt.alloc();
+    let bytes = [6u8; 128];
+    let segments = [&bytes[..16], &bytes[16..32], &bytes[32..]];
+    for (n, first, second) in [(0, 0, 128), (24, 24, 104), (32, 32, 96), (128, 128, 0)] {
+        let mut reader = Reader::new(alloc, &segments)?;
+        let rest = reader.split_at(n)?;
+        assert_eq!(rt;
+            (reader.available_bytes(), rest.available_bytes()),
+            (first, second),
+            "at {n}"
+        );
+    }
+    let mut reader = Reader::new(alloc, &segments)?;
+    assert_eq!(rt;
+        reader.split_at(256).err(),
+        Some(Error::SplitOutOfBounds(256))
+    );
+    assert_eq!(rt; (reader.available_bytes(), reader.bytes_read()), (128, 0));
+    let rest = reader.split_at(128)?;
+    assert_eq!(rt;
+        (reader.available_bytes(), rest.available_bytes()),
+        (128, 0)
+    );
+    Ok(())
+}
+
+#[test]
+fn a_split_reader_keeps_its_count_and_the_rest_begins_anew(rt: HostRuntime) -> Result<(), Fail> {
+    let segments = [&NUMBERED[..3], &NUMBERED[3..8]];
+    let mut reader = Reader::new(rt.alloc(), &segments)?;
+    let mut buf = [0u8; 2];
+    reader.read_exact(&mut buf)?;
+    let mut rest = reader.split_at(3)?;
+    assert_eq!(rt; (reader.available_bytes(), reader.bytes_read()), (3, 2));
+    assert_eq!(rt; (rest.available_bytes(), rest.bytes_read()), (3, 0));
+    let mut buf = [0u8; 4];
+    assert_eq!(rt; reader.read(&mut buf)?, 3);
+    assert_eq!(rt; buf, [3, 4, 5, 0]);
+    assert_eq!(rt; rest.read(&mut buf)?, 3);
+    assert_eq!(rt; buf, [6, 7, 8, 0]);
+    assert_eq!(rt; (reader.bytes_read(), rest.bytes_read()), (5, 3));
+    Ok(())
+}
+
+#[test]
+fn a_clone_goes_on_from_where_the_reader_stands(rt: HostRuntime) -> Result<(), Fail> {
+    let segments = [&[], &NUMBERED[..2], &[], &NUMBERED[2..4]];
+    let mut reader = Reader::new(rt.alloc(), &segments)?;
+    let mut buf = [0u8; 3];
+    assert_eq!(rt; reader.read(&mut buf)?, 3);
+    let mut clone = reader.clone()?;
+    assert_eq!(rt; (clone.available_bytes(), clone.bytes_read()), (1, 3));
+    assert_eq!(rt; clone.read(&mut buf)?, 1);
+    assert_eq!(rt; buf, [4, 2, 3]);
+    assert_eq!(rt; (clone.available_bytes(), clone.bytes_read()), (0, 4));
+    assert_eq!(rt; (reader.available_bytes(), reader.bytes_read()), (1, 3));
+    Ok(())
+}
+
+#[test]
+fn a_writer_is_split_at_the_cuts_and_between_them(rt: HostRuntime) -> Result<(), Fail> {
+    let alloc = rt.alloc();
+    for (n, first, second) in [(0, 0, 128), (24, 24, 104), (32, 32, 96), (128, 128, 0)] {
+        let mut writer = Writer::new(alloc, zeros(alloc, &[16, 16, 96])?)?;
+        let rest = writer.split_at(n)?;
+        assert_eq!(rt;
+            (writer.available_bytes(), rest.available_bytes()),
+            (first, second),
+            "at {n}"
+        );
+    }
+    let mut writer = Writer::new(alloc, zeros(alloc, &[16, 16, 96])?)?;
+    assert_eq!(rt;
+        writer.split_at(256).err(),
+        Some(Error::SplitOutOfBounds(256))
+    );
+    assert_eq!(rt;
+        (writer.available_bytes(), writer.bytes_written()),
+        (128, 0)
+    );
+    let rest = writer.split_at(128)?;
+    assert_eq!(rt;
+        (writer.available_bytes(), rest.available_bytes()),
+        (128, 0)
+    );
+    Ok(())
+}
+
+#[test]
+fn a_split_writer_keeps_its_hold_and_each_part_fills_its_room(rt: HostRuntime) -> Result<(), Fail> {
+    let alloc = rt.alloc();
+    let mut writer = Writer::new(alloc, zeros(alloc, &[2, 0, 4, 1])?)?;
+    writer.hold(1)?;
+    writer.write_all(&[0xa1, 0xa2])?;
+    let mut rest = writer.split_at(1)?;
+    assert_eq!(rt;
+        (
+            writer.available_bytes(),
+            writer.bytes_written(),
+            writer.held()
+        ),
+        (1, 3, 1)
+    );
+    assert_eq!(rt;
+        (rest.available_bytes(), rest.bytes_written(), rest.held()),
+        (3, 0, 0)
+    );
+    assert_eq!(rt; writer.write(&[0xa3, 0xa4])?, 1);
+    rest.write_all(&[0xb1, 0xb2, 0xb3])?;
+    writer.fill_held(&[0xa0]);
+    let first = writer.into_segments();
+    assert_eq!(rt; first.len(), 3);
+    assert_eq!(rt; first[0].as_slice(), [0xa0u8, 0xa1].as_slice());
+    assert_eq!(rt; first[2].as_slice(), [0xa2u8, 0xa3].as_slice());
+    let second = rest.into_segments();
+    assert_eq!(rt; second.len(), 2);
+    assert_eq!(rt; second[0].as_slice(), [0xb1u8, 0xb2].as_slice());
+    assert_eq!(rt; second[1].as_slice(), [0xb3u8].as_slice());
+    Ok(())
+}
+
+#[test]
+fn a_second_hold_takes_the_place_of_the_first(rt: HostRuntime) -> Result<(), Fail> {
+    let alloc = rt.alloc();
+    let mut writer = Writer::new(alloc, zeros(alloc, &[3, 3])?)?;
+    writer.hold(2)?;
+    writer.hold(2)?;
+    assert_eq!(rt; (writer.held(), writer.bytes_written()), (2, 4));
+    writer.fill_held(&[1, 2]);
+    writer.hold(0)?;
+    assert_eq!(rt; (writer.held(), writer.bytes_written()), (0, 4));
+    let written = writer.into_segments();
+    assert_eq!(rt; written.len(), 2);
+    assert_eq!(rt; written[0].as_slice(), [0u8, 0, 1].as_slice());
+    assert_eq!(rt; written[1].as_slice(), [2u8, 0, 0].as_slice());
+    Ok(())
+}
+
+#[test]
+fn descriptors_are_readable_or_writable(rt: HostRuntime) {
+    assert!(rt; DescriptorType::Readable == DescriptorType::Readable);
+    assert!(rt; DescriptorType::Readable != DescriptorType::Writable);
 }

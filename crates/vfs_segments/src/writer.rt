@@ -5,9 +5,10 @@ ghost use Rattle.std.specs.IoError.{error_kind};
 ghost use Rattle.std.specs.Io.{WritesAtMost};
 ghost use Rattle.std.specs.Io.KnownBytes.{Appends, Keeps, WriteAppends};
 ghost use Rattle.vfs_segments.specs.Segments.{contents, flat_bytes};
-ghost use Rattle.vfs_segments.specs.Written.{unwritten, wrote, held_over, held_filled, whole};
+ghost use Rattle.vfs_segments.specs.Written.{unwritten, wrote, first_room, rest_room, held_over, held_filled, whole};
 ghost use Rattle.vfs_wire.specs.Fields.{Fit, bytes_of};
 
+use crate::cut::cut_off;
 use crate::error::{Error, Result};
 use crate::record::LARGEST_RECORD;
 use crate::scatter::{room_of, scatter};
@@ -91,6 +92,34 @@ impl Writer {
         self.held
     }
 
+    /// Cuts the room after the next `n` bytes. This writer keeps them, what it has passed and what it
+    /// holds; the answer has the rest, has passed nothing and holds nothing.
+    ///
+    /// `Error::SplitOutOfBounds` with `n` where fewer are left, and `Error::OutOfMemory` where memory
+    /// is refused. A refusal changes nothing.
+    pub fn split_at(&mut self, n: usize) -> Result<Writer>
+        ensures rest { IfOk result (λ w. w ≡ rest_room self.old n) }
+        ensures kept { OnOk result (self.new ≡ first_room self.old n) }
+        ensures out_of_bounds { length self.old.left < n → result ≡ Err (Error.SplitOutOfBounds n) }
+        ensures within { n ≤ length self.old.left → IfErr result (λ e. e ≡ Error.OutOfMemory) }
+        ensures err { OnErr result (self.new ≡ self.old) }
+    {
+        if n > self.available_bytes() {
+            return Err(Error::SplitOutOfBounds(n));
+        }
+        let middle = self.at + n;
+        let segments = cut_off(&mut self.segments, middle)?;
+        let rest = Writer {
+            segments,
+            at: 0,
+            end: self.end - middle,
+            held_at: 0,
+            held: 0,
+        };
+        self.end = middle;
+        Ok(rest)
+    }
+
     /// Passes over the next `n` bytes, which then count as written, and keeps their place. What was
     /// held before is held no more.
     ///
@@ -101,7 +130,7 @@ impl Writer {
         ensures out_of_bounds { IfErr result (λ e. e ≡ Error.SplitOutOfBounds n) }
         ensures err { OnErr result (self.new ≡ self.old) }
     {
-        if n > self.available_bytes() {
+        if self.available_bytes() < n {
             return Err(Error::SplitOutOfBounds(n));
         }
         self.held_at = self.at;

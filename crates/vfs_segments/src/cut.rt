@@ -1,0 +1,46 @@
+//! Cuts segments in two.
+
+ghost use Rattle.std.specs.Prelude.{◌≡◌, ◌+◌, ◌≤◌, [], length, take, drop, IfOk, OnOk, OnErr, slice_index_or};
+ghost use Rattle.vfs_segments.specs.Segments.{contents, flat_bytes};
+
+use std::alloc::AllocError;
+use std::mem;
+
+// The segment in which a place lies, and how far in. A place between two segments lies in the second,
+// and the place past all bytes behind the last one.
+#[tactic(auto, using(crate::proofs::Segments::held_segments))]
+fn place_of(segments: &[Vec<u8>], at: usize) -> (usize, usize)
+    requires { at ≤ length (flat_bytes (contents segments.now)) }
+    ensures within { result.0 ≤ length segments.now }
+    ensures place { length (flat_bytes (contents (take result.0 segments.now))) + result.1 ≡ at }
+    ensures inside { result.1 ≤ length (slice_index_or (contents segments.now) result.0 []) }
+{
+    let mut skip = at;
+    for (i, segment) in segments.iter().enumerate() {
+        if skip < segment.len() {
+            return (i, skip);
+        }
+        skip -= segment.len();
+    }
+    (segments.len(), 0)
+}
+
+// Moves the bytes from place `at` on into segments of their own, and copies only those of a segment
+// that is cut. Where memory is refused nothing changes.
+pub(crate) fn cut_off(segments: &mut Vec<Vec<u8>>, at: usize) -> Result<Vec<Vec<u8>>, AllocError>
+    requires { at ≤ length (flat_bytes (contents segments.old.items)) }
+    ensures front { OnOk result (flat_bytes (contents segments.new.items) ≡ take at (flat_bytes (contents segments.old.items))) }
+    ensures back { IfOk result (λ rest. flat_bytes (contents rest.items) ≡ drop at (flat_bytes (contents segments.old.items))) }
+    ensures err { OnErr result (segments.new ≡ segments.old) }
+{
+    let (first, inside) = place_of(segments, at);
+    if inside == 0 {
+        return segments.split_off(first);
+    }
+    let tail = segments[first][inside..].to_vec(*segments.allocator())?;
+    let mut rest = segments.split_off(first)?;
+    let mut head = mem::replace(&mut rest[0], tail);
+    head.truncate(inside);
+    segments.push(head).unwrap();
+    Ok(rest)
+}
