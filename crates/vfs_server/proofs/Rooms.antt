@@ -50,6 +50,7 @@ replied old new reply outcome e o = record {
   left = put_room reply old.left;
   leaves = rw e (written_room old reply (nat_le (length reply) (length old.left)) refl);
   says = record { says = o; leaves = refl };
+  same_hold = ap (λ (w : Written). w.held) e;
 }
 
 -- a reply of this length, put into a room that is long enough

@@ -93,3 +93,16 @@ module _ {S I : Type 0} (allows : S → Call → Handed I → S → Type 0) (giv
     turn = s.turn;
     same_page_size = s.same_page_size;
   }
+
+  hold_stays : (a : Ask) → Handles allows a old writer outcome after new → after.held ≡ writer.held
+  hold_stays (Refused error) h = ap (λ (w : Written). w.held) h.1
+  hold_stays (Says reply) h = h.0.same_hold
+  hold_stays Silent h = ap (λ (w : Written). w.held) h.1
+  hold_stays (Tells call) h = ap (λ (w : Written). w.held) h.2
+  hold_stays (Asks unique call) h = h.3.same_hold
+  hold_stays (Agrees unique max_readahead offered) h = h.3.same_hold
+
+  -- what a writer holds it still holds when its request was handled
+  pub same_hold : (a : Ask) (takes : Type 0) → HandlesOrLacks allows a takes old writer outcome after new → after.held ≡ writer.held
+  same_hold a takes (inl d) = hold_stays a d
+  same_hold a takes (inr d) = hold_stays (Refused OutOfMemory) d.1

@@ -27,8 +27,9 @@ pub record Leaves (old : Written) (left : List ℕ) (new : Written) : Type 0 whe
   pub kept : whole new ≡ old.passed ++ left
   pub long : length left ≡ length old.left
 
--- a writer into whose room the reply was put, where there is one
+-- a writer into whose room the reply was put, where there is one; what it holds it still holds
 pub record Replies (reply : Option (List ℕ)) (old : Written) (outcome : Result ℕ Error) (new : Written) : Type 0 where
   pub left : List ℕ
   pub leaves : Leaves old left new
   pub says : IsReplied reply old.left outcome left
+  pub same_hold : new.held ≡ old.held

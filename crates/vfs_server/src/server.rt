@@ -106,14 +106,16 @@ impl<F: FileSystem> Server<F> {
         mut r: Reader<'_>,
         w: &mut Writer,
     ) -> Result<usize>
-        ensures { IsStep F.allows F.DirIter.gives self.old r.entry.left w.old result w.new self.new }
+        ensures step { IsStep F.allows F.DirIter.gives self.old r.entry.left w.old result w.new self.new }
+        ensures hold_given_up { w.new.held ≡ 0 }
     {
         give_up_hold(w);
         self.handle(alloc, &mut r, w)
     }
 
     fn handle(&mut self, alloc: Global, r: &mut Reader<'_>, w: &mut Writer) -> Result<usize>
-        ensures { IsStep F.allows F.DirIter.gives self.old r.old.left w.old result w.new self.new }
+        ensures step { IsStep F.allows F.DirIter.gives self.old r.old.left w.old result w.new self.new }
+        ensures same_hold { w.new.held ≡ w.old.held }
     {
         match read_record::<InHeader>(r) {
             Ok(header) => self.handle_header(alloc, &header, r, w),
