@@ -6,7 +6,7 @@ ghost use Rattle.vfs_wire.specs.Attributes.{attr, attr_out, getattr_in, setattr_
 
 use crate::ByteValued;
 use crate::bytes::Field::{Eight, Four};
-use crate::bytes::{put_fields, put_front, u32_at, u64_at};
+use crate::bytes::{put_fields, put_from, put_front, u32_at, u64_at};
 use crate::parts::{part_at, put_rest};
 use vfs_flags::{GuestGid, GuestUid};
 
@@ -56,16 +56,12 @@ impl ByteValued for Attr {
 
     ghost table = { attr };
 
+    // In two calls, since a long row of fields is written by a loop and a short one is not.
     fn put(&self, out: &mut [u8]) {
-        put_fields(
+        put_from(
             out,
+            48,
             &[
-                Eight(self.ino),
-                Eight(self.size),
-                Eight(self.blocks),
-                Eight(self.atime),
-                Eight(self.mtime),
-                Eight(self.ctime),
                 Four(self.atimensec),
                 Four(self.mtimensec),
                 Four(self.ctimensec),
@@ -76,6 +72,18 @@ impl ByteValued for Attr {
                 Four(self.rdev),
                 Four(self.blksize),
                 Four(self.flags),
+            ],
+        );
+        put_front(
+            out,
+            48,
+            &[
+                Eight(self.ino),
+                Eight(self.size),
+                Eight(self.blocks),
+                Eight(self.atime),
+                Eight(self.mtime),
+                Eight(self.ctime),
             ],
         );
     }
