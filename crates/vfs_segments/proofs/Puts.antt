@@ -4,7 +4,7 @@ use Rattle.std.proofs.lemmas.List.{take_all, drop_all, take-append-le, drop-appe
 use Rattle.std.proofs.lemmas.Bool.{cases_lt}
 use Rattle.std.specs.List.{concat}
 use Rattle.vfs_segments.specs.Segments.{with_bytes_at}
-use Rattle.vfs_segments.proofs.Segments.{concat-append}
+use Rattle.vfs_segments.proofs.Segments.{concat-append, concat-split}
 
 pub take-append_past : (xs ys : List ℕ) (n m : ℕ) → m ≡ length xs + n → take m (xs ++ ys) ≡ xs ++ take n ys
 take-append_past [] ys n m e = let same : m ≡ n = omega arith in rw same
@@ -89,3 +89,8 @@ ended xs i skip bs whole h t =
     let short = rw none at t.still_fits in
     let empty : bs ≡ [] = nil_from_length bs (omega (arith, short)) in
     sym (append-nil (concat xs)) ∙ rw (take_all i xs h, none, empty, nothing_put skip []) at t.joined
+
+-- where nothing is left to write the segments are as they are to be
+pub stopped : (xs : List (List ℕ)) (i skip : ℕ) (bs whole : List ℕ) → bs ≡ [] → IsTurn xs i skip bs whole → concat xs ≡ whole
+stopped xs i skip bs whole e t =
+    concat-split xs i ∙ ap (λ l. concat (take i xs) ++ l) (sym (nothing_put skip (concat (drop i xs)))) ∙ rw e at t.joined

@@ -35,6 +35,9 @@ pub(crate) fn gather(segments: &[&[u8]], mut skip: usize, buf: &mut [u8])
 {
     let mut done: usize = 0;
     for segment in segments {
+        if done == buf.len() {
+            break;
+        }
         let from = skip.min(segment.len());
         let n = (segment.len() - from).min(buf.len() - done);
         put_at(buf, done, &segment[from..from + n]);

@@ -37,6 +37,9 @@ pub(crate) fn scatter(segments: &mut [Vec<u8>], mut skip: usize, bytes: &[u8])
 {
     let mut done: usize = 0;
     for segment in segments.iter_mut() {
+        if done == bytes.len() {
+            break;
+        }
         let from = skip.min(segment.len());
         let n = (segment.len() - from).min(bytes.len() - done);
         put_in(segment, from, &bytes[done..done + n]);

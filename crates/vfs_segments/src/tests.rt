@@ -1,11 +1,12 @@
-ghost use Rattle.std.specs.Prelude.{length, IfOk, MatchResult};
-ghost use Rattle.vfs_segments.specs.Answers.{Answers, Available, Taken, Read, ReadExact, Count, Moved, Filled, TooFew};
+ghost use Rattle.std.specs.Prelude.{◌≡◌, ℕ, List, length, IfOk, MatchResult};
+ghost use Rattle.vfs_segments.specs.Answers.{Answers, Available, Taken, Read, ReadExact, ReadObj, Count, Moved, Filled, Fields, TooFew};
 
 use crate::{DescriptorType, Error, Reader, Writer};
 use std::alloc::{AllocError, Global};
 use std::io;
 use std::io::{ErrorKind, Read, Write};
 use std::test::Fail;
+use vfs_wire::ByteValued;
 
 // Segments of zeros, of these lengths.
 fn zeros(alloc: Global, lengths: &[usize]) -> Result<Vec<Vec<u8>>, AllocError> {
@@ -256,6 +257,14 @@ fn asks_to_fill(reader: &mut Reader, buf: &mut [u8]) -> io::Result<()>
     reader.read_exact(buf)
 }
 
+fn asks_for_a_record<T: ByteValued>(reader: &mut Reader) -> io::Result<T>
+    ensures { MatchResult result
+        (λ x. (fields : List ℕ) × ((x ≡ T.table.made fields) × Answers reader.old (ReadObj T.table.widths) (Fields fields) reader.new))
+        (λ _. Answers reader.old (ReadObj T.table.widths) TooFew reader.new) }
+{
+    reader.read_obj()
+}
+
 #[test]
 fn a_reader_answers_what_it_is_asked(rt: HostRuntime) -> Result<(), Fail> {
     let segments = [&NUMBERED[..1], &NUMBERED[1..4]];
@@ -267,6 +276,7 @@ fn a_reader_answers_what_it_is_asked(rt: HostRuntime) -> Result<(), Fail> {
     assert_eq!(rt; asks_to_read(&mut reader, &mut buf)?, 1);
     assert_eq!(rt; buf, [4, 2, 3]);
     assert_eq!(rt; asks_what_was_taken(&mut reader), 4);
+    assert!(rt; asks_for_a_record::<u8>(&mut reader).is_err());
     Ok(())
 }
 

@@ -1,11 +1,11 @@
 use Rattle.std.proofs.Common.{arith, ap, ◌∙◌, ◌≡◌, ◌<◌, ◌+◌, ◌-◌, List, [], length, sym, take, drop, min, length-drop, length-take, get_or, set, ℕ}
-use Rattle.std.proofs.lemmas.List.{map-set, get_or-map, drop-drop, length-map}
+use Rattle.std.proofs.lemmas.List.{map-set, get_or-map, drop-drop, length-map, drop_all, set-get_or}
 use Rattle.std.specs.declared.vec.Vec.{Vec}
 use Rattle.std.specs.declared.alloc.Global.{Global}
 use Rattle.vfs_segments.specs.Segments.{with_bytes_at}
 use Rattle.vfs_segments.specs.Segments.{contents}
 use Rattle.vfs_segments.proofs.Lists.{length-with_bytes_at}
-use Rattle.vfs_segments.proofs.Puts.{turn, same_lengths, ended}
+use Rattle.vfs_segments.proofs.Puts.{turn, same_lengths, ended, stopped}
 use Rattle.vfs_segments.proofs.scatter.scatter.Goals as goal
 
 pub loop-segment-preserved : goal.loop-segment-preserved
@@ -34,8 +34,11 @@ loop-segment-preserved c =
       lengths = rw now (same_lengths (contents S) i y size bound ∙ c.loop-segment.invariant.lengths);
     }
 
-pub returns : goal.returns
-returns c = record {
-  bytes = ended (contents c.loop-segment.segments) c.loop-segment.segment-index c.loop-segment.skip _ _ (omega (arith, length-map c.loop-segment.segments (λ v. v.items))) c.loop-segment.invariant.turn;
-  lengths = c.loop-segment.invariant.lengths;
-}
+pub returns-after-loop-segment-clause-bytes : goal.returns-after-loop-segment-clause-bytes
+returns-after-loop-segment-clause-bytes c =
+    ended (contents c.loop-segment.segments) c.loop-segment.segment-index c.loop-segment.skip _ _ (omega (arith, length-map c.loop-segment.segments (λ v. v.items))) c.loop-segment.invariant.turn
+
+pub returns-then-done-bytes-clause-bytes : goal.returns-then-done-bytes-clause-bytes
+returns-then-done-bytes-clause-bytes c =
+    rw (set-get_or c.loop-segment.segments c.loop-segment.segment-index c.segment-item.result)
+    (stopped (contents c.loop-segment.segments) c.loop-segment.segment-index c.loop-segment.skip _ _ (drop_all c.loop-segment.done c.args.bytes.now (omega arith)) c.loop-segment.invariant.turn)
