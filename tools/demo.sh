@@ -4,16 +4,7 @@
 # It runs the proved program where that is built and no source is newer, and otherwise builds the
 # program without a proof, which takes some ten seconds. Status 0: each answer is the stored one.
 set -eu
-
-here=$(cd "$(dirname "$0")/.." && pwd)
-crate=$here/crates/vfs_demo
-program=$crate/out/vfs_demo
-
-# Whether the proved program is there, and as new as all that it is built from.
-is_built() {
-    [ -x "$program" ] &&
-        [ -z "$(find "$here/crates.txt" "$here"/crates/*/src -newer "$program" -print -quit)" ]
-}
+. "$(dirname "$0")/program.sh"
 
 # What a request is, by the opcode in its header.
 kind_of() {
@@ -36,19 +27,15 @@ status=0
 if is_built; then
     echo "The proved program, $program:"
     "$program" < "$crate/stdin" > "$answers" || status=$?
-elif command -v rt > /dev/null; then
+else
+    need_toolchain
     echo "The program, built now and without a proof (\`rt run < stdin\` in $crate proves it):"
     (cd "$crate" && rt try < stdin) > "$answers" 2> "$messages" || status=$?
-else
-    echo "Missing: the command \`rt\` of the Rattle toolchain, which builds the program." >&2
-    echo "Put the toolchain's folder bin on the PATH. No built program is at $program." >&2
-    exit 2
 fi
 
 exec 3< "$answers"
 while IFS= read -r request; do
-    answer='(no answer)'
-    IFS= read -r answer <&3 || true
+    IFS= read -r answer <&3 || answer='(no answer)'
     printf '\n%s\n  %s\n  %s\n' "$(kind_of "$request")" "$request" "$answer"
 done < "$crate/stdin"
 echo
@@ -56,7 +43,7 @@ echo
 if [ "$status" = 0 ] && cmp -s "$answers" "$crate/stdout"; then
     echo "Each answer is the stored one."
 else
-    echo "The answers differ from the stored ones, or the status is not 0 but $status:" >&2
+    echo "The status is $status, or the answers differ from the stored ones:" >&2
     cat "$messages" >&2
     diff "$crate/stdout" "$answers" >&2 || true
     exit 1
