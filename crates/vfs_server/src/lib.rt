@@ -15,3 +15,6 @@ mod request;
 pub mod server;
 
 pub use error::{Error, Result};
+
+#[cfg(test)]
+mod tests;
