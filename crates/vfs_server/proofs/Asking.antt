@@ -29,9 +29,9 @@ either P true x y p q = p
 either P false x y p q = q
 
 module _ (P : Ask → Type 0) (unique : ℕ)
-  (decode : P (Refused DecodeMessage)) (short : P (Refused InvalidHeaderLength)) (no_name : P (Refused InvalidCString))
-  (fault : (f : Option ℕ) → P (Says (fault_reply f unique))) (version : P (Says (body_reply (bytes_of init_out version_out) unique)))
-  (tells : (c : Call) → P (Tells c)) (asks : (c : Call) → IsNotInit c → P (Asks unique c)) (agrees : (m o : ℕ) → P (Agrees unique m o)) where
+    (decode : P (Refused DecodeMessage)) (short : P (Refused InvalidHeaderLength)) (no_name : P (Refused InvalidCString))
+    (fault : (f : Option ℕ) → P (Says (fault_reply f unique))) (version : P (Says (body_reply (bytes_of init_out version_out) unique)))
+    (tells : (c : Call) → P (Tells c)) (asks : (c : Call) → IsNotInit c → P (Asks unique c)) (agrees : (m o : ℕ) → P (Agrees unique m o)) where
   record_cases : {R : Type 0} (t : Table R) (bytes : List ℕ) (next : R → Ask) → ((r : R) → P (next r)) → P (refused_or (record_of t bytes) next)
   record_cases t bytes next p = either (λ r. P (refused_or r next)) (nat_lt (length bytes) (size_of t)) (Err DecodeMessage) (Ok (value_of t bytes)) decode (p (value_of t bytes))
 
@@ -39,7 +39,7 @@ module _ (P : Ask → Type 0) (unique : ℕ)
   tail_cases h size rest next p =
       let n = 40 + size in
       either (λ r. P (refused_or r next)) (nat_lt h.len n) (Err InvalidHeaderLength) (if nat_lt (length rest) (h.len - n) then Err DecodeMessage else Ok (take (h.len - n) rest)) short
-        (either (λ r. P (refused_or r next)) (nat_lt (length rest) (h.len - n)) (Err DecodeMessage) (Ok (take (h.len - n) rest)) decode (p (take (h.len - n) rest)))
+      (either (λ r. P (refused_or r next)) (nat_lt (length rest) (h.len - n)) (Err DecodeMessage) (Ok (take (h.len - n) rest)) decode (p (take (h.len - n) rest)))
 
   name_cases : (name : Option (List ℕ)) (next : List ℕ → Ask) → ((text : List ℕ) → P (next text)) → P (refused_or (name_or_refusal name) next)
   name_cases None next p = no_name
@@ -48,13 +48,13 @@ module _ (P : Ask → Type 0) (unique : ℕ)
   version_cases : (h : InHeader) (r : InitInCompat) (flags2 : ℕ) → h.unique ≡ unique → P (ask_version h r flags2)
   version_cases h r flags2 e = rw e
       (either P (nat_lt r.major 7) _ _ (fault (Some 71))
-        (either P (nat_lt 7 r.major) _ _ version
-          (either P (nat_lt r.minor 27) _ _ (fault (Some 71)) (agrees r.max_readahead _))))
+      (either P (nat_lt 7 r.major) _ _ version
+      (either P (nat_lt r.minor 27) _ _ (fault (Some 71)) (agrees r.max_readahead _))))
 
   second_cases : (flags : ℕ) (rest : List ℕ) (next : ℕ → Ask) → ((flags2 : ℕ) → P (next flags2)) → P (refused_or (second_flags flags rest) next)
   second_cases flags rest next p =
       either (λ r. P (refused_or r next)) (bit_and flags 0x40000000 == 0) (Ok 0) (flags2_in (record_of init_in_ext rest)) (p 0)
-        (either (λ r. P (refused_or (flags2_in r) next)) (nat_lt (length rest) (size_of init_in_ext)) (Err DecodeMessage) (Ok (value_of init_in_ext rest)) decode (p _))
+      (either (λ r. P (refused_or (flags2_in r) next)) (nat_lt (length rest) (size_of init_in_ext)) (Err DecodeMessage) (Ok (value_of init_in_ext rest)) decode (p _))
 
   opcode_cases : (opcode : Option Opcode) (options room : ℕ) (h : InHeader) (rest : List ℕ) → h.unique ≡ unique → P (ask_opcode opcode options room h rest)
   opcode_cases (Some Lookup) options room h rest e = tail_cases h 0 rest (ask_name h) (λ tail. name_cases (name_of tail) _ (λ text. rw e (asks _ tt)))
@@ -69,4 +69,4 @@ module _ (P : Ask → Type 0) (unique : ℕ)
   pub ask_cases : (options room : ℕ) (bytes : List ℕ) → unique_of bytes ≡ unique → P (ask options room bytes)
   ask_cases options room bytes e =
       either (λ r. P (refused_or r (λ h. ask_header options room h (drop 40 bytes)))) (nat_lt (length bytes) (size_of in_header)) (Err DecodeMessage) (Ok (value_of in_header bytes)) decode
-        (header_cases options room (value_of in_header bytes) (drop 40 bytes) e)
+      (header_cases options room (value_of in_header bytes) (drop 40 bytes) e)

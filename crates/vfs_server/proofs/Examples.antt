@@ -103,8 +103,8 @@ agreed_where_bits_17_and_28_are_wanted = refl
 
 reply_of_init : init_reply 4096 131072 0x117fbffffff (Options 0) 1
     ≡ Some ((((((0x50 ∷ zeros 7) ++ (1 ∷ zeros 7)) ++ ((four 7 ++ four 38) ++ (0 ∷ 0 ∷ 2 ∷ 0 ∷ [])))
-      ++ ((0x29 ∷ 0x98 ∷ 0x44 ∷ 0x48 ∷ []) ++ (0xff ∷ 0xff ∷ 0xfd ∷ 0xbf ∷ []))) ++ ((0 ∷ 0 ∷ 0x10 ∷ 0 ∷ []) ++ ((1 ∷ zeros 3) ++ (0 ∷ 1 ∷ 0 ∷ 0 ∷ []))))
-      ++ ((4 ∷ 1 ∷ 0 ∷ 0 ∷ []) ++ zeros 28))
+    ++ ((0x29 ∷ 0x98 ∷ 0x44 ∷ 0x48 ∷ []) ++ (0xff ∷ 0xff ∷ 0xfd ∷ 0xbf ∷ []))) ++ ((0 ∷ 0 ∷ 0x10 ∷ 0 ∷ []) ++ ((1 ∷ zeros 3) ++ (0 ∷ 1 ∷ 0 ∷ 0 ∷ []))))
+    ++ ((4 ∷ 1 ∷ 0 ∷ 0 ∷ []) ++ zeros 28))
 unfolding number little
 reply_of_init = refl
 

@@ -66,15 +66,15 @@ unfolding MayRefuse
 refusals page_size options after t e o =
     let P : Ask → Type 0 = λ a. Follows page_size options a t after → MayRefuse e in
     ask_cases P (unique_of t.request)
-      (λ f. of_refusal DecodeMessage e t.outcome f.1 o tt)
-      (λ f. of_refusal InvalidHeaderLength e t.outcome f.1 o tt)
-      (λ f. of_refusal InvalidCString e t.outcome f.1 o tt)
-      (λ x f. of_reply e (replied_error (Some (fault_reply x (unique_of t.request))) t.room t.outcome t.left e f.1 o))
-      (λ f. of_reply e (replied_error (Some (body_reply (bytes_of init_out version_out) (unique_of t.request))) t.room t.outcome t.left e f.1 o))
-      (λ c f. absurd (let a = sym f.1 ∙ o in cc))
-      (λ c i f. of_reply e (replied_error (reply_of f.0 (unique_of t.request)) t.room t.outcome t.left e f.3 o))
-      (λ m x f. of_reply e (replied_error (init_reply page_size m x f.0 (unique_of t.request)) t.room t.outcome t.left e f.3 o))
-      options (length t.room) t.request refl
+    (λ f. of_refusal DecodeMessage e t.outcome f.1 o tt)
+    (λ f. of_refusal InvalidHeaderLength e t.outcome f.1 o tt)
+    (λ f. of_refusal InvalidCString e t.outcome f.1 o tt)
+    (λ x f. of_reply e (replied_error (Some (fault_reply x (unique_of t.request))) t.room t.outcome t.left e f.1 o))
+    (λ f. of_reply e (replied_error (Some (body_reply (bytes_of init_out version_out) (unique_of t.request))) t.room t.outcome t.left e f.1 o))
+    (λ c f. absurd (let a = sym f.1 ∙ o in cc))
+    (λ c i f. of_reply e (replied_error (reply_of f.0 (unique_of t.request)) t.room t.outcome t.left e f.3 o))
+    (λ m x f. of_reply e (replied_error (init_reply page_size m x f.0 (unique_of t.request)) t.room t.outcome t.left e f.3 o))
+    options (length t.room) t.request refl
 
 pub never_flush : (page_size options after : ℕ) (t : Turn) → IsTurn page_size options t after → t.outcome ≢ Err FlushMessage
 unfolding MayRefuse
@@ -159,15 +159,15 @@ begins page_size options after n t (inl f) o some =
     let u = unique_of t.request in
     let P : Ask → Type 0 = λ a. Follows page_size options a t after → BeginsWithHeader n u t.left in
     ask_cases P u
-      (λ f. absurd (let a = sym f.1 ∙ o in cc))
-      (λ f. absurd (let a = sym f.1 ∙ o in cc))
-      (λ f. absurd (let a = sym f.1 ∙ o in cc))
-      (λ x f. replied_begins (Some (fault_reply x u)) t.room t.outcome t.left n u f.1 o some (IsReply-fault x u))
-      (λ f. replied_begins (Some (body_reply (bytes_of init_out version_out) u)) t.room t.outcome t.left n u f.1 o some (IsReply-body (bytes_of init_out version_out) u))
-      (λ c f. let z : n ≡ 0 = (let a = sym f.1 ∙ o in cc) in absurd (omega arith))
-      (λ c i f. replied_begins (reply_of f.0 u) t.room t.outcome t.left n u f.3 o some (IfReply-of f.0 u))
-      (λ m x f. replied_begins (init_reply page_size m x f.0 u) t.room t.outcome t.left n u f.3 o some (IfReply-init page_size m x f.0 u))
-      options (length t.room) t.request refl f
+    (λ f. absurd (let a = sym f.1 ∙ o in cc))
+    (λ f. absurd (let a = sym f.1 ∙ o in cc))
+    (λ f. absurd (let a = sym f.1 ∙ o in cc))
+    (λ x f. replied_begins (Some (fault_reply x u)) t.room t.outcome t.left n u f.1 o some (IsReply-fault x u))
+    (λ f. replied_begins (Some (body_reply (bytes_of init_out version_out) u)) t.room t.outcome t.left n u f.1 o some (IsReply-body (bytes_of init_out version_out) u))
+    (λ c f. let z : n ≡ 0 = (let a = sym f.1 ∙ o in cc) in absurd (omega arith))
+    (λ c i f. replied_begins (reply_of f.0 u) t.room t.outcome t.left n u f.3 o some (IfReply-of f.0 u))
+    (λ m x f. replied_begins (init_reply page_size m x f.0 u) t.room t.outcome t.left n u f.3 o some (IfReply-init page_size m x f.0 u))
+    options (length t.room) t.request refl f
 
 -- ---- options
 
@@ -188,17 +188,17 @@ agrees page_size options after offered want t (inr l) e = absurd (let a = sym l.
 agrees page_size options after offered want t (inl f) e =
     let P : Ask → Type 0 = λ a. Follows page_size options a t after → AreAgreed offered after in
     ask_cases P (unique_of t.request)
-      (λ f. absurd (let a = sym f.0 ∙ e in cc))
-      (λ f. absurd (let a = sym f.0 ∙ e in cc))
-      (λ f. absurd (let a = sym f.0 ∙ e in cc))
-      (λ x f. absurd (let a = sym f.0 ∙ e in cc))
-      (λ f. absurd (let a = sym f.0 ∙ e in cc))
-      (λ c f. absurd (let a = sym f.0 ∙ e in cc))
-      (λ c i f. absurd (not_init c offered want f.0 i (sym f.1 ∙ e)))
-      (λ m x f.
-        let a = sym f.1 ∙ e in
-        let same : x ≡ offered = cc in
-        let answer : f.0 ≡ Options want = cc in
-        let is : after ≡ agreed offered want = rw (same, answer) at f.4 in
-        subst (AreAgreed offered) (sym is) (AreAgreed-agreed offered want))
-      options (length t.room) t.request refl f
+    (λ f. absurd (let a = sym f.0 ∙ e in cc))
+    (λ f. absurd (let a = sym f.0 ∙ e in cc))
+    (λ f. absurd (let a = sym f.0 ∙ e in cc))
+    (λ x f. absurd (let a = sym f.0 ∙ e in cc))
+    (λ f. absurd (let a = sym f.0 ∙ e in cc))
+    (λ c f. absurd (let a = sym f.0 ∙ e in cc))
+    (λ c i f. absurd (not_init c offered want f.0 i (sym f.1 ∙ e)))
+    (λ m x f.
+    let a = sym f.1 ∙ e in
+    let same : x ≡ offered = cc in
+    let answer : f.0 ≡ Options want = cc in
+    let is : after ≡ agreed offered want = rw (same, answer) at f.4 in
+    subst (AreAgreed offered) (sym is) (AreAgreed-agreed offered want))
+    options (length t.room) t.request refl f

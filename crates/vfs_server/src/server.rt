@@ -190,10 +190,10 @@ impl<F: FileSystem> Server<F> {
         ensures { (w : Written) → Handles F.allows (ask_forget header.now r.old.left) self.old w result w self.new }
     {
         match read_record::<ForgetIn>(r) {
-            Ok(record) => {
+            Ok(forget_in) => {
                 let inode = F::Inode::from_number(header.nodeid);
                 self.fs
-                    .forget(Context::from(*header), inode, record.nlookup);
+                    .forget(Context::from(*header), inode, forget_in.nlookup);
                 Ok(0)
             }
             Err(error) => Err(error),
@@ -204,18 +204,23 @@ impl<F: FileSystem> Server<F> {
         ensures { Handles F.allows (ask_getattr header.now r.old.left) self.old w.old result w.new self.new }
     {
         match read_record::<GetattrIn>(r) {
-            Ok(record) => self.getattr_by(header, &record, w),
+            Ok(getattr_in) => self.getattr_by(header, &getattr_in, w),
             Err(error) => Err(error),
         }
     }
 
-    fn getattr_by(&mut self, header: &InHeader, record: &GetattrIn, w: &mut Writer) -> Result<usize>
-        ensures { Handles F.allows (ask_attributes header.now record.now) self.old w.old result w.new self.new }
+    fn getattr_by(
+        &mut self,
+        header: &InHeader,
+        getattr_in: &GetattrIn,
+        w: &mut Writer,
+    ) -> Result<usize>
+        ensures { Handles F.allows (ask_attributes header.now getattr_in.now) self.old w.old result w.new self.new }
     {
-        let handle = if record.flags & GETATTR_FH == 0 {
+        let handle = if getattr_in.flags & GETATTR_FH == 0 {
             None
         } else {
-            Some(F::Handle::from_number(record.fh))
+            Some(F::Handle::from_number(getattr_in.fh))
         };
         let inode = F::Inode::from_number(header.nodeid);
         let answer = self.fs.getattr(Context::from(*header), inode, handle);
@@ -225,12 +230,12 @@ impl<F: FileSystem> Server<F> {
     fn init(&mut self, header: &InHeader, r: &mut Reader<'_>, w: &mut Writer) -> Result<usize>
         ensures { Handles F.allows (ask_init header.now r.old.left) self.old w.old result w.new self.new }
     {
-        let record = match read_record::<InitInCompat>(r) {
-            Ok(record) => record,
+        let init_in = match read_record::<InitInCompat>(r) {
+            Ok(init_in) => init_in,
             Err(error) => return Err(error),
         };
-        match read_second_flags(record.flags, r) {
-            Ok(flags2) => self.init_version(header, &record, flags2, w),
+        match read_second_flags(init_in.flags, r) {
+            Ok(flags2) => self.init_version(header, &init_in, flags2, w),
             Err(error) => Err(error),
         }
     }
@@ -238,29 +243,29 @@ impl<F: FileSystem> Server<F> {
     fn init_version(
         &mut self,
         header: &InHeader,
-        record: &InitInCompat,
+        init_in: &InitInCompat,
         flags2: u32,
         w: &mut Writer,
     ) -> Result<usize>
-        ensures { Handles F.allows (ask_version header.now record.now flags2) self.old w.old result w.new self.new }
+        ensures { Handles F.allows (ask_version header.now init_in.now flags2) self.old w.old result w.new self.new }
     {
-        if record.major < KERNEL_VERSION {
+        if init_in.major < KERNEL_VERSION {
             return reply_error(Some(Errno::EPROTO), header.unique, w);
         }
-        if record.major > KERNEL_VERSION {
+        if init_in.major > KERNEL_VERSION {
             return reply_version(header.unique, w);
         }
-        if record.minor < MIN_KERNEL_MINOR_VERSION {
+        if init_in.minor < MIN_KERNEL_MINOR_VERSION {
             return reply_error(Some(Errno::EPROTO), header.unique, w);
         }
-        let offered = offered_options(record.flags, flags2);
+        let offered = offered_options(init_in.flags, flags2);
         let answer = self.fs.init(offered);
         self.options = agreed_options(&answer, offered, self.options);
         reply_init(
             answer,
             offered,
             self.page_size,
-            record.max_readahead,
+            init_in.max_readahead,
             header.unique,
             w,
         )
