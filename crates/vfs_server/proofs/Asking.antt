@@ -1,5 +1,5 @@
 -- Every case of what a request may ask.
-use Rattle.std.proofs.Common.{◌≡◌, ◌≤◌, ◌+◌, ◌-◌, ◌==◌, ℕ, Bool, true, false, bit_and, List, length, take, drop, nat_lt, if◌then◌else◌, Option, Some, None, Result, Ok, Err}
+use Rattle.std.proofs.Common.{◌≡◌, ◌+◌, ◌-◌, ◌==◌, ℕ, Bool, true, false, bit_and, List, length, take, drop, nat_lt, if◌then◌else◌, Option, Some, None, Ok, Err}
 use Rattle.vfs_flags.specs.Opcode.{opcode_of}
 use Rattle.vfs_flags.specs.declared.opcode.Opcode.{Opcode}
 use Rattle.vfs_flags.specs.declared.opcode.Opcode.TheVariants.{Lookup, Forget, Getattr, Init}
@@ -13,7 +13,7 @@ use Rattle.vfs_wire.specs.declared.init.InitInCompat.{InitInCompat}
 use Rattle.vfs_files.specs.Calls.{Call}
 use Rattle.vfs_files.specs.Calls as call
 use Rattle.vfs_files.specs.Names.{name_of}
-use Rattle.vfs_server.specs.Ask.{Ask, Refused, Says, Silent, Tells, Asks, Agrees, refused_or, record_of, size_of, tail_of, name_in, name_or_refusal, ask_name, ask_lookup, ask_forget, ask_getattr, second_flags, flags2_in, ask_version, ask_init, ask_opcode, ask_header, ask, max_len}
+use Rattle.vfs_server.specs.Ask.{Ask, Refused, Says, Tells, Asks, Agrees, refused_or, record_of, size_of, tail_of, name_or_refusal, ask_name, second_flags, flags2_in, ask_version, ask_opcode, ask_header, ask, max_len}
 use Rattle.vfs_server.specs.Laws.{unique_of}
 use Rattle.vfs_server.specs.Reply.{fault_reply, body_reply, version_out}
 use Rattle.vfs_server.specs.declared.error.Error.TheVariants.{DecodeMessage, InvalidCString, InvalidHeaderLength}

@@ -1,15 +1,14 @@
 -- The definitions held against examples: what these bytes ask, and what these replies are, computed.
-use Rattle.std.proofs.Common.{◌≡◌, ◌+◌, ◌*◌, ◌/◌, ◌%◌, ◌^◌, ℕ, List, [], ◌∷◌, ◌++◌, take, drop, replicate, length, Option, Some, None, Ok, Err, refl, pos}
-use Rattle.std.specs.declared.time.Duration.{Duration}
+use Rattle.std.proofs.Common.{◌≡◌, ◌+◌, ◌/◌, ◌%◌, ◌^◌, ℕ, List, [], ◌∷◌, ◌++◌, take, replicate, Some, None, Ok, Err, refl, pos}
 use Rattle.vfs_flags.specs.Opcode.{opcode_of}
 use Rattle.vfs_wire.specs.Fields.{number, little, value_of}
 use Rattle.vfs_wire.specs.Attributes.{attr}
 use Rattle.vfs_files.specs.declared.entry.Context.{Context}
 use Rattle.vfs_files.specs.declared.entry.Entry.{Entry}
 use Rattle.vfs_files.specs.Calls.{Lookup, Forget, Getattr, Failed, Options, Found}
-use Rattle.vfs_server.specs.Ask.{Ask, Refused, Says, Tells, Asks, Agrees, ask}
+use Rattle.vfs_server.specs.Ask.{Refused, Says, Tells, Asks, Agrees, ask}
 use Rattle.vfs_server.specs.Options.{agreed}
-use Rattle.vfs_server.specs.Reply.{fault_reply, reply_of, init_reply}
+use Rattle.vfs_server.specs.Reply.{reply_of, init_reply}
 use Rattle.vfs_server.specs.Room.{put_outcome, put_room}
 use Rattle.vfs_server.specs.declared.error.Error.TheVariants.{DecodeMessage, EncodeMessage, InvalidCString, InvalidHeaderLength}
 

@@ -1,5 +1,5 @@
 -- What follows of every turn, by the cases of what its request asks.
-use Rattle.std.proofs.Common.{◌≡◌, ◌≢◌, ◌≤◌, ◌<◌, ◌+◌, ℕ, ℤ, Bool, true, false, bit_or, List, [], ◌∷◌, ◌++◌, length, take, drop, nat_le, if◌then◌else◌, Option, Some, None, Result, Ok, Err, pos, ◌-ℤ◌, refl, ap, sym, ◌∙◌, inl, inr, arith, subst, length-append}
+use Rattle.std.proofs.Common.{◌≡◌, ◌≢◌, ◌≤◌, ◌<◌, ◌+◌, ℕ, ℤ, Bool, true, false, bit_or, List, [], ◌∷◌, ◌++◌, length, take, drop, nat_le, if◌then◌else◌, Option, Some, None, Result, Ok, Err, pos, ◌-ℤ◌, refl, ap, sym, ◌∙◌, inl, inr, arith, subst}
 use Rattle.std.specs.Int.{bit_at}
 use Rattle.std.proofs.lemmas.List.{take_all, take_at, take-append-le}
 use Rattle.std.proofs.lemmas.Nat.Bits.{bit_at_and, bit_at_or}
@@ -9,17 +9,17 @@ use Rattle.vfs_wire.specs.Attributes.{attr_out}
 use Rattle.vfs_wire.specs.Entries.{entry_out}
 use Rattle.vfs_wire.specs.Init.{init_out}
 use Rattle.vfs_wire.specs.declared.headers.OutHeader.{OutHeader}
-use Rattle.vfs_files.specs.Calls.{Call, Init, Answer, Done, Failed, Options, Found, Attributes}
+use Rattle.vfs_files.specs.Calls.{Call, Init, Answer, Failed, Options, Found, Attributes}
 use Rattle.vfs_files.specs.Entries.{entry_out_of}
-use Rattle.vfs_files.specs.Runs.{Event, Called}
+use Rattle.vfs_files.specs.Runs.{Called}
 use Rattle.vfs_server.specs.Ask.{Ask, Refused, Says, Silent, Tells, Asks, Agrees, ask}
 use Rattle.vfs_server.specs.Laws.{unique_of, BeginsWithHeader, AreAgreed}
 use Rattle.vfs_server.specs.Options.{agreed, supported}
 use Rattle.vfs_server.specs.Reply.{fault_reply, fault_number, body_reply, version_out, attr_out_of, init_out_of, reply_of, init_reply}
-use Rattle.vfs_server.specs.Room.{put_outcome, put_room, IsPut, IsReplied}
+use Rattle.vfs_server.specs.Room.{IsReplied}
 use Rattle.vfs_server.specs.Step.{Turn, Follows, IsTurn, WantsMemory}
 use Rattle.vfs_server.specs.declared.error.Error.{Error}
-use Rattle.vfs_server.specs.declared.error.Error.TheVariants.{DecodeMessage, EncodeMessage, FlushMessage, MissingParameter, InvalidCString, InvalidCString2, InvalidHeaderLength, InvalidXattrSize, MissingExtension, OutOfMemory}
+use Rattle.vfs_server.specs.declared.error.Error.TheVariants.{DecodeMessage, EncodeMessage, FlushMessage, InvalidCString, InvalidCString2, InvalidHeaderLength, OutOfMemory}
 use Rattle.vfs_server.proofs.Asking.{ask_cases, IsNotInit}
 use Rattle.vfs_server.proofs.Rooms.{length-header, length-fault_reply, length-body_reply}
 

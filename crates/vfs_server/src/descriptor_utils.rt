@@ -1,3 +1,3 @@
 //! Readers and writers over memory that is cut into segments.
 
-pub use vfs_segments::{Error, Reader, Result, Writer};
+pub use vfs_segments::{DescriptorType, Error, Reader, Result, Writer};
