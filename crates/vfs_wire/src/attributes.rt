@@ -254,8 +254,23 @@ impl ByteValued for SetattrIn {
     ghost table = { setattr_in };
 
     fn put(&self, out: &mut [u8]) {
-        put_fields(
+        put_from(
             out,
+            56,
+            &[
+                Four(self.atimensec),
+                Four(self.mtimensec),
+                Four(self.ctimensec),
+                Four(self.mode),
+                Four(self.unused4),
+                Four(self.uid.into_inner()),
+                Four(self.gid.into_inner()),
+                Four(self.unused5),
+            ],
+        );
+        put_front(
+            out,
+            56,
             &[
                 Four(self.valid),
                 Four(self.padding),
@@ -265,14 +280,6 @@ impl ByteValued for SetattrIn {
                 Eight(self.atime),
                 Eight(self.mtime),
                 Eight(self.ctime),
-                Four(self.atimensec),
-                Four(self.mtimensec),
-                Four(self.ctimensec),
-                Four(self.mode),
-                Four(self.unused4),
-                Four(self.uid.into_inner()),
-                Four(self.gid.into_inner()),
-                Four(self.unused5),
             ],
         );
     }

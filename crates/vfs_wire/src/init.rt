@@ -7,7 +7,7 @@ ghost use Rattle.vfs_wire.specs.Init.{init_in_compat, init_in_ext, init_out};
 
 use crate::ByteValued;
 use crate::bytes::Field::{Four, Two};
-use crate::bytes::{put_fields, u16_at, u32_at};
+use crate::bytes::{put_fields, put_from, put_front, u16_at, u32_at};
 
 /// The first part of an INIT request (the beginning of `struct fuse_init_in`, 16 bytes).
 #[derive(Clone, Copy, Debug, Default)]
@@ -165,8 +165,22 @@ impl ByteValued for InitOut {
     ghost in_range = { λ r. length r.unused ≡ 7 };
 
     fn put(&self, out: &mut [u8]) {
-        put_fields(
+        put_from(
             out,
+            36,
+            &[
+                Four(self.unused[0]),
+                Four(self.unused[1]),
+                Four(self.unused[2]),
+                Four(self.unused[3]),
+                Four(self.unused[4]),
+                Four(self.unused[5]),
+                Four(self.unused[6]),
+            ],
+        );
+        put_front(
+            out,
+            36,
             &[
                 Four(self.major),
                 Four(self.minor),
@@ -179,13 +193,6 @@ impl ByteValued for InitOut {
                 Two(self.max_pages),
                 Two(self.map_alignment),
                 Four(self.flags2),
-                Four(self.unused[0]),
-                Four(self.unused[1]),
-                Four(self.unused[2]),
-                Four(self.unused[3]),
-                Four(self.unused[4]),
-                Four(self.unused[5]),
-                Four(self.unused[6]),
             ],
         );
     }

@@ -7,7 +7,7 @@ ghost use Rattle.vfs_wire.specs.Listings.{dirent, kstatfs};
 
 use crate::ByteValued;
 use crate::bytes::Field::{Eight, Four};
-use crate::bytes::{put_fields, u32_at, u64_at};
+use crate::bytes::{put_fields, put_from, put_front, u32_at, u64_at};
 
 /// An item of a directory in the reply to READDIR (`struct fuse_dirent`, 24 bytes); its name
 /// follows without a 0, then zeros up to a multiple of 8 bytes.
@@ -95,14 +95,10 @@ impl ByteValued for Kstatfs {
     ghost in_range = { λ r. length r.spare ≡ 6 };
 
     fn put(&self, out: &mut [u8]) {
-        put_fields(
+        put_from(
             out,
+            40,
             &[
-                Eight(self.blocks),
-                Eight(self.bfree),
-                Eight(self.bavail),
-                Eight(self.files),
-                Eight(self.ffree),
                 Four(self.bsize),
                 Four(self.namelen),
                 Four(self.frsize),
@@ -113,6 +109,17 @@ impl ByteValued for Kstatfs {
                 Four(self.spare[3]),
                 Four(self.spare[4]),
                 Four(self.spare[5]),
+            ],
+        );
+        put_front(
+            out,
+            40,
+            &[
+                Eight(self.blocks),
+                Eight(self.bfree),
+                Eight(self.bavail),
+                Eight(self.files),
+                Eight(self.ffree),
             ],
         );
     }
