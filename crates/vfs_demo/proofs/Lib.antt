@@ -1,1 +1,2 @@
 mod ValueLemmas
+mod LineLemmas

@@ -1,9 +1,11 @@
 -- The lines of a session: room lengths joined by `+`, one space, hex segments joined by `+`.
-use Rattle.std.specs.Prelude.{ℕ, ◌+◌, ◌-◌, ◌*◌, ◌==◌, nat_le, Bool, ◌&&◌, if◌then◌else◌, List, [], ◌∷◌, ◌++◌, length, map, sum, fold, take, drop, position, Option, Some, None, Result, Ok, Err, Vec}
+use Rattle.std.specs.Prelude.{◌≡◌, ℕ, slice_index, slice_get, All, IsSome, IsSomeAnd, ◌+◌, ◌-◌, ◌*◌, ◌==◌, nat_le, Bool, ◌&&◌, if◌then◌else◌, List, [], ◌∷◌, ◌++◌, length, map, sum, fold, take, drop, position, Option, Some, None, Result, Ok, Err, Vec}
 use Rattle.std.specs.List.{slice_split, list_all}
 use Rattle.std.specs.Char.{is_ascii_digit}
 use Rattle.std.specs.declared.alloc.Global.{Global}
 use Rattle.hex.specs.Hex.{decode_of}
+use Rattle.vfs_demo.specs.declared.error.RunError.{RunError}
+use Rattle.vfs_demo.specs.declared.error.RunError.TheVariants.{BadLine, Io, OutOfMemory}
 use Rattle.vfs_demo.specs.declared.line.Line.{Line}
 
 -- the parts of a text between its plus signs
@@ -64,6 +66,38 @@ split_line text (Some space) = request_of (values_of length_of (parts (take spac
 -- what a line asks: its text up to the first space is the rooms, what follows is the segments
 abbrev pub line_of : List ℕ → Option Request
 line_of text = split_line text (position (λ b. b == 32) text)
+
+-- a text without the newline that it ends with, if it does
+abbrev pub without_last_newline : List ℕ → List ℕ
+without_last_newline text = if slice_index text (length text - 1) == 10 then take (length text - 1) text else text
+
+-- the lines of a text, without their newlines: the last one may lack its own, and an empty text has none
+abbrev pub lines_in : List ℕ → List (List ℕ)
+lines_in text = if length text == 0 then [] else slice_split (λ b. b == 10) (without_last_newline text)
+
+-- a line that asks something
+abbrev pub IsRequest : List ℕ → Type 0
+IsRequest line = IsSome (line_of line)
+
+-- the first line that asks nothing has this number, counted from 1
+pub record IsFirstBad (lines : List (List ℕ)) (number : ℕ) : Type 0 where
+  pub index : ℕ
+  pub counted : number ≡ index + 1
+  pub before : All IsRequest (take index lines)
+  pub bad : IsSomeAnd (slice_get lines index) (λ line. line_of line ≡ None)
+
+-- how a session of these lines may end: each asks something, or the first that does not is named, or there was a fault or no memory
+abbrev pub EndsAs : List (List ℕ) → Result (Unit {0}) RunError → Type 0
+EndsAs lines (Ok done) = All IsRequest lines
+EndsAs lines (Err (BadLine number)) = IsFirstBad lines number
+EndsAs lines (Err Io) = Unit {0}
+EndsAs lines (Err OutOfMemory) = Unit {0}
+
+-- the faults that no line is to blame for
+abbrev pub IsFault : RunError → Type 0
+IsFault (BadLine number) = ⊥
+IsFault Io = Unit {0}
+IsFault OutOfMemory = Unit {0}
 
 -- what a parsed line holds
 abbrev pub request : Line → Request

@@ -3,7 +3,7 @@
 use std::alloc::{AllocError, Global};
 use vfs_server::Error;
 
-/// The answer to a request with this outcome, where the rooms hold these bytes afterwards. It has no
+/// The answer to a request with this outcome, where the rooms hold these bytes afterwards, with its
 /// newline.
 pub fn answer_line(
     alloc: Global,
@@ -14,19 +14,21 @@ pub fn answer_line(
         Ok(length) => {
             let mut answer = format!(in alloc; "ok {length}")?;
             push_front(alloc, &mut answer, rooms, length)?;
+            answer.push('\n')?;
             Ok(answer)
         }
         Err(Error::EncodeMessage) => {
             let mut answer = String::from_str(alloc, "err EncodeMessage")?;
             push_front(alloc, &mut answer, rooms, usize::MAX)?;
+            answer.push('\n')?;
             Ok(answer)
         }
         Err(Error::InvalidXattrSize((size, length))) => {
-            format!(in alloc; "err InvalidXattrSize {size} {length}")
+            format!(in alloc; "err InvalidXattrSize {size} {length}\n")
         }
         Err(error) => {
             let name = name_of(&error);
-            format!(in alloc; "err {name}")
+            format!(in alloc; "err {name}\n")
         }
     }
 }

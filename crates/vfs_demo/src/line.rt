@@ -55,7 +55,8 @@ fn first_space(line: &[u8]) -> Option<usize>
 
 // The lengths of rooms joined by `+`, if each part is one.
 fn parse_rooms(alloc: Global, text: &[u8]) -> Result<Option<Vec<usize>>, RunError>
-    ensures read { IfOk result (λ rooms. numbers_option rooms ≡ values_of length_of (parts text.now)) }
+    ensures read { IfOk result
+        (λ rooms. numbers_option rooms ≡ values_of length_of (parts text.now)) }
     ensures memory { IfErr result (λ e. e ≡ RunError.OutOfMemory) }
 {
     let pieces = cut(alloc, text, b'+')?;
@@ -71,7 +72,8 @@ fn parse_rooms(alloc: Global, text: &[u8]) -> Result<Option<Vec<usize>>, RunErro
 
 // The segments joined by `+`, if each part is hex.
 fn parse_segments(alloc: Global, text: &[u8]) -> Result<Option<Vec<Vec<u8>>>, RunError>
-    ensures read { IfOk result (λ segments. lists_option segments ≡ values_of segment_of (parts text.now)) }
+    ensures read { IfOk result
+        (λ segments. lists_option segments ≡ values_of segment_of (parts text.now)) }
     ensures memory { IfErr result (λ e. e ≡ RunError.OutOfMemory) }
 {
     let pieces = cut(alloc, text, b'+')?;
@@ -88,7 +90,8 @@ fn parse_segments(alloc: Global, text: &[u8]) -> Result<Option<Vec<Vec<u8>>>, Ru
 /// The parts of a text between the bytes that are the separator: one more than there are
 /// separators.
 pub fn cut<'a>(alloc: Global, text: &'a [u8], separator: u8) -> Result<Vec<&'a [u8]>, RunError>
-    ensures pieces { IfOk result (λ v. map (λ x. x.now) v.items ≡ slice_split (λ b. b == separator) text.now) }
+    ensures pieces { IfOk result
+        (λ v. map (λ x. x.now) v.items ≡ slice_split (λ b. b == separator) text.now) }
     ensures memory { IfErr result (λ e. e ≡ RunError.OutOfMemory) }
 {
     Ok(text.split(|b| *b == separator).collect(alloc)?)

@@ -1,10 +1,13 @@
 //! A session: the requests of an input, answered line by line to an output.
+ghost use Rattle.std.specs.Prelude.{◌≡◌, map, IfOk, IfErr, IfSome, OnOk};
+ghost use Rattle.std.specs.Io.KnownBytes.{Appends};
+ghost use Rattle.vfs_demo.specs.Lines.{lines_in, EndsAs, IsFault};
 
 use crate::answer::answer_line;
 use crate::error::RunError;
 use crate::line::{Line, cut, parse_line};
 use crate::memfs::MemFs;
-use std::alloc::Global;
+use std::alloc::{AllocError, Global};
 use std::io;
 use std::io::ErrorKind;
 use vfs_segments::{Reader, Writer};
@@ -28,28 +31,18 @@ pub fn run<R: io::Read, W: io::Write>(
     alloc: Global,
     input: &mut R,
     output: &mut W,
-) -> Result<(), RunError> {
+) -> Result<(), RunError>
+    ensures { IfSome (R.remaining input.old) (λ text. EndsAs (lines_in text) result) }
+{
     let text = read_all(alloc, input)?;
-    let lines = lines_of(alloc, &text)?;
-    let mut server = new_server(alloc)?;
-    for (index, line) in lines.iter().enumerate() {
-        match parse_line(alloc, line)? {
-            Some(request) => {
-                let answer = answer_to(alloc, &mut server, &request)?;
-                write_line(output, answer)?;
-            }
-            None => {
-                let number = index + 1;
-                write_line(output, format!(in alloc; "bad line {number}")?)?;
-                return Err(RunError::BadLine(number));
-            }
-        }
-    }
-    Ok(())
+    answer_all(alloc, &text, output)
 }
 
 // All bytes of the input.
-fn read_all<R: io::Read>(alloc: Global, input: &mut R) -> Result<Vec<u8>, RunError> {
+fn read_all<R: io::Read>(alloc: Global, input: &mut R) -> Result<Vec<u8>, RunError>
+    ensures read { IfSome (R.remaining input.old) (λ text. IfOk result (λ v. v.items ≡ text)) }
+    ensures fault { IfErr result (λ e. IsFault e) }
+{
     let mut text = Vec::new(alloc);
     match input.read_to_end(&mut text) {
         Ok(_) => Ok(text),
@@ -58,38 +51,60 @@ fn read_all<R: io::Read>(alloc: Global, input: &mut R) -> Result<Vec<u8>, RunErr
     }
 }
 
+// Answers each line of a text before the first bad one.
+fn answer_all<W: io::Write>(alloc: Global, text: &[u8], output: &mut W) -> Result<(), RunError>
+    ensures { EndsAs (lines_in text.now) result }
+{
+    let lines = lines_of(alloc, text)?;
+    let mut server = new_server(alloc)?;
+    for (index, line) in lines.iter().enumerate() {
+        let Some(request) = parse_line(alloc, line)? else {
+            let number = index + 1;
+            write_line(output, &format!(in alloc; "bad line {number}\n")?)?;
+            return Err(RunError::BadLine(number));
+        };
+        write_line(output, &answer_to(alloc, &mut server, &request)?)?;
+    }
+    Ok(())
+}
+
 // The lines of a text without their newlines. The last one may lack its newline.
-fn lines_of<'a>(alloc: Global, text: &'a [u8]) -> Result<Vec<&'a [u8]>, RunError> {
-    match text {
-        [] => Ok(Vec::new(alloc)),
-        [lines @ .., b'\n'] => cut(alloc, lines, b'\n'),
-        lines => cut(alloc, lines, b'\n'),
+fn lines_of<'a>(alloc: Global, text: &'a [u8]) -> Result<Vec<&'a [u8]>, RunError>
+    ensures lines { IfOk result (λ v. map (λ x. x.now) v.items ≡ lines_in text.now) }
+    ensures memory { IfErr result (λ e. e ≡ RunError.OutOfMemory) }
+{
+    match text.split_last() {
+        None => Ok(Vec::new(alloc)),
+        Some((b'\n', lines)) => cut(alloc, lines, b'\n'),
+        Some(_) => cut(alloc, text, b'\n'),
     }
 }
 
-// Writes an answer and a newline.
-fn write_line<W: io::Write>(output: &mut W, mut answer: String) -> Result<(), RunError> {
-    answer.push('\n')?;
-    match output.write_all(answer.as_bytes()) {
+// Writes a line, its newline included.
+fn write_line<W: io::Write>(output: &mut W, line: &str) -> Result<(), RunError>
+    ensures wrote { OnOk result (Appends (W.contents output.old) (W.contents output.new) line.now) }
+    ensures fault { IfErr result (λ e. e ≡ RunError.Io) }
+{
+    match output.write_all(line.as_bytes()) {
         Ok(()) => Ok(()),
         Err(_) => Err(RunError::Io),
     }
 }
 
 // A server over a file system in memory, with no options agreed.
-fn new_server(alloc: Global) -> Result<Server<MemFs>, RunError> {
+fn new_server(alloc: Global) -> Result<Server<MemFs>, RunError>
+    ensures memory { IfErr result (λ e. e ≡ RunError.OutOfMemory) }
+{
     match MemFs::new(alloc) {
         Ok(fs) => Ok(Server::new(fs, PAGE_SIZE)),
         Err(_) => Err(RunError::OutOfMemory),
     }
 }
 
-// The server's answer to a request, as a line says it.
-fn answer_to(
-    alloc: Global,
-    server: &mut Server<MemFs>,
-    request: &Line,
-) -> Result<String, RunError> {
+// The server's answer to a request, as a line with its newline.
+fn answer_to(alloc: Global, server: &mut Server<MemFs>, request: &Line) -> Result<String, RunError>
+    ensures memory { IfErr result (λ e. e ≡ RunError.OutOfMemory) }
+{
     let slices = slices_of(alloc, &request.segments)?;
     let Ok(reader) = Reader::new(alloc, &slices) else {
         return Err(RunError::OutOfMemory);
@@ -103,7 +118,7 @@ fn answer_to(
 }
 
 // The segments of a request as slices.
-fn slices_of(alloc: Global, segments: &[Vec<u8>]) -> Result<Vec<&[u8]>, RunError> {
+fn slices_of(alloc: Global, segments: &[Vec<u8>]) -> Result<Vec<&[u8]>, AllocError> {
     let mut slices = Vec::new(alloc);
     for segment in segments {
         slices.push(segment.as_slice())?;
@@ -112,7 +127,7 @@ fn slices_of(alloc: Global, segments: &[Vec<u8>]) -> Result<Vec<&[u8]>, RunError
 }
 
 // Rooms of these lengths, with zeros in them.
-fn empty_rooms(alloc: Global, lengths: &[usize]) -> Result<Vec<Vec<u8>>, RunError> {
+fn empty_rooms(alloc: Global, lengths: &[usize]) -> Result<Vec<Vec<u8>>, AllocError> {
     let mut rooms = Vec::new(alloc);
     for length in lengths {
         rooms.push(vec![in alloc; 0u8; *length]?)?;

@@ -122,7 +122,7 @@ fn each_kind_of_answer_has_its_form(rt: HostRuntime) -> Result<(), Fail> {
 fn the_sizes_of_an_attribute_are_in_its_answer(rt: HostRuntime) -> Result<(), Fail> {
     let outcome = Err(Error::InvalidXattrSize((2, 1)));
     let answer = answer_line(rt.alloc(), outcome, &[])?;
-    assert_eq!(rt; answer.as_str(), "err InvalidXattrSize 2 1");
+    assert_eq!(rt; answer.as_str(), "err InvalidXattrSize 2 1\n");
     Ok(())
 }
 
