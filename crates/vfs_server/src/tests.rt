@@ -2,6 +2,7 @@
 //!
 //! The bytes are written out from the protocol, and not by the calls under test.
 
+mod corpus;
 mod forget;
 mod getattr;
 mod header;
@@ -9,4 +10,5 @@ mod init;
 mod lookup;
 mod pieces;
 mod script;
+mod texts;
 mod turns;

@@ -27,7 +27,10 @@ fn lookups_are_taken_back(rt: HostRuntime) -> Result<(), Fail> {
         },
         Turn {
             name: "FORGET of the largest count by a caller",
-            request: "30000000 02000000 0500000000000000 0200000000000000 e8030000 64000000 4d000000 00000000 ffffffffffffffff",
+            request: "
+                30000000 02000000 0500000000000000 0200000000000000
+                e8030000 64000000 4d000000 00000000
+                ffffffffffffffff",
             calls: &[Note::Forget(2, u64::MAX)],
             caller: (1000, 100, 77),
             ..FORGET

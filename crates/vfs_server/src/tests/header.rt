@@ -157,7 +157,9 @@ fn a_request_that_is_too_long_is_answered_enomem(rt: HostRuntime) -> Result<(), 
         },
         Turn {
             name: "INIT that is too long",
-            request: "01101000 1a000000 0900000000000000 0000000000000000 00x16 07000000 26000000 00000200 00000000",
+            request: "
+                01101000 1a000000 0900000000000000 0000000000000000 00x16
+                07000000 26000000 00000200 00000000",
             ..TOO_LONG
         },
         Turn {

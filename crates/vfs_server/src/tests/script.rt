@@ -99,7 +99,8 @@ pub struct Script {
 }
 
 impl Script {
-    /// A file system with these answers. Where `at_first` has options, the first call is answered by them if it is `init`.
+    /// A file system with these answers. Where `at_first` has options, the first `init` is answered
+    /// by them.
     pub fn new(
         alloc: Global,
         answers: Answers,

@@ -14,8 +14,8 @@ use std::test::Fail;
 
 /// A request with its outcome. Bytes are hex digits in words, and `00x12` stands for twelve zeros.
 ///
-/// A request begins with its `len`, opcode, `unique` and `nodeid`, of 4, 4, 8 and 8 bytes; the user, the group, the process
-/// and padding follow, of 4 bytes each.
+/// A request begins with its `len`, opcode, `unique` and `nodeid`, of 4, 4, 8 and 8 bytes; the
+/// user, the group, the process and padding follow, of 4 bytes each.
 #[derive(Clone, Copy)]
 pub struct Turn {
     pub name: &'static str,
@@ -53,14 +53,15 @@ pub const TURN: Turn = Turn {
 };
 
 /// An INIT that offers every option that is known.
-const FIRST_INIT: &str =
-    "68000000 1a000000 0100000000000000 0000000000000000 00x16 07000000 26000000 00000200 ffffffff ffffffff 00x44";
+const FIRST_INIT: &str = "
+    68000000 1a000000 0100000000000000 0000000000000000 00x16
+    07000000 26000000 00000200 ffffffff ffffffff 00x44";
 
 /// The call that it makes.
 const FIRST_CALL: &[Note] = &[Note::Init(0x117_fbff_ffff)];
 
 /// The options that are agreed on then, where the file system wants bit 17.
-const AGREED: u64 = 0x104_4846_9829;
+const FIRST_AGREED: u64 = 0x104_4846_9829;
 
 /// The name of the error, or what was answered.
 fn outcome_of(answer: crate::Result<usize>) -> Result<usize, &'static str> {
@@ -79,6 +80,23 @@ fn outcome_of(answer: crate::Result<usize>) -> Result<usize, &'static str> {
     }
 }
 
+/// The bytes of a turn: the request, the room before, and the room afterwards.
+#[derive(Drop)]
+pub struct Ends {
+    pub request: Vec<u8>,
+    pub room: Vec<u8>,
+    pub left: Vec<u8>,
+}
+
+/// The bytes of the turn, from its texts.
+pub fn ends_of(alloc: Global, turn: &Turn) -> Result<Ends, Fail> {
+    Ok(Ends {
+        request: bytes(alloc, turn.request)?,
+        room: bytes(alloc, turn.room)?,
+        left: bytes(alloc, turn.left)?,
+    })
+}
+
 /// Hands the server a request, with both ends cut, and tells its outcome and the room afterwards.
 fn handle(
     alloc: Global,
@@ -95,83 +113,90 @@ fn handle(
         writer.hold(held)?;
     }
     let outcome = outcome_of(server.handle_message(alloc, reader, &mut writer));
+    if writer.held() > 0 {
+        return Err(Fail::new("nothing is held after a message"));
+    }
     Ok((outcome, joined(alloc, &writer.into_segments())?))
 }
 
 /// A server of the turn's file system, also with options agreed already.
 fn server_of(alloc: Global, turn: &Turn, with_options: bool) -> Result<Server<Script>, Fail> {
     let page_size = turn.page_size.max(4096);
-    if !with_options {
-        return Ok(Server::new(Script::new(alloc, turn.answers, None)?, page_size));
+    let at_first = if with_options { Some(1 << 17) } else { None };
+    let script = Script::new(alloc, turn.answers, at_first)?;
+    let mut server = Server::new(script, page_size);
+    if with_options {
+        let request = bytes(alloc, FIRST_INIT)?;
+        let _ = handle(alloc, &mut server, &request, &[0; 80], 0, Cut::Whole)?;
     }
-    let mut server = Server::new(Script::new(alloc, turn.answers, Some(1 << 17))?, page_size);
-    let request = bytes(alloc, FIRST_INIT)?;
-    let room = [0; 80];
-    let _ = handle(alloc, &mut server, &request, &room, 0, Cut::Whole)?;
     Ok(server)
 }
 
-/// Checks what the file system was asked, behind an INIT where there was one before, and what is agreed on.
+/// Checks what is agreed on, and what the file system was asked, behind an INIT where there was
+/// one before.
 fn check_server(
     rt: &impl Abort,
     turn: &Turn,
-    server: &Server<Script>,
+    server: Server<Script>,
     with_options: bool,
     cut: Cut,
 ) {
     let name = turn.name;
-    let before: &'static [Note] = if with_options { FIRST_CALL } else { &[] };
-    let script = server.fs();
-    assert_eq!(rt;
-        script.notes().strip_prefix(before),
-        Some(turn.calls),
-        "the calls of {name}, cut {cut:?}"
-    );
-    assert!(rt; !script.missed(), "{name}: all calls are noted");
-    assert_eq!(rt; script.caller(), turn.caller, "the caller of {name}");
-    let options = if with_options { AGREED } else { 0 };
+    let options = if with_options { FIRST_AGREED } else { 0 };
     assert_eq!(rt;
         server.options().bits(),
         turn.agreed.unwrap_or(options),
         "the options after {name}, cut {cut:?}"
     );
+    assert!(rt; !server.fs().missed(), "{name}: all calls are noted");
+    let before: &'static [Note] = if with_options { FIRST_CALL } else { &[] };
+    let script = server.into_fs();
+    assert_eq!(rt;
+        script.notes().strip_prefix(before),
+        Some(turn.calls),
+        "the calls of {name}, cut {cut:?}"
+    );
+    assert_eq!(rt; script.caller(), turn.caller, "the caller of {name}");
 }
 
-/// Checks the turn with both ends cut so.
+/// Checks the turn with these bytes, both ends cut so.
 fn check_cut(
     rt: &impl Abort,
     alloc: Global,
     turn: &Turn,
+    ends: &Ends,
     with_options: bool,
     cut: Cut,
 ) -> Result<(), Fail> {
     let name = turn.name;
-    let request = bytes(alloc, turn.request)?;
-    let room = bytes(alloc, turn.room)?;
     let mut server = server_of(alloc, turn, with_options)?;
-    let (outcome, left) = handle(alloc, &mut server, &request, &room, turn.held, cut)?;
+    let (outcome, left) = handle(
+        alloc,
+        &mut server,
+        &ends.request,
+        &ends.room,
+        turn.held,
+        cut,
+    )?;
     assert_eq!(rt; outcome, turn.outcome, "the outcome of {name}, cut {cut:?}");
     assert_eq!(rt;
         left.as_slice(),
-        bytes(alloc, turn.left)?.as_slice(),
+        ends.left.as_slice(),
         "the room after {name}, cut {cut:?}"
     );
-    check_server(rt, turn, &server, with_options, cut);
+    check_server(rt, turn, server, with_options, cut);
     Ok(())
 }
 
-/// Checks the turn with and without options from before, with both ends in one segment, cut at each place and at all, and with
-/// empty segments.
-pub fn check(rt: &impl Abort, alloc: Global, turn: &Turn) -> Result<(), Fail> {
-    let longest = bytes(alloc, turn.request)?
-        .len()
-        .max(bytes(alloc, turn.room)?.len());
+/// Checks the turn with these bytes, with and without options from before: both ends in one
+/// segment, cut at each place and at all, and with empty segments.
+pub fn check(rt: &impl Abort, alloc: Global, turn: &Turn, ends: &Ends) -> Result<(), Fail> {
     for with_options in [false, true] {
         for cut in [Cut::Whole, Cut::EachByte, Cut::Apart] {
-            check_cut(rt, alloc, turn, with_options, cut)?;
+            check_cut(rt, alloc, turn, ends, with_options, cut)?;
         }
-        for place in 0..longest {
-            check_cut(rt, alloc, turn, with_options, Cut::At(place))?;
+        for place in 0..ends.request.len().max(ends.room.len()) {
+            check_cut(rt, alloc, turn, ends, with_options, Cut::At(place))?;
         }
     }
     Ok(())
@@ -180,7 +205,7 @@ pub fn check(rt: &impl Abort, alloc: Global, turn: &Turn) -> Result<(), Fail> {
 /// Checks each turn.
 pub fn check_all(rt: &impl Abort, alloc: Global, turns: &[Turn]) -> Result<(), Fail> {
     for turn in turns {
-        check(rt, alloc, turn)?;
+        check(rt, alloc, turn, &ends_of(alloc, turn)?)?;
     }
     Ok(())
 }
