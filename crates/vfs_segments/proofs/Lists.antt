@@ -1,6 +1,6 @@
 -- `take` and `drop` over two lists.
 use Rattle.vfs_segments.specs.Segments.{with_bytes_at}
-use Rattle.std.proofs.lemmas.List.{take_at}
+use Rattle.vfs_segments.specs.SegmentLaws.{take-with_bytes_at, length-with_bytes_at}
 use Rattle.std.proofs.Common.{◌≡◌, ℕ, ◌+◌, ◌-◌, ◌≤◌, List, [], ◌∷◌, ◌++◌, zero, suc, length, take, drop, min, ap, ◌∙◌, sym, arith, append_assoc, length-append, length-drop, length-take}
 
 pub drop-append_min : (xs ys : List ℕ) (n : ℕ) → drop n (xs ++ ys) ≡ drop (min n (length xs)) xs ++ drop (n - min n (length xs)) ys
@@ -30,16 +30,6 @@ pub window_step : (s rest : List ℕ) (skip m from n : ℕ) → from ≡ min ski
 window_step s rest skip m from n e f =
     let g : min m (length (drop from s)) ≡ n = omega (arith, length-drop from s) in
     ap (take m) (rw e (drop-append_min s rest skip)) ∙ rw g at (take-append_min (drop from s) (drop (skip - from) rest) m)
-
-pub take-with_bytes_at : (at n : ℕ) (bs xs : List ℕ) → at ≤ length xs → n ≡ at + length bs → take n (with_bytes_at at bs xs) ≡ take at xs ++ bs
-unfolding with_bytes_at
-take-with_bytes_at at n bs xs h e =
-    let front : length (take at xs ++ bs) ≡ n = omega (arith, length-append (take at xs) bs, length-take at xs) in
-    ap (take n) (sym (append_assoc (take at xs) bs (drop (at + length bs) xs))) ∙ take_at (take at xs ++ bs) (drop (at + length bs) xs) n front
-
-pub length-with_bytes_at : (at : ℕ) (bs xs : List ℕ) → at + length bs ≤ length xs → length (with_bytes_at at bs xs) ≡ length xs
-unfolding with_bytes_at
-length-with_bytes_at at bs xs h = simp (length-append, length-take, length-drop) (omega arith)
 
 pub ruleset bytes_at = (take-with_bytes_at, length-with_bytes_at)
 

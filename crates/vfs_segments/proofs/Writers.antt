@@ -6,7 +6,7 @@ use Rattle.vfs_segments.specs.Segments.{contents, with_bytes_at}
 use Rattle.vfs_segments.specs.Written.{Written, wrote, first_room, held_filled, held_over}
 use Rattle.vfs_segments.specs.Writer.{IsWriter, written_of, room_bytes}
 use Rattle.vfs_segments.specs.declared.writer.Writer.TheInside.{Inside}
-use Rattle.vfs_segments.proofs.Lists.{length-with_bytes_at}
+use Rattle.vfs_segments.specs.SegmentLaws.{length-with_bytes_at}
 use Rattle.vfs_segments.proofs.Puts.{take-append_past}
 
 pub same_size : (xs ys : List (List ℕ)) → map length ys ≡ map length xs → length (concat ys) ≡ length (concat xs)

@@ -1,4 +1,5 @@
 pub mod Segments
+pub mod SegmentLaws
 pub mod Unread
 pub mod Written
 pub mod Reader

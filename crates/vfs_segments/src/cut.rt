@@ -6,8 +6,8 @@ ghost use Rattle.vfs_segments.specs.Segments.{contents, flat_bytes};
 use std::alloc::AllocError;
 use std::mem;
 
-// The segment in which a place lies, and how far in. A place between two segments lies in the second,
-// and the place past all bytes behind the last one.
+// The segment in which a place lies, and how far in. A place between two segments lies in the
+// second, and the place past all bytes behind the last one.
 #[tactic(auto, using(crate::proofs::Segments::held_segments))]
 fn place_of(segments: &[Vec<u8>], at: usize) -> (usize, usize)
     requires { at ≤ length (flat_bytes (contents segments.now)) }
@@ -29,8 +29,10 @@ fn place_of(segments: &[Vec<u8>], at: usize) -> (usize, usize)
 // that is cut. Where memory is refused nothing changes.
 pub(crate) fn cut_off(segments: &mut Vec<Vec<u8>>, at: usize) -> Result<Vec<Vec<u8>>, AllocError>
     requires { at ≤ length (flat_bytes (contents segments.old.items)) }
-    ensures front { OnOk result (flat_bytes (contents segments.new.items) ≡ take at (flat_bytes (contents segments.old.items))) }
-    ensures back { IfOk result (λ rest. flat_bytes (contents rest.items) ≡ drop at (flat_bytes (contents segments.old.items))) }
+    ensures front { OnOk result
+        (flat_bytes (contents segments.new.items) ≡ take at (flat_bytes (contents segments.old.items))) }
+    ensures back { IfOk result
+        (λ rest. flat_bytes (contents rest.items) ≡ drop at (flat_bytes (contents segments.old.items))) }
     ensures err { OnErr result (segments.new ≡ segments.old) }
 {
     let (first, inside) = place_of(segments, at);

@@ -32,7 +32,8 @@ fn put_in(segment: &mut Vec<u8>, at: usize, bytes: &[u8])
 // Writes the bytes over as many that follow `skip` bytes of the segments, piece by piece.
 pub(crate) fn scatter(segments: &mut [Vec<u8>], mut skip: usize, bytes: &[u8])
     requires { skip + length bytes.now ≤ length (flat_bytes (contents segments.old)) }
-    ensures bytes { flat_bytes (contents segments.new) ≡ with_bytes_at skip bytes.now (flat_bytes (contents segments.old)) }
+    ensures bytes { flat_bytes (contents segments.new) ≡
+        with_bytes_at skip bytes.now (flat_bytes (contents segments.old)) }
     ensures lengths { map length (contents segments.new) ≡ map length (contents segments.old) }
 {
     let mut done: usize = 0;

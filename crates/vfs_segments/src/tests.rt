@@ -251,7 +251,8 @@ fn asks_to_read(reader: &mut Reader, buf: &mut [u8]) -> io::Result<usize>
 }
 
 fn asks_to_fill(reader: &mut Reader, buf: &mut [u8]) -> io::Result<()>
-    ensures { MatchResult result (λ _. Answers reader.old (ReadExact (length buf.old)) (Filled buf.new) reader.new)
+    ensures { MatchResult result
+        (λ _. Answers reader.old (ReadExact (length buf.old)) (Filled buf.new) reader.new)
         (λ _. Answers reader.old (ReadExact (length buf.old)) TooFew reader.new) }
 {
     reader.read_exact(buf)
@@ -259,7 +260,8 @@ fn asks_to_fill(reader: &mut Reader, buf: &mut [u8]) -> io::Result<()>
 
 fn asks_for_a_record<T: ByteValued>(reader: &mut Reader) -> io::Result<T>
     ensures { MatchResult result
-        (λ x. (fields : List ℕ) × ((x ≡ T.table.made fields) × Answers reader.old (ReadObj T.table.widths) (Fields fields) reader.new))
+        (λ x. (fields : List ℕ) × ((x ≡ T.table.made fields)
+        × Answers reader.old (ReadObj T.table.widths) (Fields fields) reader.new))
         (λ _. Answers reader.old (ReadObj T.table.widths) TooFew reader.new) }
 {
     reader.read_obj()

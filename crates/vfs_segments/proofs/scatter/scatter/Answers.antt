@@ -4,7 +4,7 @@ use Rattle.std.specs.declared.vec.Vec.{Vec}
 use Rattle.std.specs.declared.alloc.Global.{Global}
 use Rattle.vfs_segments.specs.Segments.{with_bytes_at}
 use Rattle.vfs_segments.specs.Segments.{contents}
-use Rattle.vfs_segments.proofs.Lists.{length-with_bytes_at}
+use Rattle.vfs_segments.specs.SegmentLaws.{length-with_bytes_at}
 use Rattle.vfs_segments.proofs.Puts.{turn, same_lengths, ended, stopped}
 use Rattle.vfs_segments.proofs.scatter.scatter.Goals as goal
 
