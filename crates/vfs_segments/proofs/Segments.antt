@@ -14,9 +14,6 @@ concat-append (x ∷ xs) ys = ap (λ l. x ++ l) (concat-append xs ys) ∙ sym (a
 pub concat-split : (xs : List (List ℕ)) (i : ℕ) → concat xs ≡ concat (take i xs) ++ concat (drop i xs)
 concat-split xs i = ap concat (sym (take-append-drop i xs)) ∙ concat-append (take i xs) (drop i xs)
 
-pub length-concat-split : (xs : List (List ℕ)) (i : ℕ) → length (concat xs) ≡ length (concat (take i xs)) + length (concat (drop i xs))
-length-concat-split xs i = ap length (concat-split xs i) ∙ length-append (concat (take i xs)) (concat (drop i xs))
-
 -- ---- the segments that a reader reads
 
 -- their flat bytes
