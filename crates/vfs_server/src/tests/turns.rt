@@ -119,15 +119,14 @@ fn handle(
     Ok((outcome, joined(alloc, &writer.into_segments())?))
 }
 
-/// A server of the turn's file system, also with options agreed already.
-fn server_of(alloc: Global, turn: &Turn, with_options: bool) -> Result<Server<Script>, Fail> {
+/// A server of the turn's file system, behind the INIT where there is one before.
+fn server_of(alloc: Global, turn: &Turn, first: Option<&[u8]>) -> Result<Server<Script>, Fail> {
     let page_size = turn.page_size.max(4096);
-    let at_first = if with_options { Some(1 << 17) } else { None };
+    let at_first = if first.is_some() { Some(1 << 17) } else { None };
     let script = Script::new(alloc, turn.answers, at_first)?;
     let mut server = Server::new(script, page_size);
-    if with_options {
-        let request = bytes(alloc, FIRST_INIT)?;
-        let _ = handle(alloc, &mut server, &request, &[0; 80], 0, Cut::Whole)?;
+    if let Some(request) = first {
+        let _ = handle(alloc, &mut server, request, &[0; 80], 0, Cut::Whole)?;
     }
     Ok(server)
 }
@@ -165,11 +164,11 @@ fn check_cut(
     alloc: Global,
     turn: &Turn,
     ends: &Ends,
-    with_options: bool,
+    first: Option<&[u8]>,
     cut: Cut,
 ) -> Result<(), Fail> {
     let name = turn.name;
-    let mut server = server_of(alloc, turn, with_options)?;
+    let mut server = server_of(alloc, turn, first)?;
     let (outcome, left) = handle(
         alloc,
         &mut server,
@@ -184,19 +183,20 @@ fn check_cut(
         ends.left.as_slice(),
         "the room after {name}, cut {cut:?}"
     );
-    check_server(rt, turn, server, with_options, cut);
+    check_server(rt, turn, server, first.is_some(), cut);
     Ok(())
 }
 
-/// Checks the turn with these bytes, with and without options from before: both ends in one
-/// segment, cut at each place and at all, and with empty segments.
+/// Checks the turn with these bytes, with and without an INIT before it: both ends in one segment,
+/// cut at each place and at all, and with empty segments.
 pub fn check(rt: &impl Abort, alloc: Global, turn: &Turn, ends: &Ends) -> Result<(), Fail> {
-    for with_options in [false, true] {
+    let request = bytes(alloc, FIRST_INIT)?;
+    for first in [None, Some(request.as_slice())] {
         for cut in [Cut::Whole, Cut::EachByte, Cut::Apart] {
-            check_cut(rt, alloc, turn, ends, with_options, cut)?;
+            check_cut(rt, alloc, turn, ends, first, cut)?;
         }
         for place in 0..ends.request.len().max(ends.room.len()) {
-            check_cut(rt, alloc, turn, ends, with_options, Cut::At(place))?;
+            check_cut(rt, alloc, turn, ends, first, Cut::At(place))?;
         }
     }
     Ok(())
