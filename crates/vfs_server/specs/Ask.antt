@@ -121,13 +121,15 @@ max_len = 1052672
 -- what a request with this header asks: a `len` above the limit is ENOMEM, whatever the opcode
 abbrev pub ask_header : (options room : ℕ) → InHeader → List ℕ → Ask
 ask_header options room h rest =
-    if nat_lt max_len h.len then Says (fault_reply (Some 12) h.unique) else ask_opcode (opcode_of h.opcode) options room h rest
+    if nat_lt max_len h.len then Says (fault_reply (Some 12) h.unique)
+    else ask_opcode (opcode_of h.opcode) options room h rest
 
 -- what these bytes ask, under these agreed options and where there is so much room
 abbrev pub ask : (options room : ℕ) → List ℕ → Ask
 ask options room bytes = refused_or (record_of in_header bytes) (λ h. ask_header options room h (drop 40 bytes))
 
--- the requests that take memory, of those with a `len` in its limit: such with a tail, where their record and their tail are whole
+-- the requests that take memory, of those with a `len` in its limit: such with a tail, where their record and their
+-- tail are whole
 abbrev pub TakesMemory : Option Opcode → InHeader → List ℕ → Type 0
 TakesMemory (Some Lookup) h rest = IsOk (tail_of h 0 rest)
 TakesMemory _ h rest = ⊥

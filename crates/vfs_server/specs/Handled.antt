@@ -18,7 +18,8 @@ module _ {S I : Type 0} (allows : S → Call → Handed I → S → Type 0) wher
   Handles (Says reply) old room outcome left new = Replies (Some reply) room outcome left × (new ≡ old)
   Handles Silent old room outcome left new = (outcome ≡ Ok 0) × (left ≡ room) × (new ≡ old)
   Handles (Tells call) old room outcome left new =
-      allows old.fs call (Plain Done) new.fs × (outcome ≡ Ok 0) × (left ≡ room) × (new.options ≡ old.options) × (new.page_size ≡ old.page_size)
+      allows old.fs call (Plain Done) new.fs × (outcome ≡ Ok 0) × (left ≡ room)
+      × (new.options ≡ old.options) × (new.page_size ≡ old.page_size)
   Handles (Asks unique call) old room outcome left new =
       (answer : Answer) × allows old.fs call (Plain answer) new.fs × IsAnswer (kind_of call) answer
       × Replies (reply_of answer unique) room outcome left

@@ -20,7 +20,8 @@ fault_number (Some number) = number
 
 -- a reply that says a fault: the header alone, with the negated number
 abbrev pub fault_reply : Option ℕ → ℕ → List ℕ
-fault_reply fault unique = bytes_of out_header (record { len = 16; error = pos 0 -ℤ pos (fault_number fault); unique = unique })
+fault_reply fault unique =
+    bytes_of out_header (record { len = 16; error = pos 0 -ℤ pos (fault_number fault); unique = unique })
 
 -- a reply with a body behind its header
 abbrev pub body_reply : List ℕ → ℕ → List ℕ
@@ -28,7 +29,8 @@ body_reply body unique = bytes_of out_header (record { len = 16 + length body; e
 
 -- the attributes of a node and how long they hold, as GETATTR replies them
 abbrev pub attr_out_of : Attr → Duration → AttrOut
-attr_out_of attr timeout = record { attr_valid = whole_seconds timeout; attr_valid_nsec = nanoseconds_beyond timeout; dummy = 0; attr = attr }
+attr_out_of attr timeout =
+    record { attr_valid = whole_seconds timeout; attr_valid_nsec = nanoseconds_beyond timeout; dummy = 0; attr = attr }
 
 -- what INIT replies to a client of a newer major version: the version that the server speaks
 abbrev pub version_out : InitOut

@@ -10,7 +10,8 @@ put_outcome reply room = if nat_le (length reply) (length room) then Ok (length 
 
 -- the room afterwards: the reply and the old bytes behind it, or as much of the reply as there is room for
 abbrev pub put_room : List ℕ → List ℕ → List ℕ
-put_room reply room = if nat_le (length reply) (length room) then reply ++ drop (length reply) room else take (length room) reply
+put_room reply room =
+    if nat_le (length reply) (length room) then reply ++ drop (length reply) room else take (length room) reply
 
 -- the reply was put into the room, whose bytes are `left` then
 pub record IsPut (reply room : List ℕ) (outcome : Result ℕ Error) (left : List ℕ) : Type 0 where

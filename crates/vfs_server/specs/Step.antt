@@ -23,10 +23,12 @@ pub record Turn : Type 0 where
 
 -- what the grammar gives for a request that asks this: its events, outcome and room, and the options after it
 abbrev pub Follows : (page_size options : ℕ) → Ask → Turn → ℕ → Type 0
-Follows page_size options (Refused error) t after = (t.events ≡ []) × (t.outcome ≡ Err error) × (t.left ≡ t.room) × (after ≡ options)
+Follows page_size options (Refused error) t after =
+    (t.events ≡ []) × (t.outcome ≡ Err error) × (t.left ≡ t.room) × (after ≡ options)
 Follows page_size options (Says reply) t after = (t.events ≡ []) × IsPut reply t.room t.outcome t.left × (after ≡ options)
 Follows page_size options Silent t after = (t.events ≡ []) × (t.outcome ≡ Ok 0) × (t.left ≡ t.room) × (after ≡ options)
-Follows page_size options (Tells call) t after = (t.events ≡ Called call Done ∷ []) × (t.outcome ≡ Ok 0) × (t.left ≡ t.room) × (after ≡ options)
+Follows page_size options (Tells call) t after =
+    (t.events ≡ Called call Done ∷ []) × (t.outcome ≡ Ok 0) × (t.left ≡ t.room) × (after ≡ options)
 Follows page_size options (Asks unique call) t after =
     (answer : Answer) × (t.events ≡ Called call answer ∷ []) × IsAnswer (kind_of call) answer
     × IsReplied (reply_of answer unique) t.room t.outcome t.left
@@ -63,10 +65,13 @@ pub record At (S : Type 0) : Type 0 where
 
 -- One step: a run of the file system from its state before to that after, whose events are those of a turn of the request;
 -- the bytes that the writer had passed stay, and its room is as the turn says.
-pub record IsStep {S I : Type 0} (allows : S → Call → Handed I → S → Type 0) (gives : I → Option Item → I → Type 0) (old : At S) (request : List ℕ) (writer : Written) (outcome : Result ℕ Error) (after : Written) (new : At S) : Type 0 where
+pub record IsStep {S I : Type 0} (allows : S → Call → Handed I → S → Type 0) (gives : I → Option Item → I → Type 0)
+    (old : At S) (request : List ℕ) (writer : Written) (outcome : Result ℕ Error) (after : Written) (new : At S) : Type 0 where
   pub run : List (Happening I × S)
   pub left : List ℕ
   pub is_run : IsRun allows gives None old.fs run new.fs
   pub leaves : Leaves writer left after
-  pub turn : IsTurn old.page_size old.options (record { request = request; room = writer.left; events = events_of run; outcome = outcome; left = left }) new.options
+  pub turn :
+      IsTurn old.page_size old.options
+      (record { request = request; room = writer.left; events = events_of run; outcome = outcome; left = left }) new.options
   pub same_page_size : new.page_size ≡ old.page_size

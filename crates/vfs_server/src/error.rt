@@ -5,7 +5,8 @@ use thiserror::Error;
 /// Why a request was not answered by a reply that fits.
 #[derive(Debug, Drop, Error)]
 pub enum Error {
-    /// The request ends before a header, a record, a tail or a list that it needs, or says something that has no meaning.
+    /// The request ends before a header, a record, a tail or a list that it needs, or says something
+    /// that has no meaning.
     #[error("failed to decode protocol messages")]
     DecodeMessage,
     /// The reply is longer than the room; the room holds its beginning.

@@ -62,7 +62,8 @@ pub(crate) fn agreed_options(
     offered: FsOptions,
     options: FsOptions,
 ) -> FsOptions
-    ensures { fs_options_bits result ≡ options_after (fs_options_bits offered) (init_answer answer.now) (fs_options_bits options) }
+    ensures { fs_options_bits result ≡
+        options_after (fs_options_bits offered) (init_answer answer.now) (fs_options_bits options) }
 {
     match answer {
         Ok(want) => agree(offered, *want),
@@ -121,7 +122,9 @@ pub(crate) fn reply_init(
     w: &mut Writer,
 ) -> Result<usize>
     requires { 4096 ≤ page_size }
-    ensures replied { Replies (init_reply page_size max_readahead (fs_options_bits offered) (init_answer answer) unique) w.old result w.new }
+    ensures replied { Replies
+        (init_reply page_size max_readahead (fs_options_bits offered) (init_answer answer) unique)
+        w.old result w.new }
     ensures kind { IsAnswer Agreements (init_answer answer) }
 {
     match answer {

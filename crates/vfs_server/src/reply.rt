@@ -20,7 +20,8 @@ const HEADER_SIZE: usize = 16;
 
 /// Puts a header and a record, as much of both as there is room for; says whether it was all.
 fn put_both<T: ByteValued + Drop>(header: OutHeader, out: T, w: &mut Writer) -> bool
-    ensures wrote { w.new ≡ wrote w.old (take (length w.old.left) (bytes_of out_header header ++ bytes_of T.table out)) }
+    ensures wrote { w.new ≡
+        wrote w.old (take (length w.old.left) (bytes_of out_header header ++ bytes_of T.table out)) }
     ensures fits { IsTrue result ↔ (16 + T.SIZE ≤ length w.old.left) }
     ensures in_width { Fit T.table.widths (T.table.fields out) }
 {
@@ -53,7 +54,8 @@ pub(crate) fn reply_record<T: ByteValued + Drop>(
 
 /// The header of a reply that says a fault: its negated number, or that of EIO where it has none.
 fn fault_header(fault: Fault, unique: u64) -> OutHeader
-    ensures header { result ≡ record { len = 16; error = pos 0 -ℤ pos (fault_number fault); unique = unique } }
+    ensures header { result ≡
+        record { len = 16; error = pos 0 -ℤ pos (fault_number fault); unique = unique } }
     ensures fault { IsFault fault }
 {
     let errno = match fault {

@@ -40,7 +40,8 @@ fn copy_bytes(alloc: Global, len: usize, reader: &mut Reader<'_>) -> Result<Vec<
     }
 }
 
-/// The tail of a request behind its header and a record of `size` bytes, copied once its bytes were found to be there.
+/// The tail of a request behind its header and a record of `size` bytes, copied once its bytes were
+/// found to be there.
 pub(crate) fn read_tail(
     alloc: Global,
     header: &InHeader,

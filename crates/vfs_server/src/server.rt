@@ -1,4 +1,5 @@
-//! The server: it decodes one request, makes its call of the file system, and puts the reply into the writer's room.
+//! The server: it decodes one request, makes its call of the file system, and puts the reply into
+//! the writer's room.
 
 ghost use Rattle.std.specs.Prelude.{◌≡◌, ◌≤◌, ◌⊎◌, Some, IsOk, length};
 ghost use Rattle.vfs_flags.specs.Flags.{fs_options_bits};
@@ -21,8 +22,10 @@ use vfs_flags::{Errno, FsOptions, GETATTR_FH, KERNEL_VERSION, MIN_KERNEL_MINOR_V
 use vfs_segments::{Reader, Writer};
 use vfs_wire::{ForgetIn, GetattrIn, InHeader, InitInCompat};
 
-/// The largest `len` of a request, in bytes: the largest payload and a page for what stands before it.
-/// The largest `len` of a request, in bytes: the largest payload and a page for what stands before it.
+/// The largest `len` of a request, in bytes: the largest payload and a page for what stands before
+/// it.
+/// The largest `len` of a request, in bytes: the largest payload and a page for what stands before
+/// it.
 const MAX_LEN: u32 = 1_048_576 + 4096;
 
 /// Gives up a hold that the caller left.
@@ -93,13 +96,15 @@ impl<F> Server<F> {
 }
 
 impl<F: FileSystem> Server<F> {
-    /// Handles one request: reads it from `r`, makes its call, and puts the reply into the room that `w` has left.
-    /// Answers the reply's length, 0 where there is none.
+    /// Handles one request: reads it from `r`, makes its call, and puts the reply into the room that
+    /// `w` has left. Answers the reply's length in bytes, 0 where there is none.
     ///
-    /// After any error but `EncodeMessage` no call was made, nothing was written, and the options are the old ones.
-    /// After `EncodeMessage` the room holds the beginning of a reply that was too long for it.
-    /// A hold that the caller left on `w` is given up first. What `w` had passed before stays, held bytes too; where it
-    /// stands afterwards isn't said.
+    /// After any error but `EncodeMessage` no call was made, nothing was written, and the options are
+    /// the old ones. After `EncodeMessage` the room holds the beginning of a reply that was too long
+    /// for it.
+    ///
+    /// A hold that the caller left on `w` is given up first. What `w` had passed before stays, held
+    /// bytes too; where it stands afterwards isn't said.
     pub fn handle_message(
         &mut self,
         alloc: Global,
@@ -130,7 +135,10 @@ impl<F: FileSystem> Server<F> {
         r: &mut Reader<'_>,
         w: &mut Writer,
     ) -> Result<usize>
-        ensures { HandlesOrLacks F.allows (ask_header self.old.options (length w.old.left) header.now r.old.left) (TakesHeader header.now r.old.left) self.old w.old result w.new self.new }
+        ensures { HandlesOrLacks F.allows
+            (ask_header self.old.options (length w.old.left) header.now r.old.left)
+            (TakesHeader header.now r.old.left)
+            self.old w.old result w.new self.new }
     {
         if header.len > MAX_LEN {
             return reply_error(Some(Errno::ENOMEM), header.unique, w);
@@ -149,7 +157,10 @@ impl<F: FileSystem> Server<F> {
         r: &mut Reader<'_>,
         w: &mut Writer,
     ) -> Result<usize>
-        ensures { HandlesOrLacks F.allows (ask_opcode (Some opcode) self.old.options (length w.old.left) header.now r.old.left) (TakesMemory (Some opcode) header.now r.old.left) self.old w.old result w.new self.new }
+        ensures { HandlesOrLacks F.allows
+            (ask_opcode (Some opcode) self.old.options (length w.old.left) header.now r.old.left)
+            (TakesMemory (Some opcode) header.now r.old.left)
+            self.old w.old result w.new self.new }
     {
         match opcode {
             Opcode::Lookup => self.lookup(alloc, header, r, w),
@@ -167,7 +178,10 @@ impl<F: FileSystem> Server<F> {
         r: &mut Reader<'_>,
         w: &mut Writer,
     ) -> Result<usize>
-        ensures { HandlesOrLacks F.allows (ask_lookup header.now r.old.left) (IsOk (tail_of header.now 0 r.old.left)) self.old w.old result w.new self.new }
+        ensures { HandlesOrLacks F.allows
+            (ask_lookup header.now r.old.left)
+            (IsOk (tail_of header.now 0 r.old.left))
+            self.old w.old result w.new self.new }
     {
         match read_tail(alloc, header, 0, r) {
             Ok(tail) => self.lookup_name(header, &tail, w),
@@ -187,7 +201,8 @@ impl<F: FileSystem> Server<F> {
     }
 
     fn forget(&mut self, header: &InHeader, r: &mut Reader<'_>) -> Result<usize>
-        ensures { (w : Written) → Handles F.allows (ask_forget header.now r.old.left) self.old w result w self.new }
+        ensures { (w : Written) →
+            Handles F.allows (ask_forget header.now r.old.left) self.old w result w self.new }
     {
         match read_record::<ForgetIn>(r) {
             Ok(forget_in) => {
@@ -215,7 +230,8 @@ impl<F: FileSystem> Server<F> {
         getattr_in: &GetattrIn,
         w: &mut Writer,
     ) -> Result<usize>
-        ensures { Handles F.allows (ask_attributes header.now getattr_in.now) self.old w.old result w.new self.new }
+        ensures { Handles F.allows (ask_attributes header.now getattr_in.now)
+            self.old w.old result w.new self.new }
     {
         let handle = if getattr_in.flags & GETATTR_FH == 0 {
             None
@@ -247,7 +263,8 @@ impl<F: FileSystem> Server<F> {
         flags2: u32,
         w: &mut Writer,
     ) -> Result<usize>
-        ensures { Handles F.allows (ask_version header.now init_in.now flags2) self.old w.old result w.new self.new }
+        ensures { Handles F.allows (ask_version header.now init_in.now flags2)
+            self.old w.old result w.new self.new }
     {
         if init_in.major < KERNEL_VERSION {
             return reply_error(Some(Errno::EPROTO), header.unique, w);
