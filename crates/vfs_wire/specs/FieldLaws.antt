@@ -54,20 +54,20 @@ length-row [] (x ∷ xs) h = absurd h
 length-row (w ∷ ws) [] h = absurd h
 length-row (w ∷ ws) (x ∷ xs) h = rw (length-append (little w x) (row ws xs), sum_by-cons (λ x. x) w ws) (omega (arith, length-little w x, length-row ws xs h.1))
 
-numbers_at-row : (i : ℕ) (ws xs bytes rest : List ℕ) → Fit ws xs → drop i bytes ≡ row ws xs ++ rest → numbers_at i ws bytes ≡ xs
-numbers_at-row i [] [] bytes rest h e = refl
-numbers_at-row i [] (x ∷ xs) bytes rest h e = absurd h
-numbers_at-row i (w ∷ ws) [] bytes rest h e = absurd h
-numbers_at-row i (w ∷ ws) (x ∷ xs) bytes rest h e =
+numbers_at-written : (i : ℕ) (ws xs bytes rest : List ℕ) → Fit ws xs → drop i bytes ≡ row ws xs ++ rest → numbers_at i ws bytes ≡ xs
+numbers_at-written i [] [] bytes rest h e = refl
+numbers_at-written i [] (x ∷ xs) bytes rest h e = absurd h
+numbers_at-written i (w ∷ ws) [] bytes rest h e = absurd h
+numbers_at-written i (w ∷ ws) (x ∷ xs) bytes rest h e =
     let parts : drop i bytes ≡ little w x ++ (row ws xs ++ rest) = e ∙ append_assoc (little w x) (row ws xs) rest in
     let first : number w (drop i bytes) ≡ x = ap (number w) parts ∙ number-little w x (row ws xs ++ rest) h.0 in
     let others : drop (i + w) bytes ≡ row ws xs ++ rest =
     sym (drop-drop w i bytes) ∙ ap (drop w) parts ∙ drop_at (little w x) (row ws xs ++ rest) w (length-little w x) in
-    rw (first, numbers_at-row (i + w) ws xs bytes rest h.1 others) refl
+    rw (first, numbers_at-written (i + w) ws xs bytes rest h.1 others) refl
 
 -- what is written is read, whatever follows it
 pub numbers-row-then : (ws xs rest : List ℕ) → Fit ws xs → numbers ws (row ws xs ++ rest) ≡ xs
-numbers-row-then ws xs rest h = numbers_at-row 0 ws xs (row ws xs ++ rest) rest h refl
+numbers-row-then ws xs rest h = numbers_at-written 0 ws xs (row ws xs ++ rest) rest h refl
 
 pub numbers-row : (ws xs : List ℕ) → Fit ws xs → numbers ws (row ws xs) ≡ xs
 numbers-row ws xs h = ap (numbers ws) (sym (append-nil (row ws xs))) ∙ numbers-row-then ws xs [] h
