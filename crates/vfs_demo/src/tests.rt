@@ -303,3 +303,16 @@ fn the_file_system_answers_of_its_root_and_its_one_file(rt: HostRuntime) -> Resu
     }
     Ok(())
 }
+
+#[test]
+fn each_end_of_a_run_has_a_text(rt: HostRuntime) -> Result<(), Fail> {
+    let texts = [
+        (RunError::BadLine(6), "bad line 6"),
+        (RunError::Io, "i/o error"),
+        (RunError::OutOfMemory, "out of memory"),
+    ];
+    for (error, text) in texts {
+        assert_eq!(rt; format!(in rt.alloc(); "{error}")?.as_str(), text);
+    }
+    Ok(())
+}

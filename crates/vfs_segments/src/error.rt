@@ -8,13 +8,13 @@ use thiserror::Error;
 #[derive(Clone, Copy, Debug, PartialEq, Eq, Error)]
 pub enum Error {
     /// The lengths of the segments sum past `usize::MAX`.
-    #[error("the combined length of all the buffers in a `DescriptorChain` would overflow")]
+    #[error("the lengths of the segments sum past the largest count")]
     DescriptorChainOverflow,
     /// The place of a split or the length of a hold, in bytes, is past what is left.
-    #[error("`DescriptorChain` split is out of bounds: {0}")]
+    #[error("a place {0} bytes on is past what is left")]
     SplitOutOfBounds(usize),
     /// A fault of reading or writing; no call answers it.
-    #[error("descriptor I/O error")]
+    #[error("a segment could not be read or written")]
     IoError,
     /// The memory that the call needs isn't there.
     #[error("out of memory")]

@@ -435,3 +435,23 @@ fn descriptors_are_readable_or_writable(rt: HostRuntime) {
     assert!(rt; DescriptorType::Readable == DescriptorType::Readable);
     assert!(rt; DescriptorType::Readable != DescriptorType::Writable);
 }
+
+#[test]
+fn each_error_has_a_text(rt: HostRuntime) -> Result<(), Fail> {
+    let texts = [
+        (
+            Error::DescriptorChainOverflow,
+            "the lengths of the segments sum past the largest count",
+        ),
+        (
+            Error::SplitOutOfBounds(7),
+            "a place 7 bytes on is past what is left",
+        ),
+        (Error::IoError, "a segment could not be read or written"),
+        (Error::OutOfMemory, "out of memory"),
+    ];
+    for (error, text) in texts {
+        assert_eq!(rt; format!(in rt.alloc(); "{error}")?.as_str(), text);
+    }
+    Ok(())
+}

@@ -7,31 +7,31 @@ use thiserror::Error;
 pub enum Error {
     /// The request ends before a header, a record, a tail or a list that it needs, or says something
     /// that has no meaning.
-    #[error("failed to decode protocol messages")]
+    #[error("the request is cut short, or says what has no meaning")]
     DecodeMessage,
     /// The reply is longer than the room; the room holds its beginning.
-    #[error("failed to encode protocol messages")]
+    #[error("the reply is longer than the room for it")]
     EncodeMessage,
     /// A writer could not be flushed. It is never answered: flushing never fails.
-    #[error("failed to flush protocol messages")]
+    #[error("the reply could not be flushed")]
     FlushMessage,
     /// A name or another part of a tail is missing.
-    #[error("one or more parameters are missing")]
+    #[error("the request lacks a name or another part")]
     MissingParameter,
     /// A name does not end with a nul, or has one before its end.
-    #[error("a C string parameter is invalid")]
+    #[error("a name does not end at its only nul")]
     InvalidCString,
     /// The name of a security context has no byte. It is never answered: such a name is a missing parameter.
-    #[error("a C string parameter is invalid (2)")]
+    #[error("a name has no byte")]
     InvalidCString2,
     /// The header's `len`, or the size of an extension, is less than what it counts.
-    #[error("the `len` field of the header is too small")]
+    #[error("a length in the request is less than what it counts")]
     InvalidHeaderLength,
     /// The `size` of a SETXATTR, and the length of its value, which differ.
-    #[error("the `size` field of the SETXATTR message does not match the length of the decoded value: size = {0:?}")]
+    #[error("the size of an extended attribute and the length of its value differ: {0:?}")]
     InvalidXattrSize((u32, usize)),
     /// A security context was agreed on, and the request has none.
-    #[error("requires an extension, but none was provided")]
+    #[error("the request lacks the security context that was agreed on")]
     MissingExtension,
     /// A tail or a list could not be copied for want of memory. No call was made.
     #[error("out of memory")]

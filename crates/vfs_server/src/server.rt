@@ -24,8 +24,6 @@ use vfs_wire::{ForgetIn, GetattrIn, InHeader, InitInCompat};
 
 /// The largest `len` of a request, in bytes: the largest payload and a page for what stands before
 /// it.
-/// The largest `len` of a request, in bytes: the largest payload and a page for what stands before
-/// it.
 const MAX_LEN: u32 = 1_048_576 + 4096;
 
 /// Gives up a hold that the caller left.

@@ -6,29 +6,32 @@ use std::test::Fail;
 #[test]
 fn each_error_has_a_text(rt: HostRuntime) -> Result<(), Fail> {
     let texts = [
-        (Error::DecodeMessage, "failed to decode protocol messages"),
-        (Error::EncodeMessage, "failed to encode protocol messages"),
-        (Error::FlushMessage, "failed to flush protocol messages"),
+        (
+            Error::DecodeMessage,
+            "the request is cut short, or says what has no meaning",
+        ),
+        (
+            Error::EncodeMessage,
+            "the reply is longer than the room for it",
+        ),
+        (Error::FlushMessage, "the reply could not be flushed"),
         (
             Error::MissingParameter,
-            "one or more parameters are missing",
+            "the request lacks a name or another part",
         ),
-        (Error::InvalidCString, "a C string parameter is invalid"),
-        (
-            Error::InvalidCString2,
-            "a C string parameter is invalid (2)",
-        ),
+        (Error::InvalidCString, "a name does not end at its only nul"),
+        (Error::InvalidCString2, "a name has no byte"),
         (
             Error::InvalidHeaderLength,
-            "the `len` field of the header is too small",
+            "a length in the request is less than what it counts",
         ),
         (
             Error::InvalidXattrSize((2, 1)),
-            "the `size` field of the SETXATTR message does not match the length of the decoded value: size = (2, 1)",
+            "the size of an extended attribute and the length of its value differ: (2, 1)",
         ),
         (
             Error::MissingExtension,
-            "requires an extension, but none was provided",
+            "the request lacks the security context that was agreed on",
         ),
         (Error::OutOfMemory, "out of memory"),
     ];
