@@ -32,9 +32,9 @@ pub trait FileSystem {
     /// From the old state the call may hand this back and leave the new state.
     ghost allows: { Self → Call → Handed Self.DirIter → Self → Type 0 };
 
-    /// Begins a session (INIT). `capable` are the options that the kernel knows and the server
-    /// supports; answers those that the file system wants, of which the server agrees to the ones
-    /// that are capable.
+    /// Begins a session (INIT). `capable` are the options that the client offers, of those that are
+    /// known; answers those that the file system wants. The server supports some by itself: agreed
+    /// are those offered that either wants.
     fn init(&mut self, capable: FsOptions) -> Result<FsOptions, Fault>
         ensures { allows self.old
             (Init (fs_options_bits capable))
@@ -59,7 +59,8 @@ pub trait FileSystem {
     /// The attributes of a node, and how long the kernel may take them for true (GETATTR).
     /// `handle` is there where the kernel asks through an open file.
     ///
-    /// An implementation repeats this clause, with its own relation in place of `allows`.
+    /// An implementation repeats this clause, with its own relation in place of `allows`, since its
+    /// parameter is an `Option` of an associated type (docs/DECISIONS.md).
     fn getattr(
         &mut self,
         ctx: Context,

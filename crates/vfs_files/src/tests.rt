@@ -124,9 +124,10 @@ struct Endless {
 }
 
 impl DirectoryIterator for Endless {
-    ghost use Rattle.std.specs.Prelude.{◌≡◌, ◌+◌, ◌-◌, ◌^◌, min};
+    ghost use Rattle.std.specs.Prelude.{◌≡◌, ◌+◌, ◌-◌, ◌^◌, min, IfSome};
 
-    ghost gives = { λ old item new. new.given ≡ min (old.given + 1) (2 ^ 64 - 1) };
+    ghost gives = { λ old item new.
+        (new.given ≡ min (old.given + 1) (2 ^ 64 - 1)) × IfSome item (λ i. i.offset ≡ new.given) };
 
     fn next(&mut self) -> Option<DirEntry<'_>> {
         self.given = self.given.saturating_add(1);
