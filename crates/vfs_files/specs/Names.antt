@@ -1,5 +1,5 @@
 -- Names: byte lists that end at their only 0.
-use Rattle.std.specs.Prelude.{ℕ, List, Option, Some, None, ◌+◌, ◌==◌, length, take, position, if◌then◌else◌}
+use Rattle.std.specs.Prelude.{◌≡◌, ◌≢◌, ℕ, List, [], ◌∷◌, ◌++◌, Option, Some, None, ◌+◌, ◌<◌, ◌==◌, length, take, slice_index, position, if◌then◌else◌}
 use Rattle.vfs_files.specs.declared.name.CStr.{CStr}
 
 -- the bytes before the first 0, where it stands at this place and is the last byte
@@ -15,3 +15,7 @@ name_of bytes = name_to bytes (position (λ b. b == 0) bytes)
 -- the bytes of a name, without the 0 behind them
 abbrev pub name_text : CStr → List ℕ
 name_text name = name.bytes.now
+
+-- a byte list whose last byte is 0 and no other is, and its text
+abbrev pub IsName : List ℕ → List ℕ → Type 0
+IsName bytes text = (bytes ≡ text ++ 0 ∷ []) × ((k : ℕ) → k < length text → slice_index text k ≢ 0)

@@ -1,5 +1,7 @@
-//! What holds of every file system by the definition of a run.
+//! What holds of names and of every file system by their definitions.
 
+ghost use Rattle.std.specs.Prelude.{◌≡◌, ℕ, List, Some};
+ghost use Rattle.vfs_files.specs.Names.{IsName, name_of};
 ghost use Rattle.vfs_files.specs.Runs.{RunsJoin, EventsJoin};
 
 use crate::filesystem::FileSystem;
@@ -12,4 +14,10 @@ use crate::filesystem::FileSystem;
 pub fn runs_join<F: FileSystem>()
     ensures runs { RunsJoin F.allows F.DirIter.gives }
     ensures events { EventsJoin F F.DirIter }
+{}
+
+/// A byte list is a name where its last byte is 0 and no other is, and its text is the rest.
+pub fn names_end_at_their_only_nul()
+    ensures named { (bytes text : List ℕ) → name_of bytes ≡ Some text → IsName bytes text }
+    ensures found { (bytes text : List ℕ) → IsName bytes text → name_of bytes ≡ Some text }
 {}
