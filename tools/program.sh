@@ -8,7 +8,7 @@ program=$crate/out/vfs_demo
 # Whether the proved program is there, and as new as all that it is built from.
 is_built() {
     [ -x "$program" ] &&
-        [ -z "$(find "$here/crates.txt" "$here"/crates/*/src -newer "$program" -print -quit)" ]
+        [ -z "$(find "$here/crates.txt" "$here"/crates/*/{src,specs,proofs} -newer "$program" -print -quit)" ]
 }
 
 # Stops where the toolchain is not there.

@@ -7,7 +7,7 @@ use crate::error::RunError;
 use hex::FromHexError;
 use std::alloc::Global;
 
-/// The most bytes that the rooms of one line have together: twice the largest reply.
+/// The most bytes that the rooms of one line have together: twice the largest payload.
 pub const MOST_ROOM: usize = 2_097_152;
 
 /// The most digits of one room's length.

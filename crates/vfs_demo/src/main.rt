@@ -25,8 +25,7 @@ fn main(rt: HostRuntime) -> ExitCode {
 // Says an error that the answers do not say, where it can still be printed.
 fn report(rt: &impl Print, outcome: &Result<(), RunError>) -> io::Result<()> {
     match outcome {
-        Err(RunError::Io) => println!(rt; "i/o error"),
-        Err(RunError::OutOfMemory) => println!(rt; "out of memory"),
         Err(RunError::BadLine(_)) | Ok(()) => Ok(()),
+        Err(error) => println!(rt; "{error}"),
     }
 }

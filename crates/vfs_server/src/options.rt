@@ -19,12 +19,14 @@ use vfs_segments::{Reader, Writer};
 use vfs_wire::{InitInExt, InitOut};
 
 /// The largest payload of a READ or a WRITE, in bytes.
-const MAX_WRITE: u32 = 1_048_576;
+pub(crate) const MAX_WRITE: u32 = 1_048_576;
 
 /// The bit of INIT's first word of flags which says that a second word follows.
 const INIT_EXT: u32 = 1 << 30;
 
-/// The options that the server supports by itself.
+/// The options that the server supports by itself: ASYNC_READ, ATOMIC_O_TRUNC, BIG_WRITES,
+/// HAS_IOCTL_DIR, AUTO_INVAL_DATA, ASYNC_DIO, PARALLEL_DIROPS, MAX_PAGES, SUBMOUNTS, INIT_EXT,
+/// CREATE_SUPP_GROUP and ALLOW_IDMAP.
 const SUPPORTED: u64 = 0x104_4844_9829;
 
 /// The second word of INIT's flags, in a record of its own where the first word says so.
@@ -34,10 +36,8 @@ pub(crate) fn read_second_flags(flags: u32, reader: &mut Reader<'_>) -> Result<u
     if flags & INIT_EXT == 0 {
         return Ok(0);
     }
-    match read_record::<InitInExt>(reader) {
-        Ok(record) => Ok(record.flags2),
-        Err(error) => Err(error),
-    }
+    let record = read_record::<InitInExt>(reader)?;
+    Ok(record.flags2)
 }
 
 /// The known options among those that the client offers in its two words of flags.

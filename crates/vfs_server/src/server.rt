@@ -10,7 +10,7 @@ ghost use Rattle.vfs_server.specs.Step.{IsStep};
 
 use crate::error::{Error, Result};
 use crate::options::{
-    agreed_options, offered_options, read_second_flags, reply_init, reply_version,
+    MAX_WRITE, agreed_options, offered_options, read_second_flags, reply_init, reply_version,
 };
 use crate::reply::{reply_attr, reply_entry, reply_error};
 use crate::request::{read_record, read_tail};
@@ -24,7 +24,7 @@ use vfs_wire::{ForgetIn, GetattrIn, InHeader, InitInCompat};
 
 /// The largest `len` of a request, in bytes: the largest payload and a page for what stands before
 /// it.
-const MAX_LEN: u32 = 1_048_576 + 4096;
+const MAX_LEN: u32 = MAX_WRITE + 4096;
 
 /// Gives up a hold that the caller left.
 fn give_up_hold(w: &mut Writer)
@@ -54,7 +54,8 @@ impl<F> Model for Server<F> {
 }
 
 impl<F> Server<F> {
-    /// A server over `fs`, with no options agreed. `page_size` is that of the machine, in bytes.
+    /// A server over `fs`, with no options agreed. `page_size` is that of the machine in bytes, at
+    /// least 4096.
     pub fn new(fs: F, page_size: u32) -> Server<F>
         requires { 4096 ≤ page_size }
         ensures { result ≡ record { options = 0; page_size = page_size; fs = fs } }
@@ -97,8 +98,10 @@ impl<F: FileSystem> Server<F> {
     /// Handles one request: reads it from `r`, makes its call, and puts the reply into the room that
     /// `w` has left. Answers the reply's length in bytes, 0 where there is none.
     ///
-    /// After any error but `EncodeMessage` no call was made, nothing was written, and the options are
-    /// the old ones. After `EncodeMessage` the room holds the beginning of a reply that was too long
+    /// `DecodeMessage` where the header, a record or the tail is not whole, `InvalidHeaderLength` where
+    /// `len` is less than what stands before a tail, `InvalidCString` where a tail is no name,
+    /// `OutOfMemory` where there is no memory for a tail that is whole. After any error but
+    /// `EncodeMessage` no call was made, nothing was written, and the options are the old ones. After `EncodeMessage` the room holds the beginning of a reply that was too long
     /// for it.
     ///
     /// A hold that the caller left on `w` is given up first. What `w` had passed before stays, held
@@ -181,10 +184,8 @@ impl<F: FileSystem> Server<F> {
             (IsOk (tail_of header.now 0 r.old.left))
             self.old w.old result w.new self.new }
     {
-        match read_tail(alloc, header, 0, r) {
-            Ok(tail) => self.lookup_name(header, &tail, w),
-            Err(error) => Err(error),
-        }
+        let tail = read_tail(alloc, header, 0, r)?;
+        self.lookup_name(header, &tail, w)
     }
 
     fn lookup_name(&mut self, header: &InHeader, tail: &[u8], w: &mut Writer) -> Result<usize>
@@ -202,24 +203,18 @@ impl<F: FileSystem> Server<F> {
         ensures { (w : Written) →
             Handles F.allows (ask_forget header.now r.old.left) self.old w result w self.new }
     {
-        match read_record::<ForgetIn>(r) {
-            Ok(forget_in) => {
-                let inode = F::Inode::from_number(header.nodeid);
-                self.fs
-                    .forget(Context::from(*header), inode, forget_in.nlookup);
-                Ok(0)
-            }
-            Err(error) => Err(error),
-        }
+        let forget_in = read_record::<ForgetIn>(r)?;
+        let inode = F::Inode::from_number(header.nodeid);
+        self.fs
+            .forget(Context::from(*header), inode, forget_in.nlookup);
+        Ok(0)
     }
 
     fn getattr(&mut self, header: &InHeader, r: &mut Reader<'_>, w: &mut Writer) -> Result<usize>
         ensures { Handles F.allows (ask_getattr header.now r.old.left) self.old w.old result w.new self.new }
     {
-        match read_record::<GetattrIn>(r) {
-            Ok(getattr_in) => self.getattr_by(header, &getattr_in, w),
-            Err(error) => Err(error),
-        }
+        let getattr_in = read_record::<GetattrIn>(r)?;
+        self.getattr_by(header, &getattr_in, w)
     }
 
     fn getattr_by(
@@ -244,14 +239,9 @@ impl<F: FileSystem> Server<F> {
     fn init(&mut self, header: &InHeader, r: &mut Reader<'_>, w: &mut Writer) -> Result<usize>
         ensures { Handles F.allows (ask_init header.now r.old.left) self.old w.old result w.new self.new }
     {
-        let init_in = match read_record::<InitInCompat>(r) {
-            Ok(init_in) => init_in,
-            Err(error) => return Err(error),
-        };
-        match read_second_flags(init_in.flags, r) {
-            Ok(flags2) => self.init_version(header, &init_in, flags2, w),
-            Err(error) => Err(error),
-        }
+        let init_in = read_record::<InitInCompat>(r)?;
+        let flags2 = read_second_flags(init_in.flags, r)?;
+        self.init_version(header, &init_in, flags2, w)
     }
 
     fn init_version(
