@@ -46,13 +46,14 @@ Fit [] (x ∷ xs) = ⊥
 Fit (w ∷ ws) [] = ⊥
 Fit (w ∷ ws) (x ∷ xs) = (x < 256 ^ w) × Fit ws xs
 
--- a field's width, and its number
+-- the bytes that a field is written in
 abbrev pub width_of : Field → ℕ
 width_of (One x) = 1
 width_of (Two x) = 2
 width_of (Four x) = 4
 width_of (Eight x) = 8
 
+-- the number of a field
 abbrev pub number_of : Field → ℕ
 number_of (One x) = x
 number_of (Two x) = x
