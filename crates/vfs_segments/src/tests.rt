@@ -1,12 +1,8 @@
-ghost use Rattle.std.specs.Prelude.{◌≡◌, ℕ, List, length, IfOk, MatchResult};
-ghost use Rattle.vfs_segments.specs.Answers.{Answers, Available, Taken, Read, ReadExact, ReadObj, Count, Moved, Filled, Fields, TooFew};
-
 use crate::{DescriptorType, Error, Reader, Writer};
 use std::alloc::{AllocError, Global};
 use std::io;
 use std::io::{ErrorKind, Read, Write};
 use std::test::Fail;
-use vfs_wire::ByteValued;
 
 // Segments of zeros, of these lengths.
 fn zeros(alloc: Global, lengths: &[usize]) -> Result<Vec<Vec<u8>>, AllocError> {
@@ -227,58 +223,6 @@ fn held_bytes_are_filled_after_those_behind_them(rt: HostRuntime) -> Result<(), 
         written[1].as_slice(),
         [10u8, 11, 12, 13, 14, 15, 0xaa, 0xbb, 0, 0].as_slice()
     );
-    Ok(())
-}
-
-// What each call of a reader promises is an answer, of which the law on readers of equal bytes speaks.
-
-fn asks_what_is_left(reader: &mut Reader) -> usize
-    ensures { Answers reader.old Available (Count result) reader.new }
-{
-    reader.available_bytes()
-}
-
-fn asks_what_was_taken(reader: &mut Reader) -> usize
-    ensures { Answers reader.old Taken (Count result) reader.new }
-{
-    reader.bytes_read()
-}
-
-fn asks_to_read(reader: &mut Reader, buf: &mut [u8]) -> io::Result<usize>
-    ensures { IfOk result (λ n. Answers reader.old (Read buf.old) (Moved n buf.new) reader.new) }
-{
-    reader.read(buf)
-}
-
-fn asks_to_fill(reader: &mut Reader, buf: &mut [u8]) -> io::Result<()>
-    ensures { MatchResult result
-        (λ _. Answers reader.old (ReadExact (length buf.old)) (Filled buf.new) reader.new)
-        (λ _. Answers reader.old (ReadExact (length buf.old)) TooFew reader.new) }
-{
-    reader.read_exact(buf)
-}
-
-fn asks_for_a_record<T: ByteValued>(reader: &mut Reader) -> io::Result<T>
-    ensures { MatchResult result
-        (λ x. (fields : List ℕ) × ((x ≡ T.table.made fields)
-        × Answers reader.old (ReadObj T.table.widths) (Fields fields) reader.new))
-        (λ _. Answers reader.old (ReadObj T.table.widths) TooFew reader.new) }
-{
-    reader.read_obj()
-}
-
-#[test]
-fn a_reader_answers_what_it_is_asked(rt: HostRuntime) -> Result<(), Fail> {
-    let segments = [&NUMBERED[..1], &NUMBERED[1..4]];
-    let mut reader = Reader::new(rt.alloc(), &segments)?;
-    assert_eq!(rt; asks_what_is_left(&mut reader), 4);
-    let mut buf = [0u8; 3];
-    asks_to_fill(&mut reader, &mut buf)?;
-    assert_eq!(rt; buf, [1, 2, 3]);
-    assert_eq!(rt; asks_to_read(&mut reader, &mut buf)?, 1);
-    assert_eq!(rt; buf, [4, 2, 3]);
-    assert_eq!(rt; asks_what_was_taken(&mut reader), 4);
-    assert!(rt; asks_for_a_record::<u8>(&mut reader).is_err());
     Ok(())
 }
 

@@ -4,7 +4,7 @@ ghost use Rattle.std.specs.Prelude.{◌≡◌, ◌+◌, ◌^◌, ◌<◌, ◌≤
 ghost use Rattle.std.specs.IoError.{error_kind};
 ghost use Rattle.std.specs.Io.{WritesAtMost};
 ghost use Rattle.std.specs.Io.KnownBytes.{Appends, Keeps, WriteAppends};
-ghost use Rattle.vfs_segments.specs.Segments.{contents, flat_bytes};
+ghost use Rattle.vfs_segments.specs.Segments.{contents, flat_bytes, lengths_of};
 ghost use Rattle.vfs_segments.specs.Written.{unwritten, wrote, first_room, rest_room, held_over, held_filled, whole};
 ghost use Rattle.vfs_wire.specs.Fields.{Fit, bytes_of};
 
@@ -52,7 +52,7 @@ impl Writer {
     /// `Error::OutOfMemory` where memory is refused, which can't be where there are no segments.
     /// A refusal drops the segments.
     pub fn new(_alloc: Global, segments: Vec<Vec<u8>>) -> Result<Writer>
-        ensures ok { IfOk result (λ w. w ≡ unwritten (flat_bytes (contents segments.items))) }
+        ensures ok { IfOk result (λ w. w ≡ unwritten (contents segments.items)) }
         ensures too_long { 2 ^ 64 ≤ length (flat_bytes (contents segments.items)) →
             result ≡ Err Error.DescriptorChainOverflow }
         ensures fits { length (flat_bytes (contents segments.items)) < 2 ^ 64 →
@@ -172,9 +172,11 @@ impl Writer {
         self.write_all(&buf[..T::SIZE])
     }
 
-    /// The segments, with what was written.
+    /// The segments, with what was written. Each has the length that it came with, but for one that
+    /// a split has cut.
     pub fn into_segments(self) -> Vec<Vec<u8>>
-        ensures { flat_bytes (contents result.items) ≡ whole self }
+        ensures bytes { flat_bytes (contents result.items) ≡ whole self }
+        ensures lengths { lengths_of (contents result.items) ≡ self.lengths }
     {
         let Writer {
             segments,
