@@ -20,6 +20,7 @@ mod record;
 mod scatter;
 #[cfg(test)]
 mod tests;
+pub mod uses;
 mod writer;
 
 pub use descriptor_type::DescriptorType;
