@@ -1,6 +1,9 @@
 -- The lengths of segments that are cut in two at a place.
-use Rattle.std.proofs.Common.{◌≡◌, ℕ, ◌+◌, ◌-◌, ◌<◌, ◌≤◌, List, [], ◌∷◌, ◌++◌, zero, suc, Bool, true, false, nat_lt, ◌==◌, length, take, drop, set, get_or, ap, ◌∙◌, sym, refl, arith, append-nil, length-append}
+use Rattle.std.proofs.Common.{◌≡◌, ℕ, ◌+◌, ◌-◌, ◌<◌, ◌≤◌, List, [], ◌∷◌, ◌++◌, zero, suc, Bool, true, false, nat_lt, ◌==◌, length, take, drop, set, get_or, ap, ◌∙◌, sym, refl, arith, ⊎_elim, append-nil, length-append}
 use Rattle.std.proofs.lemmas.List.{drop_more}
+use Rattle.std.proofs.lemmas.Bool.{cases_lt}
+use Rattle.std.proofs.lemmas.List.Sums.{sum_by-cons}
+use Rattle.std.specs.Prelude.{sum}
 use Rattle.std.proofs.lemmas.Bool.Decides.{nat_tests}
 use Rattle.std.specs.declared.vec.Vec.{Vec}
 use Rattle.std.specs.declared.alloc.Global.{Global}
@@ -28,6 +31,42 @@ lengths_from-inside at n ns h = let below : nat_lt at n ≡ true = grind (arith,
 
 lengths_from-past : (at n : ℕ) (ns : List ℕ) → n ≤ at → lengths_from at (n ∷ ns) ≡ lengths_from (at - n) ns
 lengths_from-past at n ns h = let past : nat_lt at n ≡ false = grind (arith, nat_tests) in rw past
+
+-- ---- how many bytes the parts have
+
+sum-cons : (n : ℕ) (ns : List ℕ) → sum (n ∷ ns) ≡ n + sum ns
+sum-cons n ns = sum_by-cons (λ x. x) n ns
+
+-- where the first segment ends before the place
+sum-past : (at n : ℕ) (ns : List ℕ) → n ≤ at → sum (lengths_before (at - n) ns) ≡ at - n → sum (lengths_before at (n ∷ ns)) ≡ at
+sum-past at n ns past rest =
+    ap sum (lengths_before-past at n ns past) ∙ sum-cons n (lengths_before (at - n) ns) ∙ omega (arith, rest)
+
+pub sum-lengths_before : (at : ℕ) (ns : List ℕ) → at ≤ sum ns → sum (lengths_before at ns) ≡ at
+sum-lengths_before at [] h = omega arith
+sum-lengths_before zero (n ∷ ns) h =
+    ⊎_elim
+    (λ (below : 0 < n). let test : nat_lt 0 n ≡ true = grind (arith, nat_tests) in rw test)
+    (λ (past : n ≤ 0). sum-past 0 n ns past (sum-lengths_before (0 - n) ns (omega arith)))
+    (cases_lt 0 n)
+sum-lengths_before (suc at) (n ∷ ns) h =
+    ⊎_elim
+    (λ (below : suc at < n).
+    ap sum (lengths_before-inside (suc at) n ns (omega arith) below) ∙ sum-cons (suc at) [] ∙ omega arith)
+    (λ (past : n ≤ suc at).
+    sum-past (suc at) n ns past (sum-lengths_before (suc at - n) ns (omega (arith, h, sum-cons n ns))))
+    (cases_lt (suc at) n)
+
+pub sum-lengths_from : (at : ℕ) (ns : List ℕ) → at ≤ sum ns → sum (lengths_from at ns) ≡ sum ns - at
+sum-lengths_from at [] h = omega arith
+sum-lengths_from at (n ∷ ns) h =
+    let all = sum-cons n ns in
+    ⊎_elim
+    (λ (below : at < n).
+    ap sum (lengths_from-inside at n ns below) ∙ sum-cons (n - at) ns ∙ omega (arith, all))
+    (λ (past : n ≤ at).
+    ap sum (lengths_from-past at n ns past) ∙ sum-lengths_from (at - n) ns (omega (arith, h, all)) ∙ omega (arith, all))
+    (cases_lt at n)
 
 -- ---- a place behind the first i segments
 

@@ -13,6 +13,22 @@ fn zeros(alloc: Global, lengths: &[usize]) -> Result<Vec<Vec<u8>>, AllocError> {
     Ok(segments)
 }
 
+// The segments as a reader takes them.
+fn slices_of(alloc: Global, segments: &[Vec<u8>]) -> Result<Vec<&[u8]>, AllocError> {
+    let mut slices = Vec::new(alloc);
+    for segment in segments {
+        slices.push(segment.as_slice())?;
+    }
+    Ok(slices)
+}
+
+// The next bytes of a reader.
+fn next_bytes(alloc: Global, reader: &mut Reader, n: usize) -> Result<Vec<u8>, Fail> {
+    let mut bytes = vec![in alloc; 0u8; n]?;
+    reader.read_exact(&mut bytes)?;
+    Ok(bytes)
+}
+
 // Which kind of error came, if one did.
 fn kind<T: Drop>(answer: io::Result<T>) -> Option<ErrorKind> {
     match answer {
@@ -20,6 +36,15 @@ fn kind<T: Drop>(answer: io::Result<T>) -> Option<ErrorKind> {
         Err(e) => Some(e.kind()),
     }
 }
+
+// How many bytes the largest write of a client has.
+const LARGEST_WRITE: usize = 65_536;
+
+// The lengths of a thousand segments, which have more than that.
+const THOUSAND: [usize; 1000] = [66; 1000];
+
+// A place inside the 501st of these.
+const MIDDLE: usize = 33_005;
 
 // The numbers from 1 on.
 const NUMBERED: [u8; 8] = [1, 2, 3, 4, 5, 6, 7, 8];
@@ -371,6 +396,34 @@ fn a_second_hold_takes_the_place_of_the_first(rt: HostRuntime) -> Result<(), Fai
     assert_eq!(rt; written.len(), 2);
     assert_eq!(rt; written[0].as_slice(), [0u8, 0, 1].as_slice());
     assert_eq!(rt; written[1].as_slice(), [2u8, 0, 0].as_slice());
+    Ok(())
+}
+
+#[test]
+fn a_thousand_segments_are_written_split_cloned_and_read(rt: HostRuntime) -> Result<(), Fail> {
+    let alloc = rt.alloc();
+    let mut bytes = vec![in alloc; 0u8; LARGEST_WRITE]?;
+    for (i, b) in bytes.iter_mut().enumerate() {
+        *b = (i % 251) as u8;
+    }
+    let mut writer = Writer::new(alloc, zeros(alloc, &THOUSAND)?)?;
+    writer.write_all(&bytes)?;
+    let rest = writer.split_at(200)?;
+    assert_eq!(rt;
+        (writer.available_bytes(), rest.available_bytes()),
+        (200, 264)
+    );
+    let written = writer.into_segments();
+    assert_eq!(rt; (written.len(), rest.into_segments().len()), (996, 4));
+
+    let slices = slices_of(alloc, &written)?;
+    let mut reader = Reader::new(alloc, &slices)?;
+    let mut clone = reader.clone()?;
+    assert!(rt; next_bytes(alloc, &mut clone, LARGEST_WRITE)?.as_slice() == bytes.as_slice());
+    let mut rest = reader.split_at(MIDDLE)?;
+    let mut halves = next_bytes(alloc, &mut reader, MIDDLE)?;
+    halves.extend_from_slice(&next_bytes(alloc, &mut rest, LARGEST_WRITE - MIDDLE)?)?;
+    assert!(rt; halves.as_slice() == bytes.as_slice());
     Ok(())
 }
 
