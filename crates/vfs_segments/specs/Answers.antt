@@ -1,4 +1,5 @@
--- What a reader is asked and what it answers, by the bytes that it has left and how many it has given.
+-- What a reader is asked and what it answers, by the bytes that it has left and how many it has
+-- given.
 use Rattle.std.specs.Prelude.{ℕ, ◌≡◌, ◌<◌, ◌≤◌, List, [], ◌∷◌, ◌++◌, length, take, drop, min, sum}
 use Rattle.vfs_wire.specs.Fields.{numbers}
 use Rattle.vfs_segments.specs.Segments.{flat_bytes}
@@ -47,7 +48,8 @@ AreAnswers u (q ∷ questions) [] v = ⊥
 AreAnswers u (q ∷ questions) (a ∷ answers) v =
     (m : Unread) × (Answers u q a m × AreAnswers m questions answers v)
 
--- two new readers of equal flat bytes answer every list of questions alike, however the bytes are cut
+-- two new readers of equal flat bytes answer every list of questions alike, however the bytes are
+-- cut
 abbrev pub AnswerAlike : Type 0
 AnswerAlike =
     (first second : List (List ℕ)) → flat_bytes first ≡ flat_bytes second →

@@ -6,7 +6,9 @@ use Rattle.std.specs.Prelude.{ℕ, ◌-◌, ◌==◌, List, [], ◌∷◌, nat_l
 abbrev pub lengths_before : ℕ → List ℕ → List ℕ
 lengths_before at [] = []
 lengths_before at (n ∷ lengths) =
-    if nat_lt at n then (if at == 0 then [] else (at ∷ [])) else (n ∷ lengths_before (at - n) lengths)
+    if nat_lt at n
+    then (if at == 0 then [] else (at ∷ []))
+    else (n ∷ lengths_before (at - n) lengths)
 
 -- the lengths of the segments from a place on, where one in which it lies begins there
 abbrev pub lengths_from : ℕ → List ℕ → List ℕ

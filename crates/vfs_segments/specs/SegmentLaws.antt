@@ -5,14 +5,16 @@ use Rattle.vfs_segments.specs.Segments.{with_bytes_at}
 use Rattle.vfs_segments.specs.Written.{Written, wrote, held_over, held_filled}
 
 -- through their end they are what stood before them, and they
-pub take-with_bytes_at : (at n : ℕ) (bs xs : List ℕ) → at ≤ length xs → n ≡ at + length bs → take n (with_bytes_at at bs xs) ≡ take at xs ++ bs
+pub take-with_bytes_at : (at n : ℕ) (bs xs : List ℕ) → at ≤ length xs → n ≡ at + length bs →
+    take n (with_bytes_at at bs xs) ≡ take at xs ++ bs
 unfolding with_bytes_at
 take-with_bytes_at at n bs xs h e =
     let front : length (take at xs ++ bs) ≡ n = omega (arith, length-append (take at xs) bs, length-take at xs) in
     ap (take n) (sym (append_assoc (take at xs) bs (drop (at + length bs) xs))) ∙ take_at (take at xs ++ bs) (drop (at + length bs) xs) n front
 
 -- bytes that stand in place of as many, behind xs
-pub with_bytes_at-append : (xs hole ys bs : List ℕ) → length bs ≡ length hole → with_bytes_at (length xs) bs (xs ++ hole ++ ys) ≡ xs ++ bs ++ ys
+pub with_bytes_at-append : (xs hole ys bs : List ℕ) → length bs ≡ length hole →
+    with_bytes_at (length xs) bs (xs ++ hole ++ ys) ≡ xs ++ bs ++ ys
 unfolding with_bytes_at
 with_bytes_at-append xs hole ys bs e =
     let k : length xs + length bs ≡ length (xs ++ hole) = omega (arith, length-append xs hole) in
@@ -21,12 +23,14 @@ with_bytes_at-append xs hole ys bs e =
     rw (front, back) (sym (append_assoc xs bs ys))
 
 -- the list keeps its length
-pub length-with_bytes_at : (at : ℕ) (bs xs : List ℕ) → at + length bs ≤ length xs → length (with_bytes_at at bs xs) ≡ length xs
+pub length-with_bytes_at : (at : ℕ) (bs xs : List ℕ) → at + length bs ≤ length xs →
+    length (with_bytes_at at bs xs) ≡ length xs
 unfolding with_bytes_at
 length-with_bytes_at at bs xs h = simp (length-append, length-take, length-drop) (omega arith)
 
 -- what a writer has passed once it held the place of a header, wrote a body and filled in the header
-pub passed-held_filled : (w : Written) (header body : List ℕ) → length header + length body ≤ length w.left →
+pub passed-held_filled : (w : Written) (header body : List ℕ) →
+    length header + length body ≤ length w.left →
     let v = held_over w (length header) in
     (held_filled (wrote v (take (length v.left) body)) header).passed ≡ w.passed ++ header ++ body
 passed-held_filled w header body h =

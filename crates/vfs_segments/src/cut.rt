@@ -33,9 +33,10 @@ fn place_of(segments: &[Vec<u8>], at: usize) -> (usize, usize)
 pub(crate) fn cut_off(segments: &mut Vec<Vec<u8>>, at: usize) -> Result<Vec<Vec<u8>>, AllocError>
     requires { at ≤ length (flat_bytes (contents segments.old.items)) }
     ensures front { OnOk result
-        (flat_bytes (contents segments.new.items) ≡ take at (flat_bytes (contents segments.old.items))) }
-    ensures back { IfOk result
-        (λ rest. flat_bytes (contents rest.items) ≡ drop at (flat_bytes (contents segments.old.items))) }
+        (flat_bytes (contents segments.new.items)
+        ≡ take at (flat_bytes (contents segments.old.items))) }
+    ensures back { IfOk result (λ rest. flat_bytes (contents rest.items)
+        ≡ drop at (flat_bytes (contents segments.old.items))) }
     ensures front_lengths { OnOk result (lengths_of (contents segments.new.items)
         ≡ lengths_before at (lengths_of (contents segments.old.items))) }
     ensures back_lengths { IfOk result (λ rest. lengths_of (contents rest.items)

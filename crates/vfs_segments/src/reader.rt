@@ -18,7 +18,8 @@ use std::io::{ErrorKind, Read};
 use std::marker::Model;
 use vfs_wire::ByteValued;
 
-/// Reads bytes from segments, wherever they are cut. It lends the segments, and takes each byte once.
+/// Reads bytes from segments, wherever they are cut. It lends the segments, and takes each byte
+/// once.
 ///
 /// Contracts see the flat bytes that are left and how many were taken.
 #[derive(Drop)]
@@ -47,7 +48,8 @@ impl<'a> Reader<'a> {
     /// `Error::DescriptorChainOverflow` where their lengths sum past `usize::MAX`, and
     /// `Error::OutOfMemory` where memory is refused.
     pub fn new(_alloc: Global, segments: &'a [&'a [u8]]) -> Result<Reader<'a>>
-        ensures ok { IfOk result (λ r. (r.left ≡ flat_bytes (segments_of segments.now)) × (r.taken ≡ 0)) }
+        ensures ok { IfOk result (λ r.
+            (r.left ≡ flat_bytes (segments_of segments.now)) × (r.taken ≡ 0)) }
         ensures too_long { 2 ^ 64 ≤ length (flat_bytes (segments_of segments.now)) →
             result ≡ Err Error.DescriptorChainOverflow }
         ensures fits { length (flat_bytes (segments_of segments.now)) < 2 ^ 64 →
@@ -83,8 +85,8 @@ impl<'a> Reader<'a> {
     /// Cuts this reader after the next `n` bytes. It keeps them and its count; the answer has the
     /// rest, of which nothing is taken.
     ///
-    /// `Error::SplitOutOfBounds` with `n` where fewer are left, and `Error::OutOfMemory` where memory
-    /// is refused. A refusal changes nothing.
+    /// `Error::SplitOutOfBounds` with `n` where fewer are left, and `Error::OutOfMemory` where
+    /// memory is refused. A refusal changes nothing.
     pub fn split_at(&mut self, n: usize) -> Result<Reader<'a>>
         ensures rest { IfOk result (λ r. r ≡ rest_of self.old n) }
         ensures kept { OnOk result (self.new ≡ first_of self.old n) }
@@ -164,7 +166,8 @@ impl<'a> Read for Reader<'a> {
     fn read(&mut self, buf: &mut [u8]) -> io::Result<usize>
         ensures bound { ReadsAtMost result buf.new }
         ensures bytes { ReadConsumes (Some self.old.left) (Some self.new.left) result buf.new }
-        ensures answers { IfOk result (λ n. Answers self.old (Read buf.old) (Moved n buf.new) self.new) }
+        ensures answers { IfOk result (λ n.
+            Answers self.old (Read buf.old) (Moved n buf.new) self.new) }
         ensures count { result ≡ Ok (min (length buf.old) (length self.old.left)) }
         ensures copied { IfOk result (λ n. buf.new ≡ take n self.old.left ++ drop n buf.old) }
         ensures moved { IfOk result (λ n. self.new ≡ advanced self.old n) }

@@ -18,12 +18,14 @@ use std::io::{ErrorKind, Write};
 use std::marker::Model;
 use vfs_wire::ByteValued;
 
-/// Writes bytes over those of its segments, wherever they are cut. The segments' lengths are its room.
+/// Writes bytes over those of its segments, wherever they are cut. The segments' lengths are its
+/// room.
 ///
 /// It can pass over some bytes and hold their place, as that of a header whose numbers are known
 /// only once what follows it is written.
 ///
-/// Contracts see the flat bytes that it has passed, those that are left, and the held place.
+/// Contracts see the flat bytes that it has passed, those that are left, the held place, and the
+/// segments' lengths.
 #[derive(Drop)]
 pub struct Writer {
     segments: Vec<Vec<u8>>,
@@ -46,7 +48,8 @@ impl Model for Writer {
 }
 
 impl Writer {
-    /// A writer over the segments, of which any may be empty. Their bytes are there to be written over.
+    /// A writer over the segments, of which any may be empty. Their bytes are there to be written
+    /// over.
     ///
     /// `Error::DescriptorChainOverflow` where their lengths sum past `usize::MAX`, and
     /// `Error::OutOfMemory` where memory is refused, which can't be where there are no segments.
@@ -92,11 +95,12 @@ impl Writer {
         self.held
     }
 
-    /// Cuts the room after the next `n` bytes. This writer keeps them, what it has passed and what it
-    /// holds; the answer has the rest, has passed nothing and holds nothing.
+    /// Cuts the room after the next `n` bytes. This writer keeps them, what it has passed and what
+    /// it holds; the answer has the rest, has passed nothing and holds nothing. A segment in which
+    /// the place lies is cut in two.
     ///
-    /// `Error::SplitOutOfBounds` with `n` where fewer are left, and `Error::OutOfMemory` where memory
-    /// is refused. A refusal changes nothing.
+    /// `Error::SplitOutOfBounds` with `n` where fewer are left, and `Error::OutOfMemory` where
+    /// memory is refused. A refusal changes nothing.
     pub fn split_at(&mut self, n: usize) -> Result<Writer>
         ensures rest { IfOk result (λ w. w ≡ rest_room self.old n) }
         ensures kept { OnOk result (self.new ≡ first_room self.old n) }
@@ -162,8 +166,9 @@ impl Writer {
     /// Where fewer are left the error's kind is `WriteZero`, and the record's beginning fills them.
     pub fn write_obj<T: ByteValued + Drop>(&mut self, x: T) -> io::Result<()>
         ensures variant { IsOk result ↔ (T.SIZE ≤ length self.old.left) }
-        ensures wrote { self.new ≡ wrote self.old (take (length self.old.left) (bytes_of T.table x)) }
-        ensures full { IfErr result (λ e. error_kind e ≡ ErrorKind.WriteZero) }
+        ensures wrote { self.new ≡
+            wrote self.old (take (length self.old.left) (bytes_of T.table x)) }
+        ensures full { IfErr result (λ fault. error_kind fault ≡ ErrorKind.WriteZero) }
         ensures in_width { Fit T.table.widths (T.table.fields x) }
         ensures in_range { T.in_range x }
     {
@@ -217,9 +222,11 @@ impl Write for Writer {
 
     /// Writes the bytes.
     ///
-    /// Where fewer are left the error's kind is `WriteZero`, and the beginning that fits is written.
+    /// Where fewer are left the error's kind is `WriteZero`, and the beginning that fits is
+    /// written.
     fn write_all(&mut self, buf: &[u8]) -> io::Result<()>
-        ensures bytes { OnOk result (Appends (Some self.old.passed) (Some self.new.passed) buf.now) }
+        ensures bytes { OnOk result
+            (Appends (Some self.old.passed) (Some self.new.passed) buf.now) }
         ensures variant { IsOk result ↔ (length buf.now ≤ length self.old.left) }
         ensures wrote { self.new ≡ wrote self.old (take (length self.old.left) buf.now) }
         ensures full { IfErr result (λ e. error_kind e ≡ ErrorKind.WriteZero) }

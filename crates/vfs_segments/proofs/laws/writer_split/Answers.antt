@@ -1,5 +1,4 @@
-use Rattle.std.proofs.Common.{arith, ◌≡◌, ◌+◌, ◌≤◌, ◌∙◌, length, length-append, length-take, length-drop, take, drop}
-use Rattle.std.specs.Prelude.{sum}
+use Rattle.std.proofs.Common.{arith, ◌+◌, ◌∙◌, length, length-append, length-take, length-drop, take}
 use Rattle.vfs_segments.proofs.LengthCuts.{sum-lengths_before, sum-lengths_from}
 use Rattle.vfs_segments.proofs.laws.writer_split.Goals as goal
 

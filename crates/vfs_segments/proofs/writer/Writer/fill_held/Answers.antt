@@ -1,4 +1,4 @@
-use Rattle.std.proofs.Common.{arith, ap, ◌∙◌, ◌≡◌, refl, sym, length, map, ℕ}
+use Rattle.std.proofs.Common.{arith, ap, ◌∙◌, ◌≡◌, refl, sym, length}
 use Rattle.std.proofs.lemmas.List.{with_items_is}
 use Rattle.std.specs.List.{concat}
 use Rattle.std.specs.Vec.{with_items}

@@ -1,4 +1,4 @@
-use Rattle.std.proofs.Common.{arith, ap, ◌∙◌, ◌+◌, ◌-◌, ◌≤◌, refl, length, length-drop, map, ℕ}
+use Rattle.std.proofs.Common.{arith, ap, ◌∙◌, ◌+◌, ◌-◌, ◌≤◌, refl, length, length-drop}
 use Rattle.std.proofs.lemmas.List.{with_items_is}
 use Rattle.std.specs.List.{concat}
 use Rattle.std.specs.Vec.{with_items}
