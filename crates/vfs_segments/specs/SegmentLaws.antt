@@ -9,8 +9,10 @@ pub take-with_bytes_at : (at n : ℕ) (bs xs : List ℕ) → at ≤ length xs �
     take n (with_bytes_at at bs xs) ≡ take at xs ++ bs
 unfolding with_bytes_at
 take-with_bytes_at at n bs xs h e =
-    let front : length (take at xs ++ bs) ≡ n = omega (arith, length-append (take at xs) bs, length-take at xs) in
-    ap (take n) (sym (append_assoc (take at xs) bs (drop (at + length bs) xs))) ∙ take_at (take at xs ++ bs) (drop (at + length bs) xs) n front
+    let first = take at xs in
+    let rest = drop (at + length bs) xs in
+    let front : length (first ++ bs) ≡ n = omega (arith, length-append first bs, length-take at xs) in
+    ap (take n) (sym (append_assoc first bs rest)) ∙ take_at (first ++ bs) rest n front
 
 -- bytes that stand in place of as many, behind xs
 pub with_bytes_at-append : (xs hole ys bs : List ℕ) → length bs ≡ length hole →
@@ -18,8 +20,10 @@ pub with_bytes_at-append : (xs hole ys bs : List ℕ) → length bs ≡ length h
 unfolding with_bytes_at
 with_bytes_at-append xs hole ys bs e =
     let k : length xs + length bs ≡ length (xs ++ hole) = omega (arith, length-append xs hole) in
-    let front : take (length xs) (xs ++ hole ++ ys) ≡ xs = ap (take (length xs)) (append_assoc xs hole ys) ∙ take_at xs (hole ++ ys) (length xs) refl in
-    let back : drop (length xs + length bs) (xs ++ hole ++ ys) ≡ ys = drop_at (xs ++ hole) ys (length xs + length bs) (sym k) in
+    let front : take (length xs) (xs ++ hole ++ ys) ≡ xs =
+    ap (take (length xs)) (append_assoc xs hole ys) ∙ take_at xs (hole ++ ys) (length xs) refl in
+    let back : drop (length xs + length bs) (xs ++ hole ++ ys) ≡ ys =
+    drop_at (xs ++ hole) ys (length xs + length bs) (sym k) in
     rw (front, back) (sym (append_assoc xs bs ys))
 
 -- the list keeps its length
@@ -28,7 +32,8 @@ pub length-with_bytes_at : (at : ℕ) (bs xs : List ℕ) → at + length bs ≤ 
 unfolding with_bytes_at
 length-with_bytes_at at bs xs h = simp (length-append, length-take, length-drop) (omega arith)
 
--- what a writer has passed once it held the place of a header, wrote a body and filled in the header
+-- what a writer has passed once it held the place of a header, wrote a body and filled in the
+-- header
 pub passed-held_filled : (w : Written) (header body : List ℕ) →
     length header + length body ≤ length w.left →
     let v = held_over w (length header) in
@@ -36,5 +41,6 @@ pub passed-held_filled : (w : Written) (header body : List ℕ) →
 passed-held_filled w header body h =
     let n = length header in
     let hole : length header ≡ length (take n w.left) = omega (arith, length-take n w.left) in
-    let all : take (length (drop n w.left)) body ≡ body = take_all (length (drop n w.left)) body (omega (arith, length-drop n w.left)) in
+    let room = length (drop n w.left) in
+    let all : take room body ≡ body = take_all room body (omega (arith, length-drop n w.left)) in
     rw all (with_bytes_at-append w.passed (take n w.left) body header hole)

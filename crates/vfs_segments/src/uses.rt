@@ -1,8 +1,8 @@
 //! Examples of readers and writers. Each function makes a few calls and says what comes of them,
 //! proved by the calls' public contracts alone.
 
-ghost use Rattle.std.specs.Prelude.{◌≡◌, ◌+◌, ◌<◌, ◌≤◌, ◌++◌, [], ◌∷◌, length, take, drop, IfOk, OnOk, Some, Ok};
-ghost use Rattle.vfs_segments.specs.Answers.{AreAnswers, Available, Taken, Read, ReadExact, ReadObj, Count, Moved, Filled, TooFew};
+ghost use Rattle.std.specs.Prelude.{◌≡◌, ◌+◌, ◌^◌, ◌<◌, ◌≤◌, ◌++◌, [], ◌∷◌, length, take, drop, IfOk, IfErr, OnOk, OnErr};
+ghost use Rattle.vfs_segments.specs.Answers.{AreAnswers, Available, Taken, Read, Count, Moved};
 ghost use Rattle.vfs_segments.specs.Segments.{contents, flat_bytes, lengths_of};
 ghost use Rattle.vfs_wire.specs.Fields.{bytes_of, lone_number, value_of};
 
@@ -11,14 +11,35 @@ use std::alloc::Global;
 use std::io;
 use std::io::{ErrorKind, Read, Write};
 
-/// A new reader of two segments has the bytes of both left, and has given none.
+/// A new reader of two segments has the bytes of both left, and has given none. It is refused where
+/// they are too many to count, and else only for want of memory.
 pub fn counts_of_a_new_reader(alloc: Global, first: &[u8], second: &[u8]) -> Result<(usize, usize)>
     ensures left { IfOk result (λ counts. counts.0 ≡ length first.now + length second.now) }
     ensures taken { IfOk result (λ counts. counts.1 ≡ 0) }
+    ensures too_long { 2 ^ 64 ≤ length first.now + length second.now →
+        result ≡ Err Error.DescriptorChainOverflow }
+    ensures fits { length first.now + length second.now < 2 ^ 64 →
+        IfErr result (λ e. e ≡ Error.OutOfMemory) }
 {
     let segments = [first, second];
     let reader = Reader::new(alloc, &segments)?;
     Ok((reader.available_bytes(), reader.bytes_read()))
+}
+
+/// A reader of two segments gives the bytes of the first and then those of the second.
+pub fn read_over_two_segments(
+    alloc: Global,
+    first: &[u8],
+    second: &[u8],
+    buf: &mut [u8],
+) -> Result<()>
+    requires { length buf.old ≡ length first.now + length second.now }
+    ensures { OnOk result (buf.new ≡ first.now ++ second.now) }
+{
+    let segments = [first, second];
+    let mut reader = Reader::new(alloc, &segments)?;
+    reader.read_exact(buf).unwrap();
+    Ok(())
 }
 
 /// A read into six bytes where four are left moves these four. The rest of the buffer stays.
@@ -82,15 +103,18 @@ pub fn number_of_four_bytes(reader: &mut Reader<'_>) -> u32
     reader.read_obj().unwrap()
 }
 
-/// A reader of eight bytes, of which none is taken, is cut after three.
-pub fn counts_of_a_split(reader: &mut Reader<'_>) -> Result<(usize, usize)>
+/// A reader that has eight bytes left is cut after three: it keeps these and its count, and the rest
+/// begins anew. Only memory can be wanting, and then the reader is as it was.
+pub fn split_after_three_bytes<'a>(reader: &mut Reader<'a>) -> Result<Reader<'a>>
     requires { length reader.old.left ≡ 8 }
-    ensures first { IfOk result (λ counts. counts.0 ≡ 3) }
-    ensures rest { IfOk result (λ counts. counts.1 ≡ 5) }
-    ensures bytes { OnOk result (reader.new.left ≡ take 3 reader.old.left) }
+    ensures first { OnOk result (reader.new.left ≡ take 3 reader.old.left) }
+    ensures count { OnOk result (reader.new.taken ≡ reader.old.taken) }
+    ensures rest { IfOk result (λ rest. rest.left ≡ drop 3 reader.old.left) }
+    ensures anew { IfOk result (λ rest. rest.taken ≡ 0) }
+    ensures err { IfErr result (λ e. e ≡ Error.OutOfMemory) }
+    ensures same { OnErr result (reader.new ≡ reader.old) }
 {
-    let rest = reader.split_at(3)?;
-    Ok((reader.available_bytes(), rest.available_bytes()))
+    reader.split_at(3)
 }
 
 /// A split past what is left is refused by its place, and the reader is as it was.
@@ -144,6 +168,24 @@ pub fn write_of_what_fits(writer: &mut Writer, bytes: &[u8]) -> io::Result<usize
     ensures full { writer.new.left ≡ [] }
 {
     writer.write(bytes)
+}
+
+/// Of a room of twenty bytes sixteen are held and two written: two are left.
+pub fn counts_after_a_hold(writer: &mut Writer, bytes: &[u8]) -> (usize, usize, usize)
+    requires passed { writer.old.passed ≡ [] }
+    requires room { length writer.old.left ≡ 20 }
+    requires two { length bytes.now ≡ 2 }
+    ensures held { result.0 ≡ 16 }
+    ensures written { result.1 ≡ 18 }
+    ensures left { result.2 ≡ 2 }
+{
+    writer.hold(16).unwrap();
+    writer.write_all(bytes).unwrap();
+    (
+        writer.held(),
+        writer.bytes_written(),
+        writer.available_bytes(),
+    )
 }
 
 /// Where bytes don't fit, the error's kind is `WriteZero`, and those that fit are written.
@@ -207,7 +249,7 @@ pub fn refused_hold(writer: &mut Writer) -> Option<Error>
 }
 
 /// A new writer over two segments of four bytes is cut after six: its second segment has two bytes
-/// then, and the rest is one of two.
+/// then, and the rest is one of two. Only memory can be wanting, and then the writer is as it was.
 pub fn split_inside_a_segment(writer: &mut Writer) -> Result<Writer>
     requires passed { writer.old.passed ≡ [] }
     requires left { length writer.old.left ≡ 8 }
@@ -216,6 +258,8 @@ pub fn split_inside_a_segment(writer: &mut Writer) -> Result<Writer>
     ensures rest { IfOk result (λ rest. rest.lengths ≡ 2 ∷ []) }
     ensures first_bytes { OnOk result (writer.new.left ≡ take 6 writer.old.left) }
     ensures rest_bytes { IfOk result (λ rest. rest.left ≡ drop 6 writer.old.left) }
+    ensures err { IfErr result (λ e. e ≡ Error.OutOfMemory) }
+    ensures same { OnErr result (writer.new ≡ writer.old) }
 {
     writer.split_at(6)
 }
@@ -230,7 +274,7 @@ pub fn refused_room_split(writer: &mut Writer) -> Option<Error>
 }
 
 /// The segments that a writer gives back have the lengths of those that it was given, and what was
-/// written stands in place of the first bytes.
+/// written stands in place of the first bytes. Where they can be counted, only memory can be wanting.
 pub fn segments_with_what_was_written(
     alloc: Global,
     segments: Vec<Vec<u8>>,
@@ -241,6 +285,10 @@ pub fn segments_with_what_was_written(
         lengths_of (contents written.items) ≡ lengths_of (contents segments.items)) }
     ensures bytes { IfOk result (λ written. flat_bytes (contents written.items) ≡
         bytes.now ++ drop (length bytes.now) (flat_bytes (contents segments.items))) }
+    ensures too_long { 2 ^ 64 ≤ length (flat_bytes (contents segments.items)) →
+        result ≡ Err Error.DescriptorChainOverflow }
+    ensures fits { length (flat_bytes (contents segments.items)) < 2 ^ 64 →
+        IfErr result (λ e. e ≡ Error.OutOfMemory) }
 {
     let mut writer = Writer::new(alloc, segments)?;
     writer.write_all(bytes).unwrap();
