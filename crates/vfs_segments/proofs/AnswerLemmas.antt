@@ -62,7 +62,7 @@ all-same u t e (q ∷ questions) (a ∷ answers) (b ∷ others) v w p r =
 -- so do two new readers of equal flat bytes
 pub alike : AnswerAlike
 alike first second e u t m n questions answers others v w p r =
-    let start : AreAlike u t = record { left = m.left ∙ e ∙ sym n.left; taken = m.taken ∙ sym n.taken } in
+    let start : AreAlike u t = record { left = m.0 ∙ e ∙ sym n.0; taken = m.1 ∙ sym n.1 } in
     all-same u t start questions answers others v w p r
 
 -- a reader has advanced to where it stands n bytes on

@@ -7,9 +7,8 @@ pub record Unread : Type 0 where
   pub taken : ℕ
 
 -- a reader of these bytes that has given nothing
-pub record IsUnread (bytes : List ℕ) (u : Unread) : Type 0 where
-  pub left : u.left ≡ bytes
-  pub taken : u.taken ≡ 0
+abbrev pub IsUnread : List ℕ → Unread → Type 0
+IsUnread bytes u = (u.left ≡ bytes) × (u.taken ≡ 0)
 
 -- two readers have the same bytes left and have given as many
 pub record AreAlike (u v : Unread) : Type 0 where

@@ -6,7 +6,7 @@ ghost use Rattle.std.specs.Io.{ReadsAtMost};
 ghost use Rattle.std.specs.Io.KnownBytes.{Consumes, ReadConsumes};
 ghost use Rattle.vfs_segments.specs.Answers.{Answers, Available, Taken, Read, ReadExact, ReadObj, Count, Moved, Filled, Fields, TooFew};
 ghost use Rattle.vfs_segments.specs.Segments.{segments_of, flat_bytes};
-ghost use Rattle.vfs_segments.specs.Unread.{advanced, first_of, rest_of};
+ghost use Rattle.vfs_segments.specs.Unread.{IsUnread, advanced, first_of, rest_of};
 ghost use Rattle.vfs_wire.specs.Fields.{Fit, value_of};
 
 use crate::error::{Error, Result};
@@ -48,8 +48,7 @@ impl<'a> Reader<'a> {
     /// `Error::DescriptorChainOverflow` where their lengths sum past `usize::MAX`, and
     /// `Error::OutOfMemory` where memory is refused.
     pub fn new(_alloc: Global, segments: &'a [&'a [u8]]) -> Result<Reader<'a>>
-        ensures ok { IfOk result (λ r.
-            (r.left ≡ flat_bytes (segments_of segments.now)) × (r.taken ≡ 0)) }
+        ensures ok { IfOk result (IsUnread (flat_bytes (segments_of segments.now))) }
         ensures too_long { 2 ^ 64 ≤ length (flat_bytes (segments_of segments.now)) →
             result ≡ Err Error.DescriptorChainOverflow }
         ensures fits { length (flat_bytes (segments_of segments.now)) < 2 ^ 64 →
