@@ -24,8 +24,10 @@ whole-same u t n this that a b v w e p q f =
     let size : length u.left ≡ length t.left = ap length e.left in
     ⊎_elim
     (λ (h : length u.left < n).
-    let k : length t.left < n = omega arith in
-    ((p.short h).0 ∙ sym ((q.short k).0), advance u t v w (length u.left) (length t.left) size e (p.short h).1 (q.short k).1))
+    let k : length t.left < n = omega arith in (
+      (p.short h).0 ∙ sym ((q.short k).0),
+      advance u t v w (length u.left) (length t.left) size e (p.short h).1 (q.short k).1,
+    ))
     (λ (h : n ≤ length u.left).
     let k : n ≤ length t.left = omega arith in
     ((p.enough h).0 ∙ f ∙ sym ((q.enough k).0), advance u t v w n n refl e (p.enough h).1 (q.enough k).1))
@@ -74,8 +76,26 @@ whole-answer : (u : Unread) (n : ℕ) (this : Answer) →
     (a : Answer) × ((v : Unread) × AnswersWhole u n this a v)
 whole-answer u n this =
     ⊎_elim
-    (λ (h : length u.left < n). (TooFew, (advanced u (length u.left), record { enough = λ k. absurd (omega arith); short = λ k. (refl, advanced-is u (length u.left)) })))
-    (λ (h : n ≤ length u.left). (this, (advanced u n, record { enough = λ k. (refl, advanced-is u n); short = λ k. absurd (omega arith) })))
+    (λ (h : length u.left < n). (
+      TooFew,
+      (
+        advanced u (length u.left),
+        record {
+          enough = λ k. absurd (omega arith);
+          short = λ k. (refl, advanced-is u (length u.left));
+        },
+      ),
+    ))
+    (λ (h : n ≤ length u.left). (
+      this,
+      (
+        advanced u n,
+        record {
+          enough = λ k. (refl, advanced-is u n);
+          short = λ k. absurd (omega arith);
+        },
+      ),
+    ))
     (cases_lt (length u.left) n)
 
 -- there is one to each question

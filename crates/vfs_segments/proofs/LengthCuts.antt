@@ -154,7 +154,9 @@ inside_lengths_before xs i inside at s head h r e p w k =
     let more : drop i xs ≡ s ∷ rest = drop_more xs i s h ∙ ap (λ v. v ∷ rest) r in
     let cut : lengths_before at (held_lengths xs) ≡ held_lengths (take i xs) ++ inside ∷ [] =
     lengths_before-at xs i inside at e
-    ∙ ap (λ l. held_lengths (take i xs) ++ l) (ap (λ l. lengths_before inside (held_lengths l)) more ∙ lengths_before-inside inside (length s.items) (held_lengths rest) p w) in
+    ∙ ap (λ l. held_lengths (take i xs) ++ l)
+    (ap (λ l. lengths_before inside (held_lengths l)) more
+    ∙ lengths_before-inside inside (length s.items) (held_lengths rest) p w) in
     held_lengths-append (take i xs) (head ∷ []) ∙ ap (λ n. held_lengths (take i xs) ++ n ∷ []) k ∙ sym cut
 
 -- the lengths of its second part, and of the segments behind it
@@ -167,5 +169,6 @@ inside_lengths_from xs i inside at s tail h r e w k =
     let more : drop i xs ≡ s ∷ rest = drop_more xs i s h ∙ ap (λ v. v ∷ rest) r in
     let cut : lengths_from at (held_lengths xs) ≡ (length s.items - inside) ∷ held_lengths rest =
     lengths_from-at xs i inside at e
-    ∙ ap (λ l. lengths_from inside (held_lengths l)) more ∙ lengths_from-inside inside (length s.items) (held_lengths rest) w in
+    ∙ ap (λ l. lengths_from inside (held_lengths l)) more
+    ∙ lengths_from-inside inside (length s.items) (held_lengths rest) w in
     ap (λ (l : List (Vec ℕ Global)). held_lengths (set l 0 tail)) more ∙ ap (λ n. n ∷ held_lengths rest) k ∙ sym cut

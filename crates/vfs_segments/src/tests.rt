@@ -40,11 +40,18 @@ fn kind<T: Drop>(answer: io::Result<T>) -> Option<ErrorKind> {
 // How many bytes the largest write of a client has.
 const LARGEST_WRITE: usize = 65_536;
 
-// The lengths of a thousand segments, which have more than that.
-const THOUSAND: [usize; 1000] = [66; 1000];
-
-// A place inside the 501st of these.
+// A place inside the ninth of the segments below that have bytes.
 const MIDDLE: usize = 33_005;
+
+// The lengths of a thousand segments, of which sixteen have bytes, 66,000 in all. The others need no
+// memory of their own, so that a test can refuse each allocation in turn.
+fn thousand_lengths() -> [usize; 1000] {
+    let mut lengths = [0; 1000];
+    for i in 0..16 {
+        lengths[i * 62] = 4_125;
+    }
+    lengths
+}
 
 // The numbers from 1 on.
 const NUMBERED: [u8; 8] = [1, 2, 3, 4, 5, 6, 7, 8];
@@ -406,7 +413,7 @@ fn a_thousand_segments_are_written_split_cloned_and_read(rt: HostRuntime) -> Res
     for (i, b) in bytes.iter_mut().enumerate() {
         *b = (i % 251) as u8;
     }
-    let mut writer = Writer::new(alloc, zeros(alloc, &THOUSAND)?)?;
+    let mut writer = Writer::new(alloc, zeros(alloc, &thousand_lengths())?)?;
     writer.write_all(&bytes)?;
     let rest = writer.split_at(200)?;
     assert_eq!(rt;
@@ -414,7 +421,7 @@ fn a_thousand_segments_are_written_split_cloned_and_read(rt: HostRuntime) -> Res
         (200, 264)
     );
     let written = writer.into_segments();
-    assert_eq!(rt; (written.len(), rest.into_segments().len()), (996, 4));
+    assert_eq!(rt; (written.len(), rest.into_segments().len()), (931, 70));
 
     let slices = slices_of(alloc, &written)?;
     let mut reader = Reader::new(alloc, &slices)?;

@@ -62,7 +62,8 @@ returns-then-inside-eq0-clause-front_lengths c =
     let some = rw c.deref.ensures.value at c.place_of-first.ensures.before_end in
     let e : length (held_flat (take i xs)) ≡ c.args.at = omega (arith, place) in
     on_ok_weaker c.split_off.result
-    (λ (h : c.split_off.new.self.items ≡ take i xs). ap held_lengths h ∙ between_lengths_before xs i c.args.at e (λ h. omega (arith, some h)))
+    (λ (h : c.split_off.new.self.items ≡ take i xs).
+    ap held_lengths h ∙ between_lengths_before xs i c.args.at e (λ h. omega (arith, some h)))
     c.split_off.ensures.items
 
 pub returns-then-inside-eq0-clause-back_lengths : goal.returns-then-inside-eq0-clause-back_lengths
@@ -73,7 +74,8 @@ returns-then-inside-eq0-clause-back_lengths c =
     let some = rw c.deref.ensures.value at c.place_of-first.ensures.before_end in
     let e : length (held_flat (take i xs)) ≡ c.args.at = omega (arith, place) in
     IfOk-weaker c.split_off.result _ _
-    (λ w h. ap held_lengths h ∙ between_lengths_from xs i c.args.at e (λ h. omega (arith, some h))) c.split_off.ensures.tail
+    (λ w h. ap held_lengths h ∙ between_lengths_from xs i c.args.at e (λ h. omega (arith, some h)))
+    c.split_off.ensures.tail
 
 pub returns-clause-front_lengths : goal.returns-clause-front_lengths
 returns-clause-front_lengths c =
@@ -90,7 +92,8 @@ returns-clause-front_lengths c =
     let head : c.truncate.new.self.items ≡ take n s.items = c.truncate.ensures.items ∙ ap (λ (v : Vec ℕ Global). take n v.items) c.replace-head.ensures.value in
     let pushed = rw c.unwrap.ensures at c.push.ensures.items in
     ap held_lengths (pushed ∙ ap (λ l. l ++ c.truncate.new.self ∷ []) c.in_ok-rest.ensures.items)
-    ∙ inside_lengths_before xs i n c.args.at s c.truncate.new.self listed r place (omega arith) below (omega (arith, ap length head, length-take n s.items))
+    ∙ inside_lengths_before xs i n c.args.at s c.truncate.new.self listed r place (omega arith) below
+    (omega (arith, ap length head, length-take n s.items))
 
 pub returns-clause-back_lengths : goal.returns-clause-back_lengths
 returns-clause-back_lengths c =
@@ -107,4 +110,5 @@ returns-clause-back_lengths c =
     let copied : c.in_ok-tail.tail.items ≡ drop n s.items = grind (arith, common_steps) in
     let tail : c.replace-head.new.dest.items ≡ drop n s.items = ap (λ (v : Vec ℕ Global). v.items) c.replace-head.ensures.after ∙ copied in
     ap (λ (l : List (Vec ℕ Global)). held_lengths (set l 0 c.replace-head.new.dest)) c.in_ok-rest.ensures.tail
-    ∙ inside_lengths_from xs i n c.args.at s c.replace-head.new.dest listed r place below (omega (arith, ap length tail, length-drop n s.items))
+    ∙ inside_lengths_from xs i n c.args.at s c.replace-head.new.dest listed r place below
+    (omega (arith, ap length tail, length-drop n s.items))

@@ -9,5 +9,6 @@ returns-clause-wrote c =
     let body = c.args.body.now in
     let held = rw c.unwrap.ensures at c.hold.ensures.held in
     ap (λ (w : Written). w.passed) c.fill_held.ensures
-    ∙ ap (λ (w : Written). (held_filled w header).passed) (c.write_all.ensures.wrote ∙ ap (λ (w : Written). wrote w (take (length w.left) body)) held)
+    ∙ ap (λ (w : Written). (held_filled w header).passed)
+    (c.write_all.ensures.wrote ∙ ap (λ (w : Written). wrote w (take (length w.left) body)) held)
     ∙ passed-held_filled c.args.writer.now header body c.requires
