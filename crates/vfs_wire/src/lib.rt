@@ -17,6 +17,7 @@ mod files;
 mod headers;
 mod init;
 mod laws;
+pub mod layouts;
 mod listings;
 mod names;
 mod numbers;
@@ -25,6 +26,7 @@ mod ranges;
 mod stat;
 #[cfg(test)]
 mod tests;
+pub mod uses;
 mod xattrs;
 
 pub use attributes::{Attr, AttrOut, GetattrIn, SetattrIn};

@@ -1,0 +1,3 @@
+//! Calls of this crate, each with a fact that its contracts give.
+
+pub mod defaults;
