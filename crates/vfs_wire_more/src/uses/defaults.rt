@@ -10,9 +10,9 @@ ghost use Rattle.vfs_wire_more.specs.Mappings.{setupmapping_in, removemapping_in
 ghost use Rattle.vfs_wire_more.specs.Notifications.{notify_poll_wakeup_out, notify_inval_inode_out, notify_inval_entry_out, notify_delete_out, notify_store_out, notify_retrieve_out, notify_retrieve_in};
 
 use crate::{
-    BmapIn, BmapOut, Direntplus, FileLock, InterruptIn, IoctlIn, IoctlIovec, IoctlOut, LkIn,
-    LkOut, NotifyDeleteOut, NotifyInvalEntryOut, NotifyInvalInodeOut, NotifyPollWakeupOut,
-    NotifyRetrieveIn, NotifyStoreOut, Notify_Retrieve_Out, PollIn, PollOut, RemovemappingIn,
+    BmapIn, BmapOut, Direntplus, FileLock, InterruptIn, IoctlIn, IoctlIovec, IoctlOut, LkIn, LkOut,
+    Notify_Retrieve_Out, NotifyDeleteOut, NotifyInvalEntryOut, NotifyInvalInodeOut,
+    NotifyPollWakeupOut, NotifyRetrieveIn, NotifyStoreOut, PollIn, PollOut, RemovemappingIn,
     RemovemappingOne, SecctxHeader, SetupmappingIn, StatfsOut, SyncfsIn,
 };
 
@@ -22,10 +22,7 @@ pub fn listings() -> (StatfsOut, Direntplus)
     ensures statfs_out { bytes_of statfs_out result.0 ≡ replicate 80 0 }
     ensures direntplus { bytes_of direntplus result.1 ≡ replicate 152 0 }
 {
-    (
-        StatfsOut::default(),
-        Direntplus::default(),
-    )
+    (StatfsOut::default(), Direntplus::default())
 }
 
 /// The headers of extensions, with nothing set.
@@ -54,7 +51,16 @@ pub fn locks() -> (FileLock, LkIn, LkOut, InterruptIn)
 
 /// The records of requests to devices, with nothing set.
 #[tactic(auto, unfolding(vfs_wire::specs::Fields::little))]
-pub fn devices() -> (BmapIn, BmapOut, IoctlIn, IoctlIovec, IoctlOut, PollIn, PollOut, SyncfsIn)
+pub fn devices() -> (
+    BmapIn,
+    BmapOut,
+    IoctlIn,
+    IoctlIovec,
+    IoctlOut,
+    PollIn,
+    PollOut,
+    SyncfsIn,
+)
     ensures bmap_in { bytes_of bmap_in result.0 ≡ replicate 16 0 }
     ensures bmap_out { bytes_of bmap_out result.1 ≡ replicate 8 0 }
     ensures ioctl_in { bytes_of ioctl_in result.2 ≡ replicate 32 0 }
@@ -92,7 +98,15 @@ pub fn mappings() -> (SetupmappingIn, RemovemappingIn, RemovemappingOne)
 
 /// The records of notifications, with nothing set.
 #[tactic(auto, unfolding(vfs_wire::specs::Fields::little))]
-pub fn notifications() -> (NotifyPollWakeupOut, NotifyInvalInodeOut, NotifyInvalEntryOut, NotifyDeleteOut, NotifyStoreOut, Notify_Retrieve_Out, NotifyRetrieveIn)
+pub fn notifications() -> (
+    NotifyPollWakeupOut,
+    NotifyInvalInodeOut,
+    NotifyInvalEntryOut,
+    NotifyDeleteOut,
+    NotifyStoreOut,
+    Notify_Retrieve_Out,
+    NotifyRetrieveIn,
+)
     ensures notify_poll_wakeup_out { bytes_of notify_poll_wakeup_out result.0 ≡ replicate 8 0 }
     ensures notify_inval_inode_out { bytes_of notify_inval_inode_out result.1 ≡ replicate 24 0 }
     ensures notify_inval_entry_out { bytes_of notify_inval_entry_out result.2 ≡ replicate 16 0 }
