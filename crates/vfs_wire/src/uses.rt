@@ -85,6 +85,47 @@ pub fn submount_of_root(st: Stat64) -> Result<Attr, Fault>
     )
 }
 
+/// The attributes of a file whose numbers of links, devices and nanoseconds have more than 32 bits,
+/// and whose size and time of access are below 0.
+pub fn cut_attributes() -> Result<Attr, Fault>
+    ensures { result ≡ Ok (record {
+      ino = 9;
+      size = 0xffffffffffffffff;
+      blocks = 8;
+      atime = 0xfffffffffffffffe;
+      mtime = 5;
+      ctime = 6;
+      atimensec = 0xffffffff;
+      mtimensec = 7;
+      ctimensec = 8;
+      mode = 0x81a4;
+      nlink = 2;
+      uid = 1000;
+      gid = 100;
+      rdev = 3;
+      blksize = 4096;
+      flags = 0;
+    }) }
+{
+    as_on_the_host(Stat64 {
+        st_ino: 9,
+        st_nlink: 0x1_0000_0002,
+        st_rdev: 0x7_0000_0003,
+        st_size: -1,
+        st_blocks: 8,
+        st_blksize: 4096,
+        st_atime: -2,
+        st_mtime: 5,
+        st_ctime: 6,
+        st_atime_nsec: -1,
+        st_mtime_nsec: 7,
+        st_ctime_nsec: 0x1_0000_0008,
+        st_mode: 0o100_644,
+        st_uid: 1000,
+        st_gid: 100,
+    })
+}
+
 /// A fault of the map of users is the answer, whatever the map of groups does.
 pub fn unmapped_user(st: Stat64) -> Result<Attr, Fault>
     ensures { result ≡ Err (Some 34) }
