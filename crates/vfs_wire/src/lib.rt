@@ -78,5 +78,6 @@ pub trait ByteValued: Sized {
 
     ghost made_fields: { (x : Self) → in_range x → table.made (table.fields x) ≡ x };
 
-    ghost fields_made: { (b : List ℕ) → AreBytes b → table.fields (value_of table b) ≡ numbers table.widths b };
+    ghost fields_made: { (b : List ℕ) → AreBytes b →
+        table.fields (value_of table b) ≡ numbers table.widths b };
 }

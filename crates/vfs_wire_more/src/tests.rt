@@ -130,4 +130,3 @@ fn a_directory_item_with_its_entry(rt: HostRuntime) {
     ];
     assert!(rt; is_written_as(&item, &want));
 }
-

@@ -46,7 +46,8 @@ pub fn both_options(a: FsOptions, b: FsOptions) -> FsOptions
 
 /// Whether a set has all options of another.
 pub fn has_options(a: FsOptions, b: FsOptions) -> bool
-    ensures { IsTrue result ↔ (bit_and (fs_options_bits a) (fs_options_bits b) ≡ fs_options_bits b) }
+    ensures { IsTrue result
+        ↔ (bit_and (fs_options_bits a) (fs_options_bits b) ≡ fs_options_bits b) }
 {
     a.contains(b)
 }
@@ -65,7 +66,7 @@ pub fn same_fs_options(a: FsOptions, b: FsOptions) -> bool
     a == b
 }
 
-/// Whether the bits of one set of options of INIT are a lower number than those of another.
+/// Whether one set of options of INIT has lower bits than another.
 pub fn lower_fs_options(a: FsOptions, b: FsOptions) -> bool
     ensures { IsTrue result ↔ (fs_options_bits a < fs_options_bits b) }
 {
@@ -87,7 +88,7 @@ pub fn same_setattr_valid(a: SetattrValid, b: SetattrValid) -> bool
     a == b
 }
 
-/// Whether the bits of one set of attributes that a SETATTR changes are a lower number than those of another.
+/// Whether one set of attributes that a SETATTR changes has lower bits than another.
 pub fn lower_setattr_valid(a: SetattrValid, b: SetattrValid) -> bool
     ensures { IsTrue result ↔ (setattr_valid_bits a < setattr_valid_bits b) }
 {
@@ -109,7 +110,7 @@ pub fn same_open_options(a: OpenOptions, b: OpenOptions) -> bool
     a == b
 }
 
-/// Whether the bits of one set of properties of an open file are a lower number than those of another.
+/// Whether one set of properties of an open file has lower bits than another.
 pub fn lower_open_options(a: OpenOptions, b: OpenOptions) -> bool
     ensures { IsTrue result ↔ (open_options_bits a < open_options_bits b) }
 {
@@ -131,7 +132,7 @@ pub fn same_ioctl_flags(a: IoctlFlags, b: IoctlFlags) -> bool
     a == b
 }
 
-/// Whether the bits of one set of flags of an IOCTL are a lower number than those of another.
+/// Whether one set of flags of an IOCTL has lower bits than another.
 pub fn lower_ioctl_flags(a: IoctlFlags, b: IoctlFlags) -> bool
     ensures { IsTrue result ↔ (ioctl_flags_bits a < ioctl_flags_bits b) }
 {
@@ -153,7 +154,7 @@ pub fn same_setxattr_flags(a: SetxattrFlags, b: SetxattrFlags) -> bool
     a == b
 }
 
-/// Whether the bits of one set of further flags of a SETXATTR are a lower number than those of another.
+/// Whether one set of further flags of a SETXATTR has lower bits than another.
 pub fn lower_setxattr_flags(a: SetxattrFlags, b: SetxattrFlags) -> bool
     ensures { IsTrue result ↔ (setxattr_flags_bits a < setxattr_flags_bits b) }
 {
@@ -173,17 +174,19 @@ pub fn same_notify_inval_entry_out_flags(
     a: NotifyInvalEntryOutFlags,
     b: NotifyInvalEntryOutFlags,
 ) -> bool
-    ensures { IsTrue result ↔ (notify_inval_entry_out_flags_bits a ≡ notify_inval_entry_out_flags_bits b) }
+    ensures { IsTrue result
+        ↔ (notify_inval_entry_out_flags_bits a ≡ notify_inval_entry_out_flags_bits b) }
 {
     a == b
 }
 
-/// Whether the bits of one set of flags of the notice that a name is out of date are a lower number than those of another.
+/// Whether one set of flags of the notice that a name is out of date has lower bits than another.
 pub fn lower_notify_inval_entry_out_flags(
     a: NotifyInvalEntryOutFlags,
     b: NotifyInvalEntryOutFlags,
 ) -> bool
-    ensures { IsTrue result ↔ (notify_inval_entry_out_flags_bits a < notify_inval_entry_out_flags_bits b) }
+    ensures { IsTrue result
+        ↔ (notify_inval_entry_out_flags_bits a < notify_inval_entry_out_flags_bits b) }
 {
     a < b
 }
@@ -191,7 +194,8 @@ pub fn lower_notify_inval_entry_out_flags(
 /// The flags of the notice that a name is out of date among these bits.
 #[tactic(auto, unfolding(bitflags::proofs::OnLiterals::bitflags_on_literals))]
 pub fn notify_inval_entry_out_flags_among(bits: u32) -> NotifyInvalEntryOutFlags
-    ensures { notify_inval_entry_out_flags_bits result ≡ bit_and bits known_notify_inval_entry_out_flags }
+    ensures { notify_inval_entry_out_flags_bits result
+        ≡ bit_and bits known_notify_inval_entry_out_flags }
 {
     NotifyInvalEntryOutFlags::from_bits_truncate(bits)
 }
@@ -203,7 +207,7 @@ pub fn same_setupmapping_flags(a: SetupmappingFlags, b: SetupmappingFlags) -> bo
     a == b
 }
 
-/// Whether the bits of one set of rights of a mapping are a lower number than those of another.
+/// Whether one set of rights of a mapping has lower bits than another.
 pub fn lower_setupmapping_flags(a: SetupmappingFlags, b: SetupmappingFlags) -> bool
     ensures { IsTrue result ↔ (setupmapping_flags_bits a < setupmapping_flags_bits b) }
 {
