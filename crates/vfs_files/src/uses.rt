@@ -7,8 +7,10 @@ ghost use Rattle.vfs_files.specs.Calls.{Unlink, not_served};
 ghost use Rattle.vfs_files.specs.Answers.{Plain, done_answer};
 ghost use Rattle.vfs_files.specs.Names.{name_text};
 
-use crate::{CStr, CString, Context, Entry, Extensions, FileSystem, GetxattrReply, ListxattrReply};
-use crate::{Number, SecContext, Unserved, defaults};
+use crate::{
+    CStr, CString, Context, Entry, Extensions, FileSystem, GetxattrReply, ListxattrReply, Number,
+    SecContext, Unserved, defaults,
+};
 use bitflags::Flags;
 use std::alloc::Global;
 use std::time::Duration;
