@@ -72,6 +72,14 @@ pub fn own_name_wants_memory_alone(alloc: Global, name: CStr<'_>) -> Result<CStr
     }
 }
 
+/// A copy of a security context has its name and its value.
+pub fn copy_of_a_context(alloc: Global, context: &SecContext) -> Result<SecContext, Fault>
+    ensures name { IfOk result (λ copy. copy.name ≡ context.now.name) }
+    ensures value { IfOk result (λ copy. copy.secctx.items ≡ context.now.secctx.items) }
+{
+    context.clone(alloc)
+}
+
 /// A copy of extensions has their group.
 pub fn group_of_a_copy(alloc: Global, group: GuestGid) -> Result<Option<GuestGid>, Fault>
     ensures { IfOk result (λ copied. copied ≡ Some group) }
