@@ -1,11 +1,12 @@
 //! Small callers, each with what follows for it from the public contracts alone.
 
 ghost use Rattle.std.specs.Prelude.{◌≡◌, ◌≤◌, pos, negsuc, IsTrue, IfOk, IfErr, Some};
-ghost use Rattle.std.specs.Prelude.{Err, option_map};
+ghost use Rattle.std.specs.Prelude.{Err, map, option_map};
 ghost use Rattle.vfs_files.specs.Extensions.{context_values};
 ghost use Rattle.vfs_files.specs.Calls.{Unlink, not_served};
 ghost use Rattle.vfs_files.specs.Answers.{Plain, done_answer};
 ghost use Rattle.vfs_files.specs.Names.{name_text};
+ghost use Rattle.vfs_files.specs.Runs.{ForgetsEach};
 
 use crate::{
     CStr, CString, Context, Entry, Extensions, FileSystem, GetxattrReply, ListxattrReply, Number,
@@ -179,6 +180,18 @@ pub fn unlink_from_the_root<F: FileSystem>(
         fs.new }
 {
     fs.unlink(ctx, F::Inode::from_number(1), name)
+}
+
+/// Forgets each node, in order, and does nothing else: what `batch_forget` does by default.
+pub fn forget_each<F: FileSystem>(fs: &mut F, ctx: &Context, requests: Vec<(F::Inode, u64)>)
+    ensures { ForgetsEach F.allows F.DirIter.gives ctx.now
+        (map (λ p. (F.Inode.value p.0, p.1)) requests.items)
+        fs.old
+        fs.new }
+{
+    for (inode, count) in requests {
+        fs.forget(*ctx, inode, count);
+    }
 }
 
 /// The text of a link has at most 4,294,967,279 bytes, whatever the file system.
