@@ -28,13 +28,14 @@ loop-inode-preserved g c =
           let gone = steps.1 in
           omega arith;
       forgot = forgets_more g.F.FileSystem.allows g.F.DirIter.DirectoryIterator.gives g.F.Inode.Number.value
-          _ at.yielded c.in-Some.inode c.in-Some.count _ _ _ at.invariant.forgot c.forget.ensures;
+          c.args.ctx.now at.yielded c.in-Some.inode c.in-Some.count c.args.fs.now at.fs c.forget.new.self
+          at.invariant.forgot c.forget.ensures;
     }
 
 pub returns : goal.returns
 returns g c =
     let at = c.loop-inode in
-    let empty : into_iter_items at.inode-iterator ≡ [] =
-    nothing_left _ (sym at.invariant.left ∙ c.in-None.ensures.steps.0) in
+    let none = sym at.invariant.left ∙ c.in-None.ensures.steps.0 in
+    let empty = nothing_left (into_iter_items at.inode-iterator) none in
     let all = sym (append-nil at.yielded) ∙ rw empty at at.invariant.rest in
     rw (← all) at.invariant.forgot
