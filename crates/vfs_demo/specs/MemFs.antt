@@ -93,14 +93,10 @@ AnswersAttr (Some attr) (Attributes found timeout) = (found ≡ attr) × IsSecon
 AnswersAttr None (Failed fault) = fault ≡ Some 2
 AnswersAttr _ _ = ⊥
 
--- what a call is answered
-abbrev pub AnswersOf : Stock → Call → Answer → Type 0
-AnswersOf stock (Init capable) answer = answer ≡ Options 0x2000
-AnswersOf stock (Lookup ctx parent name) answer = AnswersEntry (file_named stock parent name) answer
-AnswersOf stock (Forget ctx inode count) answer = answer ≡ Done
-AnswersOf stock (Getattr ctx inode handle) answer = AnswersAttr (attr_at stock inode) answer
-
--- a call is answered so, and the files stay
-abbrev pub AllowsHere : {I : Type 0} → Stock → Call → Handed I → Stock → Type 0
-AllowsHere old call (Plain answer) new = AnswersOf old call answer × (new ≡ old)
-AllowsHere old call (Iterator opened) new = ⊥
+-- from the old files this call may hand this back and leave the new files: the one table of what the file system does
+abbrev pub MemFsAllows : {I : Type 0} → Stock → Call → Handed I → Stock → Type 0
+MemFsAllows old (Init _) (Plain answer) new = (answer ≡ Options 0x2000) × (new ≡ old)
+MemFsAllows old (Lookup _ parent name) (Plain answer) new = AnswersEntry (file_named old parent name) answer × (new ≡ old)
+MemFsAllows old (Forget _ _ _) (Plain answer) new = (answer ≡ Done) × (new ≡ old)
+MemFsAllows old (Getattr _ inode _) (Plain answer) new = AnswersAttr (attr_at old inode) answer × (new ≡ old)
+MemFsAllows old _ (Iterator _) new = ⊥

@@ -3,13 +3,13 @@ ghost use Rattle.std.specs.Prelude.{◌≡◌, ◌==◌, find, Some, None, Match
 ghost use Rattle.std.specs.Option.{option_copied};
 ghost use Rattle.std.specs.Str.{bytes_eq};
 ghost use Rattle.vfs_files.specs.Calls.{attr_answer};
-ghost use Rattle.vfs_demo.specs.MemFs.{AllowsHere, AnswersAttr, attr_of, file_attr, attr_at, first_stock, IsEntryOf};
+ghost use Rattle.vfs_demo.specs.MemFs.{MemFsAllows, AnswersAttr, attr_of, file_attr, attr_at, first_stock, IsEntryOf};
 
 use std::alloc::Global;
 use std::marker::Model;
 use std::time::Duration;
 use vfs_files::{CStr, Context, DirEntry, DirectoryIterator, Entry, FileSystem};
-use vfs_flags::{Errno, Fault, FsOptions, GuestGid, GuestUid, ROOT_ID};
+use vfs_flags::{Errno, Fault, FsOptions, ROOT_ID};
 use vfs_wire::Attr;
 
 /// How long a client may rely on an answer.
@@ -102,20 +102,10 @@ fn make_attr(node: u64, mode: u32, nlink: u32, size: u64) -> Attr
     Attr {
         ino: node,
         size,
-        blocks: 0,
-        atime: 0,
-        mtime: 0,
-        ctime: 0,
-        atimensec: 0,
-        mtimensec: 0,
-        ctimensec: 0,
         mode,
         nlink,
-        uid: GuestUid::from(0),
-        gid: GuestGid::from(0),
-        rdev: 0,
         blksize: BLOCK_SIZE,
-        flags: 0,
+        ..Attr::default()
     }
 }
 
@@ -172,7 +162,7 @@ impl FileSystem for MemFs {
 
     type DirIter = NoEntries;
 
-    ghost allows = { AllowsHere };
+    ghost allows = { MemFsAllows };
 
     fn init(&mut self, _capable: FsOptions) -> Result<FsOptions, Fault> {
         Ok(FsOptions::DO_READDIRPLUS)

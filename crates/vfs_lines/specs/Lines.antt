@@ -4,9 +4,9 @@ use Rattle.std.specs.List.{slice_split, list_all}
 use Rattle.std.specs.Char.{is_ascii_digit}
 use Rattle.std.specs.declared.alloc.Global.{Global}
 use Rattle.hex.specs.Hex.{decode_of}
-use Rattle.vfs_demo.specs.declared.error.RunError.{RunError}
-use Rattle.vfs_demo.specs.declared.error.RunError.TheVariants.{BadLine, Io, OutOfMemory}
-use Rattle.vfs_demo.specs.declared.line.Line.{Line}
+use Rattle.vfs_lines.specs.declared.error.RunError.{RunError}
+use Rattle.vfs_lines.specs.declared.error.RunError.TheVariants.{BadLine, Io, OutOfMemory}
+use Rattle.vfs_lines.specs.declared.line.Line.{Line}
 
 -- the parts of a text between its plus signs
 abbrev pub parts : List ℕ → List (List ℕ)

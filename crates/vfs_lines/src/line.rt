@@ -1,7 +1,7 @@
 //! A line of a session: the rooms for a reply, and the segments of the request.
 ghost use Rattle.std.specs.Prelude.{◌≡◌, ◌↔◌, ◌<◌, ◌≤◌, ◌==◌, length, map, sum, position, IsTrue, IfOk, IfErr, IfSome};
 ghost use Rattle.std.specs.List.{slice_split};
-ghost use Rattle.vfs_demo.specs.Lines.{parts, length_of, segment_of, values_of, line_of, request_option, numbers_option, lists_option};
+ghost use Rattle.vfs_lines.specs.Lines.{parts, length_of, segment_of, values_of, line_of, lines_in, request_option, numbers_option, lists_option};
 
 use crate::error::RunError;
 use hex::FromHexError;
@@ -87,9 +87,8 @@ fn parse_segments(alloc: Global, text: &[u8]) -> Result<Option<Vec<Vec<u8>>>, Ru
     Ok(Some(segments))
 }
 
-/// The parts of a text between the bytes that are the separator: one more than there are
-/// separators.
-pub fn cut<'a>(alloc: Global, text: &'a [u8], separator: u8) -> Result<Vec<&'a [u8]>, RunError>
+// The parts of a text between the bytes that are the separator: one more than there are separators.
+fn cut<'a>(alloc: Global, text: &'a [u8], separator: u8) -> Result<Vec<&'a [u8]>, RunError>
     ensures pieces { IfOk result
         (λ v. map (λ x. x.now) v.items ≡ slice_split (λ b. b == separator) text.now) }
     ensures memory { IfErr result (λ e. e ≡ RunError.OutOfMemory) }
@@ -138,4 +137,17 @@ fn fits(rooms: &[usize]) -> bool
         left -= *room;
     }
     true
+}
+
+/// The lines of a text without their newlines. The last one may lack its newline, and a text without a
+/// byte has no line.
+pub fn lines_of<'a>(alloc: Global, text: &'a [u8]) -> Result<Vec<&'a [u8]>, RunError>
+    ensures lines { IfOk result (λ v. map (λ x. x.now) v.items ≡ lines_in text.now) }
+    ensures memory { IfErr result (λ e. e ≡ RunError.OutOfMemory) }
+{
+    match text.split_last() {
+        None => Ok(Vec::new(alloc)),
+        Some((b'\n', lines)) => cut(alloc, lines, b'\n'),
+        Some(_) => cut(alloc, text, b'\n'),
+    }
 }

@@ -7,13 +7,13 @@ use vfs_server::Error;
 /// newline.
 pub fn answer_line(
     alloc: Global,
-    outcome: vfs_server::Result<usize>,
+    outcome: &vfs_server::Result<usize>,
     rooms: &[Vec<u8>],
 ) -> Result<String, AllocError> {
     match outcome {
         Ok(length) => {
             let mut answer = format!(in alloc; "ok {length}")?;
-            push_front(alloc, &mut answer, rooms, length)?;
+            push_front(alloc, &mut answer, rooms, *length)?;
             answer.push('\n')?;
             Ok(answer)
         }
@@ -26,10 +26,7 @@ pub fn answer_line(
         Err(Error::InvalidXattrSize((size, length))) => {
             format!(in alloc; "err InvalidXattrSize {size} {length}\n")
         }
-        Err(error) => {
-            let name = name_of(&error);
-            format!(in alloc; "err {name}\n")
-        }
+        Err(error) => format!(in alloc; "err {error:?}\n"),
     }
 }
 
@@ -52,20 +49,4 @@ fn push_front(
         left -= part.len();
     }
     Ok(())
-}
-
-// The name of an error of the server.
-fn name_of(error: &Error) -> &'static str {
-    match error {
-        Error::DecodeMessage => "DecodeMessage",
-        Error::EncodeMessage => "EncodeMessage",
-        Error::FlushMessage => "FlushMessage",
-        Error::MissingParameter => "MissingParameter",
-        Error::InvalidCString => "InvalidCString",
-        Error::InvalidCString2 => "InvalidCString2",
-        Error::InvalidHeaderLength => "InvalidHeaderLength",
-        Error::InvalidXattrSize(_) => "InvalidXattrSize",
-        Error::MissingExtension => "MissingExtension",
-        Error::OutOfMemory => "OutOfMemory",
-    }
 }

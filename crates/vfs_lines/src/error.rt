@@ -1,7 +1,7 @@
 //! How a run ends where it does not answer every line.
 ghost use Rattle.std.specs.Prelude.{◌≡◌};
-ghost use Rattle.vfs_demo.specs.Status.{status_of};
-ghost use Rattle.vfs_demo.specs.declared.error.RunError.TheVariants.{OutOfMemory};
+ghost use Rattle.vfs_lines.specs.Status.{status_of};
+ghost use Rattle.vfs_lines.specs.declared.error.RunError.TheVariants.{OutOfMemory};
 
 use std::alloc::{AllocError, AllocFailed};
 use thiserror::Error;

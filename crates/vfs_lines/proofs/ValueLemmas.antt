@@ -3,7 +3,7 @@ use Rattle.std.proofs.Common.{◌≡◌, ℕ, ◌+◌, ◌<◌, List, [], ◌∷
 use Rattle.std.proofs.lemmas.List.{get_or-map, length-map}
 use Rattle.std.proofs.lemmas.List.Folds.{fold_stuck}
 use Rattle.std.proofs.lemmas.List.Sums.{fold_more}
-use Rattle.vfs_demo.specs.Lines.{values_of, and_one}
+use Rattle.vfs_lines.specs.Lines.{values_of, and_one}
 
 -- the texts that references point to
 abbrev pub texts_of : List (Bor (List ℕ)) → List (List ℕ)

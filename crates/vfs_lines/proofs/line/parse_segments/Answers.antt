@@ -1,8 +1,8 @@
 use Rattle.std.proofs.Common.{sym, ap, ◌∙◌, map}
 use Rattle.std.proofs.lemmas.List.{map-append}
-use Rattle.vfs_demo.proofs.ValueLemmas.{values_of-refused, values_of-more}
-use Rattle.vfs_demo.specs.Lines.{segment_of, numbers_option}
-use Rattle.vfs_demo.proofs.line.parse_segments.Goals as goal
+use Rattle.vfs_lines.proofs.ValueLemmas.{values_of-refused, values_of-more}
+use Rattle.vfs_lines.specs.Lines.{segment_of, numbers_option}
+use Rattle.vfs_lines.proofs.line.parse_segments.Goals as goal
 
 pub returns-in_default-clause-read : goal.returns-in_default-clause-read
 returns-in_default-clause-read c =

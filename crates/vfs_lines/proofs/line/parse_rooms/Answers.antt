@@ -1,7 +1,7 @@
 use Rattle.std.proofs.Common.{sym, ◌∙◌}
-use Rattle.vfs_demo.proofs.ValueLemmas.{values_of-refused, values_of-more}
-use Rattle.vfs_demo.specs.Lines.{length_of}
-use Rattle.vfs_demo.proofs.line.parse_rooms.Goals as goal
+use Rattle.vfs_lines.proofs.ValueLemmas.{values_of-refused, values_of-more}
+use Rattle.vfs_lines.specs.Lines.{length_of}
+use Rattle.vfs_lines.proofs.line.parse_rooms.Goals as goal
 
 pub returns-in_default-clause-read : goal.returns-in_default-clause-read
 returns-in_default-clause-read c =
