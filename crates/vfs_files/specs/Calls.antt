@@ -1,103 +1,156 @@
--- Calls, answers, and which kind of answer a call has. Nothing here knows a file system's state or
--- its iterators.
-use Rattle.std.specs.Prelude.{◌<◌, ◌^◌, ℕ, List, ◌∷◌, Option, Some, None, Result, Ok, Err}
-use Rattle.std.specs.declared.time.Duration.{Duration}
-use Rattle.vfs_flags.specs.Flags.{fs_options_bits}
-use Rattle.vfs_flags.specs.declared.fs_options.FsOptions.{FsOptions}
-use Rattle.vfs_wire.specs.Fields.{Fit}
-use Rattle.vfs_wire.specs.Attributes.{attr, attr_out}
-use Rattle.vfs_wire.specs.Entries.{entry_out}
-use Rattle.vfs_wire.specs.declared.attributes.Attr.{Attr}
-use Rattle.vfs_files.specs.Entries.{entry_out_of, whole_seconds, nanoseconds_beyond}
+-- Calls, which kind of answer each has, and what it answers where a file system doesn't serve it.
+-- Nothing here knows a file system's state or its iterators.
+use Rattle.std.specs.Prelude.{ℕ, List, Bool, Option, Some, None}
+use Rattle.vfs_wire.specs.declared.attributes.SetattrIn.{SetattrIn}
+use Rattle.vfs_wire.specs.declared.stat.Statvfs64.{Statvfs64}
+use Rattle.vfs_files.specs.Extensions.{ExtensionValues}
 use Rattle.vfs_files.specs.declared.entry.Context.{Context}
-use Rattle.vfs_files.specs.declared.entry.Entry.{Entry}
+pub use Rattle.vfs_files.specs.Answers.{Answer, Done, Failed, Options, Found, Attributes, Put, Opened, Created, Statistics, Text, Count, Offset, Written}
+pub use Rattle.vfs_files.specs.Answers.{Handed, Plain, Iterator}
+pub use Rattle.vfs_files.specs.Answers.{init_answer, entry_answer, attr_answer, done_answer, opened_answer, created_answer, statistics_answer, text_answer, getxattr_answer, listxattr_answer, offset_answer, written_answer}
+pub use Rattle.vfs_files.specs.Answers.{Kind, Quiet, Told, Untold, Data, Agreements, Entries, TimedAttributes, Openings, Creations, Capacities, Texts, TextsOrCounts, Offsets, Writes, Faults}
+pub use Rattle.vfs_files.specs.Answers.{IsFault, FitsEntry, FitsAttributes, FitsOpening, FitsStatistics, FitsText, KeepsTextShort, IsAnswer}
 
--- every call with its arguments as values: nodes and handles by number, names as bytes, options as bits
+-- every call with its arguments as values: nodes, handles and groups by number, names as bytes,
+-- options and other sets of flags as bits
 pub data Call : Type 0 where
-  Init : (capable : ℕ) → Call
   Lookup : (ctx : Context) (parent : ℕ) (name : List ℕ) → Call
   Forget : (ctx : Context) (inode count : ℕ) → Call
   Getattr : (ctx : Context) (inode : ℕ) (handle : Option ℕ) → Call
+  Setattr : (ctx : Context) (inode : ℕ) (attr : SetattrIn) (handle : Option ℕ) (valid : ℕ) → Call
+  Readlink : (ctx : Context) (inode : ℕ) → Call
+  Symlink :
+      (ctx : Context) (linkname : List ℕ) (parent : ℕ) (name : List ℕ) (ext : ExtensionValues)
+      → Call
+  Mknod :
+      (ctx : Context) (inode : ℕ) (name : List ℕ) (mode rdev umask : ℕ) (ext : ExtensionValues)
+      → Call
+  Mkdir :
+      (ctx : Context) (parent : ℕ) (name : List ℕ) (mode umask : ℕ) (ext : ExtensionValues) → Call
+  Unlink : (ctx : Context) (parent : ℕ) (name : List ℕ) → Call
+  Rmdir : (ctx : Context) (parent : ℕ) (name : List ℕ) → Call
+  Rename :
+      (ctx : Context) (olddir : ℕ) (oldname : List ℕ) (newdir : ℕ) (newname : List ℕ) (flags : ℕ)
+      → Call
+  Link : (ctx : Context) (inode newparent : ℕ) (newname : List ℕ) → Call
+  Open : (ctx : Context) (inode : ℕ) (kill_priv : Bool) (flags : ℕ) → Call
+  Statfs : (ctx : Context) (inode : ℕ) → Call
+  Release :
+      (ctx : Context) (inode flags handle : ℕ) (flush flock_release : Bool) (lock_owner : Option ℕ)
+      → Call
+  Fsync : (ctx : Context) (inode : ℕ) (datasync : Bool) (handle : ℕ) → Call
+  Setxattr : (ctx : Context) (inode : ℕ) (name value : List ℕ) (flags extra : ℕ) → Call
+  Getxattr : (ctx : Context) (inode : ℕ) (name : List ℕ) (size : ℕ) → Call
+  Listxattr : (ctx : Context) (inode size : ℕ) → Call
+  Removexattr : (ctx : Context) (inode : ℕ) (name : List ℕ) → Call
+  Flush : (ctx : Context) (inode handle lock_owner : ℕ) → Call
+  Init : (capable : ℕ) → Call
+  Opendir : (ctx : Context) (inode flags : ℕ) → Call
+  Releasedir : (ctx : Context) (inode flags handle : ℕ) → Call
+  Fsyncdir : (ctx : Context) (inode : ℕ) (datasync : Bool) (handle : ℕ) → Call
+  Getlk : Call
+  Setlk : Call
+  Setlkw : Call
+  Access : (ctx : Context) (inode mask : ℕ) → Call
+  Create :
+      (ctx : Context) (parent : ℕ) (name : List ℕ) (mode : ℕ) (kill_priv : Bool) (flags umask : ℕ)
+      (ext : ExtensionValues) → Call
+  Bmap : Call
+  Destroy : Call
+  Ioctl : Call
+  Poll : Call
+  NotifyReply : Call
+  BatchForget : (ctx : Context) (requests : List (ℕ × ℕ)) → Call
+  Fallocate : (ctx : Context) (inode handle mode offset length : ℕ) → Call
+  Lseek : (ctx : Context) (inode handle offset whence : ℕ) → Call
+  Copyfilerange :
+      (ctx : Context) (inode_in handle_in offset_in inode_out handle_out offset_out len flags : ℕ)
+      → Call
+  Syncfs : (ctx : Context) (inode : ℕ) → Call
+  Tmpfile : Call
 
--- every answer that is a value: nothing, a fault, the options that are wanted, an entry, or attributes
--- with their timeout
-pub data Answer : Type 0 where
-  Done : Answer
-  Failed : (fault : Option ℕ) → Answer
-  Options : (want : ℕ) → Answer
-  Found : (entry : Entry) → Answer
-  Attributes : (attributes : Attr) (timeout : Duration) → Answer
-
--- what a call hands back: an answer, or an iterator over a directory
-pub data Handed (I : Type 0) : Type 0 where
-  Plain : Answer → Handed I
-  Iterator : I → Handed I
+-- which kind of answer a call has
+abbrev pub kind_of : Call → Kind
+kind_of (Lookup _ _ _) = Entries
+kind_of (Forget _ _ _) = Quiet
+kind_of (Getattr _ _ _) = TimedAttributes
+kind_of (Setattr _ _ _ _ _) = TimedAttributes
+kind_of (Readlink _ _) = Texts
+kind_of (Symlink _ _ _ _ _) = Entries
+kind_of (Mknod _ _ _ _ _ _ _) = Entries
+kind_of (Mkdir _ _ _ _ _ _) = Entries
+kind_of (Unlink _ _ _) = Told
+kind_of (Rmdir _ _ _) = Told
+kind_of (Rename _ _ _ _ _ _) = Told
+kind_of (Link _ _ _ _) = Entries
+kind_of (Open _ _ _ _) = Openings
+kind_of (Statfs _ _) = Capacities
+kind_of (Release _ _ _ _ _ _ _) = Told
+kind_of (Fsync _ _ _ _) = Told
+kind_of (Setxattr _ _ _ _ _ _) = Told
+kind_of (Getxattr _ _ _ _) = TextsOrCounts
+kind_of (Listxattr _ _ _) = TextsOrCounts
+kind_of (Removexattr _ _ _) = Told
+kind_of (Flush _ _ _ _) = Told
+kind_of (Init _) = Agreements
+kind_of (Opendir _ _ _) = Openings
+kind_of (Releasedir _ _ _ _) = Told
+kind_of (Fsyncdir _ _ _ _) = Told
+kind_of Getlk = Untold
+kind_of Setlk = Untold
+kind_of Setlkw = Untold
+kind_of (Access _ _ _) = Told
+kind_of (Create _ _ _ _ _ _ _ _) = Creations
+kind_of Bmap = Untold
+kind_of Destroy = Quiet
+kind_of Ioctl = Untold
+kind_of Poll = Untold
+kind_of NotifyReply = Untold
+kind_of (BatchForget _ _) = Quiet
+kind_of (Fallocate _ _ _ _ _ _) = Told
+kind_of (Lseek _ _ _ _ _) = Offsets
+kind_of (Copyfilerange _ _ _ _ _ _ _ _ _) = Writes
+kind_of (Syncfs _ _) = Told
+kind_of Tmpfile = Faults
 
 -- the fault of a call that a file system doesn't serve: ENOSYS
 abbrev pub not_served : Option ℕ
 not_served = Some 38
 
--- its answer
+-- the fault of a call that has no memory to answer: ENOMEM
+abbrev pub no_memory : Option ℕ
+no_memory = Some 12
+
+-- the answer of a call that a file system doesn't serve, where it has no other
 abbrev pub no_such_call : Answer
 no_such_call = Failed not_served
 
--- the answer of each call that a file system doesn't serve: no options for `init`, nothing for `forget`,
--- else the fault ENOSYS
+-- the answer of an `open` or `opendir` that is not served: no handle, and nothing said of how to
+-- use it
+abbrev pub default_opening : Answer
+default_opening = Opened None 0
+
+-- what a file system that says nothing else holds: names of up to 255 bytes, read and written 512
+-- at a time
+abbrev pub default_statistics : Statvfs64
+default_statistics = record {
+  f_bsize = 512;
+  f_frsize = 0;
+  f_blocks = 0;
+  f_bfree = 0;
+  f_bavail = 0;
+  f_files = 0;
+  f_ffree = 0;
+  f_namemax = 255;
+}
+
+-- the answer of each call that a file system doesn't serve
 abbrev pub default_answer : Call → Answer
 default_answer (Init _) = Options 0
+default_answer (Open _ _ _ _) = default_opening
+default_answer (Opendir _ _ _) = default_opening
+default_answer (Statfs _ _) = Statistics default_statistics
 default_answer (Forget _ _ _) = Done
+default_answer (BatchForget _ _) = Done
+default_answer Destroy = Done
 default_answer _ = no_such_call
-
--- the answer of `init`
-abbrev pub init_answer : Result FsOptions (Option ℕ) → Answer
-init_answer (Ok want) = Options (fs_options_bits want)
-init_answer (Err fault) = Failed fault
-
--- the answer of a call that answers an entry
-abbrev pub entry_answer : Result Entry (Option ℕ) → Answer
-entry_answer (Ok entry) = Found entry
-entry_answer (Err fault) = Failed fault
-
--- the answer of a call that answers attributes and how long they hold
-abbrev pub attr_answer : Result (Attr × Duration) (Option ℕ) → Answer
-attr_answer (Ok reply) = Attributes reply.0 reply.1
-attr_answer (Err fault) = Failed fault
-
--- the kinds of answers: none at all, options, an entry, attributes with their timeout
-pub data Kind : Type 0 where
-  Quiet : Kind
-  Agreements : Kind
-  Entries : Kind
-  TimedAttributes : Kind
-
--- which kind of answer a call has
-abbrev pub kind_of : Call → Kind
-kind_of (Init _) = Agreements
-kind_of (Lookup _ _ _) = Entries
-kind_of (Forget _ _ _) = Quiet
-kind_of (Getattr _ _ _) = TimedAttributes
-
--- a fault's number, where it has one, is from 1 to 2 ^ 31 - 1
-abbrev pub IsFault : Option ℕ → Type 0
-IsFault None = Unit {0}
-IsFault (Some number) = (0 < number) × (number < 2 ^ 31)
-
--- each number of an entry is within its width in the reply
-abbrev pub FitsEntry : Entry → Type 0
-FitsEntry entry = Fit entry_out.widths (entry_out.fields (entry_out_of entry))
-
--- each number of attributes and of their timeout, in whole seconds and the nanoseconds beyond, is within
--- its width in the reply
-abbrev pub FitsAttributes : Attr → Duration → Type 0
-FitsAttributes attributes timeout =
-    Fit attr_out.widths (whole_seconds timeout ∷ nanoseconds_beyond timeout ∷ 0 ∷ attr.fields attributes)
-
--- an answer of this kind, with its numbers in their widths
-abbrev pub IsAnswer : Kind → Answer → Type 0
-IsAnswer Quiet Done = Unit {0}
-IsAnswer Quiet _ = ⊥
-IsAnswer _ (Failed fault) = IsFault fault
-IsAnswer Agreements (Options want) = want < 2 ^ 64
-IsAnswer Entries (Found entry) = FitsEntry entry
-IsAnswer TimedAttributes (Attributes attributes timeout) = FitsAttributes attributes timeout
-IsAnswer _ _ = ⊥

@@ -1,5 +1,5 @@
 -- Names: byte lists that end at their only 0.
-use Rattle.std.specs.Prelude.{◌≡◌, ◌≢◌, ℕ, List, [], ◌∷◌, ◌++◌, Option, Some, None, ◌+◌, ◌<◌, ◌==◌, length, take, slice_index, position, if◌then◌else◌}
+use Rattle.std.specs.Prelude.{◌≡◌, ◌≢◌, ℕ, List, [], ◌∷◌, ◌++◌, Option, Some, None, ◌+◌, ◌<◌, ◌==◌, length, take, drop, slice_index, position, if◌then◌else◌}
 use Rattle.vfs_files.specs.declared.name.CStr.{CStr}
 
 -- the bytes before the first 0, where it stands at this place and is the last byte
@@ -7,8 +7,8 @@ abbrev pub name_to : List ℕ → Option ℕ → Option (List ℕ)
 name_to bytes None = None
 name_to bytes (Some i) = if i + 1 == length bytes then Some (take i bytes) else None
 
--- the text of a name: a byte list is a name where its last byte is 0 and no other is, and its text is
--- the rest
+-- the text of a name: a byte list is a name where its last byte is 0 and no other is, and its text
+-- is the rest
 abbrev pub name_of : List ℕ → Option (List ℕ)
 name_of bytes = name_to bytes (position (λ b. b == 0) bytes)
 
@@ -19,3 +19,11 @@ name_text name = name.bytes.now
 -- a byte list whose last byte is 0 and no other is, and its text
 abbrev pub IsName : List ℕ → List ℕ → Type 0
 IsName bytes text = (bytes ≡ text ++ 0 ∷ []) × ((k : ℕ) → k < length text → slice_index text k ≢ 0)
+
+-- the text before the first 0 and what follows it, where there is a 0
+abbrev pub cut_at : List ℕ → Option ℕ → Option (List ℕ × List ℕ)
+cut_at bytes None = None
+cut_at bytes (Some i) = Some (take i bytes, drop (i + 1) bytes)
+
+abbrev pub first_name : List ℕ → Option (List ℕ × List ℕ)
+first_name bytes = cut_at bytes (position (λ b. b == 0) bytes)

@@ -2,21 +2,47 @@
 //!
 //! An implementation of [`FileSystem`](crate::FileSystem) calls these. They are no bodies in the
 //! trait: a body there could only be proved from a law that every file system allows its answer.
+//! Most calls answer the fault ENOSYS, by [`no_such_call`]; those that don't have a function of
+//! their name. `batch_forget` has none: it is to call the `forget` of the same file system for each
+//! pair, in order.
 
-ghost use Rattle.std.specs.Prelude.{◌≡◌, Err};
-ghost use Rattle.vfs_files.specs.Calls.{Options, init_answer, not_served};
+ghost use Rattle.std.specs.Prelude.{◌≡◌, Ok, Err};
+ghost use Rattle.vfs_files.specs.Calls.{Options, init_answer, opened_answer};
+ghost use Rattle.vfs_files.specs.Calls.{not_served, default_opening, default_statistics};
 
-use crate::entry::Entry;
+use crate::number::Number;
 use bitflags::Flags;
-use std::time::Duration;
-use vfs_flags::{Errno, Fault, FsOptions};
-use vfs_wire::Attr;
+use vfs_flags::{Errno, Fault, FsOptions, OpenOptions};
+use vfs_wire::Statvfs64;
 
 /// The fault ENOSYS.
-fn no_such_call<T>() -> Result<T, Fault>
+pub fn no_such_call<T>() -> Result<T, Fault>
     ensures { result ≡ Err not_served }
 {
     Err(Some(Errno::ENOSYS))
+}
+
+/// Does nothing: a file system that keeps no count of lookups has none to lower.
+pub fn forget() {}
+
+/// Opens no handle and says nothing of how to use the file: the kernel reads and writes it by its
+/// node.
+pub fn open<H: Number>() -> Result<(Option<H>, OpenOptions), Fault>
+    ensures { opened_answer H.value result ≡ default_opening }
+{
+    Ok((None, OpenOptions::empty()))
+}
+
+/// Says that names have at most 255 bytes and that reads and writes are best 512 bytes long, and
+/// nothing else: all other numbers are 0.
+pub fn statfs() -> Result<Statvfs64, Fault>
+    ensures { result ≡ Ok default_statistics }
+{
+    Ok(Statvfs64 {
+        f_namemax: 255,
+        f_bsize: 512,
+        ..Statvfs64::default()
+    })
 }
 
 /// Wants none of the options of the kernel.
@@ -26,19 +52,19 @@ pub fn init() -> Result<FsOptions, Fault>
     Ok(FsOptions::empty())
 }
 
-/// Finds nothing: the fault ENOSYS.
-pub fn lookup() -> Result<Entry, Fault>
-    ensures { result ≡ Err not_served }
+/// Opens no handle and says nothing of how to use the directory: the kernel reads it by its node.
+pub fn opendir<H: Number>() -> Result<(Option<H>, OpenOptions), Fault>
+    ensures { opened_answer H.value result ≡ default_opening }
 {
-    no_such_call::<Entry>()
+    open::<H>()
 }
 
-/// Does nothing: a file system that keeps no count of lookups has none to lower.
-pub fn forget() {}
+/// Does nothing.
+pub fn destroy() {}
 
-/// Has no attributes: the fault ENOSYS.
-pub fn getattr() -> Result<(Attr, Duration), Fault>
-    ensures { result ≡ Err not_served }
+/// Makes no file: the fault ENOSYS.
+pub fn tmpfile() -> Fault
+    ensures { result ≡ not_served }
 {
-    no_such_call::<(Attr, Duration)>()
+    Some(Errno::ENOSYS)
 }

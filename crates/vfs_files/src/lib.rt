@@ -8,15 +8,22 @@
 pub mod defaults;
 mod directory;
 mod entry;
+mod extensions;
 mod filesystem;
 pub mod laws;
+mod memory;
 mod name;
 mod number;
 #[cfg(test)]
 mod tests;
+mod unserved;
+mod xattr;
 
 pub use directory::{DirEntry, DirectoryIterator};
 pub use entry::{Context, Entry};
+pub use extensions::{Extensions, SecContext};
 pub use filesystem::FileSystem;
-pub use name::CStr;
+pub use name::{CStr, CString};
 pub use number::Number;
+pub use unserved::{NoEntries, Unserved};
+pub use xattr::{GetxattrReply, ListxattrReply};

@@ -5,6 +5,11 @@
 
 ghost use Rattle.std.specs.Prelude.{◌≡◌, ◌≢◌, ℕ, ◌<◌, ◌==◌, length, slice_index, position};
 
+use crate::memory::copy_of;
+use std::alloc::Global;
+use std::marker::Model;
+use vfs_flags::Fault;
+
 /// Where the first 0 stands.
 fn first_nul(bytes: &[u8]) -> Option<usize>
     ensures { result ≡ position (λ b. b == 0) bytes.now }
@@ -22,7 +27,7 @@ pub struct CStr<'a> {
 }
 
 impl<'a> CStr<'a> {
-    ghost use Rattle.std.specs.Prelude.{MatchOption, Some, None};
+    ghost use Rattle.std.specs.Prelude.{MatchOption, Some, None, take};
     ghost use Rattle.vfs_files.specs.Names.{name_of, name_text};
 
     /// The name in these bytes: all but the last, where the last is 0 and no other is. `None`
@@ -43,10 +48,84 @@ impl<'a> CStr<'a> {
         }
     }
 
+    /// The name that runs to the first 0 in these bytes. `None` where there is no 0.
+    #[tactic(auto, using(crate::proofs::Texts::text_has_no_nul))]
+    pub fn from_bytes_until_nul(bytes: &'a [u8]) -> Option<CStr<'a>>
+        ensures { MatchOption result
+            (position (λ b. b == 0) bytes.now ≡ None)
+            (λ name. position (λ b. b == 0) bytes.now ≡ Some (length (name_text name))
+            × name_text name ≡ take (length (name_text name)) bytes.now) }
+    {
+        let end = first_nul(bytes)?;
+        let bytes = &bytes[..end];
+        Some(CStr { bytes })
+    }
+
     /// The bytes of the name, without the 0 behind them.
     pub fn to_bytes(self) -> &'a [u8]
         ensures { result.now ≡ name_text self.entry }
     {
         self.bytes
     }
+}
+
+/// A name of its own: bytes with no 0 among them, in memory.
+///
+/// Two names are equal where their bytes are.
+#[derive(Drop, Debug)]
+pub struct CString {
+    text: Vec<u8>,
+}
+
+impl Model for CString {
+    ghost use Rattle.std.specs.Prelude.{◌≢◌, ◌<◌, ℕ, List, length, slice_index};
+
+    ghost Value = { List ℕ };
+
+    ghost view = { λ s. s.text.items };
+
+    ghost invariant = { λ s.
+        (k : ℕ) → k < length s.text.items → slice_index s.text.items k ≢ 0 };
+}
+
+impl CString {
+    ghost use Rattle.std.specs.Prelude.{IfOk, IfErr};
+    ghost use Rattle.vfs_files.specs.Calls.{no_memory};
+    ghost use Rattle.vfs_files.specs.Names.{name_text};
+
+    /// The same name, in memory of its own, or the fault ENOMEM where there is none.
+    pub fn new(alloc: Global, name: CStr<'_>) -> Result<CString, Fault>
+        ensures same { IfOk result (λ owned. owned ≡ name_text name.entry) }
+        ensures memory { IfErr result (λ fault. fault ≡ no_memory) }
+    {
+        let text = copy_of(alloc, name.to_bytes())?;
+        Ok(CString { text })
+    }
+
+    /// The name, borrowed.
+    pub fn as_c_str(&self) -> CStr<'_>
+        ensures { name_text result ≡ self.now }
+    {
+        CStr { bytes: &self.text }
+    }
+}
+
+impl PartialEq for CString {
+    ghost use Rattle.std.specs.Prelude.{nat_eq};
+    ghost use Rattle.std.specs.Cmp.{partial_equiv_from_equiv};
+    ghost use Rattle.std.specs.Cmp.Lexicographic.{nat_list_eq_equiv, pointwise};
+
+    ghost eq = { pointwise nat_eq };
+
+    ghost laws = { partial_equiv_from_equiv nat_list_eq_equiv };
+
+    fn eq(&self, other: &CString) -> bool {
+        self.text == other.text
+    }
+}
+
+impl Eq for CString {
+    ghost use Rattle.std.specs.Cmp.Lexicographic.{nat_list_eq_equiv};
+
+    ghost laws = { nat_list_eq_equiv };
 }

@@ -1,6 +1,6 @@
 ghost use Rattle.std.specs.Prelude.{◌≡◌};
 
-use crate::{CStr, Context, DirEntry, DirectoryIterator, Entry, FileSystem, Number, defaults};
+use crate::{CStr, Context, DirEntry, DirectoryIterator, Entry, FileSystem, Number, Unserved};
 use bitflags::Flags;
 use std::process::Abort;
 use std::time::Duration;
@@ -156,46 +156,6 @@ fn entries_are_taken_one_after_another(rt: HostRuntime) {
     let mut it = Endless { given: 0 };
     for offset in 1..5 {
         assert_eq!(rt; next_offset(&mut it), Some(offset));
-    }
-}
-
-/// A file system that serves nothing.
-#[derive(Drop)]
-struct Unserved {}
-
-impl FileSystem for Unserved {
-    ghost use Rattle.std.specs.Prelude.{◌≡◌};
-    ghost use Rattle.vfs_files.specs.Calls.{Getattr, Plain, attr_answer, default_answer};
-
-    type Inode = u64;
-
-    type Handle = u64;
-
-    type DirIter = Endless;
-
-    ghost allows = { λ old call handed new. handed ≡ Plain (default_answer call) };
-
-    fn init(&mut self, capable: FsOptions) -> Result<FsOptions, Fault> {
-        defaults::init()
-    }
-
-    fn lookup(&mut self, ctx: Context, parent: u64, name: CStr<'_>) -> Result<Entry, Fault> {
-        defaults::lookup()
-    }
-
-    fn forget(&mut self, ctx: Context, inode: u64, count: u64) {
-        defaults::forget()
-    }
-
-    fn getattr(
-        &mut self,
-        ctx: Context,
-        inode: u64,
-        handle: Option<u64>,
-    ) -> Result<(Attr, Duration), Fault>
-        ensures { attr_answer result ≡ default_answer (Getattr ctx inode handle) }
-    {
-        defaults::getattr()
     }
 }
 

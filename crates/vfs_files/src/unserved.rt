@@ -1,0 +1,368 @@
+//! A file system that serves nothing: each call has its default answer.
+
+ghost use Rattle.vfs_files.specs.Calls.{Getattr, Setattr, BatchForget, default_answer};
+ghost use Rattle.vfs_files.specs.Answers.{Done, attr_answer};
+ghost use Rattle.vfs_flags.specs.Flags.{setattr_valid_bits};
+
+use crate::{
+    CStr, Context, DirEntry, DirectoryIterator, Entry, Extensions, FileSystem, GetxattrReply,
+    ListxattrReply, defaults,
+};
+use std::time::Duration;
+use vfs_flags::{Fault, FsOptions, OpenOptions, SetattrValid, SetxattrFlags};
+use vfs_wire::{Attr, SetattrIn, Statvfs64};
+
+/// A directory without entries.
+#[derive(Drop)]
+pub struct NoEntries {}
+
+impl DirectoryIterator for NoEntries {
+    ghost use Rattle.std.specs.Prelude.{◌≡◌, None};
+
+    ghost gives = { λ old item new. item ≡ None };
+
+    fn next(&mut self) -> Option<DirEntry<'_>> {
+        None
+    }
+}
+
+/// Serves nothing: an example of how an implementation answers what it doesn't serve.
+#[derive(Drop)]
+pub struct Unserved {}
+
+impl Unserved {
+    /// Forgets each node, in order.
+    fn forget_each(&mut self, ctx: &Context, requests: Vec<(u64, u64)>) {
+        for (inode, count) in requests {
+            self.forget(*ctx, inode, count);
+        }
+    }
+}
+
+impl FileSystem for Unserved {
+    ghost use Rattle.std.specs.Prelude.{◌≡◌};
+    ghost use Rattle.vfs_files.specs.Calls.{Plain, default_answer};
+
+    type Inode = u64;
+
+    type Handle = u64;
+
+    type DirIter = NoEntries;
+
+    ghost allows = { λ old call handed new. handed ≡ Plain (default_answer call) };
+
+    fn lookup(&mut self, ctx: Context, parent: u64, name: CStr<'_>) -> Result<Entry, Fault> {
+        defaults::no_such_call::<Entry>()
+    }
+
+    fn forget(&mut self, ctx: Context, inode: u64, count: u64) {
+        defaults::forget()
+    }
+
+    fn getattr(
+        &mut self,
+        ctx: Context,
+        inode: u64,
+        handle: Option<u64>,
+    ) -> Result<(Attr, Duration), Fault>
+        ensures { attr_answer result ≡ default_answer (Getattr ctx inode handle) }
+    {
+        defaults::no_such_call::<(Attr, Duration)>()
+    }
+
+    fn setattr(
+        &mut self,
+        ctx: Context,
+        inode: u64,
+        attr: SetattrIn,
+        handle: Option<u64>,
+        valid: SetattrValid,
+    ) -> Result<(Attr, Duration), Fault>
+        ensures { attr_answer result ≡
+            default_answer (Setattr ctx inode attr handle (setattr_valid_bits valid)) }
+    {
+        defaults::no_such_call::<(Attr, Duration)>()
+    }
+
+    fn readlink(&mut self, ctx: Context, inode: u64) -> Result<Vec<u8>, Fault> {
+        defaults::no_such_call::<Vec<u8>>()
+    }
+
+    fn symlink(
+        &mut self,
+        ctx: Context,
+        linkname: CStr<'_>,
+        parent: u64,
+        name: CStr<'_>,
+        ext: Extensions,
+    ) -> Result<Entry, Fault> {
+        defaults::no_such_call::<Entry>()
+    }
+
+    fn mknod(
+        &mut self,
+        ctx: Context,
+        inode: u64,
+        name: CStr<'_>,
+        mode: u32,
+        rdev: u32,
+        umask: u32,
+        ext: Extensions,
+    ) -> Result<Entry, Fault> {
+        defaults::no_such_call::<Entry>()
+    }
+
+    fn mkdir(
+        &mut self,
+        ctx: Context,
+        parent: u64,
+        name: CStr<'_>,
+        mode: u32,
+        umask: u32,
+        ext: Extensions,
+    ) -> Result<Entry, Fault> {
+        defaults::no_such_call::<Entry>()
+    }
+
+    fn unlink(&mut self, ctx: Context, parent: u64, name: CStr<'_>) -> Result<(), Fault> {
+        defaults::no_such_call::<()>()
+    }
+
+    fn rmdir(&mut self, ctx: Context, parent: u64, name: CStr<'_>) -> Result<(), Fault> {
+        defaults::no_such_call::<()>()
+    }
+
+    fn rename(
+        &mut self,
+        ctx: Context,
+        olddir: u64,
+        oldname: CStr<'_>,
+        newdir: u64,
+        newname: CStr<'_>,
+        flags: u32,
+    ) -> Result<(), Fault> {
+        defaults::no_such_call::<()>()
+    }
+
+    fn link(
+        &mut self,
+        ctx: Context,
+        inode: u64,
+        newparent: u64,
+        newname: CStr<'_>,
+    ) -> Result<Entry, Fault> {
+        defaults::no_such_call::<Entry>()
+    }
+
+    fn open(
+        &mut self,
+        ctx: Context,
+        inode: u64,
+        kill_priv: bool,
+        flags: u32,
+    ) -> Result<(Option<u64>, OpenOptions), Fault> {
+        defaults::open::<u64>()
+    }
+
+    fn statfs(&mut self, ctx: Context, inode: u64) -> Result<Statvfs64, Fault> {
+        defaults::statfs()
+    }
+
+    fn release(
+        &mut self,
+        ctx: Context,
+        inode: u64,
+        flags: u32,
+        handle: u64,
+        flush: bool,
+        flock_release: bool,
+        lock_owner: Option<u64>,
+    ) -> Result<(), Fault> {
+        defaults::no_such_call::<()>()
+    }
+
+    fn fsync(
+        &mut self,
+        ctx: Context,
+        inode: u64,
+        datasync: bool,
+        handle: u64,
+    ) -> Result<(), Fault> {
+        defaults::no_such_call::<()>()
+    }
+
+    fn setxattr(
+        &mut self,
+        ctx: Context,
+        inode: u64,
+        name: CStr<'_>,
+        value: &[u8],
+        flags: u32,
+        extra: SetxattrFlags,
+    ) -> Result<(), Fault> {
+        defaults::no_such_call::<()>()
+    }
+
+    fn getxattr(
+        &mut self,
+        ctx: Context,
+        inode: u64,
+        name: CStr<'_>,
+        size: u32,
+    ) -> Result<GetxattrReply, Fault> {
+        defaults::no_such_call::<GetxattrReply>()
+    }
+
+    fn listxattr(&mut self, ctx: Context, inode: u64, size: u32) -> Result<ListxattrReply, Fault> {
+        defaults::no_such_call::<ListxattrReply>()
+    }
+
+    fn removexattr(&mut self, ctx: Context, inode: u64, name: CStr<'_>) -> Result<(), Fault> {
+        defaults::no_such_call::<()>()
+    }
+
+    fn flush(
+        &mut self,
+        ctx: Context,
+        inode: u64,
+        handle: u64,
+        lock_owner: u64,
+    ) -> Result<(), Fault> {
+        defaults::no_such_call::<()>()
+    }
+
+    fn init(&mut self, capable: FsOptions) -> Result<FsOptions, Fault> {
+        defaults::init()
+    }
+
+    fn opendir(
+        &mut self,
+        ctx: Context,
+        inode: u64,
+        flags: u32,
+    ) -> Result<(Option<u64>, OpenOptions), Fault> {
+        defaults::opendir::<u64>()
+    }
+
+    fn releasedir(
+        &mut self,
+        ctx: Context,
+        inode: u64,
+        flags: u32,
+        handle: u64,
+    ) -> Result<(), Fault> {
+        defaults::no_such_call::<()>()
+    }
+
+    fn fsyncdir(
+        &mut self,
+        ctx: Context,
+        inode: u64,
+        datasync: bool,
+        handle: u64,
+    ) -> Result<(), Fault> {
+        defaults::no_such_call::<()>()
+    }
+
+    fn getlk(&mut self) -> Result<(), Fault> {
+        defaults::no_such_call::<()>()
+    }
+
+    fn setlk(&mut self) -> Result<(), Fault> {
+        defaults::no_such_call::<()>()
+    }
+
+    fn setlkw(&mut self) -> Result<(), Fault> {
+        defaults::no_such_call::<()>()
+    }
+
+    fn access(&mut self, ctx: Context, inode: u64, mask: u32) -> Result<(), Fault> {
+        defaults::no_such_call::<()>()
+    }
+
+    fn create(
+        &mut self,
+        ctx: Context,
+        parent: u64,
+        name: CStr<'_>,
+        mode: u32,
+        kill_priv: bool,
+        flags: u32,
+        umask: u32,
+        ext: Extensions,
+    ) -> Result<(Entry, Option<u64>, OpenOptions), Fault> {
+        defaults::no_such_call::<(Entry, Option<u64>, OpenOptions)>()
+    }
+
+    fn bmap(&mut self) -> Result<(), Fault> {
+        defaults::no_such_call::<()>()
+    }
+
+    fn destroy(&mut self) {
+        defaults::destroy()
+    }
+
+    fn ioctl(&mut self) -> Result<(), Fault> {
+        defaults::no_such_call::<()>()
+    }
+
+    fn poll(&mut self) -> Result<(), Fault> {
+        defaults::no_such_call::<()>()
+    }
+
+    fn notify_reply(&mut self) -> Result<(), Fault> {
+        defaults::no_such_call::<()>()
+    }
+
+    fn batch_forget(&mut self, ctx: Context, requests: Vec<(u64, u64)>)
+        ensures { Done ≡ default_answer (BatchForget ctx requests.items) }
+    {
+        self.forget_each(&ctx, requests);
+    }
+
+    fn fallocate(
+        &mut self,
+        ctx: Context,
+        inode: u64,
+        handle: u64,
+        mode: u32,
+        offset: u64,
+        length: u64,
+    ) -> Result<(), Fault> {
+        defaults::no_such_call::<()>()
+    }
+
+    fn lseek(
+        &mut self,
+        ctx: Context,
+        inode: u64,
+        handle: u64,
+        offset: u64,
+        whence: u32,
+    ) -> Result<u64, Fault> {
+        defaults::no_such_call::<u64>()
+    }
+
+    fn copyfilerange(
+        &mut self,
+        ctx: Context,
+        inode_in: u64,
+        handle_in: u64,
+        offset_in: u64,
+        inode_out: u64,
+        handle_out: u64,
+        offset_out: u64,
+        len: u64,
+        flags: u64,
+    ) -> Result<u32, Fault> {
+        defaults::no_such_call::<u32>()
+    }
+
+    fn syncfs(&mut self, ctx: Context, inode: u64) -> Result<(), Fault> {
+        defaults::no_such_call::<()>()
+    }
+
+    fn tmpfile(&mut self) -> Fault {
+        defaults::tmpfile()
+    }
+}
