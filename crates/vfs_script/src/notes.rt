@@ -1,7 +1,7 @@
 //! The notes of the calls, as text.
 
 use std::alloc::{AllocError, Global};
-use vfs_files::Context;
+use vfs_files::{Context, Extensions};
 use vfs_flags::Fault;
 
 /// Lines, each with two spaces before it.
@@ -78,11 +78,42 @@ impl Notes {
         }
     }
 
+    /// One that is true or false.
+    pub fn truth(&mut self, name: &str, value: bool) {
+        self.word(name, if value { "true" } else { "false" });
+    }
+
     /// Bytes, in hex.
     pub fn bytes(&mut self, name: &str, value: &[u8]) {
-        match hex::encode(self.alloc, value) {
-            Ok(value) => self.word(name, value.as_str()),
-            Err(_) => self.lacks = true,
+        self.word(name, "");
+        self.hex(value);
+    }
+
+    /// Pairs of a node and a count, joined by commas.
+    pub fn pairs(&mut self, name: &str, value: &[(u64, u64)]) {
+        self.word(name, "");
+        let mut between = "";
+        for (node, count) in value {
+            let noted = write!(self.text, "{between}{node}:{count}");
+            self.keep(noted);
+            between = ",";
+        }
+    }
+
+    /// The extensions of a request: the name and the value of its security context, and its group.
+    pub fn extensions(&mut self, ext: &Extensions) {
+        match &ext.secctx {
+            Some(context) => {
+                self.bytes("secctx", context.name.as_c_str().to_bytes());
+                let noted = self.text.push(':');
+                self.keep(noted);
+                self.hex(&context.secctx);
+            }
+            None => self.word("secctx", "none"),
+        }
+        match ext.sup_gid {
+            Some(group) => self.number("group", u64::from(group.into_inner())),
+            None => self.word("group", "none"),
         }
     }
 
@@ -94,15 +125,36 @@ impl Notes {
 
     /// Begins the line of an answer. The parts of one that is no fault go on with it.
     pub fn answer<T>(&mut self, answer: &Result<T, Fault>) {
-        let noted = match answer {
-            Ok(_) => self.text.push_str("  -> ok"),
-            Err(Some(errno)) => {
+        match answer {
+            Ok(_) => {
+                let noted = self.text.push_str("  -> ok");
+                self.keep(noted);
+            }
+            Err(fault) => self.fault(fault),
+        }
+    }
+
+    /// Begins the line of an answer that is a fault.
+    pub fn fault(&mut self, fault: &Fault) {
+        let noted = match fault {
+            Some(errno) => {
                 let number = errno.get();
                 write!(self.text, "  -> fault {number}")
             }
-            Err(None) => self.text.push_str("  -> fault none"),
+            None => self.text.push_str("  -> fault none"),
         };
         self.keep(noted);
+    }
+
+    // Appends bytes in hex.
+    fn hex(&mut self, value: &[u8]) {
+        match hex::encode(self.alloc, value) {
+            Ok(value) => {
+                let noted = self.text.push_str(value.as_str());
+                self.keep(noted);
+            }
+            Err(_) => self.lacks = true,
+        }
     }
 
     fn keep(&mut self, noted: Result<(), AllocError>) {

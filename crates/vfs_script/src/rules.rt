@@ -5,10 +5,14 @@
 //! user and group, device t % 256, block size 4096 and flags t % 4. A timeout is t % 100 seconds and
 //! t % 1000 microseconds.
 
+ghost use Rattle.std.specs.Prelude.{◌≤◌, IfOk, vec_len};
+
+use bitflags::Flags;
+use std::alloc::Global;
 use std::time::Duration;
 use vfs_files::{Context, Entry};
-use vfs_flags::{Errno, Fault};
-use vfs_wire::Attr;
+use vfs_flags::{Errno, Fault, OpenOptions};
+use vfs_wire::{Attr, Statvfs64};
 
 /// The fault of a number below 160: 0 has no number, and 135 to 137, which stand for numbers that
 /// no fault has, have none either. 1 to 133 are themselves, 134 is the largest, the others are 2.
@@ -91,4 +95,49 @@ pub fn wanted_bits(seed: u32) -> u64 {
         4 => 1 << 29 | 1 << 32,
         _ => 1 << 13 | 1 << 17 | 1 << 28 | 1 << 29 | 1 << 32,
     }
+}
+
+/// The handle that an opening answers: none where the seed is a multiple of 3, else the seed in both
+/// halves of the number.
+pub fn handle(seed: u32) -> Option<u64> {
+    if seed % 3 == 0 {
+        None
+    } else {
+        Some(u64::from(seed) * 4_294_967_297)
+    }
+}
+
+/// How what was opened is to be used: the known bits of the seed's rest by 128.
+pub fn open_options(seed: u32) -> OpenOptions {
+    OpenOptions::from_bits_truncate(seed % 128)
+}
+
+/// What a file system holds. Two of the numbers have more bits than their places in the reply, for
+/// some seeds.
+pub fn statistics(seed: u32) -> Statvfs64 {
+    let q = u64::from(seed);
+    Statvfs64 {
+        f_bsize: q % 2 * 4_294_967_296 + 512 + q,
+        f_frsize: 4096 + q,
+        f_blocks: 3 * q,
+        f_bfree: 2 * q,
+        f_bavail: q,
+        f_files: q + 7,
+        f_ffree: q + 5,
+        f_namemax: 255 + q % 3 * 4_294_967_296,
+    }
+}
+
+/// So many bytes that count up from the seed, by 256. ENOMEM where there is no memory for them.
+pub fn bytes(alloc: Global, seed: u32, count: u32) -> Result<Vec<u8>, Fault>
+    ensures { IfOk result (λ bytes. vec_len bytes ≤ count) }
+{
+    let mut bytes = Vec::new(alloc);
+    for index in 0..count {
+        let byte = (seed.wrapping_add(index) % 256) as u8;
+        if bytes.push(byte).is_err() {
+            return Err(Some(Errno::ENOMEM));
+        }
+    }
+    Ok(bytes)
 }

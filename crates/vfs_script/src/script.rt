@@ -4,23 +4,47 @@
 //! The word is 0 at first. Each call with a caller sets it to the caller's process, and is answered
 //! by it; a call without one is answered by the word as it stands. Where the word's rest by 8 is 7
 //! the answer is a fault. Everything else goes by the word divided by 8, the *seed*; the module
-//! `rules` says how. An answer that the input tells goes before all this.
+//! `rules` has the numbers:
+//!
+//! | Call | Answer |
+//! |---|---|
+//! | `init` | by the seed's rest by 6: no option, all, or some that are known |
+//! | `lookup` | ENOENT for a name that begins with `x`, a fault without a number for one with `y`, else the name's entry |
+//! | `symlink`, `mknod`, `mkdir`, `link` | the name's entry |
+//! | `create` | the name's entry, and a handle as `open` |
+//! | `open`, `opendir` | a handle or none, and how to use it |
+//! | `getattr` | attributes by the seed, the node's rest by 1000 and the handle's by 7 |
+//! | `setattr` | those of the record, with 77 names where there is a handle and 1 else, and the bits of `valid` as flags; the others by the seed |
+//! | `readlink` | as many bytes as the seed's rest by 300 |
+//! | `getxattr`, `listxattr` | the seed as a length where it is a multiple of 3, else as many bytes as the rest by 500 of its third |
+//! | `statfs` | numbers by the seed |
+//! | `lseek` | the offset where the seed is even, else the seed |
+//! | `copyfilerange` | the length, at most the seed |
+//! | `tmpfile` | ENOSYS |
+//! | all others | that it is done |
+//!
+//! An answer that the input tells goes before all this.
+
+ghost use Rattle.std.specs.Prelude.{◌≤◌, IfOk, IfSome, vec_len};
 
 use crate::notes::Notes;
-use crate::rules::{attr, entry, fault_of, time, wanted_bits};
+use crate::rules::{attr, bytes, entry, fault_of, handle, open_options, time, wanted_bits};
 use crate::told::{Told, bare_entry};
 use bitflags::Flags;
 use std::alloc::Global;
 use std::cell::RefCell;
 use std::collections::VecDeque;
 use std::time::Duration;
-use vfs_files::{CStr, Context, DirEntry, DirectoryIterator, Entry, FileSystem};
-use vfs_flags::{Errno, Fault, FsOptions};
-use vfs_wire::Attr;
+use vfs_files::{Context, Entry};
+use vfs_flags::{Errno, Fault, FsOptions, OpenOptions};
+use vfs_wire::{Attr, SetattrIn};
+
+mod calls;
 
 /// The file system.
 #[derive(Drop)]
 pub struct ScriptFs<'a> {
+    alloc: Global,
     word: u32,
     told: &'a RefCell<VecDeque<Told>>,
     notes: Notes,
@@ -31,6 +55,7 @@ impl<'a> ScriptFs<'a> {
     /// `told`.
     pub fn new(alloc: Global, told: &'a RefCell<VecDeque<Told>>) -> ScriptFs<'a> {
         ScriptFs {
+            alloc,
             word: 0,
             told,
             notes: Notes::new(alloc),
@@ -66,6 +91,14 @@ impl<'a> ScriptFs<'a> {
         }
     }
 
+    // The seed, or what the input tells in its place.
+    fn seed_or_told(&self) -> Result<u32, Fault> {
+        match self.next_told() {
+            Some(told) => Ok((told.value()? % 4_294_967_296) as u32),
+            None => self.seed(),
+        }
+    }
+
     // The options that are wanted.
     fn wanted(&self) -> Result<FsOptions, Fault> {
         let bits = match self.next_told() {
@@ -75,7 +108,7 @@ impl<'a> ScriptFs<'a> {
         Ok(FsOptions::from_bits_truncate(bits))
     }
 
-    // What LOOKUP finds: names that begin with `x` or `y` are not there, whatever the word.
+    // What LOOKUP finds.
     fn found(&self, ctx: &Context, name: &[u8]) -> Result<Entry, Fault> {
         if let Some(told) = self.next_told() {
             return Ok(bare_entry(told.value()?));
@@ -87,18 +120,144 @@ impl<'a> ScriptFs<'a> {
         }
     }
 
-    // The attributes of a node, with t the seed and what the node and the handle leave by 1000 and 7.
+    // The entry of a node that is made or gets a name.
+    fn made(&self, ctx: &Context, name: &[u8]) -> Result<Entry, Fault> {
+        match self.next_told() {
+            Some(told) => Ok(bare_entry(told.value()?)),
+            None => Ok(entry(self.seed()?, ctx, name)),
+        }
+    }
+
+    // What is opened.
+    fn opened(&self) -> Result<(Option<u64>, OpenOptions), Fault> {
+        if let Some(told) = self.next_told() {
+            return Ok((Some(told.value()?), OpenOptions::empty()));
+        }
+        let seed = self.seed()?;
+        Ok((handle(seed), open_options(seed)))
+    }
+
+    // The node that is made, and what is opened of it.
+    fn created(
+        &self,
+        ctx: &Context,
+        name: &[u8],
+    ) -> Result<(Entry, Option<u64>, OpenOptions), Fault> {
+        if let Some(told) = self.next_told() {
+            return Ok((bare_entry(told.value()?), None, OpenOptions::empty()));
+        }
+        let seed = self.seed()?;
+        Ok((entry(seed, ctx, name), handle(seed), open_options(seed)))
+    }
+
+    // The attributes of a node.
     fn attributes(
         &self,
         ctx: &Context,
         inode: u64,
         handle: Option<u64>,
     ) -> Result<(Attr, Duration), Fault> {
-        if let Some(told) = self.next_told() {
-            return Ok((bare_entry(told.value()?).attr, Duration::ZERO));
-        }
-        let t = u64::from(self.seed()?) + inode % 1000 + handle.unwrap_or(0) % 7;
+        let t = u64::from(self.seed_or_told()?) + inode % 1000 + handle.unwrap_or(0) % 7;
         Ok((attr(t, inode, ctx), time(t)))
+    }
+
+    // The attributes of a node, where those of the record are set.
+    fn changed(
+        &self,
+        ctx: &Context,
+        inode: u64,
+        set: &SetattrIn,
+        nlink: u32,
+        flags: u32,
+    ) -> Result<(Attr, Duration), Fault> {
+        let t = u64::from(self.seed_or_told()?);
+        let attr = Attr {
+            size: set.size,
+            atime: set.atime,
+            mtime: set.mtime,
+            ctime: set.ctime,
+            atimensec: set.atimensec,
+            mtimensec: set.mtimensec,
+            ctimensec: set.ctimensec,
+            mode: set.mode,
+            uid: set.uid,
+            gid: set.gid,
+            nlink,
+            flags,
+            ..attr(t, inode, ctx)
+        };
+        Ok((attr, time(t)))
+    }
+
+    // The text of a link.
+    fn text(&self) -> Result<Vec<u8>, Fault>
+        ensures { IfOk result (λ text. vec_len text ≤ 500) }
+    {
+        let seed = self.seed_or_told()?;
+        bytes(self.alloc, seed, seed % 300)
+    }
+
+    // The bytes of extended attributes, or their length where there is to be no more.
+    fn attribute(&self) -> Result<(Option<Vec<u8>>, u32), Fault>
+        ensures { IfOk result (λ found. IfSome found.0 (λ text. vec_len text ≤ 500)) }
+    {
+        let seed = self.seed_or_told()?;
+        if seed % 3 == 0 {
+            Ok((None, seed))
+        } else {
+            Ok((Some(bytes(self.alloc, seed, seed / 3 % 500)?), seed))
+        }
+    }
+
+    // The fault of a call that always fails.
+    fn refusal(&self) -> Fault {
+        match self.seed_or_told() {
+            Ok(_) => Some(Errno::ENOSYS),
+            Err(fault) => fault,
+        }
+    }
+
+    // Ends the note of a call that answers only whether it is done, and notes the answer.
+    fn done(&mut self) -> Result<(), Fault> {
+        self.notes.end();
+        let answer = match self.seed_or_told() {
+            Ok(_) => Ok(()),
+            Err(fault) => Err(fault),
+        };
+        self.note_plain(&answer);
+        answer
+    }
+
+    // Notes a call that is told nothing, and its answer.
+    fn done_untold(&mut self, call: &str) -> Result<(), Fault> {
+        self.notes.call(call);
+        self.done()
+    }
+
+    // Ends the note of a call that makes a node, and notes the answer.
+    fn done_entry(&mut self, ctx: &Context, name: &[u8]) -> Result<Entry, Fault> {
+        self.notes.end();
+        let answer = self.made(ctx, name);
+        self.note_entry(&answer);
+        answer
+    }
+
+    // Ends the note of a call that opens something, and notes the answer.
+    fn done_opening(&mut self) -> Result<(Option<u64>, OpenOptions), Fault> {
+        self.notes.end();
+        let answer = self.opened();
+        self.notes.answer(&answer);
+        if let Ok((handle, options)) = &answer {
+            self.note_opening(*handle, *options);
+        }
+        self.notes.end();
+        answer
+    }
+
+    // Notes a handle and how to use it.
+    fn note_opening(&mut self, handle: Option<u64>, options: OpenOptions) {
+        self.notes.option("handle", handle);
+        self.notes.number("opts", u64::from(options.bits()));
     }
 
     // Notes an answer of which nothing is shown.
@@ -115,78 +274,13 @@ impl<'a> ScriptFs<'a> {
         }
         self.notes.end();
     }
-}
 
-/// What a directory lists: nothing, since no directory can be read yet.
-#[derive(Drop)]
-pub struct NoEntries;
-
-impl DirectoryIterator for NoEntries {
-    ghost use Rattle.std.specs.Prelude.{⊤};
-
-    ghost gives = { λ old item new. ⊤ };
-
-    fn next(&mut self) -> Option<DirEntry<'_>> {
-        None
-    }
-}
-
-// Each call notes itself, finds its answer, and notes that. Its relation allows every answer.
-impl FileSystem for ScriptFs<'_> {
-    ghost use Rattle.std.specs.Prelude.{⊤};
-
-    type Inode = u64;
-
-    type Handle = u64;
-
-    type DirIter = NoEntries;
-
-    ghost allows = { λ old call handed new. ⊤ };
-
-    fn init(&mut self, capable: FsOptions) -> Result<FsOptions, Fault> {
-        self.notes.call("init");
-        self.notes.bits("capable", capable.bits());
-        self.notes.end();
-        let answer = self.wanted();
-        self.notes.answer(&answer);
-        if let Ok(want) = &answer {
-            self.notes.bits("want", want.bits());
+    // Notes an answer that is a number.
+    fn note_number<N: Copy + Into<u64>>(&mut self, name: &str, answer: &Result<N, Fault>) {
+        self.notes.answer(answer);
+        if let Ok(number) = answer {
+            self.notes.number(name, (*number).into());
         }
         self.notes.end();
-        answer
-    }
-
-    fn lookup(&mut self, ctx: Context, parent: u64, name: CStr<'_>) -> Result<Entry, Fault> {
-        self.called_by("lookup", &ctx);
-        self.notes.number("parent", parent);
-        self.notes.bytes("name", name.to_bytes());
-        self.notes.end();
-        let answer = self.found(&ctx, name.to_bytes());
-        self.note_entry(&answer);
-        answer
-    }
-
-    fn forget(&mut self, ctx: Context, inode: u64, count: u64) {
-        self.called_by("forget", &ctx);
-        self.notes.number("inode", inode);
-        self.notes.number("count", count);
-        self.notes.end();
-    }
-
-    fn getattr(
-        &mut self,
-        ctx: Context,
-        inode: u64,
-        handle: Option<u64>,
-    ) -> Result<(Attr, Duration), Fault>
-        ensures { ⊤ }
-    {
-        self.called_by("getattr", &ctx);
-        self.notes.number("inode", inode);
-        self.notes.option("handle", handle);
-        self.notes.end();
-        let answer = self.attributes(&ctx, inode, handle);
-        self.note_plain(&answer);
-        answer
     }
 }

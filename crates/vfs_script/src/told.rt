@@ -8,8 +8,8 @@ use vfs_wire::Attr;
 /// An answer that a line tells.
 #[derive(Clone, Copy)]
 pub enum Told {
-    /// `answer N`: the node, the options by their bits, the handle or the count, by what the call
-    /// answers. What the call answers beside it is zeros.
+    /// `answer N`: the node, the options by their bits or the handle, where the call answers one of
+    /// these, with zeros beside it; else what stands for the seed.
     Value(u64),
     /// `answer fault N` or `answer fault none`.
     Fault(Fault),
