@@ -1,3 +1,4 @@
+pub mod Errors
 pub mod ExtType
 pub mod Flags
 pub mod Opcode

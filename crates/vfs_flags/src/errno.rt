@@ -26,20 +26,65 @@ impl Model for Errno {
 pub type Fault = Option<Errno>;
 
 impl Errno {
+    /// The caller may not do this, whatever the modes of the file say.
+    pub const EPERM: Errno = Errno(1);
+
+    /// There is no entry of this name, or the node is gone.
+    pub const ENOENT: Errno = Errno(2);
+
     /// Input or output failed. Also what a reply carries for a fault with no number.
     pub const EIO: Errno = Errno(5);
+
+    /// The handle is of no open file, or the file is not open for this.
+    pub const EBADF: Errno = Errno(9);
 
     /// Memory is wanting, or a request or its reply is longer than the server takes.
     pub const ENOMEM: Errno = Errno(12);
 
+    /// The modes or the access list of the file do not allow this to the caller.
+    pub const EACCES: Errno = Errno(13);
+
+    /// There is an entry of this name already.
+    pub const EEXIST: Errno = Errno(17);
+
+    /// The two names lie on different mounts.
+    pub const EXDEV: Errno = Errno(18);
+
+    /// The node is no directory.
+    pub const ENOTDIR: Errno = Errno(20);
+
+    /// The node is a directory.
+    pub const EISDIR: Errno = Errno(21);
+
+    /// An argument makes no sense here: flags, an offset, a name or a value.
+    pub const EINVAL: Errno = Errno(22);
+
+    /// The file system has no room left.
+    pub const ENOSPC: Errno = Errno(28);
+
+    /// The file system is mounted to be read only.
+    pub const EROFS: Errno = Errno(30);
+
+    /// The value is longer than the size that the request left for it, as of an extended attribute.
+    pub const ERANGE: Errno = Errno(34);
+
     /// The request is not served.
     pub const ENOSYS: Errno = Errno(38);
+
+    /// The directory still has entries.
+    pub const ENOTEMPTY: Errno = Errno(39);
+
+    /// There is no extended attribute of this name.
+    pub const ENODATA: Errno = Errno(61);
 
     /// The kernel's version of the protocol is not served.
     pub const EPROTO: Errno = Errno(71);
 
     /// A number has no place in the record that should hold it.
     pub const EOVERFLOW: Errno = Errno(75);
+
+    /// The file or the file system has no such operation.
+    pub const EOPNOTSUPP: Errno = Errno(95);
 
     /// The error of this number. None for 0 and below, which name no error.
     pub fn new(n: i32) -> Option<Errno>

@@ -149,6 +149,22 @@ impl FsOptions {
     /// The file system may be mounted with mapped ids (`FUSE_ALLOW_IDMAP`).
     pub const ALLOW_IDMAP: FsOptions = FsOptions(1 << 40);
 
+    /// What a server supports by itself, whatever its file system wants.
+    pub const SUPPORTED: FsOptions = FsOptions(
+        FsOptions::ASYNC_READ.0
+            | FsOptions::ATOMIC_O_TRUNC.0
+            | FsOptions::BIG_WRITES.0
+            | FsOptions::HAS_IOCTL_DIR.0
+            | FsOptions::AUTO_INVAL_DATA.0
+            | FsOptions::ASYNC_DIO.0
+            | FsOptions::PARALLEL_DIROPS.0
+            | FsOptions::MAX_PAGES.0
+            | FsOptions::SUBMOUNTS.0
+            | FsOptions::INIT_EXT.0
+            | FsOptions::CREATE_SUPP_GROUP.0
+            | FsOptions::ALLOW_IDMAP.0,
+    );
+
     const FLAGS: &'static [Flag<FsOptions>] = flag_list!(FsOptions:
         ASYNC_READ,
         POSIX_LOCKS,

@@ -8,6 +8,7 @@ mod flag_list;
 mod fs_options;
 mod ids;
 mod ioctl_flags;
+pub mod laws;
 mod notify_inval_entry_out_flags;
 mod notify_opcode;
 mod opcode;
@@ -17,6 +18,7 @@ mod setupmapping_flags;
 mod setxattr_flags;
 #[cfg(test)]
 mod tests;
+pub mod uses;
 
 pub use constants::{
     ATTR_DAX, ATTR_SUBMOUNT, FATTR_FH, FATTR_LOCKOWNER, FSYNC_FDATASYNC,

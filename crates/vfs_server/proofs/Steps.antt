@@ -1,108 +1,92 @@
 -- From what a handler says of one request to the step that it is.
-use Rattle.std.proofs.Common.{◌≡◌, ◌∙◌, ◌≤◌, ℕ, Bool, true, false, List, [], ◌∷◌, Option, None, Result, Ok, Err, length, drop, refl, ap, sym, inl, inr, arith, nat_lt, if◌then◌else◌, subst, ◌++◌, append-nil}
-use Rattle.std.proofs.lemmas.Bool.Decides.{nat_tests}
-use Rattle.vfs_flags.specs.Opcode.{opcode_of}
-use Rattle.vfs_wire.specs.Fields.{Table, value_of}
+use Rattle.std.proofs.Common.{◌≡◌, ◌∙◌, ℕ, List, [], ◌∷◌, Option, None, Result, Ok, Err, length, drop, refl, ap, inl, inr, ◌++◌, append-nil}
 use Rattle.vfs_wire.specs.Headers.{in_header}
 use Rattle.vfs_wire.specs.declared.headers.InHeader.{InHeader}
 use Rattle.vfs_segments.specs.Written.{Written, held_over}
 use Rattle.vfs_files.specs.Items.{Item}
-use Rattle.vfs_files.specs.Calls.{Call, Done, Handed, Init}
+use Rattle.vfs_files.specs.Calls.{Call, Handed, kind_of}
 use Rattle.vfs_files.specs.Runs.{Happening, Calls, IsRun, events_of}
-use Rattle.vfs_server.specs.Ask.{Ask, Refused, Says, Silent, Tells, Asks, Agrees, ask, ask_header, refused_or, record_of, size_of, max_len, TakesMemory}
-use Rattle.vfs_server.specs.Handled.{Handles, HandlesOrLacks, TakesHeader}
-use Rattle.vfs_server.specs.Room.{Leaves}
-use Rattle.vfs_server.specs.Step.{At, Follows, IsStep}
-use Rattle.vfs_server.specs.declared.error.Error.{Error}
-use Rattle.vfs_server.specs.declared.error.Error.TheVariants.{OutOfMemory}
+use Rattle.vfs_messages.specs.Records.{record_of, size_of}
+use Rattle.vfs_messages.specs.Forms.{Ask, Ends, Asks, Copies, refused, refused_or}
+use Rattle.vfs_messages.specs.Ask.{ask, ask_header}
+use Rattle.vfs_messages.specs.Reply.{Reply, Refusal, NoReply, Bytes, OpenBehind, Never, reply_of}
+use Rattle.vfs_messages.specs.Room.{IsReplied, Leaves, Replies}
+use Rattle.vfs_messages.specs.Turn.{Follows, turn_tells}
+use Rattle.vfs_messages.specs.declared.error.Error.{Error}
+use Rattle.vfs_messages.specs.declared.error.Error.TheVariants.{OutOfMemory}
+use Rattle.vfs_server.specs.Step.{ServerState, Handles, IsStep, server_tells}
 
--- a test that was not passed let the value through
-let_through : {A : Type 0} (b : Bool) (error : Error) (v x : A) → (if b then Err error else Ok v) ≡ Ok x → (b ≡ false) × (v ≡ x)
-let_through true error v x h = absurd cc
-let_through false error v x h = (refl, cc)
+-- what came back through a writer, as a reader of the room's bytes sees it
+pub record Came (reply : Reply) (old : Written) (outcome : Result ℕ Error) (new : Written) : Type 0 where
+  pub room_after : List ℕ
+  pub leaves : Leaves old room_after new
+  pub says : IsReplied reply old.left outcome room_after
+  pub no_hold : old.held ≡ 0 → new.held ≡ 0
 
--- a record that was read is whole, and is the one that the bytes begin with
-pub record_is : {R : Type 0} (t : Table R) (bytes : List ℕ) (x : R) → record_of t bytes ≡ Ok x → (size_of t ≤ length bytes) × (value_of t bytes ≡ x)
-record_is t bytes x h =
-    let k = let_through (nat_lt (length bytes) (size_of t)) _ (value_of t bytes) x h in
-    let test : nat_lt (length bytes) (size_of t) ≡ false = k.0 in
-    (grind (arith, nat_tests), k.1)
+stays : (old new : Written) → new ≡ old → Leaves old old.left new
+stays old new e = rw e (record { kept = refl; same_length = refl })
 
-module _ {S I : Type 0} (allows : S → Call → Handed I → S → Type 0) (gives : I → Option Item → I → Type 0) (old : At S) (request : List ℕ) (writer : Written) (outcome : Result ℕ Error) (after : Written) (new : At S) where
-  -- what was handled without a list of events is a run with the events that the grammar gives
+pub came : (reply : Reply) (old new : Written) (outcome : Result ℕ Error) → Replies reply old outcome new → Came reply old outcome new
+came (Refusal error) old new outcome h = record { room_after = old.left; leaves = stays old new h.1; says = (h.0, refl); no_hold = λ z. ap (λ (w : Written). w.held) h.1 ∙ z }
+came NoReply old new outcome h = record { room_after = old.left; leaves = stays old new h.1; says = (h.0, refl); no_hold = λ z. ap (λ (w : Written). w.held) h.1 ∙ z }
+came (Bytes reply) old new outcome h = record { room_after = h.room_after; leaves = h.leaves; says = h.says; no_hold = h.no_hold }
+came (OpenBehind reply) old new outcome h = record { room_after = h.room_after; leaves = h.leaves; says = h.says; no_hold = h.no_hold }
+came Never old new outcome h = absurd h
+
+module _ {S I : Type 0} (allows : S → Call → Handed I → S → Type 0) (gives : I → Option Item → I → Type 0) (old : ServerState S) (request : List ℕ) (writer : Written) (outcome : Result ℕ Error) (writer_after : Written) (new : ServerState S) where
+  -- what was handled without a list of events is a run with the events that the table gives
   record Followed (a : Ask) : Type 0 where
     run : List (Happening I × S)
-    left : List ℕ
+    room_after : List ℕ
     is_run : IsRun allows gives None old.fs run new.fs
-    leaves : Leaves writer left after
-    follows : Follows old.page_size old.options a (record { request = request; room = writer.left; events = events_of run; outcome = outcome; left = left }) new.options
-    same_page_size : new.page_size ≡ old.page_size
+    leaves : Leaves writer room_after writer_after
+    follows : Follows (turn_tells (record { request = request; room = writer.left; events = events_of run; outcome = outcome; room_after = room_after })) old.limits old.options a new.options
+    no_hold : writer.held ≡ 0 → writer_after.held ≡ 0
 
-  stays : after ≡ writer → Leaves writer writer.left after
-  stays e = rw e (record { kept = refl; long = refl })
+  follow : (a : Ask) → Follows (server_tells allows old writer outcome writer_after new) old.limits old.options a new.options → Followed a
+  follow (Ends reply) h =
+      let c = came reply writer writer_after outcome h.1 in
+      record { run = []; room_after = c.room_after; is_run = h.0; leaves = c.leaves; follows = (refl, c.says, h.2); no_hold = c.no_hold }
+  follow (Asks echo call) h =
+      let c = came (reply_of old.limits echo new.options (kind_of call) h.0) writer writer_after outcome h.3 in
+      record { run = (Calls call h.0, new.fs) ∷ []; room_after = c.room_after; is_run = (h.1, refl); leaves = c.leaves; follows = (h.0, refl, h.2, c.says, h.4); no_hold = c.no_hold }
+  follow (Copies rest) (inl h) =
+      let f = follow rest h in
+      record { run = f.run; room_after = f.room_after; is_run = f.is_run; leaves = f.leaves; follows = inl f.follows; no_hold = f.no_hold }
+  follow (Copies rest) (inr h) =
+      let c = came (Refusal OutOfMemory) writer writer_after outcome h.1 in
+      record { run = []; room_after = c.room_after; is_run = h.0; leaves = c.leaves; follows = inr (refl, c.says, h.2); no_hold = c.no_hold }
 
-  follow : (a : Ask) → Handles allows a old writer outcome after new → Followed a
-  follow (Refused error) h = record { run = []; left = writer.left; is_run = ap (λ s. s.fs) h.2; leaves = stays h.1; follows = (refl, h.0, refl, ap (λ s. s.options) h.2); same_page_size = ap (λ s. s.page_size) h.2 }
-  follow (Says reply) h = record { run = []; left = h.0.left; is_run = ap (λ s. s.fs) h.1; leaves = h.0.leaves; follows = (refl, h.0.says, ap (λ s. s.options) h.1); same_page_size = ap (λ s. s.page_size) h.1 }
-  follow Silent h = record { run = []; left = writer.left; is_run = ap (λ s. s.fs) h.2; leaves = stays h.1; follows = (refl, h.0, refl, ap (λ s. s.options) h.2); same_page_size = ap (λ s. s.page_size) h.2 }
-  follow (Tells call) h = record { run = (Calls call Done, new.fs) ∷ []; left = writer.left; is_run = (h.0, refl); leaves = stays h.2; follows = (refl, h.1, refl, h.3); same_page_size = h.4 }
-  follow (Asks unique call) h = record { run = (Calls call h.0, new.fs) ∷ []; left = h.3.left; is_run = (h.1, refl); leaves = h.3.leaves; follows = (h.0, refl, h.2, h.3.says, h.4); same_page_size = h.5 }
-  follow (Agrees unique max_readahead offered) h = record { run = (Calls (Init offered) h.0, new.fs) ∷ []; left = h.3.left; is_run = (h.1, refl); leaves = h.3.leaves; follows = (h.0, refl, h.2, h.3.says, h.4); same_page_size = h.5 }
-
-  step_of : (a : Ask) → ask old.options (length writer.left) request ≡ a → Handles allows a old writer outcome after new → IsStep allows gives old request writer outcome after new
+  step_of : (a : Ask) → ask old.limits old.options (length writer.left) request ≡ a → Handles allows a old writer outcome writer_after new → IsStep allows gives old request writer outcome writer_after new
   step_of a e h =
-      let f = follow a h in
-      record { run = f.run; left = f.left; is_run = f.is_run; leaves = f.leaves; turn = inl (rw e f.follows); same_page_size = f.same_page_size }
+      let f = follow a h.0 in
+      record { run = f.run; room_after = f.room_after; is_run = f.is_run; leaves = f.leaves; turn = rw e f.follows; same_limits = h.1 }
 
   -- a request without a whole header
-  pub step_short : (error : Error) → record_of in_header request ≡ Err error → outcome ≡ Err error → after ≡ writer → new ≡ old → IsStep allows gives old request writer outcome after new
-  step_short error e o a n = step_of (Refused error) (ap (λ part. refused_or part (λ h. ask_header old.options (length writer.left) h (drop 40 request))) e) (o, a, n)
+  pub step_short : (error : Error) → record_of in_header request ≡ Err error → outcome ≡ Err error → writer_after ≡ writer → new ≡ old → IsStep allows gives old request writer outcome writer_after new
+  step_short error e o a n =
+      step_of (refused error) (ap (λ part. refused_or part (λ h. ask_header old.limits old.options (length writer.left) h (drop (size_of in_header) request))) e)
+      ((ap (λ (s : ServerState S). s.fs) n, (o, a), ap (λ (s : ServerState S). s.options) n), ap (λ (s : ServerState S). s.limits) n)
 
   -- a request with a header
   pub step_of_header : (h : InHeader) → record_of in_header request ≡ Ok h
-      → HandlesOrLacks allows (ask_header old.options (length writer.left) h (drop 40 request)) (TakesHeader h (drop 40 request)) old writer outcome after new
-      → IsStep allows gives old request writer outcome after new
-  step_of_header h e (inl d) = step_of (ask_header old.options (length writer.left) h (drop 40 request)) (ap (λ part. refused_or part (λ k. ask_header old.options (length writer.left) k (drop 40 request))) e) d
-  step_of_header h e (inr d) =
-      let is = record_is in_header request h e in
-      let f = follow (Refused OutOfMemory) d.1 in
-      let limit : InHeader → Type 0 = λ k. k.len ≤ max_len in
-      let takes : InHeader → Type 0 = λ k. TakesMemory (opcode_of k.opcode) k (drop 40 request) in
-      record {
-        run = f.run;
-        left = f.left;
-        is_run = f.is_run;
-        leaves = f.leaves;
-        turn = inr (record {
-          wants = record { header = is.0; in_limit = subst limit (sym is.1) d.0.in_limit; tail = subst takes (sym is.1) d.0.takes };
-          no_call = f.follows.0;
-          refused = f.follows.1;
-          room = f.follows.2;
-          same_options = f.follows.3;
-        });
-        same_page_size = f.same_page_size;
-      }
+      → Handles allows (ask_header old.limits old.options (length writer.left) h (drop (size_of in_header) request)) old writer outcome writer_after new
+      → IsStep allows gives old request writer outcome writer_after new
+  step_of_header h e d =
+      step_of (ask_header old.limits old.options (length writer.left) h (drop (size_of in_header) request))
+      (ap (λ part. refused_or part (λ k. ask_header old.limits old.options (length writer.left) k (drop (size_of in_header) request))) e) d
 
   -- a hold that was given up changes no byte
-  pub step_of_hold : IsStep allows gives old request (held_over writer 0) outcome after new → IsStep allows gives old request writer outcome after new
+  pub step_of_hold : IsStep allows gives old request (held_over writer 0) outcome writer_after new → IsStep allows gives old request writer outcome writer_after new
   step_of_hold s = record {
     run = s.run;
-    left = s.left;
+    room_after = s.room_after;
     is_run = s.is_run;
-    leaves = record { kept = s.leaves.kept ∙ ap (λ (p : List ℕ). p ++ s.left) (append-nil writer.passed); long = s.leaves.long };
+    leaves = record { kept = s.leaves.kept ∙ ap (λ (p : List ℕ). p ++ s.room_after) (append-nil writer.passed); same_length = s.leaves.same_length };
     turn = s.turn;
-    same_page_size = s.same_page_size;
+    same_limits = s.same_limits;
   }
 
-  hold_stays : (a : Ask) → Handles allows a old writer outcome after new → after.held ≡ writer.held
-  hold_stays (Refused error) h = ap (λ (w : Written). w.held) h.1
-  hold_stays (Says reply) h = h.0.same_hold
-  hold_stays Silent h = ap (λ (w : Written). w.held) h.1
-  hold_stays (Tells call) h = ap (λ (w : Written). w.held) h.2
-  hold_stays (Asks unique call) h = h.3.same_hold
-  hold_stays (Agrees unique max_readahead offered) h = h.3.same_hold
-
-  -- what a writer holds it still holds when its request was handled
-  pub same_hold : (a : Ask) (takes : Type 0) → HandlesOrLacks allows a takes old writer outcome after new → after.held ≡ writer.held
-  same_hold a takes (inl d) = hold_stays a d
-  same_hold a takes (inr d) = hold_stays (Refused OutOfMemory) d.1
+  -- a writer that holds nothing still holds nothing when its request was handled
+  pub no_hold : (a : Ask) → Handles allows a old writer outcome writer_after new → writer.held ≡ 0 → writer_after.held ≡ 0
+  no_hold a h = (follow a h.0).no_hold

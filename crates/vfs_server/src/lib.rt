@@ -7,16 +7,8 @@
 #![tactic(auto)]
 
 pub mod descriptor_utils;
-mod error;
 pub mod filesystem;
 pub mod fuse;
-pub mod laws;
-mod options;
-mod reply;
-mod request;
 pub mod server;
 
-pub use error::{Error, Result};
-
-#[cfg(test)]
-mod tests;
+pub use vfs_messages::{Error, Limits, Result, laws, reply_error, reply_ok};

@@ -1,0 +1,59 @@
+//! The numbers of the protocol as they are written down. Each function here does nothing: its
+//! contract is the law, for a caller's proof to cite.
+
+ghost use Rattle.std.specs.Prelude.{◌≡◌};
+ghost use Rattle.vfs_flags.specs.Flags.{known_fs_options, known_setattr_valid, known_open_options, known_ioctl_flags, known_setxattr_flags, known_notify_inval_entry_out_flags, known_setupmapping_flags, supported_fs_options};
+
+use crate::*;
+
+/// The bits of each flag set that are known, and the options that a server supports by itself.
+pub fn masks_have_their_bits()
+    ensures fs_options { known_fs_options ≡ 0x117fbffffff }
+    ensures setattr_valid { known_setattr_valid ≡ 0xdbf }
+    ensures open_options { known_open_options ≡ 0x7f }
+    ensures ioctl_flags { known_ioctl_flags ≡ 0x13f }
+    ensures setxattr_flags { known_setxattr_flags ≡ 1 }
+    ensures notify_inval_entry_out_flags { known_notify_inval_entry_out_flags ≡ 1 }
+    ensures setupmapping_flags { known_setupmapping_flags ≡ 3 }
+    ensures supported { supported_fs_options ≡ 0x10448449829 }
+{}
+
+/// The versions and the number of the root.
+pub fn versions_have_their_numbers()
+    ensures major { KERNEL_VERSION ≡ 7 }
+    ensures minor { KERNEL_MINOR_VERSION ≡ 38 }
+    ensures lowest_minor { MIN_KERNEL_MINOR_VERSION ≡ 27 }
+    ensures root { ROOT_ID ≡ 1 }
+{}
+
+/// The single flags of requests, attributes and replies.
+pub fn single_flags_have_their_bits()
+    ensures attr_submount { ATTR_SUBMOUNT ≡ 1 }
+    ensures attr_dax { ATTR_DAX ≡ 2 }
+    ensures fattr_fh { FATTR_FH ≡ 64 }
+    ensures fattr_lockowner { FATTR_LOCKOWNER ≡ 512 }
+    ensures getattr_fh { GETATTR_FH ≡ 1 }
+    ensures open_kill_suidgid { OPEN_KILL_SUIDGID ≡ 1 }
+    ensures release_flush { RELEASE_FLUSH ≡ 1 }
+    ensures release_flock_unlock { RELEASE_FLOCK_UNLOCK ≡ 2 }
+    ensures read_lockowner { READ_LOCKOWNER ≡ 2 }
+    ensures write_cache { WRITE_CACHE ≡ 1 }
+    ensures write_lockowner { WRITE_LOCKOWNER ≡ 2 }
+    ensures write_kill_priv { WRITE_KILL_PRIV ≡ 4 }
+    ensures fsync_fdatasync { FSYNC_FDATASYNC ≡ 1 }
+    ensures lk_flock { LK_FLOCK ≡ 1 }
+    ensures poll_schedule_notify { POLL_SCHEDULE_NOTIFY ≡ 1 }
+{}
+
+/// The sizes of records of earlier versions, and the least room for a request.
+pub fn sizes_have_their_numbers()
+    ensures min_read_buffer { FUSE_MIN_READ_BUFFER ≡ 8192 }
+    ensures entry_out { FUSE_COMPAT_ENTRY_OUT_SIZE ≡ 120 }
+    ensures attr_out { FUSE_COMPAT_ATTR_OUT_SIZE ≡ 96 }
+    ensures mknod_in { FUSE_COMPAT_MKNOD_IN_SIZE ≡ 8 }
+    ensures write_in { FUSE_COMPAT_WRITE_IN_SIZE ≡ 24 }
+    ensures statfs { FUSE_COMPAT_STATFS_SIZE ≡ 48 }
+    ensures init_out { FUSE_COMPAT_INIT_OUT_SIZE ≡ 8 }
+    ensures init_out_22 { FUSE_COMPAT_22_INIT_OUT_SIZE ≡ 24 }
+    ensures setxattr_in { FUSE_COMPAT_SETXATTR_IN_SIZE ≡ 8 }
+{}

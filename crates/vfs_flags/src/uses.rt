@@ -1,0 +1,73 @@
+//! Numbers of the protocol by name: calls of this crate, each with a fact that its contracts give.
+
+ghost use Rattle.std.specs.Prelude.{◌≡◌, [], ◌∷◌, map};
+ghost use Rattle.vfs_flags.specs.Errors.{eperm, enoent, eio, ebadf, enomem, eacces, eexist, exdev, enotdir, eisdir, einval, enospc, erofs, erange, enosys, enotempty, enodata, eproto, eoverflow, eopnotsupp};
+ghost use Rattle.vfs_flags.specs.Flags.{fs_options_bits, init_ext, setxattr_ext, security_ctx, create_supp_group, supported_fs_options};
+
+use crate::{Errno, FsOptions};
+
+/// The named errors, in the order of their numbers.
+pub fn named_errors() -> [Errno; 20]
+    ensures { result ≡
+        eperm ∷ enoent ∷ eio ∷ ebadf ∷ enomem ∷ eacces ∷ eexist ∷ exdev ∷ enotdir ∷ eisdir ∷
+        einval ∷ enospc ∷ erofs ∷ erange ∷ enosys ∷ enotempty ∷ enodata ∷ eproto ∷ eoverflow ∷
+        eopnotsupp ∷ [] }
+{
+    [
+        Errno::EPERM,
+        Errno::ENOENT,
+        Errno::EIO,
+        Errno::EBADF,
+        Errno::ENOMEM,
+        Errno::EACCES,
+        Errno::EEXIST,
+        Errno::EXDEV,
+        Errno::ENOTDIR,
+        Errno::EISDIR,
+        Errno::EINVAL,
+        Errno::ENOSPC,
+        Errno::EROFS,
+        Errno::ERANGE,
+        Errno::ENOSYS,
+        Errno::ENOTEMPTY,
+        Errno::ENODATA,
+        Errno::EPROTO,
+        Errno::EOVERFLOW,
+        Errno::EOPNOTSUPP,
+    ]
+}
+
+/// The option that SETXATTR has its longer record.
+pub fn longer_setxattr() -> FsOptions
+    ensures { fs_options_bits result ≡ setxattr_ext }
+{
+    FsOptions::SETXATTR_EXT
+}
+
+/// The option that INIT has a second record.
+pub fn longer_init() -> FsOptions
+    ensures { fs_options_bits result ≡ init_ext }
+{
+    FsOptions::INIT_EXT
+}
+
+/// The option that a request which creates a node carries its security contexts.
+pub fn security_contexts() -> FsOptions
+    ensures { fs_options_bits result ≡ security_ctx }
+{
+    FsOptions::SECURITY_CTX
+}
+
+/// The option that a request which creates a node carries a supplementary group.
+pub fn supplementary_group() -> FsOptions
+    ensures { fs_options_bits result ≡ create_supp_group }
+{
+    FsOptions::CREATE_SUPP_GROUP
+}
+
+/// The options that a server supports by itself.
+pub fn supported() -> FsOptions
+    ensures { fs_options_bits result ≡ supported_fs_options }
+{
+    FsOptions::SUPPORTED
+}

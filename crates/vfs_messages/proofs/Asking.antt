@@ -1,0 +1,140 @@
+-- Every case of what a request may ask, by its form.
+use Rattle.std.proofs.Common.{◌≡◌, ◌+◌, ◌-◌, ◌*◌, ◌==◌, ℕ, Bool, true, false, bit_and, List, length, take, drop, nat_lt, if◌then◌else◌, Option, Some, None, Ok, Err, refl}
+use Rattle.vfs_flags.specs.Errors.{enomem, enosys, eproto}
+use Rattle.vfs_flags.specs.Flags.{init_ext}
+use Rattle.vfs_flags.specs.Opcode.{opcode_of}
+use Rattle.vfs_flags.specs.declared.constants.TheConstants.{KERNEL_VERSION, MIN_KERNEL_MINOR_VERSION}
+use Rattle.vfs_flags.specs.declared.opcode.Opcode.{Opcode}
+use Rattle.vfs_wire.specs.Fields.{Table, bytes_of, value_of}
+use Rattle.vfs_wire.specs.Headers.{in_header}
+use Rattle.vfs_wire.specs.Init.{init_in_compat, init_in_ext, init_out}
+use Rattle.vfs_wire.specs.Entries.{forget_one}
+use Rattle.vfs_wire.specs.declared.headers.InHeader.{InHeader}
+use Rattle.vfs_wire.specs.declared.init.InitInCompat.{InitInCompat}
+use Rattle.vfs_files.specs.Calls.{Call}
+use Rattle.vfs_files.specs.Names.{name_of}
+use Rattle.vfs_messages.specs.Limits.{max_len}
+use Rattle.vfs_messages.specs.Records.{size_of, record_of}
+use Rattle.vfs_messages.specs.Ask.{form_of, ask_number, ask_header, ask}
+use Rattle.vfs_messages.specs.Forms.{Ask, Ends, Asks, Copies, refused, silent, within, refused_or, tail_of, name_or_refusal, pairs_of, pairs_in, second_flags, flags2_in, ask_version, Layout, Without, Record, layout_record, Form, NoTail, NameTail, Pairs, Versions, Silent, NotServed, ask_form}
+use Rattle.vfs_messages.specs.Laws.{unique_of}
+use Rattle.vfs_messages.specs.Reply.{Bytes, Echo, fault_reply, body_reply, version_out}
+use Rattle.vfs_messages.specs.declared.limits.Limits.{Limits}
+use Rattle.vfs_messages.specs.declared.error.Error.{Error}
+use Rattle.vfs_messages.specs.declared.error.Error.TheVariants.{DecodeMessage, FlushMessage, InvalidCString, InvalidCString2, InvalidHeaderLength, OutOfMemory}
+
+-- the errors by which the table refuses a request
+abbrev pub MayRefuse : Error → Type 0
+MayRefuse FlushMessage = ⊥
+MayRefuse InvalidCString2 = ⊥
+MayRefuse OutOfMemory = ⊥
+MayRefuse _ = Unit {0}
+
+-- what holds on both sides of a test holds of the choice
+pub either : {A : Type 0} (P : A → Type 0) (b : Bool) (x y : A) → P x → P y → P (if b then x else y)
+either P true x y p q = p
+either P false x y p q = q
+
+-- what is to be shown of P in each case that a request may ask, but for copies
+pub record EachCase (P : Ask → Type 0) (unique : ℕ) : Type 0 where
+  pub refusal : (e : Error) → MayRefuse e → P (refused e)
+  pub fault : (f : Option ℕ) → P (Ends (Bytes (fault_reply f unique)))
+  pub version : P (Ends (Bytes (body_reply (bytes_of init_out version_out) unique)))
+  pub nothing : P silent
+  pub asks : (echo : Echo) (c : Call) → echo.unique ≡ unique → P (Asks echo c)
+
+module _ (P : Ask → Type 0) (unique : ℕ) (each : EachCase P unique) where
+  -- one test refuses a part
+  test_cases : {A : Type 0} (b : Bool) (e : Error) (v : A) (next : A → Ask) → MayRefuse e
+      → ((x : A) → (if b then Err e else Ok v) ≡ Ok x → P (next x))
+      → P (refused_or (if b then Err e else Ok v) next)
+  test_cases true e v next m p = each.refusal e m
+  test_cases false e v next m p = p v refl
+
+  pub record_cases : {R : Type 0} (t : Table R) (bytes : List ℕ) (next : R → Ask)
+      → ((r : R) → record_of t bytes ≡ Ok r → P (next r)) → P (refused_or (record_of t bytes) next)
+  record_cases t bytes next p =
+      test_cases (nat_lt (length bytes) (size_of t)) DecodeMessage (value_of t bytes) next tt p
+
+  pub layout_cases : {R : Type 0} (l : Layout R) (rest : List ℕ) (next : R → Ask)
+      → ((r : R) → layout_record l rest ≡ Ok r → P (next r)) → P (refused_or (layout_record l rest) next)
+  layout_cases (Without r) rest next p = p r refl
+  layout_cases (Record t) rest next p = record_cases t rest next p
+
+  -- two tests refuse a tail
+  tests_cases : {A : Type 0} (b c : Bool) (v : A) (next : A → Ask)
+      → ((x : A) → (if b then Err InvalidHeaderLength else if c then Err DecodeMessage else Ok v) ≡ Ok x → P (next x))
+      → P (refused_or (if b then Err InvalidHeaderLength else if c then Err DecodeMessage else Ok v) next)
+  tests_cases true c v next p = each.refusal InvalidHeaderLength tt
+  tests_cases false true v next p = each.refusal DecodeMessage tt
+  tests_cases false false v next p = p v refl
+
+  pub tail_cases : (h : InHeader) (size : ℕ) (rest : List ℕ) (next : List ℕ → Ask)
+      → ((tail : List ℕ) → tail_of h size rest ≡ Ok tail → P (next tail)) → P (refused_or (tail_of h size rest) next)
+  tail_cases h size rest next p =
+      let n = size_of in_header + size in
+      tests_cases (nat_lt h.len n) (nat_lt (length rest) (h.len - n)) (take (h.len - n) rest) next p
+
+  pub pairs_cases : (count : ℕ) (bytes : List ℕ) (next : List (ℕ × ℕ) → Ask)
+      → ((ps : List (ℕ × ℕ)) → pairs_in count bytes ≡ Ok ps → P (next ps)) → P (refused_or (pairs_in count bytes) next)
+  pairs_cases count bytes next p =
+      test_cases (nat_lt (length bytes) (count * size_of forget_one)) DecodeMessage (pairs_of count bytes) next tt p
+
+  pub within_cases : (above : Bool) (h : InHeader) (next : Ask) → h.unique ≡ unique
+      → (above ≡ false → P next) → P (within above h next)
+  within_cases true h next e p = rw e (each.fault (Some enomem))
+  within_cases false h next e p = p refl
+
+  name_cases : (name : Option (List ℕ)) (next : List ℕ → Ask) → ((text : List ℕ) → P (next text))
+      → P (refused_or (name_or_refusal name) next)
+  name_cases None next p = each.refusal InvalidCString tt
+  name_cases (Some text) next p = p text
+
+  version_cases : (h : InHeader) (r : InitInCompat) (flags2 : ℕ) → h.unique ≡ unique → P (ask_version h r flags2)
+  version_cases h r flags2 e = rw e
+      (either P (nat_lt r.major KERNEL_VERSION) _ _ (each.fault (Some eproto))
+      (either P (nat_lt KERNEL_VERSION r.major) _ _ each.version
+      (either P (nat_lt r.minor MIN_KERNEL_MINOR_VERSION) _ _ (each.fault (Some eproto)) (each.asks _ _ refl))))
+
+  second_cases : (flags : ℕ) (rest : List ℕ) (next : ℕ → Ask) → ((flags2 : ℕ) → P (next flags2))
+      → P (refused_or (second_flags flags rest) next)
+  second_cases flags rest next p =
+      either (λ r. P (refused_or r next)) (bit_and flags init_ext == 0) (Ok 0) (flags2_in (record_of init_in_ext rest)) (p 0)
+      (either (λ r. P (refused_or (flags2_in r) next)) (nat_lt (length rest) (size_of init_in_ext)) (Err DecodeMessage)
+      (Ok (value_of init_in_ext rest)) (each.refusal DecodeMessage tt) (p _))
+
+  pub versions_cases : (h : InHeader) (rest : List ℕ) → h.unique ≡ unique → P (ask_form h rest Versions)
+  versions_cases h rest e =
+      record_cases init_in_compat rest _ (λ r is.
+      second_cases r.flags (drop (size_of init_in_compat) rest) (ask_version h r) (λ flags2. version_cases h r flags2 e))
+
+  module _ (copies : (a : Ask) → P a → P (Copies a)) where
+    -- P holds of what a request of each form asks
+    form_cases : (h : InHeader) (rest : List ℕ) (form : Form) → h.unique ≡ unique → P (ask_form h rest form)
+    form_cases h rest (NoTail l above call) e =
+        layout_cases l rest _ (λ r is. within_cases (above r) h _ e (λ no. each.asks _ _ e))
+    form_cases h rest (NameTail l above call) e =
+        layout_cases l rest _ (λ r is. tail_cases h _ _ _ (λ tail whole.
+        copies _ (within_cases (above r) h _ e (λ no. name_cases (name_of tail) _ (λ name. each.asks _ _ e)))))
+    form_cases h rest (Pairs l above count call) e =
+        layout_cases l rest _ (λ r is. within_cases (above r) h _ e (λ no.
+        pairs_cases (count r) _ _ (λ pairs whole. copies _ (each.asks _ _ e))))
+    form_cases h rest Versions e = versions_cases h rest e
+    form_cases h rest Silent e = each.nothing
+    form_cases h rest NotServed e = rw e (each.fault (Some enosys))
+
+    number_cases : (limits : Limits) (options room : ℕ) (opcode : Option Opcode) (h : InHeader) (rest : List ℕ)
+        → h.unique ≡ unique → P (ask_number limits options room opcode h rest)
+    number_cases limits options room None h rest e = rw e (each.fault (Some enosys))
+    number_cases limits options room (Some opcode) h rest e = form_cases h rest (form_of limits options room h opcode) e
+
+    -- P holds of what any bytes ask
+    pub ask_cases : (limits : Limits) (options room : ℕ) (bytes : List ℕ) → unique_of bytes ≡ unique
+        → P (ask limits options room bytes)
+    ask_cases limits options room bytes e =
+        let h = value_of in_header bytes in
+        let rest = drop (size_of in_header) bytes in
+        either (λ r. P (refused_or r (λ h. ask_header limits options room h rest))) (nat_lt (length bytes) (size_of in_header))
+        (Err DecodeMessage) (Ok h) (each.refusal DecodeMessage tt)
+        (within_cases (nat_lt (max_len limits) h.len) h _ e (λ no.
+        number_cases limits options room (opcode_of h.opcode) h rest e))

@@ -1,0 +1,6 @@
+pub mod Rooms
+pub mod Pairs
+pub mod Asking
+pub mod Bodies
+pub mod Turns
+pub mod Examples

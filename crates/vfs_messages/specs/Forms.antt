@@ -1,0 +1,180 @@
+-- The forms of requests: what stands behind the header, and in which order it is refused.
+use Rattle.std.specs.Prelude.{◌≡◌, ℕ, zero, suc, ◌+◌, ◌*◌, ◌-◌, ◌==◌, bit_and, [], ◌∷◌, Bool, true, false, List, length, take, drop, nat_lt, if◌then◌else◌, Option, Some, None, Result, Ok, Err, IsOk}
+use Rattle.vfs_flags.specs.Errors.{enomem, enosys, eproto}
+use Rattle.vfs_flags.specs.Flags.{init_ext}
+use Rattle.vfs_flags.specs.declared.constants.TheConstants.{KERNEL_VERSION, MIN_KERNEL_MINOR_VERSION}
+use Rattle.vfs_wire.specs.Fields.{Table, bytes_of, value_of}
+use Rattle.vfs_wire.specs.Headers.{in_header}
+use Rattle.vfs_wire.specs.Init.{init_in_compat, init_in_ext, init_out}
+use Rattle.vfs_wire.specs.Entries.{forget_one}
+use Rattle.vfs_wire.specs.declared.init.InitInCompat.{InitInCompat}
+use Rattle.vfs_wire.specs.declared.headers.InHeader.{InHeader}
+use Rattle.vfs_wire.specs.declared.init.InitInExt.{InitInExt}
+use Rattle.vfs_files.specs.Calls.{Call}
+use Rattle.vfs_files.specs.Calls as call
+use Rattle.vfs_files.specs.Names.{name_of}
+use Rattle.vfs_messages.specs.Options.{offered}
+use Rattle.vfs_messages.specs.Records.{size_of, record_of}
+use Rattle.vfs_messages.specs.Reply.{Reply, Refusal, Bytes, NoReply, Echo, echo_of, fault_reply, body_reply, version_out}
+use Rattle.vfs_messages.specs.declared.error.Error.{Error}
+use Rattle.vfs_messages.specs.declared.error.Error.TheVariants.{DecodeMessage, InvalidCString, InvalidHeaderLength}
+
+-- What a request asks: to be ended without a call, by this coming back; a call, whose reply repeats this
+-- of the request; or that some of its bytes be copied, for which there may be no memory, and then the
+-- rest.
+pub data Ask : Type 0 where
+  Ends : (reply : Reply) → Ask
+  Asks : (echo : Echo) (call : Call) → Ask
+  Copies : (rest : Ask) → Ask
+
+-- a request that is refused with an error
+abbrev pub refused : Error → Ask
+refused error = Ends (Refusal error)
+
+-- a request that is answered by the fault of this number, without a call
+abbrev pub faulted : (number : ℕ) → InHeader → Ask
+faulted number h = Ends (Bytes (fault_reply (Some number) h.unique))
+
+-- a request that nothing comes back of, without a call
+abbrev pub silent : Ask
+silent = Ends NoReply
+
+-- a part of a request that is at fault refuses it; otherwise the rest says what it asks
+abbrev pub refused_or : {A : Type 0} → Result A Error → (next : A → Ask) → Ask
+refused_or (Err error) next = refused error
+refused_or (Ok part) next = next part
+
+-- what is above a limit is answered by the fault ENOMEM
+abbrev pub within : (above : Bool) → InHeader → (next : Ask) → Ask
+within true h next = faulted enomem h
+within false h next = next
+
+-- the tail of a request, of what follows the header and a record of `size` bytes: as long as `len` says
+abbrev pub tail_of : InHeader → (size : ℕ) → (behind : List ℕ) → Result (List ℕ) Error
+tail_of h size behind =
+    if nat_lt h.len (size_of in_header + size) then Err InvalidHeaderLength
+    else if nat_lt (length behind) (h.len - (size_of in_header + size)) then Err DecodeMessage
+    else Ok (take (h.len - (size_of in_header + size)) behind)
+
+-- a name, or the refusal of what is none
+abbrev pub name_or_refusal : Option (List ℕ) → Result (List ℕ) Error
+name_or_refusal None = Err InvalidCString
+name_or_refusal (Some name) = Ok name
+
+-- the name that a tail is
+abbrev pub name_in : (tail : List ℕ) → Result (List ℕ) Error
+name_in tail = name_or_refusal (name_of tail)
+
+-- so many pairs of a node and a count
+abbrev pub pairs_of : (count : ℕ) → (bytes : List ℕ) → List (ℕ × ℕ)
+pairs_of zero bytes = []
+pairs_of (suc count) bytes =
+    ((value_of forget_one bytes).nodeid, (value_of forget_one bytes).nlookup)
+    ∷ pairs_of count (drop (size_of forget_one) bytes)
+
+-- the pairs that the bytes begin with, where they are whole
+abbrev pub pairs_in : (count : ℕ) → (bytes : List ℕ) → Result (List (ℕ × ℕ)) Error
+pairs_in count bytes =
+    if nat_lt (length bytes) (count * size_of forget_one) then Err DecodeMessage
+    else Ok (pairs_of count bytes)
+
+-- the word of flags in INIT's second record
+abbrev pub flags2_in : Result InitInExt Error → Result ℕ Error
+flags2_in (Ok r) = Ok r.flags2
+flags2_in (Err error) = Err error
+
+-- the second word of INIT's flags: in a record of its own, where INIT_EXT in the first says that there
+-- is one, and else 0
+abbrev pub second_flags : (flags : ℕ) → (behind : List ℕ) → Result ℕ Error
+second_flags flags behind =
+    if bit_and flags init_ext == 0 then Ok 0 else flags2_in (record_of init_in_ext behind)
+
+-- INIT of this version: an older one is refused, and a newer major one is told ours
+abbrev pub ask_version : InHeader → InitInCompat → (flags2 : ℕ) → Ask
+ask_version h r flags2 =
+    if nat_lt r.major KERNEL_VERSION then faulted eproto h
+    else if nat_lt KERNEL_VERSION r.major then
+    Ends (Bytes (body_reply (bytes_of init_out version_out) h.unique))
+    else if nat_lt r.minor MIN_KERNEL_MINOR_VERSION then faulted eproto h
+    else
+    Asks (record { unique = h.unique; max_readahead = r.max_readahead })
+    (call.Init (offered r.flags flags2))
+
+-- a request's record: none, in the place of which this stands, or one of this table
+pub data Layout (R : Type 0) : Type 0 where
+  Without : R → Layout R
+  Record : Table R → Layout R
+
+-- no record
+abbrev pub no_record : Layout (Unit {0})
+no_record = Without tt
+
+-- the bytes that it has
+abbrev pub layout_size : {R : Type 0} → Layout R → ℕ
+layout_size (Without r) = 0
+layout_size (Record t) = size_of t
+
+-- the record that the bytes begin with
+abbrev pub layout_record : {R : Type 0} → Layout R → (rest : List ℕ) → Result R Error
+layout_record (Without r) rest = Ok r
+layout_record (Record t) rest = record_of t rest
+
+-- what follows the record
+abbrev pub behind : {R : Type 0} → Layout R → (rest : List ℕ) → List ℕ
+behind layout rest = drop (layout_size layout) rest
+
+-- where there is no limit, no record asks for more than it
+abbrev pub unlimited : {R : Type 0} → R → Bool
+unlimited r = false
+
+-- A line of the protocol's table: the form of a request, with its record and the call that it asks for.
+-- By the form something may follow the record: nothing, a name, or pairs of a node and a count, as many
+-- as the record says. `above` tells whether the record asks for more than the limits allow. INIT has a
+-- form of its own; some requests ask for nothing, and some aren't served.
+pub data Form : Type 1 where
+  NoTail : {R : Type 0} (layout : Layout R) (above : R → Bool) (call : R → Call) → Form
+  NameTail : {R : Type 0} (layout : Layout R) (above : R → Bool) (call : R → List ℕ → Call) → Form
+  Pairs : {R : Type 0} (layout : Layout R) (above : R → Bool) (count : R → ℕ)
+      (call : R → List (ℕ × ℕ) → Call) → Form
+  Versions : Form
+  Silent : Form
+  NotServed : Form
+
+-- What a request of each form asks, by the bytes behind its header: in which order it is refused, and
+-- where memory is wanted.
+abbrev pub ask_form : InHeader → (rest : List ℕ) → Form → Ask
+ask_form h rest (NoTail layout above call) =
+    refused_or (layout_record layout rest) (λ r. within (above r) h (Asks (echo_of h) (call r)))
+ask_form h rest (NameTail layout above call) =
+    refused_or (layout_record layout rest) (λ r.
+    refused_or (tail_of h (layout_size layout) (behind layout rest)) (λ tail.
+    Copies (within (above r) h (refused_or (name_in tail) (λ name. Asks (echo_of h) (call r name))))))
+ask_form h rest (Pairs layout above count call) =
+    refused_or (layout_record layout rest) (λ r.
+    within (above r) h
+    (refused_or (pairs_in (count r) (behind layout rest)) (λ pairs.
+    Copies (Asks (echo_of h) (call r pairs)))))
+ask_form h rest Versions =
+    refused_or (record_of init_in_compat rest) (λ r.
+    refused_or (second_flags r.flags (drop (size_of init_in_compat) rest)) (ask_version h r))
+ask_form h rest Silent = silent
+ask_form h rest NotServed = faulted enosys h
+
+-- a tail that is whole, behind a record that is whole
+pub record TailIsWhole {R : Type 0} (h : InHeader) (rest : List ℕ) (layout : Layout R) : Type 0 where
+  pub whole_record : IsOk (layout_record layout rest)
+  pub whole_tail : IsOk (tail_of h (layout_size layout) (behind layout rest))
+
+-- pairs that are whole and no more than the limits allow, behind a record that is whole
+pub record PairsAreWhole {R : Type 0} (rest : List ℕ) (layout : Layout R) (above : R → Bool)
+    (count : R → ℕ) : Type 0 where
+  pub counts : R
+  pub whole_record : layout_record layout rest ≡ Ok counts
+  pub in_limit : above counts ≡ false
+  pub whole_pairs : IsOk (pairs_in (count counts) (behind layout rest))
+
+-- where memory may be wanted, by the form: for a tail or pairs that are whole, and for nothing else
+abbrev pub MayLackMemory : InHeader → (rest : List ℕ) → Form → Type 0
+MayLackMemory h rest (NameTail layout above call) = TailIsWhole h rest layout
+MayLackMemory h rest (Pairs layout above count call) = PairsAreWhole rest layout above count
+MayLackMemory h rest _ = ⊥

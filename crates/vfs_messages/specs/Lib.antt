@@ -1,0 +1,10 @@
+pub mod Limits
+pub mod Records
+pub mod Options
+pub mod Reply
+pub mod Room
+pub mod Forms
+pub mod Ask
+pub mod Parts
+pub mod Turn
+pub mod Laws

@@ -1,0 +1,19 @@
+-- What the client and the server agree on at INIT, as sets of bits.
+use Rattle.std.specs.Prelude.{ℕ, ◌+◌, ◌*◌, ◌^◌, bit_and, bit_or}
+use Rattle.vfs_flags.specs.Flags.{known_fs_options, supported_fs_options}
+use Rattle.vfs_files.specs.Calls.{Call, Init, Destroy, Answer, Options}
+
+-- the options that the client offers: of its two words of flags, those bits that are known
+abbrev pub offered : (flags flags2 : ℕ) → ℕ
+offered flags flags2 = bit_and (flags2 * 2 ^ 32 + flags) known_fs_options
+
+-- the options agreed: those offered that the file system wants or the server supports
+abbrev pub agreed : (offered want : ℕ) → ℕ
+agreed offered want = bit_and offered (bit_or want supported_fs_options)
+
+-- The options after a call with this answer: INIT's are those agreed, DESTROY leaves none, and every
+-- other call keeps the old ones.
+abbrev pub options_after : Call → Answer → (options : ℕ) → ℕ
+options_after (Init offered) (Options want) options = agreed offered want
+options_after Destroy answer options = 0
+options_after _ answer options = options

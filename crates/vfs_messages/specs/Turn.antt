@@ -1,0 +1,51 @@
+-- What follows from a request: the calls, what comes back, and the options afterwards.
+use Rattle.std.specs.Prelude.{◌≡◌, ◌⊎◌, length, ℕ, List, [], ◌∷◌, Result}
+use Rattle.vfs_files.specs.Calls.{Call, Answer, kind_of, IsAnswer}
+use Rattle.vfs_files.specs.Runs.{Event, Called}
+use Rattle.vfs_messages.specs.Forms.{Ask, Ends, Asks, Copies}
+use Rattle.vfs_messages.specs.Ask.{ask}
+use Rattle.vfs_messages.specs.Options.{options_after}
+use Rattle.vfs_messages.specs.Reply.{Reply, Refusal, reply_of}
+use Rattle.vfs_messages.specs.Room.{IsReplied}
+use Rattle.vfs_messages.specs.declared.limits.Limits.{Limits}
+use Rattle.vfs_messages.specs.declared.error.Error.{Error}
+use Rattle.vfs_messages.specs.declared.error.Error.TheVariants.{OutOfMemory}
+
+-- Who tells what happened at a request: that the file system wasn't called; that it was called once, so,
+-- with this answer; and that this came back to the client.
+pub record Witness : Type 1 where
+  pub no_call : Type 0
+  pub called : Call → Answer → Type 0
+  pub replied : Reply → Type 0
+
+-- The table of what follows from a request that asks this, with the options before and after it.
+abbrev pub Follows : Witness → Limits → (options : ℕ) → Ask → (after : ℕ) → Type 0
+Follows w limits options (Ends reply) after = w.no_call × w.replied reply × (after ≡ options)
+Follows w limits options (Asks echo call) after =
+    (answer : Answer) × w.called call answer × IsAnswer (kind_of call) answer
+    × w.replied (reply_of limits echo after (kind_of call) answer)
+    × (after ≡ options_after call answer options)
+Follows w limits options (Copies rest) after =
+    Follows w limits options rest after
+    ⊎ (w.no_call × w.replied (Refusal OutOfMemory) × (after ≡ options))
+
+-- a request with all that a reader of the bytes and of the calls sees of it
+pub record Turn : Type 0 where
+  pub request : List ℕ
+  pub room : List ℕ
+  pub events : List Event
+  pub outcome : Result ℕ Error
+  pub room_after : List ℕ
+
+-- what a turn tells: by its events, its outcome and its room
+abbrev pub turn_tells : Turn → Witness
+turn_tells t = record {
+  no_call = t.events ≡ [];
+  called = λ call answer. t.events ≡ Called call answer ∷ [];
+  replied = λ reply. IsReplied reply t.room t.outcome t.room_after;
+}
+
+-- a turn: what the table gives for the request
+abbrev pub IsTurn : Limits → (options : ℕ) → Turn → (after : ℕ) → Type 0
+IsTurn limits options t after =
+    Follows (turn_tells t) limits options (ask limits options (length t.room) t.request) after

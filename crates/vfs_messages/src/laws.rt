@@ -1,0 +1,53 @@
+//! What holds of every turn of a request, as laws: each function does nothing, and its clause says
+//! what was proved.
+
+ghost use Rattle.std.specs.Prelude.{◌≡◌, ◌≢◌, ◌<◌, ℕ, length, List, [], ◌∷◌, Ok, Err};
+ghost use Rattle.vfs_files.specs.Calls.{Init, Destroy, Answer, Options};
+ghost use Rattle.vfs_files.specs.Runs.{Called};
+ghost use Rattle.vfs_messages.specs.Turn.{Turn, IsTurn};
+ghost use Rattle.vfs_messages.specs.declared.limits.Limits.{Limits};
+ghost use Rattle.vfs_messages.specs.Laws.{unique_of, BeginsWithHeader, AreAgreed, WantsMemory};
+ghost use Rattle.vfs_messages.specs.declared.error.Error.{Error};
+
+/// After every error but `EncodeMessage` no call was made, the room is as it was, and the options are
+/// the old ones.
+pub fn refusals_change_nothing()
+    ensures { (limits : Limits) (options after : ℕ) (t : Turn) (e : Error) →
+        IsTurn limits options t after → t.outcome ≡ Err e → e ≢ Error.EncodeMessage →
+        (t.events ≡ []) × (t.room_after ≡ t.room) × (after ≡ options) }
+{}
+
+/// `FlushMessage` and `InvalidCString2` are never answered.
+pub fn two_errors_are_never_answered()
+    ensures { (limits : Limits) (options after : ℕ) (t : Turn) → IsTurn limits options t after →
+        (t.outcome ≢ Err Error.FlushMessage) × (t.outcome ≢ Err Error.InvalidCString2) }
+{}
+
+/// `OutOfMemory` is answered only to a request of a form with a tail or pairs, whose header, record
+/// and tail or pairs are whole, whose `len` is in the limit, and whose pairs are. An unknown opcode, a
+/// `len` above the limit, a part that isn't whole, and a request of another form never get it.
+pub fn memory_is_wanted_for_whole_tails()
+    ensures { (limits : Limits) (options after : ℕ) (t : Turn) → IsTurn limits options t after →
+        t.outcome ≡ Err Error.OutOfMemory → WantsMemory limits options (length t.room) t.request }
+{}
+
+/// Where the answer is n above 0, the room begins with a header whose `len` is n, which fits it, and
+/// whose `unique` is the request's.
+pub fn replies_begin_with_their_header()
+    ensures { (limits : Limits) (options after n : ℕ) (t : Turn) → IsTurn limits options t after →
+        t.outcome ≡ Ok n → 0 < n → BeginsWithHeader n (unique_of t.request) t.room_after }
+{}
+
+/// After an INIT that the file system accepts, the options lie within those offered, and contain all
+/// of these that the server supports.
+pub fn options_are_agreed()
+    ensures { (limits : Limits) (options after offered want : ℕ) (t : Turn) →
+        IsTurn limits options t after → t.events ≡ Called (Init offered) (Options want) ∷ [] →
+        AreAgreed offered after }
+{}
+
+/// After a DESTROY no options are agreed.
+pub fn destroy_leaves_no_options()
+    ensures { (limits : Limits) (options after : ℕ) (answer : Answer) (t : Turn) →
+        IsTurn limits options t after → t.events ≡ Called Destroy answer ∷ [] → after ≡ 0 }
+{}

@@ -1,0 +1,24 @@
+//! Requests and replies as bytes, without a file system: what a request asks, by a written grammar;
+//! the parts of a request, read from a reader; replies, put into the room of a writer.
+//!
+//! The server stands on this crate and shows the parts of it that its callers need again.
+#![tactic(auto)]
+
+mod error;
+pub mod laws;
+mod limits;
+mod options;
+mod reply;
+mod request;
+
+pub use error::{Error, Result};
+pub use limits::{DEFAULT_MAX_BUFFER, Limits};
+pub use options::{agreed_options, offered_options, read_second_flags, reply_init, reply_version};
+pub use reply::{
+    reply_attr, reply_done, reply_entry, reply_error, reply_fault, reply_fault_alone, reply_names,
+    reply_offset, reply_ok, reply_opened, reply_record, reply_statistics, reply_text,
+    reply_written,
+};
+pub use request::{
+    Name, handle_if, is_set, known_valid, number_if, read_name, read_pairs, read_record, read_tail,
+};

@@ -1,0 +1,359 @@
+//! Replies: a header (`struct fuse_out_header`) and a body, put into the room of a writer.
+//!
+//! Each call answers the reply's length, or `EncodeMessage` where the room is too small: then it holds
+//! as much of the reply's beginning as there is room for.
+
+ghost use Rattle.std.specs.Prelude.{◌≡◌, ◌≤◌, ◌<◌, ◌+◌, ◌^◌, ◌%◌, ◌++◌, ◌-ℤ◌, pos, take, length, [], nat_le, if◌then◌else◌, Ok, Err, IfSome, option_map};
+ghost use Rattle.vfs_wire.specs.Fields.{Fit, bytes_of};
+ghost use Rattle.vfs_wire.specs.Headers.{out_header};
+ghost use Rattle.vfs_wire.specs.Xattrs.{getxattr_out};
+ghost use Rattle.vfs_flags.specs.Flags.{open_options_bits};
+ghost use Rattle.vfs_segments.specs.Written.{wrote};
+ghost use Rattle.vfs_files.specs.Answers.{IsFault, IsAnswer, FitsText, KeepsTextShort, Told, Untold, Entries, TimedAttributes};
+ghost use Rattle.vfs_files.specs.Answers.{Openings, Capacities, Texts, TextsOrCounts, Offsets, Writes, Faults, Failed};
+ghost use Rattle.vfs_files.specs.Answers.{done_answer, entry_answer, attr_answer, opened_answer, statistics_answer};
+ghost use Rattle.vfs_files.specs.Answers.{text_answer, listxattr_answer, offset_answer, written_answer};
+ghost use Rattle.vfs_messages.specs.Records.{size_of, bytes_of_option, size_of_option};
+ghost use Rattle.vfs_messages.specs.Reply.{Bytes, said, fault_reply, fault_number, body_reply};
+ghost use Rattle.vfs_messages.specs.Reply.{say_done, say_fault, say_entry, say_attr, say_opened, say_statistics};
+ghost use Rattle.vfs_messages.specs.Reply.{say_text, say_text_or_count, say_offset, say_written, say_fault_alone};
+ghost use Rattle.vfs_messages.specs.Reply.{attr_out_of, open_out_of, getxattr_out_of};
+ghost use Rattle.vfs_messages.specs.Room.{Replies};
+
+use crate::error::{Error, Result};
+use bitflags::Flags;
+use std::io::Write;
+use std::time::Duration;
+use vfs_files::{Entry, ListxattrReply, Number};
+use vfs_flags::{Errno, Fault, OpenOptions};
+use vfs_segments::Writer;
+use vfs_wire::{
+    Attr, AttrOut, ByteValued, EntryOut, GetxattrOut, Kstatfs, LseekOut, OpenOut, OutHeader,
+    Statvfs64, WriteOut,
+};
+
+/// Puts a header, as much of it as there is room for.
+fn put_header(header: OutHeader, w: &mut Writer)
+    ensures { w.new ≡ wrote w.old (take (length w.old.left) (bytes_of out_header header)) }
+{
+    let _ = w.write_obj(header);
+}
+
+/// Puts a record, as much of it as there is room for, where there is one.
+fn put_part<T: ByteValued + Drop>(out: Option<T>, w: &mut Writer)
+    ensures wrote { w.new ≡ wrote w.old (take (length w.old.left) (bytes_of_option T.table out)) }
+    ensures in_width { IfSome out (λ x. Fit T.table.widths (T.table.fields x)) }
+{
+    if let Some(out) = out {
+        let _ = w.write_obj(out);
+    }
+}
+
+/// The bytes that a record has, where there is one.
+fn part_size<T: ByteValued + Drop>(out: &Option<T>) -> usize
+    ensures small { result ≤ 152 }
+    ensures size { result ≡ size_of_option T.table out.now }
+{
+    match out {
+        Some(_) => T::SIZE,
+        None => 0,
+    }
+}
+
+/// The outcome of a reply of `len` bytes in a room of so many.
+fn outcome_of(len: usize, room: usize) -> Result<usize>
+    ensures { result ≡ (if nat_le len room then Ok len else Err Error.EncodeMessage) }
+{
+    if len <= room {
+        Ok(len)
+    } else {
+        Err(Error::EncodeMessage)
+    }
+}
+
+/// Replies that a call succeeded: a record and bytes behind it, each where there is one. Without both
+/// the reply is a header alone.
+///
+/// The header says the length of the reply in 32 bits: of a longer one nothing is promised.
+pub fn reply_ok<T: ByteValued + Drop>(
+    out: Option<T>,
+    body: &[u8],
+    unique: u64,
+    w: &mut Writer,
+) -> Result<usize>
+    ensures replied { size_of out_header + length (bytes_of_option T.table out ++ body.now) < 2 ^ 32 →
+        Replies (Bytes (body_reply (bytes_of_option T.table out ++ body.now) unique)) w.old result w.new }
+    ensures in_width { IfSome out (λ x. Fit T.table.widths (T.table.fields x)) }
+{
+    let room = w.available_bytes();
+    let len = OutHeader::SIZE + part_size(&out) + body.len();
+    let header = OutHeader {
+        len: (len % (1 << 32)) as u32,
+        error: 0,
+        unique,
+    };
+    put_header(header, w);
+    put_part(out, w);
+    let _ = w.write_all(body);
+    outcome_of(len, room)
+}
+
+/// Replies a record.
+pub fn reply_record<T: ByteValued + Drop>(out: T, unique: u64, w: &mut Writer) -> Result<usize>
+    ensures replied { Replies (Bytes (body_reply (bytes_of T.table out) unique)) w.old result w.new }
+    ensures in_width { Fit T.table.widths (T.table.fields out) }
+{
+    reply_ok(Some(out), &[], unique, w)
+}
+
+/// Replies a header alone.
+fn reply_header(unique: u64, w: &mut Writer) -> Result<usize>
+    ensures { Replies (Bytes (body_reply [] unique)) w.old result w.new }
+{
+    reply_ok::<u8>(None, &[], unique, w)
+}
+
+/// The header of a reply that says a fault: its negated number, or that of EIO where it has none.
+fn fault_header(fault: Fault, unique: u64) -> OutHeader
+    ensures header { result ≡
+        record { len = size_of out_header; error = pos 0 -ℤ pos (fault_number fault); unique = unique } }
+    ensures fault { IsFault fault }
+{
+    let errno = match fault {
+        Some(errno) => errno,
+        None => Errno::EIO,
+    };
+    OutHeader {
+        len: OutHeader::SIZE as u32,
+        error: -errno.get(),
+        unique,
+    }
+}
+
+/// Replies a fault: the header alone, with its negated number, or that of EIO where it has none.
+pub fn reply_error(fault: Fault, unique: u64, w: &mut Writer) -> Result<usize>
+    ensures replied { Replies (Bytes (fault_reply fault unique)) w.old result w.new }
+    ensures fault { IsFault fault }
+{
+    let room = w.available_bytes();
+    put_header(fault_header(fault, unique), w);
+    outcome_of(OutHeader::SIZE, room)
+}
+
+/// Replies that a call was done, as ACCESS does: a header alone, or the fault.
+pub fn reply_done(
+    answer: std::result::Result<(), Fault>,
+    unique: u64,
+    w: &mut Writer,
+) -> Result<usize>
+    ensures replied { Replies (said unique (say_done (done_answer answer))) w.old result w.new }
+    ensures kind { IsAnswer Told (done_answer answer) }
+{
+    match answer {
+        Ok(()) => reply_header(unique, w),
+        Err(fault) => reply_error(fault, unique, w),
+    }
+}
+
+/// Replies a fault and nothing else, as GETLK does.
+pub fn reply_fault(
+    answer: std::result::Result<(), Fault>,
+    unique: u64,
+    w: &mut Writer,
+) -> Result<usize>
+    ensures replied { Replies (said unique (say_fault (done_answer answer))) w.old result w.new }
+    ensures kind { IsAnswer Untold (done_answer answer) }
+{
+    match answer {
+        Ok(()) => Ok(0),
+        Err(fault) => reply_error(fault, unique, w),
+    }
+}
+
+/// Replies a fault, which is all that TMPFILE is ever answered.
+pub fn reply_fault_alone(fault: Fault, unique: u64, w: &mut Writer) -> Result<usize>
+    ensures replied { Replies (said unique (say_fault_alone (Failed fault))) w.old result w.new }
+    ensures kind { IsAnswer Faults (Failed fault) }
+{
+    reply_error(fault, unique, w)
+}
+
+/// Replies an entry, as LOOKUP does.
+pub fn reply_entry(
+    answer: std::result::Result<Entry, Fault>,
+    unique: u64,
+    w: &mut Writer,
+) -> Result<usize>
+    ensures replied { Replies (said unique (say_entry (entry_answer answer))) w.old result w.new }
+    ensures kind { IsAnswer Entries (entry_answer answer) }
+{
+    match answer {
+        Ok(entry) => reply_record(EntryOut::from(entry), unique, w),
+        Err(fault) => reply_error(fault, unique, w),
+    }
+}
+
+/// The record of attributes and how long they hold.
+fn attr_out(attr: Attr, timeout: Duration) -> AttrOut
+    ensures { result ≡ attr_out_of attr timeout }
+{
+    AttrOut {
+        attr_valid: timeout.as_secs(),
+        attr_valid_nsec: timeout.subsec_nanos(),
+        dummy: 0,
+        attr,
+    }
+}
+
+/// Replies attributes and how long they hold, as GETATTR does.
+pub fn reply_attr(
+    answer: std::result::Result<(Attr, Duration), Fault>,
+    unique: u64,
+    w: &mut Writer,
+) -> Result<usize>
+    ensures replied { Replies (said unique (say_attr (attr_answer answer))) w.old result w.new }
+    ensures kind { IsAnswer TimedAttributes (attr_answer answer) }
+{
+    match answer {
+        Ok((attr, timeout)) => reply_record(attr_out(attr, timeout), unique, w),
+        Err(fault) => reply_error(fault, unique, w),
+    }
+}
+
+/// The record of what was opened.
+fn open_out<H: Number>(handle: Option<H>, options: OpenOptions) -> OpenOut
+    ensures { result ≡ open_out_of (option_map H.value handle) (open_options_bits options) }
+{
+    let fh = match handle {
+        Some(handle) => handle.number(),
+        None => 0,
+    };
+    OpenOut {
+        fh,
+        open_flags: options.bits(),
+        padding: 0,
+    }
+}
+
+/// Replies what was opened, as OPEN does.
+pub fn reply_opened<H: Number>(
+    answer: std::result::Result<(Option<H>, OpenOptions), Fault>,
+    unique: u64,
+    w: &mut Writer,
+) -> Result<usize>
+    ensures replied { Replies (said unique (say_opened (opened_answer H.value answer)))
+        w.old result w.new }
+    ensures kind { IsAnswer Openings (opened_answer H.value answer) }
+{
+    match answer {
+        Ok((handle, options)) => reply_record(open_out::<H>(handle, options), unique, w),
+        Err(fault) => reply_error(fault, unique, w),
+    }
+}
+
+/// Replies what a file system holds, as STATFS does.
+pub fn reply_statistics(
+    answer: std::result::Result<Statvfs64, Fault>,
+    unique: u64,
+    w: &mut Writer,
+) -> Result<usize>
+    ensures replied { Replies (said unique (say_statistics (statistics_answer answer)))
+        w.old result w.new }
+    ensures kind { IsAnswer Capacities (statistics_answer answer) }
+{
+    match answer {
+        Ok(statistics) => reply_record(Kstatfs::from(statistics), unique, w),
+        Err(fault) => reply_error(fault, unique, w),
+    }
+}
+
+/// Replies bytes that leave room for a header in 32 bits.
+fn reply_bytes(bytes: &[u8], unique: u64, w: &mut Writer) -> Result<usize>
+    requires { FitsText bytes.now }
+    ensures { Replies (Bytes (body_reply bytes.now unique)) w.old result w.new }
+{
+    reply_ok::<u8>(None, bytes, unique, w)
+}
+
+/// Replies a text, as READLINK does.
+pub fn reply_text(
+    answer: std::result::Result<Vec<u8>, Fault>,
+    unique: u64,
+    w: &mut Writer,
+) -> Result<usize>
+    requires { KeepsTextShort (text_answer answer) }
+    ensures replied { Replies (said unique (say_text (text_answer answer))) w.old result w.new }
+    ensures kind { IsAnswer Texts (text_answer answer) }
+{
+    match answer {
+        Ok(text) => reply_bytes(&text, unique, w),
+        Err(fault) => reply_error(fault, unique, w),
+    }
+}
+
+/// Replies how many bytes extended attributes have.
+fn reply_count(length: u32, unique: u64, w: &mut Writer) -> Result<usize>
+    ensures { Replies (Bytes (body_reply (bytes_of getxattr_out (getxattr_out_of length)) unique))
+        w.old result w.new }
+{
+    let out = GetxattrOut {
+        size: length,
+        padding: 0,
+    };
+    reply_record(out, unique, w)
+}
+
+/// Replies the names of extended attributes, or how many bytes they have, as LISTXATTR does.
+pub fn reply_names(
+    answer: std::result::Result<ListxattrReply, Fault>,
+    unique: u64,
+    w: &mut Writer,
+) -> Result<usize>
+    requires { KeepsTextShort (listxattr_answer answer) }
+    ensures replied { Replies (said unique (say_text_or_count (listxattr_answer answer)))
+        w.old result w.new }
+    ensures kind { IsAnswer TextsOrCounts (listxattr_answer answer) }
+{
+    match answer {
+        Ok(ListxattrReply::Names(names)) => reply_bytes(&names, unique, w),
+        Ok(ListxattrReply::Count(length)) => reply_count(length, unique, w),
+        Err(fault) => reply_error(fault, unique, w),
+    }
+}
+
+/// Replies a place in a file, as LSEEK does.
+pub fn reply_offset(
+    answer: std::result::Result<u64, Fault>,
+    unique: u64,
+    w: &mut Writer,
+) -> Result<usize>
+    ensures replied { Replies (said unique (say_offset (offset_answer answer))) w.old result w.new }
+    ensures kind { IsAnswer Offsets (offset_answer answer) }
+{
+    match answer {
+        Ok(offset) => reply_record(LseekOut { offset }, unique, w),
+        Err(fault) => reply_error(fault, unique, w),
+    }
+}
+
+/// Replies how many bytes were written, as COPY_FILE_RANGE does.
+pub fn reply_written(
+    answer: std::result::Result<u32, Fault>,
+    unique: u64,
+    w: &mut Writer,
+) -> Result<usize>
+    ensures replied { Replies (said unique (say_written (written_answer answer))) w.old result w.new }
+    ensures kind { IsAnswer Writes (written_answer answer) }
+{
+    match answer {
+        Ok(count) => reply_record(
+            WriteOut {
+                size: count,
+                padding: 0,
+            },
+            unique,
+            w,
+        ),
+        Err(fault) => reply_error(fault, unique, w),
+    }
+}

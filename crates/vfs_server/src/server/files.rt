@@ -1,0 +1,185 @@
+//! Open files.
+
+ghost use Rattle.vfs_server.specs.Step.{Serves};
+
+use crate::server::Server;
+use vfs_files::{Context, FileSystem, Number};
+use vfs_flags::{FSYNC_FDATASYNC, OPEN_KILL_SUIDGID, Opcode, RELEASE_FLOCK_UNLOCK, RELEASE_FLUSH};
+use vfs_messages::{
+    Result, is_set, number_if, read_record, reply_done, reply_fault_alone, reply_offset,
+    reply_opened, reply_written,
+};
+use vfs_segments::{Reader, Writer};
+use vfs_wire::{
+    CopyfilerangeIn, FallocateIn, FlushIn, FsyncIn, InHeader, LseekIn, OpenIn, ReleaseIn,
+};
+
+impl<F: FileSystem> Server<F> {
+    /// OPEN (`struct fuse_open_in`): opens a file.
+    pub(super) fn open(
+        &mut self,
+        header: &InHeader,
+        r: &mut Reader<'_>,
+        w: &mut Writer,
+    ) -> Result<usize>
+        ensures { Serves F.allows Opcode.Open header.now r.old.left self.old w.old result w.new self.new }
+    {
+        let open_in = read_record::<OpenIn>(r)?;
+        let kill_priv = is_set(open_in.open_flags, OPEN_KILL_SUIDGID);
+        let inode = F::Inode::from_number(header.nodeid);
+        let answer = self
+            .fs
+            .open(Context::from(*header), inode, kill_priv, open_in.flags);
+        reply_opened::<F::Handle>(answer, header.unique, w)
+    }
+
+    /// RELEASE (`struct fuse_release_in`): a file is closed. The owner of locks is passed where
+    /// they are to be given up.
+    pub(super) fn release(
+        &mut self,
+        header: &InHeader,
+        r: &mut Reader<'_>,
+        w: &mut Writer,
+    ) -> Result<usize>
+        ensures { Serves F.allows Opcode.Release header.now r.old.left self.old w.old result w.new self.new }
+    {
+        let release_in = read_record::<ReleaseIn>(r)?;
+        let flags = release_in.release_flags;
+        let owner = number_if(
+            flags,
+            RELEASE_FLUSH | RELEASE_FLOCK_UNLOCK,
+            release_in.lock_owner,
+        );
+        let inode = F::Inode::from_number(header.nodeid);
+        let handle = F::Handle::from_number(release_in.fh);
+        let answer = self.fs.release(
+            Context::from(*header),
+            inode,
+            release_in.flags,
+            handle,
+            is_set(flags, RELEASE_FLUSH),
+            is_set(flags, RELEASE_FLOCK_UNLOCK),
+            owner,
+        );
+        reply_done(answer, header.unique, w)
+    }
+
+    /// FSYNC (`struct fuse_fsync_in`): what was written to a file is to be kept for good.
+    pub(super) fn fsync(
+        &mut self,
+        header: &InHeader,
+        r: &mut Reader<'_>,
+        w: &mut Writer,
+    ) -> Result<usize>
+        ensures { Serves F.allows Opcode.Fsync header.now r.old.left self.old w.old result w.new self.new }
+    {
+        let fsync_in = read_record::<FsyncIn>(r)?;
+        let datasync = is_set(fsync_in.fsync_flags, FSYNC_FDATASYNC);
+        let inode = F::Inode::from_number(header.nodeid);
+        let handle = F::Handle::from_number(fsync_in.fh);
+        let answer = self
+            .fs
+            .fsync(Context::from(*header), inode, datasync, handle);
+        reply_done(answer, header.unique, w)
+    }
+
+    /// FLUSH (`struct fuse_flush_in`): one of the descriptors of an open file is closed.
+    pub(super) fn flush(
+        &mut self,
+        header: &InHeader,
+        r: &mut Reader<'_>,
+        w: &mut Writer,
+    ) -> Result<usize>
+        ensures { Serves F.allows Opcode.Flush header.now r.old.left self.old w.old result w.new self.new }
+    {
+        let flush_in = read_record::<FlushIn>(r)?;
+        let inode = F::Inode::from_number(header.nodeid);
+        let handle = F::Handle::from_number(flush_in.fh);
+        let answer = self
+            .fs
+            .flush(Context::from(*header), inode, handle, flush_in.lock_owner);
+        reply_done(answer, header.unique, w)
+    }
+
+    /// FALLOCATE (`struct fuse_fallocate_in`): room in a file is made or given up.
+    pub(super) fn fallocate(
+        &mut self,
+        header: &InHeader,
+        r: &mut Reader<'_>,
+        w: &mut Writer,
+    ) -> Result<usize>
+        ensures { Serves F.allows Opcode.Fallocate header.now r.old.left self.old w.old result w.new self.new }
+    {
+        let fallocate_in = read_record::<FallocateIn>(r)?;
+        let inode = F::Inode::from_number(header.nodeid);
+        let handle = F::Handle::from_number(fallocate_in.fh);
+        let answer = self.fs.fallocate(
+            Context::from(*header),
+            inode,
+            handle,
+            fallocate_in.mode,
+            fallocate_in.offset,
+            fallocate_in.length,
+        );
+        reply_done(answer, header.unique, w)
+    }
+
+    /// LSEEK (`struct fuse_lseek_in`): the next data or hole of a file.
+    pub(super) fn lseek(
+        &mut self,
+        header: &InHeader,
+        r: &mut Reader<'_>,
+        w: &mut Writer,
+    ) -> Result<usize>
+        ensures { Serves F.allows Opcode.Lseek header.now r.old.left self.old w.old result w.new self.new }
+    {
+        let lseek_in = read_record::<LseekIn>(r)?;
+        let inode = F::Inode::from_number(header.nodeid);
+        let handle = F::Handle::from_number(lseek_in.fh);
+        let answer = self.fs.lseek(
+            Context::from(*header),
+            inode,
+            handle,
+            lseek_in.offset,
+            lseek_in.whence,
+        );
+        reply_offset(answer, header.unique, w)
+    }
+
+    /// COPY_FILE_RANGE (`struct fuse_copy_file_range_in`): copies bytes from one file to another.
+    pub(super) fn copyfilerange(
+        &mut self,
+        header: &InHeader,
+        r: &mut Reader<'_>,
+        w: &mut Writer,
+    ) -> Result<usize>
+        ensures { Serves F.allows Opcode.CopyFileRange header.now r.old.left self.old w.old result w.new self.new }
+    {
+        let range = read_record::<CopyfilerangeIn>(r)?;
+        let answer = self.fs.copyfilerange(
+            Context::from(*header),
+            F::Inode::from_number(header.nodeid),
+            F::Handle::from_number(range.fh_in),
+            range.off_in,
+            F::Inode::from_number(range.nodeid_out),
+            F::Handle::from_number(range.fh_out),
+            range.off_out,
+            range.len,
+            range.flags,
+        );
+        reply_written(answer, header.unique, w)
+    }
+
+    /// TMPFILE: makes a file without a name, which no file system does. Only the fault is replied.
+    pub(super) fn tmpfile(
+        &mut self,
+        header: &InHeader,
+        r: &mut Reader<'_>,
+        w: &mut Writer,
+    ) -> Result<usize>
+        ensures { Serves F.allows Opcode.TmpFile header.now r.old.left self.old w.old result w.new self.new }
+    {
+        let fault = self.fs.tmpfile();
+        reply_fault_alone(fault, header.unique, w)
+    }
+}

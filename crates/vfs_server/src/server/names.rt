@@ -1,0 +1,83 @@
+//! Names, and the lookups that the kernel counts.
+
+ghost use Rattle.vfs_server.specs.Step.{Serves};
+
+use crate::server::Server;
+use std::alloc::Global;
+use vfs_files::{Context, FileSystem, Number};
+use vfs_flags::{Errno, Opcode};
+use vfs_messages::{
+    Result, read_name, read_pairs, read_record, reply_entry, reply_error, reply_text,
+};
+use vfs_segments::{Reader, Writer};
+use vfs_wire::{BatchForgetIn, ByteValued, ForgetIn, ForgetOne, InHeader};
+
+impl<F: FileSystem> Server<F> {
+    /// LOOKUP: the node of a name, which is the request's tail.
+    pub(super) fn lookup(
+        &mut self,
+        alloc: Global,
+        header: &InHeader,
+        r: &mut Reader<'_>,
+        w: &mut Writer,
+    ) -> Result<usize>
+        ensures { Serves F.allows Opcode.Lookup header.now r.old.left self.old w.old result w.new self.new }
+    {
+        let name = read_name(alloc, header, 0, r)?;
+        let parent = F::Inode::from_number(header.nodeid);
+        let answer = self
+            .fs
+            .lookup(Context::from(*header), parent, name.as_c_str());
+        reply_entry(answer, header.unique, w)
+    }
+
+    /// FORGET (`struct fuse_forget_in`): lookups of a node are taken back. There is no reply.
+    pub(super) fn forget(
+        &mut self,
+        header: &InHeader,
+        r: &mut Reader<'_>,
+        w: &mut Writer,
+    ) -> Result<usize>
+        ensures { Serves F.allows Opcode.Forget header.now r.old.left self.old w.old result w.new self.new }
+    {
+        let forget_in = read_record::<ForgetIn>(r)?;
+        let inode = F::Inode::from_number(header.nodeid);
+        self.fs
+            .forget(Context::from(*header), inode, forget_in.nlookup);
+        Ok(0)
+    }
+
+    /// BATCH_FORGET (`struct fuse_batch_forget_in`): lookups of many nodes are taken back, as pairs
+    /// behind the record say. There is no reply, but to more pairs than a payload may hold.
+    pub(super) fn batch_forget(
+        &mut self,
+        alloc: Global,
+        header: &InHeader,
+        r: &mut Reader<'_>,
+        w: &mut Writer,
+    ) -> Result<usize>
+        ensures { Serves F.allows Opcode.BatchForget header.now r.old.left self.old w.old result w.new self.new }
+    {
+        let batch = read_record::<BatchForgetIn>(r)?;
+        if batch.count as usize * ForgetOne::SIZE > self.limits.max_buffer as usize {
+            return reply_error(Some(Errno::ENOMEM), header.unique, w);
+        }
+        let pairs = read_pairs::<F::Inode>(alloc, batch.count, r)?;
+        self.fs.batch_forget(Context::from(*header), pairs);
+        Ok(0)
+    }
+
+    /// READLINK: the text of a symbolic link. The request has no record.
+    pub(super) fn readlink(
+        &mut self,
+        header: &InHeader,
+        r: &mut Reader<'_>,
+        w: &mut Writer,
+    ) -> Result<usize>
+        ensures { Serves F.allows Opcode.Readlink header.now r.old.left self.old w.old result w.new self.new }
+    {
+        let inode = F::Inode::from_number(header.nodeid);
+        let answer = self.fs.readlink(Context::from(*header), inode);
+        reply_text(answer, header.unique, w)
+    }
+}

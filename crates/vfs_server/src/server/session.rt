@@ -1,0 +1,91 @@
+//! The session: INIT, DESTROY, and what concerns the file system as a whole.
+
+ghost use Rattle.vfs_server.specs.Step.{Serves};
+ghost use Rattle.vfs_messages.specs.Forms.{ask_version};
+ghost use Rattle.vfs_server.specs.Step.{Handles};
+
+use crate::server::Server;
+use vfs_files::{Context, FileSystem, Number};
+use vfs_flags::{Errno, KERNEL_VERSION, MIN_KERNEL_MINOR_VERSION, Opcode};
+use vfs_messages::{
+    Result, agreed_options, offered_options, read_record, read_second_flags, reply_done,
+    reply_error, reply_init, reply_version,
+};
+use vfs_segments::{Reader, Writer};
+use vfs_wire::{InHeader, InitInCompat};
+
+impl<F: FileSystem> Server<F> {
+    /// INIT (`struct fuse_init_in`): reads its one or two records.
+    pub(super) fn init(
+        &mut self,
+        header: &InHeader,
+        r: &mut Reader<'_>,
+        w: &mut Writer,
+    ) -> Result<usize>
+        ensures { Serves F.allows Opcode.Init header.now r.old.left self.old w.old result w.new self.new }
+    {
+        let init_in = read_record::<InitInCompat>(r)?;
+        let flags2 = read_second_flags(init_in.flags, r)?;
+        self.init_version(header, &init_in, flags2, w)
+    }
+
+    /// INIT of this version: an older one is refused, a newer major one is told ours, and else both sides
+    /// agree on options, which stand even where the reply does not fit.
+    fn init_version(
+        &mut self,
+        header: &InHeader,
+        init_in: &InitInCompat,
+        flags2: u32,
+        w: &mut Writer,
+    ) -> Result<usize>
+        ensures { Handles F.allows (ask_version header.now init_in.now flags2)
+            self.old w.old result w.new self.new }
+    {
+        if init_in.major < KERNEL_VERSION {
+            return reply_error(Some(Errno::EPROTO), header.unique, w);
+        }
+        if init_in.major > KERNEL_VERSION {
+            return reply_version(header.unique, w);
+        }
+        if init_in.minor < MIN_KERNEL_MINOR_VERSION {
+            return reply_error(Some(Errno::EPROTO), header.unique, w);
+        }
+        let offered = offered_options(init_in.flags, flags2);
+        let answer = self.fs.init(offered);
+        self.options = agreed_options(&answer, offered, self.options);
+        reply_init(
+            answer,
+            self.options,
+            self.limits,
+            init_in.max_readahead,
+            header.unique,
+            w,
+        )
+    }
+
+    /// DESTROY: the session ends, and no options are agreed then. There is no reply.
+    pub(super) fn end_session(
+        &mut self,
+        header: &InHeader,
+        r: &mut Reader<'_>,
+        w: &mut Writer,
+    ) -> Result<usize>
+        ensures { Serves F.allows Opcode.Destroy header.now r.old.left self.old w.old result w.new self.new }
+    {
+        Ok(self.destroy())
+    }
+
+    /// SYNCFS: all that was written is to be kept for good. The record is not looked at.
+    pub(super) fn syncfs(
+        &mut self,
+        header: &InHeader,
+        r: &mut Reader<'_>,
+        w: &mut Writer,
+    ) -> Result<usize>
+        ensures { Serves F.allows Opcode.Syncfs header.now r.old.left self.old w.old result w.new self.new }
+    {
+        let inode = F::Inode::from_number(header.nodeid);
+        let answer = self.fs.syncfs(Context::from(*header), inode);
+        reply_done(answer, header.unique, w)
+    }
+}
