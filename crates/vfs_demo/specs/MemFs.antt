@@ -3,6 +3,7 @@ use Rattle.std.specs.Prelude.{◌≡◌, ℕ, ◌==◌, ◌+◌, ◌-◌, ◌^�
 use Rattle.std.specs.Str.{bytes_eq}
 use Rattle.std.specs.Duration.{as_nanos}
 use Rattle.std.specs.declared.time.Duration.{Duration}
+use Rattle.vfs_flags.specs.Errors.{enoent, eexist, enospc, enomem}
 use Rattle.vfs_wire.specs.declared.attributes.Attr.{Attr}
 use Rattle.vfs_files.specs.declared.entry.Entry.{Entry}
 use Rattle.vfs_files.specs.Calls.{Call, Init, Lookup, Getattr, Unlink, Create, Answer, Done, Failed, Options, Found, Attributes, Created, Handed, Plain, Iterator, default_answer}
@@ -20,7 +21,10 @@ pub record Stock : Type 0 where
 
 -- what a new file system holds: one file
 abbrev pub first_stock : Stock
-first_stock = record { files = record { node = 2; name = codes "a"; contents = codes "hello" } ∷ []; next = 3 }
+first_stock = record {
+  files = record { node = 2; name = codes "a"; contents = codes "hello" } ∷ [];
+  next = 3;
+}
 
 -- the attributes of a node of this kind and permissions, with so many names and bytes
 abbrev pub attr_of : (node mode nlink size : ℕ) → Attr
@@ -85,13 +89,13 @@ pub record IsEntryOf (file : Stored) (entry : Entry) : Type 0 where
 -- a file's entry is answered, or that there is no such file
 abbrev pub AnswersEntry : Option Stored → Answer → Type 0
 AnswersEntry (Some file) (Found entry) = IsEntryOf file entry
-AnswersEntry None (Failed fault) = fault ≡ Some 2
+AnswersEntry None (Failed fault) = fault ≡ Some enoent
 AnswersEntry _ _ = ⊥
 
 -- attributes are answered, or that there is no such node
 abbrev pub AnswersAttr : Option Attr → Answer → Type 0
 AnswersAttr (Some attr) (Attributes found timeout) = (found ≡ attr) × IsSecond timeout
-AnswersAttr None (Failed fault) = fault ≡ Some 2
+AnswersAttr None (Failed fault) = fault ≡ Some enoent
 AnswersAttr _ _ = ⊥
 
 -- where the file of this name in this directory is, which only the root can be
@@ -103,7 +107,7 @@ place_of stock parent name =
 abbrev pub TakesOut : Stock → Option ℕ → Answer → Stock → Type 0
 TakesOut old (Some place) answer new =
     (answer ≡ Done) × (new ≡ record old { files = remove old.files place })
-TakesOut old None answer new = (answer ≡ Failed (Some 2)) × (new ≡ old)
+TakesOut old None answer new = (answer ≡ Failed (Some enoent)) × (new ≡ old)
 
 -- a new file of this name, without contents
 abbrev pub new_file : Stock → (name : List ℕ) → Stored
@@ -118,15 +122,15 @@ with_file stock file = record { files = stock.files ++ file ∷ []; next = stock
 abbrev pub AddsFile : Stock → (name : List ℕ) → Result Entry (Option ℕ) → Stock → Type 0
 AddsFile old name (Ok entry) new =
     IsEntryOf (new_file old name) entry × (new ≡ with_file old (new_file old name))
-AddsFile old name (Err fault) new = (fault ≡ Some 12) × (new ≡ old)
+AddsFile old name (Err fault) new = (fault ≡ Some enomem) × (new ≡ old)
 
 -- why a file of this name can't be made in this directory: there is no such directory, the name is
 -- taken, or there is no place or no number for it
 abbrev pub refusal_of : Stock → (parent : ℕ) → (name : List ℕ) → Option ℕ
 refusal_of stock parent name =
-    if not (parent == 1) then Some 2
-    else if is_some (place_of stock parent name) then Some 17
-    else if nat_le 1000 (length stock.files) || stock.next == 2 ^ 64 - 1 then Some 28
+    if not (parent == 1) then Some enoent
+    else if is_some (place_of stock parent name) then Some eexist
+    else if nat_le 1000 (length stock.files) || stock.next == 2 ^ 64 - 1 then Some enospc
     else None
 
 -- a file is made and opened without a handle, or refused
@@ -137,8 +141,8 @@ Makes old name None (Created entry handle options) new =
 Makes old name None (Failed fault) new = AddsFile old name (Err fault) new
 Makes old name None _ new = ⊥
 
--- from the old files this call may hand this back and leave the new files: the one table of what the
--- file system does. What it has no line for has its default answer, and the files stay.
+-- from the old files this call may hand this back and leave the new files: the one table of what
+-- the file system does. What it has no line for has its default answer, and the files stay.
 abbrev pub MemFsAllows : {I : Type 0} → Stock → Call → Handed I → Stock → Type 0
 MemFsAllows old (Init _) (Plain answer) new = (answer ≡ Options 0x2000) × (new ≡ old)
 MemFsAllows old (Lookup _ parent name) (Plain answer) new =

@@ -2,6 +2,7 @@
 ghost use Rattle.std.specs.Prelude.{◌≡◌, ◌==◌, ◌<◌, ◌^◌, ◌-◌, find, position, length, Some, IfSome, MatchResult};
 ghost use Rattle.std.specs.Option.{option_copied};
 ghost use Rattle.std.specs.Str.{bytes_eq};
+ghost use Rattle.vfs_flags.specs.Errors.{enoent, enomem};
 ghost use Rattle.vfs_demo.specs.MemFs.{attr_of, file_attr, first_stock, IsEntryOf, AddsFile};
 
 use std::alloc::Global;
@@ -41,7 +42,11 @@ impl Model for File {
 
     ghost Value = { Stored };
 
-    ghost view = { λ file. record { node = file.node; name = file.name.items; contents = file.contents.items } };
+    ghost view = { λ file. record {
+      node = file.node;
+      name = file.name.items;
+      contents = file.contents.items;
+    } };
 }
 
 /// A file system in memory. It has a root directory, node 1, and begins with one file in it: node
@@ -65,7 +70,7 @@ impl MemFs {
     /// A new file system, with its one file. ENOMEM where there is no memory for it, and no other
     /// fault.
     pub fn new(alloc: Global) -> Result<MemFs, Fault>
-        ensures { MatchResult result (λ fs. fs ≡ first_stock) (λ fault. fault ≡ Some 12) }
+        ensures { MatchResult result (λ fs. fs ≡ first_stock) (λ fault. fault ≡ Some enomem) }
     {
         let file = File {
             node: ROOT_ID + 1,
@@ -106,7 +111,7 @@ impl MemFs {
 
 // The bytes in memory of their own.
 fn copied(alloc: Global, bytes: &[u8]) -> Result<Vec<u8>, Fault>
-    ensures { MatchResult result (λ v. v.items ≡ bytes.now) (λ fault. fault ≡ Some 12) }
+    ensures { MatchResult result (λ v. v.items ≡ bytes.now) (λ fault. fault ≡ Some enomem) }
 {
     match Vec::from_slice(alloc, bytes) {
         Ok(v) => Ok(v),
@@ -116,9 +121,9 @@ fn copied(alloc: Global, bytes: &[u8]) -> Result<Vec<u8>, Fault>
 
 // The fault ENOENT: what was asked for is not there.
 fn not_found() -> Fault
-    ensures { result ≡ Some 2 }
+    ensures { result ≡ Some enoent }
 {
-    Errno::new(2)
+    Some(Errno::ENOENT)
 }
 
 // The attributes of a node of this kind and permissions, with so many names and bytes.

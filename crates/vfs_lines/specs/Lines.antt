@@ -18,7 +18,8 @@ decimal_value text = fold (λ n digit. n * 10 + (digit - 48)) 0 text
 
 -- one to seven decimal digits
 abbrev pub is_length_text : List ℕ → Bool
-is_length_text text = nat_le 1 (length text) && nat_le (length text) 7 && list_all is_ascii_digit text
+is_length_text text =
+    nat_le 1 (length text) && nat_le (length text) 7 && list_all is_ascii_digit text
 
 -- the length that a part writes
 abbrev pub length_of : List ℕ → Option ℕ
@@ -54,14 +55,18 @@ most_room = 2097152
 
 -- both lists, if there are both and the rooms are not too large together
 abbrev pub request_of : Option (List ℕ) → Option (List (List ℕ)) → Option Request
-request_of (Some rooms) (Some segments) = if nat_le (sum rooms) most_room then Some (record { rooms = rooms; segments = segments }) else None
+request_of (Some rooms) (Some segments) =
+    if nat_le (sum rooms) most_room then Some (record { rooms = rooms; segments = segments })
+    else None
 request_of (Some rooms) None = None
 request_of None segments = None
 
 -- what a line with its first space at this place asks
 abbrev pub split_line : List ℕ → Option ℕ → Option Request
 split_line text None = None
-split_line text (Some space) = request_of (values_of length_of (parts (take space text))) (values_of segment_of (parts (drop (space + 1) text)))
+split_line text (Some space) =
+    request_of (values_of length_of (parts (take space text)))
+    (values_of segment_of (parts (drop (space + 1) text)))
 
 -- what a line asks: its text up to the first space is the rooms, what follows is the segments
 abbrev pub line_of : List ℕ → Option Request
@@ -69,11 +74,14 @@ line_of text = split_line text (position (λ b. b == 32) text)
 
 -- a text without the newline that it ends with, if it does
 abbrev pub without_last_newline : List ℕ → List ℕ
-without_last_newline text = if slice_index text (length text - 1) == 10 then take (length text - 1) text else text
+without_last_newline text =
+    if slice_index text (length text - 1) == 10 then take (length text - 1) text else text
 
--- the lines of a text, without their newlines: the last one may lack its own, and an empty text has none
+-- the lines of a text, without their newlines: the last one may lack its own, and an empty text has
+-- none
 abbrev pub lines_in : List ℕ → List (List ℕ)
-lines_in text = if length text == 0 then [] else slice_split (λ b. b == 10) (without_last_newline text)
+lines_in text =
+    if length text == 0 then [] else slice_split (λ b. b == 10) (without_last_newline text)
 
 -- a line that asks something
 abbrev pub IsRequest : List ℕ → Type 0
@@ -86,7 +94,8 @@ pub record IsFirstBad (lines : List (List ℕ)) (number : ℕ) : Type 0 where
   pub before : All IsRequest (take index lines)
   pub bad : IsSomeAnd (slice_get lines index) (λ line. line_of line ≡ None)
 
--- how a session of these lines may end: each asks something, or the first that does not is named, or there was a fault or no memory
+-- how a session of these lines may end: each asks something, or the first that does not is named,
+-- or there was a fault or no memory
 abbrev pub EndsAs : List (List ℕ) → Result (Unit {0}) RunError → Type 0
 EndsAs lines (Ok done) = All IsRequest lines
 EndsAs lines (Err (BadLine number)) = IsFirstBad lines number
@@ -101,7 +110,10 @@ IsFault OutOfMemory = Unit {0}
 
 -- what a parsed line holds
 abbrev pub request : Line → Request
-request line = record { rooms = line.rooms.items; segments = map (λ segment. segment.items) line.segments.items }
+request line = record {
+  rooms = line.rooms.items;
+  segments = map (λ segment. segment.items) line.segments.items;
+}
 
 -- what a line that was read, if it was, holds
 abbrev pub request_option : Option Line → Option Request

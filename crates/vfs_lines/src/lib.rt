@@ -1,5 +1,6 @@
 //! Sessions as text: a line for each request, with the rooms for its reply, and a line for each
-//! answer. The programs over a server read and write these; what stands between the lines is theirs.
+//! answer. The programs over a server read and write these; what stands between the lines is
+//! theirs.
 #![tactic(auto)]
 
 mod answer;

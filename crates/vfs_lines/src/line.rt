@@ -139,8 +139,8 @@ fn fits(rooms: &[usize]) -> bool
     true
 }
 
-/// The lines of a text without their newlines. The last one may lack its newline, and a text without a
-/// byte has no line.
+/// The lines of a text without their newlines. The last one may lack its newline, and a text
+/// without a byte has no line.
 pub fn lines_of<'a>(alloc: Global, text: &'a [u8]) -> Result<Vec<&'a [u8]>, RunError>
     ensures lines { IfOk result (λ v. map (λ x. x.now) v.items ≡ lines_in text.now) }
     ensures memory { IfErr result (λ e. e ≡ RunError.OutOfMemory) }

@@ -2,8 +2,8 @@
 //!
 //! With t a number, a node's attributes are: size 7t, blocks t, times t + 1, t + 2 and t + 3, with
 //! the nanoseconds t % 1,000,000 and one and two more, mode 0o100644, 1 + t % 3 names, the caller's
-//! user and group, device t % 256, block size 4096 and flags t % 4. A timeout is t % 100 seconds and
-//! t % 1000 microseconds.
+//! user and group, device t % 256, block size 4096 and flags t % 4. A timeout is t % 100 seconds
+//! and t % 1000 microseconds.
 
 ghost use Rattle.std.specs.Prelude.{◌≤◌, IfOk, vec_len};
 
@@ -24,7 +24,7 @@ pub fn fault_of(number: u32) -> Fault {
     } else if number == 134 {
         Errno::new(i32::MAX)
     } else {
-        Errno::new(2)
+        Some(Errno::ENOENT)
     }
 }
 
@@ -97,8 +97,8 @@ pub fn wanted_bits(seed: u32) -> u64 {
     }
 }
 
-/// The handle that an opening answers: none where the seed is a multiple of 3, else the seed in both
-/// halves of the number.
+/// The handle that an opening answers: none where the seed is a multiple of 3, else the seed in
+/// both halves of the number.
 pub fn handle(seed: u32) -> Option<u64> {
     if seed % 3 == 0 {
         None

@@ -6,22 +6,23 @@
 //! the answer is a fault. Everything else goes by the word divided by 8, the *seed*; the module
 //! `rules` has the numbers:
 //!
-//! | Call | Answer |
-//! |---|---|
-//! | `init` | by the seed's rest by 6: no option, all, or some that are known |
-//! | `lookup` | ENOENT for a name that begins with `x`, a fault without a number for one with `y`, else the name's entry |
-//! | `symlink`, `mknod`, `mkdir`, `link` | the name's entry |
-//! | `create` | the name's entry, and a handle as `open` |
-//! | `open`, `opendir` | a handle or none, and how to use it |
-//! | `getattr` | attributes by the seed, the node's rest by 1000 and the handle's by 7 |
-//! | `setattr` | those of the record, with 77 names where there is a handle and 1 else, and the bits of `valid` as flags; the others by the seed |
-//! | `readlink` | as many bytes as the seed's rest by 300 |
-//! | `getxattr`, `listxattr` | the seed as a length where it is a multiple of 3, else as many bytes as the rest by 500 of its third |
-//! | `statfs` | numbers by the seed |
-//! | `lseek` | the offset where the seed is even, else the seed |
-//! | `copyfilerange` | the length, at most the seed |
-//! | `tmpfile` | ENOSYS |
-//! | all others | that it is done |
+//! - `init`: by the seed's rest by 6 no option, all, or some that are known.
+//! - `lookup`: ENOENT for a name that begins with `x`, a fault without a number for one that begins
+//!   with `y`, whatever the word is, else the name's entry.
+//! - `symlink`, `mknod`, `mkdir`, `link`: the name's entry.
+//! - `create`: the name's entry, and what `open` answers.
+//! - `open`, `opendir`: a handle or none, and how to use it.
+//! - `getattr`: attributes; their t is the seed, the node's rest by 1000 and the handle's by 7.
+//! - `setattr`: the attributes that the record sets, 77 names where there is a handle and 1 else,
+//!   and the bits of `valid` as flags. All others are by the seed.
+//! - `readlink`: as many bytes as the seed's rest by 300.
+//! - `getxattr`, `listxattr`: the seed as a length where it is a multiple of 3, else as many bytes
+//!   as the rest by 500 of its third.
+//! - `statfs`: numbers by the seed.
+//! - `lseek`: the offset where the seed is even, else the seed.
+//! - `copyfilerange`: the length, at most the seed.
+//! - `tmpfile`: ENOSYS.
+//! - All others: that it is done.
 //!
 //! An answer that the input tells goes before all this.
 
@@ -114,7 +115,7 @@ impl<'a> ScriptFs<'a> {
             return Ok(bare_entry(told.value()?));
         }
         match name.first() {
-            Some(b'x') => Err(Errno::new(2)),
+            Some(b'x') => Err(Some(Errno::ENOENT)),
             Some(b'y') => Err(None),
             _ => Ok(entry(self.seed()?, ctx, name)),
         }

@@ -297,10 +297,10 @@ impl FileSystem for MemFs {
             return Err(not_found());
         }
         if place_of(&self.files, name.to_bytes()).is_some() {
-            return Err(Errno::new(17));
+            return Err(Some(Errno::EEXIST));
         }
         if self.files.len() >= MOST_FILES || self.next == u64::MAX {
-            return Err(Errno::new(28));
+            return Err(Some(Errno::ENOSPC));
         }
         Ok((self.add(name.to_bytes())?, None, OpenOptions::empty()))
     }
