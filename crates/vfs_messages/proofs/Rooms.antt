@@ -38,11 +38,11 @@ written_room : (old : Written) (reply : List ℕ) (fits : Bool) → nat_le (leng
 written_room old reply true test =
     let h : length reply ≤ length old.left = grind (arith, nat_tests) in
     rw (test, take_all (length old.left) reply h)
-    (record { kept = append_assoc old.passed reply (drop (length reply) old.left); same_length = omega (arith, length-append reply (drop (length reply) old.left), length-drop (length reply) old.left) })
+    (record { kept = simp append_assoc; same_length = omega (arith, length-append reply (drop (length reply) old.left), length-drop (length reply) old.left); same_segments = refl })
 written_room old reply false test =
     let h : length old.left < length reply = grind (arith, nat_tests) in
     let size : length (take (length old.left) reply) ≡ length old.left = omega (arith, length-take (length old.left) reply) in
-    rw (test, size, drop_all (length old.left) old.left (omega arith)) (record { kept = append-nil (old.passed ++ take (length old.left) reply); same_length = size })
+    rw (test, size, drop_all (length old.left) old.left (omega arith)) (record { kept = simp append-nil; same_length = size; same_segments = refl })
 
 -- a writer into which as much of a reply was written as there is room for
 pub replied : (old new : Written) (reply : List ℕ) (outcome : Result ℕ Error) → new ≡ wrote old (take (length old.left) reply) → outcome ≡ put_outcome reply old.left → Replies (Bytes reply) old outcome new

@@ -1,18 +1,18 @@
 //! Small callers of this crate, as examples. What each ensures follows from the contracts of what it
 //! calls, and from nothing else.
 
-ghost use Rattle.std.specs.Prelude.{◌≡◌, ◌≢◌, ◌<◌, ◌≤◌, ◌++◌, ℕ, length, drop, Ok, Err, Some};
+ghost use Rattle.std.specs.Prelude.{◌≡◌, ◌<◌, ◌≤◌, ◌^◌, ◌++◌, ℕ, List, length, drop, Ok, Err, Some};
 ghost use Rattle.vfs_flags.specs.Opcode.{opcode_of};
 ghost use Rattle.vfs_flags.specs.declared.opcode.Opcode.{Opcode};
 ghost use Rattle.vfs_segments.specs.Written.{whole};
-ghost use Rattle.vfs_messages.specs.Laws.{header_of};
+ghost use Rattle.vfs_messages.specs.Laws.{header_of, WantsMemory};
 ghost use Rattle.vfs_messages.specs.Turn.{Turn, IsTurn};
 ghost use Rattle.vfs_messages.specs.Uses.{not_served_reply, ten_of_done_reply};
 ghost use Rattle.vfs_messages.specs.declared.error.Error.{Error};
 ghost use Rattle.vfs_messages.specs.declared.limits.Limits.{Limits};
 
 use crate::error::Result;
-use crate::laws::memory_is_wanted_for_whole_tails;
+use crate::laws::replies_begin_with_their_header;
 use crate::reply::{reply_error, reply_ok};
 use crate::request::{read_record, read_tail};
 use std::alloc::Global;
@@ -56,10 +56,17 @@ pub fn getattr_of_fifteen_bytes(r: &mut Reader<'_>) -> Result<GetattrIn>
     read_record::<GetattrIn>(r)
 }
 
-/// A GETATTR is never told that memory is wanted, whatever its bytes and its room.
+/// Memory is never wanted for a GETATTR, whatever its bytes and its room: it has no tail.
 pub fn getattr_wants_no_memory()
-    ensures { (limits : Limits) (options after : ℕ) (t : Turn) → IsTurn limits options t after →
-        opcode_of (header_of t.request).opcode ≡ Some Opcode.Getattr → t.outcome ≢ Err Error.OutOfMemory }
+    ensures { (limits : Limits) (options room : ℕ) (request : List ℕ) →
+        opcode_of (header_of request).opcode ≡ Some Opcode.Getattr →
+        ¬ (WantsMemory limits options room request) }
+{}
+
+/// The largest answer is one that the `len` of a reply's header can say.
+pub fn lengths_fit_their_field()
+    ensures { (limits : Limits) (options after n : ℕ) (t : Turn) → IsTurn limits options t after →
+        t.outcome ≡ Ok n → 0 < n → n < 2 ^ 32 }
 {
-    memory_is_wanted_for_whole_tails();
+    replies_begin_with_their_header();
 }

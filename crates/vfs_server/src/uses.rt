@@ -4,16 +4,41 @@
 ghost use Rattle.std.specs.Prelude.{◌≡◌, ◌≢◌, ◌≤◌, ◌++◌, length, take, drop, Err, Some, IfSome, OnSome};
 ghost use Rattle.vfs_flags.specs.Opcode.{opcode_of};
 ghost use Rattle.vfs_flags.specs.declared.opcode.Opcode.{Opcode};
+ghost use Rattle.vfs_segments.specs.Segments.{contents, flat_bytes};
 ghost use Rattle.vfs_segments.specs.Written.{whole};
 ghost use Rattle.vfs_messages.specs.Laws.{header_of};
 ghost use Rattle.vfs_messages.specs.Uses.{not_served_reply};
 ghost use Rattle.vfs_messages.specs.declared.error.Error.TheVariants.{OutOfMemory};
+ghost use Rattle.vfs_server.specs.Uses.{statfs_reply};
 
 use crate::server::Server;
 use std::alloc::Global;
-use vfs_files::FileSystem;
+use vfs_files::{FileSystem, Unserved};
 use vfs_messages::{Result, laws};
 use vfs_segments::{Reader, Writer};
+
+/// Request 9, STATFS of node 1: a header alone, of 40 bytes.
+const STATFS: [u8; 40] = [
+    40, 0, 0, 0, 17, 0, 0, 0, 9, 0, 0, 0, 0, 0, 0, 0, 1, 0, 0, 0, 0, 0, 0, 0, 0, 0, 0, 0, 0, 0, 0,
+    0, 0, 0, 0, 0, 0, 0, 0, 0,
+];
+
+/// Makes a server over a file system that serves nothing, asks it how much it holds, and gives back
+/// the room of ninety-six bytes with the reply in it. `None` where there is no memory.
+pub fn ask_statfs(alloc: Global) -> Option<Vec<Vec<u8>>>
+    ensures { IfSome result (λ rooms. flat_bytes (contents rooms.items) ≡ statfs_reply) }
+{
+    let mut server = Server::new(Unserved {}, 4096);
+
+    let request = [STATFS.as_slice()];
+    let reader = Reader::new(alloc, &request).ok()?;
+
+    let room = vec![in alloc; 0u8; 96].ok()?;
+    let mut writer = Writer::new(alloc, vec![in alloc; room].ok()?).ok()?;
+
+    server.handle_message(alloc, reader, &mut writer).ok()?;
+    Some(writer.into_segments())
+}
 
 /// Request 9 of opcode 7, which is none: a header alone, of 40 bytes.
 const UNKNOWN: [u8; 40] = [
