@@ -1,5 +1,5 @@
 -- What a step says of one request that is written out.
-use Rattle.std.proofs.Common.{◌≡◌, ◌≤◌, ◌+◌, ℕ, Bool, true, false, List, [], ◌∷◌, ◌++◌, length, drop, nat_lt, Option, None, Some, Result, Ok, Err, refl, ap, sym, ◌∙◌, arith, subst, pos, append-nil, replicate}
+use Rattle.std.proofs.Common.{◌≡◌, ◌≤◌, ℕ, Bool, false, List, [], ◌∷◌, ◌++◌, length, drop, nat_lt, Option, None, Result, Ok, ap, sym, ◌∙◌, arith, subst}
 use Rattle.std.proofs.lemmas.Bool.Decides.{nat_tests}
 use Rattle.std.proofs.lemmas.List.{drop_all}
 use Rattle.vfs_flags.specs.Errors.{enosys}
@@ -11,7 +11,7 @@ use Rattle.vfs_files.specs.Items.{Item}
 use Rattle.vfs_files.specs.Answers.{Answer, Handed, Plain, Capacities}
 use Rattle.vfs_files.specs.Calls.{Call, Statfs, default_answer}
 use Rattle.vfs_files.specs.Entries.{context_of}
-use Rattle.vfs_files.specs.Runs.{Event, Called, Happening, Calls, Opens, Takes, IsRun, events_of}
+use Rattle.vfs_files.specs.Runs.{Called, Happening, Calls, Opens, Takes, IsRun, events_of}
 use Rattle.vfs_messages.specs.Ask.{ask}
 use Rattle.vfs_messages.specs.Forms.{Ask, Asks, within, faulted}
 use Rattle.vfs_messages.specs.Limits.{max_len}

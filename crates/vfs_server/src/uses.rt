@@ -1,7 +1,7 @@
 //! Small callers of the server, as examples. What each ensures follows from the contracts of what it
 //! calls, and from nothing else.
 
-ghost use Rattle.std.specs.Prelude.{◌≡◌, ◌≢◌, ◌≤◌, ◌++◌, length, take, drop, Err, Some, IfSome, OnSome};
+ghost use Rattle.std.specs.Prelude.{◌≡◌, ◌≢◌, ◌≤◌, ◌++◌, [], length, take, drop, Err, Some, IfSome, OnSome};
 ghost use Rattle.vfs_flags.specs.Opcode.{opcode_of};
 ghost use Rattle.vfs_flags.specs.declared.opcode.Opcode.{Opcode};
 ghost use Rattle.vfs_segments.specs.Segments.{contents, flat_bytes};
@@ -23,21 +23,40 @@ const STATFS: [u8; 40] = [
     0, 0, 0, 0, 0, 0, 0, 0, 0,
 ];
 
+/// A writer over one segment of ninety-six zeros. `None` where there is no memory.
+pub fn empty_room(alloc: Global) -> Option<Writer>
+    ensures passed { IfSome result (λ w. w.passed ≡ []) }
+    ensures room { IfSome result (λ w. length w.left ≡ 96) }
+{
+    let Ok(segment) = vec![in alloc; 0u8; 96] else {
+        return None;
+    };
+    let Ok(segments) = vec![in alloc; segment] else {
+        return None;
+    };
+    match Writer::new(alloc, segments) {
+        Ok(writer) => Some(writer),
+        Err(_) => None,
+    }
+}
+
 /// Makes a server over a file system that serves nothing, asks it how much it holds, and gives back
 /// the room of ninety-six bytes with the reply in it. `None` where there is no memory.
 pub fn ask_statfs(alloc: Global) -> Option<Vec<Vec<u8>>>
-    ensures { IfSome result (λ rooms. flat_bytes (contents rooms.items) ≡ statfs_reply) }
+    ensures { IfSome result (λ room. flat_bytes (contents room.items) ≡ statfs_reply) }
 {
     let mut server = Server::new(Unserved {}, 4096);
 
     let request = [STATFS.as_slice()];
-    let reader = Reader::new(alloc, &request).ok()?;
+    let Ok(reader) = Reader::new(alloc, &request) else {
+        return None;
+    };
+    let mut writer = empty_room(alloc)?;
 
-    let room = vec![in alloc; 0u8; 96].ok()?;
-    let mut writer = Writer::new(alloc, vec![in alloc; room].ok()?).ok()?;
-
-    server.handle_message(alloc, reader, &mut writer).ok()?;
-    Some(writer.into_segments())
+    match server.handle_message(alloc, reader, &mut writer) {
+        Ok(_) => Some(writer.into_segments()),
+        Err(_) => None,
+    }
 }
 
 /// Request 9 of opcode 7, which is none: a header alone, of 40 bytes.
