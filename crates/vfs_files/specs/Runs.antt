@@ -29,7 +29,8 @@ at_hand it (Calls call answer) = it
 at_hand it (Opens call opened) = Some opened
 at_hand it (Takes before item after) = Some after
 
-module _ {S I : Type 0} (allows : S → Call → Handed I → S → Type 0) (gives : I → Option Item → I → Type 0) where
+module _ {S I : Type 0}
+    (allows : S → Call → Handed I → S → Type 0) (gives : I → Option Item → I → Type 0) where
   -- what may happen in a state with this iterator at hand, and the state after it: a call is allowed by
   -- the file system's relation; a taking begins with the iterator at hand, is allowed by the iterator's
   -- relation, and keeps the state
@@ -61,7 +62,8 @@ EventsJoin S I =
     (before after : List (Happening I × S))
     → events_of (before ++ after) ≡ events_of before ++ events_of after
 
-module _ {S I : Type 0} (allows : S → Call → Handed I → S → Type 0) (gives : I → Option Item → I → Type 0) where
+module _ {S I : Type 0}
+    (allows : S → Call → Handed I → S → Type 0) (gives : I → Option Item → I → Type 0) where
   -- from one state to another a run leads whose events are a `forget` for each of these pairs of a
   -- node and a count, in order, and nothing else
   abbrev pub ForgetsEach : Context → List (ℕ × ℕ) → S → S → Type 0

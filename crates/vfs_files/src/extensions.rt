@@ -57,7 +57,8 @@ impl Extensions {
 
     /// Equal extensions, in memory of their own, or the fault ENOMEM where there is none.
     pub fn clone(&self, alloc: Global) -> Result<Extensions, Fault>
-        ensures same { IfOk result (λ copy. extension_values_of copy ≡ extension_values_of self.now) }
+        ensures same { IfOk result (λ copy.
+            extension_values_of copy ≡ extension_values_of self.now) }
         ensures memory { IfErr result (λ fault. fault ≡ no_memory) }
     {
         let secctx = match &self.secctx {
