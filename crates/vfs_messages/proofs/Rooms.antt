@@ -83,3 +83,25 @@ pub length-bytes_of_option : {R : Type 0} (t : Table R) (o : Option R) → IfSom
     → length (bytes_of_option t o) ≡ size_of_option t o
 length-bytes_of_option t None h = refl
 length-bytes_of_option t (Some r) h = length-bytes_of t r h
+
+-- the outcome and the room of a reply that fits
+pub put_outcome-fits : (reply room : List ℕ) → length reply ≤ length room → put_outcome reply room ≡ Ok (length reply)
+put_outcome-fits reply room h =
+    let test : nat_le (length reply) (length room) ≡ true = grind (arith, nat_tests) in
+    rw test refl
+
+pub put_room-fits : (reply room : List ℕ) → length reply ≤ length room → put_room reply room ≡ reply ++ drop (length reply) room
+put_room-fits reply room h =
+    let test : nat_le (length reply) (length room) ≡ true = grind (arith, nat_tests) in
+    rw test refl
+
+-- and of one that doesn't
+pub put_outcome-full : (reply room : List ℕ) → length room < length reply → put_outcome reply room ≡ Err EncodeMessage
+put_outcome-full reply room h =
+    let test : nat_le (length reply) (length room) ≡ false = grind (arith, nat_tests) in
+    rw test refl
+
+pub put_room-full : (reply room : List ℕ) → length room < length reply → put_room reply room ≡ take (length room) reply
+put_room-full reply room h =
+    let test : nat_le (length reply) (length room) ≡ false = grind (arith, nat_tests) in
+    rw test refl

@@ -10,5 +10,6 @@ pub mod descriptor_utils;
 pub mod filesystem;
 pub mod fuse;
 pub mod server;
+pub mod uses;
 
 pub use vfs_messages::{Error, Limits, Result, laws, reply_error, reply_ok};
