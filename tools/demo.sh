@@ -14,7 +14,10 @@ kind_of() {
         01000000) echo LOOKUP ;;
         02000000) echo FORGET ;;
         03000000) echo GETATTR ;;
+        0e000000) echo OPEN ;;
+        11000000) echo STATFS ;;
         1a000000) echo INIT ;;
+        22000000) echo ACCESS ;;
         *) echo request ;;
     esac
 }

@@ -9,20 +9,11 @@ mod run;
 #[cfg(test)]
 mod tests;
 
-use std::io;
 use std::process::ExitCode;
-use vfs_lines::{RunError, exit_status};
+use vfs_lines::{exit_status, report};
 
 fn main(rt: HostRuntime) -> ExitCode {
     let outcome = run::run(rt.alloc(), &mut rt.stdin(), &mut rt.stdout());
     let _ = report(&rt, &outcome);
     ExitCode::from(exit_status(&outcome))
-}
-
-// Says an error that the answers do not say, where it can still be printed.
-fn report(rt: &impl Print, outcome: &Result<(), RunError>) -> io::Result<()> {
-    match outcome {
-        Err(RunError::BadLine(_)) | Ok(()) => Ok(()),
-        Err(error) => println!(rt; "{error}"),
-    }
 }

@@ -11,6 +11,6 @@ mod session;
 mod tests;
 pub mod uses;
 
-pub use error::{RunError, exit_status};
+pub use error::{RunError, exit_status, report};
 pub use line::{Line, MOST_ROOM, lines_of, parse_line};
 pub use session::{answer_to, read_all, write_all};
