@@ -12,7 +12,7 @@ use crate::tests::message::{handle, handle_cut, joined, request};
 use crate::tests::script::{Note, Script};
 use crate::{Error, reply_error, reply_ok};
 use bitflags::Flags;
-use std::alloc::Global;
+use std::alloc::{AllocError, Global};
 use std::process::Abort;
 use std::test::Fail;
 use vfs_files::Unserved;
@@ -21,8 +21,15 @@ use vfs_files::Unserved;
 const FOUND: [u8; 24] = *b"\x90\0\0\0\0\0\0\0\x09\0\0\0\0\0\0\0\x05\0\0\0\0\0\0\0";
 
 /// A server over a file system that wants no options.
-fn server(alloc: Global) -> Server<Script> {
-    Server::new(Script::new(alloc, FsOptions::empty()), 4096)
+fn server(alloc: Global) -> Result<Server<Script>, AllocError> {
+    Ok(Server::new(Script::new(alloc, FsOptions::empty())?, 4096))
+}
+
+/// LOOKUP of a name of so many bytes.
+fn lookup(alloc: Global, len: usize) -> Result<Vec<u8>, Fail> {
+    let mut name = vec![in alloc; b'n'; len]?;
+    name.push(0)?;
+    request(alloc, 1, &name)
 }
 
 /// Checks that a LOOKUP of a name of so many bytes is served, in pieces and a room of these sizes.
@@ -33,12 +40,9 @@ fn check_lookup(
     piece: usize,
     room: (usize, usize),
 ) -> Result<(), Fail> {
-    let mut name = vec![in alloc; b'n'; len]?;
-    name.push(0)?;
-    let mut server = server(alloc);
-    let request = request(alloc, 1, &name)?;
-    let (answer, left) = handle_cut(alloc, &mut server, &request, piece, room, 0)?;
-    assert_eq!(rt; answer, Ok(144), "a name of {len} bytes");
+    let mut server = server(alloc)?;
+    let (replied, left) = handle_cut(alloc, &mut server, &lookup(alloc, len)?, piece, room, 0)?;
+    assert_eq!(rt; replied, 144);
     assert!(rt;
         left.starts_with(&FOUND),
         "the reply for a name of {len} bytes"
@@ -74,10 +78,10 @@ fn batch(alloc: Global, count: u32) -> Result<Vec<u8>, Fail> {
 #[test]
 fn a_payload_of_pairs_is_forgotten_and_no_more(rt: HostRuntime) -> Result<(), Fail> {
     let alloc = rt.alloc();
-    let mut server = server(alloc);
-    for (count, want) in [(65_536, Ok(0)), (65_537, Ok(16))] {
-        let (answer, _) = handle(alloc, &mut server, &batch(alloc, count)?, 16)?;
-        assert_eq!(rt; answer, want, "{count} pairs");
+    let mut server = server(alloc)?;
+    for (count, want) in [(65_536, 0), (65_537, 16)] {
+        let (replied, _) = handle(alloc, &mut server, &batch(alloc, count)?, 16)?;
+        assert_eq!(rt; replied, want, "{count} pairs");
     }
     let called = [Note::BatchForget(65_536, Some((7, 1)))];
     assert_eq!(rt; server.fs().notes(), called.as_slice());
@@ -88,8 +92,15 @@ fn a_payload_of_pairs_is_forgotten_and_no_more(rt: HostRuntime) -> Result<(), Fa
 fn a_reply_goes_behind_held_bytes(rt: HostRuntime) -> Result<(), Fail> {
     let alloc = rt.alloc();
     let request = request(alloc, 7, &[0; 16])?;
-    let (answer, left) = handle_cut(alloc, &mut server(alloc), &request, usize::MAX, (2, 17), 16)?;
-    assert_eq!(rt; answer, Ok(16));
+    let (replied, left) = handle_cut(
+        alloc,
+        &mut server(alloc)?,
+        &request,
+        usize::MAX,
+        (2, 17),
+        16,
+    )?;
+    assert_eq!(rt; replied, 16);
     let room = b"\xaa\xaa\xaa\xaa\xaa\xaa\xaa\xaa\xaa\xaa\xaa\xaa\xaa\xaa\xaa\xaa\
         \x10\0\0\0\xda\xff\xff\xff\x09\0\0\0\0\0\0\0\xaa\xaa";
     assert_eq!(rt; left.as_slice(), room.as_slice());
@@ -105,8 +116,8 @@ fn check_reply<F: FileSystem>(
     want: &[u8],
 ) -> Result<(), Fail> {
     let request = request(alloc, opcode, &[0; 48])?;
-    let (answer, left) = handle(alloc, server, &request, want.len())?;
-    assert_eq!(rt; answer, Ok(want.len()), "opcode {opcode}");
+    let (replied, left) = handle(alloc, server, &request, want.len())?;
+    assert_eq!(rt; replied, want.len(), "opcode {opcode}");
     assert_eq!(rt; left.as_slice(), want, "opcode {opcode}");
     Ok(())
 }
@@ -140,22 +151,24 @@ fn a_file_system_that_serves_nothing_is_served(rt: HostRuntime) -> Result<(), Fa
     Ok(())
 }
 
-/// INIT of version 7.38 that offers every option in both words.
-const INIT: [u8; 24] = *b"\x07\0\0\0\x26\0\0\0\0\0\x02\0\xff\xff\xff\xff\xff\xff\xff\xff\0\0\0\0";
+/// INIT of version 7.38 that offers every option in both words of flags.
+fn init(alloc: Global) -> Result<Vec<u8>, Fail> {
+    let mut records = Vec::from_slice(alloc, b"\x07\0\0\0\x26\0\0\0\0\0\x02\0")?;
+    records.extend_from_slice(&[0xff; 8])?;
+    records.extend_from_slice(&[0; 44])?;
+    request(alloc, 26, &records)
+}
 
 #[test]
 fn options_are_agreed_on_and_given_up(rt: HostRuntime) -> Result<(), Fail> {
     let alloc = rt.alloc();
     let wants = FsOptions::from_bits_truncate(1 << 17 | 1 << 28);
-    let mut server = Server::new(Script::new(alloc, wants), 4096);
-    let mut records = Vec::from_slice(alloc, &INIT)?;
-    records.extend_from_slice(&[0; 40])?;
-    let request = request(alloc, 26, &records)?;
-    let (answer, _) = handle(alloc, &mut server, &request, 80)?;
-    assert_eq!(rt; answer, Ok(80));
-    assert_eq!(rt; server.options().bits(), 0x104_5846_9829);
-    assert_eq!(rt; server.destroy(), 0);
-    assert_eq!(rt; server.options().bits(), 0);
+    let mut server = Server::new(Script::new(alloc, wants)?, 4096);
+    let (replied, _) = handle(alloc, &mut server, &init(alloc)?, 80)?;
+    let agreed = server.options().bits();
+    assert_eq!(rt; (replied, agreed), (80, 0x104_5846_9829));
+    let ended = server.destroy();
+    assert_eq!(rt; (ended, server.options().bits()), (0, 0));
     let called = [Note::Init(0x117_fbff_ffff), Note::Destroy];
     assert_eq!(rt; server.into_fs().notes(), called.as_slice());
     Ok(())
@@ -169,8 +182,8 @@ fn a_reply_is_put_into_any_writer(rt: HostRuntime) -> Result<(), Fail> {
         size: 3,
         padding: 0,
     };
-    assert_eq!(rt; reply_ok(Some(count), b"abc", 9, &mut writer), Ok(27));
-    assert_eq!(rt; reply_error(Some(Errno::ENOSYS), 8, &mut writer), Ok(16));
+    assert_eq!(rt; reply_ok(Some(count), b"abc", 9, &mut writer)?, 27);
+    assert_eq!(rt; reply_error(Some(Errno::ENOSYS), 8, &mut writer)?, 16);
     let room = b"\x1b\0\0\0\0\0\0\0\x09\0\0\0\0\0\0\0\x03\0\0\0\0\0\0\0abc\
         \x10\0\0\0\xda\xff\xff\xff\x08\0\0\0\0\0\0\0\xaa";
     assert_eq!(rt;

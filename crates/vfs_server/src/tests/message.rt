@@ -1,14 +1,14 @@
 //! Requests and replies as bytes.
 
-use crate::Error;
 use crate::descriptor_utils::{Reader, Writer};
 use crate::filesystem::FileSystem;
 use crate::server::Server;
 use std::alloc::{AllocError, Global};
 use std::test::Fail;
 
-/// What came of a request: the server's answer, and the bytes of the room afterwards.
-pub type Outcome = (Result<usize, Error>, Vec<u8>);
+/// What came of a request that was not refused: the reply's length, and the bytes of the room
+/// afterwards.
+pub type Outcome = (usize, Vec<u8>);
 
 /// A request with this opcode and these bytes behind its header. Its `len` counts all of them, its
 /// `unique` is 9, its node 1, and all else in the header is 0.
@@ -54,8 +54,8 @@ pub fn handle_cut<F: FileSystem>(
     let reader = Reader::new(alloc, &pieces)?;
     let mut writer = Writer::new(alloc, rooms(alloc, count, size)?)?;
     writer.hold(held)?;
-    let answer = server.handle_message(alloc, reader, &mut writer);
-    Ok((answer, joined(alloc, &writer.into_segments())?))
+    let len = server.handle_message(alloc, reader, &mut writer)?;
+    Ok((len, joined(alloc, &writer.into_segments())?))
 }
 
 /// Hands a server a request whose bytes, and whose room of so many bytes, are in one piece.

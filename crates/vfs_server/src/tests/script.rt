@@ -7,7 +7,7 @@ use crate::filesystem::{
 };
 use crate::fuse::{Attr, Fault, SetattrIn, Statvfs64};
 use bitflags::Flags;
-use std::alloc::Global;
+use std::alloc::{AllocError, Global};
 use std::time::Duration;
 
 /// A call with its arguments, but for the caller.
@@ -37,32 +37,35 @@ impl DirectoryIterator for NoEntries {
     }
 }
 
+/// How many calls can be noted.
+const MOST_NOTES: usize = 4;
+
 /// The file system.
 #[derive(Drop)]
 pub struct Script {
     wants: FsOptions,
     notes: Vec<Note>,
-    lacks: bool,
+    missed: bool,
 }
 
 impl Script {
     /// A file system that wants these options, and was called by nobody.
-    pub fn new(alloc: Global, wants: FsOptions) -> Script {
-        Script {
+    pub fn new(alloc: Global, wants: FsOptions) -> Result<Script, AllocError> {
+        Ok(Script {
             wants,
-            notes: Vec::new(alloc),
-            lacks: false,
-        }
+            notes: Vec::with_capacity(alloc, MOST_NOTES)?,
+            missed: false,
+        })
     }
 
-    /// The calls, in order; nothing where there was no memory for one.
+    /// The calls, in order; nothing where one was missed.
     pub fn notes(&self) -> &[Note] {
-        if self.lacks { &[] } else { &self.notes }
+        if self.missed { &[] } else { &self.notes }
     }
 
     fn note(&mut self, note: Note) {
-        if self.notes.push(note).is_err() {
-            self.lacks = true;
+        if self.notes.len() == MOST_NOTES || self.notes.push(note).is_err() {
+            self.missed = true;
         }
     }
 }
