@@ -17,7 +17,7 @@ use std::process::Abort;
 use std::test::Fail;
 use vfs_files::Unserved;
 
-/// The reply that finds node 5: a header, then the entry with the node's number twice.
+/// What the reply that finds node 5 begins with: its header, and the node of its entry.
 const FOUND: [u8; 24] = *b"\x90\0\0\0\0\0\0\0\x09\0\0\0\0\0\0\0\x05\0\0\0\0\0\0\0";
 
 /// A server over a file system that wants no options.
