@@ -1,2 +1,1 @@
-mod ValueLemmas
 mod LineLemmas

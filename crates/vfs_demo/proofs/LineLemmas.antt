@@ -4,8 +4,8 @@ use Rattle.std.specs.Prelude.{All}
 use Rattle.std.proofs.lemmas.List.{get_or-map, length-map, take_all}
 use Rattle.std.proofs.lemmas.List.Elements.{All-more}
 use Rattle.std.proofs.lemmas.Option.{slice_get-get_or}
-use Rattle.vfs_demo.specs.Lines.{Request, IsRequest, IsFirstBad, line_of}
-use Rattle.vfs_demo.proofs.ValueLemmas.{texts_of}
+use Rattle.vfs_lines.specs.Lines.{Request, IsRequest, IsFirstBad, line_of}
+use Rattle.vfs_lines.proofs.ValueLemmas.{texts_of}
 
 -- a line that asks something is one more of them
 pub all_requests-more : (items : List (Bor (List ℕ))) (i : ℕ) (item : Bor (List ℕ)) (asked : Request)

@@ -1,3 +1,1 @@
-pub mod Status
-pub mod Lines
 pub mod MemFs

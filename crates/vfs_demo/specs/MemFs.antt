@@ -1,11 +1,12 @@
 -- The file system in memory: its files in order of creation, and what its calls answer of them.
-use Rattle.std.specs.Prelude.{◌≡◌, ℕ, ◌==◌, List, [], ◌∷◌, length, find, codes, Option, Some, None, if◌then◌else◌}
+use Rattle.std.specs.Prelude.{◌≡◌, ℕ, ◌==◌, ◌+◌, ◌-◌, ◌^◌, ◌||◌, nat_le, not, List, [], ◌∷◌, ◌++◌, length, find, position, remove, codes, Option, Some, None, is_some, Result, Ok, Err, if◌then◌else◌}
 use Rattle.std.specs.Str.{bytes_eq}
 use Rattle.std.specs.Duration.{as_nanos}
 use Rattle.std.specs.declared.time.Duration.{Duration}
+use Rattle.vfs_flags.specs.Errors.{enoent, eexist, enospc, enomem}
 use Rattle.vfs_wire.specs.declared.attributes.Attr.{Attr}
 use Rattle.vfs_files.specs.declared.entry.Entry.{Entry}
-use Rattle.vfs_files.specs.Calls.{Call, Init, Lookup, Forget, Getattr, Answer, Done, Failed, Options, Found, Attributes, Handed, Plain, Iterator}
+use Rattle.vfs_files.specs.Calls.{Call, Init, Lookup, Getattr, Unlink, Create, Answer, Done, Failed, Options, Found, Attributes, Created, Handed, Plain, Iterator, default_answer}
 
 -- a file: its node, its name and its contents
 pub record Stored : Type 0 where
@@ -20,7 +21,10 @@ pub record Stock : Type 0 where
 
 -- what a new file system holds: one file
 abbrev pub first_stock : Stock
-first_stock = record { files = record { node = 2; name = codes "a"; contents = codes "hello" } ∷ []; next = 3 }
+first_stock = record {
+  files = record { node = 2; name = codes "a"; contents = codes "hello" } ∷ [];
+  next = 3;
+}
 
 -- the attributes of a node of this kind and permissions, with so many names and bytes
 abbrev pub attr_of : (node mode nlink size : ℕ) → Attr
@@ -54,7 +58,8 @@ file_attr file = attr_of file.node 0o100644 1 (length file.contents)
 
 -- the file of this name in this directory, which only the root can be
 abbrev pub file_named : Stock → (parent : ℕ) → (name : List ℕ) → Option Stored
-file_named stock parent name = if parent == 1 then find (λ file. bytes_eq file.name name) stock.files else None
+file_named stock parent name =
+    if parent == 1 then find (λ file. bytes_eq file.name name) stock.files else None
 
 -- the file of this node
 abbrev pub file_at : Stock → (node : ℕ) → Option Stored
@@ -84,23 +89,69 @@ pub record IsEntryOf (file : Stored) (entry : Entry) : Type 0 where
 -- a file's entry is answered, or that there is no such file
 abbrev pub AnswersEntry : Option Stored → Answer → Type 0
 AnswersEntry (Some file) (Found entry) = IsEntryOf file entry
-AnswersEntry None (Failed fault) = fault ≡ Some 2
+AnswersEntry None (Failed fault) = fault ≡ Some enoent
 AnswersEntry _ _ = ⊥
 
 -- attributes are answered, or that there is no such node
 abbrev pub AnswersAttr : Option Attr → Answer → Type 0
 AnswersAttr (Some attr) (Attributes found timeout) = (found ≡ attr) × IsSecond timeout
-AnswersAttr None (Failed fault) = fault ≡ Some 2
+AnswersAttr None (Failed fault) = fault ≡ Some enoent
 AnswersAttr _ _ = ⊥
 
--- what a call is answered
-abbrev pub AnswersOf : Stock → Call → Answer → Type 0
-AnswersOf stock (Init capable) answer = answer ≡ Options 0x2000
-AnswersOf stock (Lookup ctx parent name) answer = AnswersEntry (file_named stock parent name) answer
-AnswersOf stock (Forget ctx inode count) answer = answer ≡ Done
-AnswersOf stock (Getattr ctx inode handle) answer = AnswersAttr (attr_at stock inode) answer
+-- where the file of this name in this directory is, which only the root can be
+abbrev pub place_of : Stock → (parent : ℕ) → (name : List ℕ) → Option ℕ
+place_of stock parent name =
+    if parent == 1 then position (λ file. bytes_eq file.name name) stock.files else None
 
--- a call is answered so, and the files stay
-abbrev pub AllowsHere : {I : Type 0} → Stock → Call → Handed I → Stock → Type 0
-AllowsHere old call (Plain answer) new = AnswersOf old call answer × (new ≡ old)
-AllowsHere old call (Iterator opened) new = ⊥
+-- a file that is at this place is gone, or the answer is that there is no such file
+abbrev pub TakesOut : Stock → Option ℕ → Answer → Stock → Type 0
+TakesOut old (Some place) answer new =
+    (answer ≡ Done) × (new ≡ record old { files = remove old.files place })
+TakesOut old None answer new = (answer ≡ Failed (Some enoent)) × (new ≡ old)
+
+-- a new file of this name, without contents
+abbrev pub new_file : Stock → (name : List ℕ) → Stored
+new_file stock name = record { node = stock.next; name = name; contents = [] }
+
+-- the files with one more
+abbrev pub with_file : Stock → Stored → Stock
+with_file stock file = record { files = stock.files ++ file ∷ []; next = stock.next + 1 }
+
+-- a file of this name is added and its entry answered, or there was no memory for it and the files
+-- stay
+abbrev pub AddsFile : Stock → (name : List ℕ) → Result Entry (Option ℕ) → Stock → Type 0
+AddsFile old name (Ok entry) new =
+    IsEntryOf (new_file old name) entry × (new ≡ with_file old (new_file old name))
+AddsFile old name (Err fault) new = (fault ≡ Some enomem) × (new ≡ old)
+
+-- why a file of this name can't be made in this directory: there is no such directory, the name is
+-- taken, or there is no place or no number for it
+abbrev pub refusal_of : Stock → (parent : ℕ) → (name : List ℕ) → Option ℕ
+refusal_of stock parent name =
+    if not (parent == 1) then Some enoent
+    else if is_some (place_of stock parent name) then Some eexist
+    else if nat_le 1000 (length stock.files) || stock.next == 2 ^ 64 - 1 then Some enospc
+    else None
+
+-- a file is made and opened without a handle, or refused
+abbrev pub Makes : Stock → (name : List ℕ) → Option ℕ → Answer → Stock → Type 0
+Makes old name (Some number) answer new = (answer ≡ Failed (Some number)) × (new ≡ old)
+Makes old name None (Created entry handle options) new =
+    (handle ≡ None) × (options ≡ 0) × AddsFile old name (Ok entry) new
+Makes old name None (Failed fault) new = AddsFile old name (Err fault) new
+Makes old name None _ new = ⊥
+
+-- from the old files this call may hand this back and leave the new files: the one table of what
+-- the file system does. What it has no line for has its default answer, and the files stay.
+abbrev pub MemFsAllows : {I : Type 0} → Stock → Call → Handed I → Stock → Type 0
+MemFsAllows old (Init _) (Plain answer) new = (answer ≡ Options 0x2000) × (new ≡ old)
+MemFsAllows old (Lookup _ parent name) (Plain answer) new =
+    AnswersEntry (file_named old parent name) answer × (new ≡ old)
+MemFsAllows old (Getattr _ inode _) (Plain answer) new =
+    AnswersAttr (attr_at old inode) answer × (new ≡ old)
+MemFsAllows old (Unlink _ parent name) (Plain answer) new =
+    TakesOut old (place_of old parent name) answer new
+MemFsAllows old (Create _ parent name _ _ _ _ _) (Plain answer) new =
+    Makes old name (refusal_of old parent name) answer new
+MemFsAllows old call (Plain answer) new = (answer ≡ default_answer call) × (new ≡ old)
+MemFsAllows old call (Iterator _) new = ⊥

@@ -4,17 +4,14 @@
 //! standard output gets a line for each answer. The program takes no arguments and opens no file.
 #![tactic(auto)]
 
-mod answer;
-mod error;
-mod line;
 mod memfs;
 mod run;
 #[cfg(test)]
 mod tests;
 
-use error::{RunError, exit_status};
 use std::io;
 use std::process::ExitCode;
+use vfs_lines::{RunError, exit_status};
 
 fn main(rt: HostRuntime) -> ExitCode {
     let outcome = run::run(rt.alloc(), &mut rt.stdin(), &mut rt.stdout());

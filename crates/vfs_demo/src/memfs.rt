@@ -1,15 +1,15 @@
 //! A file system in memory: a root directory, and files in it.
-ghost use Rattle.std.specs.Prelude.{◌≡◌, ◌==◌, find, Some, None, MatchResult};
+ghost use Rattle.std.specs.Prelude.{◌≡◌, ◌==◌, ◌<◌, ◌^◌, ◌-◌, find, position, length, Some, IfSome, MatchResult};
 ghost use Rattle.std.specs.Option.{option_copied};
 ghost use Rattle.std.specs.Str.{bytes_eq};
-ghost use Rattle.vfs_files.specs.Calls.{attr_answer};
-ghost use Rattle.vfs_demo.specs.MemFs.{AllowsHere, AnswersAttr, attr_of, file_attr, attr_at, first_stock, IsEntryOf};
+ghost use Rattle.vfs_flags.specs.Errors.{enoent, enomem};
+ghost use Rattle.vfs_demo.specs.MemFs.{attr_of, file_attr, first_stock, IsEntryOf, AddsFile};
 
 use std::alloc::Global;
 use std::marker::Model;
 use std::time::Duration;
-use vfs_files::{CStr, Context, DirEntry, DirectoryIterator, Entry, FileSystem};
-use vfs_flags::{Errno, Fault, FsOptions, GuestGid, GuestUid, ROOT_ID};
+use vfs_files::Entry;
+use vfs_flags::{Errno, Fault, ROOT_ID};
 use vfs_wire::Attr;
 
 /// How long a client may rely on an answer.
@@ -24,6 +24,11 @@ const FILE_MODE: u32 = 0o100644;
 /// The preferred size of reads and writes in bytes.
 const BLOCK_SIZE: u32 = 4096;
 
+/// The most files that there can be.
+const MOST_FILES: usize = 1000;
+
+mod calls;
+
 /// A file of the root.
 #[derive(Debug, Drop)]
 struct File {
@@ -37,13 +42,18 @@ impl Model for File {
 
     ghost Value = { Stored };
 
-    ghost view = { λ file. record { node = file.node; name = file.name.items; contents = file.contents.items } };
+    ghost view = { λ file. record {
+      node = file.node;
+      name = file.name.items;
+      contents = file.contents.items;
+    } };
 }
 
 /// A file system in memory. It has a root directory, node 1, and begins with one file in it: node
 /// 2, named `a`, with the contents `hello`. It says of each answer that it holds for a second.
 #[derive(Debug, Drop)]
 pub struct MemFs {
+    alloc: Global,
     files: Vec<File>,
     next: u64,
 }
@@ -60,7 +70,7 @@ impl MemFs {
     /// A new file system, with its one file. ENOMEM where there is no memory for it, and no other
     /// fault.
     pub fn new(alloc: Global) -> Result<MemFs, Fault>
-        ensures { MatchResult result (λ fs. fs ≡ first_stock) (λ fault. fault ≡ Some 12) }
+        ensures { MatchResult result (λ fs. fs ≡ first_stock) (λ fault. fault ≡ Some enomem) }
     {
         let file = File {
             node: ROOT_ID + 1,
@@ -70,9 +80,30 @@ impl MemFs {
         let mut files = Vec::new(alloc);
         match files.push(file) {
             Ok(()) => Ok(MemFs {
+                alloc,
                 files,
                 next: ROOT_ID + 2,
             }),
+            Err(_) => Err(Some(Errno::ENOMEM)),
+        }
+    }
+
+    // Adds a file of this name without contents. ENOMEM where there is no memory for it.
+    fn add(&mut self, name: &[u8]) -> Result<Entry, Fault>
+        requires { self.old.next < 2 ^ 64 - 1 }
+        ensures { AddsFile self.old name.now result self.new }
+    {
+        let file = File {
+            node: self.next,
+            name: copied(self.alloc, name)?,
+            contents: Vec::new(self.alloc),
+        };
+        let entry = entry(&file);
+        match self.files.push(file) {
+            Ok(()) => {
+                self.next += 1;
+                Ok(entry)
+            }
             Err(_) => Err(Some(Errno::ENOMEM)),
         }
     }
@@ -80,7 +111,7 @@ impl MemFs {
 
 // The bytes in memory of their own.
 fn copied(alloc: Global, bytes: &[u8]) -> Result<Vec<u8>, Fault>
-    ensures { MatchResult result (λ v. v.items ≡ bytes.now) (λ fault. fault ≡ Some 12) }
+    ensures { MatchResult result (λ v. v.items ≡ bytes.now) (λ fault. fault ≡ Some enomem) }
 {
     match Vec::from_slice(alloc, bytes) {
         Ok(v) => Ok(v),
@@ -90,9 +121,9 @@ fn copied(alloc: Global, bytes: &[u8]) -> Result<Vec<u8>, Fault>
 
 // The fault ENOENT: what was asked for is not there.
 fn not_found() -> Fault
-    ensures { result ≡ Some 2 }
+    ensures { result ≡ Some enoent }
 {
-    Errno::new(2)
+    Some(Errno::ENOENT)
 }
 
 // The attributes of a node of this kind and permissions, with so many names and bytes.
@@ -102,20 +133,10 @@ fn make_attr(node: u64, mode: u32, nlink: u32, size: u64) -> Attr
     Attr {
         ino: node,
         size,
-        blocks: 0,
-        atime: 0,
-        mtime: 0,
-        ctime: 0,
-        atimensec: 0,
-        mtimensec: 0,
-        ctimensec: 0,
         mode,
         nlink,
-        uid: GuestUid::from(0),
-        gid: GuestGid::from(0),
-        rdev: 0,
         blksize: BLOCK_SIZE,
-        flags: 0,
+        ..Attr::default()
     }
 }
 
@@ -153,61 +174,10 @@ fn find_node(files: &[File], node: u64) -> Option<&File>
     files.iter().find(|file| file.node == node)
 }
 
-/// What a directory of the file system lists: nothing, since no directory can be read.
-#[derive(Debug, Drop)]
-pub struct NoEntries;
-
-impl DirectoryIterator for NoEntries {
-    ghost gives = { λ old item new. (item ≡ None) × (new ≡ old) };
-
-    fn next(&mut self) -> Option<DirEntry<'_>> {
-        None
-    }
-}
-
-impl FileSystem for MemFs {
-    type Inode = u64;
-
-    type Handle = u64;
-
-    type DirIter = NoEntries;
-
-    ghost allows = { AllowsHere };
-
-    fn init(&mut self, _capable: FsOptions) -> Result<FsOptions, Fault> {
-        Ok(FsOptions::DO_READDIRPLUS)
-    }
-
-    fn lookup(&mut self, _ctx: Context, parent: u64, name: CStr<'_>) -> Result<Entry, Fault> {
-        if parent != ROOT_ID {
-            return Err(not_found());
-        }
-        match find_name(&self.files, name.to_bytes()) {
-            Some(file) => Ok(entry(file)),
-            None => Err(not_found()),
-        }
-    }
-
-    fn forget(&mut self, _ctx: Context, _inode: u64, _count: u64) {
-        vfs_files::defaults::forget();
-    }
-
-    fn getattr(
-        &mut self,
-        _ctx: Context,
-        inode: u64,
-        _handle: Option<u64>,
-    ) -> Result<(Attr, Duration), Fault>
-        ensures answer { AnswersAttr (attr_at self.old inode) (attr_answer result) }
-        ensures same { self.new ≡ self.old }
-    {
-        let timeout = Duration::from_secs(TIMEOUT_SECONDS);
-        if inode == ROOT_ID {
-            return Ok((make_attr(ROOT_ID, ROOT_MODE, 2, 0), timeout));
-        }
-        match find_node(&self.files, inode) {
-            Some(file) => Ok((attr(file), timeout)),
-            None => Err(not_found()),
-        }
-    }
+// Where the first file of this name is.
+fn place_of(files: &[File], name: &[u8]) -> Option<usize>
+    ensures place { result ≡ position (λ file. bytes_eq file.name name.now) files.now }
+    ensures within { IfSome result (λ i. i < length files.now) }
+{
+    files.iter().position(|file| file.name.as_slice() == name)
 }

@@ -99,23 +99,23 @@ text_answer (Ok text) = Text text.items
 text_answer (Err fault) = Failed fault
 
 -- the value of an extended attribute, or how long it is
-abbrev pub value_said : GetxattrReply → Answer
-value_said (getxattr.Value value) = Text value.items
-value_said (getxattr.Count count) = Count count
+abbrev pub value_or_count : GetxattrReply → Answer
+value_or_count (getxattr.Value value) = Text value.items
+value_or_count (getxattr.Count count) = Count count
 
 -- the answer of `getxattr`
 abbrev pub getxattr_answer : Result GetxattrReply (Option ℕ) → Answer
-getxattr_answer (Ok reply) = value_said reply
+getxattr_answer (Ok reply) = value_or_count reply
 getxattr_answer (Err fault) = Failed fault
 
 -- the names of the extended attributes, or how long they are
-abbrev pub names_said : ListxattrReply → Answer
-names_said (listxattr.Names names) = Text names.items
-names_said (listxattr.Count count) = Count count
+abbrev pub names_or_count : ListxattrReply → Answer
+names_or_count (listxattr.Names names) = Text names.items
+names_or_count (listxattr.Count count) = Count count
 
 -- the answer of `listxattr`
 abbrev pub listxattr_answer : Result ListxattrReply (Option ℕ) → Answer
-listxattr_answer (Ok reply) = names_said reply
+listxattr_answer (Ok reply) = names_or_count reply
 listxattr_answer (Err fault) = Failed fault
 
 -- the answer of `lseek`

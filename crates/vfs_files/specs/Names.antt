@@ -20,10 +20,11 @@ name_text name = name.bytes.now
 abbrev pub IsName : List ℕ → List ℕ → Type 0
 IsName bytes text = (bytes ≡ text ++ 0 ∷ []) × ((k : ℕ) → k < length text → slice_index text k ≢ 0)
 
--- the text before the first 0 and what follows it, where there is a 0
+-- what stands before a place and what stands behind it, where there is such a place
 abbrev pub cut_at : List ℕ → Option ℕ → Option (List ℕ × List ℕ)
 cut_at bytes None = None
 cut_at bytes (Some i) = Some (take i bytes, drop (i + 1) bytes)
 
+-- the text of the first name in a byte list, and what follows the 0 behind it, where there is a 0
 abbrev pub first_name : List ℕ → Option (List ℕ × List ℕ)
 first_name bytes = cut_at bytes (position (λ b. b == 0) bytes)

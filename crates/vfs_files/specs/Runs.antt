@@ -1,7 +1,8 @@
 -- Events, and runs of a file system. Only a run knows the types of states and iterators.
-use Rattle.std.specs.Prelude.{◌≡◌, List, [], ◌∷◌, ◌++◌, Option, Some, None}
+use Rattle.std.specs.Prelude.{◌≡◌, ℕ, List, [], ◌∷◌, ◌++◌, map, Option, Some, None}
 use Rattle.vfs_files.specs.Items.{Item}
-use Rattle.vfs_files.specs.Calls.{Call, Answer, Handed, Plain, Iterator}
+use Rattle.vfs_files.specs.Calls.{Call, Forget, Answer, Done, Handed, Plain, Iterator}
+use Rattle.vfs_files.specs.declared.entry.Context.{Context}
 
 -- what is seen of a file system from outside: a call with its answer, a call that opened an iterator,
 -- and a taking from the iterator at hand
@@ -59,3 +60,12 @@ abbrev pub EventsJoin : (S I : Type 0) → Type 0
 EventsJoin S I =
     (before after : List (Happening I × S))
     → events_of (before ++ after) ≡ events_of before ++ events_of after
+
+module _ {S I : Type 0} (allows : S → Call → Handed I → S → Type 0) (gives : I → Option Item → I → Type 0) where
+  -- from one state to another a run leads whose events are a `forget` for each of these pairs of a
+  -- node and a count, in order, and nothing else
+  abbrev pub ForgetsEach : Context → List (ℕ × ℕ) → S → S → Type 0
+  ForgetsEach ctx requests old new =
+      (run : List (Happening I × S))
+      × IsRun allows gives None old run new
+      × (events_of run ≡ map (λ p. Called (Forget ctx p.0 p.1) Done) requests)

@@ -396,8 +396,7 @@ pub trait FileSystem {
             (Plain (done_answer result))
             self.new };
 
-    /// Asks for a lock (GETLK). It is told nothing, and what it answers is not replied: a fault
-    /// alone is.
+    /// Asks for a lock (GETLK). It is told nothing, and a fault alone is replied.
     fn getlk(&mut self) -> Result<(), Fault>
         ensures { allows self.old Getlk (Plain (done_answer result)) self.new };
 
@@ -418,9 +417,10 @@ pub trait FileSystem {
             self.new };
 
     /// Makes a file of this name in the directory `parent`, unless it is there, and opens it
-    /// (CREATE). `mode` and `umask` are as for `mknod`, `kill_priv` and `flags` as for `open`, and
-    /// the answer is that of both: it counts one lookup. A name that is there is EEXIST where
-    /// `flags` have `O_EXCL`. After ENOSYS the kernel calls `mknod` and `open` in its place.
+    /// (CREATE). `mode` and `umask` are as for `mknod`, `kill_priv` as for `open`, and `flags` too,
+    /// but with those that make a file. The answer is that of both: it counts one lookup. A name
+    /// that is there is EEXIST where `flags` have `O_EXCL`. After ENOSYS the kernel calls `mknod`
+    /// and `open` in its place.
     fn create(
         &mut self,
         ctx: Context,
@@ -462,7 +462,9 @@ pub trait FileSystem {
         ensures { allows self.old NotifyReply (Plain (done_answer result)) self.new };
 
     /// The kernel takes back lookups of many nodes (BATCH_FORGET): of each pair's node as many as
-    /// its count says, as by `forget` for each, in order. There is no reply.
+    /// its count says, as by `forget` for each, in order. There is no reply. A file system that has
+    /// nothing shorter to do calls its own `forget` in a loop, as [`Unserved`](crate::Unserved);
+    /// what a loop like that allows, [`forget_each`](crate::uses::forget_each) says.
     ///
     /// An implementation repeats this clause, as that of `getattr`.
     fn batch_forget(&mut self, ctx: Context, requests: Vec<(Self::Inode, u64)>)
@@ -490,7 +492,8 @@ pub trait FileSystem {
             self.new };
 
     /// Where the next data (`whence` 3, `SEEK_DATA`) or the next hole (4, `SEEK_HOLE`) of an open
-    /// file begins, from `offset` on, in bytes (LSEEK). Past the end it is ENXIO.
+    /// file begins, from `offset` on, in bytes (LSEEK). Past the end it is ENXIO. After ENOSYS the
+    /// kernel takes files to have no holes.
     fn lseek(
         &mut self,
         ctx: Context,

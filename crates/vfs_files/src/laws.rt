@@ -2,6 +2,8 @@
 
 ghost use Rattle.std.specs.Prelude.{◌≡◌, ℕ, List, Some};
 ghost use Rattle.vfs_files.specs.Names.{IsName, name_of};
+ghost use Rattle.vfs_files.specs.Answers.{IsAnswer};
+ghost use Rattle.vfs_files.specs.Calls.{Call, kind_of, default_answer};
 ghost use Rattle.vfs_files.specs.Runs.{RunsJoin, EventsJoin};
 
 use crate::filesystem::FileSystem;
@@ -20,4 +22,9 @@ pub fn runs_join<F: FileSystem>()
 pub fn names_end_at_their_only_nul()
     ensures named { (bytes text : List ℕ) → name_of bytes ≡ Some text → IsName bytes text }
     ensures found { (bytes text : List ℕ) → IsName bytes text → name_of bytes ≡ Some text }
+{}
+
+/// What a call answers by default is an answer of its kind, with its numbers within their widths.
+pub fn default_answers_are_of_their_kind()
+    ensures { (call : Call) → IsAnswer (kind_of call) (default_answer call) }
 {}

@@ -17,6 +17,7 @@ mod number;
 #[cfg(test)]
 mod tests;
 mod unserved;
+pub mod uses;
 mod xattr;
 
 pub use directory::{DirEntry, DirectoryIterator};

@@ -56,8 +56,8 @@ impl<'a> CStr<'a> {
             (λ name. position (λ b. b == 0) bytes.now ≡ Some (length (name_text name))
             × name_text name ≡ take (length (name_text name)) bytes.now) }
     {
-        let end = first_nul(bytes)?;
-        let bytes = &bytes[..end];
+        let first = first_nul(bytes)?;
+        let bytes = &bytes[..first];
         Some(CStr { bytes })
     }
 

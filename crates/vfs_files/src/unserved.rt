@@ -26,12 +26,14 @@ impl DirectoryIterator for NoEntries {
     }
 }
 
-/// Serves nothing: an example of how an implementation answers what it doesn't serve.
+/// Serves nothing. It shows how an implementation answers what it doesn't serve, and which of its
+/// methods repeat their clause: those with a parameter that holds an associated type.
 #[derive(Drop)]
 pub struct Unserved {}
 
 impl Unserved {
-    /// Forgets each node, in order.
+    /// Forgets each node, in order: the default of `batch_forget`, which each file system writes
+    /// itself.
     fn forget_each(&mut self, ctx: &Context, requests: Vec<(u64, u64)>) {
         for (inode, count) in requests {
             self.forget(*ctx, inode, count);

@@ -4,8 +4,8 @@ ghost use Rattle.std.specs.Prelude.{◌≡◌, ◌↔◌, IfOk, IsOk};
 ghost use Rattle.std.specs.Result.{result_ok};
 ghost use Rattle.vfs_flags.specs.Opcode.{opcode_of, number_of, IsOpcode};
 
-/// The kind of a request: `opcode` of `struct fuse_in_header`. Its numbers are 1 to 51 without 7 and
-/// 19, which no kernel sends. The names are those of `enum fuse_opcode`.
+/// The kind of a request: `opcode` of `struct fuse_in_header`. Its numbers are 1 to 51 without 7
+/// and 19, which no kernel sends. The names are those of `enum fuse_opcode`.
 #[derive(Clone, Copy, Debug)]
 pub enum Opcode {
     /// Looks a name up in a directory. The reply names a node, which gains one lookup.

@@ -3,18 +3,27 @@ use bitflags::Flags;
 
 #[test]
 fn error_numbers(rt: HostRuntime) {
-    for n in [0, -1, i32::MIN] {
-        assert!(rt; Errno::new(n).is_none(), "at {n}");
-    }
-    for n in [1, i32::MAX] {
-        assert_eq!(rt; Errno::new(n).map(|e| e.get()), Some(n), "at {n}");
-    }
     let named = [
+        (Errno::EPERM, 1),
+        (Errno::ENOENT, 2),
         (Errno::EIO, 5),
+        (Errno::EBADF, 9),
         (Errno::ENOMEM, 12),
+        (Errno::EACCES, 13),
+        (Errno::EEXIST, 17),
+        (Errno::EXDEV, 18),
+        (Errno::ENOTDIR, 20),
+        (Errno::EISDIR, 21),
+        (Errno::EINVAL, 22),
+        (Errno::ENOSPC, 28),
+        (Errno::EROFS, 30),
+        (Errno::ERANGE, 34),
         (Errno::ENOSYS, 38),
+        (Errno::ENOTEMPTY, 39),
+        (Errno::ENODATA, 61),
         (Errno::EPROTO, 71),
         (Errno::EOVERFLOW, 75),
+        (Errno::EOPNOTSUPP, 95),
     ];
     for (e, n) in named {
         assert_eq!(rt; e.get(), n);
@@ -24,16 +33,10 @@ fn error_numbers(rt: HostRuntime) {
 
 #[test]
 fn ids_come_back_unchanged(rt: HostRuntime) {
-    for n in [0, 1, 1000, 65_534, u32::MAX] {
-        assert_eq!(rt; GuestUid::from(n).into_inner(), n);
-        assert_eq!(rt; GuestGid::from(n).into_inner(), n);
-        assert_eq!(rt; HostUid::from(n).into_inner(), n);
-        assert_eq!(rt; HostGid::from(n).into_inner(), n);
-    }
-    assert_eq!(rt; GuestUid::default().into_inner(), 0);
-    assert_eq!(rt; GuestGid::default().into_inner(), 0);
-    assert_eq!(rt; HostUid::default().into_inner(), 0);
-    assert_eq!(rt; HostGid::default().into_inner(), 0);
+    assert_eq!(rt; GuestUid::from(u32::MAX).into_inner(), u32::MAX);
+    assert_eq!(rt; GuestGid::from(u32::MAX).into_inner(), u32::MAX);
+    assert_eq!(rt; HostUid::from(u32::MAX).into_inner(), u32::MAX);
+    assert_eq!(rt; HostGid::from(u32::MAX).into_inner(), u32::MAX);
 }
 
 #[test]
@@ -48,31 +51,6 @@ fn opcodes_have_their_numbers(rt: HostRuntime) {
             Err(()) => assert!(rt; !known, "at {n}"),
         }
     }
-    assert!(rt; Opcode::try_from(u32::MAX).is_err());
-}
-
-#[test]
-fn notifications_have_their_numbers(rt: HostRuntime) {
-    assert_eq!(rt; NotifyOpcode::Poll as u32, 1);
-    assert_eq!(rt; NotifyOpcode::InvalInode as u32, 2);
-    assert_eq!(rt; NotifyOpcode::InvalEntry as u32, 3);
-    assert_eq!(rt; NotifyOpcode::Store as u32, 4);
-    assert_eq!(rt; NotifyOpcode::Retrieve as u32, 5);
-    assert_eq!(rt; NotifyOpcode::Delete as u32, 6);
-    assert_eq!(rt; NotifyOpcode::CodeMax as u32, 7);
-}
-
-#[test]
-fn extension_types_end_at_the_groups(rt: HostRuntime) {
-    for n in 0..32 {
-        assert!(rt;
-            matches!(ExtType::try_from(n), Ok(ExtType::SecCtx(m)) if m == n),
-            "at {n}"
-        );
-    }
-    assert!(rt; matches!(ExtType::try_from(32), Ok(ExtType::SupGroups)));
-    assert!(rt; ExtType::try_from(33).is_err());
-    assert!(rt; ExtType::try_from(u32::MAX).is_err());
 }
 
 #[test]
@@ -113,190 +91,19 @@ fn constants_have_their_values(rt: HostRuntime) {
 }
 
 #[test]
-fn sets_compare_by_their_bits(rt: HostRuntime) {
-    assert!(rt; FsOptions::ASYNC_READ < FsOptions::POSIX_LOCKS);
-    assert!(rt; OpenOptions::CACHE_DIR < OpenOptions::STREAM);
-    assert!(rt; SetattrValid::ATIME != SetattrValid::MTIME);
-    assert_eq!(rt;
-        SetxattrFlags::from_bits_truncate(3),
-        SetxattrFlags::SETXATTR_ACL_KILL_SGID
-    );
-}
-
-#[test]
-fn fs_options_have_their_bits(rt: HostRuntime) {
-    let flags = [
-        (FsOptions::ASYNC_READ, 1 << 0),
-        (FsOptions::POSIX_LOCKS, 1 << 1),
-        (FsOptions::FILE_OPS, 1 << 2),
-        (FsOptions::ATOMIC_O_TRUNC, 1 << 3),
-        (FsOptions::EXPORT_SUPPORT, 1 << 4),
-        (FsOptions::BIG_WRITES, 1 << 5),
-        (FsOptions::DONT_MASK, 1 << 6),
-        (FsOptions::SPLICE_WRITE, 1 << 7),
-        (FsOptions::SPLICE_MOVE, 1 << 8),
-        (FsOptions::SPLICE_READ, 1 << 9),
-        (FsOptions::FLOCK_LOCKS, 1 << 10),
-        (FsOptions::HAS_IOCTL_DIR, 1 << 11),
-        (FsOptions::AUTO_INVAL_DATA, 1 << 12),
-        (FsOptions::DO_READDIRPLUS, 1 << 13),
-        (FsOptions::READDIRPLUS_AUTO, 1 << 14),
-        (FsOptions::ASYNC_DIO, 1 << 15),
-        (FsOptions::WRITEBACK_CACHE, 1 << 16),
-        (FsOptions::ZERO_MESSAGE_OPEN, 1 << 17),
-        (FsOptions::PARALLEL_DIROPS, 1 << 18),
-        (FsOptions::HANDLE_KILLPRIV, 1 << 19),
-        (FsOptions::POSIX_ACL, 1 << 20),
-        (FsOptions::ABORT_ERROR, 1 << 21),
-        (FsOptions::MAX_PAGES, 1 << 22),
-        (FsOptions::CACHE_SYMLINKS, 1 << 23),
-        (FsOptions::ZERO_MESSAGE_OPENDIR, 1 << 24),
-        (FsOptions::EXPLICIT_INVAL_DATA, 1 << 25),
-        (FsOptions::SUBMOUNTS, 1 << 27),
-        (FsOptions::HANDLE_KILLPRIV_V2, 1 << 28),
-        (FsOptions::SETXATTR_EXT, 1 << 29),
-        (FsOptions::INIT_EXT, 1 << 30),
-        (FsOptions::INIT_RESERVED, 1 << 31),
-        (FsOptions::SECURITY_CTX, 1 << 32),
-        (FsOptions::HAS_INODE_DAX, 1 << 33),
-        (FsOptions::CREATE_SUPP_GROUP, 1 << 34),
-        (FsOptions::DIRECT_IO_ALLOW_MMAP, 1 << 36),
-        (FsOptions::ALLOW_IDMAP, 1 << 40),
-    ];
-    for (flag, want) in flags {
-        assert_eq!(rt; flag.bits(), want);
-    }
+fn sets_know_their_bits(rt: HostRuntime) {
     assert_eq!(rt;
         FsOptions::from_bits_truncate(u64::MAX).bits(),
         0x117_fbff_ffff
     );
-    assert_eq!(rt; FsOptions::empty().bits(), 0);
-    let both = FsOptions::ASYNC_READ | FsOptions::POSIX_LOCKS;
-    assert_eq!(rt; both.bits(), 3);
-    assert_eq!(rt; (both & FsOptions::POSIX_LOCKS).bits(), 2);
-    assert!(rt; both.contains(FsOptions::POSIX_LOCKS));
-    assert!(rt; !FsOptions::ASYNC_READ.contains(both));
-}
-
-#[test]
-fn setattr_valid_has_its_bits(rt: HostRuntime) {
-    let flags = [
-        (SetattrValid::MODE, 1 << 0),
-        (SetattrValid::UID, 1 << 1),
-        (SetattrValid::GID, 1 << 2),
-        (SetattrValid::SIZE, 1 << 3),
-        (SetattrValid::ATIME, 1 << 4),
-        (SetattrValid::MTIME, 1 << 5),
-        (SetattrValid::ATIME_NOW, 1 << 7),
-        (SetattrValid::MTIME_NOW, 1 << 8),
-        (SetattrValid::CTIME, 1 << 10),
-        (SetattrValid::KILL_SUIDGID, 1 << 11),
-    ];
-    for (flag, want) in flags {
-        assert_eq!(rt; flag.bits(), want);
-    }
+    assert_eq!(rt; FsOptions::SUPPORTED.bits(), 0x104_4844_9829);
     assert_eq!(rt; SetattrValid::from_bits_truncate(u32::MAX).bits(), 0xdbf);
-    assert_eq!(rt; SetattrValid::empty().bits(), 0);
-    let both = SetattrValid::MODE | SetattrValid::UID;
-    assert_eq!(rt; both.bits(), 3);
-    assert_eq!(rt; (both & SetattrValid::UID).bits(), 2);
-    assert!(rt; both.contains(SetattrValid::UID));
-    assert!(rt; !SetattrValid::MODE.contains(both));
-}
-
-#[test]
-fn open_options_have_their_bits(rt: HostRuntime) {
-    let flags = [
-        (OpenOptions::DIRECT_IO, 1 << 0),
-        (OpenOptions::KEEP_CACHE, 1 << 1),
-        (OpenOptions::NONSEEKABLE, 1 << 2),
-        (OpenOptions::CACHE_DIR, 1 << 3),
-        (OpenOptions::STREAM, 1 << 4),
-        (OpenOptions::NOFLUSH, 1 << 5),
-        (OpenOptions::PARALLEL_DIRECT_WRITES, 1 << 6),
-    ];
-    for (flag, want) in flags {
-        assert_eq!(rt; flag.bits(), want);
-    }
     assert_eq!(rt; OpenOptions::from_bits_truncate(u32::MAX).bits(), 0x7f);
-    assert_eq!(rt; OpenOptions::empty().bits(), 0);
-    let both = OpenOptions::DIRECT_IO | OpenOptions::KEEP_CACHE;
-    assert_eq!(rt; both.bits(), 3);
-    assert_eq!(rt; (both & OpenOptions::KEEP_CACHE).bits(), 2);
-    assert!(rt; both.contains(OpenOptions::KEEP_CACHE));
-    assert!(rt; !OpenOptions::DIRECT_IO.contains(both));
-}
-
-#[test]
-fn ioctl_flags_have_their_bits(rt: HostRuntime) {
-    let flags = [
-        (IoctlFlags::IOCTL_COMPAT, 1 << 0),
-        (IoctlFlags::IOCTL_UNRESTRICTED, 1 << 1),
-        (IoctlFlags::IOCTL_RETRY, 1 << 2),
-        (IoctlFlags::IOCTL_32BIT, 1 << 3),
-        (IoctlFlags::IOCTL_DIR, 1 << 4),
-        (IoctlFlags::IOCTL_COMPAT_X32, 1 << 5),
-        (IoctlFlags::IOCTL_MAX_IOV, 1 << 8),
-    ];
-    for (flag, want) in flags {
-        assert_eq!(rt; flag.bits(), want);
-    }
     assert_eq!(rt; IoctlFlags::from_bits_truncate(u32::MAX).bits(), 0x13f);
-    assert_eq!(rt; IoctlFlags::empty().bits(), 0);
-    let both = IoctlFlags::IOCTL_COMPAT | IoctlFlags::IOCTL_UNRESTRICTED;
-    assert_eq!(rt; both.bits(), 3);
-    assert_eq!(rt; (both & IoctlFlags::IOCTL_UNRESTRICTED).bits(), 2);
-    assert!(rt; both.contains(IoctlFlags::IOCTL_UNRESTRICTED));
-    assert!(rt; !IoctlFlags::IOCTL_COMPAT.contains(both));
-}
-
-#[test]
-fn setxattr_flags_have_their_bits(rt: HostRuntime) {
-    let flags = [(SetxattrFlags::SETXATTR_ACL_KILL_SGID, 1 << 0)];
-    for (flag, want) in flags {
-        assert_eq!(rt; flag.bits(), want);
-    }
     assert_eq!(rt; SetxattrFlags::from_bits_truncate(u32::MAX).bits(), 1);
-    assert_eq!(rt; SetxattrFlags::empty().bits(), 0);
-    let flag = SetxattrFlags::SETXATTR_ACL_KILL_SGID;
-    assert_eq!(rt; (flag | SetxattrFlags::empty()).bits(), 1);
-    assert_eq!(rt; (flag & SetxattrFlags::empty()).bits(), 0);
-    assert!(rt; flag.contains(flag));
-    assert!(rt; !SetxattrFlags::empty().contains(flag));
-}
-
-#[test]
-fn notify_inval_entry_out_flags_have_their_bits(rt: HostRuntime) {
-    let flags = [(NotifyInvalEntryOutFlags::EXPIRE_ONLY, 1 << 0)];
-    for (flag, want) in flags {
-        assert_eq!(rt; flag.bits(), want);
-    }
     assert_eq!(rt;
         NotifyInvalEntryOutFlags::from_bits_truncate(u32::MAX).bits(),
         1
     );
-    assert_eq!(rt; NotifyInvalEntryOutFlags::empty().bits(), 0);
-    let flag = NotifyInvalEntryOutFlags::EXPIRE_ONLY;
-    assert_eq!(rt; (flag | NotifyInvalEntryOutFlags::empty()).bits(), 1);
-    assert_eq!(rt; (flag & NotifyInvalEntryOutFlags::empty()).bits(), 0);
-    assert!(rt; flag.contains(flag));
-    assert!(rt; !NotifyInvalEntryOutFlags::empty().contains(flag));
-}
-
-#[test]
-fn setupmapping_flags_have_their_bits(rt: HostRuntime) {
-    let flags = [
-        (SetupmappingFlags::WRITE, 1 << 0),
-        (SetupmappingFlags::READ, 1 << 1),
-    ];
-    for (flag, want) in flags {
-        assert_eq!(rt; flag.bits(), want);
-    }
     assert_eq!(rt; SetupmappingFlags::from_bits_truncate(u64::MAX).bits(), 3);
-    assert_eq!(rt; SetupmappingFlags::empty().bits(), 0);
-    let both = SetupmappingFlags::WRITE | SetupmappingFlags::READ;
-    assert_eq!(rt; both.bits(), 3);
-    assert_eq!(rt; (both & SetupmappingFlags::READ).bits(), 2);
-    assert!(rt; both.contains(SetupmappingFlags::READ));
-    assert!(rt; !SetupmappingFlags::WRITE.contains(both));
 }

@@ -1,10 +1,14 @@
 //! Numbers of the protocol by name: calls of this crate, each with a fact that its contracts give.
 
-ghost use Rattle.std.specs.Prelude.{◌≡◌, [], ◌∷◌, map};
+ghost use Rattle.std.specs.Prelude.{◌≡◌, ◌↔◌, [], ◌∷◌, pos, ◌-ℤ◌, Some, None, IsTrue};
 ghost use Rattle.vfs_flags.specs.Errors.{eperm, enoent, eio, ebadf, enomem, eacces, eexist, exdev, enotdir, eisdir, einval, enospc, erofs, erange, enosys, enotempty, enodata, eproto, eoverflow, eopnotsupp};
 ghost use Rattle.vfs_flags.specs.Flags.{fs_options_bits, init_ext, setxattr_ext, security_ctx, create_supp_group, supported_fs_options};
 
 use crate::{Errno, FsOptions};
+
+pub mod ids;
+pub mod opcodes;
+pub mod sets;
 
 /// The named errors, in the order of their numbers.
 pub fn named_errors() -> [Errno; 20]
@@ -70,4 +74,32 @@ pub fn supported() -> FsOptions
     ensures { fs_options_bits result ≡ supported_fs_options }
 {
     FsOptions::SUPPORTED
+}
+
+/// The error of the number that `open` of the system gives for a name that is not there.
+pub fn not_found() -> Option<Errno>
+    ensures { result ≡ Some enoent }
+{
+    Errno::new(2)
+}
+
+/// 0 is no error.
+pub fn no_error() -> Option<Errno>
+    ensures { result ≡ None }
+{
+    Errno::new(0)
+}
+
+/// The number of an error, as the header of a reply carries it.
+pub fn negated(e: Errno) -> i32
+    ensures { result ≡ pos 0 -ℤ pos e }
+{
+    -e.get()
+}
+
+/// Whether two errors are the same.
+pub fn same_error(a: Errno, b: Errno) -> bool
+    ensures { IsTrue result ↔ (a ≡ b) }
+{
+    a == b
 }

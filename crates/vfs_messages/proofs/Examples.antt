@@ -1,11 +1,15 @@
 -- The definitions held against examples: what these bytes ask, and what these replies are, computed.
-use Rattle.std.proofs.Common.{◌≡◌, ◌+◌, ◌/◌, ◌%◌, ◌^◌, ℕ, List, [], ◌∷◌, ◌++◌, take, replicate, Some, None, Ok, Err, refl, pos}
+use Rattle.std.proofs.Common.{◌≡◌, ◌+◌, ◌/◌, ◌%◌, ◌^◌, ℕ, List, [], ◌∷◌, ◌++◌, take, replicate, true, false, Some, None, Ok, Err, refl, pos, negsuc}
 use Rattle.vfs_flags.specs.Opcode.{opcode_of}
 use Rattle.vfs_wire.specs.Fields.{number, little, value_of}
-use Rattle.vfs_wire.specs.Attributes.{attr}
+use Rattle.vfs_wire.specs.Attributes.{attr, setattr_in}
+use Rattle.vfs_wire.specs.declared.attributes.Attr.{Attr}
+use Rattle.vfs_wire.specs.declared.stat.Statvfs64.{Statvfs64}
 use Rattle.vfs_files.specs.declared.entry.Context.{Context}
 use Rattle.vfs_files.specs.declared.entry.Entry.{Entry}
-use Rattle.vfs_files.specs.Calls.{Init, Lookup, Forget, Getattr, Getlk, Destroy, BatchForget, Done, Failed, Options, Found, Agreements, Entries, Told, Untold}
+use Rattle.vfs_files.specs.Calls as call
+use Rattle.vfs_files.specs.Answers.{Done, Failed, Options, Found, Attributes, Opened, Statistics, Text, Count, Offset, Written}
+use Rattle.vfs_files.specs.Answers.{Agreements, Entries, Told, Untold, TimedAttributes, Openings, Capacities, Texts, TextsOrCounts, Offsets, Writes, Faults}
 use Rattle.vfs_messages.specs.Ask.{ask}
 use Rattle.vfs_messages.specs.Forms.{Ask, Ends, Asks, Copies, refused, silent}
 use Rattle.vfs_messages.specs.declared.limits.Limits.{Limits}
@@ -17,6 +21,10 @@ use Rattle.vfs_messages.specs.declared.error.Error.TheVariants.{DecodeMessage, E
 -- four bytes of a number, the lowest first
 abbrev four : ℕ → List ℕ
 four n = n % 256 ∷ n / 256 % 256 ∷ n / 65536 % 256 ∷ n / 16777216 ∷ []
+
+-- eight bytes of a number, the lowest first
+abbrev eight : ℕ → List ℕ
+eight n = four (n % 4294967296) ++ four (n / 4294967296)
 
 abbrev zeros : ℕ → List ℕ
 zeros n = replicate n 0
@@ -69,28 +77,28 @@ lookup_past_the_end : ask usual 0 144 (header 44 1 9 1 ++ (0x61 ∷ 0 ∷ [])) �
 unfolding number little opcode_of
 lookup_past_the_end = refl
 
-lookup_of_the_empty_name : ask usual 0 144 (header 41 1 9 1 ++ (0 ∷ [])) ≡ Copies (Asks (echo 9) (Lookup nobody 1 []))
+lookup_of_the_empty_name : ask usual 0 144 (header 41 1 9 1 ++ (0 ∷ [])) ≡ Copies (Asks (echo 9) (call.Lookup nobody 1 []))
 unfolding number little opcode_of
 lookup_of_the_empty_name = refl
 
-lookup_of_a : ask usual 0 144 (header 42 1 9 1 ++ (0x61 ∷ 0 ∷ [])) ≡ Copies (Asks (echo 9) (Lookup nobody 1 (0x61 ∷ [])))
+lookup_of_a : ask usual 0 144 (header 42 1 9 1 ++ (0x61 ∷ 0 ∷ [])) ≡ Copies (Asks (echo 9) (call.Lookup nobody 1 (0x61 ∷ [])))
 unfolding number little opcode_of
 lookup_of_a = refl
 
-forget_of_one : ask usual 0 0 (header 48 2 5 2 ++ (1 ∷ zeros 7)) ≡ Asks (echo 5) (Forget nobody 2 1)
+forget_of_one : ask usual 0 0 (header 48 2 5 2 ++ (1 ∷ zeros 7)) ≡ Asks (echo 5) (call.Forget nobody 2 1)
 unfolding number little opcode_of
 forget_of_one = refl
 
-getattr_without_a_handle : ask usual 0 120 (header 56 3 2 1 ++ zeros 16) ≡ Asks (echo 2) (Getattr nobody 1 None)
+getattr_without_a_handle : ask usual 0 120 (header 56 3 2 1 ++ zeros 16) ≡ Asks (echo 2) (call.Getattr nobody 1 None)
 unfolding number little opcode_of
 getattr_without_a_handle = refl
 
-getattr_by_a_handle : ask usual 0 120 (header 56 3 2 1 ++ ((1 ∷ zeros 7) ++ (7 ∷ zeros 7))) ≡ Asks (echo 2) (Getattr nobody 1 (Some 7))
+getattr_by_a_handle : ask usual 0 120 (header 56 3 2 1 ++ ((1 ∷ zeros 7) ++ (7 ∷ zeros 7))) ≡ Asks (echo 2) (call.Getattr nobody 1 (Some 7))
 unfolding number little opcode_of
 getattr_by_a_handle = refl
 
 -- INIT of 7.38, a read-ahead of 131072 and all flags of both words
-init_of_everything : ask usual 0 80 (header 104 26 1 0 ++ ((four 7 ++ (four 38 ++ four 131072)) ++ ((0xff ∷ 0xff ∷ 0xff ∷ 0xff ∷ []) ++ ((0xff ∷ 0xff ∷ 0xff ∷ 0xff ∷ []) ++ zeros 44)))) ≡ Asks (record { unique = 1; max_readahead = 131072 }) (Init 0x117fbffffff)
+init_of_everything : ask usual 0 80 (header 104 26 1 0 ++ ((four 7 ++ (four 38 ++ four 131072)) ++ ((0xff ∷ 0xff ∷ 0xff ∷ 0xff ∷ []) ++ ((0xff ∷ 0xff ∷ 0xff ∷ 0xff ∷ []) ++ zeros 44)))) ≡ Asks (record { unique = 1; max_readahead = 131072 }) (call.Init 0x117fbffffff)
 unfolding number little opcode_of
 init_of_everything = refl
 
@@ -103,7 +111,7 @@ init_of_8_0 : ask usual 0 80 (header 56 26 1 0 ++ (four 8 ++ zeros 12)) ≡ said
 unfolding number little opcode_of
 init_of_8_0 = refl
 
-getlk : ask usual 0 16 (header 40 31 9 1) ≡ Asks (echo 9) Getlk
+getlk : ask usual 0 16 (header 40 31 9 1) ≡ Asks (echo 9) call.Getlk
 unfolding number little opcode_of
 getlk = refl
 
@@ -111,7 +119,7 @@ interrupt : ask usual 0 16 (header 40 36 9 1) ≡ silent
 unfolding number little opcode_of
 interrupt = refl
 
-forget_of_two : ask usual 0 0 (header 80 42 9 0 ++ ((four 2 ++ four 0) ++ (((5 ∷ zeros 7) ++ (1 ∷ zeros 7)) ++ ((6 ∷ zeros 7) ++ (2 ∷ zeros 7))))) ≡ Copies (Asks (echo 9) (BatchForget nobody ((5, 1) ∷ (6, 2) ∷ [])))
+forget_of_two : ask usual 0 0 (header 80 42 9 0 ++ ((four 2 ++ four 0) ++ (((5 ∷ zeros 7) ++ (1 ∷ zeros 7)) ++ ((6 ∷ zeros 7) ++ (2 ∷ zeros 7))))) ≡ Copies (Asks (echo 9) (call.BatchForget nobody ((5, 1) ∷ (6, 2) ∷ [])))
 unfolding number little opcode_of
 forget_of_two = refl
 
@@ -124,7 +132,7 @@ forget_of_too_many : ask usual 0 16 (header 48 42 9 0 ++ (four 65537 ++ four 0))
 unfolding number little opcode_of
 forget_of_too_many = refl
 
-destroy_leaves_nothing : options_after Destroy Done 0x10448449829 ≡ 0
+destroy_leaves_nothing : options_after call.Destroy Done 0x10448449829 ≡ 0
 destroy_leaves_nothing = refl
 
 done : reply_of usual (echo 9) 0 Told Done ≡ Bytes ((16 ∷ zeros 7) ++ (9 ∷ zeros 7))
@@ -133,6 +141,120 @@ done = refl
 
 done_untold : reply_of usual (echo 9) 0 Untold Done ≡ NoReply
 done_untold = refl
+
+-- the flag of the handle among all others, and all others without it
+getattr_by_a_handle_and_all_flags : ask usual 0 120 (header 56 3 2 1 ++ ((four 0xffffffff ++ zeros 4) ++ eight 7)) ≡ Asks (echo 2) (call.Getattr nobody 1 (Some 7))
+unfolding number little opcode_of
+getattr_by_a_handle_and_all_flags = refl
+
+getattr_by_all_flags_but_that_of_the_handle : ask usual 0 120 (header 56 3 2 1 ++ ((four 0xfffffffe ++ zeros 4) ++ eight 7)) ≡ Asks (echo 2) (call.Getattr nobody 1 None)
+unfolding number little opcode_of
+getattr_by_all_flags_but_that_of_the_handle = refl
+
+-- SETATTR's record is passed on whole, and its `valid` cut to what is known
+abbrev all_valid : List ℕ
+all_valid = (four 0xffffffff ++ four 1) ++ ((eight 7 ++ eight 2) ++ zeros 64)
+
+setattr_by_a_handle : ask usual 0 120 (header 128 4 9 1 ++ all_valid) ≡ Asks (echo 9) (call.Setattr nobody 1 (value_of setattr_in all_valid) (Some 7) 0xdbf)
+unfolding number little opcode_of
+setattr_by_a_handle = refl
+
+-- bit 6 of `valid` is that of the handle, and no attribute
+setattr_of_a_handle_alone : ask usual 0 120 (header 128 4 9 1 ++ ((four 64 ++ zeros 4) ++ (eight 7 ++ zeros 72))) ≡ Asks (echo 9) (call.Setattr nobody 1 (value_of setattr_in ((four 64 ++ zeros 4) ++ (eight 7 ++ zeros 72))) (Some 7) 0)
+unfolding number little opcode_of
+setattr_of_a_handle_alone = refl
+
+readlink : ask usual 0 17 (header 40 5 9 3) ≡ Asks (echo 9) (call.Readlink nobody 3)
+unfolding number little opcode_of
+readlink = refl
+
+open_that_kills_privileges : ask usual 0 32 (header 48 14 9 1 ++ (four 0x8002 ++ four 3)) ≡ Asks (echo 9) (call.Open nobody 1 true 0x8002)
+unfolding number little opcode_of
+open_that_kills_privileges = refl
+
+open_that_keeps_privileges : ask usual 0 32 (header 48 14 9 1 ++ (four 2 ++ four 2)) ≡ Asks (echo 9) (call.Open nobody 1 false 2)
+unfolding number little opcode_of
+open_that_keeps_privileges = refl
+
+statfs : ask usual 0 96 (header 40 17 9 1) ≡ Asks (echo 9) (call.Statfs nobody 1)
+unfolding number little opcode_of
+statfs = refl
+
+-- RELEASE: bit 0 is a flush, bit 1 the unlock of a flock, and the owner is passed for either
+release_that_unlocks : ask usual 0 16 (header 64 18 9 2 ++ ((eight 7 ++ four 0x8000) ++ (four 2 ++ eight 3))) ≡ Asks (echo 9) (call.Release nobody 2 0x8000 7 false true (Some 3))
+unfolding number little opcode_of
+release_that_unlocks = refl
+
+release_that_flushes : ask usual 0 16 (header 64 18 9 2 ++ ((eight 7 ++ four 0) ++ (four 1 ++ eight 3))) ≡ Asks (echo 9) (call.Release nobody 2 0 7 true false (Some 3))
+unfolding number little opcode_of
+release_that_flushes = refl
+
+release_of_another_flag : ask usual 0 16 (header 64 18 9 2 ++ ((eight 7 ++ four 0) ++ (four 4 ++ eight 3))) ≡ Asks (echo 9) (call.Release nobody 2 0 7 false false None)
+unfolding number little opcode_of
+release_of_another_flag = refl
+
+fsync_of_data : ask usual 0 16 (header 56 20 9 2 ++ ((eight 7 ++ four 3) ++ zeros 4)) ≡ Asks (echo 9) (call.Fsync nobody 2 true 7)
+unfolding number little opcode_of
+fsync_of_data = refl
+
+-- 1,048,576 bytes are asked for, and one more is too many
+listxattr_at_the_limit : ask usual 0 16 (header 48 23 9 1 ++ (four 0x100000 ++ zeros 4)) ≡ Asks (echo 9) (call.Listxattr nobody 1 0x100000)
+unfolding number little opcode_of
+listxattr_at_the_limit = refl
+
+listxattr_above_the_limit : ask usual 0 16 (header 48 23 9 1 ++ (four 0x100001 ++ zeros 4)) ≡ said_so ((four 16 ++ (0xf4 ∷ 0xff ∷ 0xff ∷ 0xff ∷ [])) ++ eight 9)
+unfolding number little opcode_of
+listxattr_above_the_limit = refl
+
+flush : ask usual 0 16 (header 64 25 9 2 ++ ((eight 7 ++ zeros 8) ++ eight 3)) ≡ Asks (echo 9) (call.Flush nobody 2 7 3)
+unfolding number little opcode_of
+flush = refl
+
+opendir : ask usual 0 32 (header 48 27 9 1 ++ (four 5 ++ four 1)) ≡ Asks (echo 9) (call.Opendir nobody 1 5)
+unfolding number little opcode_of
+opendir = refl
+
+releasedir : ask usual 0 16 (header 64 29 9 2 ++ ((eight 7 ++ four 5) ++ (four 3 ++ eight 3))) ≡ Asks (echo 9) (call.Releasedir nobody 2 5 7)
+unfolding number little opcode_of
+releasedir = refl
+
+fsyncdir_of_all : ask usual 0 16 (header 56 30 9 2 ++ ((eight 7 ++ four 2) ++ zeros 4)) ≡ Asks (echo 9) (call.Fsyncdir nobody 2 false 7)
+unfolding number little opcode_of
+fsyncdir_of_all = refl
+
+access : ask usual 0 16 (header 48 34 9 2 ++ (four 6 ++ four 1)) ≡ Asks (echo 9) (call.Access nobody 2 6)
+unfolding number little opcode_of
+access = refl
+
+fallocate : ask usual 0 16 (header 72 43 9 2 ++ ((eight 7 ++ eight 10) ++ ((eight 20 ++ four 3) ++ zeros 4))) ≡ Asks (echo 9) (call.Fallocate nobody 2 7 3 10 20)
+unfolding number little opcode_of
+fallocate = refl
+
+lseek : ask usual 0 24 (header 64 46 9 2 ++ ((eight 7 ++ eight 10) ++ (four 4 ++ zeros 4))) ≡ Asks (echo 9) (call.Lseek nobody 2 7 10 4)
+unfolding number little opcode_of
+lseek = refl
+
+copy_file_range : ask usual 0 24 (header 96 47 9 2 ++ (((eight 7 ++ eight 10) ++ (eight 3 ++ eight 8)) ++ ((eight 11 ++ eight 12) ++ eight 1))) ≡ Asks (echo 9) (call.Copyfilerange nobody 2 7 10 3 8 11 12 1)
+unfolding number little opcode_of
+copy_file_range = refl
+
+syncfs : ask usual 0 16 (header 40 50 9 1) ≡ Asks (echo 9) (call.Syncfs nobody 1)
+unfolding number little opcode_of
+syncfs = refl
+
+tmpfile : ask usual 0 16 (header 40 51 9 1) ≡ Asks (echo 9) call.Tmpfile
+unfolding number little opcode_of
+tmpfile = refl
+
+-- mappings are not served: ENOSYS
+setupmapping : ask usual 0 16 (header 40 48 9 1) ≡ said_so ((four 16 ++ (0xda ∷ 0xff ∷ 0xff ∷ 0xff ∷ [])) ++ eight 9)
+unfolding number little opcode_of
+setupmapping = refl
+
+-- the caller is the header's, its process with the same bits
+a_caller : ask usual 0 16 (((four 48 ++ four 34) ++ (eight 9 ++ eight 2)) ++ (((four 1000 ++ four 100) ++ four 0xffffffff) ++ (zeros 4 ++ (four 6 ++ zeros 4)))) ≡ Asks (echo 9) (call.Access (record { uid = 1000; gid = 100; pid = negsuc 0 }) 2 6)
+unfolding number little opcode_of
+a_caller = refl
 
 -- ---- options and replies
 
@@ -166,6 +288,79 @@ node_5 = record {
 reply_of_node_5 : reply_of usual (echo 9) 0 Entries (Found node_5) ≡ Bytes ((((0x90 ∷ zeros 7) ++ (9 ∷ zeros 7)) ++ (5 ∷ zeros 7)) ++ zeros 120)
 unfolding number little
 reply_of_node_5 = refl
+
+-- attributes with their parts of seconds, and how long they hold: 2.5 seconds
+abbrev attributes : Attr
+attributes = record {
+  ino = 1;
+  size = 2;
+  blocks = 3;
+  atime = 4;
+  mtime = 5;
+  ctime = 6;
+  atimensec = 7;
+  mtimensec = 8;
+  ctimensec = 9;
+  mode = 10;
+  nlink = 11;
+  uid = 12;
+  gid = 13;
+  rdev = 14;
+  blksize = 15;
+  flags = 16;
+}
+
+reply_of_attributes : reply_of usual (echo 9) 0 TimedAttributes (Attributes attributes (record { secs = 2; nanos = 500000000 }))
+    ≡ Bytes (((four 120 ++ zeros 4) ++ eight 9) ++ (((eight 2 ++ four 500000000) ++ zeros 4)
+    ++ ((((eight 1 ++ eight 2) ++ (eight 3 ++ eight 4)) ++ ((eight 5 ++ eight 6) ++ (four 7 ++ four 8)))
+    ++ ((((four 9 ++ four 10) ++ (four 11 ++ four 12)) ++ (four 13 ++ four 14)) ++ (four 15 ++ four 16)))))
+unfolding number little
+reply_of_attributes = refl
+
+reply_of_no_handle : reply_of usual (echo 9) 0 Openings (Opened None 5) ≡ Bytes (((four 32 ++ zeros 4) ++ eight 9) ++ ((eight 0 ++ four 5) ++ zeros 4))
+unfolding number little
+reply_of_no_handle = refl
+
+reply_of_a_handle : reply_of usual (echo 9) 0 Openings (Opened (Some 7) 0) ≡ Bytes (((four 32 ++ zeros 4) ++ eight 9) ++ ((eight 7 ++ four 0) ++ zeros 4))
+unfolding number little
+reply_of_a_handle = refl
+
+abbrev statistics : Statvfs64
+statistics = record {
+  f_bsize = 1;
+  f_frsize = 2;
+  f_blocks = 3;
+  f_bfree = 4;
+  f_bavail = 5;
+  f_files = 6;
+  f_ffree = 7;
+  f_namemax = 8;
+}
+
+reply_of_statistics : reply_of usual (echo 9) 0 Capacities (Statistics statistics)
+    ≡ Bytes (((four 96 ++ zeros 4) ++ eight 9) ++ (((eight 3 ++ eight 4) ++ (eight 5 ++ eight 6)) ++ (((eight 7 ++ four 1) ++ (four 8 ++ four 2)) ++ zeros 28)))
+unfolding number little
+reply_of_statistics = refl
+
+reply_of_a_text : reply_of usual (echo 9) 0 Texts (Text (0x74 ∷ [])) ≡ Bytes (((four 17 ++ zeros 4) ++ eight 9) ++ (0x74 ∷ []))
+unfolding number little
+reply_of_a_text = refl
+
+reply_of_a_count : reply_of usual (echo 9) 0 TextsOrCounts (Count 5) ≡ Bytes (((four 24 ++ zeros 4) ++ eight 9) ++ (four 5 ++ zeros 4))
+unfolding number little
+reply_of_a_count = refl
+
+reply_of_an_offset : reply_of usual (echo 9) 0 Offsets (Offset 5) ≡ Bytes (((four 24 ++ zeros 4) ++ eight 9) ++ eight 5)
+unfolding number little
+reply_of_an_offset = refl
+
+reply_of_bytes_written : reply_of usual (echo 9) 0 Writes (Written 5) ≡ Bytes (((four 24 ++ zeros 4) ++ eight 9) ++ (four 5 ++ zeros 4))
+unfolding number little
+reply_of_bytes_written = refl
+
+reply_of_a_fault_alone : reply_of usual (echo 9) 0 Faults (Failed (Some 38)) ≡ Bytes ((four 16 ++ (0xda ∷ 0xff ∷ 0xff ∷ 0xff ∷ [])) ++ eight 9)
+unfolding number little
+reply_of_a_fault_alone = refl
 
 -- ---- rooms
 

@@ -38,11 +38,11 @@ written_room : (old : Written) (reply : List ℕ) (fits : Bool) → nat_le (leng
 written_room old reply true test =
     let h : length reply ≤ length old.left = grind (arith, nat_tests) in
     rw (test, take_all (length old.left) reply h)
-    (record { kept = append_assoc old.passed reply (drop (length reply) old.left); same_length = omega (arith, length-append reply (drop (length reply) old.left), length-drop (length reply) old.left) })
+    (record { kept = simp append_assoc; same_length = omega (arith, length-append reply (drop (length reply) old.left), length-drop (length reply) old.left); same_segments = refl })
 written_room old reply false test =
     let h : length old.left < length reply = grind (arith, nat_tests) in
     let size : length (take (length old.left) reply) ≡ length old.left = omega (arith, length-take (length old.left) reply) in
-    rw (test, size, drop_all (length old.left) old.left (omega arith)) (record { kept = append-nil (old.passed ++ take (length old.left) reply); same_length = size })
+    rw (test, size, drop_all (length old.left) old.left (omega arith)) (record { kept = simp append-nil; same_length = size; same_segments = refl })
 
 -- a writer into which as much of a reply was written as there is room for
 pub replied : (old new : Written) (reply : List ℕ) (outcome : Result ℕ Error) → new ≡ wrote old (take (length old.left) reply) → outcome ≡ put_outcome reply old.left → Replies (Bytes reply) old outcome new
@@ -83,3 +83,25 @@ pub length-bytes_of_option : {R : Type 0} (t : Table R) (o : Option R) → IfSom
     → length (bytes_of_option t o) ≡ size_of_option t o
 length-bytes_of_option t None h = refl
 length-bytes_of_option t (Some r) h = length-bytes_of t r h
+
+-- the outcome and the room of a reply that fits
+pub put_outcome-fits : (reply room : List ℕ) → length reply ≤ length room → put_outcome reply room ≡ Ok (length reply)
+put_outcome-fits reply room h =
+    let test : nat_le (length reply) (length room) ≡ true = grind (arith, nat_tests) in
+    rw test refl
+
+pub put_room-fits : (reply room : List ℕ) → length reply ≤ length room → put_room reply room ≡ reply ++ drop (length reply) room
+put_room-fits reply room h =
+    let test : nat_le (length reply) (length room) ≡ true = grind (arith, nat_tests) in
+    rw test refl
+
+-- and of one that doesn't
+pub put_outcome-full : (reply room : List ℕ) → length room < length reply → put_outcome reply room ≡ Err EncodeMessage
+put_outcome-full reply room h =
+    let test : nat_le (length reply) (length room) ≡ false = grind (arith, nat_tests) in
+    rw test refl
+
+pub put_room-full : (reply room : List ℕ) → length room < length reply → put_room reply room ≡ take (length room) reply
+put_room-full reply room h =
+    let test : nat_le (length reply) (length room) ≡ false = grind (arith, nat_tests) in
+    rw test refl

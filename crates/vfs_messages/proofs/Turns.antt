@@ -136,11 +136,14 @@ module _ (limits : Limits) (options after : ℕ) (t : Turn) (lacks : t.outcome �
   is_ok : {A : Type 0} (r : Result A Error) (x : A) → r ≡ Ok x → IsOk r
   is_ok r x e = subst IsOk (sym e) refl
 
+  -- where memory may be wanted by the form, it is; behind a request of another form it isn't
   memory_form : (h : InHeader) (rest : List ℕ) (form : Form) → Gives (MayLackMemory h rest form) (ask_form h rest form)
   unfolding Gives
   memory_form h rest (NoTail l above call) =
-      let all = each ⊥ h.unique in
-      layout_cases (Gives ⊥) h.unique all l rest _ (λ r is. within_cases (Gives ⊥) h.unique all (above r) h _ refl (λ no. all.asks _ _ refl))
+      let Q = MayLackMemory h rest (NoTail l above call) in
+      let all = each Q h.unique in
+      layout_cases (Gives Q) h.unique all l rest _ (λ r is.
+      within_cases (Gives Q) h.unique all (above r) h _ refl (λ no. all.asks _ _ refl))
   memory_form h rest (NameTail l above call) =
       let Q = MayLackMemory h rest (NameTail l above call) in
       let all = each Q h.unique in
@@ -151,13 +154,19 @@ module _ (limits : Limits) (options after : ℕ) (t : Turn) (lacks : t.outcome �
       let all = each Q h.unique in
       layout_cases (Gives Q) h.unique all l rest _ (λ r is.
       within_cases (Gives Q) h.unique all (above r) h _ refl (λ no.
-      pairs_cases (Gives Q) h.unique all (count r) _ _ (λ pairs whole f. record { counts = r; whole_record = is; in_limit = no; whole_pairs = is_ok _ pairs whole })))
-  memory_form h rest Versions = versions_cases (Gives ⊥) h.unique (each ⊥ h.unique) h rest refl
-  memory_form h rest Silent = (each ⊥ h.unique).nothing
-  memory_form h rest NotServed = (each ⊥ h.unique).fault (Some enosys)
+      pairs_cases (Gives Q) h.unique all (count r) _ _ (λ pairs whole f. record {
+        counts = r;
+        whole_record = is;
+        in_limit = no;
+        whole_pairs = is_ok _ pairs whole;
+      })))
+  memory_form h rest Versions =
+      versions_cases (Gives (MayLackMemory h rest Versions)) h.unique (each (MayLackMemory h rest Versions) h.unique) h rest refl
+  memory_form h rest Silent = (each (MayLackMemory h rest Silent) h.unique).nothing
+  memory_form h rest NotServed = (each (MayLackMemory h rest NotServed) h.unique).fault (Some enosys)
 
   memory_number : (room : ℕ) (opcode : Option Opcode) (h : InHeader) (rest : List ℕ) → Gives (MayLackBehind limits options room opcode h rest) (ask_number limits options room opcode h rest)
-  memory_number room None h rest = (each ⊥ h.unique).fault (Some enosys)
+  memory_number room None h rest = (each (MayLackBehind limits options room None h rest) h.unique).fault (Some enosys)
   memory_number room (Some opcode) h rest = memory_form h rest (form_of limits options room h opcode)
 
   memory_header : (room : ℕ) (request : List ℕ) (short over : Bool) → nat_lt (length request) (size_of in_header) ≡ short → nat_lt (max_len limits) (value_of in_header request).len ≡ over

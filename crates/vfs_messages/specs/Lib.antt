@@ -8,3 +8,4 @@ pub mod Ask
 pub mod Parts
 pub mod Turn
 pub mod Laws
+pub mod Uses

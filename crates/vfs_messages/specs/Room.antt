@@ -37,10 +37,11 @@ IsReplied (OpenBehind reply) room outcome room_after = IsPutOpen reply room outc
 IsReplied Never room outcome room_after = ⊥
 
 -- A writer keeps the bytes that it had passed, and those of its room are `room_after`, as many as
--- before. Where it stands isn't said.
+-- before, in segments of the same lengths. Where it stands isn't said.
 pub record Leaves (old : Written) (room_after : List ℕ) (new : Written) : Type 0 where
   pub kept : whole new ≡ old.passed ++ room_after
   pub same_length : length room_after ≡ length old.left
+  pub same_segments : new.lengths ≡ old.lengths
 
 -- bytes came back through a writer; it holds nothing if it held nothing
 pub record Writes (reply : Reply) (old : Written) (outcome : Result ℕ Error) (new : Written) : Type 0 where

@@ -10,6 +10,7 @@ mod limits;
 mod options;
 mod reply;
 mod request;
+pub mod uses;
 
 pub use error::{Error, Result};
 pub use limits::{DEFAULT_MAX_BUFFER, Limits};

@@ -38,6 +38,13 @@ first_is xs ys i s e r =
 pub length-first : (xs : List (Vec ℕ Global)) (i inside : ℕ) (s : Vec ℕ Global) → i < length xs → get_or xs i s ≡ s → inside ≤ length (get_or (contents xs) i []) → inside ≤ length s.items
 length-first xs i inside s h r w = omega (arith, w, ap length (get_or-map (λ (v : Vec ℕ Global). v.items) xs i s [] h ∙ ap (λ (v : Vec ℕ Global). v.items) r))
 
+-- the same where the place lies before its end
+pub inside_first : (xs : List (Vec ℕ Global)) (i inside : ℕ) (s : Vec ℕ Global) → i < length xs →
+    get_or xs i s ≡ s → inside < length (get_or (contents xs) i []) → inside < length s.items
+inside_first xs i inside s h r w =
+    let items : Vec ℕ Global → List ℕ = λ v. v.items in
+    omega (arith, w, ap length (get_or-map items xs i s [] h ∙ ap items r))
+
 pub inside_front : (xs : List (Vec ℕ Global)) (i inside at : ℕ) (s head : Vec ℕ Global) → i < length xs → get_or xs i s ≡ s → length (held_flat (take i xs)) + inside ≡ at → inside ≤ length s.items → head.items ≡ take inside s.items → held_flat (take i xs ++ head ∷ []) ≡ take at (held_flat xs)
 inside_front xs i inside at s head h r e w p =
     let front = held_flat (take i xs) in

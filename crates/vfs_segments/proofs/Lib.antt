@@ -4,4 +4,5 @@ pub mod Places
 pub mod Puts
 pub mod Writers
 pub mod Cuts
+pub mod LengthCuts
 pub mod AnswerLemmas

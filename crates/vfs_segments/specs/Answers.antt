@@ -1,11 +1,12 @@
--- What a reader is asked and what it answers, over the bytes that it has left alone.
+-- What a reader is asked and what it answers, by the bytes that it has left and how many it has
+-- given.
 use Rattle.std.specs.Prelude.{ℕ, ◌≡◌, ◌<◌, ◌≤◌, List, [], ◌∷◌, ◌++◌, length, take, drop, min, sum}
 use Rattle.vfs_wire.specs.Fields.{numbers}
 use Rattle.vfs_segments.specs.Segments.{flat_bytes}
-use Rattle.vfs_segments.specs.Unread.{Unread, unread, advanced}
+use Rattle.vfs_segments.specs.Unread.{Unread, IsUnread, AreAlike, AdvancesBy}
 
--- a call of a reader: how many bytes are left, how many were taken, a read into a buffer of these bytes, one of just so
--- many bytes, and one of a record of these widths
+-- a call of a reader: how many bytes are left, how many were taken, a read into a buffer of these
+-- bytes, one of just so many bytes, and one of a record of these widths
 pub data Question : Type 0 where
   Available : Question
   Taken : Question
@@ -13,8 +14,8 @@ pub data Question : Type 0 where
   ReadExact : ℕ → Question
   ReadObj : List ℕ → Question
 
--- what a call answers: a count, how many bytes moved and what the buffer then has, a whole buffer, the fields of a
--- record, or that too few bytes were left
+-- what a call answers: a count, how many bytes moved and what the buffer then has, a whole buffer,
+-- the fields of a record, or that too few bytes were left
 pub data Answer : Type 0 where
   Count : ℕ → Answer
   Moved : ℕ → List ℕ → Answer
@@ -22,36 +23,43 @@ pub data Answer : Type 0 where
   Fields : List ℕ → Answer
   TooFew : Answer
 
--- where n bytes are left they are taken, and the answer is this one; else all that are left are taken, and it is too few
+-- where n bytes are left they are taken, and the answer is this one; else all that are left are
+-- taken, and it is that they were too few
 pub record AnswersWhole (u : Unread) (n : ℕ) (this a : Answer) (v : Unread) : Type 0 where
-  pub enough : n ≤ length u.left → (a ≡ this) × (v ≡ advanced u n)
-  pub short : length u.left < n → (a ≡ TooFew) × (v ≡ advanced u (length u.left))
+  pub enough : n ≤ length u.left → (a ≡ this) × AdvancesBy u n v
+  pub short : length u.left < n → (a ≡ TooFew) × AdvancesBy u (length u.left) v
 
 -- a reader that is asked q answers a, and is v then
 abbrev pub Answers : Unread → Question → Answer → Unread → Type 0
-Answers u Available a v = (a ≡ Count (length u.left)) × (v ≡ u)
-Answers u Taken a v = (a ≡ Count u.taken) × (v ≡ u)
+Answers u Available a v = (a ≡ Count (length u.left)) × AreAlike u v
+Answers u Taken a v = (a ≡ Count u.taken) × AreAlike u v
 Answers u (Read buf) a v =
-    (a ≡ Moved (min (length buf) (length u.left)) (take (min (length buf) (length u.left)) u.left ++ drop (min (length buf) (length u.left)) buf))
-    × (v ≡ advanced u (min (length buf) (length u.left)))
+    let n = min (length buf) (length u.left) in
+    (a ≡ Moved n (take n u.left ++ drop n buf)) × AdvancesBy u n v
 Answers u (ReadExact n) a v = AnswersWhole u n (Filled (take n u.left)) a v
-Answers u (ReadObj widths) a v = AnswersWhole u (sum widths) (Fields (numbers widths u.left)) a v
+Answers u (ReadObj widths) a v =
+    AnswersWhole u (sum widths) (Fields (numbers widths u.left)) a v
 
 -- the same of a list of questions, asked one after another
 abbrev pub AreAnswers : Unread → List Question → List Answer → Unread → Type 0
-AreAnswers u [] [] v = v ≡ u
+AreAnswers u [] [] v = AreAlike u v
 AreAnswers u [] (a ∷ answers) v = ⊥
 AreAnswers u (q ∷ questions) [] v = ⊥
-AreAnswers u (q ∷ questions) (a ∷ answers) v = (m : Unread) × (Answers u q a m × AreAnswers m questions answers v)
+AreAnswers u (q ∷ questions) (a ∷ answers) v =
+    (m : Unread) × (Answers u q a m × AreAnswers m questions answers v)
 
--- two new readers of equal flat bytes answer every list of questions alike, however the bytes are cut
+-- two new readers of equal flat bytes answer every list of questions alike, however the bytes are
+-- cut
 abbrev pub AnswerAlike : Type 0
 AnswerAlike =
     (first second : List (List ℕ)) → flat_bytes first ≡ flat_bytes second →
+    (u t : Unread) → IsUnread (flat_bytes first) u → IsUnread (flat_bytes second) t →
     (questions : List Question) (answers others : List Answer) (v w : Unread) →
-    AreAnswers (unread (flat_bytes first)) questions answers v → AreAnswers (unread (flat_bytes second)) questions others w →
-    (answers ≡ others) × (v ≡ w)
+    AreAnswers u questions answers v → AreAnswers t questions others w →
+    (answers ≡ others) × AreAlike v w
 
 -- every list of questions has answers
 abbrev pub AnswerAll : Type 0
-AnswerAll = (u : Unread) (questions : List Question) → (answers : List Answer) × ((v : Unread) × AreAnswers u questions answers v)
+AnswerAll =
+    (u : Unread) (questions : List Question) →
+    (answers : List Answer) × ((v : Unread) × AreAnswers u questions answers v)

@@ -1,5 +1,6 @@
 pub mod Segments
 pub mod SegmentLaws
+pub mod Lengths
 pub mod Unread
 pub mod Written
 pub mod Reader

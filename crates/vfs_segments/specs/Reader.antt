@@ -6,7 +6,10 @@ use Rattle.vfs_segments.specs.declared.reader.Reader.TheInside.{Inside}
 
 -- the bytes between the two places, and how far the first has come
 abbrev pub unread_of : Inside → Unread
-unread_of r = record { left = take (r.end - r.at) (drop r.at (flat_bytes (segments_of r.segments.now))); taken = r.at - r.start }
+unread_of r = record {
+  left = take (r.end - r.at) (drop r.at (flat_bytes (segments_of r.segments.now)));
+  taken = r.at - r.start;
+}
 
 -- the places of a reader are in order and lie in its segments
 pub record IsReader (r : Inside) : Type 0 where

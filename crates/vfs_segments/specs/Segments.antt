@@ -17,6 +17,10 @@ contents segments = map (λ v. v.items) segments
 abbrev pub flat_bytes : List (List ℕ) → List ℕ
 flat_bytes segments = concat segments
 
+-- how many bytes each segment has
+abbrev pub lengths_of : List (List ℕ) → List ℕ
+lengths_of segments = map length segments
+
 -- the list with some bytes in place of as many, from place at on
 unfoldable pub with_bytes_at : ℕ → List ℕ → List ℕ → List ℕ
 with_bytes_at at bs xs = take at xs ++ (bs ++ drop (at + length bs) xs)

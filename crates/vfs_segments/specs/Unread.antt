@@ -1,14 +1,24 @@
 -- What a reader is to its callers: bytes and a count.
-use Rattle.std.specs.Prelude.{ℕ, ◌+◌, List, take, drop}
+use Rattle.std.specs.Prelude.{ℕ, ◌≡◌, ◌+◌, List, take, drop}
 
 -- the bytes that a reader has left, and how many it has given
 pub record Unread : Type 0 where
   pub left : List ℕ
   pub taken : ℕ
 
--- a reader that has given nothing of these bytes
-abbrev pub unread : List ℕ → Unread
-unread bytes = record { left = bytes; taken = 0 }
+-- a reader of these bytes that has given nothing
+abbrev pub IsUnread : List ℕ → Unread → Type 0
+IsUnread bytes u = (u.left ≡ bytes) × (u.taken ≡ 0)
+
+-- two readers have the same bytes left and have given as many
+pub record AreAlike (u v : Unread) : Type 0 where
+  pub left : u.left ≡ v.left
+  pub taken : u.taken ≡ v.taken
+
+-- the reader u has given its next n bytes, and is v then: they are no more left, and count as taken
+pub record AdvancesBy (u : Unread) (n : ℕ) (v : Unread) : Type 0 where
+  pub left : v.left ≡ drop n u.left
+  pub taken : v.taken ≡ u.taken + n
 
 -- the same, n bytes on
 abbrev pub advanced : Unread → ℕ → Unread

@@ -1,6 +1,6 @@
 -- How a writer's fields stand for what its callers see.
 use Rattle.std.specs.Prelude.{ℕ, ◌≡◌, ◌+◌, ◌≤◌, List, length, take, drop}
-use Rattle.vfs_segments.specs.Segments.{contents, flat_bytes}
+use Rattle.vfs_segments.specs.Segments.{contents, flat_bytes, lengths_of}
 use Rattle.vfs_segments.specs.Written.{Written}
 use Rattle.vfs_segments.specs.declared.writer.Writer.TheInside.{Inside}
 
@@ -8,9 +8,15 @@ use Rattle.vfs_segments.specs.declared.writer.Writer.TheInside.{Inside}
 abbrev pub room_bytes : Inside → List ℕ
 room_bytes w = flat_bytes (contents w.segments.items)
 
--- the bytes before the place and from it on, and the held place
+-- the bytes before the place and from it on, the held place, and the segments' lengths
 abbrev pub written_of : Inside → Written
-written_of w = record { passed = take w.at (room_bytes w); left = drop w.at (room_bytes w); held_at = w.held_at; held = w.held }
+written_of w = record {
+  passed = take w.at (room_bytes w);
+  left = drop w.at (room_bytes w);
+  held_at = w.held_at;
+  held = w.held;
+  lengths = lengths_of (contents w.segments.items);
+}
 
 -- the place of a writer lies in its segments, and what it holds lies before the place
 pub record IsWriter (w : Inside) : Type 0 where

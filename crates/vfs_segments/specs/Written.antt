@@ -1,38 +1,62 @@
--- What a writer is to its callers: the bytes of its room, those passed and those left, and a held place.
-use Rattle.std.specs.Prelude.{ℕ, List, [], ◌++◌, length, take, drop}
-use Rattle.vfs_segments.specs.Segments.{with_bytes_at}
+-- What a writer is to its callers: the bytes of its room, those passed and those left, a held
+-- place, and how the room is cut into segments.
+use Rattle.std.specs.Prelude.{ℕ, ◌+◌, List, [], ◌++◌, length, take, drop}
+use Rattle.vfs_segments.specs.Segments.{flat_bytes, lengths_of, with_bytes_at}
+use Rattle.vfs_segments.specs.Lengths.{lengths_before, lengths_from}
 
--- The bytes that a writer has passed, those of its room that are left, and the part of the passed ones that it holds:
--- `held` bytes from place `held_at` on.
+-- The bytes that a writer has passed, those of its room that are left, and the part of the passed
+-- ones that it holds: `held` bytes from place `held_at` on. `lengths` are those of its segments, in
+-- order.
 pub record Written : Type 0 where
   pub passed : List ℕ
   pub left : List ℕ
   pub held_at : ℕ
   pub held : ℕ
+  pub lengths : List ℕ
 
--- a writer that has passed nothing, over this room
-abbrev pub unwritten : List ℕ → Written
-unwritten room = record { passed = []; left = room; held_at = 0; held = 0 }
+-- a writer that has passed nothing, over these segments
+abbrev pub unwritten : List (List ℕ) → Written
+unwritten segments = record {
+  passed = [];
+  left = flat_bytes segments;
+  held_at = 0;
+  held = 0;
+  lengths = lengths_of segments;
+}
 
 -- the next bytes of the room are bs
 abbrev pub wrote : Written → List ℕ → Written
-wrote w bs = record { passed = w.passed ++ bs; left = drop (length bs) w.left; held_at = w.held_at; held = w.held }
+wrote w bs = record w { passed = w.passed ++ bs; left = drop (length bs) w.left }
 
 -- what a writer keeps when its room is cut after the next n bytes
 abbrev pub first_room : Written → ℕ → Written
-first_room w n = record { passed = w.passed; left = take n w.left; held_at = w.held_at; held = w.held }
+first_room w n = record w {
+  left = take n w.left;
+  lengths = lengths_before (length w.passed + n) w.lengths;
+}
 
--- what a cut after the next n bytes answers
+-- what a cut after the next n bytes answers: a writer that has passed nothing, over the rest
 abbrev pub rest_room : Written → ℕ → Written
-rest_room w n = unwritten (drop n w.left)
+rest_room w n = record {
+  passed = [];
+  left = drop n w.left;
+  held_at = 0;
+  held = 0;
+  lengths = lengths_from (length w.passed + n) w.lengths;
+}
 
 -- the next n bytes are passed over and held
 abbrev pub held_over : Written → ℕ → Written
-held_over w n = record { passed = w.passed ++ take n w.left; left = drop n w.left; held_at = length w.passed; held = n }
+held_over w n = record w {
+  passed = w.passed ++ take n w.left;
+  left = drop n w.left;
+  held_at = length w.passed;
+  held = n;
+}
 
 -- the held bytes are bs, and nothing is held any more
 abbrev pub held_filled : Written → List ℕ → Written
-held_filled w bs = record { passed = with_bytes_at w.held_at bs w.passed; left = w.left; held_at = w.held_at; held = 0 }
+held_filled w bs = record w { passed = with_bytes_at w.held_at bs w.passed; held = 0 }
 
 -- all bytes of a writer, those passed and those left
 abbrev pub whole : Written → List ℕ

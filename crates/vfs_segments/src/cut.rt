@@ -1,7 +1,8 @@
 //! Cuts segments in two.
 
-ghost use Rattle.std.specs.Prelude.{◌≡◌, ◌+◌, ◌≤◌, [], length, take, drop, IfOk, OnOk, OnErr, slice_index_or};
-ghost use Rattle.vfs_segments.specs.Segments.{contents, flat_bytes};
+ghost use Rattle.std.specs.Prelude.{◌≡◌, ◌+◌, ◌<◌, ◌≤◌, [], length, take, drop, IfOk, OnOk, OnErr, slice_index_or};
+ghost use Rattle.vfs_segments.specs.Segments.{contents, flat_bytes, lengths_of};
+ghost use Rattle.vfs_segments.specs.Lengths.{lengths_before, lengths_from};
 
 use std::alloc::AllocError;
 use std::mem;
@@ -14,6 +15,8 @@ fn place_of(segments: &[Vec<u8>], at: usize) -> (usize, usize)
     ensures within { result.0 ≤ length segments.now }
     ensures place { length (flat_bytes (contents (take result.0 segments.now))) + result.1 ≡ at }
     ensures inside { result.1 ≤ length (slice_index_or (contents segments.now) result.0 []) }
+    ensures before_end { result.0 < length segments.now →
+        result.1 < length (slice_index_or (contents segments.now) result.0 []) }
 {
     let mut skip = at;
     for (i, segment) in segments.iter().enumerate() {
@@ -30,9 +33,14 @@ fn place_of(segments: &[Vec<u8>], at: usize) -> (usize, usize)
 pub(crate) fn cut_off(segments: &mut Vec<Vec<u8>>, at: usize) -> Result<Vec<Vec<u8>>, AllocError>
     requires { at ≤ length (flat_bytes (contents segments.old.items)) }
     ensures front { OnOk result
-        (flat_bytes (contents segments.new.items) ≡ take at (flat_bytes (contents segments.old.items))) }
-    ensures back { IfOk result
-        (λ rest. flat_bytes (contents rest.items) ≡ drop at (flat_bytes (contents segments.old.items))) }
+        (flat_bytes (contents segments.new.items)
+        ≡ take at (flat_bytes (contents segments.old.items))) }
+    ensures back { IfOk result (λ rest. flat_bytes (contents rest.items)
+        ≡ drop at (flat_bytes (contents segments.old.items))) }
+    ensures front_lengths { OnOk result (lengths_of (contents segments.new.items)
+        ≡ lengths_before at (lengths_of (contents segments.old.items))) }
+    ensures back_lengths { IfOk result (λ rest. lengths_of (contents rest.items)
+        ≡ lengths_from at (lengths_of (contents segments.old.items))) }
     ensures err { OnErr result (segments.new ≡ segments.old) }
 {
     let (first, inside) = place_of(segments, at);

@@ -1,7 +1,7 @@
 //! What readers and writers promise as a whole, beyond single calls: laws over the values that
 //! contracts see. The functions do nothing; their contracts are the laws.
 
-ghost use Rattle.std.specs.Prelude.{◌≡◌, ◌≤◌, ◌++◌, ℕ, length};
+ghost use Rattle.std.specs.Prelude.{◌≡◌, ◌≤◌, ◌++◌, ℕ, length, sum};
 ghost use Rattle.vfs_segments.specs.Answers.{AnswerAlike, AnswerAll};
 ghost use Rattle.vfs_segments.specs.Unread.{Unread, first_of, rest_of};
 ghost use Rattle.vfs_segments.specs.Written.{Written, first_room, rest_room, whole};
@@ -14,10 +14,18 @@ pub fn reader_split()
 {}
 
 /// After a `split_at(n)` of a writer the first part has `n` bytes left, and the first part followed
-/// by the second is all its bytes, those passed and those left.
+/// by the second is all its bytes, those passed and those left. The lengths of each part's segments
+/// are as many bytes as the part has.
 pub fn writer_split()
     ensures size { (w : Written) (n : ℕ) → n ≤ length w.left → length (first_room w n).left ≡ n }
-    ensures bytes { (w : Written) (n : ℕ) → whole (first_room w n) ++ whole (rest_room w n) ≡ whole w }
+    ensures bytes { (w : Written) (n : ℕ) →
+        whole (first_room w n) ++ whole (rest_room w n) ≡ whole w }
+    ensures first_lengths { (w : Written) (n : ℕ) →
+        sum w.lengths ≡ length (whole w) → n ≤ length w.left →
+        sum (first_room w n).lengths ≡ length (whole (first_room w n)) }
+    ensures rest_lengths { (w : Written) (n : ℕ) →
+        sum w.lengths ≡ length (whole w) → n ≤ length w.left →
+        sum (rest_room w n).lengths ≡ length (whole (rest_room w n)) }
 {}
 
 /// Two new readers of equal flat bytes answer every list of reads, reads of records and counts

@@ -1,13 +1,14 @@
 //! Readers and writers over memory that is cut into segments.
 //!
-//! A request of the guest lies in one list of segments, and its reply goes into another. A `Reader`
-//! and a `Writer` hide the cuts: each call is an operation on flat bytes, those of one segment after
-//! another, and on a count. Nothing here knows what the bytes mean.
+//! A request of the guest lies in one list of segments, and its reply goes into another. A
+//! `Reader` and a `Writer` hide the cuts: each call is an operation on flat bytes, those of one
+//! segment after another, and on a count. Nothing here knows what the bytes mean. The module `uses`
+//! has examples.
 //!
 //! A call walks the segments from the first one to the place where it moves bytes, moves each byte
-//! once, piece by piece, and stops there. Of these calls only a writer's `split_at` takes memory; the
-//! contracts of `new`, `split_at` and `clone` leave room for one that finds its place sooner and
-//! keeps memory for that.
+//! once, piece by piece, and stops there. Of these calls only a writer's `split_at` takes memory;
+//! the contracts of `new`, `split_at` and `clone` leave room for one that finds its place sooner
+//! and keeps memory for that.
 #![tactic(auto)]
 
 mod cut;
@@ -20,6 +21,7 @@ mod record;
 mod scatter;
 #[cfg(test)]
 mod tests;
+pub mod uses;
 mod writer;
 
 pub use descriptor_type::DescriptorType;

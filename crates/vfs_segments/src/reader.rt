@@ -1,11 +1,12 @@
 //! Reads the bytes of a request from segments.
 
-ghost use Rattle.std.specs.Prelude.{◌≡◌, ◌+◌, ◌^◌, ◌<◌, ◌≤◌, ◌++◌, ◌↔◌, length, take, drop, min, IfOk, IfErr, IsOk, OnOk, OnErr};
+ghost use Rattle.std.specs.Prelude.{◌≡◌, ◌+◌, ◌^◌, ◌<◌, ◌≤◌, ◌++◌, ◌↔◌, ℕ, List, length, take, drop, min, IfOk, IfErr, IsOk, OnOk, OnErr, MatchResult};
 ghost use Rattle.std.specs.IoError.{error_kind};
 ghost use Rattle.std.specs.Io.{ReadsAtMost};
 ghost use Rattle.std.specs.Io.KnownBytes.{Consumes, ReadConsumes};
+ghost use Rattle.vfs_segments.specs.Answers.{Answers, Available, Taken, Read, ReadExact, ReadObj, Count, Moved, Filled, Fields, TooFew};
 ghost use Rattle.vfs_segments.specs.Segments.{segments_of, flat_bytes};
-ghost use Rattle.vfs_segments.specs.Unread.{advanced, first_of, rest_of};
+ghost use Rattle.vfs_segments.specs.Unread.{IsUnread, advanced, first_of, rest_of};
 ghost use Rattle.vfs_wire.specs.Fields.{Fit, value_of};
 
 use crate::error::{Error, Result};
@@ -17,7 +18,8 @@ use std::io::{ErrorKind, Read};
 use std::marker::Model;
 use vfs_wire::ByteValued;
 
-/// Reads bytes from segments, wherever they are cut. It lends the segments, and takes each byte once.
+/// Reads bytes from segments, wherever they are cut. It lends the segments, and takes each byte
+/// once.
 ///
 /// Contracts see the flat bytes that are left and how many were taken.
 #[derive(Drop)]
@@ -46,7 +48,7 @@ impl<'a> Reader<'a> {
     /// `Error::DescriptorChainOverflow` where their lengths sum past `usize::MAX`, and
     /// `Error::OutOfMemory` where memory is refused.
     pub fn new(_alloc: Global, segments: &'a [&'a [u8]]) -> Result<Reader<'a>>
-        ensures ok { IfOk result (λ r. (r.left ≡ flat_bytes (segments_of segments.now)) × (r.taken ≡ 0)) }
+        ensures ok { IfOk result (IsUnread (flat_bytes (segments_of segments.now))) }
         ensures too_long { 2 ^ 64 ≤ length (flat_bytes (segments_of segments.now)) →
             result ≡ Err Error.DescriptorChainOverflow }
         ensures fits { length (flat_bytes (segments_of segments.now)) < 2 ^ 64 →
@@ -65,14 +67,16 @@ impl<'a> Reader<'a> {
 
     /// How many bytes are left.
     pub fn available_bytes(&self) -> usize
-        ensures { result ≡ length self.now.left }
+        ensures left { result ≡ length self.now.left }
+        ensures answers { Answers self.now Available (Count result) self.now }
     {
         self.end - self.at
     }
 
     /// How many bytes were taken.
     pub fn bytes_read(&self) -> usize
-        ensures { result ≡ self.now.taken }
+        ensures taken { result ≡ self.now.taken }
+        ensures answers { Answers self.now Taken (Count result) self.now }
     {
         self.at - self.start
     }
@@ -80,8 +84,8 @@ impl<'a> Reader<'a> {
     /// Cuts this reader after the next `n` bytes. It keeps them and its count; the answer has the
     /// rest, of which nothing is taken.
     ///
-    /// `Error::SplitOutOfBounds` with `n` where fewer are left, and `Error::OutOfMemory` where memory
-    /// is refused. A refusal changes nothing.
+    /// `Error::SplitOutOfBounds` with `n` where fewer are left, and `Error::OutOfMemory` where
+    /// memory is refused. A refusal changes nothing.
     pub fn split_at(&mut self, n: usize) -> Result<Reader<'a>>
         ensures rest { IfOk result (λ r. r ≡ rest_of self.old n) }
         ensures kept { OnOk result (self.new ≡ first_of self.old n) }
@@ -133,11 +137,15 @@ impl<'a> Reader<'a> {
     /// Where fewer are left the error's kind is `UnexpectedEof`, and all of them are taken.
     pub fn read_obj<T: ByteValued>(&mut self) -> io::Result<T>
         ensures variant { IsOk result ↔ (T.SIZE ≤ length self.old.left) }
+        ensures answers { MatchResult result
+            (λ x. (fields : List ℕ) × ((x ≡ T.table.made fields)
+            × Answers self.old (ReadObj T.table.widths) (Fields fields) self.new))
+            (λ _. Answers self.old (ReadObj T.table.widths) TooFew self.new) }
         ensures value { IfOk result (λ x. x ≡ value_of T.table self.old.left) }
         ensures in_width { IfOk result (λ x. Fit T.table.widths (T.table.fields x)) }
         ensures in_range { IfOk result (λ x. T.in_range x) }
         ensures moved { OnOk result (self.new ≡ advanced self.old T.SIZE) }
-        ensures eof { IfErr result (λ e. error_kind e ≡ ErrorKind.UnexpectedEof) }
+        ensures eof { IfErr result (λ fault. error_kind fault ≡ ErrorKind.UnexpectedEof) }
         ensures at_end { OnErr result (self.new ≡ advanced self.old (length self.old.left)) }
     {
         let mut buf = [0u8; LARGEST_RECORD];
@@ -157,6 +165,8 @@ impl<'a> Read for Reader<'a> {
     fn read(&mut self, buf: &mut [u8]) -> io::Result<usize>
         ensures bound { ReadsAtMost result buf.new }
         ensures bytes { ReadConsumes (Some self.old.left) (Some self.new.left) result buf.new }
+        ensures answers { IfOk result (λ n.
+            Answers self.old (Read buf.old) (Moved n buf.new) self.new) }
         ensures count { result ≡ Ok (min (length buf.old) (length self.old.left)) }
         ensures copied { IfOk result (λ n. buf.new ≡ take n self.old.left ++ drop n buf.old) }
         ensures moved { IfOk result (λ n. self.new ≡ advanced self.old n) }
@@ -173,6 +183,9 @@ impl<'a> Read for Reader<'a> {
     fn read_exact(&mut self, buf: &mut [u8]) -> io::Result<()>
         ensures bytes { OnOk result (Consumes (Some self.old.left) (Some self.new.left) buf.new) }
         ensures variant { IsOk result ↔ (length buf.old ≤ length self.old.left) }
+        ensures answers { MatchResult result
+            (λ _. Answers self.old (ReadExact (length buf.old)) (Filled buf.new) self.new)
+            (λ _. Answers self.old (ReadExact (length buf.old)) TooFew self.new) }
         ensures copied { OnOk result (buf.new ≡ take (length buf.old) self.old.left) }
         ensures moved { OnOk result (self.new ≡ advanced self.old (length buf.old)) }
         ensures eof { IfErr result (λ e. error_kind e ≡ ErrorKind.UnexpectedEof) }

@@ -1,7 +1,7 @@
 //! Copies bytes into segments.
 
-ghost use Rattle.std.specs.Prelude.{◌≡◌, ◌+◌, ◌^◌, ◌≤◌, length, map, vec_len, MatchOption};
-ghost use Rattle.vfs_segments.specs.Segments.{contents, flat_bytes, with_bytes_at};
+ghost use Rattle.std.specs.Prelude.{◌≡◌, ◌+◌, ◌^◌, ◌≤◌, length, vec_len, MatchOption};
+ghost use Rattle.vfs_segments.specs.Segments.{contents, flat_bytes, lengths_of, with_bytes_at};
 
 // How many bytes the segments have, unless that passes `usize::MAX`.
 #[tactic(auto, using(crate::proofs::Segments::held_segments))]
@@ -34,7 +34,7 @@ pub(crate) fn scatter(segments: &mut [Vec<u8>], mut skip: usize, bytes: &[u8])
     requires { skip + length bytes.now ≤ length (flat_bytes (contents segments.old)) }
     ensures bytes { flat_bytes (contents segments.new) ≡
         with_bytes_at skip bytes.now (flat_bytes (contents segments.old)) }
-    ensures lengths { map length (contents segments.new) ≡ map length (contents segments.old) }
+    ensures lengths { lengths_of (contents segments.new) ≡ lengths_of (contents segments.old) }
 {
     let mut done: usize = 0;
     for segment in segments.iter_mut() {

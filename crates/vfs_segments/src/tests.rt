@@ -1,12 +1,8 @@
-ghost use Rattle.std.specs.Prelude.{◌≡◌, ℕ, List, length, IfOk, MatchResult};
-ghost use Rattle.vfs_segments.specs.Answers.{Answers, Available, Taken, Read, ReadExact, ReadObj, Count, Moved, Filled, Fields, TooFew};
-
 use crate::{DescriptorType, Error, Reader, Writer};
 use std::alloc::{AllocError, Global};
 use std::io;
 use std::io::{ErrorKind, Read, Write};
 use std::test::Fail;
-use vfs_wire::ByteValued;
 
 // Segments of zeros, of these lengths.
 fn zeros(alloc: Global, lengths: &[usize]) -> Result<Vec<Vec<u8>>, AllocError> {
@@ -17,12 +13,44 @@ fn zeros(alloc: Global, lengths: &[usize]) -> Result<Vec<Vec<u8>>, AllocError> {
     Ok(segments)
 }
 
+// The segments as a reader takes them.
+fn slices_of(alloc: Global, segments: &[Vec<u8>]) -> Result<Vec<&[u8]>, AllocError> {
+    let mut slices = Vec::new(alloc);
+    for segment in segments {
+        slices.push(segment.as_slice())?;
+    }
+    Ok(slices)
+}
+
+// The next bytes of a reader.
+fn next_bytes(alloc: Global, reader: &mut Reader, n: usize) -> Result<Vec<u8>, Fail> {
+    let mut bytes = vec![in alloc; 0u8; n]?;
+    reader.read_exact(&mut bytes)?;
+    Ok(bytes)
+}
+
 // Which kind of error came, if one did.
 fn kind<T: Drop>(answer: io::Result<T>) -> Option<ErrorKind> {
     match answer {
         Ok(_) => None,
         Err(e) => Some(e.kind()),
     }
+}
+
+// How many bytes the largest write of a client has.
+const LARGEST_WRITE: usize = 65_536;
+
+// A place inside the ninth of the segments below that have bytes.
+const MIDDLE: usize = 33_005;
+
+// The lengths of a thousand segments, of which sixteen have bytes, 66,000 in all. The others need no
+// memory of their own, so that a test can refuse each allocation in turn.
+fn thousand_lengths() -> [usize; 1000] {
+    let mut lengths = [0; 1000];
+    for i in 0..16 {
+        lengths[i * 62] = 4_125;
+    }
+    lengths
 }
 
 // The numbers from 1 on.
@@ -230,58 +258,6 @@ fn held_bytes_are_filled_after_those_behind_them(rt: HostRuntime) -> Result<(), 
     Ok(())
 }
 
-// What each call of a reader promises is an answer, of which the law on readers of equal bytes speaks.
-
-fn asks_what_is_left(reader: &mut Reader) -> usize
-    ensures { Answers reader.old Available (Count result) reader.new }
-{
-    reader.available_bytes()
-}
-
-fn asks_what_was_taken(reader: &mut Reader) -> usize
-    ensures { Answers reader.old Taken (Count result) reader.new }
-{
-    reader.bytes_read()
-}
-
-fn asks_to_read(reader: &mut Reader, buf: &mut [u8]) -> io::Result<usize>
-    ensures { IfOk result (λ n. Answers reader.old (Read buf.old) (Moved n buf.new) reader.new) }
-{
-    reader.read(buf)
-}
-
-fn asks_to_fill(reader: &mut Reader, buf: &mut [u8]) -> io::Result<()>
-    ensures { MatchResult result
-        (λ _. Answers reader.old (ReadExact (length buf.old)) (Filled buf.new) reader.new)
-        (λ _. Answers reader.old (ReadExact (length buf.old)) TooFew reader.new) }
-{
-    reader.read_exact(buf)
-}
-
-fn asks_for_a_record<T: ByteValued>(reader: &mut Reader) -> io::Result<T>
-    ensures { MatchResult result
-        (λ x. (fields : List ℕ) × ((x ≡ T.table.made fields)
-        × Answers reader.old (ReadObj T.table.widths) (Fields fields) reader.new))
-        (λ _. Answers reader.old (ReadObj T.table.widths) TooFew reader.new) }
-{
-    reader.read_obj()
-}
-
-#[test]
-fn a_reader_answers_what_it_is_asked(rt: HostRuntime) -> Result<(), Fail> {
-    let segments = [&NUMBERED[..1], &NUMBERED[1..4]];
-    let mut reader = Reader::new(rt.alloc(), &segments)?;
-    assert_eq!(rt; asks_what_is_left(&mut reader), 4);
-    let mut buf = [0u8; 3];
-    asks_to_fill(&mut reader, &mut buf)?;
-    assert_eq!(rt; buf, [1, 2, 3]);
-    assert_eq!(rt; asks_to_read(&mut reader, &mut buf)?, 1);
-    assert_eq!(rt; buf, [4, 2, 3]);
-    assert_eq!(rt; asks_what_was_taken(&mut reader), 4);
-    assert!(rt; asks_for_a_record::<u8>(&mut reader).is_err());
-    Ok(())
-}
-
 #[test]
 fn a_reader_is_split_at_the_cuts_and_between_them(rt: HostRuntime) -> Result<(), Fail> {
     let alloc = rt.alloc();
@@ -427,6 +403,34 @@ fn a_second_hold_takes_the_place_of_the_first(rt: HostRuntime) -> Result<(), Fai
     assert_eq!(rt; written.len(), 2);
     assert_eq!(rt; written[0].as_slice(), [0u8, 0, 1].as_slice());
     assert_eq!(rt; written[1].as_slice(), [2u8, 0, 0].as_slice());
+    Ok(())
+}
+
+#[test]
+fn a_thousand_segments_are_written_split_cloned_and_read(rt: HostRuntime) -> Result<(), Fail> {
+    let alloc = rt.alloc();
+    let mut bytes = vec![in alloc; 0u8; LARGEST_WRITE]?;
+    for (i, b) in bytes.iter_mut().enumerate() {
+        *b = (i % 251) as u8;
+    }
+    let mut writer = Writer::new(alloc, zeros(alloc, &thousand_lengths())?)?;
+    writer.write_all(&bytes)?;
+    let rest = writer.split_at(200)?;
+    assert_eq!(rt;
+        (writer.available_bytes(), rest.available_bytes()),
+        (200, 264)
+    );
+    let written = writer.into_segments();
+    assert_eq!(rt; (written.len(), rest.into_segments().len()), (931, 70));
+
+    let slices = slices_of(alloc, &written)?;
+    let mut reader = Reader::new(alloc, &slices)?;
+    let mut clone = reader.clone()?;
+    assert!(rt; next_bytes(alloc, &mut clone, LARGEST_WRITE)?.as_slice() == bytes.as_slice());
+    let mut rest = reader.split_at(MIDDLE)?;
+    let mut halves = next_bytes(alloc, &mut reader, MIDDLE)?;
+    halves.extend_from_slice(&next_bytes(alloc, &mut rest, LARGEST_WRITE - MIDDLE)?)?;
+    assert!(rt; halves.as_slice() == bytes.as_slice());
     Ok(())
 }
 

@@ -4,7 +4,7 @@ ghost use Rattle.std.specs.Prelude.{◌≡◌, ◌+◌, ◌^◌, ◌<◌, ◌≤
 ghost use Rattle.std.specs.IoError.{error_kind};
 ghost use Rattle.std.specs.Io.{WritesAtMost};
 ghost use Rattle.std.specs.Io.KnownBytes.{Appends, Keeps, WriteAppends};
-ghost use Rattle.vfs_segments.specs.Segments.{contents, flat_bytes};
+ghost use Rattle.vfs_segments.specs.Segments.{contents, flat_bytes, lengths_of};
 ghost use Rattle.vfs_segments.specs.Written.{unwritten, wrote, first_room, rest_room, held_over, held_filled, whole};
 ghost use Rattle.vfs_wire.specs.Fields.{Fit, bytes_of};
 
@@ -18,12 +18,14 @@ use std::io::{ErrorKind, Write};
 use std::marker::Model;
 use vfs_wire::ByteValued;
 
-/// Writes bytes over those of its segments, wherever they are cut. The segments' lengths are its room.
+/// Writes bytes over those of its segments, wherever they are cut. The segments' lengths are its
+/// room.
 ///
 /// It can pass over some bytes and hold their place, as that of a header whose numbers are known
 /// only once what follows it is written.
 ///
-/// Contracts see the flat bytes that it has passed, those that are left, and the held place.
+/// Contracts see the flat bytes that it has passed, those that are left, the held place, and the
+/// segments' lengths.
 #[derive(Drop)]
 pub struct Writer {
     segments: Vec<Vec<u8>>,
@@ -46,13 +48,14 @@ impl Model for Writer {
 }
 
 impl Writer {
-    /// A writer over the segments, of which any may be empty. Their bytes are there to be written over.
+    /// A writer over the segments, of which any may be empty. Their bytes are there to be written
+    /// over.
     ///
     /// `Error::DescriptorChainOverflow` where their lengths sum past `usize::MAX`, and
     /// `Error::OutOfMemory` where memory is refused, which can't be where there are no segments.
     /// A refusal drops the segments.
     pub fn new(_alloc: Global, segments: Vec<Vec<u8>>) -> Result<Writer>
-        ensures ok { IfOk result (λ w. w ≡ unwritten (flat_bytes (contents segments.items))) }
+        ensures ok { IfOk result (λ w. w ≡ unwritten (contents segments.items)) }
         ensures too_long { 2 ^ 64 ≤ length (flat_bytes (contents segments.items)) →
             result ≡ Err Error.DescriptorChainOverflow }
         ensures fits { length (flat_bytes (contents segments.items)) < 2 ^ 64 →
@@ -92,11 +95,12 @@ impl Writer {
         self.held
     }
 
-    /// Cuts the room after the next `n` bytes. This writer keeps them, what it has passed and what it
-    /// holds; the answer has the rest, has passed nothing and holds nothing.
+    /// Cuts the room after the next `n` bytes. This writer keeps them, what it has passed and what
+    /// it holds; the answer has the rest, has passed nothing and holds nothing. A segment in which
+    /// the place lies is cut in two.
     ///
-    /// `Error::SplitOutOfBounds` with `n` where fewer are left, and `Error::OutOfMemory` where memory
-    /// is refused. A refusal changes nothing.
+    /// `Error::SplitOutOfBounds` with `n` where fewer are left, and `Error::OutOfMemory` where
+    /// memory is refused. A refusal changes nothing.
     pub fn split_at(&mut self, n: usize) -> Result<Writer>
         ensures rest { IfOk result (λ w. w ≡ rest_room self.old n) }
         ensures kept { OnOk result (self.new ≡ first_room self.old n) }
@@ -162,8 +166,9 @@ impl Writer {
     /// Where fewer are left the error's kind is `WriteZero`, and the record's beginning fills them.
     pub fn write_obj<T: ByteValued + Drop>(&mut self, x: T) -> io::Result<()>
         ensures variant { IsOk result ↔ (T.SIZE ≤ length self.old.left) }
-        ensures wrote { self.new ≡ wrote self.old (take (length self.old.left) (bytes_of T.table x)) }
-        ensures full { IfErr result (λ e. error_kind e ≡ ErrorKind.WriteZero) }
+        ensures wrote { self.new ≡
+            wrote self.old (take (length self.old.left) (bytes_of T.table x)) }
+        ensures full { IfErr result (λ fault. error_kind fault ≡ ErrorKind.WriteZero) }
         ensures in_width { Fit T.table.widths (T.table.fields x) }
         ensures in_range { T.in_range x }
     {
@@ -172,9 +177,11 @@ impl Writer {
         self.write_all(&buf[..T::SIZE])
     }
 
-    /// The segments, with what was written.
+    /// The segments, with what was written. Each has the length that it came with, but for one that
+    /// a split has cut.
     pub fn into_segments(self) -> Vec<Vec<u8>>
-        ensures { flat_bytes (contents result.items) ≡ whole self }
+        ensures bytes { flat_bytes (contents result.items) ≡ whole self }
+        ensures lengths { lengths_of (contents result.items) ≡ self.lengths }
     {
         let Writer {
             segments,
@@ -215,9 +222,11 @@ impl Write for Writer {
 
     /// Writes the bytes.
     ///
-    /// Where fewer are left the error's kind is `WriteZero`, and the beginning that fits is written.
+    /// Where fewer are left the error's kind is `WriteZero`, and the beginning that fits is
+    /// written.
     fn write_all(&mut self, buf: &[u8]) -> io::Result<()>
-        ensures bytes { OnOk result (Appends (Some self.old.passed) (Some self.new.passed) buf.now) }
+        ensures bytes { OnOk result
+            (Appends (Some self.old.passed) (Some self.new.passed) buf.now) }
         ensures variant { IsOk result ↔ (length buf.now ≤ length self.old.left) }
         ensures wrote { self.new ≡ wrote self.old (take (length self.old.left) buf.now) }
         ensures full { IfErr result (λ e. error_kind e ≡ ErrorKind.WriteZero) }

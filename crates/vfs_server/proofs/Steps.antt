@@ -24,7 +24,7 @@ pub record Came (reply : Reply) (old : Written) (outcome : Result ℕ Error) (ne
   pub no_hold : old.held ≡ 0 → new.held ≡ 0
 
 stays : (old new : Written) → new ≡ old → Leaves old old.left new
-stays old new e = rw e (record { kept = refl; same_length = refl })
+stays old new e = rw e (record { kept = refl; same_length = refl; same_segments = refl })
 
 pub came : (reply : Reply) (old new : Written) (outcome : Result ℕ Error) → Replies reply old outcome new → Came reply old outcome new
 came (Refusal error) old new outcome h = record { room_after = old.left; leaves = stays old new h.1; says = (h.0, refl); no_hold = λ z. ap (λ (w : Written). w.held) h.1 ∙ z }
@@ -82,7 +82,7 @@ module _ {S I : Type 0} (allows : S → Call → Handed I → S → Type 0) (giv
     run = s.run;
     room_after = s.room_after;
     is_run = s.is_run;
-    leaves = record { kept = s.leaves.kept ∙ ap (λ (p : List ℕ). p ++ s.room_after) (append-nil writer.passed); same_length = s.leaves.same_length };
+    leaves = record { kept = s.leaves.kept ∙ ap (λ (p : List ℕ). p ++ s.room_after) (append-nil writer.passed); same_length = s.leaves.same_length; same_segments = s.leaves.same_segments };
     turn = s.turn;
     same_limits = s.same_limits;
   }

@@ -12,5 +12,6 @@ pub mod fuse;
 pub mod server;
 #[cfg(test)]
 mod tests;
+pub mod uses;
 
 pub use vfs_messages::{Error, Limits, Result, laws, reply_error, reply_ok};

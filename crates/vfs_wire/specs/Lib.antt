@@ -6,6 +6,7 @@ pub mod Fields
 pub mod Files
 pub mod Headers
 pub mod Init
+pub mod Layouts
 pub mod Listings
 pub mod Names
 pub mod Ranges

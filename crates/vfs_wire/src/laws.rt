@@ -8,15 +8,18 @@ use crate::ByteValued;
 
 /// What `take` reads from the bytes that `put` wrote is the value.
 pub fn take_after_put<T: ByteValued>()
-    ensures { (x : T) → Fit T.table.widths (T.table.fields x) → T.in_range x → value_of T.table (bytes_of T.table x) ≡ x }
+    ensures { (x : T) → Fit T.table.widths (T.table.fields x) → T.in_range x →
+        value_of T.table (bytes_of T.table x) ≡ x }
 {}
 
 /// What `put` writes of the value that `take` read is the bytes.
 pub fn put_after_take<T: ByteValued>()
-    ensures { (b : List ℕ) → AreBytes b → length b ≡ T.SIZE → bytes_of T.table (value_of T.table b) ≡ b }
+    ensures { (b : List ℕ) → AreBytes b → length b ≡ T.SIZE →
+        bytes_of T.table (value_of T.table b) ≡ b }
 {}
 
 /// A value's bytes are `SIZE` in number.
 pub fn bytes_have_size<T: ByteValued>()
-    ensures { (x : T) → Fit T.table.widths (T.table.fields x) → length (bytes_of T.table x) ≡ T.SIZE }
+    ensures { (x : T) → Fit T.table.widths (T.table.fields x) →
+        length (bytes_of T.table x) ≡ T.SIZE }
 {}

@@ -17,6 +17,7 @@ mod files;
 mod headers;
 mod init;
 mod laws;
+pub mod layouts;
 mod listings;
 mod names;
 mod numbers;
@@ -25,6 +26,7 @@ mod ranges;
 mod stat;
 #[cfg(test)]
 mod tests;
+pub mod uses;
 mod xattrs;
 
 pub use attributes::{Attr, AttrOut, GetattrIn, SetattrIn};
@@ -76,5 +78,6 @@ pub trait ByteValued: Sized {
 
     ghost made_fields: { (x : Self) → in_range x → table.made (table.fields x) ≡ x };
 
-    ghost fields_made: { (b : List ℕ) → AreBytes b → table.fields (value_of table b) ≡ numbers table.widths b };
+    ghost fields_made: { (b : List ℕ) → AreBytes b →
+        table.fields (value_of table b) ≡ numbers table.widths b };
 }

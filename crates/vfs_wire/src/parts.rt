@@ -28,7 +28,8 @@ pub fn put_rest<T: ByteValued>(out: &mut [u8], at: usize, x: &T)
 /// Writes the value over the first bytes of `out`, as many as it has.
 pub fn put_first<T: ByteValued>(out: &mut [u8], x: &T)
     requires { T.SIZE ≤ length out.old }
-    ensures written { out.new ≡ row_onto T.table.widths (T.table.fields x.now) (drop T.SIZE out.old) }
+    ensures written { out.new ≡
+        row_onto T.table.widths (T.table.fields x.now) (drop T.SIZE out.old) }
     ensures in_width { Fit T.table.widths (T.table.fields x.now) }
     ensures in_range { T.in_range x.now }
 {

@@ -161,8 +161,9 @@ fn attributes(st: &Stat64, flags: u32, uid: GuestUid, gid: GuestGid) -> Attr
 /// The nanoseconds of the times of the last access, of the last change of the data, and of that of
 /// the attributes.
 fn nanoseconds(st: &Stat64) -> [u32; 3]
-    ensures { result ≡ low_word (bits_of st.now.st_atime_nsec) ∷ low_word (bits_of st.now.st_mtime_nsec)
-        ∷ low_word (bits_of st.now.st_ctime_nsec) ∷ [] }
+    ensures { result ≡
+        low_word (bits_of st.now.st_atime_nsec) ∷ low_word (bits_of st.now.st_mtime_nsec) ∷
+        low_word (bits_of st.now.st_ctime_nsec) ∷ [] }
 {
     [
         low_of(st.st_atime_nsec),

@@ -15,11 +15,6 @@ fn is_written_as<T: ByteValued + Drop>(x: &T, want: &[u8]) -> bool
 }
 
 #[test]
-fn sizes_of_records(rt: HostRuntime) {
-    assert_eq!(rt; (u8::SIZE, u16::SIZE, u32::SIZE, u64::SIZE), (1, 2, 4, 8));
-}
-
-#[test]
 fn plain_numbers(rt: HostRuntime) {
     assert!(rt; is_written_as(&0xfe_u8, &[0xfe]));
     assert!(rt; is_written_as(&0x0102_u16, &[2, 1]));
@@ -62,30 +57,6 @@ fn a_reply_header_with_a_negated_error(rt: HostRuntime) {
     let want = [16, 0, 0, 0, 0xda, 0xff, 0xff, 0xff, 9, 0, 0, 0, 0, 0, 0, 0];
     assert!(rt; is_written_as(&header, &want));
     assert_eq!(rt; OutHeader::take(&want).error, -38);
-}
-
-#[test]
-fn an_init_request(rt: HostRuntime) {
-    let want = [7, 0, 0, 0, 38, 0, 0, 0, 0, 0, 2, 0, 0xff, 0xff, 0xff, 0xff];
-    let r = InitInCompat::take(&want);
-    assert_eq!(rt;
-        (r.major, r.minor, r.max_readahead, r.flags),
-        (7, 38, 131_072, 0xffff_ffff)
-    );
-    assert!(rt; is_written_as(&r, &want));
-}
-
-#[test]
-fn an_init_extension(rt: HostRuntime) {
-    let extension = InitInExt {
-        flags2: 0x104,
-        unused: [1, 2, 3, 4, 5, 6, 7, 8, 9, 10, 11],
-    };
-    let want = [
-        4, 1, 0, 0, 1, 0, 0, 0, 2, 0, 0, 0, 3, 0, 0, 0, 4, 0, 0, 0, 5, 0, 0, 0, 6, 0, 0, 0, 7, 0,
-        0, 0, 8, 0, 0, 0, 9, 0, 0, 0, 10, 0, 0, 0, 11, 0, 0, 0,
-    ];
-    assert!(rt; is_written_as(&extension, &want));
 }
 
 #[test]
@@ -134,24 +105,6 @@ fn odd_attributes() -> Attr {
 }
 
 #[test]
-fn replies_with_attributes(rt: HostRuntime) {
-    let reply = AttrOut {
-        attr_valid: 1,
-        attr_valid_nsec: 0x0203_0405,
-        dummy: 6,
-        attr: odd_attributes(),
-    };
-    let want = [
-        1, 0, 0, 0, 0, 0, 0, 0, 5, 4, 3, 2, 6, 0, 0, 0, 1, 0, 0, 0, 0, 0, 0, 0x80, 2, 0, 0, 0, 0,
-        0, 0, 0, 3, 0, 0, 0, 0, 0, 0, 0, 4, 0, 0, 0, 0, 0, 0, 0, 5, 0, 0, 0, 0, 0, 0, 0, 0xff,
-        0xff, 0xff, 0xff, 0xff, 0xff, 0xff, 0xff, 7, 0, 0, 0, 8, 0, 0, 0, 9, 0, 0, 0, 0xa4, 0x81,
-        0, 0, 11, 0, 0, 0, 12, 0, 0, 0, 13, 0, 0, 0, 14, 0, 0, 0, 0, 0x10, 0, 0, 16, 0, 0, 0,
-    ];
-    assert!(rt; is_written_as(&reply, &want));
-    assert!(rt; is_written_as(&odd_attributes(), &want[16..]));
-}
-
-#[test]
 fn an_entry(rt: HostRuntime) {
     let entry = EntryOut {
         nodeid: 5,
@@ -174,101 +127,6 @@ fn an_entry(rt: HostRuntime) {
 }
 
 #[test]
-fn getattr_and_forget_requests(rt: HostRuntime) {
-    let getattr = GetattrIn {
-        flags: 1,
-        dummy: 2,
-        fh: 3,
-    };
-    let want = [1, 0, 0, 0, 2, 0, 0, 0, 3, 0, 0, 0, 0, 0, 0, 0];
-    assert!(rt; is_written_as(&getattr, &want));
-    let forget = ForgetIn {
-        nlookup: 0x0100_0000,
-    };
-    assert!(rt; is_written_as(&forget, &[0, 0, 0, 1, 0, 0, 0, 0]));
-}
-
-#[test]
-fn laws_hold_of_a_record(_rt: HostRuntime) {
-    take_after_put::<EntryOut>();
-    put_after_take::<EntryOut>();
-    bytes_have_size::<EntryOut>();
-}
-
-#[test]
-fn pairs_of_batch_forget(rt: HostRuntime) {
-    let pair = ForgetOne {
-        nodeid: 1,
-        nlookup: 2,
-    };
-    let want = [1, 0, 0, 0, 0, 0, 0, 0, 2, 0, 0, 0, 0, 0, 0, 0];
-    assert!(rt; is_written_as(&pair, &want));
-}
-
-#[test]
-fn counts_of_a_file_system(rt: HostRuntime) {
-    let counts = Kstatfs::from(Statvfs64 {
-        f_bsize: 0x1_0000_0200,
-        f_frsize: 0x5_0000_0400,
-        f_blocks: 0x1_0000_0001,
-        f_bfree: 2,
-        f_bavail: 3,
-        f_files: 4,
-        f_ffree: 0xffff_ffff_ffff_ffff,
-        f_namemax: 255,
-    });
-    let want = [
-        1, 0, 0, 0, 1, 0, 0, 0, 2, 0, 0, 0, 0, 0, 0, 0, 3, 0, 0, 0, 0, 0, 0, 0, 4, 0, 0, 0, 0, 0,
-        0, 0, 0xff, 0xff, 0xff, 0xff, 0xff, 0xff, 0xff, 0xff, 0, 2, 0, 0, 255, 0, 0, 0, 0, 4, 0, 0,
-        0, 0, 0, 0, 0, 0, 0, 0, 0, 0, 0, 0, 0, 0, 0, 0, 0, 0, 0, 0, 0, 0, 0, 0, 0, 0, 0, 0,
-    ];
-    assert!(rt; is_written_as(&counts, &want));
-    assert_eq!(rt; counts.bsize, 512);
-}
-
-#[test]
-fn attributes_of_a_host_file(rt: HostRuntime) {
-    let st = Stat64 {
-        st_ino: 9,
-        st_nlink: 0x1_0000_0002,
-        st_rdev: 0x7_0000_0003,
-        st_size: -1,
-        st_blocks: 8,
-        st_blksize: 4096,
-        st_atime: -2,
-        st_mtime: 5,
-        st_ctime: 6,
-        st_atime_nsec: -1,
-        st_mtime_nsec: 7,
-        st_ctime_nsec: 0x1_0000_0008,
-        st_mode: 0o100_644,
-        st_uid: 1000,
-        st_gid: 100,
-    };
-    let mapped = Attr::try_with_flags(
-        st,
-        1,
-        |_| Ok(GuestUid::from(5)),
-        |gid| Ok(GuestGid::from(gid.into_inner())),
-    );
-    let Ok(a) = mapped else {
-        panic!(rt; "the maps have no fault");
-    };
-    assert_eq!(rt;
-        (a.ino, a.size, a.blocks, a.atime),
-        (9, u64::MAX, 8, u64::MAX - 1)
-    );
-    assert_eq!(rt; (a.mtime, a.ctime), (5, 6));
-    assert_eq!(rt;
-        (a.atimensec, a.mtimensec, a.ctimensec),
-        (0xffff_ffff, 7, 8)
-    );
-    assert_eq!(rt; (a.mode, a.nlink, a.rdev), (0o100_644, 2, 3));
-    assert_eq!(rt; (a.uid, a.gid), (GuestUid::from(5), GuestGid::from(100)));
-    assert_eq!(rt; (a.blksize, a.flags), (4096, 1));
-}
-
-#[test]
 fn the_group_is_not_mapped_after_a_fault_of_the_owner(rt: HostRuntime) {
     let mut called = false;
     let answer = Attr::try_from_stat64(
@@ -281,14 +139,4 @@ fn the_group_is_not_mapped_after_a_fault_of_the_owner(rt: HostRuntime) {
     );
     assert!(rt; matches!(answer, Err(Some(e)) if e.get() == 34));
     assert!(rt; !called);
-}
-
-#[test]
-fn a_fault_of_the_group_is_the_answer(rt: HostRuntime) {
-    let answer = Attr::try_from_stat64(
-        Stat64::default(),
-        |uid| Ok(GuestUid::from(uid.into_inner())),
-        |_| Err(None),
-    );
-    assert!(rt; matches!(answer, Err(None)));
 }

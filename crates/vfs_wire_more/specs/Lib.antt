@@ -1,5 +1,6 @@
 pub mod Devices
 pub mod Extensions
+pub mod Layouts
 pub mod Listings
 pub mod Locks
 pub mod Mappings

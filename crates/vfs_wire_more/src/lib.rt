@@ -5,12 +5,14 @@
 
 mod devices;
 mod extensions;
+pub mod layouts;
 mod listings;
 mod locks;
 mod mappings;
 mod notifications;
 #[cfg(test)]
 mod tests;
+pub mod uses;
 
 pub use devices::{BmapIn, BmapOut, IoctlIn, IoctlIovec, IoctlOut, PollIn, PollOut, SyncfsIn};
 pub use extensions::SecctxHeader;

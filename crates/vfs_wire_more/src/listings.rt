@@ -38,7 +38,8 @@ impl ByteValued for StatfsOut {
 
     ghost size_small = { lit≤ tt };
 
-    ghost made_fields = { λ x h. ap (λ u. record x { st = record x.st { spare = u } }) (cells-is 6 x.st.spare h) };
+    ghost made_fields = { λ x h.
+        ap (λ u. record x { st = record x.st { spare = u } }) (cells-is 6 x.st.spare h) };
 
     ghost fields_made = { λ b h. refl };
 }

@@ -87,7 +87,9 @@ impl ByteValued for NotifyInvalInodeOut {
 
     ghost size_small = { lit≤ tt };
 
-    ghost made_fields = { λ x h. ap (λ z. record x { off = z; len = cast_signed w64 (cast_unsigned w64 x.len) }) (to_z-of_z w64 x.off h.0)
+    ghost made_fields = { λ x h.
+        ap (λ z. record x { off = z; len = cast_signed w64 (cast_unsigned w64 x.len) })
+        (to_z-of_z w64 x.off h.0)
         ∙ ap (λ z. record x { len = z }) (to_z-of_z w64 x.len h.1) };
 
     ghost fields_made = { λ b h. Prim.rw (

@@ -1,0 +1,244 @@
+//! Small callers, each with what follows for it from the public contracts alone.
+
+ghost use Rattle.std.specs.Prelude.{◌≡◌, ◌≤◌, pos, negsuc, IsTrue, IfOk, IfErr, Some};
+ghost use Rattle.std.specs.Prelude.{Err, map, option_map};
+ghost use Rattle.vfs_files.specs.Extensions.{context_values};
+ghost use Rattle.vfs_files.specs.Calls.{Unlink, not_served};
+ghost use Rattle.vfs_files.specs.Answers.{Plain, done_answer};
+ghost use Rattle.vfs_files.specs.Names.{name_text};
+ghost use Rattle.vfs_files.specs.Runs.{ForgetsEach};
+
+use crate::{
+    CStr, CString, Context, Entry, Extensions, FileSystem, GetxattrReply, ListxattrReply, Number,
+    SecContext, Unserved, defaults,
+};
+use bitflags::Flags;
+use std::alloc::Global;
+use std::time::Duration;
+use vfs_flags::{Fault, GuestGid};
+use vfs_wire::{Attr, EntryOut, InHeader};
+
+/// A name ends at its only 0.
+pub fn name_of_two_letters() -> bool
+    ensures { IsTrue result }
+{
+    match CStr::from_bytes_with_nul(b"ab\0") {
+        Some(name) => name.to_bytes() == b"ab".as_slice(),
+        None => false,
+    }
+}
+
+/// Two names are not one.
+pub fn two_names_are_no_name() -> bool
+    ensures { IsTrue result }
+{
+    CStr::from_bytes_with_nul(b"a\0b\0").is_none()
+}
+
+/// The first of two names ends at the first 0.
+pub fn first_of_two_names() -> bool
+    ensures { IsTrue result }
+{
+    match CStr::from_bytes_until_nul(b"a\0b\0") {
+        Some(name) => name.to_bytes() == b"a".as_slice(),
+        None => false,
+    }
+}
+
+/// A name of its own has the bytes of the one that it was made from.
+pub fn own_name_has_the_same_bytes(alloc: Global, name: CStr<'_>) -> Result<bool, Fault>
+    ensures { IfOk result (λ same. IsTrue same) }
+{
+    let own = CString::new(alloc, name)?;
+    Ok(own.as_c_str().to_bytes() == name.to_bytes())
+}
+
+/// Two names made from one are equal.
+pub fn own_names_are_equal(alloc: Global, name: CStr<'_>) -> Result<bool, Fault>
+    ensures { IfOk result (λ same. IsTrue same) }
+{
+    let one = CString::new(alloc, name)?;
+    let other = CString::new(alloc, name)?;
+    Ok(one == other)
+}
+
+/// A name of its own only ever fails with the number 12.
+pub fn own_name_wants_memory_alone(alloc: Global, name: CStr<'_>) -> Result<CString, i32>
+    ensures { IfErr result (λ error. error ≡ pos 12) }
+{
+    match CString::new(alloc, name) {
+        Ok(own) => Ok(own),
+        Err(Some(error)) => Err(error.get()),
+        Err(None) => Err(0),
+    }
+}
+
+/// A copy of a security context has its name and its value.
+pub fn copy_of_a_context(alloc: Global, context: &SecContext) -> Result<SecContext, Fault>
+    ensures name { IfOk result (λ copy. copy.name ≡ context.now.name) }
+    ensures value { IfOk result (λ copy. copy.secctx.items ≡ context.now.secctx.items) }
+{
+    context.clone(alloc)
+}
+
+/// A copy of extensions has their group.
+pub fn group_of_a_copy(alloc: Global, group: GuestGid) -> Result<Option<GuestGid>, Fault>
+    ensures { IfOk result (λ copied. copied ≡ Some group) }
+{
+    let ext = Extensions {
+        sup_gid: Some(group),
+        ..Extensions::none()
+    };
+    let copy = ext.clone(alloc)?;
+    Ok(copy.sup_gid)
+}
+
+/// A copy of extensions has their security context.
+pub fn context_of_a_copy(alloc: Global, context: SecContext) -> Result<Option<SecContext>, Fault>
+    ensures { IfOk result (λ copied.
+        option_map context_values copied ≡ Some (context_values context)) }
+{
+    let ext = Extensions {
+        secctx: Some(context),
+        sup_gid: None,
+    };
+    let copy = ext.clone(alloc)?;
+    Ok(copy.secctx)
+}
+
+/// A process number with the high bit set is negative.
+pub fn caller_with_the_highest_process() -> i32
+    ensures { result ≡ negsuc 0 }
+{
+    let header = InHeader {
+        pid: 0xffff_ffff,
+        ..InHeader::default()
+    };
+    Context::from(header).pid
+}
+
+/// A timeout of a second and a half is one second and 500,000,000 nanoseconds.
+pub fn second_and_a_half() -> (u64, u32)
+    ensures { result ≡ (1, 500_000_000) }
+{
+    let out = EntryOut::from(Entry {
+        inode: 5,
+        generation: 0,
+        attr: Attr::default(),
+        attr_timeout: Duration::from_millis(1_500),
+        entry_timeout: Duration::ZERO,
+    });
+    (out.attr_valid, out.attr_valid_nsec)
+}
+
+/// A number of a node or a handle comes back.
+pub fn there_and_back<N: Number>(n: u64) -> u64
+    ensures { result ≡ n }
+{
+    N::from_number(n).number()
+}
+
+/// A call that isn't served fails with the number 38.
+pub fn error_of_a_call_that_is_not_served() -> i32
+    ensures { result ≡ pos 38 }
+{
+    match defaults::no_such_call::<()>() {
+        Err(Some(error)) => error.get(),
+        _ => 0,
+    }
+}
+
+/// A file that is opened by default has no handle and no options.
+pub fn default_open_says_nothing() -> bool
+    ensures { IsTrue result }
+{
+    match defaults::open::<u64>() {
+        Ok((handle, options)) => handle.is_none() && options.bits() == 0,
+        Err(_) => false,
+    }
+}
+
+/// By default names have up to 255 bytes.
+pub fn default_length_of_names() -> u64
+    ensures { result ≡ 255 }
+{
+    match defaults::statfs() {
+        Ok(statistics) => statistics.f_namemax,
+        Err(_) => 0,
+    }
+}
+
+/// A name is taken out of the root as the file system allows it.
+pub fn unlink_from_the_root<F: FileSystem>(
+    fs: &mut F,
+    ctx: Context,
+    name: CStr<'_>,
+) -> Result<(), Fault>
+    ensures { F.allows fs.old
+        (Unlink ctx 1 (name_text name.entry))
+        (Plain (done_answer result))
+        fs.new }
+{
+    fs.unlink(ctx, F::Inode::from_number(1), name)
+}
+
+/// Forgets each node, in order, and does nothing else: what `batch_forget` does by default.
+pub fn forget_each<F: FileSystem>(fs: &mut F, ctx: &Context, requests: Vec<(F::Inode, u64)>)
+    ensures { ForgetsEach F.allows F.DirIter.gives ctx.now
+        (map (λ p. (F.Inode.value p.0, p.1)) requests.items)
+        fs.old
+        fs.new }
+{
+    for (inode, count) in requests {
+        fs.forget(*ctx, inode, count);
+    }
+}
+
+/// The text of a link has at most 4,294,967,279 bytes, whatever the file system.
+pub fn length_of_a_link<F: FileSystem>(
+    fs: &mut F,
+    ctx: Context,
+    inode: F::Inode,
+) -> Result<usize, Fault>
+    ensures { IfOk result (λ length. length ≤ 4_294_967_279) }
+{
+    let text = fs.readlink(ctx, inode)?;
+    Ok(text.len())
+}
+
+/// The value of an extended attribute has at most as many.
+pub fn length_of_a_value<F: FileSystem>(
+    fs: &mut F,
+    ctx: Context,
+    inode: F::Inode,
+    name: CStr<'_>,
+) -> Result<usize, Fault>
+    ensures { IfOk result (λ length. length ≤ 4_294_967_295) }
+{
+    match fs.getxattr(ctx, inode, name, 65_536)? {
+        GetxattrReply::Value(value) => Ok(value.len()),
+        GetxattrReply::Count(count) => Ok(count as usize),
+    }
+}
+
+/// The names of all extended attributes have at most as many.
+pub fn length_of_all_names<F: FileSystem>(
+    fs: &mut F,
+    ctx: Context,
+    inode: F::Inode,
+) -> Result<usize, Fault>
+    ensures { IfOk result (λ length. length ≤ 4_294_967_295) }
+{
+    match fs.listxattr(ctx, inode, 65_536)? {
+        ListxattrReply::Names(names) => Ok(names.len()),
+        ListxattrReply::Count(count) => Ok(count as usize),
+    }
+}
+
+/// Nothing is found in a file system that serves nothing.
+pub fn lookup_that_is_not_served(ctx: Context, name: CStr<'_>) -> Result<Entry, Fault>
+    ensures { result ≡ Err not_served }
+{
+    let mut fs = Unserved {};
+    fs.lookup(ctx, 1, name)
+}

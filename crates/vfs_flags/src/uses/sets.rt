@@ -1,0 +1,223 @@
+//! Flag sets compared, hashed, joined and cut to what is known: by their bits.
+
+ghost use Rattle.std.specs.Prelude.{◌≡◌, ◌<◌, ◌==◌, ◌↔◌, IsTrue, bit_and, bit_or, fold};
+ghost use Rattle.std.specs.Ordering.{nat_cmp};
+ghost use Rattle.std.specs.Hash as fed;
+ghost use Rattle.std.specs.Hash.DefaultHasher as sip;
+ghost use Rattle.vfs_flags.specs.Flags.{fs_options_bits, known_fs_options, setattr_valid_bits, known_setattr_valid, open_options_bits, known_open_options, ioctl_flags_bits, known_ioctl_flags, setxattr_flags_bits, known_setxattr_flags, notify_inval_entry_out_flags_bits, known_notify_inval_entry_out_flags, setupmapping_flags_bits, known_setupmapping_flags};
+
+use crate::{
+    FsOptions, IoctlFlags, NotifyInvalEntryOutFlags, OpenOptions, SetattrValid, SetupmappingFlags,
+    SetxattrFlags,
+};
+use bitflags::Flags;
+use std::cmp::Ordering;
+use std::hash::{DefaultHasher, Hash, Hasher};
+
+/// The order of two sets of options.
+pub fn order_of_options(a: FsOptions, b: FsOptions) -> Ordering
+    ensures { result ≡ nat_cmp (fs_options_bits a) (fs_options_bits b) }
+{
+    a.cmp(&b)
+}
+
+/// The hash of a set of options.
+pub fn hash_of_options(a: FsOptions) -> u64
+    ensures { result ≡ sip.finish (fold sip.write sip.initial (fed.u64 (fs_options_bits a))) }
+{
+    let mut state = DefaultHasher::new();
+    a.hash(&mut state);
+    state.finish()
+}
+
+/// The options of either set.
+pub fn either_options(a: FsOptions, b: FsOptions) -> FsOptions
+    ensures { fs_options_bits result ≡ bit_or (fs_options_bits a) (fs_options_bits b) }
+{
+    a | b
+}
+
+/// The options of both sets.
+pub fn both_options(a: FsOptions, b: FsOptions) -> FsOptions
+    ensures { fs_options_bits result ≡ bit_and (fs_options_bits a) (fs_options_bits b) }
+{
+    a & b
+}
+
+/// Whether a set has all options of another.
+pub fn has_options(a: FsOptions, b: FsOptions) -> bool
+    ensures { IsTrue result
+        ↔ (bit_and (fs_options_bits a) (fs_options_bits b) ≡ fs_options_bits b) }
+{
+    a.contains(b)
+}
+
+/// No option.
+pub fn no_option() -> FsOptions
+    ensures { fs_options_bits result ≡ 0 }
+{
+    FsOptions::empty()
+}
+
+/// Whether two sets of options of INIT are the same.
+pub fn same_fs_options(a: FsOptions, b: FsOptions) -> bool
+    ensures { IsTrue result ↔ (fs_options_bits a ≡ fs_options_bits b) }
+{
+    a == b
+}
+
+/// Whether one set of options of INIT has lower bits than another.
+pub fn lower_fs_options(a: FsOptions, b: FsOptions) -> bool
+    ensures { IsTrue result ↔ (fs_options_bits a < fs_options_bits b) }
+{
+    a < b
+}
+
+/// The options of INIT among these bits.
+#[tactic(auto, unfolding(bitflags::proofs::OnLiterals::bitflags_on_literals))]
+pub fn fs_options_among(bits: u64) -> FsOptions
+    ensures { fs_options_bits result ≡ bit_and bits known_fs_options }
+{
+    FsOptions::from_bits_truncate(bits)
+}
+
+/// Whether two sets of attributes that a SETATTR changes are the same.
+pub fn same_setattr_valid(a: SetattrValid, b: SetattrValid) -> bool
+    ensures { IsTrue result ↔ (setattr_valid_bits a ≡ setattr_valid_bits b) }
+{
+    a == b
+}
+
+/// Whether one set of attributes that a SETATTR changes has lower bits than another.
+pub fn lower_setattr_valid(a: SetattrValid, b: SetattrValid) -> bool
+    ensures { IsTrue result ↔ (setattr_valid_bits a < setattr_valid_bits b) }
+{
+    a < b
+}
+
+/// The attributes that a SETATTR changes among these bits.
+#[tactic(auto, unfolding(bitflags::proofs::OnLiterals::bitflags_on_literals))]
+pub fn setattr_valid_among(bits: u32) -> SetattrValid
+    ensures { setattr_valid_bits result ≡ bit_and bits known_setattr_valid }
+{
+    SetattrValid::from_bits_truncate(bits)
+}
+
+/// Whether two sets of properties of an open file are the same.
+pub fn same_open_options(a: OpenOptions, b: OpenOptions) -> bool
+    ensures { IsTrue result ↔ (open_options_bits a ≡ open_options_bits b) }
+{
+    a == b
+}
+
+/// Whether one set of properties of an open file has lower bits than another.
+pub fn lower_open_options(a: OpenOptions, b: OpenOptions) -> bool
+    ensures { IsTrue result ↔ (open_options_bits a < open_options_bits b) }
+{
+    a < b
+}
+
+/// The properties of an open file among these bits.
+#[tactic(auto, unfolding(bitflags::proofs::OnLiterals::bitflags_on_literals))]
+pub fn open_options_among(bits: u32) -> OpenOptions
+    ensures { open_options_bits result ≡ bit_and bits known_open_options }
+{
+    OpenOptions::from_bits_truncate(bits)
+}
+
+/// Whether two sets of flags of an IOCTL are the same.
+pub fn same_ioctl_flags(a: IoctlFlags, b: IoctlFlags) -> bool
+    ensures { IsTrue result ↔ (ioctl_flags_bits a ≡ ioctl_flags_bits b) }
+{
+    a == b
+}
+
+/// Whether one set of flags of an IOCTL has lower bits than another.
+pub fn lower_ioctl_flags(a: IoctlFlags, b: IoctlFlags) -> bool
+    ensures { IsTrue result ↔ (ioctl_flags_bits a < ioctl_flags_bits b) }
+{
+    a < b
+}
+
+/// The flags of an IOCTL among these bits.
+#[tactic(auto, unfolding(bitflags::proofs::OnLiterals::bitflags_on_literals))]
+pub fn ioctl_flags_among(bits: u32) -> IoctlFlags
+    ensures { ioctl_flags_bits result ≡ bit_and bits known_ioctl_flags }
+{
+    IoctlFlags::from_bits_truncate(bits)
+}
+
+/// Whether two sets of further flags of a SETXATTR are the same.
+pub fn same_setxattr_flags(a: SetxattrFlags, b: SetxattrFlags) -> bool
+    ensures { IsTrue result ↔ (setxattr_flags_bits a ≡ setxattr_flags_bits b) }
+{
+    a == b
+}
+
+/// Whether one set of further flags of a SETXATTR has lower bits than another.
+pub fn lower_setxattr_flags(a: SetxattrFlags, b: SetxattrFlags) -> bool
+    ensures { IsTrue result ↔ (setxattr_flags_bits a < setxattr_flags_bits b) }
+{
+    a < b
+}
+
+/// The further flags of a SETXATTR among these bits.
+#[tactic(auto, unfolding(bitflags::proofs::OnLiterals::bitflags_on_literals))]
+pub fn setxattr_flags_among(bits: u32) -> SetxattrFlags
+    ensures { setxattr_flags_bits result ≡ bit_and bits known_setxattr_flags }
+{
+    SetxattrFlags::from_bits_truncate(bits)
+}
+
+/// Whether two sets of flags of the notice that a name is out of date are the same.
+pub fn same_notify_inval_entry_out_flags(
+    a: NotifyInvalEntryOutFlags,
+    b: NotifyInvalEntryOutFlags,
+) -> bool
+    ensures { IsTrue result
+        ↔ (notify_inval_entry_out_flags_bits a ≡ notify_inval_entry_out_flags_bits b) }
+{
+    a == b
+}
+
+/// Whether one set of flags of the notice that a name is out of date has lower bits than another.
+pub fn lower_notify_inval_entry_out_flags(
+    a: NotifyInvalEntryOutFlags,
+    b: NotifyInvalEntryOutFlags,
+) -> bool
+    ensures { IsTrue result
+        ↔ (notify_inval_entry_out_flags_bits a < notify_inval_entry_out_flags_bits b) }
+{
+    a < b
+}
+
+/// The flags of the notice that a name is out of date among these bits.
+#[tactic(auto, unfolding(bitflags::proofs::OnLiterals::bitflags_on_literals))]
+pub fn notify_inval_entry_out_flags_among(bits: u32) -> NotifyInvalEntryOutFlags
+    ensures { notify_inval_entry_out_flags_bits result
+        ≡ bit_and bits known_notify_inval_entry_out_flags }
+{
+    NotifyInvalEntryOutFlags::from_bits_truncate(bits)
+}
+
+/// Whether two sets of rights of a mapping are the same.
+pub fn same_setupmapping_flags(a: SetupmappingFlags, b: SetupmappingFlags) -> bool
+    ensures { IsTrue result ↔ (setupmapping_flags_bits a ≡ setupmapping_flags_bits b) }
+{
+    a == b
+}
+
+/// Whether one set of rights of a mapping has lower bits than another.
+pub fn lower_setupmapping_flags(a: SetupmappingFlags, b: SetupmappingFlags) -> bool
+    ensures { IsTrue result ↔ (setupmapping_flags_bits a < setupmapping_flags_bits b) }
+{
+    a < b
+}
+
+/// The rights of a mapping among these bits.
+#[tactic(auto, unfolding(bitflags::proofs::OnLiterals::bitflags_on_literals))]
+pub fn setupmapping_flags_among(bits: u64) -> SetupmappingFlags
+    ensures { setupmapping_flags_bits result ≡ bit_and bits known_setupmapping_flags }
+{
+    SetupmappingFlags::from_bits_truncate(bits)
+}

@@ -1,0 +1,85 @@
+//! One request of a session, and the input and output of a whole one.
+
+ghost use Rattle.std.specs.Prelude.{◌≡◌, IfOk, IfErr, IfSome, OnOk};
+ghost use Rattle.std.specs.Io.KnownBytes.{Appends};
+ghost use Rattle.vfs_lines.specs.Lines.{IsFault};
+
+use crate::answer::answer_line;
+use crate::error::RunError;
+use crate::line::Line;
+use std::alloc::{AllocError, Global};
+use std::io;
+use std::io::ErrorKind;
+use vfs_files::FileSystem;
+use vfs_segments::{Reader, Writer};
+use vfs_server::server::Server;
+
+/// All bytes of an input.
+pub fn read_all<R: io::Read>(alloc: Global, input: &mut R) -> Result<Vec<u8>, RunError>
+    ensures read { IfSome (R.remaining input.old) (λ text. IfOk result (λ v. v.items ≡ text)) }
+    ensures fault { IfErr result (λ e. IsFault e) }
+{
+    let mut text = Vec::new(alloc);
+    match input.read_to_end(&mut text) {
+        Ok(_) => Ok(text),
+        Err(e) if e.kind() == ErrorKind::OutOfMemory => Err(RunError::OutOfMemory),
+        Err(_) => Err(RunError::Io),
+    }
+}
+
+/// Writes a text to an output, all of it or up to a fault.
+pub fn write_all<W: io::Write>(output: &mut W, text: &str) -> Result<(), RunError>
+    ensures wrote { OnOk result (Appends (W.contents output.old) (W.contents output.new) text.now) }
+    ensures fault { IfErr result (λ e. e ≡ RunError.Io) }
+{
+    match output.write_all(text.as_bytes()) {
+        Ok(()) => Ok(()),
+        Err(_) => Err(RunError::Io),
+    }
+}
+
+/// The server's answer to a request, as a line with its newline:
+///
+/// - `ok 0`, or `ok N HEX` with the N bytes of the reply,
+/// - `err EncodeMessage HEX` with the whole room, which the reply did not fit into, and without
+///   the bytes where there is no room,
+/// - `err InvalidXattrSize S L` with the two sizes,
+/// - `err NAME` of any other error of the server.
+///
+/// The rooms have zeros in them before the request.
+pub fn answer_to<F: FileSystem>(
+    alloc: Global,
+    server: &mut Server<F>,
+    request: &Line,
+) -> Result<String, RunError>
+    ensures memory { IfErr result (λ e. e ≡ RunError.OutOfMemory) }
+{
+    let slices = slices_of(alloc, &request.segments)?;
+    let Ok(reader) = Reader::new(alloc, &slices) else {
+        return Err(RunError::OutOfMemory);
+    };
+    let rooms = empty_rooms(alloc, &request.rooms)?;
+    let Ok(mut writer) = Writer::new(alloc, rooms) else {
+        return Err(RunError::OutOfMemory);
+    };
+    let outcome = server.handle_message(alloc, reader, &mut writer);
+    Ok(answer_line(alloc, &outcome, &writer.into_segments())?)
+}
+
+// The segments of a request as slices.
+fn slices_of(alloc: Global, segments: &[Vec<u8>]) -> Result<Vec<&[u8]>, AllocError> {
+    let mut slices = Vec::new(alloc);
+    for segment in segments {
+        slices.push(segment.as_slice())?;
+    }
+    Ok(slices)
+}
+
+// Rooms of these lengths, with zeros in them.
+fn empty_rooms(alloc: Global, lengths: &[usize]) -> Result<Vec<Vec<u8>>, AllocError> {
+    let mut rooms = Vec::new(alloc);
+    for length in lengths {
+        rooms.push(vec![in alloc; 0u8; *length]?)?;
+    }
+    Ok(rooms)
+}

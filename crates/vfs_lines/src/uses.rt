@@ -1,0 +1,38 @@
+//! What callers know of lines by the contracts alone, as examples.
+
+ghost use Rattle.std.specs.Prelude.{◌≡◌, [], ◌∷◌, Some, None, IfOk};
+ghost use Rattle.vfs_lines.specs.Lines.{request_option};
+
+use crate::error::{RunError, exit_status};
+use crate::line::{Line, parse_line};
+use std::alloc::Global;
+
+/// Two rooms of 1 and 20 bytes, and a request of two segments, the second without a byte.
+#[tactic(auto, unfolding(hex::specs::Hex::decode_pairs))]
+pub fn rooms_stand_before_segments(alloc: Global) -> Result<Option<Line>, RunError>
+    ensures { IfOk result (λ parsed. request_option parsed ≡
+        Some (record { rooms = 1 ∷ 20 ∷ []; segments = (171 ∷ 12 ∷ []) ∷ [] ∷ [] })) }
+{
+    parse_line(alloc, b"1+20 aB0c+")
+}
+
+/// A line without a space asks nothing.
+pub fn a_line_has_a_space(alloc: Global) -> Result<Option<Line>, RunError>
+    ensures { IfOk result (λ parsed. request_option parsed ≡ None) }
+{
+    parse_line(alloc, b"16")
+}
+
+/// The rooms of a line may not have more than 2,097,152 bytes together.
+pub fn rooms_have_a_limit_together(alloc: Global) -> Result<Option<Line>, RunError>
+    ensures { IfOk result (λ parsed. request_option parsed ≡ None) }
+{
+    parse_line(alloc, b"1000000+1097153 00")
+}
+
+/// The status after a bad line, whatever its number.
+pub fn a_bad_line_has_its_status(number: usize) -> u8
+    ensures { result ≡ 2 }
+{
+    exit_status(&Err(RunError::BadLine(number)))
+}

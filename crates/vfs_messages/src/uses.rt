@@ -1,0 +1,72 @@
+//! Small callers of this crate, as examples. What each ensures follows from the contracts of what it
+//! calls, and from nothing else.
+
+ghost use Rattle.std.specs.Prelude.{◌≡◌, ◌<◌, ◌≤◌, ◌^◌, ◌++◌, ℕ, List, length, drop, Ok, Err, Some};
+ghost use Rattle.vfs_flags.specs.Opcode.{opcode_of};
+ghost use Rattle.vfs_flags.specs.declared.opcode.Opcode.{Opcode};
+ghost use Rattle.vfs_segments.specs.Written.{whole};
+ghost use Rattle.vfs_messages.specs.Laws.{header_of, WantsMemory};
+ghost use Rattle.vfs_messages.specs.Turn.{Turn, IsTurn};
+ghost use Rattle.vfs_messages.specs.Uses.{not_served_reply, ten_of_done_reply};
+ghost use Rattle.vfs_messages.specs.declared.error.Error.{Error};
+ghost use Rattle.vfs_messages.specs.declared.limits.Limits.{Limits};
+
+use crate::error::Result;
+use crate::laws::replies_begin_with_their_header;
+use crate::reply::{reply_error, reply_ok};
+use crate::request::{read_record, read_tail};
+use std::alloc::Global;
+use vfs_flags::Errno;
+use vfs_segments::{Reader, Writer};
+use vfs_wire::{GetattrIn, InHeader};
+
+/// Says to request 9 that it is not served. Sixteen bytes are put into the room; those behind them, and
+/// those that the writer had passed, are as they were.
+pub fn say_not_served(w: &mut Writer) -> Result<usize>
+    requires { 16 ≤ length w.old.left }
+    ensures outcome { result ≡ Ok 16 }
+    ensures bytes { whole w.new ≡ w.old.passed ++ (not_served_reply ++ drop 16 w.old.left) }
+{
+    reply_error(Some(Errno::ENOSYS), 9, w)
+}
+
+/// Says to request 9 that it was done, in a room of ten bytes: they hold the beginning of the reply.
+pub fn say_done_in_ten_bytes(w: &mut Writer) -> Result<usize>
+    requires { length w.old.left ≡ 10 }
+    ensures outcome { result ≡ Err Error.EncodeMessage }
+    ensures bytes { whole w.new ≡ w.old.passed ++ ten_of_done_reply }
+{
+    reply_ok::<u8>(None, &[], 9, w)
+}
+
+/// Reads the tail of a request whose `len` is less than its header: it is refused before a byte is
+/// looked for, and before memory is asked for.
+pub fn tail_of_a_short_len(alloc: Global, header: &InHeader, r: &mut Reader<'_>) -> Result<Vec<u8>>
+    requires { header.now.len < 40 }
+    ensures { result ≡ Err Error.InvalidHeaderLength }
+{
+    read_tail(alloc, header, 0, r)
+}
+
+/// Reads the record of a GETATTR from fifteen bytes, one too few.
+pub fn getattr_of_fifteen_bytes(r: &mut Reader<'_>) -> Result<GetattrIn>
+    requires { length r.old.left ≡ 15 }
+    ensures { result ≡ Err Error.DecodeMessage }
+{
+    read_record::<GetattrIn>(r)
+}
+
+/// Memory is never wanted for a GETATTR, whatever its bytes and its room: it has no tail.
+pub fn getattr_wants_no_memory()
+    ensures { (limits : Limits) (options room : ℕ) (request : List ℕ) →
+        opcode_of (header_of request).opcode ≡ Some Opcode.Getattr →
+        ¬ (WantsMemory limits options room request) }
+{}
+
+/// The largest answer is one that the `len` of a reply's header can say.
+pub fn lengths_fit_their_field()
+    ensures { (limits : Limits) (options after n : ℕ) (t : Turn) → IsTurn limits options t after →
+        t.outcome ≡ Ok n → 0 < n → n < 2 ^ 32 }
+{
+    replies_begin_with_their_header();
+}

@@ -1,0 +1,38 @@
+//! A server over a scripted file system, which shows the calls that it makes: for tests alone.
+//!
+//! Standard input has lines of three forms, and standard output gets the answers:
+//!
+//! - A request, in the form of `vfs_demo`. Its answer is written as there, and below it the calls
+//!   that it was turned into, each line with two spaces before it.
+//! - `answer N`, `answer fault N` or `answer fault none`: what the next call is answered, in place
+//!   of what the file system's rules say (`told`).
+//! - A line that begins with `#` is passed over.
+//!
+//! What each call is answered else is a function of its caller's process (`script`), so that any
+//! request can be made to meet any answer, and another implementation of the protocol with the same
+//! file system must write the same lines. The program takes no arguments and opens no file.
+#![tactic(auto)]
+
+mod notes;
+mod rules;
+mod run;
+mod script;
+mod told;
+
+use std::io;
+use std::process::ExitCode;
+use vfs_lines::{RunError, exit_status};
+
+fn main(rt: HostRuntime) -> ExitCode {
+    let outcome = run::run(rt.alloc(), &mut rt.stdin(), &mut rt.stdout());
+    let _ = report(&rt, &outcome);
+    ExitCode::from(exit_status(&outcome))
+}
+
+// Says an error that the answers do not say, where it can still be printed.
+fn report(rt: &impl Print, outcome: &Result<(), RunError>) -> io::Result<()> {
+    match outcome {
+        Err(RunError::BadLine(_)) | Ok(()) => Ok(()),
+        Err(error) => println!(rt; "{error}"),
+    }
+}

@@ -1,0 +1,165 @@
+//! The notes of the calls, as text.
+
+use std::alloc::{AllocError, Global};
+use vfs_files::{Context, Extensions};
+use vfs_flags::Fault;
+
+/// Lines, each with two spaces before it.
+///
+/// A call begins a line, its arguments go on with it, each as ` NAME=VALUE`, and `end` ends it; an
+/// answer likewise.
+#[derive(Drop)]
+pub struct Notes {
+    alloc: Global,
+    text: String,
+    lacks: bool,
+}
+
+impl Notes {
+    /// No lines.
+    pub fn new(alloc: Global) -> Notes {
+        Notes {
+            alloc,
+            text: String::new(alloc),
+            lacks: false,
+        }
+    }
+
+    /// All lines so far, each with its newline.
+    pub fn text(&self) -> &str {
+        self.text.as_str()
+    }
+
+    /// Whether something was lost, since there was no memory for it.
+    pub fn lacks(&self) -> bool {
+        self.lacks
+    }
+
+    /// Begins the line of a call that has no caller.
+    pub fn call(&mut self, name: &str) {
+        let noted = write!(self.text, "  call {name}");
+        self.keep(noted);
+    }
+
+    /// Begins the line of a call, with its caller's user, group and process. The process is shown
+    /// without a sign, as the request's header has it.
+    pub fn call_by(&mut self, name: &str, ctx: &Context) {
+        self.call(name);
+        let uid = ctx.uid.into_inner();
+        let gid = ctx.gid.into_inner();
+        let pid = ctx.pid.cast_unsigned();
+        let noted = write!(self.text, " ctx={uid},{gid},{pid}");
+        self.keep(noted);
+    }
+
+    /// An argument or a part of an answer that is a word.
+    pub fn word(&mut self, name: &str, value: &str) {
+        let noted = write!(self.text, " {name}={value}");
+        self.keep(noted);
+    }
+
+    /// One that is a number.
+    pub fn number(&mut self, name: &str, value: u64) {
+        let noted = write!(self.text, " {name}={value}");
+        self.keep(noted);
+    }
+
+    /// One that is a set of bits, in hex.
+    pub fn bits(&mut self, name: &str, value: u64) {
+        let noted = write!(self.text, " {name}=0x{value:x}");
+        self.keep(noted);
+    }
+
+    /// A number that need not be there.
+    pub fn option(&mut self, name: &str, value: Option<u64>) {
+        match value {
+            Some(number) => self.number(name, number),
+            None => self.word(name, "none"),
+        }
+    }
+
+    /// One that is true or false.
+    pub fn truth(&mut self, name: &str, value: bool) {
+        self.word(name, if value { "true" } else { "false" });
+    }
+
+    /// Bytes, in hex.
+    pub fn bytes(&mut self, name: &str, value: &[u8]) {
+        self.word(name, "");
+        self.hex(value);
+    }
+
+    /// Pairs of a node and a count, joined by commas.
+    pub fn pairs(&mut self, name: &str, value: &[(u64, u64)]) {
+        self.word(name, "");
+        let mut between = "";
+        for (node, count) in value {
+            let noted = write!(self.text, "{between}{node}:{count}");
+            self.keep(noted);
+            between = ",";
+        }
+    }
+
+    /// The extensions of a request: the name and the value of its security context, and its group.
+    pub fn extensions(&mut self, ext: &Extensions) {
+        match &ext.secctx {
+            Some(context) => {
+                self.bytes("secctx", context.name.as_c_str().to_bytes());
+                let noted = self.text.push(':');
+                self.keep(noted);
+                self.hex(&context.secctx);
+            }
+            None => self.word("secctx", "none"),
+        }
+        match ext.sup_gid {
+            Some(group) => self.number("group", u64::from(group.into_inner())),
+            None => self.word("group", "none"),
+        }
+    }
+
+    /// Ends a line.
+    pub fn end(&mut self) {
+        let noted = self.text.push('\n');
+        self.keep(noted);
+    }
+
+    /// Begins the line of an answer. The parts of one that is no fault go on with it.
+    pub fn answer<T>(&mut self, answer: &Result<T, Fault>) {
+        match answer {
+            Ok(_) => {
+                let noted = self.text.push_str("  -> ok");
+                self.keep(noted);
+            }
+            Err(fault) => self.fault(fault),
+        }
+    }
+
+    /// Begins the line of an answer that is a fault.
+    pub fn fault(&mut self, fault: &Fault) {
+        let noted = match fault {
+            Some(errno) => {
+                let number = errno.get();
+                write!(self.text, "  -> fault {number}")
+            }
+            None => self.text.push_str("  -> fault none"),
+        };
+        self.keep(noted);
+    }
+
+    // Appends bytes in hex.
+    fn hex(&mut self, value: &[u8]) {
+        match hex::encode(self.alloc, value) {
+            Ok(value) => {
+                let noted = self.text.push_str(value.as_str());
+                self.keep(noted);
+            }
+            Err(_) => self.lacks = true,
+        }
+    }
+
+    fn keep(&mut self, noted: Result<(), AllocError>) {
+        if noted.is_err() {
+            self.lacks = true;
+        }
+    }
+}

@@ -1,0 +1,98 @@
+//! A session: the lines of an input, answered one after another.
+
+use crate::script::ScriptFs;
+use crate::told::{Told, parse_told};
+use std::alloc::Global;
+use std::cell::RefCell;
+use std::collections::VecDeque;
+use std::io;
+use vfs_lines::{Line, RunError, answer_to, lines_of, parse_line, read_all, write_all};
+use vfs_server::server::Server;
+
+/// The page size of the server, in bytes.
+const PAGE_SIZE: u32 = 4096;
+
+/// What a line with an answer begins with.
+const ANSWER: &[u8] = b"answer ";
+
+/// What a line of the input says.
+#[derive(Drop)]
+enum Said {
+    /// A request and the rooms for its reply.
+    Request(Line),
+    /// The answer of a call that is still to come.
+    Answer(Told),
+    /// Nothing to do.
+    Comment,
+}
+
+/// Reads all of `input`, answers each line before the first bad one, and then writes the answers
+/// and the calls to `output`. For a bad line `bad line N` is written after them, where N counts all
+/// lines, and [`RunError::BadLine`] answered.
+pub fn run<R: io::Read, W: io::Write>(
+    alloc: Global,
+    input: &mut R,
+    output: &mut W,
+) -> Result<(), RunError> {
+    let text = read_all(alloc, input)?;
+    let mut answers = String::new(alloc);
+    let outcome = answer_all(alloc, &text, &mut answers);
+    write_all(output, answers.as_str())?;
+    outcome
+}
+
+// Answers each line of a text before the first bad one.
+fn answer_all(alloc: Global, text: &[u8], answers: &mut String) -> Result<(), RunError> {
+    let told = RefCell::new(VecDeque::new(alloc));
+    let mut server = Server::new(ScriptFs::new(alloc, &told), PAGE_SIZE);
+    let lines = lines_of(alloc, text)?;
+    for (index, line) in lines.iter().enumerate() {
+        match read_line(alloc, line)? {
+            Some(Said::Request(request)) => {
+                push_answer(alloc, &mut server, &request, answers)?;
+            }
+            Some(Said::Answer(answer)) => {
+                if let Ok(mut told) = told.try_borrow_mut() {
+                    told.push_back(answer)?;
+                }
+            }
+            Some(Said::Comment) => {}
+            None => {
+                let number = index + 1;
+                writeln!(answers, "bad line {number}")?;
+                return Err(RunError::BadLine(number));
+            }
+        }
+    }
+    Ok(())
+}
+
+// Reads a line, given without its newline. It is `None` where the line has none of the forms.
+fn read_line(alloc: Global, line: &[u8]) -> Result<Option<Said>, RunError> {
+    if line.starts_with(b"#") {
+        return Ok(Some(Said::Comment));
+    }
+    if let Some(told) = line.strip_prefix(ANSWER) {
+        return Ok(parse_told(told).map(Said::Answer));
+    }
+    Ok(parse_line(alloc, line)?.map(Said::Request))
+}
+
+// Appends the server's answer to a request, and the calls that it made.
+fn push_answer(
+    alloc: Global,
+    server: &mut Server<ScriptFs<'_>>,
+    request: &Line,
+    answers: &mut String,
+) -> Result<(), RunError> {
+    let noted = server.fs().notes().text().len();
+    answers.push_str(answer_to(alloc, server, request)?.as_str())?;
+    let notes = server.fs().notes();
+    if notes.lacks() {
+        return Err(RunError::OutOfMemory);
+    }
+    if let Some(new) = notes.text().get(noted..) {
+        answers.push_str(new)?;
+    }
+    Ok(())
+}

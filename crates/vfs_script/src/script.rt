@@ -1,0 +1,287 @@
+//! A file system whose answers are a function of a word, the process of the caller, and which notes
+//! each call and what it answered.
+//!
+//! The word is 0 at first. Each call with a caller sets it to the caller's process, and is answered
+//! by it; a call without one is answered by the word as it stands. Where the word's rest by 8 is 7
+//! the answer is a fault. Everything else goes by the word divided by 8, the *seed*; the module
+//! `rules` has the numbers:
+//!
+//! - `init`: by the seed's rest by 6 no option, all, or some that are known.
+//! - `lookup`: ENOENT for a name that begins with `x`, a fault without a number for one that begins
+//!   with `y`, whatever the word is, else the name's entry.
+//! - `symlink`, `mknod`, `mkdir`, `link`: the name's entry.
+//! - `create`: the name's entry, and what `open` answers.
+//! - `open`, `opendir`: a handle or none, and how to use it.
+//! - `getattr`: attributes; their t is the seed, the node's rest by 1000 and the handle's by 7.
+//! - `setattr`: the attributes that the record sets, 77 names where there is a handle and 1 else,
+//!   and the bits of `valid` as flags. All others are by the seed.
+//! - `readlink`: as many bytes as the seed's rest by 300.
+//! - `getxattr`, `listxattr`: the seed as a length where it is a multiple of 3, else as many bytes
+//!   as the rest by 500 of its third.
+//! - `statfs`: numbers by the seed.
+//! - `lseek`: the offset where the seed is even, else the seed.
+//! - `copyfilerange`: the length, at most the seed.
+//! - `tmpfile`: ENOSYS.
+//! - All others: that it is done.
+//!
+//! An answer that the input tells goes before all this.
+
+ghost use Rattle.std.specs.Prelude.{◌≤◌, IfOk, IfSome, vec_len};
+
+use crate::notes::Notes;
+use crate::rules::{attr, bytes, entry, fault_of, handle, open_options, time, wanted_bits};
+use crate::told::{Told, bare_entry};
+use bitflags::Flags;
+use std::alloc::Global;
+use std::cell::RefCell;
+use std::collections::VecDeque;
+use std::time::Duration;
+use vfs_files::{Context, Entry};
+use vfs_flags::{Errno, Fault, FsOptions, OpenOptions};
+use vfs_wire::{Attr, SetattrIn};
+
+mod calls;
+
+/// The file system.
+#[derive(Drop)]
+pub struct ScriptFs<'a> {
+    alloc: Global,
+    word: u32,
+    told: &'a RefCell<VecDeque<Told>>,
+    notes: Notes,
+}
+
+impl<'a> ScriptFs<'a> {
+    /// A file system with the word 0 and no notes, which takes the answers that it is told from
+    /// `told`.
+    pub fn new(alloc: Global, told: &'a RefCell<VecDeque<Told>>) -> ScriptFs<'a> {
+        ScriptFs {
+            alloc,
+            word: 0,
+            told,
+            notes: Notes::new(alloc),
+        }
+    }
+
+    /// The notes of all calls so far.
+    pub fn notes(&self) -> &Notes {
+        &self.notes
+    }
+
+    // Begins the note of a call, and takes its word.
+    fn called_by(&mut self, call: &str, ctx: &Context) {
+        self.notes.call_by(call, ctx);
+        self.word = ctx.pid.cast_unsigned();
+    }
+
+    // The answer that is told for this call, if one is.
+    fn next_told(&self) -> Option<Told> {
+        match self.told.try_borrow_mut() {
+            Ok(mut told) => told.pop_front(),
+            Err(_) => None,
+        }
+    }
+
+    // What the answer hangs on, or the fault that is the answer.
+    fn seed(&self) -> Result<u32, Fault> {
+        let seed = self.word / 8;
+        if self.word % 8 == 7 {
+            Err(fault_of(seed % 160))
+        } else {
+            Ok(seed)
+        }
+    }
+
+    // The seed, or what the input tells in its place.
+    fn seed_or_told(&self) -> Result<u32, Fault> {
+        match self.next_told() {
+            Some(told) => Ok((told.value()? % 4_294_967_296) as u32),
+            None => self.seed(),
+        }
+    }
+
+    // The options that are wanted.
+    fn wanted(&self) -> Result<FsOptions, Fault> {
+        let bits = match self.next_told() {
+            Some(told) => told.value()?,
+            None => wanted_bits(self.seed()?),
+        };
+        Ok(FsOptions::from_bits_truncate(bits))
+    }
+
+    // What LOOKUP finds.
+    fn found(&self, ctx: &Context, name: &[u8]) -> Result<Entry, Fault> {
+        if let Some(told) = self.next_told() {
+            return Ok(bare_entry(told.value()?));
+        }
+        match name.first() {
+            Some(b'x') => Err(Some(Errno::ENOENT)),
+            Some(b'y') => Err(None),
+            _ => Ok(entry(self.seed()?, ctx, name)),
+        }
+    }
+
+    // The entry of a node that is made or gets a name.
+    fn made(&self, ctx: &Context, name: &[u8]) -> Result<Entry, Fault> {
+        match self.next_told() {
+            Some(told) => Ok(bare_entry(told.value()?)),
+            None => Ok(entry(self.seed()?, ctx, name)),
+        }
+    }
+
+    // What is opened.
+    fn opened(&self) -> Result<(Option<u64>, OpenOptions), Fault> {
+        if let Some(told) = self.next_told() {
+            return Ok((Some(told.value()?), OpenOptions::empty()));
+        }
+        let seed = self.seed()?;
+        Ok((handle(seed), open_options(seed)))
+    }
+
+    // The node that is made, and what is opened of it.
+    fn created(
+        &self,
+        ctx: &Context,
+        name: &[u8],
+    ) -> Result<(Entry, Option<u64>, OpenOptions), Fault> {
+        if let Some(told) = self.next_told() {
+            return Ok((bare_entry(told.value()?), None, OpenOptions::empty()));
+        }
+        let seed = self.seed()?;
+        Ok((entry(seed, ctx, name), handle(seed), open_options(seed)))
+    }
+
+    // The attributes of a node.
+    fn attributes(
+        &self,
+        ctx: &Context,
+        inode: u64,
+        handle: Option<u64>,
+    ) -> Result<(Attr, Duration), Fault> {
+        let t = u64::from(self.seed_or_told()?) + inode % 1000 + handle.unwrap_or(0) % 7;
+        Ok((attr(t, inode, ctx), time(t)))
+    }
+
+    // The attributes of a node, where those of the record are set.
+    fn changed(
+        &self,
+        ctx: &Context,
+        inode: u64,
+        set: &SetattrIn,
+        nlink: u32,
+        flags: u32,
+    ) -> Result<(Attr, Duration), Fault> {
+        let t = u64::from(self.seed_or_told()?);
+        let attr = Attr {
+            size: set.size,
+            atime: set.atime,
+            mtime: set.mtime,
+            ctime: set.ctime,
+            atimensec: set.atimensec,
+            mtimensec: set.mtimensec,
+            ctimensec: set.ctimensec,
+            mode: set.mode,
+            uid: set.uid,
+            gid: set.gid,
+            nlink,
+            flags,
+            ..attr(t, inode, ctx)
+        };
+        Ok((attr, time(t)))
+    }
+
+    // The text of a link.
+    fn text(&self) -> Result<Vec<u8>, Fault>
+        ensures { IfOk result (λ text. vec_len text ≤ 500) }
+    {
+        let seed = self.seed_or_told()?;
+        bytes(self.alloc, seed, seed % 300)
+    }
+
+    // The bytes of extended attributes, or their length where there is to be no more.
+    fn attribute(&self) -> Result<(Option<Vec<u8>>, u32), Fault>
+        ensures { IfOk result (λ found. IfSome found.0 (λ text. vec_len text ≤ 500)) }
+    {
+        let seed = self.seed_or_told()?;
+        if seed % 3 == 0 {
+            Ok((None, seed))
+        } else {
+            Ok((Some(bytes(self.alloc, seed, seed / 3 % 500)?), seed))
+        }
+    }
+
+    // The fault of a call that always fails.
+    fn refusal(&self) -> Fault {
+        match self.seed_or_told() {
+            Ok(_) => Some(Errno::ENOSYS),
+            Err(fault) => fault,
+        }
+    }
+
+    // Ends the note of a call that answers only whether it is done, and notes the answer.
+    fn done(&mut self) -> Result<(), Fault> {
+        self.notes.end();
+        let answer = match self.seed_or_told() {
+            Ok(_) => Ok(()),
+            Err(fault) => Err(fault),
+        };
+        self.note_plain(&answer);
+        answer
+    }
+
+    // Notes a call that is told nothing, and its answer.
+    fn done_untold(&mut self, call: &str) -> Result<(), Fault> {
+        self.notes.call(call);
+        self.done()
+    }
+
+    // Ends the note of a call that makes a node, and notes the answer.
+    fn done_entry(&mut self, ctx: &Context, name: &[u8]) -> Result<Entry, Fault> {
+        self.notes.end();
+        let answer = self.made(ctx, name);
+        self.note_entry(&answer);
+        answer
+    }
+
+    // Ends the note of a call that opens something, and notes the answer.
+    fn done_opening(&mut self) -> Result<(Option<u64>, OpenOptions), Fault> {
+        self.notes.end();
+        let answer = self.opened();
+        self.notes.answer(&answer);
+        if let Ok((handle, options)) = &answer {
+            self.note_opening(*handle, *options);
+        }
+        self.notes.end();
+        answer
+    }
+
+    // Notes a handle and how to use it.
+    fn note_opening(&mut self, handle: Option<u64>, options: OpenOptions) {
+        self.notes.option("handle", handle);
+        self.notes.number("opts", u64::from(options.bits()));
+    }
+
+    // Notes an answer of which nothing is shown.
+    fn note_plain<T>(&mut self, answer: &Result<T, Fault>) {
+        self.notes.answer(answer);
+        self.notes.end();
+    }
+
+    // Notes an answer that is an entry.
+    fn note_entry(&mut self, answer: &Result<Entry, Fault>) {
+        self.notes.answer(answer);
+        if let Ok(entry) = answer {
+            self.notes.number("node", entry.inode);
+        }
+        self.notes.end();
+    }
+
+    // Notes an answer that is a number.
+    fn note_number<N: Copy + Into<u64>>(&mut self, name: &str, answer: &Result<N, Fault>) {
+        self.notes.answer(answer);
+        if let Ok(number) = answer {
+            self.notes.number(name, (*number).into());
+        }
+        self.notes.end();
+    }
+}

@@ -1,0 +1,17 @@
+-- The lengths of segments that are cut in two at a place.
+use Rattle.std.specs.Prelude.{ℕ, ◌-◌, ◌==◌, List, [], ◌∷◌, nat_lt, if◌then◌else◌}
+
+-- The lengths of the segments before a place, where one in which it lies ends there. Segments of no
+-- bytes that end at the place are among them.
+abbrev pub lengths_before : ℕ → List ℕ → List ℕ
+lengths_before at [] = []
+lengths_before at (n ∷ lengths) =
+    if nat_lt at n
+    then (if at == 0 then [] else (at ∷ []))
+    else (n ∷ lengths_before (at - n) lengths)
+
+-- the lengths of the segments from a place on, where one in which it lies begins there
+abbrev pub lengths_from : ℕ → List ℕ → List ℕ
+lengths_from at [] = []
+lengths_from at (n ∷ lengths) =
+    if nat_lt at n then ((n - at) ∷ lengths) else lengths_from (at - n) lengths

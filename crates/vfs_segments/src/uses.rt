@@ -1,0 +1,296 @@
+//! Examples of readers and writers. Each function makes a few calls and says what comes of them,
+//! proved by the calls' public contracts alone.
+
+ghost use Rattle.std.specs.Prelude.{◌≡◌, ◌+◌, ◌^◌, ◌<◌, ◌≤◌, ◌++◌, [], ◌∷◌, length, take, drop, IfOk, IfErr, OnOk, OnErr};
+ghost use Rattle.vfs_segments.specs.Answers.{AreAnswers, Available, Taken, Read, Count, Moved};
+ghost use Rattle.vfs_segments.specs.Segments.{contents, flat_bytes, lengths_of};
+ghost use Rattle.vfs_wire.specs.Fields.{bytes_of, lone_number, value_of};
+
+use crate::{Error, Reader, Result, Writer};
+use std::alloc::Global;
+use std::io;
+use std::io::{ErrorKind, Read, Write};
+
+/// A new reader of two segments has the bytes of both left, and has given none. It is refused where
+/// they are too many to count, and else only for want of memory.
+pub fn counts_of_a_new_reader(alloc: Global, first: &[u8], second: &[u8]) -> Result<(usize, usize)>
+    ensures left { IfOk result (λ counts. counts.0 ≡ length first.now + length second.now) }
+    ensures taken { IfOk result (λ counts. counts.1 ≡ 0) }
+    ensures too_long { 2 ^ 64 ≤ length first.now + length second.now →
+        result ≡ Err Error.DescriptorChainOverflow }
+    ensures fits { length first.now + length second.now < 2 ^ 64 →
+        IfErr result (λ e. e ≡ Error.OutOfMemory) }
+{
+    let segments = [first, second];
+    let reader = Reader::new(alloc, &segments)?;
+    Ok((reader.available_bytes(), reader.bytes_read()))
+}
+
+/// A reader of two segments gives the bytes of the first and then those of the second.
+pub fn read_over_two_segments(
+    alloc: Global,
+    first: &[u8],
+    second: &[u8],
+    buf: &mut [u8],
+) -> Result<()>
+    requires { length buf.old ≡ length first.now + length second.now }
+    ensures { OnOk result (buf.new ≡ first.now ++ second.now) }
+{
+    let segments = [first, second];
+    let mut reader = Reader::new(alloc, &segments)?;
+    reader.read_exact(buf).unwrap();
+    Ok(())
+}
+
+/// A read into six bytes where four are left moves these four. The rest of the buffer stays.
+pub fn read_of_what_is_left(reader: &mut Reader<'_>, buf: &mut [u8]) -> io::Result<usize>
+    requires left { length reader.old.left ≡ 4 }
+    requires room { length buf.old ≡ 6 }
+    ensures count { result ≡ Ok 4 }
+    ensures bytes { take 4 buf.new ≡ reader.old.left }
+    ensures kept { drop 4 buf.new ≡ drop 4 buf.old }
+    ensures none_left { reader.new.left ≡ [] }
+    ensures taken { reader.new.taken ≡ reader.old.taken + 4 }
+{
+    reader.read(buf)
+}
+
+/// A read into four bytes where six are left moves the first four of these.
+pub fn read_of_a_part(reader: &mut Reader<'_>, buf: &mut [u8]) -> io::Result<usize>
+    requires left { length reader.old.left ≡ 6 }
+    requires room { length buf.old ≡ 4 }
+    ensures count { result ≡ Ok 4 }
+    ensures bytes { buf.new ≡ take 4 reader.old.left }
+    ensures two_left { length reader.new.left ≡ 2 }
+{
+    reader.read(buf)
+}
+
+/// Where a buffer is to be filled and too few bytes are left, the error's kind is `UnexpectedEof`,
+/// and they are taken.
+pub fn kind_of_a_short_read(reader: &mut Reader<'_>, buf: &mut [u8]) -> Option<ErrorKind>
+    requires { length reader.old.left < length buf.old }
+    ensures kind { result ≡ Some ErrorKind.UnexpectedEof }
+    ensures none_left { reader.new.left ≡ [] }
+    ensures all_taken { reader.new.taken ≡ reader.old.taken + length reader.old.left }
+{
+    match reader.read_exact(buf) {
+        Ok(()) => None,
+        Err(e) => Some(e.kind()),
+    }
+}
+
+/// Where a number of four bytes is to be read and fewer are left, the error's kind is
+/// `UnexpectedEof`, and they are taken.
+pub fn kind_of_a_short_record(reader: &mut Reader<'_>) -> Option<ErrorKind>
+    requires { length reader.old.left < 4 }
+    ensures kind { result ≡ Some ErrorKind.UnexpectedEof }
+    ensures none_left { reader.new.left ≡ [] }
+    ensures all_taken { reader.new.taken ≡ reader.old.taken + length reader.old.left }
+{
+    match reader.read_obj::<u32>() {
+        Ok(_) => None,
+        Err(e) => Some(e.kind()),
+    }
+}
+
+/// A number of four bytes, where they are left.
+pub fn number_of_four_bytes(reader: &mut Reader<'_>) -> u32
+    requires { 4 ≤ length reader.old.left }
+    ensures value { result ≡ value_of (lone_number 4) reader.old.left }
+    ensures left { reader.new.left ≡ drop 4 reader.old.left }
+{
+    reader.read_obj().unwrap()
+}
+
+/// A reader that has eight bytes left is cut after three: it keeps these and its count, and the rest
+/// begins anew. Only memory can be wanting, and then the reader is as it was.
+pub fn split_after_three_bytes<'a>(reader: &mut Reader<'a>) -> Result<Reader<'a>>
+    requires { length reader.old.left ≡ 8 }
+    ensures first { OnOk result (reader.new.left ≡ take 3 reader.old.left) }
+    ensures count { OnOk result (reader.new.taken ≡ reader.old.taken) }
+    ensures rest { IfOk result (λ rest. rest.left ≡ drop 3 reader.old.left) }
+    ensures anew { IfOk result (λ rest. rest.taken ≡ 0) }
+    ensures err { IfErr result (λ e. e ≡ Error.OutOfMemory) }
+    ensures same { OnErr result (reader.new ≡ reader.old) }
+{
+    reader.split_at(3)
+}
+
+/// A split past what is left is refused by its place, and the reader is as it was.
+pub fn refused_split(reader: &mut Reader<'_>) -> Option<Error>
+    requires { length reader.old.left ≡ 8 }
+    ensures refused { result ≡ Some (Error.SplitOutOfBounds 9) }
+    ensures same { reader.new ≡ reader.old }
+{
+    reader.split_at(9).err()
+}
+
+/// What a clone reads the reader still has.
+pub fn read_by_a_clone(reader: &Reader<'_>, buf: &mut [u8]) -> Result<usize>
+    requires { length buf.old ≤ length reader.now.left }
+    ensures bytes { OnOk result (buf.new ≡ take (length buf.old) reader.now.left) }
+    ensures left { IfOk result (λ n. n ≡ length reader.now.left) }
+{
+    let mut clone = reader.clone()?;
+    clone.read_exact(buf).unwrap();
+    Ok(reader.available_bytes())
+}
+
+/// Three calls of a reader, and what it answers, in the words of the law that readers of equal flat
+/// bytes answer alike.
+pub fn three_answers(reader: &mut Reader<'_>, buf: &mut [u8]) -> io::Result<(usize, usize, usize)>
+    ensures { IfOk result (λ counts. AreAnswers reader.old
+        (Available ∷ Read buf.old ∷ Taken ∷ [])
+        (Count counts.0 ∷ Moved counts.1 buf.new ∷ Count counts.2 ∷ []) reader.new) }
+{
+    let left = reader.available_bytes();
+    let moved = reader.read(buf)?;
+    let taken = reader.bytes_read();
+    Ok((left, moved, taken))
+}
+
+/// A writer over no segments needs no memory, and has no room.
+pub fn writer_of_no_room(alloc: Global) -> Writer
+    ensures left { result.left ≡ [] }
+    ensures passed { result.passed ≡ [] }
+    ensures lengths { result.lengths ≡ [] }
+{
+    Writer::new(alloc, Vec::new(alloc)).unwrap()
+}
+
+/// A write of four bytes where three fit writes the first three.
+pub fn write_of_what_fits(writer: &mut Writer, bytes: &[u8]) -> io::Result<usize>
+    requires room { length writer.old.left ≡ 3 }
+    requires four { length bytes.now ≡ 4 }
+    ensures count { result ≡ Ok 3 }
+    ensures wrote { writer.new.passed ≡ writer.old.passed ++ take 3 bytes.now }
+    ensures full { writer.new.left ≡ [] }
+{
+    writer.write(bytes)
+}
+
+/// Of a room of twenty bytes sixteen are held and two written: two are left.
+pub fn counts_after_a_hold(writer: &mut Writer, bytes: &[u8]) -> (usize, usize, usize)
+    requires passed { writer.old.passed ≡ [] }
+    requires room { length writer.old.left ≡ 20 }
+    requires two { length bytes.now ≡ 2 }
+    ensures held { result.0 ≡ 16 }
+    ensures written { result.1 ≡ 18 }
+    ensures left { result.2 ≡ 2 }
+{
+    writer.hold(16).unwrap();
+    writer.write_all(bytes).unwrap();
+    (
+        writer.held(),
+        writer.bytes_written(),
+        writer.available_bytes(),
+    )
+}
+
+/// Where bytes don't fit, the error's kind is `WriteZero`, and those that fit are written.
+pub fn kind_of_a_long_write(writer: &mut Writer, bytes: &[u8]) -> Option<ErrorKind>
+    requires { length writer.old.left < length bytes.now }
+    ensures kind { result ≡ Some ErrorKind.WriteZero }
+    ensures wrote { writer.new.passed ≡
+        writer.old.passed ++ take (length writer.old.left) bytes.now }
+    ensures full { writer.new.left ≡ [] }
+{
+    match writer.write_all(bytes) {
+        Ok(()) => None,
+        Err(e) => Some(e.kind()),
+    }
+}
+
+/// Where a number of four bytes doesn't fit into two, the error's kind is `WriteZero`, and its low
+/// two are written.
+pub fn kind_of_a_long_record(writer: &mut Writer, number: u32) -> Option<ErrorKind>
+    requires { length writer.old.left ≡ 2 }
+    ensures kind { result ≡ Some ErrorKind.WriteZero }
+    ensures wrote { writer.new.passed ≡
+        writer.old.passed ++ take 2 (bytes_of (lone_number 4) number) }
+{
+    match writer.write_obj(number) {
+        Ok(()) => None,
+        Err(e) => Some(e.kind()),
+    }
+}
+
+/// A header is put before a body that is written first. Nothing is held then.
+pub fn header_before_body(writer: &mut Writer, header: &[u8], body: &[u8])
+    requires { length header.now + length body.now ≤ length writer.old.left }
+    ensures wrote { writer.new.passed ≡ writer.old.passed ++ header.now ++ body.now }
+    ensures held { writer.new.held ≡ 0 }
+{
+    writer.hold(header.len()).unwrap();
+    writer.write_all(body).unwrap();
+    writer.fill_held(header);
+}
+
+/// A second hold takes the place of the first: the last two of five bytes are held.
+pub fn second_hold(writer: &mut Writer) -> usize
+    requires { length writer.old.left ≡ 5 }
+    ensures held { result ≡ 2 }
+    ensures place { writer.new.held_at ≡ length writer.old.passed + 3 }
+    ensures full { writer.new.left ≡ [] }
+{
+    writer.hold(3).unwrap();
+    writer.hold(2).unwrap();
+    writer.held()
+}
+
+/// A hold of more than is left is refused by its length, and the writer is as it was.
+pub fn refused_hold(writer: &mut Writer) -> Option<Error>
+    requires { length writer.old.left ≡ 5 }
+    ensures refused { result ≡ Some (Error.SplitOutOfBounds 6) }
+    ensures same { writer.new ≡ writer.old }
+{
+    writer.hold(6).err()
+}
+
+/// A new writer over two segments of four bytes is cut after six: its second segment has two bytes
+/// then, and the rest is one of two. Only memory can be wanting, and then the writer is as it was.
+pub fn split_inside_a_segment(writer: &mut Writer) -> Result<Writer>
+    requires passed { writer.old.passed ≡ [] }
+    requires left { length writer.old.left ≡ 8 }
+    requires lengths { writer.old.lengths ≡ 4 ∷ 4 ∷ [] }
+    ensures first { OnOk result (writer.new.lengths ≡ 4 ∷ 2 ∷ []) }
+    ensures rest { IfOk result (λ rest. rest.lengths ≡ 2 ∷ []) }
+    ensures first_bytes { OnOk result (writer.new.left ≡ take 6 writer.old.left) }
+    ensures rest_bytes { IfOk result (λ rest. rest.left ≡ drop 6 writer.old.left) }
+    ensures err { IfErr result (λ e. e ≡ Error.OutOfMemory) }
+    ensures same { OnErr result (writer.new ≡ writer.old) }
+{
+    writer.split_at(6)
+}
+
+/// A split past what is left is refused by its place, and the writer is as it was.
+pub fn refused_room_split(writer: &mut Writer) -> Option<Error>
+    requires { length writer.old.left ≡ 8 }
+    ensures refused { result ≡ Some (Error.SplitOutOfBounds 9) }
+    ensures same { writer.new ≡ writer.old }
+{
+    writer.split_at(9).err()
+}
+
+/// The segments that a writer gives back have the lengths of those that it was given, and what was
+/// written stands in place of the first bytes. Where they can be counted, only memory can be wanting.
+pub fn segments_with_what_was_written(
+    alloc: Global,
+    segments: Vec<Vec<u8>>,
+    bytes: &[u8],
+) -> Result<Vec<Vec<u8>>>
+    requires { length bytes.now ≤ length (flat_bytes (contents segments.items)) }
+    ensures lengths { IfOk result (λ written.
+        lengths_of (contents written.items) ≡ lengths_of (contents segments.items)) }
+    ensures bytes { IfOk result (λ written. flat_bytes (contents written.items) ≡
+        bytes.now ++ drop (length bytes.now) (flat_bytes (contents segments.items))) }
+    ensures too_long { 2 ^ 64 ≤ length (flat_bytes (contents segments.items)) →
+        result ≡ Err Error.DescriptorChainOverflow }
+    ensures fits { length (flat_bytes (contents segments.items)) < 2 ^ 64 →
+        IfErr result (λ e. e ≡ Error.OutOfMemory) }
+{
+    let mut writer = Writer::new(alloc, segments)?;
+    writer.write_all(bytes).unwrap();
+    Ok(writer.into_segments())
+}

@@ -1,0 +1,101 @@
+//! Small callers of the server, as examples. What each ensures follows from the contracts of what it
+//! calls, and from nothing else.
+
+ghost use Rattle.std.specs.Prelude.{◌≡◌, ◌≢◌, ◌≤◌, ◌++◌, length, take, drop, Err, Some, IfSome, OnSome};
+ghost use Rattle.vfs_flags.specs.Opcode.{opcode_of};
+ghost use Rattle.vfs_flags.specs.declared.opcode.Opcode.{Opcode};
+ghost use Rattle.vfs_segments.specs.Segments.{contents, flat_bytes};
+ghost use Rattle.vfs_segments.specs.Written.{whole};
+ghost use Rattle.vfs_messages.specs.Laws.{header_of};
+ghost use Rattle.vfs_messages.specs.Uses.{not_served_reply};
+ghost use Rattle.vfs_messages.specs.declared.error.Error.TheVariants.{OutOfMemory};
+ghost use Rattle.vfs_server.specs.Uses.{statfs_reply};
+
+use crate::server::Server;
+use std::alloc::Global;
+use vfs_files::{FileSystem, Unserved};
+use vfs_messages::{Result, laws};
+use vfs_segments::{Reader, Writer};
+
+/// Request 9, STATFS of node 1: a header alone, of 40 bytes.
+const STATFS: [u8; 40] = [
+    40, 0, 0, 0, 17, 0, 0, 0, 9, 0, 0, 0, 0, 0, 0, 0, 1, 0, 0, 0, 0, 0, 0, 0, 0, 0, 0, 0, 0, 0, 0,
+    0, 0, 0, 0, 0, 0, 0, 0, 0,
+];
+
+/// Makes a server over a file system that serves nothing, asks it how much it holds, and gives back
+/// the room of ninety-six bytes with the reply in it. `None` where there is no memory.
+pub fn ask_statfs(alloc: Global) -> Option<Vec<Vec<u8>>>
+    ensures { IfSome result (λ rooms. flat_bytes (contents rooms.items) ≡ statfs_reply) }
+{
+    let mut server = Server::new(Unserved {}, 4096);
+
+    let request = [STATFS.as_slice()];
+    let reader = Reader::new(alloc, &request).ok()?;
+
+    let room = vec![in alloc; 0u8; 96].ok()?;
+    let mut writer = Writer::new(alloc, vec![in alloc; room].ok()?).ok()?;
+
+    server.handle_message(alloc, reader, &mut writer).ok()?;
+    Some(writer.into_segments())
+}
+
+/// Request 9 of opcode 7, which is none: a header alone, of 40 bytes.
+const UNKNOWN: [u8; 40] = [
+    40, 0, 0, 0, 7, 0, 0, 0, 9, 0, 0, 0, 0, 0, 0, 0, 1, 0, 0, 0, 0, 0, 0, 0, 0, 0, 0, 0, 0, 0, 0,
+    0, 0, 0, 0, 0, 0, 0, 0, 0,
+];
+
+/// Hands over a request of an unknown opcode. The sixteen bytes that say ENOSYS stand at the front of
+/// the room, and all other bytes are as they were; nothing is held; the file system wasn't called, and
+/// the options stay. `None` where there is no memory for the reader.
+pub fn unknown_opcode<F: FileSystem>(
+    alloc: Global,
+    server: &mut Server<F>,
+    w: &mut Writer,
+) -> Option<usize>
+    requires { 16 ≤ length w.old.left }
+    ensures outcome { IfSome result (λ n. n ≡ 16) }
+    ensures bytes { OnSome result
+        (whole w.new ≡ w.old.passed ++ (not_served_reply ++ drop 16 w.old.left)) }
+    ensures held { OnSome result (w.new.held ≡ 0) }
+    ensures state { OnSome result (server.new.fs ≡ server.old.fs) }
+    ensures options { OnSome result (server.new.options ≡ server.old.options) }
+{
+    let segments = [UNKNOWN.as_slice()];
+    let Ok(reader) = Reader::new(alloc, &segments) else {
+        return None;
+    };
+    server.handle_message(alloc, reader, w).ok()
+}
+
+/// The same, by a caller that holds the first sixteen bytes of its room for itself: they stay as they
+/// were, the reply stands behind them, and nothing is held any more.
+pub fn behind_a_hold<F: FileSystem>(
+    alloc: Global,
+    server: &mut Server<F>,
+    w: &mut Writer,
+) -> Option<usize>
+    requires { 32 ≤ length w.old.left }
+    ensures bytes { OnSome result
+        (whole w.new ≡ (w.old.passed ++ take 16 w.old.left) ++ (not_served_reply ++ drop 32 w.old.left)) }
+    ensures held { OnSome result (w.new.held ≡ 0) }
+{
+    w.hold(16).ok()?;
+    unknown_opcode(alloc, server, w)
+}
+
+/// Hands over a GETATTR, which has no tail: whatever its bytes, the room and the cutting, it is never
+/// told that memory is wanted.
+pub fn getattr_lacks_no_memory<F: FileSystem>(
+    alloc: Global,
+    server: &mut Server<F>,
+    r: Reader<'_>,
+    w: &mut Writer,
+) -> Result<usize>
+    requires { opcode_of (header_of r.left).opcode ≡ Some Opcode.Getattr }
+    ensures { result ≢ Err OutOfMemory }
+{
+    laws::memory_is_wanted_for_whole_tails();
+    server.handle_message(alloc, r, w)
+}

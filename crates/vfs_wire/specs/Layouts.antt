@@ -1,0 +1,441 @@
+-- The records as a compiler lays them out: what the bytes 1, 2, 3, .. of each say, field by field.
+use Rattle.std.specs.Prelude.{◌≡◌, ℕ, zero, suc, pos, List, [], ◌∷◌}
+use Rattle.vfs_wire.specs.Fields.{Table, bytes_of, value_of}
+use Rattle.vfs_wire.specs.Headers.{in_header, out_header}
+use Rattle.vfs_wire.specs.Init.{init_in_compat, init_in_ext, init_out}
+use Rattle.vfs_wire.specs.Attributes.{attr, getattr_in, attr_out, setattr_in}
+use Rattle.vfs_wire.specs.Entries.{entry_out, forget_in, forget_one, batch_forget_in}
+use Rattle.vfs_wire.specs.Names.{mknod_in, mkdir_in, rename_in, rename2_in, link_in, create_in, access_in}
+use Rattle.vfs_wire.specs.Files.{open_in, open_out, release_in, flush_in, read_in, write_in, write_out, fsync_in}
+use Rattle.vfs_wire.specs.Ranges.{lseek_in, lseek_out, copyfilerange_in, fallocate_in}
+use Rattle.vfs_wire.specs.Listings.{dirent, kstatfs}
+use Rattle.vfs_wire.specs.Xattrs.{setxattr_in, setxattr_in_compat, getxattr_in, getxattr_out}
+use Rattle.vfs_wire.specs.Extensions.{ext_header, secctx, supp_groups}
+
+-- n bytes that count up from i
+abbrev pub counting : ℕ → ℕ → List ℕ
+counting i zero = []
+counting i (suc n) = i ∷ counting (suc i) n
+
+-- a record of so many bytes: this is the value of the bytes 1, 2, 3, .., and these are its bytes
+abbrev pub LiesAs : {R : Type 0} → Table R → ℕ → R → Type 0
+LiesAs t n x = (value_of t (counting 1 n) ≡ x) × (bytes_of t x ≡ counting 1 n)
+
+-- the 40 bytes of InHeader
+abbrev pub InHeaderLies : Type 0
+InHeaderLies = LiesAs in_header 40 (record {
+  len = 0x04030201;
+  opcode = 0x08070605;
+  unique = 0x100f0e0d0c0b0a09;
+  nodeid = 0x1817161514131211;
+  uid = 0x1c1b1a19;
+  gid = 0x201f1e1d;
+  pid = 0x24232221;
+  total_extlen = 0x2625;
+  padding = 0x2827;
+})
+
+-- the 16 bytes of OutHeader
+abbrev pub OutHeaderLies : Type 0
+OutHeaderLies = LiesAs out_header 16 (record {
+  len = 0x04030201;
+  error = pos 0x08070605;
+  unique = 0x100f0e0d0c0b0a09;
+})
+
+-- the 16 bytes of InitInCompat
+abbrev pub InitInCompatLies : Type 0
+InitInCompatLies = LiesAs init_in_compat 16 (record {
+  major = 0x04030201;
+  minor = 0x08070605;
+  max_readahead = 0x0c0b0a09;
+  flags = 0x100f0e0d;
+})
+
+-- the 48 bytes of InitInExt
+abbrev pub InitInExtLies : Type 0
+InitInExtLies = LiesAs init_in_ext 48 (record {
+  flags2 = 0x04030201;
+  unused = 0x08070605 ∷ 0x0c0b0a09 ∷ 0x100f0e0d ∷ 0x14131211 ∷ 0x18171615 ∷
+      0x1c1b1a19 ∷ 0x201f1e1d ∷ 0x24232221 ∷ 0x28272625 ∷ 0x2c2b2a29 ∷
+      0x302f2e2d ∷ [];
+})
+
+-- the 64 bytes of InitOut
+abbrev pub InitOutLies : Type 0
+InitOutLies = LiesAs init_out 64 (record {
+  major = 0x04030201;
+  minor = 0x08070605;
+  max_readahead = 0x0c0b0a09;
+  flags = 0x100f0e0d;
+  max_background = 0x1211;
+  congestion_threshold = 0x1413;
+  max_write = 0x18171615;
+  time_gran = 0x1c1b1a19;
+  max_pages = 0x1e1d;
+  map_alignment = 0x201f;
+  flags2 = 0x24232221;
+  unused = 0x28272625 ∷ 0x2c2b2a29 ∷ 0x302f2e2d ∷ 0x34333231 ∷ 0x38373635 ∷
+      0x3c3b3a39 ∷ 0x403f3e3d ∷ [];
+})
+
+-- the 88 bytes of Attr
+abbrev pub AttrLies : Type 0
+AttrLies = LiesAs attr 88 (record {
+  ino = 0x0807060504030201;
+  size = 0x100f0e0d0c0b0a09;
+  blocks = 0x1817161514131211;
+  atime = 0x201f1e1d1c1b1a19;
+  mtime = 0x2827262524232221;
+  ctime = 0x302f2e2d2c2b2a29;
+  atimensec = 0x34333231;
+  mtimensec = 0x38373635;
+  ctimensec = 0x3c3b3a39;
+  mode = 0x403f3e3d;
+  nlink = 0x44434241;
+  uid = 0x48474645;
+  gid = 0x4c4b4a49;
+  rdev = 0x504f4e4d;
+  blksize = 0x54535251;
+  flags = 0x58575655;
+})
+
+-- the 16 bytes of GetattrIn
+abbrev pub GetattrInLies : Type 0
+GetattrInLies = LiesAs getattr_in 16 (record {
+  flags = 0x04030201;
+  dummy = 0x08070605;
+  fh = 0x100f0e0d0c0b0a09;
+})
+
+-- the 104 bytes of AttrOut
+abbrev pub AttrOutLies : Type 0
+AttrOutLies = LiesAs attr_out 104 (record {
+  attr_valid = 0x0807060504030201;
+  attr_valid_nsec = 0x0c0b0a09;
+  dummy = 0x100f0e0d;
+  attr = record {
+    ino = 0x1817161514131211;
+    size = 0x201f1e1d1c1b1a19;
+    blocks = 0x2827262524232221;
+    atime = 0x302f2e2d2c2b2a29;
+    mtime = 0x3837363534333231;
+    ctime = 0x403f3e3d3c3b3a39;
+    atimensec = 0x44434241;
+    mtimensec = 0x48474645;
+    ctimensec = 0x4c4b4a49;
+    mode = 0x504f4e4d;
+    nlink = 0x54535251;
+    uid = 0x58575655;
+    gid = 0x5c5b5a59;
+    rdev = 0x605f5e5d;
+    blksize = 0x64636261;
+    flags = 0x68676665;
+  };
+})
+
+-- the 88 bytes of SetattrIn
+abbrev pub SetattrInLies : Type 0
+SetattrInLies = LiesAs setattr_in 88 (record {
+  valid = 0x04030201;
+  padding = 0x08070605;
+  fh = 0x100f0e0d0c0b0a09;
+  size = 0x1817161514131211;
+  lock_owner = 0x201f1e1d1c1b1a19;
+  atime = 0x2827262524232221;
+  mtime = 0x302f2e2d2c2b2a29;
+  ctime = 0x3837363534333231;
+  atimensec = 0x3c3b3a39;
+  mtimensec = 0x403f3e3d;
+  ctimensec = 0x44434241;
+  mode = 0x48474645;
+  unused4 = 0x4c4b4a49;
+  uid = 0x504f4e4d;
+  gid = 0x54535251;
+  unused5 = 0x58575655;
+})
+
+-- the 128 bytes of EntryOut
+abbrev pub EntryOutLies : Type 0
+EntryOutLies = LiesAs entry_out 128 (record {
+  nodeid = 0x0807060504030201;
+  generation = 0x100f0e0d0c0b0a09;
+  entry_valid = 0x1817161514131211;
+  attr_valid = 0x201f1e1d1c1b1a19;
+  entry_valid_nsec = 0x24232221;
+  attr_valid_nsec = 0x28272625;
+  attr = record {
+    ino = 0x302f2e2d2c2b2a29;
+    size = 0x3837363534333231;
+    blocks = 0x403f3e3d3c3b3a39;
+    atime = 0x4847464544434241;
+    mtime = 0x504f4e4d4c4b4a49;
+    ctime = 0x5857565554535251;
+    atimensec = 0x5c5b5a59;
+    mtimensec = 0x605f5e5d;
+    ctimensec = 0x64636261;
+    mode = 0x68676665;
+    nlink = 0x6c6b6a69;
+    uid = 0x706f6e6d;
+    gid = 0x74737271;
+    rdev = 0x78777675;
+    blksize = 0x7c7b7a79;
+    flags = 0x807f7e7d;
+  };
+})
+
+-- the 8 bytes of ForgetIn
+abbrev pub ForgetInLies : Type 0
+ForgetInLies = LiesAs forget_in 8 (record {
+  nlookup = 0x0807060504030201;
+})
+
+-- the 16 bytes of ForgetOne
+abbrev pub ForgetOneLies : Type 0
+ForgetOneLies = LiesAs forget_one 16 (record {
+  nodeid = 0x0807060504030201;
+  nlookup = 0x100f0e0d0c0b0a09;
+})
+
+-- the 8 bytes of BatchForgetIn
+abbrev pub BatchForgetInLies : Type 0
+BatchForgetInLies = LiesAs batch_forget_in 8 (record {
+  count = 0x04030201;
+  dummy = 0x08070605;
+})
+
+-- the 16 bytes of MknodIn
+abbrev pub MknodInLies : Type 0
+MknodInLies = LiesAs mknod_in 16 (record {
+  mode = 0x04030201;
+  rdev = 0x08070605;
+  umask = 0x0c0b0a09;
+  padding = 0x100f0e0d;
+})
+
+-- the 8 bytes of MkdirIn
+abbrev pub MkdirInLies : Type 0
+MkdirInLies = LiesAs mkdir_in 8 (record {
+  mode = 0x04030201;
+  umask = 0x08070605;
+})
+
+-- the 8 bytes of RenameIn
+abbrev pub RenameInLies : Type 0
+RenameInLies = LiesAs rename_in 8 (record {
+  newdir = 0x0807060504030201;
+})
+
+-- the 16 bytes of Rename2In
+abbrev pub Rename2InLies : Type 0
+Rename2InLies = LiesAs rename2_in 16 (record {
+  newdir = 0x0807060504030201;
+  flags = 0x0c0b0a09;
+  padding = 0x100f0e0d;
+})
+
+-- the 8 bytes of LinkIn
+abbrev pub LinkInLies : Type 0
+LinkInLies = LiesAs link_in 8 (record {
+  oldnodeid = 0x0807060504030201;
+})
+
+-- the 16 bytes of CreateIn
+abbrev pub CreateInLies : Type 0
+CreateInLies = LiesAs create_in 16 (record {
+  flags = 0x04030201;
+  mode = 0x08070605;
+  umask = 0x0c0b0a09;
+  open_flags = 0x100f0e0d;
+})
+
+-- the 8 bytes of AccessIn
+abbrev pub AccessInLies : Type 0
+AccessInLies = LiesAs access_in 8 (record {
+  mask = 0x04030201;
+  padding = 0x08070605;
+})
+
+-- the 8 bytes of OpenIn
+abbrev pub OpenInLies : Type 0
+OpenInLies = LiesAs open_in 8 (record {
+  flags = 0x04030201;
+  open_flags = 0x08070605;
+})
+
+-- the 16 bytes of OpenOut
+abbrev pub OpenOutLies : Type 0
+OpenOutLies = LiesAs open_out 16 (record {
+  fh = 0x0807060504030201;
+  open_flags = 0x0c0b0a09;
+  padding = 0x100f0e0d;
+})
+
+-- the 24 bytes of ReleaseIn
+abbrev pub ReleaseInLies : Type 0
+ReleaseInLies = LiesAs release_in 24 (record {
+  fh = 0x0807060504030201;
+  flags = 0x0c0b0a09;
+  release_flags = 0x100f0e0d;
+  lock_owner = 0x1817161514131211;
+})
+
+-- the 24 bytes of FlushIn
+abbrev pub FlushInLies : Type 0
+FlushInLies = LiesAs flush_in 24 (record {
+  fh = 0x0807060504030201;
+  unused = 0x0c0b0a09;
+  padding = 0x100f0e0d;
+  lock_owner = 0x1817161514131211;
+})
+
+-- the 40 bytes of ReadIn
+abbrev pub ReadInLies : Type 0
+ReadInLies = LiesAs read_in 40 (record {
+  fh = 0x0807060504030201;
+  offset = 0x100f0e0d0c0b0a09;
+  size = 0x14131211;
+  read_flags = 0x18171615;
+  lock_owner = 0x201f1e1d1c1b1a19;
+  flags = 0x24232221;
+  padding = 0x28272625;
+})
+
+-- the 40 bytes of WriteIn
+abbrev pub WriteInLies : Type 0
+WriteInLies = LiesAs write_in 40 (record {
+  fh = 0x0807060504030201;
+  offset = 0x100f0e0d0c0b0a09;
+  size = 0x14131211;
+  write_flags = 0x18171615;
+  lock_owner = 0x201f1e1d1c1b1a19;
+  flags = 0x24232221;
+  padding = 0x28272625;
+})
+
+-- the 8 bytes of WriteOut
+abbrev pub WriteOutLies : Type 0
+WriteOutLies = LiesAs write_out 8 (record {
+  size = 0x04030201;
+  padding = 0x08070605;
+})
+
+-- the 16 bytes of FsyncIn
+abbrev pub FsyncInLies : Type 0
+FsyncInLies = LiesAs fsync_in 16 (record {
+  fh = 0x0807060504030201;
+  fsync_flags = 0x0c0b0a09;
+  padding = 0x100f0e0d;
+})
+
+-- the 24 bytes of LseekIn
+abbrev pub LseekInLies : Type 0
+LseekInLies = LiesAs lseek_in 24 (record {
+  fh = 0x0807060504030201;
+  offset = 0x100f0e0d0c0b0a09;
+  whence = 0x14131211;
+  padding = 0x18171615;
+})
+
+-- the 8 bytes of LseekOut
+abbrev pub LseekOutLies : Type 0
+LseekOutLies = LiesAs lseek_out 8 (record {
+  offset = 0x0807060504030201;
+})
+
+-- the 56 bytes of CopyfilerangeIn
+abbrev pub CopyfilerangeInLies : Type 0
+CopyfilerangeInLies = LiesAs copyfilerange_in 56 (record {
+  fh_in = 0x0807060504030201;
+  off_in = 0x100f0e0d0c0b0a09;
+  nodeid_out = 0x1817161514131211;
+  fh_out = 0x201f1e1d1c1b1a19;
+  off_out = 0x2827262524232221;
+  len = 0x302f2e2d2c2b2a29;
+  flags = 0x3837363534333231;
+})
+
+-- the 32 bytes of FallocateIn
+abbrev pub FallocateInLies : Type 0
+FallocateInLies = LiesAs fallocate_in 32 (record {
+  fh = 0x0807060504030201;
+  offset = 0x100f0e0d0c0b0a09;
+  length = 0x1817161514131211;
+  mode = 0x1c1b1a19;
+  padding = 0x201f1e1d;
+})
+
+-- the 24 bytes of Dirent
+abbrev pub DirentLies : Type 0
+DirentLies = LiesAs dirent 24 (record {
+  ino = 0x0807060504030201;
+  off = 0x100f0e0d0c0b0a09;
+  namelen = 0x14131211;
+  type_ = 0x18171615;
+})
+
+-- the 80 bytes of Kstatfs
+abbrev pub KstatfsLies : Type 0
+KstatfsLies = LiesAs kstatfs 80 (record {
+  blocks = 0x0807060504030201;
+  bfree = 0x100f0e0d0c0b0a09;
+  bavail = 0x1817161514131211;
+  files = 0x201f1e1d1c1b1a19;
+  ffree = 0x2827262524232221;
+  bsize = 0x2c2b2a29;
+  namelen = 0x302f2e2d;
+  frsize = 0x34333231;
+  padding = 0x38373635;
+  spare = 0x3c3b3a39 ∷ 0x403f3e3d ∷ 0x44434241 ∷ 0x48474645 ∷ 0x4c4b4a49 ∷
+      0x504f4e4d ∷ [];
+})
+
+-- the 16 bytes of SetxattrIn
+abbrev pub SetxattrInLies : Type 0
+SetxattrInLies = LiesAs setxattr_in 16 (record {
+  size = 0x04030201;
+  flags = 0x08070605;
+  setxattr_flags = 0x0c0b0a09;
+  padding = 0x100f0e0d;
+})
+
+-- the 8 bytes of SetxattrInCompat
+abbrev pub SetxattrInCompatLies : Type 0
+SetxattrInCompatLies = LiesAs setxattr_in_compat 8 (record {
+  size = 0x04030201;
+  flags = 0x08070605;
+})
+
+-- the 8 bytes of GetxattrIn
+abbrev pub GetxattrInLies : Type 0
+GetxattrInLies = LiesAs getxattr_in 8 (record {
+  size = 0x04030201;
+  padding = 0x08070605;
+})
+
+-- the 8 bytes of GetxattrOut
+abbrev pub GetxattrOutLies : Type 0
+GetxattrOutLies = LiesAs getxattr_out 8 (record {
+  size = 0x04030201;
+  padding = 0x08070605;
+})
+
+-- the 8 bytes of ExtHeader
+abbrev pub ExtHeaderLies : Type 0
+ExtHeaderLies = LiesAs ext_header 8 (record {
+  size = 0x04030201;
+  ext_type = 0x08070605;
+})
+
+-- the 8 bytes of Secctx
+abbrev pub SecctxLies : Type 0
+SecctxLies = LiesAs secctx 8 (record {
+  size = 0x04030201;
+  padding = 0x08070605;
+})
+
+-- the 4 bytes of SuppGroups
+abbrev pub SuppGroupsLies : Type 0
+SuppGroupsLies = LiesAs supp_groups 4 (record {
+  nr_groups = 0x04030201;
+})

@@ -1,0 +1,60 @@
+//! Each record lies in its bytes as a compiler lays it out: the bytes 1, 2, 3, .. are read as the
+//! numbers that a field at its offset has, and those are written as these bytes. Each function here
+//! does nothing: its contract is the law, for a caller's proof to cite.
+
+ghost use Rattle.vfs_wire_more.specs.Layouts.{StatfsOutLies, DirentplusLies, SecctxHeaderLies, FileLockLies, LkInLies, LkOutLies, InterruptInLies, BmapInLies, BmapOutLies, IoctlInLies, IoctlIovecLies, IoctlOutLies, PollInLies, PollOutLies, SyncfsInLies, SetupmappingInLies, RemovemappingInLies, RemovemappingOneLies, NotifyPollWakeupOutLies, NotifyInvalInodeOutLies, NotifyInvalEntryOutLies, NotifyDeleteOutLies, NotifyStoreOutLies, NotifyRetrieveOutLies, NotifyRetrieveInLies};
+
+/// The records of directories and of counts.
+#[tactic(auto, unfolding(vfs_wire::specs::Fields::number, vfs_wire::specs::Fields::little))]
+pub fn listings()
+    ensures statfs_out { StatfsOutLies }
+    ensures direntplus { DirentplusLies }
+{}
+
+/// The headers of extensions.
+#[tactic(auto, unfolding(vfs_wire::specs::Fields::number, vfs_wire::specs::Fields::little))]
+pub fn extensions()
+    ensures { SecctxHeaderLies }
+{}
+
+/// The records of locks.
+#[tactic(auto, unfolding(vfs_wire::specs::Fields::number, vfs_wire::specs::Fields::little))]
+pub fn locks()
+    ensures file_lock { FileLockLies }
+    ensures lk_in { LkInLies }
+    ensures lk_out { LkOutLies }
+    ensures interrupt_in { InterruptInLies }
+{}
+
+/// The records of requests to devices.
+#[tactic(auto, unfolding(vfs_wire::specs::Fields::number, vfs_wire::specs::Fields::little))]
+pub fn devices()
+    ensures bmap_in { BmapInLies }
+    ensures bmap_out { BmapOutLies }
+    ensures ioctl_in { IoctlInLies }
+    ensures ioctl_iovec { IoctlIovecLies }
+    ensures ioctl_out { IoctlOutLies }
+    ensures poll_in { PollInLies }
+    ensures poll_out { PollOutLies }
+    ensures syncfs_in { SyncfsInLies }
+{}
+
+/// The records of mappings.
+#[tactic(auto, unfolding(vfs_wire::specs::Fields::number, vfs_wire::specs::Fields::little))]
+pub fn mappings()
+    ensures setupmapping_in { SetupmappingInLies }
+    ensures removemapping_in { RemovemappingInLies }
+    ensures removemapping_one { RemovemappingOneLies }
+{}
+
+/// The records of notifications.
+#[tactic(auto, unfolding(vfs_wire::specs::Fields::number, vfs_wire::specs::Fields::little))]
+pub fn notifications()
+    ensures notify_poll_wakeup_out { NotifyPollWakeupOutLies }
+    ensures notify_inval_inode_out { NotifyInvalInodeOutLies }
+    ensures notify_inval_entry_out { NotifyInvalEntryOutLies }
+    ensures notify_delete_out { NotifyDeleteOutLies }
+    ensures notify_store_out { NotifyStoreOutLies }
+    ensures notify_retrieve_out { NotifyRetrieveOutLies }
+    ensures notify_retrieve_in { NotifyRetrieveInLies }
+{}
