@@ -10,6 +10,8 @@ pub mod descriptor_utils;
 pub mod filesystem;
 pub mod fuse;
 pub mod server;
+#[cfg(test)]
+mod tests;
 pub mod uses;
 
 pub use vfs_messages::{Error, Limits, Result, laws, reply_error, reply_ok};
