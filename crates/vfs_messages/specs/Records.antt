@@ -22,3 +22,8 @@ bytes_of_option t (Some r) = bytes_of t r
 abbrev pub size_of_option : {R : Type 0} → Table R → Option R → ℕ
 size_of_option t None = 0
 size_of_option t (Some r) = size_of t
+
+-- bytes that may be there
+abbrev pub bytes_or_none : Option (List ℕ) → List ℕ
+bytes_or_none None = []
+bytes_or_none (Some bytes) = bytes

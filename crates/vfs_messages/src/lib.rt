@@ -16,8 +16,8 @@ pub use error::{Error, Result};
 pub use limits::{DEFAULT_MAX_BUFFER, Limits};
 pub use options::{agreed_options, offered_options, read_second_flags, reply_init, reply_version};
 pub use reply::{
-    reply_attr, reply_done, reply_entry, reply_error, reply_fault, reply_fault_alone, reply_names,
-    reply_offset, reply_ok, reply_opened, reply_record, reply_statistics, reply_text,
+    reply_attr, reply_done, reply_entry, reply_error, reply_failed, reply_fault, reply_fault_alone,
+    reply_names, reply_offset, reply_ok, reply_opened, reply_record, reply_statistics, reply_text,
     reply_written,
 };
 pub use request::{

@@ -14,7 +14,7 @@ ghost use Rattle.vfs_messages.specs.Room.{Replies};
 
 use crate::error::Result;
 use crate::limits::Limits;
-use crate::reply::{reply_error, reply_record};
+use crate::reply::{reply_failed, reply_record};
 use crate::request::read_record;
 use bitflags::Flags;
 use vfs_flags::{Fault, FsOptions, KERNEL_MINOR_VERSION, KERNEL_VERSION};
@@ -114,6 +114,6 @@ pub fn reply_init(
 {
     match answer {
         Ok(_) => reply_record(init_out(limits, max_readahead, options), unique, w),
-        Err(fault) => reply_error(fault, unique, w),
+        Err(fault) => reply_failed(fault, unique, w),
     }
 }

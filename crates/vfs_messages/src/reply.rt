@@ -3,17 +3,18 @@
 //! Each call answers the reply's length, or `EncodeMessage` where the room is too small: then it holds
 //! as much of the reply's beginning as there is room for.
 
-ghost use Rattle.std.specs.Prelude.{◌≡◌, ◌≤◌, ◌<◌, ◌+◌, ◌^◌, ◌%◌, ◌++◌, ◌-ℤ◌, pos, take, length, [], nat_le, if◌then◌else◌, Ok, Err, IfSome, option_map};
+ghost use Rattle.std.specs.Prelude.{◌≡◌, ◌≢◌, ◌≤◌, ◌<◌, ◌+◌, ◌^◌, ◌%◌, ◌++◌, ◌-ℤ◌, pos, take, length, [], nat_le, if◌then◌else◌, Ok, Err, IfSome, option_map};
 ghost use Rattle.vfs_wire.specs.Fields.{Fit, bytes_of};
 ghost use Rattle.vfs_wire.specs.Headers.{out_header};
 ghost use Rattle.vfs_wire.specs.Xattrs.{getxattr_out};
 ghost use Rattle.vfs_flags.specs.Flags.{open_options_bits};
-ghost use Rattle.vfs_segments.specs.Written.{wrote};
+ghost use Rattle.vfs_segments.specs.Written.{wrote, held_filled};
+ghost use Rattle.std.specs.Option.{option_copied};
 ghost use Rattle.vfs_files.specs.Answers.{IsFault, IsAnswer, FitsText, KeepsTextShort, Told, Untold, Entries, TimedAttributes};
 ghost use Rattle.vfs_files.specs.Answers.{Openings, Capacities, Texts, TextsOrCounts, Offsets, Writes, Faults, Failed};
 ghost use Rattle.vfs_files.specs.Answers.{done_answer, entry_answer, attr_answer, opened_answer, statistics_answer};
 ghost use Rattle.vfs_files.specs.Answers.{text_answer, listxattr_answer, offset_answer, written_answer};
-ghost use Rattle.vfs_messages.specs.Records.{size_of, bytes_of_option, size_of_option};
+ghost use Rattle.vfs_messages.specs.Records.{size_of, bytes_of_option, bytes_or_none, size_of_option};
 ghost use Rattle.vfs_messages.specs.Reply.{Bytes, said, fault_reply, fault_number, body_reply};
 ghost use Rattle.vfs_messages.specs.Reply.{say_done, say_fault, say_entry, say_attr, say_opened, say_statistics};
 ghost use Rattle.vfs_messages.specs.Reply.{say_text, say_text_or_count, say_offset, say_written, say_fault_alone};
@@ -71,11 +72,8 @@ fn outcome_of(len: usize, room: usize) -> Result<usize>
     }
 }
 
-/// Replies that a call succeeded: a record and bytes behind it, each where there is one. Without both
-/// the reply is a header alone.
-///
-/// The header says the length of the reply in 32 bits: of a longer one nothing is promised.
-pub fn reply_ok<T: ByteValued + Drop>(
+/// Replies a record, where there is one, and bytes behind it.
+fn reply_parts<T: ByteValued + Drop>(
     out: Option<T>,
     body: &[u8],
     unique: u64,
@@ -98,19 +96,40 @@ pub fn reply_ok<T: ByteValued + Drop>(
     outcome_of(len, room)
 }
 
+/// Replies that a call succeeded: a record and bytes behind it, each where there is one. Without both
+/// the reply is a header alone.
+///
+/// The header says the length of the reply in 32 bits: of a longer one nothing is promised.
+pub fn reply_ok<T: ByteValued + Drop>(
+    out: Option<T>,
+    body: Option<&[u8]>,
+    unique: u64,
+    w: &mut Writer,
+) -> Result<usize>
+    ensures replied { let bytes = bytes_of_option T.table out ++ bytes_or_none (option_copied body.entry) in
+        size_of out_header + length bytes < 2 ^ 32 →
+        Replies (Bytes (body_reply bytes unique)) w.old result w.new }
+    ensures in_width { IfSome out (λ x. Fit T.table.widths (T.table.fields x)) }
+{
+    match body {
+        Some(bytes) => reply_parts(out, bytes, unique, w),
+        None => reply_parts(out, &[], unique, w),
+    }
+}
+
 /// Replies a record.
 pub fn reply_record<T: ByteValued + Drop>(out: T, unique: u64, w: &mut Writer) -> Result<usize>
     ensures replied { Replies (Bytes (body_reply (bytes_of T.table out) unique)) w.old result w.new }
     ensures in_width { Fit T.table.widths (T.table.fields out) }
 {
-    reply_ok(Some(out), &[], unique, w)
+    reply_parts(Some(out), &[], unique, w)
 }
 
 /// Replies a header alone.
 fn reply_header(unique: u64, w: &mut Writer) -> Result<usize>
     ensures { Replies (Bytes (body_reply [] unique)) w.old result w.new }
 {
-    reply_ok::<u8>(None, &[], unique, w)
+    reply_parts::<u8>(None, &[], unique, w)
 }
 
 /// The header of a reply that says a fault: its negated number, or that of EIO where it has none.
@@ -131,13 +150,39 @@ fn fault_header(fault: Fault, unique: u64) -> OutHeader
 }
 
 /// Replies a fault: the header alone, with its negated number, or that of EIO where it has none.
-pub fn reply_error(fault: Fault, unique: u64, w: &mut Writer) -> Result<usize>
+pub fn reply_failed(fault: Fault, unique: u64, w: &mut Writer) -> Result<usize>
     ensures replied { Replies (Bytes (fault_reply fault unique)) w.old result w.new }
     ensures fault { IsFault fault }
 {
     let room = w.available_bytes();
     put_header(fault_header(fault, unique), w);
     outcome_of(OutHeader::SIZE, room)
+}
+
+/// Fills the bytes of a header that the writer holds.
+fn fill_header(header: OutHeader, w: &mut Writer)
+    requires { w.old.held ≡ size_of out_header }
+    ensures { w.new ≡ held_filled w.old (bytes_of out_header header) }
+{
+    let mut bytes = [0u8; OutHeader::SIZE];
+    header.put(&mut bytes);
+    w.fill_held(&bytes);
+}
+
+/// Replies a fault, as [`reply_failed`] does, but where the writer holds the sixteen bytes of a
+/// header it goes into these, whatever was written behind them.
+pub fn reply_error(fault: Fault, unique: u64, w: &mut Writer) -> Result<usize>
+    ensures held_outcome { w.old.held ≡ size_of out_header → result ≡ Ok (size_of out_header) }
+    ensures held { w.old.held ≡ size_of out_header →
+        w.new ≡ held_filled w.old (fault_reply fault unique) }
+    ensures replied { w.old.held ≢ size_of out_header →
+        Replies (Bytes (fault_reply fault unique)) w.old result w.new }
+{
+    if w.held() == OutHeader::SIZE {
+        fill_header(fault_header(fault, unique), w);
+        return Ok(OutHeader::SIZE);
+    }
+    reply_failed(fault, unique, w)
 }
 
 /// Replies that a call was done, as ACCESS does: a header alone, or the fault.
@@ -151,7 +196,7 @@ pub fn reply_done(
 {
     match answer {
         Ok(()) => reply_header(unique, w),
-        Err(fault) => reply_error(fault, unique, w),
+        Err(fault) => reply_failed(fault, unique, w),
     }
 }
 
@@ -166,7 +211,7 @@ pub fn reply_fault(
 {
     match answer {
         Ok(()) => Ok(0),
-        Err(fault) => reply_error(fault, unique, w),
+        Err(fault) => reply_failed(fault, unique, w),
     }
 }
 
@@ -175,7 +220,7 @@ pub fn reply_fault_alone(fault: Fault, unique: u64, w: &mut Writer) -> Result<us
     ensures replied { Replies (said unique (say_fault_alone (Failed fault))) w.old result w.new }
     ensures kind { IsAnswer Faults (Failed fault) }
 {
-    reply_error(fault, unique, w)
+    reply_failed(fault, unique, w)
 }
 
 /// Replies an entry, as LOOKUP does.
@@ -189,7 +234,7 @@ pub fn reply_entry(
 {
     match answer {
         Ok(entry) => reply_record(EntryOut::from(entry), unique, w),
-        Err(fault) => reply_error(fault, unique, w),
+        Err(fault) => reply_failed(fault, unique, w),
     }
 }
 
@@ -216,7 +261,7 @@ pub fn reply_attr(
 {
     match answer {
         Ok((attr, timeout)) => reply_record(attr_out(attr, timeout), unique, w),
-        Err(fault) => reply_error(fault, unique, w),
+        Err(fault) => reply_failed(fault, unique, w),
     }
 }
 
@@ -247,7 +292,7 @@ pub fn reply_opened<H: Number>(
 {
     match answer {
         Ok((handle, options)) => reply_record(open_out::<H>(handle, options), unique, w),
-        Err(fault) => reply_error(fault, unique, w),
+        Err(fault) => reply_failed(fault, unique, w),
     }
 }
 
@@ -263,7 +308,7 @@ pub fn reply_statistics(
 {
     match answer {
         Ok(statistics) => reply_record(Kstatfs::from(statistics), unique, w),
-        Err(fault) => reply_error(fault, unique, w),
+        Err(fault) => reply_failed(fault, unique, w),
     }
 }
 
@@ -272,7 +317,7 @@ fn reply_bytes(bytes: &[u8], unique: u64, w: &mut Writer) -> Result<usize>
     requires { FitsText bytes.now }
     ensures { Replies (Bytes (body_reply bytes.now unique)) w.old result w.new }
 {
-    reply_ok::<u8>(None, bytes, unique, w)
+    reply_parts::<u8>(None, bytes, unique, w)
 }
 
 /// Replies a text, as READLINK does.
@@ -287,7 +332,7 @@ pub fn reply_text(
 {
     match answer {
         Ok(text) => reply_bytes(&text, unique, w),
-        Err(fault) => reply_error(fault, unique, w),
+        Err(fault) => reply_failed(fault, unique, w),
     }
 }
 
@@ -317,7 +362,7 @@ pub fn reply_names(
     match answer {
         Ok(ListxattrReply::Names(names)) => reply_bytes(&names, unique, w),
         Ok(ListxattrReply::Count(length)) => reply_count(length, unique, w),
-        Err(fault) => reply_error(fault, unique, w),
+        Err(fault) => reply_failed(fault, unique, w),
     }
 }
 
@@ -332,7 +377,7 @@ pub fn reply_offset(
 {
     match answer {
         Ok(offset) => reply_record(LseekOut { offset }, unique, w),
-        Err(fault) => reply_error(fault, unique, w),
+        Err(fault) => reply_failed(fault, unique, w),
     }
 }
 
@@ -354,6 +399,6 @@ pub fn reply_written(
             unique,
             w,
         ),
-        Err(fault) => reply_error(fault, unique, w),
+        Err(fault) => reply_failed(fault, unique, w),
     }
 }

@@ -4,6 +4,7 @@
 ghost use Rattle.std.specs.Prelude.{◌≡◌, ◌<◌, ◌≤◌, ◌^◌, ◌++◌, ℕ, List, length, drop, Ok, Err, Some};
 ghost use Rattle.vfs_flags.specs.Opcode.{opcode_of};
 ghost use Rattle.vfs_flags.specs.declared.opcode.Opcode.{Opcode};
+ghost use Rattle.vfs_segments.specs.Segments.{with_bytes_at};
 ghost use Rattle.vfs_segments.specs.Written.{whole};
 ghost use Rattle.vfs_messages.specs.Laws.{header_of, WantsMemory};
 ghost use Rattle.vfs_messages.specs.Turn.{Turn, IsTurn};
@@ -13,7 +14,7 @@ ghost use Rattle.vfs_messages.specs.declared.limits.Limits.{Limits};
 
 use crate::error::Result;
 use crate::laws::replies_begin_with_their_header;
-use crate::reply::{reply_error, reply_ok};
+use crate::reply::{reply_error, reply_failed, reply_ok};
 use crate::request::{read_record, read_tail};
 use std::alloc::Global;
 use vfs_flags::Errno;
@@ -27,7 +28,7 @@ pub fn say_not_served(w: &mut Writer) -> Result<usize>
     ensures outcome { result ≡ Ok 16 }
     ensures bytes { whole w.new ≡ w.old.passed ++ (not_served_reply ++ drop 16 w.old.left) }
 {
-    reply_error(Some(Errno::ENOSYS), 9, w)
+    reply_failed(Some(Errno::ENOSYS), 9, w)
 }
 
 /// Says to request 9 that it was done, in a room of ten bytes: they hold the beginning of the reply.
@@ -36,7 +37,19 @@ pub fn say_done_in_ten_bytes(w: &mut Writer) -> Result<usize>
     ensures outcome { result ≡ Err Error.EncodeMessage }
     ensures bytes { whole w.new ≡ w.old.passed ++ ten_of_done_reply }
 {
-    reply_ok::<u8>(None, &[], 9, w)
+    reply_ok::<u8>(None, None, 9, w)
+}
+
+/// Says to request 9 that it is not served, with a writer that holds sixteen bytes in front of others:
+/// they hold the reply then, what stands behind them stays, and nothing is held.
+pub fn say_not_served_in_front(w: &mut Writer) -> Result<usize>
+    requires { w.old.held ≡ 16 }
+    ensures outcome { result ≡ Ok 16 }
+    ensures bytes { w.new.passed ≡ with_bytes_at w.old.held_at not_served_reply w.old.passed }
+    ensures left { w.new.left ≡ w.old.left }
+    ensures held { w.new.held ≡ 0 }
+{
+    reply_error(Some(Errno::ENOSYS), 9, w)
 }
 
 /// Reads the tail of a request whose `len` is less than its header: it is refused before a byte is

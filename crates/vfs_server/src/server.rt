@@ -23,7 +23,7 @@ use std::alloc::Global;
 use std::marker::Model;
 use vfs_files::FileSystem;
 use vfs_flags::{Errno, FsOptions, Opcode};
-use vfs_messages::{DEFAULT_MAX_BUFFER, Limits, Result, read_record, reply_error};
+use vfs_messages::{DEFAULT_MAX_BUFFER, Limits, Result, read_record, reply_failed};
 use vfs_segments::{Reader, Writer};
 use vfs_wire::InHeader;
 
@@ -56,7 +56,7 @@ impl<F> Server<F> {
         requires { 4096 ≤ page_size }
         ensures { result ≡ record {
           options = 0;
-          limits = record { page_size = page_size; max_buffer = 1048576 };
+          limits = record { page_size = page_size; max_buffer = DEFAULT_MAX_BUFFER };
           fs = fs;
         } }
     {
@@ -166,11 +166,11 @@ impl<F: FileSystem> Server<F> {
             self.old w.old result w.new self.new }
     {
         if header.len > self.limits.max_len() {
-            return reply_error(Some(Errno::ENOMEM), header.unique, w);
+            return reply_failed(Some(Errno::ENOMEM), header.unique, w);
         }
         match Opcode::try_from(header.opcode) {
             Ok(opcode) => self.dispatch(alloc, opcode, header, r, w),
-            Err(()) => reply_error(Some(Errno::ENOSYS), header.unique, w),
+            Err(()) => reply_failed(Some(Errno::ENOSYS), header.unique, w),
         }
     }
 
@@ -217,7 +217,7 @@ impl<F: FileSystem> Server<F> {
             Opcode::CopyFileRange => self.copyfilerange(header, r, w),
             Opcode::Syncfs => self.syncfs(header, r, w),
             Opcode::TmpFile => self.tmpfile(header, r, w),
-            _ => reply_error(Some(Errno::ENOSYS), header.unique, w),
+            _ => reply_failed(Some(Errno::ENOSYS), header.unique, w),
         }
     }
 }

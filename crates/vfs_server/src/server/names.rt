@@ -7,7 +7,7 @@ use std::alloc::Global;
 use vfs_files::{Context, FileSystem, Number};
 use vfs_flags::{Errno, Opcode};
 use vfs_messages::{
-    Result, read_name, read_pairs, read_record, reply_entry, reply_error, reply_text,
+    Result, read_name, read_pairs, read_record, reply_entry, reply_failed, reply_text,
 };
 use vfs_segments::{Reader, Writer};
 use vfs_wire::{BatchForgetIn, ByteValued, ForgetIn, ForgetOne, InHeader};
@@ -60,7 +60,7 @@ impl<F: FileSystem> Server<F> {
     {
         let batch = read_record::<BatchForgetIn>(r)?;
         if batch.count as usize * ForgetOne::SIZE > self.limits.max_buffer as usize {
-            return reply_error(Some(Errno::ENOMEM), header.unique, w);
+            return reply_failed(Some(Errno::ENOMEM), header.unique, w);
         }
         let pairs = read_pairs::<F::Inode>(alloc, batch.count, r)?;
         self.fs.batch_forget(Context::from(*header), pairs);

@@ -9,7 +9,7 @@ use vfs_files::{Context, FileSystem, Number};
 use vfs_flags::{Errno, KERNEL_VERSION, MIN_KERNEL_MINOR_VERSION, Opcode};
 use vfs_messages::{
     Result, agreed_options, offered_options, read_record, read_second_flags, reply_done,
-    reply_error, reply_init, reply_version,
+    reply_failed, reply_init, reply_version,
 };
 use vfs_segments::{Reader, Writer};
 use vfs_wire::{InHeader, InitInCompat};
@@ -42,13 +42,13 @@ impl<F: FileSystem> Server<F> {
             self.old w.old result w.new self.new }
     {
         if init_in.major < KERNEL_VERSION {
-            return reply_error(Some(Errno::EPROTO), header.unique, w);
+            return reply_failed(Some(Errno::EPROTO), header.unique, w);
         }
         if init_in.major > KERNEL_VERSION {
             return reply_version(header.unique, w);
         }
         if init_in.minor < MIN_KERNEL_MINOR_VERSION {
-            return reply_error(Some(Errno::EPROTO), header.unique, w);
+            return reply_failed(Some(Errno::EPROTO), header.unique, w);
         }
         let offered = offered_options(init_in.flags, flags2);
         let answer = self.fs.init(offered);

@@ -5,7 +5,7 @@ ghost use Rattle.vfs_server.specs.Step.{Serves};
 use crate::server::Server;
 use vfs_files::{Context, FileSystem, Number};
 use vfs_flags::{Errno, Opcode};
-use vfs_messages::{Result, read_record, reply_error, reply_names};
+use vfs_messages::{Result, read_record, reply_failed, reply_names};
 use vfs_segments::{Reader, Writer};
 use vfs_wire::{GetxattrIn, InHeader};
 
@@ -22,7 +22,7 @@ impl<F: FileSystem> Server<F> {
     {
         let getxattr_in = read_record::<GetxattrIn>(r)?;
         if getxattr_in.size > self.limits.max_buffer {
-            return reply_error(Some(Errno::ENOMEM), header.unique, w);
+            return reply_failed(Some(Errno::ENOMEM), header.unique, w);
         }
         let inode = F::Inode::from_number(header.nodeid);
         let answer = self

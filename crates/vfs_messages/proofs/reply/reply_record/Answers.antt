@@ -7,6 +7,6 @@ pub returns-clause-replied : goal.returns-clause-replied
 returns-clause-replied g c =
     let body = bytes_of g.T.ByteValued.table c.args.out in
     let size : length body ≡ g.T.ByteValued.SIZE =
-    length-bytes_of g.T.ByteValued.table c.args.out c.reply_ok.ensures.in_width ∙ g.met.T.ByteValued.size_is in
+    length-bytes_of g.T.ByteValued.table c.args.out c.reply_parts.ensures.in_width ∙ g.met.T.ByteValued.size_is in
     let alone = append-nil body in
-    (rw alone at c.reply_ok.ensures.replied) (omega (arith, size, g.met.T.ByteValued.size_small))
+    (rw alone at c.reply_parts.ensures.replied) (omega (arith, size, g.met.T.ByteValued.size_small))

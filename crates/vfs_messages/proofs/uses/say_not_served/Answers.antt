@@ -6,11 +6,11 @@ use Rattle.vfs_messages.proofs.uses.say_not_served.Goals as goal
 
 pub returns-clause-outcome : goal.returns-clause-outcome
 unfolding little
-returns-clause-outcome c = c.reply_error.ensures.replied.says.says ∙ put_outcome-fits not_served_reply _ c.requires
+returns-clause-outcome c = c.reply_failed.ensures.replied.says.says ∙ put_outcome-fits not_served_reply _ c.requires
 
 pub returns-clause-bytes : goal.returns-clause-bytes
 unfolding little
 returns-clause-bytes c =
-    c.reply_error.ensures.replied.leaves.kept
+    c.reply_failed.ensures.replied.leaves.kept
     ∙ ap (λ (l : List ℕ). c.args.w.now.passed ++ l)
-    (c.reply_error.ensures.replied.says.leaves ∙ put_room-fits not_served_reply _ c.requires)
+    (c.reply_failed.ensures.replied.says.leaves ∙ put_room-fits not_served_reply _ c.requires)

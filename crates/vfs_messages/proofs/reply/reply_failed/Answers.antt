@@ -5,7 +5,7 @@ use Rattle.vfs_wire.specs.declared.headers.OutHeader.{OutHeader}
 use Rattle.vfs_segments.specs.Written.{wrote}
 use Rattle.vfs_messages.specs.Reply.{fault_reply}
 use Rattle.vfs_messages.proofs.Rooms.{replied, length-fault_reply, put_outcome-lengths}
-use Rattle.vfs_messages.proofs.reply.reply_error.Goals as goal
+use Rattle.vfs_messages.proofs.reply.reply_failed.Goals as goal
 
 pub returns-clause-replied : goal.returns-clause-replied
 returns-clause-replied c =

@@ -5,7 +5,7 @@ use Rattle.vfs_segments.specs.Written.{wrote}
 use Rattle.vfs_messages.specs.Records.{bytes_of_option}
 use Rattle.vfs_messages.specs.Reply.{body_reply}
 use Rattle.vfs_messages.proofs.Rooms.{replied, wrote_three, put_outcome-lengths, length-body_reply, length-bytes_of_option}
-use Rattle.vfs_messages.proofs.reply.reply_ok.Goals as goal
+use Rattle.vfs_messages.proofs.reply.reply_parts.Goals as goal
 
 pub returns-clause-replied : goal.returns-clause-replied
 returns-clause-replied g c short =
