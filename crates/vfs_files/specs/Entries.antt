@@ -20,8 +20,8 @@ nanoseconds_beyond time = as_nanos time % 1_000_000_000
 abbrev pub context_of : InHeader → Context
 context_of header = record { uid = header.uid; gid = header.gid; pid = cast_signed w32 header.pid }
 
--- the record of an entry: its node, generation and attributes, and each timeout in whole seconds and the
--- nanoseconds beyond
+-- the record of an entry: its node, generation and attributes, and each timeout in whole seconds
+-- and the nanoseconds beyond
 abbrev pub entry_out_of : Entry → EntryOut
 entry_out_of entry = record {
   nodeid = entry.inode;

@@ -4,8 +4,8 @@ use Rattle.vfs_files.specs.Items.{Item}
 use Rattle.vfs_files.specs.Calls.{Call, Forget, Answer, Done, Handed, Plain, Iterator}
 use Rattle.vfs_files.specs.declared.entry.Context.{Context}
 
--- what is seen of a file system from outside: a call with its answer, a call that opened an iterator,
--- and a taking from the iterator at hand
+-- what is seen of a file system from outside: a call with its answer, a call that opened an
+-- iterator, and a taking from the iterator at hand
 pub data Event : Type 0 where
   Called : (call : Call) (answer : Answer) → Event
   Opened : (call : Call) → Event
@@ -23,7 +23,8 @@ event_of (Calls call answer) = Called call answer
 event_of (Opens call it) = Opened call
 event_of (Takes before item after) = Taken item
 
--- the iterator at hand afterwards: the one that was opened, or that the taking left, or the one from before
+-- the iterator at hand afterwards: the one that was opened, or that the taking left, or the one
+-- from before
 abbrev pub at_hand : {I : Type 0} → Option I → Happening I → Option I
 at_hand it (Calls call answer) = it
 at_hand it (Opens call opened) = Some opened
@@ -31,9 +32,9 @@ at_hand it (Takes before item after) = Some after
 
 module _ {S I : Type 0}
     (allows : S → Call → Handed I → S → Type 0) (gives : I → Option Item → I → Type 0) where
-  -- what may happen in a state with this iterator at hand, and the state after it: a call is allowed by
-  -- the file system's relation; a taking begins with the iterator at hand, is allowed by the iterator's
-  -- relation, and keeps the state
+  -- what may happen in a state with this iterator at hand, and the state after it: a call is
+  -- allowed by the file system's relation; a taking begins with the iterator at hand, is allowed
+  -- by the iterator's relation, and keeps the state
   abbrev pub MayHappen : Option I → S → Happening I → S → Type 0
   MayHappen it old (Calls call answer) new = allows old call (Plain answer) new
   MayHappen it old (Opens call opened) new = allows old call (Iterator opened) new

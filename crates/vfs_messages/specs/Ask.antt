@@ -29,8 +29,8 @@ has_flag flags flag = not (bit_and flags flag == 0)
 abbrev pub if_set : (flags flag n : ℕ) → Option ℕ
 if_set flags flag n = if bit_and flags flag == 0 then None else Some n
 
--- The table of the protocol: a line for each opcode, by the limits, the agreed options, the room and the
--- header. The calls that name a caller and a node name those of the header.
+-- The table of the protocol: a line for each opcode, by the limits, the agreed options, the room
+-- and the header. The calls that name a caller and a node name those of the header.
 abbrev pub form_of : Limits → (options room : ℕ) → InHeader → Opcode → Form
 form_of limits options room h Lookup =
     NameTail no_record unlimited (λ r name. call.Lookup (context_of h) h.nodeid name)
@@ -121,10 +121,12 @@ form_of limits options room h TmpFile = NoTail no_record unlimited (λ r. call.T
 
 -- what the bytes behind a header ask, by its opcode
 abbrev pub ask_opcode : Limits → (options room : ℕ) → Opcode → InHeader → (rest : List ℕ) → Ask
-ask_opcode limits options room opcode h rest = ask_form h rest (form_of limits options room h opcode)
+ask_opcode limits options room opcode h rest =
+    ask_form h rest (form_of limits options room h opcode)
 
 -- the same, of a number that may be no opcode
-abbrev pub ask_number : Limits → (options room : ℕ) → Option Opcode → InHeader → (rest : List ℕ) → Ask
+abbrev pub ask_number :
+    Limits → (options room : ℕ) → Option Opcode → InHeader → (rest : List ℕ) → Ask
 ask_number limits options room None h rest = faulted enosys h
 ask_number limits options room (Some opcode) h rest = ask_opcode limits options room opcode h rest
 

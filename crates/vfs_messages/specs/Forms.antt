@@ -19,9 +19,9 @@ use Rattle.vfs_messages.specs.Reply.{Reply, Refusal, Bytes, NoReply, Echo, echo_
 use Rattle.vfs_messages.specs.declared.error.Error.{Error}
 use Rattle.vfs_messages.specs.declared.error.Error.TheVariants.{DecodeMessage, InvalidCString, InvalidHeaderLength}
 
--- What a request asks: to be ended without a call, by this coming back; a call, whose reply repeats this
--- of the request; or that some of its bytes be copied, for which there may be no memory, and then the
--- rest.
+-- What a request asks: to be ended without a call, by this coming back; a call, whose reply
+-- repeats this of the request; or that some of its bytes be copied, for which there may be no
+-- memory, and then the rest.
 pub data Ask : Type 0 where
   Ends : (reply : Reply) → Ask
   Asks : (echo : Echo) (call : Call) → Ask
@@ -49,7 +49,8 @@ abbrev pub within : (above : Bool) → InHeader → (next : Ask) → Ask
 within true h next = faulted enomem h
 within false h next = next
 
--- the tail of a request, of what follows the header and a record of `size` bytes: as long as `len` says
+-- the tail of a request, of what follows the header and a record of `size` bytes: as long as
+-- `len` says
 abbrev pub tail_of : InHeader → (size : ℕ) → (behind : List ℕ) → Result (List ℕ) Error
 tail_of h size behind =
     if nat_lt h.len (size_of in_header + size) then Err InvalidHeaderLength
@@ -83,8 +84,8 @@ abbrev pub flags2_in : Result InitInExt Error → Result ℕ Error
 flags2_in (Ok r) = Ok r.flags2
 flags2_in (Err error) = Err error
 
--- the second word of INIT's flags: in a record of its own, where INIT_EXT in the first says that there
--- is one, and else 0
+-- the second word of INIT's flags: in a record of its own, where INIT_EXT in the first says that
+-- there is one, and else 0
 abbrev pub second_flags : (flags : ℕ) → (behind : List ℕ) → Result ℕ Error
 second_flags flags behind =
     if bit_and flags init_ext == 0 then Ok 0 else flags2_in (record_of init_in_ext behind)
@@ -127,10 +128,11 @@ behind layout rest = drop (layout_size layout) rest
 abbrev pub unlimited : {R : Type 0} → R → Bool
 unlimited r = false
 
--- A line of the protocol's table: the form of a request, with its record and the call that it asks for.
--- By the form something may follow the record: nothing, a name, or pairs of a node and a count, as many
--- as the record says. `above` tells whether the record asks for more than the limits allow. INIT has a
--- form of its own; some requests ask for nothing, and some aren't served.
+-- A line of the protocol's table: the form of a request, with its record and the call that it
+-- asks for. By the form something may follow the record: nothing, a name, or pairs of a node and
+-- a count, as many as the record says. `above` tells whether the record asks for more than the
+-- limits allow. INIT has a form of its own; some requests ask for nothing, and some aren't
+-- served.
 pub data Form : Type 1 where
   NoTail : {R : Type 0} (layout : Layout R) (above : R → Bool) (call : R → Call) → Form
   NameTail : {R : Type 0} (layout : Layout R) (above : R → Bool) (call : R → List ℕ → Call) → Form
@@ -140,15 +142,16 @@ pub data Form : Type 1 where
   Silent : Form
   NotServed : Form
 
--- What a request of each form asks, by the bytes behind its header: in which order it is refused, and
--- where memory is wanted.
+-- What a request of each form asks, by the bytes behind its header: in which order it is refused,
+-- and where memory is wanted.
 abbrev pub ask_form : InHeader → (rest : List ℕ) → Form → Ask
 ask_form h rest (NoTail layout above call) =
     refused_or (layout_record layout rest) (λ r. within (above r) h (Asks (echo_of h) (call r)))
 ask_form h rest (NameTail layout above call) =
     refused_or (layout_record layout rest) (λ r.
     refused_or (tail_of h (layout_size layout) (behind layout rest)) (λ tail.
-    Copies (within (above r) h (refused_or (name_in tail) (λ name. Asks (echo_of h) (call r name))))))
+    Copies (within (above r) h
+    (refused_or (name_in tail) (λ name. Asks (echo_of h) (call r name))))))
 ask_form h rest (Pairs layout above count call) =
     refused_or (layout_record layout rest) (λ r.
     within (above r) h
@@ -161,7 +164,8 @@ ask_form h rest Silent = silent
 ask_form h rest NotServed = faulted enosys h
 
 -- a tail that is whole, behind a record that is whole
-pub record TailIsWhole {R : Type 0} (h : InHeader) (rest : List ℕ) (layout : Layout R) : Type 0 where
+pub record TailIsWhole {R : Type 0} (h : InHeader) (rest : List ℕ) (layout : Layout R)
+    : Type 0 where
   pub whole_record : IsOk (layout_record layout rest)
   pub whole_tail : IsOk (tail_of h (layout_size layout) (behind layout rest))
 

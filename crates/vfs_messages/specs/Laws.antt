@@ -21,8 +21,8 @@ header_of request = value_of in_header request
 abbrev pub unique_of : (request : List ℕ) → ℕ
 unique_of request = (header_of request).unique
 
--- The bytes begin with the header of a reply of this length to this request, whatever error it says; and
--- the length is one that a header can say.
+-- The bytes begin with the header of a reply of this length to this request, whatever error it
+-- says; and the length is one that a header can say.
 pub record BeginsWithHeader (len unique : ℕ) (bytes : List ℕ) : Type 0 where
   pub error : ℤ
   pub fits : len < 2 ^ 32
@@ -33,7 +33,8 @@ pub record BeginsWithHeader (len unique : ℕ) (bytes : List ℕ) : Type 0 where
 -- each option is one that was offered, and each one offered that the server supports is among them
 pub record AreAgreed (offered options : ℕ) : Type 0 where
   pub offered_only : (k : ℕ) → bit_at options k ≡ 1 → bit_at offered k ≡ 1
-  pub supported_too : (k : ℕ) → bit_at offered k ≡ 1 → bit_at supported_fs_options k ≡ 1 → bit_at options k ≡ 1
+  pub supported_too :
+      (k : ℕ) → bit_at offered k ≡ 1 → bit_at supported_fs_options k ≡ 1 → bit_at options k ≡ 1
 
 -- memory may be wanted behind this header, by the form of its opcode
 abbrev pub MayLackBehind : Limits → (options room : ℕ) → Option Opcode → InHeader → List ℕ → Type 0
@@ -41,8 +42,8 @@ MayLackBehind limits options room None h rest = ⊥
 MayLackBehind limits options room (Some opcode) h rest =
     MayLackMemory h rest (form_of limits options room h opcode)
 
--- a request for which memory may be wanted: its header is whole, its `len` in the limit, and it is of a
--- form with a tail or pairs, which are whole
+-- a request for which memory may be wanted: its header is whole, its `len` in the limit, and it
+-- is of a form with a tail or pairs, which are whole
 pub record WantsMemory (limits : Limits) (options room : ℕ) (request : List ℕ) : Type 0 where
   pub header : size_of in_header ≤ length request
   pub in_limit : (header_of request).len ≤ max_len limits

@@ -11,8 +11,8 @@ offered flags flags2 = bit_and (flags2 * 2 ^ 32 + flags) known_fs_options
 abbrev pub agreed : (offered want : ℕ) → ℕ
 agreed offered want = bit_and offered (bit_or want supported_fs_options)
 
--- The options after a call with this answer: INIT's are those agreed, DESTROY leaves none, and every
--- other call keeps the old ones.
+-- The options after a call with this answer: INIT's are those agreed, DESTROY leaves none, and
+-- every other call keeps the old ones.
 abbrev pub options_after : Call → Answer → (options : ℕ) → ℕ
 options_after (Init offered) (Options want) options = agreed offered want
 options_after Destroy answer options = 0

@@ -28,8 +28,8 @@ use Rattle.vfs_messages.specs.Records.{size_of}
 use Rattle.vfs_messages.specs.declared.limits.Limits.{Limits}
 use Rattle.vfs_messages.specs.declared.error.Error.{Error}
 
--- What comes back of a request: an error, with no byte put; nothing; these bytes, behind which the room
--- stays as it was; these bytes, behind which the room is open; or what never comes back.
+-- What comes back of a request: an error, with no byte put; nothing; these bytes, behind which
+-- the room stays as it was; these bytes, behind which the room is open; or what never comes back.
 pub data Reply : Type 0 where
   Refusal : (error : Error) → Reply
   NoReply : Reply
@@ -55,12 +55,17 @@ fault_number (Some number) = number
 abbrev pub fault_reply : (fault : Option ℕ) → (unique : ℕ) → List ℕ
 fault_reply fault unique =
     bytes_of out_header
-    (record { len = size_of out_header; error = pos 0 -ℤ pos (fault_number fault); unique = unique })
+    (record {
+      len = size_of out_header;
+      error = pos 0 -ℤ pos (fault_number fault);
+      unique = unique;
+    })
 
 -- a reply with a body behind its header
 abbrev pub body_reply : (body : List ℕ) → (unique : ℕ) → List ℕ
 body_reply body unique =
-    bytes_of out_header (record { len = size_of out_header + length body; error = pos 0; unique = unique })
+    bytes_of out_header
+    (record { len = size_of out_header + length body; error = pos 0; unique = unique })
     ++ body
 
 -- the attributes of a node and how long they hold, as GETATTR replies them
@@ -124,8 +129,8 @@ init_out_of limits max_readahead options =
       unused = 0 ∷ 0 ∷ 0 ∷ 0 ∷ 0 ∷ 0 ∷ 0 ∷ [];
     }
 
--- What is said of an answer: a fault; a body, none of whose bytes for a header alone; nothing; or the
--- answer is of another kind than its call.
+-- What is said of an answer: a fault; a body, none of whose bytes for a header alone; nothing; or
+-- the answer is of another kind than its call.
 pub data Saying : Type 0 where
   Fault : (fault : Option ℕ) → Saying
   Body : (body : List ℕ) → Saying

@@ -10,25 +10,28 @@ abbrev pub put_outcome : (reply room : List ℕ) → Result ℕ Error
 put_outcome reply room =
     if nat_le (length reply) (length room) then Ok (length reply) else Err EncodeMessage
 
--- the room afterwards: the reply and the old bytes behind it, or as much of the reply as there is room for
+-- the room afterwards: the reply and the old bytes behind it, or as much of the reply as there is
+-- room for
 abbrev pub put_room : (reply room : List ℕ) → List ℕ
 put_room reply room =
     if nat_le (length reply) (length room) then reply ++ drop (length reply) room
     else take (length room) reply
 
 -- the reply was put into the room
-pub record IsPut (reply room : List ℕ) (outcome : Result ℕ Error) (room_after : List ℕ) : Type 0 where
+pub record IsPut (reply room : List ℕ) (outcome : Result ℕ Error) (room_after : List ℕ)
+    : Type 0 where
   pub says : outcome ≡ put_outcome reply room
   pub leaves : room_after ≡ put_room reply room
 
 -- the reply stands at the beginning of the room, which it fits; the bytes behind it are any
-pub record IsPutOpen (reply room : List ℕ) (outcome : Result ℕ Error) (room_after : List ℕ) : Type 0 where
+pub record IsPutOpen (reply room : List ℕ) (outcome : Result ℕ Error) (room_after : List ℕ)
+    : Type 0 where
   pub says : outcome ≡ Ok (length reply)
   pub begins : take (length reply) room_after ≡ reply
   pub same_length : length room_after ≡ length room
 
--- The rule of rooms: what comes back, of this room, by this outcome, and with these bytes in the room
--- afterwards.
+-- The rule of rooms: what comes back, of this room, by this outcome, and with these bytes in the
+-- room afterwards.
 abbrev pub IsReplied : Reply → (room : List ℕ) → Result ℕ Error → (room_after : List ℕ) → Type 0
 IsReplied (Refusal error) room outcome room_after = (outcome ≡ Err error) × (room_after ≡ room)
 IsReplied NoReply room outcome room_after = (outcome ≡ Ok 0) × (room_after ≡ room)
@@ -44,7 +47,8 @@ pub record Leaves (old : Written) (room_after : List ℕ) (new : Written) : Type
   pub same_segments : new.lengths ≡ old.lengths
 
 -- bytes came back through a writer; it holds nothing if it held nothing
-pub record Writes (reply : Reply) (old : Written) (outcome : Result ℕ Error) (new : Written) : Type 0 where
+pub record Writes (reply : Reply) (old : Written) (outcome : Result ℕ Error) (new : Written)
+    : Type 0 where
   pub room_after : List ℕ
   pub leaves : Leaves old room_after new
   pub says : IsReplied reply old.left outcome room_after

@@ -11,8 +11,8 @@ use Rattle.vfs_messages.specs.declared.limits.Limits.{Limits}
 use Rattle.vfs_messages.specs.declared.error.Error.{Error}
 use Rattle.vfs_messages.specs.declared.error.Error.TheVariants.{OutOfMemory}
 
--- Who tells what happened at a request: that the file system wasn't called; that it was called once, so,
--- with this answer; and that this came back to the client.
+-- Who tells what happened at a request: that the file system wasn't called; that it was called
+-- once, so, with this answer; and that this came back to the client.
 pub record Witness : Type 1 where
   pub no_call : Type 0
   pub called : Call → Answer → Type 0

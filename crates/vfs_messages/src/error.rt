@@ -5,8 +5,8 @@ use thiserror::Error;
 /// Why a request was not answered by a reply that fits.
 #[derive(Clone, Copy, Debug, PartialEq, Eq, Error)]
 pub enum Error {
-    /// The request ends before a header, a record, a tail or a list that it needs, or says something
-    /// that has no meaning.
+    /// The request ends before a header, a record, a tail or a list that it needs, or says
+    /// something that has no meaning.
     #[error("the request is cut short, or says what has no meaning")]
     DecodeMessage,
     /// The reply is longer than the room; the room holds its beginning.

@@ -9,8 +9,8 @@ ghost use Rattle.vfs_messages.specs.declared.limits.Limits.{Limits};
 ghost use Rattle.vfs_messages.specs.Laws.{unique_of, BeginsWithHeader, AreAgreed, WantsMemory};
 ghost use Rattle.vfs_messages.specs.declared.error.Error.{Error};
 
-/// After every error but `EncodeMessage` no call was made, the room is as it was, and the options are
-/// the old ones.
+/// After every error but `EncodeMessage` no call was made, the room is as it was, and the options
+/// are the old ones.
 pub fn refusals_change_nothing()
     ensures { (limits : Limits) (options after : ℕ) (t : Turn) (e : Error) →
         IsTurn limits options t after → t.outcome ≡ Err e → e ≢ Error.EncodeMessage →
@@ -23,23 +23,24 @@ pub fn two_errors_are_never_answered()
         (t.outcome ≢ Err Error.FlushMessage) × (t.outcome ≢ Err Error.InvalidCString2) }
 {}
 
-/// `OutOfMemory` is answered only to a request of a form with a tail or pairs, whose header, record
-/// and tail or pairs are whole, whose `len` is in the limit, and whose pairs are. An unknown opcode, a
-/// `len` above the limit, a part that isn't whole, and a request of another form never get it.
+/// `OutOfMemory` is answered only to a request of a form with a tail or pairs, whose header,
+/// record and tail or pairs are whole, whose `len` is in the limit, and whose pairs are. An
+/// unknown opcode, a `len` above the limit, a part that isn't whole, and a request of another
+/// form never get it.
 pub fn memory_is_wanted_for_whole_tails()
     ensures { (limits : Limits) (options after : ℕ) (t : Turn) → IsTurn limits options t after →
         t.outcome ≡ Err Error.OutOfMemory → WantsMemory limits options (length t.room) t.request }
 {}
 
-/// Where the answer is n above 0, the room begins with a header whose `len` is n, which fits it, and
-/// whose `unique` is the request's.
+/// Where the answer is n above 0, the room begins with a header whose `len` is n, which fits it,
+/// and whose `unique` is the request's.
 pub fn replies_begin_with_their_header()
     ensures { (limits : Limits) (options after n : ℕ) (t : Turn) → IsTurn limits options t after →
         t.outcome ≡ Ok n → 0 < n → BeginsWithHeader n (unique_of t.request) t.room_after }
 {}
 
-/// After an INIT that the file system accepts, the options lie within those offered, and contain all
-/// of these that the server supports.
+/// After an INIT that the file system accepts, the options lie within those offered, and contain
+/// all of these that the server supports.
 pub fn options_are_agreed()
     ensures { (limits : Limits) (options after offered want : ℕ) (t : Turn) →
         IsTurn limits options t after → t.events ≡ Called (Init offered) (Options want) ∷ [] →

@@ -1,6 +1,7 @@
 //! What a server is made for.
 
-/// The largest payload of a READ or a WRITE that a server takes where nothing else is said, in bytes.
+/// The largest payload of a READ or a WRITE that a server takes where nothing else is said, in
+/// bytes.
 pub const DEFAULT_MAX_BUFFER: u32 = 1_048_576;
 
 /// The bytes that a request may have before its payload.

@@ -21,7 +21,8 @@ use vfs_flags::{Fault, FsOptions, KERNEL_MINOR_VERSION, KERNEL_VERSION};
 use vfs_segments::{Reader, Writer};
 use vfs_wire::{InitInExt, InitOut};
 
-/// The second word of INIT's flags, in a record of its own where the first word says so, and else 0.
+/// The second word of INIT's flags, in a record of its own where the first word says so, and else
+/// 0.
 pub fn read_second_flags(flags: u32, reader: &mut Reader<'_>) -> Result<u32>
     ensures { second_flags flags reader.old.left ≡ result }
 {
@@ -55,7 +56,8 @@ pub fn agreed_options(
     options: FsOptions,
 ) -> FsOptions
     ensures { fs_options_bits result ≡
-        options_after (Init (fs_options_bits offered)) (init_answer answer.now) (fs_options_bits options) }
+        options_after (Init (fs_options_bits offered)) (init_answer answer.now)
+        (fs_options_bits options) }
 {
     match answer {
         Ok(want) => agree(offered, *want),
@@ -65,7 +67,8 @@ pub fn agreed_options(
 
 /// The reply to a client of a newer major version: our own version, upon which it asks again.
 pub fn reply_version(unique: u64, w: &mut Writer) -> Result<usize>
-    ensures { Replies (Bytes (body_reply (bytes_of init_out version_out) unique)) w.old result w.new }
+    ensures { Replies (Bytes (body_reply (bytes_of init_out version_out) unique))
+        w.old result w.new }
 {
     let out = InitOut {
         major: KERNEL_VERSION,

@@ -1,7 +1,7 @@
 //! Replies: a header (`struct fuse_out_header`) and a body, put into the room of a writer.
 //!
-//! Each call answers the reply's length, or `EncodeMessage` where the room is too small: then it holds
-//! as much of the reply's beginning as there is room for.
+//! Each call answers the reply's length, or `EncodeMessage` where the room is too small: then it
+//! holds as much of the reply's beginning as there is room for.
 
 ghost use Rattle.std.specs.Prelude.{◌≡◌, ◌≢◌, ◌≤◌, ◌<◌, ◌+◌, ◌^◌, ◌%◌, ◌++◌, ◌-ℤ◌, pos, take, length, [], nat_le, if◌then◌else◌, Ok, Err, IfSome, option_map};
 ghost use Rattle.vfs_wire.specs.Fields.{Fit, bytes_of};
@@ -79,8 +79,9 @@ fn reply_parts<T: ByteValued + Drop>(
     unique: u64,
     w: &mut Writer,
 ) -> Result<usize>
-    ensures replied { size_of out_header + length (bytes_of_option T.table out ++ body.now) < 2 ^ 32 →
-        Replies (Bytes (body_reply (bytes_of_option T.table out ++ body.now) unique)) w.old result w.new }
+    ensures replied { let bytes = bytes_of_option T.table out ++ body.now in
+        size_of out_header + length bytes < 2 ^ 32 →
+        Replies (Bytes (body_reply bytes unique)) w.old result w.new }
     ensures in_width { IfSome out (λ x. Fit T.table.widths (T.table.fields x)) }
 {
     let room = w.available_bytes();
@@ -96,8 +97,8 @@ fn reply_parts<T: ByteValued + Drop>(
     outcome_of(len, room)
 }
 
-/// Replies that a call succeeded: a record and bytes behind it, each where there is one. Without both
-/// the reply is a header alone.
+/// Replies that a call succeeded: a record and bytes behind it, each where there is one. Without
+/// both the reply is a header alone.
 ///
 /// The header says the length of the reply in 32 bits: of a longer one nothing is promised.
 pub fn reply_ok<T: ByteValued + Drop>(
@@ -119,7 +120,8 @@ pub fn reply_ok<T: ByteValued + Drop>(
 
 /// Replies a record.
 pub fn reply_record<T: ByteValued + Drop>(out: T, unique: u64, w: &mut Writer) -> Result<usize>
-    ensures replied { Replies (Bytes (body_reply (bytes_of T.table out) unique)) w.old result w.new }
+    ensures replied { Replies (Bytes (body_reply (bytes_of T.table out) unique))
+        w.old result w.new }
     ensures in_width { Fit T.table.widths (T.table.fields out) }
 {
     reply_parts(Some(out), &[], unique, w)
@@ -135,7 +137,11 @@ fn reply_header(unique: u64, w: &mut Writer) -> Result<usize>
 /// The header of a reply that says a fault: its negated number, or that of EIO where it has none.
 fn fault_header(fault: Fault, unique: u64) -> OutHeader
     ensures header { result ≡
-        record { len = size_of out_header; error = pos 0 -ℤ pos (fault_number fault); unique = unique } }
+        record {
+          len = size_of out_header;
+          error = pos 0 -ℤ pos (fault_number fault);
+          unique = unique;
+        } }
     ensures fault { IsFault fault }
 {
     let errno = match fault {
@@ -387,7 +393,8 @@ pub fn reply_written(
     unique: u64,
     w: &mut Writer,
 ) -> Result<usize>
-    ensures replied { Replies (said unique (say_written (written_answer answer))) w.old result w.new }
+    ensures replied { Replies (said unique (say_written (written_answer answer)))
+        w.old result w.new }
     ensures kind { IsAnswer Writes (written_answer answer) }
 {
     match answer {

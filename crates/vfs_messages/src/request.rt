@@ -46,11 +46,11 @@ fn copy_bytes(alloc: Global, len: usize, reader: &mut Reader<'_>) -> Result<Vec<
     }
 }
 
-/// The tail of a request behind its header and a record of `size` bytes, as long as `len` says. It is
-/// copied once its bytes were found to be there.
+/// The tail of a request behind its header and a record of `size` bytes, as long as `len` says.
+/// It is copied once its bytes were found to be there.
 ///
-/// `InvalidHeaderLength` where `len` is less than header and record, `DecodeMessage` where bytes are
-/// missing, `OutOfMemory` where there is no memory for a tail that is whole, in this order.
+/// `InvalidHeaderLength` where `len` is less than header and record, `DecodeMessage` where bytes
+/// are missing, `OutOfMemory` where there is no memory for a tail that is whole, in this order.
 pub fn read_tail(
     alloc: Global,
     header: &InHeader,
@@ -155,7 +155,8 @@ fn copy_pairs<I: Number>(
     Ok(pairs)
 }
 
-/// So many pairs of a node and a count (`struct fuse_forget_one`). Each is read once, into one vector.
+/// So many pairs of a node and a count (`struct fuse_forget_one`). Each is read once, into one
+/// vector.
 ///
 /// `DecodeMessage` where bytes are missing, then `OutOfMemory` where there is no memory for them.
 pub fn read_pairs<I: Number>(

@@ -1,5 +1,5 @@
-//! Small callers of this crate, as examples. What each ensures follows from the contracts of what it
-//! calls, and from nothing else.
+//! Small callers of this crate, as examples. What each ensures follows from the contracts of what
+//! it calls, and from nothing else.
 
 ghost use Rattle.std.specs.Prelude.{◌≡◌, ◌<◌, ◌≤◌, ◌^◌, ◌++◌, ℕ, List, length, drop, Ok, Err, Some};
 ghost use Rattle.vfs_flags.specs.Opcode.{opcode_of};
@@ -21,8 +21,8 @@ use vfs_flags::Errno;
 use vfs_segments::{Reader, Writer};
 use vfs_wire::{GetattrIn, InHeader};
 
-/// Says to request 9 that it is not served. Sixteen bytes are put into the room; those behind them, and
-/// those that the writer had passed, are as they were.
+/// Says to request 9 that it is not served. Sixteen bytes are put into the room; those behind
+/// them, and those that the writer had passed, are as they were.
 pub fn say_not_served(w: &mut Writer) -> Result<usize>
     requires { 16 ≤ length w.old.left }
     ensures outcome { result ≡ Ok 16 }
@@ -31,7 +31,8 @@ pub fn say_not_served(w: &mut Writer) -> Result<usize>
     reply_failed(Some(Errno::ENOSYS), 9, w)
 }
 
-/// Says to request 9 that it was done, in a room of ten bytes: they hold the beginning of the reply.
+/// Says to request 9 that it was done, in a room of ten bytes: they hold the beginning of the
+/// reply.
 pub fn say_done_in_ten_bytes(w: &mut Writer) -> Result<usize>
     requires { length w.old.left ≡ 10 }
     ensures outcome { result ≡ Err Error.EncodeMessage }
@@ -40,8 +41,8 @@ pub fn say_done_in_ten_bytes(w: &mut Writer) -> Result<usize>
     reply_ok::<u8>(None, None, 9, w)
 }
 
-/// Says to request 9 that it is not served, with a writer that holds sixteen bytes in front of others:
-/// they hold the reply then, what stands behind them stays, and nothing is held.
+/// Says to request 9 that it is not served, with a writer that holds sixteen bytes in front of
+/// others: they hold the reply then, what stands behind them stays, and nothing is held.
 pub fn say_not_served_in_front(w: &mut Writer) -> Result<usize>
     requires { w.old.held ≡ 16 }
     ensures outcome { result ≡ Ok 16 }

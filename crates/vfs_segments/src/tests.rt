@@ -43,8 +43,8 @@ const LARGEST_WRITE: usize = 65_536;
 // A place inside the ninth of the segments below that have bytes.
 const MIDDLE: usize = 33_005;
 
-// The lengths of a thousand segments, of which sixteen have bytes, 66,000 in all. The others need no
-// memory of their own, so that a test can refuse each allocation in turn.
+// The lengths of a thousand segments, of which sixteen have bytes, 66,000 in all. The others need
+// no memory of their own, so that a test can refuse each allocation in turn.
 fn thousand_lengths() -> [usize; 1000] {
     let mut lengths = [0; 1000];
     for i in 0..16 {

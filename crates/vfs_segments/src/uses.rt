@@ -103,8 +103,8 @@ pub fn number_of_four_bytes(reader: &mut Reader<'_>) -> u32
     reader.read_obj().unwrap()
 }
 
-/// A reader that has eight bytes left is cut after three: it keeps these and its count, and the rest
-/// begins anew. Only memory can be wanting, and then the reader is as it was.
+/// A reader that has eight bytes left is cut after three: it keeps these and its count, and the
+/// rest begins anew. Only memory can be wanting, and then the reader is as it was.
 pub fn split_after_three_bytes<'a>(reader: &mut Reader<'a>) -> Result<Reader<'a>>
     requires { length reader.old.left ≡ 8 }
     ensures first { OnOk result (reader.new.left ≡ take 3 reader.old.left) }
@@ -273,8 +273,9 @@ pub fn refused_room_split(writer: &mut Writer) -> Option<Error>
     writer.split_at(9).err()
 }
 
-/// The segments that a writer gives back have the lengths of those that it was given, and what was
-/// written stands in place of the first bytes. Where they can be counted, only memory can be wanting.
+/// The segments that a writer gives back have the lengths of those that it was given, and what
+/// was written stands in place of the first bytes. Where they can be counted, only memory can be
+/// wanting.
 pub fn segments_with_what_was_written(
     alloc: Global,
     segments: Vec<Vec<u8>>,

@@ -20,8 +20,8 @@ pub record ServerState (S : Type 0) : Type 0 where
   pub fs : S
 
 module _ {S I : Type 0} (allows : S → Call → Handed I → S → Type 0) where
-  -- what a server and a writer, both seen before and after, tell of a request: by the states of the file
-  -- system, without a list of events
+  -- what a server and a writer, both seen before and after, tell of a request: by the states of
+  -- the file system, without a list of events
   abbrev pub server_tells : (old : ServerState S) → (writer : Written) → Result ℕ Error
       → (writer_after : Written) → (new : ServerState S) → Witness
   server_tells old writer outcome writer_after new = record {
@@ -34,21 +34,24 @@ module _ {S I : Type 0} (allows : S → Call → Handed I → S → Type 0) wher
   abbrev pub Handles : Ask → (old : ServerState S) → (writer : Written) → Result ℕ Error
       → (writer_after : Written) → (new : ServerState S) → Type 0
   Handles a old writer outcome writer_after new =
-      Follows (server_tells old writer outcome writer_after new) old.limits old.options a new.options
+      Follows (server_tells old writer outcome writer_after new)
+      old.limits old.options a new.options
       × (new.limits ≡ old.limits)
 
   -- a request of this opcode, with this header and these bytes behind it, was handled
-  abbrev pub Serves : Opcode → InHeader → (rest : List ℕ) → (old : ServerState S) → (writer : Written)
-      → Result ℕ Error → (writer_after : Written) → (new : ServerState S) → Type 0
+  abbrev pub Serves : Opcode → InHeader → (rest : List ℕ) → (old : ServerState S)
+      → (writer : Written) → Result ℕ Error → (writer_after : Written) → (new : ServerState S)
+      → Type 0
   Serves opcode header rest old writer outcome writer_after new =
       Handles (ask_opcode old.limits old.options (length writer.left) opcode header rest)
       old writer outcome writer_after new
 
--- One step: a run of the file system from its state before to that after, whose events are those of a
--- turn of the request; the bytes that the writer had passed stay, and its room is as the turn says.
+-- One step: a run of the file system from its state before to that after, whose events are those
+-- of a turn of the request; the bytes that the writer had passed stay, and its room is as the
+-- turn says.
 pub record IsStep {S I : Type 0} (allows : S → Call → Handed I → S → Type 0)
-    (gives : I → Option Item → I → Type 0) (old : ServerState S) (request : List ℕ) (writer : Written)
-    (outcome : Result ℕ Error) (writer_after : Written) (new : ServerState S) : Type 0 where
+    (gives : I → Option Item → I → Type 0) (old : ServerState S) (request : List ℕ)
+    (writer : Written) (outcome : Result ℕ Error) (writer_after : Written) (new : ServerState S) : Type 0 where
   pub run : List (Happening I × S)
   pub room_after : List ℕ
   pub is_run : IsRun allows gives None old.fs run new.fs

@@ -44,7 +44,11 @@ impl<F> Model for Server<F> {
 
     ghost Value = { ServerState F };
 
-    ghost view = { λ s. record { options = fs_options_bits s.options; limits = s.limits; fs = s.fs } };
+    ghost view = { λ s. record {
+      options = fs_options_bits s.options;
+      limits = s.limits;
+      fs = s.fs;
+    } };
 
     ghost invariant = { λ s. AreLimits s.limits };
 }
@@ -105,8 +109,8 @@ fn give_up_hold(w: &mut Writer)
 }
 
 impl<F: FileSystem> Server<F> {
-    /// Ends the session without a request: calls the file system's `destroy`, and no options are agreed
-    /// then. Answers 0, the length of the reply to a DESTROY, which has none.
+    /// Ends the session without a request: calls the file system's `destroy`, and no options are
+    /// agreed then. Answers 0, the length of the reply to a DESTROY, which has none.
     pub fn destroy(&mut self) -> usize
         ensures called { F.allows self.old.fs Destroy (Plain Done) self.new.fs }
         ensures no_options { self.new.options ≡ 0 }
@@ -118,14 +122,15 @@ impl<F: FileSystem> Server<F> {
         0
     }
 
-    /// Handles one request: reads it from `r`, makes its call, and puts the reply into the room that
-    /// `w` has left. Answers the reply's length in bytes, 0 where there is none.
+    /// Handles one request: reads it from `r`, makes its call, and puts the reply into the room
+    /// that `w` has left. Answers the reply's length in bytes, 0 where there is none.
     ///
-    /// `DecodeMessage` where the header, a record, a tail or a list is not whole, `InvalidHeaderLength`
-    /// where `len` is less than what stands before a tail, `InvalidCString` where a tail is no name,
-    /// `OutOfMemory` where there is no memory for a tail or a list that is whole. After any error but
-    /// `EncodeMessage` no call was made, nothing was written, and the options are the old ones. After
-    /// `EncodeMessage` the room holds the beginning of a reply that was too long for it.
+    /// `DecodeMessage` where the header, a record, a tail or a list is not whole,
+    /// `InvalidHeaderLength` where `len` is less than what stands before a tail, `InvalidCString`
+    /// where a tail is no name, `OutOfMemory` where there is no memory for a tail or a list that
+    /// is whole. After any error but `EncodeMessage` no call was made, nothing was written, and
+    /// the options are the old ones. After `EncodeMessage` the room holds the beginning of a
+    /// reply that was too long for it.
     ///
     /// A hold that the caller left on `w` is given up first. What `w` had passed before stays, held
     /// bytes too; where it stands afterwards isn't said.
@@ -135,7 +140,8 @@ impl<F: FileSystem> Server<F> {
         mut r: Reader<'_>,
         w: &mut Writer,
     ) -> Result<usize>
-        ensures step { IsStep F.allows F.DirIter.gives self.old r.entry.left w.old result w.new self.new }
+        ensures step { IsStep F.allows F.DirIter.gives
+            self.old r.entry.left w.old result w.new self.new }
         ensures hold_given_up { w.new.held ≡ 0 }
     {
         give_up_hold(w);
@@ -144,7 +150,8 @@ impl<F: FileSystem> Server<F> {
 
     /// Handles a request with a writer that holds nothing.
     fn handle(&mut self, alloc: Global, r: &mut Reader<'_>, w: &mut Writer) -> Result<usize>
-        ensures step { IsStep F.allows F.DirIter.gives self.old r.old.left w.old result w.new self.new }
+        ensures step { IsStep F.allows F.DirIter.gives
+            self.old r.old.left w.old result w.new self.new }
         ensures no_hold { w.old.held ≡ 0 → w.new.held ≡ 0 }
     {
         match read_record::<InHeader>(r) {
@@ -153,7 +160,8 @@ impl<F: FileSystem> Server<F> {
         }
     }
 
-    /// Handles a request by its header: a `len` above the limit and an unknown opcode are replied here.
+    /// Handles a request by its header: a `len` above the limit and an unknown opcode are replied
+    /// here.
     fn handle_header(
         &mut self,
         alloc: Global,
@@ -183,7 +191,8 @@ impl<F: FileSystem> Server<F> {
         r: &mut Reader<'_>,
         w: &mut Writer,
     ) -> Result<usize>
-        ensures { Serves F.allows opcode header.now r.old.left self.old w.old result w.new self.new }
+        ensures { Serves F.allows opcode header.now r.old.left
+            self.old w.old result w.new self.new }
     {
         match opcode {
             Opcode::Lookup => self.lookup(alloc, header, r, w),

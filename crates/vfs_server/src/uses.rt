@@ -1,5 +1,5 @@
-//! Small callers of the server, as examples. What each ensures follows from the contracts of what it
-//! calls, and from nothing else.
+//! Small callers of the server, as examples. What each ensures follows from the contracts of what
+//! it calls, and from nothing else.
 
 ghost use Rattle.std.specs.Prelude.{◌≡◌, ◌≢◌, ◌≤◌, ◌++◌, [], length, take, drop, Err, Some, IfSome, OnSome};
 ghost use Rattle.vfs_flags.specs.Opcode.{opcode_of};
@@ -65,9 +65,9 @@ const UNKNOWN: [u8; 40] = [
     0, 0, 0, 0, 0, 0, 0, 0, 0,
 ];
 
-/// Hands over a request of an unknown opcode. The sixteen bytes that say ENOSYS stand at the front of
-/// the room, and all other bytes are as they were; nothing is held; the file system wasn't called, and
-/// the options stay. `None` where there is no memory for the reader.
+/// Hands over a request of an unknown opcode. The sixteen bytes that say ENOSYS stand at the
+/// front of the room, and all other bytes are as they were; nothing is held; the file system
+/// wasn't called, and the options stay. `None` where there is no memory for the reader.
 pub fn unknown_opcode<F: FileSystem>(
     alloc: Global,
     server: &mut Server<F>,
@@ -88,8 +88,8 @@ pub fn unknown_opcode<F: FileSystem>(
     server.handle_message(alloc, reader, w).ok()
 }
 
-/// The same, by a caller that holds the first sixteen bytes of its room for itself: they stay as they
-/// were, the reply stands behind them, and nothing is held any more.
+/// The same, by a caller that holds the first sixteen bytes of its room for itself: they stay as
+/// they were, the reply stands behind them, and nothing is held any more.
 pub fn behind_a_hold<F: FileSystem>(
     alloc: Global,
     server: &mut Server<F>,
@@ -97,15 +97,16 @@ pub fn behind_a_hold<F: FileSystem>(
 ) -> Option<usize>
     requires { 32 ≤ length w.old.left }
     ensures bytes { OnSome result
-        (whole w.new ≡ (w.old.passed ++ take 16 w.old.left) ++ (not_served_reply ++ drop 32 w.old.left)) }
+        (whole w.new ≡
+        (w.old.passed ++ take 16 w.old.left) ++ (not_served_reply ++ drop 32 w.old.left)) }
     ensures held { OnSome result (w.new.held ≡ 0) }
 {
     w.hold(16).ok()?;
     unknown_opcode(alloc, server, w)
 }
 
-/// Hands over a GETATTR, which has no tail: whatever its bytes, the room and the cutting, it is never
-/// told that memory is wanted.
+/// Hands over a GETATTR, which has no tail: whatever its bytes, the room and the cutting, it is
+/// never told that memory is wanted.
 pub fn getattr_lacks_no_memory<F: FileSystem>(
     alloc: Global,
     server: &mut Server<F>,

@@ -20,7 +20,8 @@ impl<F: FileSystem> Server<F> {
         r: &mut Reader<'_>,
         w: &mut Writer,
     ) -> Result<usize>
-        ensures { Serves F.allows Opcode.Getattr header.now r.old.left self.old w.old result w.new self.new }
+        ensures { Serves F.allows Opcode.Getattr header.now r.old.left
+            self.old w.old result w.new self.new }
     {
         let getattr_in = read_record::<GetattrIn>(r)?;
         let handle = handle_if::<F::Handle>(getattr_in.flags, GETATTR_FH, getattr_in.fh);
@@ -37,7 +38,8 @@ impl<F: FileSystem> Server<F> {
         r: &mut Reader<'_>,
         w: &mut Writer,
     ) -> Result<usize>
-        ensures { Serves F.allows Opcode.Setattr header.now r.old.left self.old w.old result w.new self.new }
+        ensures { Serves F.allows Opcode.Setattr header.now r.old.left
+            self.old w.old result w.new self.new }
     {
         let setattr_in = read_record::<SetattrIn>(r)?;
         let handle = handle_if::<F::Handle>(setattr_in.valid, FATTR_FH, setattr_in.fh);
@@ -56,7 +58,8 @@ impl<F: FileSystem> Server<F> {
         r: &mut Reader<'_>,
         w: &mut Writer,
     ) -> Result<usize>
-        ensures { Serves F.allows Opcode.Access header.now r.old.left self.old w.old result w.new self.new }
+        ensures { Serves F.allows Opcode.Access header.now r.old.left
+            self.old w.old result w.new self.new }
     {
         let access_in = read_record::<AccessIn>(r)?;
         let inode = F::Inode::from_number(header.nodeid);
@@ -73,7 +76,8 @@ impl<F: FileSystem> Server<F> {
         r: &mut Reader<'_>,
         w: &mut Writer,
     ) -> Result<usize>
-        ensures { Serves F.allows Opcode.Statfs header.now r.old.left self.old w.old result w.new self.new }
+        ensures { Serves F.allows Opcode.Statfs header.now r.old.left
+            self.old w.old result w.new self.new }
     {
         let inode = F::Inode::from_number(header.nodeid);
         let answer = self.fs.statfs(Context::from(*header), inode);

@@ -17,7 +17,8 @@ impl<F: FileSystem> Server<F> {
         r: &mut Reader<'_>,
         w: &mut Writer,
     ) -> Result<usize>
-        ensures { Serves F.allows Opcode.Opendir header.now r.old.left self.old w.old result w.new self.new }
+        ensures { Serves F.allows Opcode.Opendir header.now r.old.left
+            self.old w.old result w.new self.new }
     {
         let open_in = read_record::<OpenIn>(r)?;
         let inode = F::Inode::from_number(header.nodeid);
@@ -34,7 +35,8 @@ impl<F: FileSystem> Server<F> {
         r: &mut Reader<'_>,
         w: &mut Writer,
     ) -> Result<usize>
-        ensures { Serves F.allows Opcode.Releasedir header.now r.old.left self.old w.old result w.new self.new }
+        ensures { Serves F.allows Opcode.Releasedir header.now r.old.left
+            self.old w.old result w.new self.new }
     {
         let release_in = read_record::<ReleaseIn>(r)?;
         let inode = F::Inode::from_number(header.nodeid);
@@ -52,7 +54,8 @@ impl<F: FileSystem> Server<F> {
         r: &mut Reader<'_>,
         w: &mut Writer,
     ) -> Result<usize>
-        ensures { Serves F.allows Opcode.Fsyncdir header.now r.old.left self.old w.old result w.new self.new }
+        ensures { Serves F.allows Opcode.Fsyncdir header.now r.old.left
+            self.old w.old result w.new self.new }
     {
         let fsync_in = read_record::<FsyncIn>(r)?;
         let datasync = is_set(fsync_in.fsync_flags, FSYNC_FDATASYNC);

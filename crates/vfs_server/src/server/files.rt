@@ -22,7 +22,8 @@ impl<F: FileSystem> Server<F> {
         r: &mut Reader<'_>,
         w: &mut Writer,
     ) -> Result<usize>
-        ensures { Serves F.allows Opcode.Open header.now r.old.left self.old w.old result w.new self.new }
+        ensures { Serves F.allows Opcode.Open header.now r.old.left
+            self.old w.old result w.new self.new }
     {
         let open_in = read_record::<OpenIn>(r)?;
         let kill_priv = is_set(open_in.open_flags, OPEN_KILL_SUIDGID);
@@ -41,7 +42,8 @@ impl<F: FileSystem> Server<F> {
         r: &mut Reader<'_>,
         w: &mut Writer,
     ) -> Result<usize>
-        ensures { Serves F.allows Opcode.Release header.now r.old.left self.old w.old result w.new self.new }
+        ensures { Serves F.allows Opcode.Release header.now r.old.left
+            self.old w.old result w.new self.new }
     {
         let release_in = read_record::<ReleaseIn>(r)?;
         let flags = release_in.release_flags;
@@ -71,7 +73,8 @@ impl<F: FileSystem> Server<F> {
         r: &mut Reader<'_>,
         w: &mut Writer,
     ) -> Result<usize>
-        ensures { Serves F.allows Opcode.Fsync header.now r.old.left self.old w.old result w.new self.new }
+        ensures { Serves F.allows Opcode.Fsync header.now r.old.left
+            self.old w.old result w.new self.new }
     {
         let fsync_in = read_record::<FsyncIn>(r)?;
         let datasync = is_set(fsync_in.fsync_flags, FSYNC_FDATASYNC);
@@ -90,7 +93,8 @@ impl<F: FileSystem> Server<F> {
         r: &mut Reader<'_>,
         w: &mut Writer,
     ) -> Result<usize>
-        ensures { Serves F.allows Opcode.Flush header.now r.old.left self.old w.old result w.new self.new }
+        ensures { Serves F.allows Opcode.Flush header.now r.old.left
+            self.old w.old result w.new self.new }
     {
         let flush_in = read_record::<FlushIn>(r)?;
         let inode = F::Inode::from_number(header.nodeid);
@@ -108,7 +112,8 @@ impl<F: FileSystem> Server<F> {
         r: &mut Reader<'_>,
         w: &mut Writer,
     ) -> Result<usize>
-        ensures { Serves F.allows Opcode.Fallocate header.now r.old.left self.old w.old result w.new self.new }
+        ensures { Serves F.allows Opcode.Fallocate header.now r.old.left
+            self.old w.old result w.new self.new }
     {
         let fallocate_in = read_record::<FallocateIn>(r)?;
         let inode = F::Inode::from_number(header.nodeid);
@@ -131,7 +136,8 @@ impl<F: FileSystem> Server<F> {
         r: &mut Reader<'_>,
         w: &mut Writer,
     ) -> Result<usize>
-        ensures { Serves F.allows Opcode.Lseek header.now r.old.left self.old w.old result w.new self.new }
+        ensures { Serves F.allows Opcode.Lseek header.now r.old.left
+            self.old w.old result w.new self.new }
     {
         let lseek_in = read_record::<LseekIn>(r)?;
         let inode = F::Inode::from_number(header.nodeid);
@@ -153,7 +159,8 @@ impl<F: FileSystem> Server<F> {
         r: &mut Reader<'_>,
         w: &mut Writer,
     ) -> Result<usize>
-        ensures { Serves F.allows Opcode.CopyFileRange header.now r.old.left self.old w.old result w.new self.new }
+        ensures { Serves F.allows Opcode.CopyFileRange header.now r.old.left
+            self.old w.old result w.new self.new }
     {
         let range = read_record::<CopyfilerangeIn>(r)?;
         let answer = self.fs.copyfilerange(
@@ -177,7 +184,8 @@ impl<F: FileSystem> Server<F> {
         r: &mut Reader<'_>,
         w: &mut Writer,
     ) -> Result<usize>
-        ensures { Serves F.allows Opcode.TmpFile header.now r.old.left self.old w.old result w.new self.new }
+        ensures { Serves F.allows Opcode.TmpFile header.now r.old.left
+            self.old w.old result w.new self.new }
     {
         let fault = self.fs.tmpfile();
         reply_fault_alone(fault, header.unique, w)

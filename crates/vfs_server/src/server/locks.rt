@@ -17,7 +17,8 @@ impl<F: FileSystem> Server<F> {
         r: &mut Reader<'_>,
         w: &mut Writer,
     ) -> Result<usize>
-        ensures { Serves F.allows Opcode.Getlk header.now r.old.left self.old w.old result w.new self.new }
+        ensures { Serves F.allows Opcode.Getlk header.now r.old.left
+            self.old w.old result w.new self.new }
     {
         let answer = self.fs.getlk();
         reply_fault(answer, header.unique, w)
@@ -30,7 +31,8 @@ impl<F: FileSystem> Server<F> {
         r: &mut Reader<'_>,
         w: &mut Writer,
     ) -> Result<usize>
-        ensures { Serves F.allows Opcode.Setlk header.now r.old.left self.old w.old result w.new self.new }
+        ensures { Serves F.allows Opcode.Setlk header.now r.old.left
+            self.old w.old result w.new self.new }
     {
         let answer = self.fs.setlk();
         reply_fault(answer, header.unique, w)
@@ -43,7 +45,8 @@ impl<F: FileSystem> Server<F> {
         r: &mut Reader<'_>,
         w: &mut Writer,
     ) -> Result<usize>
-        ensures { Serves F.allows Opcode.Setlkw header.now r.old.left self.old w.old result w.new self.new }
+        ensures { Serves F.allows Opcode.Setlkw header.now r.old.left
+            self.old w.old result w.new self.new }
     {
         let answer = self.fs.setlkw();
         reply_fault(answer, header.unique, w)

@@ -21,7 +21,8 @@ impl<F: FileSystem> Server<F> {
         r: &mut Reader<'_>,
         w: &mut Writer,
     ) -> Result<usize>
-        ensures { Serves F.allows Opcode.Lookup header.now r.old.left self.old w.old result w.new self.new }
+        ensures { Serves F.allows Opcode.Lookup header.now r.old.left
+            self.old w.old result w.new self.new }
     {
         let name = read_name(alloc, header, 0, r)?;
         let parent = F::Inode::from_number(header.nodeid);
@@ -38,7 +39,8 @@ impl<F: FileSystem> Server<F> {
         r: &mut Reader<'_>,
         w: &mut Writer,
     ) -> Result<usize>
-        ensures { Serves F.allows Opcode.Forget header.now r.old.left self.old w.old result w.new self.new }
+        ensures { Serves F.allows Opcode.Forget header.now r.old.left
+            self.old w.old result w.new self.new }
     {
         let forget_in = read_record::<ForgetIn>(r)?;
         let inode = F::Inode::from_number(header.nodeid);
@@ -56,7 +58,8 @@ impl<F: FileSystem> Server<F> {
         r: &mut Reader<'_>,
         w: &mut Writer,
     ) -> Result<usize>
-        ensures { Serves F.allows Opcode.BatchForget header.now r.old.left self.old w.old result w.new self.new }
+        ensures { Serves F.allows Opcode.BatchForget header.now r.old.left
+            self.old w.old result w.new self.new }
     {
         let batch = read_record::<BatchForgetIn>(r)?;
         if batch.count as usize * ForgetOne::SIZE > self.limits.max_buffer as usize {
@@ -74,7 +77,8 @@ impl<F: FileSystem> Server<F> {
         r: &mut Reader<'_>,
         w: &mut Writer,
     ) -> Result<usize>
-        ensures { Serves F.allows Opcode.Readlink header.now r.old.left self.old w.old result w.new self.new }
+        ensures { Serves F.allows Opcode.Readlink header.now r.old.left
+            self.old w.old result w.new self.new }
     {
         let inode = F::Inode::from_number(header.nodeid);
         let answer = self.fs.readlink(Context::from(*header), inode);

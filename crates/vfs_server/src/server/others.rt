@@ -1,4 +1,5 @@
-//! Calls of devices and of notifications. Their records are not looked at, and only a fault is replied.
+//! Calls of devices and of notifications. Their records are not looked at, and only a fault is
+//! replied.
 
 ghost use Rattle.vfs_server.specs.Step.{Serves};
 
@@ -17,7 +18,8 @@ impl<F: FileSystem> Server<F> {
         r: &mut Reader<'_>,
         w: &mut Writer,
     ) -> Result<usize>
-        ensures { Serves F.allows Opcode.Bmap header.now r.old.left self.old w.old result w.new self.new }
+        ensures { Serves F.allows Opcode.Bmap header.now r.old.left
+            self.old w.old result w.new self.new }
     {
         let answer = self.fs.bmap();
         reply_fault(answer, header.unique, w)
@@ -30,7 +32,8 @@ impl<F: FileSystem> Server<F> {
         r: &mut Reader<'_>,
         w: &mut Writer,
     ) -> Result<usize>
-        ensures { Serves F.allows Opcode.Ioctl header.now r.old.left self.old w.old result w.new self.new }
+        ensures { Serves F.allows Opcode.Ioctl header.now r.old.left
+            self.old w.old result w.new self.new }
     {
         let answer = self.fs.ioctl();
         reply_fault(answer, header.unique, w)
@@ -43,7 +46,8 @@ impl<F: FileSystem> Server<F> {
         r: &mut Reader<'_>,
         w: &mut Writer,
     ) -> Result<usize>
-        ensures { Serves F.allows Opcode.Poll header.now r.old.left self.old w.old result w.new self.new }
+        ensures { Serves F.allows Opcode.Poll header.now r.old.left
+            self.old w.old result w.new self.new }
     {
         let answer = self.fs.poll();
         reply_fault(answer, header.unique, w)
@@ -56,7 +60,8 @@ impl<F: FileSystem> Server<F> {
         r: &mut Reader<'_>,
         w: &mut Writer,
     ) -> Result<usize>
-        ensures { Serves F.allows Opcode.NotifyReply header.now r.old.left self.old w.old result w.new self.new }
+        ensures { Serves F.allows Opcode.NotifyReply header.now r.old.left
+            self.old w.old result w.new self.new }
     {
         let answer = self.fs.notify_reply();
         reply_fault(answer, header.unique, w)

@@ -22,15 +22,16 @@ impl<F: FileSystem> Server<F> {
         r: &mut Reader<'_>,
         w: &mut Writer,
     ) -> Result<usize>
-        ensures { Serves F.allows Opcode.Init header.now r.old.left self.old w.old result w.new self.new }
+        ensures { Serves F.allows Opcode.Init header.now r.old.left
+            self.old w.old result w.new self.new }
     {
         let init_in = read_record::<InitInCompat>(r)?;
         let flags2 = read_second_flags(init_in.flags, r)?;
         self.init_version(header, &init_in, flags2, w)
     }
 
-    /// INIT of this version: an older one is refused, a newer major one is told ours, and else both sides
-    /// agree on options, which stand even where the reply does not fit.
+    /// INIT of this version: an older one is refused, a newer major one is told ours, and else
+    /// both sides agree on options, which stand even where the reply does not fit.
     fn init_version(
         &mut self,
         header: &InHeader,
@@ -70,7 +71,8 @@ impl<F: FileSystem> Server<F> {
         r: &mut Reader<'_>,
         w: &mut Writer,
     ) -> Result<usize>
-        ensures { Serves F.allows Opcode.Destroy header.now r.old.left self.old w.old result w.new self.new }
+        ensures { Serves F.allows Opcode.Destroy header.now r.old.left
+            self.old w.old result w.new self.new }
     {
         Ok(self.destroy())
     }
@@ -82,7 +84,8 @@ impl<F: FileSystem> Server<F> {
         r: &mut Reader<'_>,
         w: &mut Writer,
     ) -> Result<usize>
-        ensures { Serves F.allows Opcode.Syncfs header.now r.old.left self.old w.old result w.new self.new }
+        ensures { Serves F.allows Opcode.Syncfs header.now r.old.left
+            self.old w.old result w.new self.new }
     {
         let inode = F::Inode::from_number(header.nodeid);
         let answer = self.fs.syncfs(Context::from(*header), inode);

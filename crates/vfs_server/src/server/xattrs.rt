@@ -18,7 +18,8 @@ impl<F: FileSystem> Server<F> {
         r: &mut Reader<'_>,
         w: &mut Writer,
     ) -> Result<usize>
-        ensures { Serves F.allows Opcode.Listxattr header.now r.old.left self.old w.old result w.new self.new }
+        ensures { Serves F.allows Opcode.Listxattr header.now r.old.left
+            self.old w.old result w.new self.new }
     {
         let getxattr_in = read_record::<GetxattrIn>(r)?;
         if getxattr_in.size > self.limits.max_buffer {
