@@ -1,5 +1,5 @@
 -- Notes of calls.
-use Rattle.std.specs.Prelude.{ℕ, List, [], ◌∷◌, Option, unwrap_or, length}
+use Rattle.std.specs.Prelude.{ℕ, List, [], ◌∷◌, unwrap_or, length}
 use Rattle.vfs_files.specs.Calls.{Call, Lookup, Forget, Getattr, Setattr, Readlink, Symlink, Mknod, Mkdir, Unlink, Rmdir, Rename, Link, Open, Statfs, Release, Fsync, Setxattr, Getxattr, Listxattr, Removexattr, Flush, Init, Opendir, Releasedir, Fsyncdir, Getlk, Setlk, Setlkw, Access, Create, Bmap, Destroy, Ioctl, Poll, NotifyReply, BatchForget, Fallocate, Lseek, Copyfilerange, Syncfs, Tmpfile}
 use Rattle.vfs_files.specs.Answers.{Answer, Done, Failed, Found, Created, Handed, Plain, Iterator}
 use Rattle.vfs_files.specs.Runs.{Event, Called, Opened, Taken}

@@ -2,7 +2,7 @@
 use Rattle.std.specs.Prelude.{◌≡◌, ℕ, Bool, true, false, List, [], ◌∷◌, ◌++◌, Option, length, nat_lt, if◌then◌else◌}
 use Rattle.vfs_files.specs.Items.{Item}
 use Rattle.vfs_files.specs.Calls.{Call, Handed}
-use Rattle.vfs_files.specs.Runs.{Happening, IsRun, events_of}
+use Rattle.vfs_files.specs.Runs.{IsRun, events_of}
 use Rattle.vfs_bench.specs.declared.note.Note.{Note}
 use Rattle.vfs_bench.specs.Notes.{note_of_handed, notes_of}
 

@@ -7,6 +7,8 @@ mod note;
 mod outcome;
 mod recorder;
 mod script;
+#[cfg(test)]
+mod tests;
 pub mod uses;
 
 pub use note::{Note, NoteKind};

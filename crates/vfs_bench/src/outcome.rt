@@ -32,7 +32,6 @@ impl Outcome {
         }
     }
 
-
     /// The outcome of a call whose answer names no node.
     #[tactic(auto, unfolding(crate::specs::Outcomes::plain_outcome))]
     pub(crate) fn of<T>(answer: &Result<T, Fault>) -> Outcome

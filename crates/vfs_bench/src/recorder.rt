@@ -38,7 +38,11 @@ impl<F> Model for Recorder<F> {
     ghost Value = { Recorded F };
 
     ghost view = { λ r. record {
-        inner = r.inner; notes = r.notes.items; places = r.places; missed = r.missed } };
+      inner = r.inner;
+      notes = r.notes.items;
+      places = r.places;
+      missed = r.missed;
+    } };
 
     ghost invariant = { λ r. r.places ≤ vec_capacity r.notes };
 }
@@ -51,7 +55,11 @@ impl<F> Recorder<F> {
     where
         F: Drop,
         ensures made { IfOk result (λ recorder. recorder ≡ record {
-            inner = inner; notes = []; places = n; missed = false }) }
+          inner = inner;
+          notes = [];
+          places = n;
+          missed = false;
+        }) }
         ensures memory { IfErr result (λ fault. fault ≡ no_memory) }
     {
         match Vec::with_capacity(alloc, n) {
@@ -116,11 +124,11 @@ impl<F> Recorder<F> {
     /// Notes a call with its outcome.
     fn note_asked(&mut self, opcode: Opcode, node: u64, outcome: Outcome)
         ensures { AddsNote self.old (record {
-            call = number_of opcode;
-            node = node;
-            count = 0;
-            kind = outcome.kind;
-            value = outcome.value;
+          call = number_of opcode;
+          node = node;
+          count = 0;
+          kind = outcome.kind;
+          value = outcome.value;
         }) self.new }
     {
         self.note(Note {
@@ -269,7 +277,9 @@ impl<F: FileSystem> FileSystem for Recorder<F> {
         flags: u32,
     ) -> Result<(), Fault> {
         let node = olddir.number();
-        let answer = self.inner.rename(ctx, olddir, oldname, newdir, newname, flags);
+        let answer = self
+            .inner
+            .rename(ctx, olddir, oldname, newdir, newname, flags);
         self.note_asked(Opcode::Rename, node, Outcome::of(&answer));
         answer
     }
@@ -318,7 +328,15 @@ impl<F: FileSystem> FileSystem for Recorder<F> {
         lock_owner: Option<u64>,
     ) -> Result<(), Fault> {
         let node = inode.number();
-        let answer = self.inner.release(ctx, inode, flags, handle, flush, flock_release, lock_owner);
+        let answer = self.inner.release(
+            ctx,
+            inode,
+            flags,
+            handle,
+            flush,
+            flock_release,
+            lock_owner,
+        );
         self.note_asked(Opcode::Release, node, Outcome::of(&answer));
         answer
     }
@@ -477,7 +495,9 @@ impl<F: FileSystem> FileSystem for Recorder<F> {
         ext: Extensions,
     ) -> Result<(Entry, Option<F::Handle>, OpenOptions), Fault> {
         let node = parent.number();
-        let answer = self.inner.create(ctx, parent, name, mode, kill_priv, flags, umask, ext);
+        let answer = self
+            .inner
+            .create(ctx, parent, name, mode, kill_priv, flags, umask, ext);
         self.note_asked(Opcode::Create, node, Outcome::of_created(&answer));
         answer
     }
@@ -532,7 +552,9 @@ impl<F: FileSystem> FileSystem for Recorder<F> {
         length: u64,
     ) -> Result<(), Fault> {
         let node = inode.number();
-        let answer = self.inner.fallocate(ctx, inode, handle, mode, offset, length);
+        let answer = self
+            .inner
+            .fallocate(ctx, inode, handle, mode, offset, length);
         self.note_asked(Opcode::Fallocate, node, Outcome::of(&answer));
         answer
     }
@@ -564,7 +586,9 @@ impl<F: FileSystem> FileSystem for Recorder<F> {
         flags: u64,
     ) -> Result<u32, Fault> {
         let node = inode_in.number();
-        let answer = self.inner.copyfilerange(ctx, inode_in, handle_in, offset_in, inode_out, handle_out, offset_out, len, flags);
+        let answer = self.inner.copyfilerange(
+            ctx, inode_in, handle_in, offset_in, inode_out, handle_out, offset_out, len, flags,
+        );
         self.note_asked(Opcode::CopyFileRange, node, Outcome::of(&answer));
         answer
     }

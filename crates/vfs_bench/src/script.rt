@@ -356,12 +356,7 @@ impl FileSystem for Script {
         same_value(&self.value)
     }
 
-    fn listxattr(
-        &mut self,
-        ctx: Context,
-        inode: u64,
-        size: u32,
-    ) -> Result<ListxattrReply, Fault> {
+    fn listxattr(&mut self, ctx: Context, inode: u64, size: u32) -> Result<ListxattrReply, Fault> {
         same_names(&self.names)
     }
 
@@ -467,8 +462,7 @@ impl FileSystem for Script {
             (BatchForget ctx requests.items)
             (Plain Done)
             self.new }
-    {
-    }
+    {}
 
     fn fallocate(
         &mut self,

@@ -1,11 +1,11 @@
-//! Recorders at work: calls of this crate, each with a fact that its contracts give.
+//! Recorders and scripts at work: calls of this crate, each with a fact that its contracts give.
 
-ghost use Rattle.std.specs.Prelude.{◌≡◌, ◌≤◌, ◌<◌, ◌++◌, [], ◌∷◌, true, false, length, IfOk};
+ghost use Rattle.std.specs.Prelude.{◌≡◌, ◌≤◌, ◌<◌, ◌++◌, [], ◌∷◌, true, false, length, IfOk, IsOk};
 ghost use Rattle.vfs_files.specs.Answers.{entry_answer};
-ghost use Rattle.vfs_files.specs.Calls.{no_such_call};
+ghost use Rattle.vfs_files.specs.Calls.{no_such_call, not_served};
 ghost use Rattle.vfs_bench.specs.declared.note.NoteKind.TheVariants.{Nothing, Fault as Failed};
 
-use crate::Recorder;
+use crate::{Recorder, Script};
 use std::alloc::Global;
 use vfs_files::{CStr, Context, Entry, FileSystem, Unserved};
 use vfs_flags::Fault;
@@ -18,7 +18,12 @@ pub fn lookup_is_noted(
 ) -> Result<Entry, Fault>
     requires { length recorder.old.notes < recorder.old.places }
     ensures noted { recorder.new.notes ≡ recorder.old.notes ++ record {
-        call = 1; node = 9; count = 0; kind = Failed; value = 38 } ∷ [] }
+      call = 1;
+      node = 9;
+      count = 0;
+      kind = Failed;
+      value = 38;
+    } ∷ [] }
     ensures not_missed { recorder.new.missed ≡ recorder.old.missed }
     ensures answer { entry_answer result ≡ no_such_call }
 {
@@ -43,7 +48,12 @@ pub fn lookup_is_missed(
 pub fn forget_is_noted(recorder: &mut Recorder<Unserved>, ctx: Context)
     requires { length recorder.old.notes < recorder.old.places }
     ensures { recorder.new.notes ≡ recorder.old.notes ++ record {
-        call = 2; node = 9; count = 3; kind = Nothing; value = 0 } ∷ [] }
+      call = 2;
+      node = 9;
+      count = 3;
+      kind = Nothing;
+      value = 0;
+    } ∷ [] }
 {
     recorder.forget(ctx, 9, 3);
 }
@@ -51,12 +61,27 @@ pub fn forget_is_noted(recorder: &mut Recorder<Unserved>, ctx: Context)
 /// A recorder with one place, after one call.
 pub fn first_of_one(alloc: Global) -> Result<Recorder<Unserved>, Fault>
     ensures notes { IfOk result (λ recorder. recorder.notes ≡ record {
-        call = 31; node = 0; count = 0; kind = Failed; value = 38 } ∷ []) }
+      call = 31;
+      node = 0;
+      count = 0;
+      kind = Failed;
+      value = 38;
+    } ∷ []) }
     ensures not_missed { IfOk result (λ recorder. recorder.missed ≡ false) }
 {
     let mut recorder = Recorder::new(alloc, Unserved {}, 1)?;
     let _ = recorder.getlk();
     Ok(recorder)
+}
+
+/// A file system that says of each call that it was done, where it says no more than that.
+pub fn all_done() -> Script
+    ensures done { IsOk result.done }
+    ensures names { result.entry ≡ Err not_served }
+{
+    let mut script = Script::new();
+    script.done = Ok(());
+    script
 }
 
 /// How many calls a recorder noted, where it missed none.
