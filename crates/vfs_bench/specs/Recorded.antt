@@ -18,13 +18,6 @@ pub record Recorded (S : Type 0) : Type 0 where
 abbrev pub with_note : ℕ → List Note → Note → List Note
 with_note places notes note = if nat_lt (length notes) places then notes ++ note ∷ [] else notes
 
--- a note was added, or missed where there was no place, and nothing else changed
-pub record AddsNote {S : Type 0} (old : Recorded S) (note : Note) (new : Recorded S) : Type 0 where
-  pub inner : new.inner ≡ old.inner
-  pub places : new.places ≡ old.places
-  pub notes : new.notes ≡ with_note old.places old.notes note
-  pub missed : new.missed ≡ (if nat_lt (length old.notes) old.places then old.missed else true)
-
 -- a note was added, or missed where there was no place, whatever happened to the inner file system
 pub record IsNoted {S : Type 0} (old : Recorded S) (note : Note) (new : Recorded S) : Type 0 where
   pub places : new.places ≡ old.places

@@ -6,7 +6,7 @@ ghost use Rattle.vfs_flags.specs.Opcode.{number_of};
 ghost use Rattle.vfs_files.specs.Calls.{Getattr, Setattr, BatchForget, no_memory};
 ghost use Rattle.vfs_files.specs.Answers.{Plain, Done, attr_answer};
 ghost use Rattle.vfs_bench.specs.Notes.{told};
-ghost use Rattle.vfs_bench.specs.Recorded.{AddsNote, recorded};
+ghost use Rattle.vfs_bench.specs.Recorded.{IsNoted, recorded};
 
 use crate::note::{Note, NoteKind};
 use crate::outcome::Outcome;
@@ -96,7 +96,8 @@ impl<F> Recorder<F> {
 
     /// Notes a call, where there is a place.
     fn note(&mut self, note: Note)
-        ensures { AddsNote self.old note self.new }
+        ensures inner { self.new.inner ≡ self.old.inner }
+        ensures noted { IsNoted self.old note self.new }
     {
         if self.notes.len() < self.places {
             match self.notes.push(note) {
@@ -110,7 +111,8 @@ impl<F> Recorder<F> {
 
     /// Notes a call that has no answer.
     fn note_told(&mut self, opcode: Opcode, node: u64, count: u64)
-        ensures { AddsNote self.old (told (number_of opcode) node count) self.new }
+        ensures inner { self.new.inner ≡ self.old.inner }
+        ensures noted { IsNoted self.old (told (number_of opcode) node count) self.new }
     {
         self.note(Note {
             call: opcode as u32,
@@ -123,7 +125,8 @@ impl<F> Recorder<F> {
 
     /// Notes a call with its outcome.
     fn note_asked(&mut self, opcode: Opcode, node: u64, outcome: Outcome)
-        ensures { AddsNote self.old (record {
+        ensures inner { self.new.inner ≡ self.old.inner }
+        ensures noted { IsNoted self.old (record {
           call = number_of opcode;
           node = node;
           count = 0;
