@@ -1,6 +1,6 @@
 //! A file system that answers what its maker says.
 
-ghost use Rattle.std.specs.Prelude.{◌≡◌, Ok, Err, IfOk};
+ghost use Rattle.std.specs.Prelude.{◌≡◌, Ok, Err, IfOk, IfErr};
 ghost use Rattle.vfs_flags.specs.Flags.{setattr_valid_bits};
 ghost use Rattle.vfs_files.specs.Calls.{Getattr, Setattr, BatchForget, Options, Plain, Done};
 ghost use Rattle.vfs_files.specs.Calls.{not_served, default_opening, default_statistics};
@@ -149,7 +149,9 @@ fn same_bytes(bytes: &Vec<u8>) -> Result<Vec<u8>, Fault>
 
 /// The same text as `same_bytes` gives it, or the fault.
 fn same_text(text: &Result<Vec<u8>, Fault>) -> Result<Vec<u8>, Fault>
-    ensures { KeepsTextShort (text_answer result) }
+    ensures short { KeepsTextShort (text_answer result) }
+    ensures fault { IfErr text.now (λ fault. result ≡ Err fault) }
+    ensures same { IfOk text.now (λ bytes. IfOk result (λ copy. copy.items ≡ bytes.items)) }
 {
     match text {
         Ok(bytes) => same_bytes(bytes),
@@ -159,7 +161,8 @@ fn same_text(text: &Result<Vec<u8>, Fault>) -> Result<Vec<u8>, Fault>
 
 /// The same value as `same_bytes` gives it, the same length, or the fault.
 fn same_value(value: &Result<GetxattrReply, Fault>) -> Result<GetxattrReply, Fault>
-    ensures { KeepsTextShort (getxattr_answer result) }
+    ensures short { KeepsTextShort (getxattr_answer result) }
+    ensures fault { IfErr value.now (λ fault. result ≡ Err fault) }
 {
     match value {
         Ok(GetxattrReply::Value(bytes)) => Ok(GetxattrReply::Value(same_bytes(bytes)?)),
@@ -170,7 +173,8 @@ fn same_value(value: &Result<GetxattrReply, Fault>) -> Result<GetxattrReply, Fau
 
 /// The same names as `same_bytes` gives them, the same length, or the fault.
 fn same_names(names: &Result<ListxattrReply, Fault>) -> Result<ListxattrReply, Fault>
-    ensures { KeepsTextShort (listxattr_answer result) }
+    ensures short { KeepsTextShort (listxattr_answer result) }
+    ensures fault { IfErr names.now (λ fault. result ≡ Err fault) }
 {
     match names {
         Ok(ListxattrReply::Names(bytes)) => Ok(ListxattrReply::Names(same_bytes(bytes)?)),
