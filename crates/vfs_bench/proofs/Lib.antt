@@ -1,0 +1,2 @@
+pub mod PlainOutcomes
+pub mod Noted

@@ -1,0 +1,4 @@
+pub mod Notes
+pub mod Outcomes
+pub mod Recorded
+pub mod Scripts

@@ -1,0 +1,16 @@
+//! File systems for tests and for hosts that want to see what a client asks: one that notes the
+//! calls of another, and one that answers what its maker says.
+#![tactic(auto)]
+
+pub mod laws;
+mod note;
+mod outcome;
+mod recorder;
+mod script;
+#[cfg(test)]
+mod tests;
+pub mod uses;
+
+pub use note::{Note, NoteKind};
+pub use recorder::Recorder;
+pub use script::Script;

@@ -1,0 +1,611 @@
+//! A file system that notes the calls of another.
+
+ghost use Rattle.std.specs.Prelude.{◌≡◌, [], false, length, map, option_map, IfOk, IfErr};
+ghost use Rattle.vfs_flags.specs.Flags.{setattr_valid_bits};
+ghost use Rattle.vfs_flags.specs.Opcode.{number_of};
+ghost use Rattle.vfs_files.specs.Calls.{Getattr, Setattr, BatchForget, no_memory};
+ghost use Rattle.vfs_files.specs.Answers.{Plain, Done, attr_answer};
+ghost use Rattle.vfs_bench.specs.Notes.{told};
+ghost use Rattle.vfs_bench.specs.Recorded.{IsNoted, recorded};
+
+use crate::note::{Note, NoteKind};
+use crate::outcome::Outcome;
+use std::alloc::Global;
+use std::marker::Model;
+use std::time::Duration;
+use vfs_files::{
+    CStr, Context, Entry, Extensions, FileSystem, GetxattrReply, ListxattrReply, Number,
+};
+use vfs_flags::{Errno, Fault, FsOptions, Opcode, OpenOptions, SetattrValid, SetxattrFlags};
+use vfs_wire::{Attr, SetattrIn, Statvfs64};
+
+/// Notes the calls of a file system, once they are answered, as many as it has places for.
+///
+/// It answers what the file system inside answers. A call that finds no place is answered too, and
+/// [`missed`](Recorder::missed) says from then on that one was.
+#[derive(Drop)]
+pub struct Recorder<F> {
+    inner: F,
+    notes: Vec<Note>,
+    places: usize,
+    missed: bool,
+}
+
+impl<F> Model for Recorder<F> {
+    ghost use Rattle.std.specs.Prelude.{◌≤◌, vec_capacity};
+    ghost use Rattle.vfs_bench.specs.Recorded.{Recorded};
+
+    ghost Value = { Recorded F };
+
+    ghost view = { λ r. record {
+      inner = r.inner;
+      notes = r.notes.items;
+      places = r.places;
+      missed = r.missed;
+    } };
+
+    ghost invariant = { λ r. r.places ≤ vec_capacity r.notes };
+}
+
+impl<F> Recorder<F> {
+    /// Notes the calls of this file system, up to `n` of them: takes the room for their notes at
+    /// once, so that noting takes none. Want of memory, which lets go of the file system, is
+    /// ENOMEM.
+    pub fn new(alloc: Global, inner: F, n: usize) -> Result<Recorder<F>, Fault>
+    where
+        F: Drop,
+        ensures made { IfOk result (λ recorder. recorder ≡ record {
+          inner = inner;
+          notes = [];
+          places = n;
+          missed = false;
+        }) }
+        ensures memory { IfErr result (λ fault. fault ≡ no_memory) }
+    {
+        match Vec::with_capacity(alloc, n) {
+            Ok(notes) => Ok(Recorder {
+                inner,
+                notes,
+                places: n,
+                missed: false,
+            }),
+            Err(_) => Err(Some(Errno::ENOMEM)),
+        }
+    }
+
+    /// The notes, in the order of the calls.
+    pub fn notes(&self) -> &[Note]
+        ensures { result.now ≡ self.now.notes }
+    {
+        &self.notes
+    }
+
+    /// Whether a call was made that found no place for its note.
+    pub fn missed(&self) -> bool
+        ensures { result ≡ self.now.missed }
+    {
+        self.missed
+    }
+
+    /// The file system inside.
+    pub fn inner(&self) -> &F
+        ensures { result.now ≡ self.now.inner }
+    {
+        &self.inner
+    }
+
+    /// Notes a call, where there is a place.
+    fn note(&mut self, note: Note)
+        ensures inner { self.new.inner ≡ self.old.inner }
+        ensures noted { IsNoted self.old note self.new }
+    {
+        if self.notes.len() < self.places {
+            match self.notes.push(note) {
+                Ok(()) => {}
+                Err(_) => self.missed = true,
+            }
+        } else {
+            self.missed = true;
+        }
+    }
+
+    /// Notes a call that has no answer.
+    fn note_told(&mut self, opcode: Opcode, node: u64, count: u64)
+        ensures inner { self.new.inner ≡ self.old.inner }
+        ensures noted { IsNoted self.old (told (number_of opcode) node count) self.new }
+    {
+        self.note(Note {
+            call: opcode as u32,
+            node,
+            count,
+            kind: NoteKind::Nothing,
+            value: 0,
+        });
+    }
+
+    /// Notes a call with its outcome.
+    fn note_asked(&mut self, opcode: Opcode, node: u64, outcome: Outcome)
+        ensures inner { self.new.inner ≡ self.old.inner }
+        ensures noted { IsNoted self.old (record {
+          call = number_of opcode;
+          node = node;
+          count = 0;
+          kind = outcome.kind;
+          value = outcome.value;
+        }) self.new }
+    {
+        self.note(Note {
+            call: opcode as u32,
+            node,
+            count: 0,
+            kind: outcome.kind,
+            value: outcome.value,
+        });
+    }
+}
+
+#[tactic(auto, using(crate::proofs::PlainOutcomes::plain_outcomes))]
+impl<F: FileSystem> FileSystem for Recorder<F> {
+    type Inode = F::Inode;
+
+    type Handle = F::Handle;
+
+    type DirIter = F::DirIter;
+
+    ghost allows = { recorded F.allows };
+
+    fn lookup(&mut self, ctx: Context, parent: F::Inode, name: CStr<'_>) -> Result<Entry, Fault> {
+        let node = parent.number();
+        let answer = self.inner.lookup(ctx, parent, name);
+        self.note_asked(Opcode::Lookup, node, Outcome::of_entry(&answer));
+        answer
+    }
+
+    fn forget(&mut self, ctx: Context, inode: F::Inode, count: u64) {
+        let node = inode.number();
+        self.inner.forget(ctx, inode, count);
+        self.note_told(Opcode::Forget, node, count);
+    }
+
+    fn getattr(
+        &mut self,
+        ctx: Context,
+        inode: F::Inode,
+        handle: Option<F::Handle>,
+    ) -> Result<(Attr, Duration), Fault>
+        ensures { recorded F.allows self.old
+            (Getattr ctx (F.Inode.value inode) (option_map F.Handle.value handle))
+            (Plain (attr_answer result))
+            self.new }
+    {
+        let node = inode.number();
+        let answer = self.inner.getattr(ctx, inode, handle);
+        self.note_asked(Opcode::Getattr, node, Outcome::of(&answer));
+        answer
+    }
+
+    fn setattr(
+        &mut self,
+        ctx: Context,
+        inode: F::Inode,
+        attr: SetattrIn,
+        handle: Option<F::Handle>,
+        valid: SetattrValid,
+    ) -> Result<(Attr, Duration), Fault>
+        ensures { recorded F.allows self.old
+            (Setattr ctx (F.Inode.value inode) attr (option_map F.Handle.value handle)
+            (setattr_valid_bits valid))
+            (Plain (attr_answer result))
+            self.new }
+    {
+        let node = inode.number();
+        let answer = self.inner.setattr(ctx, inode, attr, handle, valid);
+        self.note_asked(Opcode::Setattr, node, Outcome::of(&answer));
+        answer
+    }
+
+    fn readlink(&mut self, ctx: Context, inode: F::Inode) -> Result<Vec<u8>, Fault> {
+        let node = inode.number();
+        let answer = self.inner.readlink(ctx, inode);
+        self.note_asked(Opcode::Readlink, node, Outcome::of(&answer));
+        answer
+    }
+
+    fn symlink(
+        &mut self,
+        ctx: Context,
+        linkname: CStr<'_>,
+        parent: F::Inode,
+        name: CStr<'_>,
+        ext: Extensions,
+    ) -> Result<Entry, Fault> {
+        let node = parent.number();
+        let answer = self.inner.symlink(ctx, linkname, parent, name, ext);
+        self.note_asked(Opcode::Symlink, node, Outcome::of_entry(&answer));
+        answer
+    }
+
+    fn mknod(
+        &mut self,
+        ctx: Context,
+        inode: F::Inode,
+        name: CStr<'_>,
+        mode: u32,
+        rdev: u32,
+        umask: u32,
+        ext: Extensions,
+    ) -> Result<Entry, Fault> {
+        let node = inode.number();
+        let answer = self.inner.mknod(ctx, inode, name, mode, rdev, umask, ext);
+        self.note_asked(Opcode::Mknod, node, Outcome::of_entry(&answer));
+        answer
+    }
+
+    fn mkdir(
+        &mut self,
+        ctx: Context,
+        parent: F::Inode,
+        name: CStr<'_>,
+        mode: u32,
+        umask: u32,
+        ext: Extensions,
+    ) -> Result<Entry, Fault> {
+        let node = parent.number();
+        let answer = self.inner.mkdir(ctx, parent, name, mode, umask, ext);
+        self.note_asked(Opcode::Mkdir, node, Outcome::of_entry(&answer));
+        answer
+    }
+
+    fn unlink(&mut self, ctx: Context, parent: F::Inode, name: CStr<'_>) -> Result<(), Fault> {
+        let node = parent.number();
+        let answer = self.inner.unlink(ctx, parent, name);
+        self.note_asked(Opcode::Unlink, node, Outcome::of(&answer));
+        answer
+    }
+
+    fn rmdir(&mut self, ctx: Context, parent: F::Inode, name: CStr<'_>) -> Result<(), Fault> {
+        let node = parent.number();
+        let answer = self.inner.rmdir(ctx, parent, name);
+        self.note_asked(Opcode::Rmdir, node, Outcome::of(&answer));
+        answer
+    }
+
+    fn rename(
+        &mut self,
+        ctx: Context,
+        olddir: F::Inode,
+        oldname: CStr<'_>,
+        newdir: F::Inode,
+        newname: CStr<'_>,
+        flags: u32,
+    ) -> Result<(), Fault> {
+        let node = olddir.number();
+        let answer = self
+            .inner
+            .rename(ctx, olddir, oldname, newdir, newname, flags);
+        self.note_asked(Opcode::Rename, node, Outcome::of(&answer));
+        answer
+    }
+
+    fn link(
+        &mut self,
+        ctx: Context,
+        inode: F::Inode,
+        newparent: F::Inode,
+        newname: CStr<'_>,
+    ) -> Result<Entry, Fault> {
+        let node = inode.number();
+        let answer = self.inner.link(ctx, inode, newparent, newname);
+        self.note_asked(Opcode::Link, node, Outcome::of_entry(&answer));
+        answer
+    }
+
+    fn open(
+        &mut self,
+        ctx: Context,
+        inode: F::Inode,
+        kill_priv: bool,
+        flags: u32,
+    ) -> Result<(Option<F::Handle>, OpenOptions), Fault> {
+        let node = inode.number();
+        let answer = self.inner.open(ctx, inode, kill_priv, flags);
+        self.note_asked(Opcode::Open, node, Outcome::of(&answer));
+        answer
+    }
+
+    fn statfs(&mut self, ctx: Context, inode: F::Inode) -> Result<Statvfs64, Fault> {
+        let node = inode.number();
+        let answer = self.inner.statfs(ctx, inode);
+        self.note_asked(Opcode::Statfs, node, Outcome::of(&answer));
+        answer
+    }
+
+    fn release(
+        &mut self,
+        ctx: Context,
+        inode: F::Inode,
+        flags: u32,
+        handle: F::Handle,
+        flush: bool,
+        flock_release: bool,
+        lock_owner: Option<u64>,
+    ) -> Result<(), Fault> {
+        let node = inode.number();
+        let answer = self.inner.release(
+            ctx,
+            inode,
+            flags,
+            handle,
+            flush,
+            flock_release,
+            lock_owner,
+        );
+        self.note_asked(Opcode::Release, node, Outcome::of(&answer));
+        answer
+    }
+
+    fn fsync(
+        &mut self,
+        ctx: Context,
+        inode: F::Inode,
+        datasync: bool,
+        handle: F::Handle,
+    ) -> Result<(), Fault> {
+        let node = inode.number();
+        let answer = self.inner.fsync(ctx, inode, datasync, handle);
+        self.note_asked(Opcode::Fsync, node, Outcome::of(&answer));
+        answer
+    }
+
+    fn setxattr(
+        &mut self,
+        ctx: Context,
+        inode: F::Inode,
+        name: CStr<'_>,
+        value: &[u8],
+        flags: u32,
+        extra: SetxattrFlags,
+    ) -> Result<(), Fault> {
+        let node = inode.number();
+        let answer = self.inner.setxattr(ctx, inode, name, value, flags, extra);
+        self.note_asked(Opcode::Setxattr, node, Outcome::of(&answer));
+        answer
+    }
+
+    fn getxattr(
+        &mut self,
+        ctx: Context,
+        inode: F::Inode,
+        name: CStr<'_>,
+        size: u32,
+    ) -> Result<GetxattrReply, Fault> {
+        let node = inode.number();
+        let answer = self.inner.getxattr(ctx, inode, name, size);
+        self.note_asked(Opcode::Getxattr, node, Outcome::of(&answer));
+        answer
+    }
+
+    fn listxattr(
+        &mut self,
+        ctx: Context,
+        inode: F::Inode,
+        size: u32,
+    ) -> Result<ListxattrReply, Fault> {
+        let node = inode.number();
+        let answer = self.inner.listxattr(ctx, inode, size);
+        self.note_asked(Opcode::Listxattr, node, Outcome::of(&answer));
+        answer
+    }
+
+    fn removexattr(&mut self, ctx: Context, inode: F::Inode, name: CStr<'_>) -> Result<(), Fault> {
+        let node = inode.number();
+        let answer = self.inner.removexattr(ctx, inode, name);
+        self.note_asked(Opcode::Removexattr, node, Outcome::of(&answer));
+        answer
+    }
+
+    fn flush(
+        &mut self,
+        ctx: Context,
+        inode: F::Inode,
+        handle: F::Handle,
+        lock_owner: u64,
+    ) -> Result<(), Fault> {
+        let node = inode.number();
+        let answer = self.inner.flush(ctx, inode, handle, lock_owner);
+        self.note_asked(Opcode::Flush, node, Outcome::of(&answer));
+        answer
+    }
+
+    fn init(&mut self, capable: FsOptions) -> Result<FsOptions, Fault> {
+        let answer = self.inner.init(capable);
+        self.note_asked(Opcode::Init, 0, Outcome::of(&answer));
+        answer
+    }
+
+    fn opendir(
+        &mut self,
+        ctx: Context,
+        inode: F::Inode,
+        flags: u32,
+    ) -> Result<(Option<F::Handle>, OpenOptions), Fault> {
+        let node = inode.number();
+        let answer = self.inner.opendir(ctx, inode, flags);
+        self.note_asked(Opcode::Opendir, node, Outcome::of(&answer));
+        answer
+    }
+
+    fn releasedir(
+        &mut self,
+        ctx: Context,
+        inode: F::Inode,
+        flags: u32,
+        handle: F::Handle,
+    ) -> Result<(), Fault> {
+        let node = inode.number();
+        let answer = self.inner.releasedir(ctx, inode, flags, handle);
+        self.note_asked(Opcode::Releasedir, node, Outcome::of(&answer));
+        answer
+    }
+
+    fn fsyncdir(
+        &mut self,
+        ctx: Context,
+        inode: F::Inode,
+        datasync: bool,
+        handle: F::Handle,
+    ) -> Result<(), Fault> {
+        let node = inode.number();
+        let answer = self.inner.fsyncdir(ctx, inode, datasync, handle);
+        self.note_asked(Opcode::Fsyncdir, node, Outcome::of(&answer));
+        answer
+    }
+
+    fn getlk(&mut self) -> Result<(), Fault> {
+        let answer = self.inner.getlk();
+        self.note_asked(Opcode::Getlk, 0, Outcome::of(&answer));
+        answer
+    }
+
+    fn setlk(&mut self) -> Result<(), Fault> {
+        let answer = self.inner.setlk();
+        self.note_asked(Opcode::Setlk, 0, Outcome::of(&answer));
+        answer
+    }
+
+    fn setlkw(&mut self) -> Result<(), Fault> {
+        let answer = self.inner.setlkw();
+        self.note_asked(Opcode::Setlkw, 0, Outcome::of(&answer));
+        answer
+    }
+
+    fn access(&mut self, ctx: Context, inode: F::Inode, mask: u32) -> Result<(), Fault> {
+        let node = inode.number();
+        let answer = self.inner.access(ctx, inode, mask);
+        self.note_asked(Opcode::Access, node, Outcome::of(&answer));
+        answer
+    }
+
+    fn create(
+        &mut self,
+        ctx: Context,
+        parent: F::Inode,
+        name: CStr<'_>,
+        mode: u32,
+        kill_priv: bool,
+        flags: u32,
+        umask: u32,
+        ext: Extensions,
+    ) -> Result<(Entry, Option<F::Handle>, OpenOptions), Fault> {
+        let node = parent.number();
+        let answer = self
+            .inner
+            .create(ctx, parent, name, mode, kill_priv, flags, umask, ext);
+        self.note_asked(Opcode::Create, node, Outcome::of_created(&answer));
+        answer
+    }
+
+    fn bmap(&mut self) -> Result<(), Fault> {
+        let answer = self.inner.bmap();
+        self.note_asked(Opcode::Bmap, 0, Outcome::of(&answer));
+        answer
+    }
+
+    fn destroy(&mut self) {
+        self.inner.destroy();
+        self.note_told(Opcode::Destroy, 0, 0);
+    }
+
+    fn ioctl(&mut self) -> Result<(), Fault> {
+        let answer = self.inner.ioctl();
+        self.note_asked(Opcode::Ioctl, 0, Outcome::of(&answer));
+        answer
+    }
+
+    fn poll(&mut self) -> Result<(), Fault> {
+        let answer = self.inner.poll();
+        self.note_asked(Opcode::Poll, 0, Outcome::of(&answer));
+        answer
+    }
+
+    fn notify_reply(&mut self) -> Result<(), Fault> {
+        let answer = self.inner.notify_reply();
+        self.note_asked(Opcode::NotifyReply, 0, Outcome::of(&answer));
+        answer
+    }
+
+    fn batch_forget(&mut self, ctx: Context, requests: Vec<(F::Inode, u64)>)
+        ensures { recorded F.allows self.old
+            (BatchForget ctx (map (λ p. (F.Inode.value p.0, p.1)) requests.items))
+            (Plain Done)
+            self.new }
+    {
+        let count = requests.len() as u64;
+        self.inner.batch_forget(ctx, requests);
+        self.note_told(Opcode::BatchForget, 0, count);
+    }
+
+    fn fallocate(
+        &mut self,
+        ctx: Context,
+        inode: F::Inode,
+        handle: F::Handle,
+        mode: u32,
+        offset: u64,
+        length: u64,
+    ) -> Result<(), Fault> {
+        let node = inode.number();
+        let answer = self
+            .inner
+            .fallocate(ctx, inode, handle, mode, offset, length);
+        self.note_asked(Opcode::Fallocate, node, Outcome::of(&answer));
+        answer
+    }
+
+    fn lseek(
+        &mut self,
+        ctx: Context,
+        inode: F::Inode,
+        handle: F::Handle,
+        offset: u64,
+        whence: u32,
+    ) -> Result<u64, Fault> {
+        let node = inode.number();
+        let answer = self.inner.lseek(ctx, inode, handle, offset, whence);
+        self.note_asked(Opcode::Lseek, node, Outcome::of(&answer));
+        answer
+    }
+
+    fn copyfilerange(
+        &mut self,
+        ctx: Context,
+        inode_in: F::Inode,
+        handle_in: F::Handle,
+        offset_in: u64,
+        inode_out: F::Inode,
+        handle_out: F::Handle,
+        offset_out: u64,
+        len: u64,
+        flags: u64,
+    ) -> Result<u32, Fault> {
+        let node = inode_in.number();
+        let answer = self.inner.copyfilerange(
+            ctx, inode_in, handle_in, offset_in, inode_out, handle_out, offset_out, len, flags,
+        );
+        self.note_asked(Opcode::CopyFileRange, node, Outcome::of(&answer));
+        answer
+    }
+
+    fn syncfs(&mut self, ctx: Context, inode: F::Inode) -> Result<(), Fault> {
+        let node = inode.number();
+        let answer = self.inner.syncfs(ctx, inode);
+        self.note_asked(Opcode::Syncfs, node, Outcome::of(&answer));
+        answer
+    }
+
+    fn tmpfile(&mut self) -> Fault {
+        let fault = self.inner.tmpfile();
+        self.note_asked(Opcode::TmpFile, 0, Outcome::of_fault(&fault));
+        fault
+    }
+}
