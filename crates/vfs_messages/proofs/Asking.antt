@@ -12,16 +12,17 @@ use Rattle.vfs_wire.specs.Entries.{forget_one}
 use Rattle.vfs_wire.specs.declared.headers.InHeader.{InHeader}
 use Rattle.vfs_wire.specs.declared.init.InitInCompat.{InitInCompat}
 use Rattle.vfs_files.specs.Calls.{Call}
-use Rattle.vfs_files.specs.Names.{name_of}
+use Rattle.vfs_files.specs.Names.{name_of, first_name}
 use Rattle.vfs_messages.specs.Limits.{max_len}
 use Rattle.vfs_messages.specs.Records.{size_of, record_of}
 use Rattle.vfs_messages.specs.Ask.{form_of, ask_number, ask_header, ask}
-use Rattle.vfs_messages.specs.Forms.{Ask, Ends, Asks, Copies, refused, silent, within, refused_or, tail_of, name_or_refusal, pairs_of, pairs_in, second_flags, flags2_in, ask_version, Layout, Without, Record, layout_record, Form, NoTail, NameTail, Pairs, Versions, Silent, NotServed, ask_form}
+use Rattle.vfs_messages.specs.Forms.{second_or_refusal, both_or_refusal, names_in, sized_or_refusal, value_in}
+use Rattle.vfs_messages.specs.Forms.{Ask, Ends, Asks, Copies, refused, silent, within, refused_or, tail_of, name_or_refusal, pairs_of, pairs_in, second_flags, flags2_in, ask_version, Layout, Without, Record, layout_record, Form, NoTail, NameTail, TwoNames, NameAndValue, Pairs, Versions, Silent, NotServed, ask_form}
 use Rattle.vfs_messages.specs.Laws.{unique_of}
 use Rattle.vfs_messages.specs.Reply.{Bytes, Echo, fault_reply, body_reply, version_out}
 use Rattle.vfs_messages.specs.declared.limits.Limits.{Limits}
 use Rattle.vfs_messages.specs.declared.error.Error.{Error}
-use Rattle.vfs_messages.specs.declared.error.Error.TheVariants.{DecodeMessage, FlushMessage, InvalidCString, InvalidCString2, InvalidHeaderLength, OutOfMemory}
+use Rattle.vfs_messages.specs.declared.error.Error.TheVariants.{DecodeMessage, FlushMessage, MissingParameter, InvalidXattrSize, InvalidCString, InvalidCString2, InvalidHeaderLength, OutOfMemory}
 
 -- the errors by which the table refuses a request
 abbrev pub MayRefuse : Error → Type 0
@@ -90,6 +91,23 @@ module _ (P : Ask → Type 0) (unique : ℕ) (each : EachCase P unique) where
   name_cases None next p = each.refusal InvalidCString tt
   name_cases (Some text) next p = p text
 
+  second_name_cases : (first : List ℕ) (second : Option (List ℕ)) (next : List ℕ × List ℕ → Ask)
+      → ((x : List ℕ × List ℕ) → P (next x)) → P (refused_or (second_or_refusal first second) next)
+  second_name_cases first None next p = each.refusal InvalidCString tt
+  second_name_cases first (Some second) next p = p (first, second)
+
+  names_cases : (part : Option (List ℕ × List ℕ)) (next : List ℕ × List ℕ → Ask)
+      → ((x : List ℕ × List ℕ) → P (next x)) → P (refused_or (both_or_refusal part) next)
+  names_cases None next p = each.refusal MissingParameter tt
+  names_cases (Some part) next p = second_name_cases part.0 (name_of part.1) next p
+
+  sized_cases : (size : ℕ) (part : Option (List ℕ × List ℕ)) (next : List ℕ × List ℕ → Ask)
+      → ((x : List ℕ × List ℕ) → P (next x)) → P (refused_or (sized_or_refusal size part) next)
+  sized_cases size None next p = each.refusal MissingParameter tt
+  sized_cases size (Some part) next p =
+      either (λ r. P (refused_or r next)) (length part.1 == size) (Ok part) (Err (InvalidXattrSize (size, length part.1)))
+      (p part) (each.refusal (InvalidXattrSize (size, length part.1)) tt)
+
   version_cases : (h : InHeader) (r : InitInCompat) (flags2 : ℕ) → h.unique ≡ unique → P (ask_version h r flags2)
   version_cases h r flags2 e = rw e
       (either P (nat_lt r.major KERNEL_VERSION) _ _ (each.fault (Some eproto))
@@ -116,6 +134,12 @@ module _ (P : Ask → Type 0) (unique : ℕ) (each : EachCase P unique) where
     form_cases h rest (NameTail l above call) e =
         layout_cases l rest _ (λ r is. tail_cases h _ _ _ (λ tail whole.
         copies _ (within_cases (above r) h _ e (λ no. name_cases (name_of tail) _ (λ name. each.asks _ _ e)))))
+    form_cases h rest (TwoNames l call) e =
+        layout_cases l rest _ (λ r is. tail_cases h _ _ _ (λ tail whole.
+        copies _ (names_cases (first_name tail) _ (λ names. each.asks _ _ e))))
+    form_cases h rest (NameAndValue l size call) e =
+        layout_cases l rest _ (λ r is. tail_cases h _ _ _ (λ tail whole.
+        copies _ (sized_cases (size r) (first_name tail) _ (λ part. each.asks _ _ e))))
     form_cases h rest (Pairs l above count call) e =
         layout_cases l rest _ (λ r is. within_cases (above r) h _ e (λ no.
         pairs_cases (count r) _ _ (λ pairs whole. copies _ (each.asks _ _ e))))

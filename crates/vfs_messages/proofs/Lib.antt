@@ -1,3 +1,4 @@
+pub mod FirstNames
 pub mod Rooms
 pub mod Pairs
 pub mod Asking

@@ -18,7 +18,7 @@ use Rattle.vfs_files.specs.Runs.{Called}
 use Rattle.vfs_messages.specs.Limits.{max_len}
 use Rattle.vfs_messages.specs.Records.{size_of}
 use Rattle.vfs_messages.specs.Ask.{form_of, ask, ask_number}
-use Rattle.vfs_messages.specs.Forms.{Ask, Ends, Asks, Copies, Form, NoTail, NameTail, Pairs, Versions, Silent, NotServed, ask_form, MayLackMemory}
+use Rattle.vfs_messages.specs.Forms.{Ask, Ends, Asks, Copies, Form, NoTail, NameTail, TwoNames, NameAndValue, Pairs, Versions, Silent, NotServed, ask_form, MayLackMemory}
 use Rattle.vfs_messages.specs.Laws.{unique_of, BeginsWithHeader, AreAgreed, WantsMemory, MayLackBehind}
 use Rattle.vfs_messages.specs.Options.{agreed, options_after}
 use Rattle.vfs_messages.specs.Reply.{Reply, Refusal, NoReply, Bytes, OpenBehind, Never, Saying, Fault, Body, Unsaid, Wrong, said, said_open, said_by, is_open, say, fault_reply, fault_number, body_reply, version_out}
@@ -146,6 +146,16 @@ module _ (limits : Limits) (options after : ℕ) (t : Turn) (lacks : t.outcome �
       within_cases (Gives Q) h.unique all (above r) h _ refl (λ no. all.asks _ _ refl))
   memory_form h rest (NameTail l above call) =
       let Q = MayLackMemory h rest (NameTail l above call) in
+      let all = each Q h.unique in
+      layout_cases (Gives Q) h.unique all l rest _ (λ r is.
+      tail_cases (Gives Q) h.unique all h _ _ _ (λ tail whole f. record { whole_record = is_ok _ r is; whole_tail = is_ok _ tail whole }))
+  memory_form h rest (TwoNames l call) =
+      let Q = MayLackMemory h rest (TwoNames l call) in
+      let all = each Q h.unique in
+      layout_cases (Gives Q) h.unique all l rest _ (λ r is.
+      tail_cases (Gives Q) h.unique all h _ _ _ (λ tail whole f. record { whole_record = is_ok _ r is; whole_tail = is_ok _ tail whole }))
+  memory_form h rest (NameAndValue l size call) =
+      let Q = MayLackMemory h rest (NameAndValue l size call) in
       let all = each Q h.unique in
       layout_cases (Gives Q) h.unique all l rest _ (λ r is.
       tail_cases (Gives Q) h.unique all h _ _ _ (λ tail whole f. record { whole_record = is_ok _ r is; whole_tail = is_ok _ tail whole }))

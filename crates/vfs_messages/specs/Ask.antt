@@ -1,24 +1,26 @@
 -- What a request asks, by its bytes alone: the table of the protocol.
-use Rattle.std.specs.Prelude.{ℕ, ◌*◌, ◌==◌, bit_and, bit_or, Bool, List, drop, nat_lt, not, if◌then◌else◌, Option, Some, None}
+use Rattle.std.specs.Prelude.{ℕ, [], ◌∷◌, slice_index, ◌*◌, ◌==◌, bit_and, bit_or, Bool, List, drop, nat_lt, not, if◌then◌else◌, Option, Some, None}
 use Rattle.vfs_flags.specs.Errors.{enosys}
-use Rattle.vfs_flags.specs.Flags.{known_setattr_valid}
+use Rattle.vfs_flags.specs.Flags.{known_setattr_valid, known_setxattr_flags, setxattr_ext}
 use Rattle.vfs_flags.specs.Opcode.{opcode_of}
 use Rattle.vfs_flags.specs.declared.constants.TheConstants.{FATTR_FH, GETATTR_FH, FSYNC_FDATASYNC, OPEN_KILL_SUIDGID, RELEASE_FLUSH, RELEASE_FLOCK_UNLOCK}
 use Rattle.vfs_flags.specs.declared.opcode.Opcode.{Opcode}
 use Rattle.vfs_flags.specs.declared.opcode.Opcode.TheVariants.{Lookup, Forget, Getattr, Setattr, Readlink, Symlink, Mknod, Mkdir, Unlink, Rmdir, Rename, Link, Open, Read, Write, Statfs, Release, Fsync, Setxattr, Getxattr, Listxattr, Removexattr, Flush, Init, Opendir, Readdir, Releasedir, Fsyncdir, Getlk, Setlk, Setlkw, Access, Create, Interrupt, Bmap, Destroy, Ioctl, Poll, NotifyReply, BatchForget, Fallocate, Readdirplus, Rename2, Lseek, CopyFileRange, SetupMapping, RemoveMapping, Syncfs, TmpFile}
+use Rattle.vfs_wire.specs.Fields.{Table}
 use Rattle.vfs_wire.specs.Headers.{in_header}
 use Rattle.vfs_wire.specs.Attributes.{getattr_in, setattr_in}
 use Rattle.vfs_wire.specs.Entries.{forget_in, forget_one, batch_forget_in}
 use Rattle.vfs_wire.specs.Files.{open_in, release_in, flush_in, fsync_in}
-use Rattle.vfs_wire.specs.Names.{access_in}
+use Rattle.vfs_wire.specs.Names.{access_in, link_in, rename_in, rename2_in}
 use Rattle.vfs_wire.specs.Ranges.{lseek_in, copyfilerange_in, fallocate_in}
-use Rattle.vfs_wire.specs.Xattrs.{getxattr_in}
+use Rattle.vfs_wire.specs.Xattrs.{getxattr_in, setxattr_in}
 use Rattle.vfs_wire.specs.declared.headers.InHeader.{InHeader}
+use Rattle.vfs_wire.specs.declared.xattrs.SetxattrIn.{SetxattrIn}
 use Rattle.vfs_files.specs.Calls as call
 use Rattle.vfs_files.specs.Entries.{context_of}
 use Rattle.vfs_messages.specs.Limits.{max_len}
 use Rattle.vfs_messages.specs.Records.{size_of, record_of}
-use Rattle.vfs_messages.specs.Forms.{Ask, refused_or, faulted, within, no_record, Record, unlimited, Form, NoTail, NameTail, Pairs, Versions, Silent, NotServed, ask_form}
+use Rattle.vfs_messages.specs.Forms.{Ask, refused_or, faulted, within, Layout, no_record, Record, unlimited, Form, NoTail, NameTail, TwoNames, NameAndValue, Pairs, Versions, Silent, NotServed, ask_form}
 use Rattle.vfs_messages.specs.declared.limits.Limits.{Limits}
 
 -- whether a word of flags has one of these flags
@@ -28,6 +30,28 @@ has_flag flags flag = not (bit_and flags flag == 0)
 -- a number is passed where a word of flags has one of these flags
 abbrev pub if_set : (flags flag n : ℕ) → Option ℕ
 if_set flags flag n = if bit_and flags flag == 0 then None else Some n
+
+-- SETXATTR's record where SETXATTR_EXT isn't agreed: 8 bytes, without further flags
+abbrev pub setxattr_in_short : Table SetxattrIn
+setxattr_in_short = record {
+  widths = 4 ∷ 4 ∷ [];
+  fields = λ r. r.size ∷ r.flags ∷ [];
+  made = λ xs. record {
+    size = slice_index xs 0;
+    flags = slice_index xs 1;
+    setxattr_flags = 0;
+    padding = 0;
+  };
+}
+
+-- SETXATTR's record by the agreed options
+abbrev pub setxattr_layout : (options : ℕ) → Layout SetxattrIn
+setxattr_layout options =
+    if bit_and options setxattr_ext == 0 then Record setxattr_in_short else Record setxattr_in
+
+-- the flags of RENAME2 that are passed on: not to replace, to exchange, and to leave a whiteout
+abbrev pub rename_flags : ℕ
+rename_flags = 7
 
 -- The table of the protocol: a line for each opcode, by the limits, the agreed options, the room
 -- and the header. The calls that name a caller and a node name those of the header.
@@ -48,10 +72,16 @@ form_of limits options room h Readlink =
 form_of limits options room h Symlink = NotServed
 form_of limits options room h Mknod = NotServed
 form_of limits options room h Mkdir = NotServed
-form_of limits options room h Unlink = NotServed
-form_of limits options room h Rmdir = NotServed
-form_of limits options room h Rename = NotServed
-form_of limits options room h Link = NotServed
+form_of limits options room h Unlink =
+    NameTail no_record unlimited (λ r name. call.Unlink (context_of h) h.nodeid name)
+form_of limits options room h Rmdir =
+    NameTail no_record unlimited (λ r name. call.Rmdir (context_of h) h.nodeid name)
+form_of limits options room h Rename =
+    TwoNames (Record rename_in) (λ r old new.
+    call.Rename (context_of h) h.nodeid old r.newdir new 0)
+form_of limits options room h Link =
+    NameTail (Record link_in) unlimited (λ r name.
+    call.Link (context_of h) r.oldnodeid h.nodeid name)
 form_of limits options room h Open =
     NoTail (Record open_in) unlimited (λ r.
     call.Open (context_of h) h.nodeid (has_flag r.open_flags OPEN_KILL_SUIDGID) r.flags)
@@ -67,12 +97,18 @@ form_of limits options room h Release =
 form_of limits options room h Fsync =
     NoTail (Record fsync_in) unlimited (λ r.
     call.Fsync (context_of h) h.nodeid (has_flag r.fsync_flags FSYNC_FDATASYNC) r.fh)
-form_of limits options room h Setxattr = NotServed
-form_of limits options room h Getxattr = NotServed
+form_of limits options room h Setxattr =
+    NameAndValue (setxattr_layout options) (λ r. r.size) (λ r name value.
+    call.Setxattr (context_of h) h.nodeid name value r.flags
+    (bit_and r.setxattr_flags known_setxattr_flags))
+form_of limits options room h Getxattr =
+    NameTail (Record getxattr_in) (λ r. nat_lt limits.max_buffer r.size) (λ r name.
+    call.Getxattr (context_of h) h.nodeid name r.size)
 form_of limits options room h Listxattr =
     NoTail (Record getxattr_in) (λ r. nat_lt limits.max_buffer r.size) (λ r.
     call.Listxattr (context_of h) h.nodeid r.size)
-form_of limits options room h Removexattr = NotServed
+form_of limits options room h Removexattr =
+    NameTail no_record unlimited (λ r name. call.Removexattr (context_of h) h.nodeid name)
 form_of limits options room h Flush =
     NoTail (Record flush_in) unlimited (λ r.
     call.Flush (context_of h) h.nodeid r.fh r.lock_owner)
@@ -105,7 +141,9 @@ form_of limits options room h Fallocate =
     NoTail (Record fallocate_in) unlimited (λ r.
     call.Fallocate (context_of h) h.nodeid r.fh r.mode r.offset r.length)
 form_of limits options room h Readdirplus = NotServed
-form_of limits options room h Rename2 = NotServed
+form_of limits options room h Rename2 =
+    TwoNames (Record rename2_in) (λ r old new.
+    call.Rename (context_of h) h.nodeid old r.newdir new (bit_and r.flags rename_flags))
 form_of limits options room h Lseek =
     NoTail (Record lseek_in) unlimited (λ r.
     call.Lseek (context_of h) h.nodeid r.fh r.offset r.whence)

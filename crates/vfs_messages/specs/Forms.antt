@@ -12,12 +12,12 @@ use Rattle.vfs_wire.specs.declared.headers.InHeader.{InHeader}
 use Rattle.vfs_wire.specs.declared.init.InitInExt.{InitInExt}
 use Rattle.vfs_files.specs.Calls.{Call}
 use Rattle.vfs_files.specs.Calls as call
-use Rattle.vfs_files.specs.Names.{name_of}
+use Rattle.vfs_files.specs.Names.{name_of, first_name}
 use Rattle.vfs_messages.specs.Options.{offered}
 use Rattle.vfs_messages.specs.Records.{size_of, record_of}
 use Rattle.vfs_messages.specs.Reply.{Reply, Refusal, Bytes, NoReply, Echo, echo_of, fault_reply, body_reply, version_out}
 use Rattle.vfs_messages.specs.declared.error.Error.{Error}
-use Rattle.vfs_messages.specs.declared.error.Error.TheVariants.{DecodeMessage, InvalidCString, InvalidHeaderLength}
+use Rattle.vfs_messages.specs.declared.error.Error.TheVariants.{DecodeMessage, MissingParameter, InvalidCString, InvalidHeaderLength, InvalidXattrSize}
 
 -- What a request asks: to be ended without a call, by this coming back; a call, whose reply
 -- repeats this of the request; or that some of its bytes be copied, for which there may be no
@@ -65,6 +65,34 @@ name_or_refusal (Some name) = Ok name
 -- the name that a tail is
 abbrev pub name_in : (tail : List ℕ) → Result (List ℕ) Error
 name_in tail = name_or_refusal (name_of tail)
+
+-- a name before another, or the refusal of what is none
+abbrev pub second_or_refusal : (first : List ℕ) → Option (List ℕ)
+    → Result (List ℕ × List ℕ) Error
+second_or_refusal first None = Err InvalidCString
+second_or_refusal first (Some second) = Ok (first, second)
+
+-- a name and the name that follows it, or the refusal of what has none
+abbrev pub both_or_refusal : Option (List ℕ × List ℕ) → Result (List ℕ × List ℕ) Error
+both_or_refusal None = Err MissingParameter
+both_or_refusal (Some part) = second_or_refusal part.0 (name_of part.1)
+
+-- the two names that a tail is: the first ends at its first 0, and the second is the rest
+abbrev pub names_in : (tail : List ℕ) → Result (List ℕ × List ℕ) Error
+names_in tail = both_or_refusal (first_name tail)
+
+-- a name and what follows it, or the refusal of what has none, and of what isn't as long as a record
+-- says
+abbrev pub sized_or_refusal : (size : ℕ) → Option (List ℕ × List ℕ)
+    → Result (List ℕ × List ℕ) Error
+sized_or_refusal size None = Err MissingParameter
+sized_or_refusal size (Some part) =
+    if length part.1 == size then Ok part else Err (InvalidXattrSize (size, length part.1))
+
+-- the name and the value that a tail is: the name ends at its first 0, and the value is the rest, of
+-- this size
+abbrev pub value_in : (size : ℕ) → (tail : List ℕ) → Result (List ℕ × List ℕ) Error
+value_in size tail = sized_or_refusal size (first_name tail)
 
 -- so many pairs of a node and a count
 abbrev pub pairs_of : (count : ℕ) → (bytes : List ℕ) → List (ℕ × ℕ)
@@ -136,6 +164,9 @@ unlimited r = false
 pub data Form : Type 1 where
   NoTail : {R : Type 0} (layout : Layout R) (above : R → Bool) (call : R → Call) → Form
   NameTail : {R : Type 0} (layout : Layout R) (above : R → Bool) (call : R → List ℕ → Call) → Form
+  TwoNames : {R : Type 0} (layout : Layout R) (call : R → (first second : List ℕ) → Call) → Form
+  NameAndValue : {R : Type 0} (layout : Layout R) (size : R → ℕ)
+      (call : R → (name value : List ℕ) → Call) → Form
   Pairs : {R : Type 0} (layout : Layout R) (above : R → Bool) (count : R → ℕ)
       (call : R → List (ℕ × ℕ) → Call) → Form
   Versions : Form
@@ -152,6 +183,14 @@ ask_form h rest (NameTail layout above call) =
     refused_or (tail_of h (layout_size layout) (behind layout rest)) (λ tail.
     Copies (within (above r) h
     (refused_or (name_in tail) (λ name. Asks (echo_of h) (call r name))))))
+ask_form h rest (TwoNames layout call) =
+    refused_or (layout_record layout rest) (λ r.
+    refused_or (tail_of h (layout_size layout) (behind layout rest)) (λ tail.
+    Copies (refused_or (names_in tail) (λ names. Asks (echo_of h) (call r names.0 names.1)))))
+ask_form h rest (NameAndValue layout size call) =
+    refused_or (layout_record layout rest) (λ r.
+    refused_or (tail_of h (layout_size layout) (behind layout rest)) (λ tail.
+    Copies (refused_or (value_in (size r) tail) (λ part. Asks (echo_of h) (call r part.0 part.1)))))
 ask_form h rest (Pairs layout above count call) =
     refused_or (layout_record layout rest) (λ r.
     within (above r) h
@@ -180,5 +219,7 @@ pub record PairsAreWhole {R : Type 0} (rest : List ℕ) (layout : Layout R) (abo
 -- where memory may be wanted, by the form: for a tail or pairs that are whole, and for nothing else
 abbrev pub MayLackMemory : InHeader → (rest : List ℕ) → Form → Type 0
 MayLackMemory h rest (NameTail layout above call) = TailIsWhole h rest layout
+MayLackMemory h rest (TwoNames layout call) = TailIsWhole h rest layout
+MayLackMemory h rest (NameAndValue layout size call) = TailIsWhole h rest layout
 MayLackMemory h rest (Pairs layout above count call) = PairsAreWhole rest layout above count
 MayLackMemory h rest _ = ⊥

@@ -18,8 +18,10 @@ pub use options::{agreed_options, offered_options, read_second_flags, reply_init
 pub use reply::{
     reply_attr, reply_done, reply_entry, reply_error, reply_failed, reply_fault, reply_fault_alone,
     reply_names, reply_offset, reply_ok, reply_opened, reply_record, reply_statistics, reply_text,
-    reply_written,
+    reply_value, reply_written,
 };
 pub use request::{
-    Name, handle_if, is_set, known_valid, number_if, read_name, read_pairs, read_record, read_tail,
+    FirstName, Name, TwoNames, further_flags, handle_if, is_set, known_valid, name_of_tail,
+    number_if, read_name, read_names, read_pairs, read_record, read_setxattr, read_tail,
+    read_value, setxattr_size,
 };

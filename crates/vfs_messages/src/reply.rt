@@ -13,7 +13,7 @@ ghost use Rattle.std.specs.Option.{option_copied};
 ghost use Rattle.vfs_files.specs.Answers.{IsFault, IsAnswer, FitsText, KeepsTextShort, Told, Untold, Entries, TimedAttributes};
 ghost use Rattle.vfs_files.specs.Answers.{Openings, Capacities, Texts, TextsOrCounts, Offsets, Writes, Faults, Failed};
 ghost use Rattle.vfs_files.specs.Answers.{done_answer, entry_answer, attr_answer, opened_answer, statistics_answer};
-ghost use Rattle.vfs_files.specs.Answers.{text_answer, listxattr_answer, offset_answer, written_answer};
+ghost use Rattle.vfs_files.specs.Answers.{text_answer, getxattr_answer, listxattr_answer, offset_answer, written_answer};
 ghost use Rattle.vfs_messages.specs.Records.{size_of, bytes_of_option, bytes_or_none, size_of_option};
 ghost use Rattle.vfs_messages.specs.Reply.{Bytes, said, fault_reply, fault_number, body_reply};
 ghost use Rattle.vfs_messages.specs.Reply.{say_done, say_fault, say_entry, say_attr, say_opened, say_statistics};
@@ -25,7 +25,7 @@ use crate::error::{Error, Result};
 use bitflags::Flags;
 use std::io::Write;
 use std::time::Duration;
-use vfs_files::{Entry, ListxattrReply, Number};
+use vfs_files::{Entry, GetxattrReply, ListxattrReply, Number};
 use vfs_flags::{Errno, Fault, OpenOptions};
 use vfs_segments::Writer;
 use vfs_wire::{
@@ -368,6 +368,24 @@ pub fn reply_names(
     match answer {
         Ok(ListxattrReply::Names(names)) => reply_bytes(&names, unique, w),
         Ok(ListxattrReply::Count(length)) => reply_count(length, unique, w),
+        Err(fault) => reply_failed(fault, unique, w),
+    }
+}
+
+/// Replies the value of an extended attribute, or how many bytes it has, as GETXATTR does.
+pub fn reply_value(
+    answer: std::result::Result<GetxattrReply, Fault>,
+    unique: u64,
+    w: &mut Writer,
+) -> Result<usize>
+    requires { KeepsTextShort (getxattr_answer answer) }
+    ensures replied { Replies (said unique (say_text_or_count (getxattr_answer answer)))
+        w.old result w.new }
+    ensures kind { IsAnswer TextsOrCounts (getxattr_answer answer) }
+{
+    match answer {
+        Ok(GetxattrReply::Value(value)) => reply_bytes(&value, unique, w),
+        Ok(GetxattrReply::Count(length)) => reply_count(length, unique, w),
         Err(fault) => reply_failed(fault, unique, w),
     }
 }

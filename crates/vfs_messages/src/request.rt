@@ -1,11 +1,14 @@
 //! The parts of a request: records, tails, pairs of a node and a count.
 
-ghost use Rattle.std.specs.Prelude.{◌≡◌, ◌≤◌, ◌+◌, ◌-◌, ◌*◌, length, drop, take, map, option_map, bit_and, OnOk, IfOk, IfErr, MatchResult, Ok, Err};
-ghost use Rattle.vfs_flags.specs.Flags.{setattr_valid_bits, known_setattr_valid};
-ghost use Rattle.vfs_files.specs.Names.{name_text};
+ghost use Rattle.std.specs.Prelude.{◌≡◌, ◌==◌, ◌≤◌, ◌+◌, ◌-◌, ◌*◌, length, drop, take, map, option_map, bit_and, position, OnOk, IfOk, IfErr, MatchResult, Ok, Err, Some};
+ghost use Rattle.vfs_flags.specs.Flags.{fs_options_bits, setattr_valid_bits, known_setattr_valid};
+ghost use Rattle.vfs_flags.specs.Flags.{setxattr_flags_bits, known_setxattr_flags};
+ghost use Rattle.vfs_files.specs.Names.{name_text, name_of};
 ghost use Rattle.vfs_wire.specs.Entries.{forget_one};
-ghost use Rattle.vfs_messages.specs.Ask.{has_flag, if_set};
+ghost use Rattle.vfs_messages.specs.Ask.{has_flag, if_set, setxattr_layout};
 ghost use Rattle.vfs_messages.specs.Forms.{tail_of, name_in, pairs_in, pairs_of};
+ghost use Rattle.vfs_messages.specs.Forms.{second_or_refusal, names_in, sized_or_refusal, value_in};
+ghost use Rattle.vfs_messages.specs.Forms.{layout_record, layout_size};
 ghost use Rattle.vfs_messages.specs.Parts.{GivesTail, GivesPart, GivesPairs};
 ghost use Rattle.vfs_messages.specs.Records.{record_of, size_of};
 
@@ -15,9 +18,9 @@ use std::alloc::Global;
 use std::io::Read;
 use std::marker::Model;
 use vfs_files::{CStr, Number};
-use vfs_flags::SetattrValid;
+use vfs_flags::{FsOptions, SetattrValid, SetxattrFlags};
 use vfs_segments::Reader;
-use vfs_wire::{ByteValued, ForgetOne, InHeader};
+use vfs_wire::{ByteValued, ForgetOne, InHeader, SetxattrIn, SetxattrInCompat};
 
 /// The next record of a request. `DecodeMessage` where it isn't whole.
 pub fn read_record<T: ByteValued>(reader: &mut Reader<'_>) -> Result<T>
@@ -101,8 +104,8 @@ impl Name {
     }
 }
 
-/// The name that a tail is.
-fn name_of_tail(tail: Vec<u8>) -> Result<Name>
+/// The name that a tail is. `InvalidCString` where it is none.
+pub fn name_of_tail(tail: Vec<u8>) -> Result<Name>
     ensures { MatchResult result
         (λ name. name_in tail.items ≡ Ok name)
         (λ error. name_in tail.items ≡ Err error) }
@@ -126,6 +129,209 @@ pub fn read_name(
 {
     let tail = read_tail(alloc, header, size, reader)?;
     name_of_tail(tail)
+}
+
+/// Where the first 0 stands.
+fn first_nul(bytes: &[u8]) -> Option<usize>
+    ensures { result ≡ position (λ b. b == 0) bytes.now }
+{
+    bytes.iter().position(|b| *b == 0)
+}
+
+/// A tail that begins with a name and the 0 behind it.
+#[derive(Drop)]
+pub struct FirstName {
+    tail: Vec<u8>,
+    nul: usize,
+}
+
+impl Model for FirstName {
+    ghost use Rattle.std.specs.Prelude.{◌≡◌, ◌==◌, ◌+◌, ℕ, List, Some, position, take, drop};
+
+    ghost Value = { List ℕ × List ℕ };
+
+    ghost view = { λ s. (take s.nul s.tail.items, drop (s.nul + 1) s.tail.items) };
+
+    ghost invariant = { λ s. position (λ b. b == 0) s.tail.items ≡ Some s.nul };
+}
+
+impl FirstName {
+    /// The name.
+    pub fn as_c_str(&self) -> CStr<'_>
+        ensures { name_text result ≡ self.now.0 }
+    {
+        match CStr::from_bytes_until_nul(&self.tail) {
+            Some(name) => name,
+            None => unreachable!(),
+        }
+    }
+
+    /// What follows it.
+    #[tactic(auto, using(crate::proofs::FirstNames::below_length))]
+    pub fn rest(&self) -> &[u8]
+        ensures { result.now ≡ self.now.1 }
+    {
+        &self.tail[self.nul + 1..]
+    }
+}
+
+/// A tail that is two names, the first with the 0 behind it.
+#[derive(Drop)]
+pub struct TwoNames {
+    first: FirstName,
+}
+
+impl Model for TwoNames {
+    ghost use Rattle.std.specs.Prelude.{◌≡◌, ℕ, List, Some};
+    ghost use Rattle.vfs_files.specs.Names.{name_of};
+    ghost use Rattle.vfs_messages.specs.Parts.{text_or_none};
+
+    ghost Value = { List ℕ × List ℕ };
+
+    ghost view = { λ s. (s.first.0, text_or_none (name_of s.first.1)) };
+
+    ghost invariant = { λ s. name_of s.first.1 ≡ Some (text_or_none (name_of s.first.1)) };
+}
+
+impl TwoNames {
+    /// The first name.
+    pub fn first(&self) -> CStr<'_>
+        ensures { name_text result ≡ self.now.0 }
+    {
+        self.first.as_c_str()
+    }
+
+    /// The second name.
+    pub fn second(&self) -> CStr<'_>
+        ensures { name_text result ≡ self.now.1 }
+    {
+        match CStr::from_bytes_with_nul(self.first.rest()) {
+            Some(name) => name,
+            None => unreachable!(),
+        }
+    }
+}
+
+/// The two names that begin so.
+fn second_of(first: FirstName) -> Result<TwoNames>
+    ensures { MatchResult result
+        (λ names. second_or_refusal first.0 (name_of first.1) ≡ Ok names)
+        (λ error. second_or_refusal first.0 (name_of first.1) ≡ Err error) }
+{
+    if CStr::from_bytes_with_nul(first.rest()).is_none() {
+        return Err(Error::InvalidCString);
+    }
+    Ok(TwoNames { first })
+}
+
+/// The two names that a tail is.
+fn names_of_tail(tail: Vec<u8>) -> Result<TwoNames>
+    ensures { MatchResult result
+        (λ names. names_in tail.items ≡ Ok names)
+        (λ error. names_in tail.items ≡ Err error) }
+{
+    let Some(nul) = first_nul(&tail) else {
+        return Err(Error::MissingParameter);
+    };
+    second_of(FirstName { tail, nul })
+}
+
+/// The two names that the tail is, of a request with a record of `size` bytes: the errors of
+/// [`read_tail`], then `MissingParameter` where no 0 ends the first, and `InvalidCString` where the
+/// rest is no name.
+pub fn read_names(
+    alloc: Global,
+    header: &InHeader,
+    size: usize,
+    reader: &mut Reader<'_>,
+) -> Result<TwoNames>
+    requires { size ≤ 152 }
+    ensures { GivesPart names_in result (tail_of header.now size reader.old.left) }
+{
+    let tail = read_tail(alloc, header, size, reader)?;
+    names_of_tail(tail)
+}
+
+/// A name and a value, where the value has this size.
+fn sized(size: u32, part: FirstName) -> Result<FirstName>
+    ensures { MatchResult result
+        (λ same. sized_or_refusal size (Some part) ≡ Ok same)
+        (λ error. sized_or_refusal size (Some part) ≡ Err error) }
+{
+    let len = part.rest().len();
+    if len != size as usize {
+        return Err(Error::InvalidXattrSize((size, len)));
+    }
+    Ok(part)
+}
+
+/// The name and the value that a tail is.
+fn value_of_tail(size: u32, tail: Vec<u8>) -> Result<FirstName>
+    ensures { MatchResult result
+        (λ part. value_in size tail.items ≡ Ok part)
+        (λ error. value_in size tail.items ≡ Err error) }
+{
+    let Some(nul) = first_nul(&tail) else {
+        return Err(Error::MissingParameter);
+    };
+    sized(size, FirstName { tail, nul })
+}
+
+/// The name and the value that the tail is, of a request with a record of `size` bytes, which says
+/// that the value has `value` bytes: the errors of [`read_tail`], then `MissingParameter` where no 0
+/// ends the name, and `InvalidXattrSize` where the value has another length.
+pub fn read_value(
+    alloc: Global,
+    header: &InHeader,
+    size: usize,
+    value: u32,
+    reader: &mut Reader<'_>,
+) -> Result<FirstName>
+    requires { size ≤ 152 }
+    ensures { GivesPart (value_in value) result (tail_of header.now size reader.old.left) }
+{
+    let tail = read_tail(alloc, header, size, reader)?;
+    value_of_tail(value, tail)
+}
+
+/// SETXATTR's record, by the agreed options.
+pub fn read_setxattr(options: FsOptions, reader: &mut Reader<'_>) -> Result<SetxattrIn>
+    ensures value { layout_record (setxattr_layout (fs_options_bits options)) reader.old.left
+        ≡ result }
+    ensures moved { OnOk result (reader.new.left ≡
+        drop (layout_size (setxattr_layout (fs_options_bits options))) reader.old.left) }
+{
+    if options.bits() & FsOptions::SETXATTR_EXT.bits() == 0 {
+        let short = read_record::<SetxattrInCompat>(reader)?;
+        Ok(SetxattrIn {
+            size: short.size,
+            flags: short.flags,
+            setxattr_flags: 0,
+            padding: 0,
+        })
+    } else {
+        read_record::<SetxattrIn>(reader)
+    }
+}
+
+/// The bytes of SETXATTR's record, by the agreed options.
+pub fn setxattr_size(options: FsOptions) -> usize
+    ensures size { result ≡ layout_size (setxattr_layout (fs_options_bits options)) }
+    ensures small { result ≤ 152 }
+{
+    if options.bits() & FsOptions::SETXATTR_EXT.bits() == 0 {
+        SetxattrInCompat::SIZE
+    } else {
+        SetxattrIn::SIZE
+    }
+}
+
+/// The known ones among the further flags of a SETXATTR.
+#[tactic(auto, unfolding(bitflags::proofs::OnLiterals::bitflags_on_literals))]
+pub fn further_flags(flags: u32) -> SetxattrFlags
+    ensures { setxattr_flags_bits result ≡ bit_and flags known_setxattr_flags }
+{
+    SetxattrFlags::from_bits_truncate(flags)
 }
 
 /// The next `count` pairs, which the reader has.

@@ -7,10 +7,16 @@ use std::alloc::Global;
 use vfs_files::{Context, FileSystem, Number};
 use vfs_flags::{Errno, Opcode};
 use vfs_messages::{
-    Result, read_name, read_pairs, read_record, reply_entry, reply_failed, reply_text,
+    Result, read_name, read_names, read_pairs, read_record, reply_done, reply_entry, reply_failed,
+    reply_text,
 };
 use vfs_segments::{Reader, Writer};
-use vfs_wire::{BatchForgetIn, ByteValued, ForgetIn, ForgetOne, InHeader};
+use vfs_wire::{
+    BatchForgetIn, ByteValued, ForgetIn, ForgetOne, InHeader, LinkIn, Rename2In, RenameIn,
+};
+
+/// The flags of RENAME2 that are passed on: not to replace, to exchange, and to leave a whiteout.
+const RENAME_FLAGS: u32 = 7;
 
 impl<F: FileSystem> Server<F> {
     /// LOOKUP: the node of a name, which is the request's tail.
@@ -83,5 +89,115 @@ impl<F: FileSystem> Server<F> {
         let inode = F::Inode::from_number(header.nodeid);
         let answer = self.fs.readlink(Context::from(*header), inode);
         reply_text(answer, header.unique, w)
+    }
+
+    /// UNLINK: takes a file's name away.
+    pub(super) fn unlink(
+        &mut self,
+        alloc: Global,
+        header: &InHeader,
+        r: &mut Reader<'_>,
+        w: &mut Writer,
+    ) -> Result<usize>
+        ensures { Serves F.allows Opcode.Unlink header.now r.old.left
+            self.old w.old result w.new self.new }
+    {
+        let name = read_name(alloc, header, 0, r)?;
+        let parent = F::Inode::from_number(header.nodeid);
+        let answer = self
+            .fs
+            .unlink(Context::from(*header), parent, name.as_c_str());
+        reply_done(answer, header.unique, w)
+    }
+
+    /// RMDIR: takes an empty directory away.
+    pub(super) fn rmdir(
+        &mut self,
+        alloc: Global,
+        header: &InHeader,
+        r: &mut Reader<'_>,
+        w: &mut Writer,
+    ) -> Result<usize>
+        ensures { Serves F.allows Opcode.Rmdir header.now r.old.left
+            self.old w.old result w.new self.new }
+    {
+        let name = read_name(alloc, header, 0, r)?;
+        let parent = F::Inode::from_number(header.nodeid);
+        let answer = self
+            .fs
+            .rmdir(Context::from(*header), parent, name.as_c_str());
+        reply_done(answer, header.unique, w)
+    }
+
+    /// LINK (`struct fuse_link_in`): gives a node one more name. The header's node is the
+    /// directory of the name, and the record's node gets it.
+    pub(super) fn link(
+        &mut self,
+        alloc: Global,
+        header: &InHeader,
+        r: &mut Reader<'_>,
+        w: &mut Writer,
+    ) -> Result<usize>
+        ensures { Serves F.allows Opcode.Link header.now r.old.left
+            self.old w.old result w.new self.new }
+    {
+        let link_in = read_record::<LinkIn>(r)?;
+        let name = read_name(alloc, header, LinkIn::SIZE, r)?;
+        let answer = self.fs.link(
+            Context::from(*header),
+            F::Inode::from_number(link_in.oldnodeid),
+            F::Inode::from_number(header.nodeid),
+            name.as_c_str(),
+        );
+        reply_entry(answer, header.unique, w)
+    }
+
+    /// RENAME (`struct fuse_rename_in`): gives a node another name, in place of what has it.
+    pub(super) fn rename(
+        &mut self,
+        alloc: Global,
+        header: &InHeader,
+        r: &mut Reader<'_>,
+        w: &mut Writer,
+    ) -> Result<usize>
+        ensures { Serves F.allows Opcode.Rename header.now r.old.left
+            self.old w.old result w.new self.new }
+    {
+        let rename_in = read_record::<RenameIn>(r)?;
+        let names = read_names(alloc, header, RenameIn::SIZE, r)?;
+        let answer = self.fs.rename(
+            Context::from(*header),
+            F::Inode::from_number(header.nodeid),
+            names.first(),
+            F::Inode::from_number(rename_in.newdir),
+            names.second(),
+            0,
+        );
+        reply_done(answer, header.unique, w)
+    }
+
+    /// RENAME2 (`struct fuse_rename2_in`): the same, with flags that say what becomes of what has
+    /// the name.
+    pub(super) fn rename2(
+        &mut self,
+        alloc: Global,
+        header: &InHeader,
+        r: &mut Reader<'_>,
+        w: &mut Writer,
+    ) -> Result<usize>
+        ensures { Serves F.allows Opcode.Rename2 header.now r.old.left
+            self.old w.old result w.new self.new }
+    {
+        let rename2_in = read_record::<Rename2In>(r)?;
+        let names = read_names(alloc, header, Rename2In::SIZE, r)?;
+        let answer = self.fs.rename(
+            Context::from(*header),
+            F::Inode::from_number(header.nodeid),
+            names.first(),
+            F::Inode::from_number(rename2_in.newdir),
+            names.second(),
+            rename2_in.flags & RENAME_FLAGS,
+        );
+        reply_done(answer, header.unique, w)
     }
 }
