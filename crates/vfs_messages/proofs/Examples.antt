@@ -16,7 +16,7 @@ use Rattle.vfs_messages.specs.declared.limits.Limits.{Limits}
 use Rattle.vfs_messages.specs.Options.{agreed, options_after}
 use Rattle.vfs_messages.specs.Reply.{Bytes, NoReply, Echo, reply_of}
 use Rattle.vfs_messages.specs.Room.{put_outcome, put_room}
-use Rattle.vfs_messages.specs.declared.error.Error.TheVariants.{DecodeMessage, EncodeMessage, InvalidCString, InvalidHeaderLength}
+use Rattle.vfs_messages.specs.declared.error.Error.TheVariants.{DecodeMessage, EncodeMessage, InvalidCString, InvalidHeaderLength, InvalidXattrSize, MissingParameter}
 
 -- four bytes of a number, the lowest first
 abbrev four : ℕ → List ℕ
@@ -250,6 +250,71 @@ tmpfile = refl
 setupmapping : ask usual 0 16 (header 40 48 9 1) ≡ said_so ((four 16 ++ (0xda ∷ 0xff ∷ 0xff ∷ 0xff ∷ [])) ++ eight 9)
 unfolding number little opcode_of
 setupmapping = refl
+
+-- UNLINK of a name, and LINK: the record's node gets a name in the header's directory
+unlink : ask usual 0 16 (header 42 10 9 1 ++ (0x61 ∷ 0 ∷ [])) ≡ Copies (Asks (echo 9) (call.Unlink nobody 1 (0x61 ∷ [])))
+unfolding number little opcode_of
+unlink = refl
+
+link : ask usual 0 144 (header 50 13 9 1 ++ (eight 5 ++ (0x61 ∷ 0 ∷ []))) ≡ Copies (Asks (echo 9) (call.Link nobody 5 1 (0x61 ∷ [])))
+unfolding number little opcode_of
+link = refl
+
+link_without_a_name : ask usual 0 144 (header 48 13 9 1 ++ eight 5) ≡ Copies (refused InvalidCString)
+unfolding number little opcode_of
+link_without_a_name = refl
+
+-- RENAME of a in node 1 to b in node 2
+rename : ask usual 0 16 (header 52 12 9 1 ++ (eight 2 ++ (0x61 ∷ 0 ∷ 0x62 ∷ 0 ∷ []))) ≡ Copies (Asks (echo 9) (call.Rename nobody 1 (0x61 ∷ []) 2 (0x62 ∷ []) 0))
+unfolding number little opcode_of
+rename = refl
+
+rename_without_a_nul : ask usual 0 16 (header 50 12 9 1 ++ (eight 2 ++ (0x61 ∷ 0x62 ∷ []))) ≡ Copies (refused MissingParameter)
+unfolding number little opcode_of
+rename_without_a_nul = refl
+
+rename_to_nothing : ask usual 0 16 (header 50 12 9 1 ++ (eight 2 ++ (0x61 ∷ 0 ∷ []))) ≡ Copies (refused InvalidCString)
+unfolding number little opcode_of
+rename_to_nothing = refl
+
+rename_to_two_names : ask usual 0 16 (header 54 12 9 1 ++ (eight 2 ++ (0x61 ∷ 0 ∷ 0x62 ∷ 0 ∷ 0x63 ∷ 0 ∷ []))) ≡ Copies (refused InvalidCString)
+unfolding number little opcode_of
+rename_to_two_names = refl
+
+-- RENAME2 keeps bits 0 to 2 of its flags
+rename2_with_four_flags : ask usual 0 16 (header 60 45 9 1 ++ ((eight 2 ++ eight 15) ++ (0x61 ∷ 0 ∷ 0x62 ∷ 0 ∷ []))) ≡ Copies (Asks (echo 9) (call.Rename nobody 1 (0x61 ∷ []) 2 (0x62 ∷ []) 7))
+unfolding number little opcode_of
+rename2_with_four_flags = refl
+
+-- SETXATTR of the name a and the value 1 2, without SETXATTR_EXT and with it: then the record is 16 bytes
+setxattr : ask usual 0 16 (header 52 21 9 3 ++ ((four 2 ++ four 1) ++ (0x61 ∷ 0 ∷ 1 ∷ 2 ∷ []))) ≡ Copies (Asks (echo 9) (call.Setxattr nobody 3 (0x61 ∷ []) (1 ∷ 2 ∷ []) 1 0))
+unfolding number little opcode_of
+setxattr = refl
+
+setxattr_with_further_flags : ask usual 0x20000000 16 (header 60 21 9 3 ++ (((four 2 ++ four 1) ++ (four 3 ++ four 0)) ++ (0x61 ∷ 0 ∷ 1 ∷ 2 ∷ []))) ≡ Copies (Asks (echo 9) (call.Setxattr nobody 3 (0x61 ∷ []) (1 ∷ 2 ∷ []) 1 1))
+unfolding number little opcode_of
+setxattr_with_further_flags = refl
+
+setxattr_of_another_size : ask usual 0 16 (header 56 21 9 1 ++ ((four 2 ++ four 0) ++ (0x75 ∷ 0x73 ∷ 0x65 ∷ 0x72 ∷ 0x2e ∷ 0x78 ∷ 0 ∷ 0x76 ∷ []))) ≡ Copies (refused (InvalidXattrSize (2, 1)))
+unfolding number little opcode_of
+setxattr_of_another_size = refl
+
+setxattr_whose_record_takes_its_name : ask usual 0x20000000 16 (header 56 21 9 1 ++ ((four 2 ++ four 0) ++ (0x75 ∷ 0x73 ∷ 0x65 ∷ 0x72 ∷ 0x2e ∷ 0x78 ∷ 0 ∷ 0x76 ∷ []))) ≡ Copies (refused MissingParameter)
+unfolding number little opcode_of
+setxattr_whose_record_takes_its_name = refl
+
+-- GETXATTR: its size is judged when the tail was read, and before the name is
+getxattr : ask usual 0 16 (header 50 22 9 1 ++ (eight 5 ++ (0x61 ∷ 0 ∷ []))) ≡ Copies (Asks (echo 9) (call.Getxattr nobody 1 (0x61 ∷ []) 5))
+unfolding number little opcode_of
+getxattr = refl
+
+getxattr_above_the_limit : ask usual 0 16 (header 49 22 9 1 ++ ((four 0x100001 ++ zeros 4) ++ (0x61 ∷ []))) ≡ Copies (said_so ((four 16 ++ (0xf4 ∷ 0xff ∷ 0xff ∷ 0xff ∷ [])) ++ eight 9))
+unfolding number little opcode_of
+getxattr_above_the_limit = refl
+
+getxattr_of_no_name : ask usual 0 16 (header 49 22 9 1 ++ (zeros 8 ++ (0x61 ∷ []))) ≡ Copies (refused InvalidCString)
+unfolding number little opcode_of
+getxattr_of_no_name = refl
 
 -- the caller is the header's, its process with the same bits
 a_caller : ask usual 0 16 (((four 48 ++ four 34) ++ (eight 9 ++ eight 2)) ++ (((four 1000 ++ four 100) ++ four 0xffffffff) ++ (zeros 4 ++ (four 6 ++ zeros 4)))) ≡ Asks (echo 9) (call.Access (record { uid = 1000; gid = 100; pid = negsuc 0 }) 2 6)
