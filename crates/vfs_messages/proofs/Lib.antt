@@ -4,3 +4,4 @@ pub mod Asking
 pub mod Bodies
 pub mod Turns
 pub mod Examples
+mod ExtensionExamples
