@@ -5,3 +5,4 @@ pub mod Asking
 pub mod Bodies
 pub mod Turns
 pub mod Examples
+mod ExtensionExamples

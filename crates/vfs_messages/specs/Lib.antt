@@ -9,3 +9,4 @@ pub mod Parts
 pub mod Turn
 pub mod Laws
 pub mod Uses
+pub mod Extensions
