@@ -1,5 +1,5 @@
 -- Every case of what a request may ask, by its form.
-use Rattle.std.proofs.Common.{◌≡◌, ◌+◌, ◌-◌, ◌*◌, ◌==◌, ℕ, Bool, true, false, bit_and, List, length, take, drop, nat_lt, if◌then◌else◌, Option, Some, None, Ok, Err, refl}
+use Rattle.std.proofs.Common.{◌≡◌, ◌+◌, ◌-◌, ◌*◌, ◌==◌, ℕ, Bool, true, false, bit_and, List, length, take, drop, nat_lt, if◌then◌else◌, Option, Some, None, Result, Ok, Err, refl}
 use Rattle.vfs_flags.specs.Errors.{enomem, enosys, eproto}
 use Rattle.vfs_flags.specs.Flags.{init_ext}
 use Rattle.vfs_flags.specs.Opcode.{opcode_of}
@@ -16,25 +16,15 @@ use Rattle.vfs_files.specs.Names.{name_of, first_name}
 use Rattle.vfs_messages.specs.Limits.{max_len}
 use Rattle.vfs_messages.specs.Records.{size_of, record_of}
 use Rattle.vfs_messages.specs.Ask.{form_of, ask_number, ask_header, ask}
-use Rattle.vfs_messages.specs.Forms.{second_or_refusal, both_or_refusal, names_in, sized_or_refusal, value_in}
-use Rattle.vfs_messages.specs.Forms.{Ask, Ends, Asks, Copies, refused, silent, within, refused_or, tail_of, name_or_refusal, pairs_of, pairs_in, second_flags, flags2_in, ask_version, Layout, Without, Record, layout_record, Form, NoTail, NameTail, TwoNames, NameAndValue, Pairs, Versions, Silent, NotServed, ask_form}
+use Rattle.vfs_messages.specs.Forms.{second_or_refusal, both_or_refusal, sized_or_refusal}
+use Rattle.vfs_messages.specs.Forms.{Ask, Ends, Asks, Copies, refused, silent, within, refused_or, tail_of, name_or_refusal, pairs_of, pairs_in, second_flags, flags2_in, ask_version, Layout, Without, Record, layout_record, Form, NoTail, NameTail, TwoNames, NameAndValue, NameAndExtensions, LinkAndExtensions, Pairs, Versions, Silent, NotServed, ask_form}
+use Rattle.vfs_messages.specs.Forms.{extended_in, link_in_tail}
 use Rattle.vfs_messages.specs.Laws.{unique_of}
 use Rattle.vfs_messages.specs.Reply.{Bytes, Echo, fault_reply, body_reply, version_out}
 use Rattle.vfs_messages.specs.declared.limits.Limits.{Limits}
 use Rattle.vfs_messages.specs.declared.error.Error.{Error}
-use Rattle.vfs_messages.specs.declared.error.Error.TheVariants.{DecodeMessage, FlushMessage, MissingParameter, InvalidXattrSize, InvalidCString, InvalidCString2, InvalidHeaderLength, OutOfMemory}
-
--- the errors by which the table refuses a request
-abbrev pub MayRefuse : Error → Type 0
-MayRefuse FlushMessage = ⊥
-MayRefuse InvalidCString2 = ⊥
-MayRefuse OutOfMemory = ⊥
-MayRefuse _ = Unit {0}
-
--- what holds on both sides of a test holds of the choice
-pub either : {A : Type 0} (P : A → Type 0) (b : Bool) (x y : A) → P x → P y → P (if b then x else y)
-either P true x y p q = p
-either P false x y p q = q
+use Rattle.vfs_messages.specs.declared.error.Error.TheVariants.{DecodeMessage, MissingParameter, InvalidXattrSize, InvalidCString, InvalidHeaderLength}
+use Rattle.vfs_messages.proofs.Refusing.{MayRefuse, either, IsRefused, of_extended, of_link}
 
 -- what is to be shown of P in each case that a request may ask, but for copies
 pub record EachCase (P : Ask → Type 0) (unique : ℕ) : Type 0 where
@@ -108,6 +98,10 @@ module _ (P : Ask → Type 0) (unique : ℕ) (each : EachCase P unique) where
       either (λ r. P (refused_or r next)) (length part.1 == size) (Ok part) (Err (InvalidXattrSize (size, length part.1)))
       (p part) (each.refusal (InvalidXattrSize (size, length part.1)) tt)
 
+  refused_cases : {A : Type 0} (r : Result A Error) (next : A → Ask) → IsRefused r → ((x : A) → P (next x)) → P (refused_or r next)
+  refused_cases (Err e) next f p = each.refusal e f
+  refused_cases (Ok x) next f p = p x
+
   version_cases : (h : InHeader) (r : InitInCompat) (flags2 : ℕ) → h.unique ≡ unique → P (ask_version h r flags2)
   version_cases h r flags2 e = rw e
       (either P (nat_lt r.major KERNEL_VERSION) _ _ (each.fault (Some eproto))
@@ -140,6 +134,12 @@ module _ (P : Ask → Type 0) (unique : ℕ) (each : EachCase P unique) where
     form_cases h rest (NameAndValue l size call) e =
         layout_cases l rest _ (λ r is. tail_cases h _ _ _ (λ tail whole.
         copies _ (sized_cases (size r) (first_name tail) _ (λ part. each.asks _ _ e))))
+    form_cases h rest (NameAndExtensions l options call) e =
+        layout_cases l rest _ (λ r is. tail_cases h _ _ _ (λ tail whole.
+        copies _ (refused_cases (extended_in options tail) _ (of_extended options tail) (λ part. each.asks _ _ e))))
+    form_cases h rest (LinkAndExtensions l options call) e =
+        layout_cases l rest _ (λ r is. tail_cases h _ _ _ (λ tail whole.
+        copies _ (refused_cases (link_in_tail options tail) _ (of_link options tail) (λ part. each.asks _ _ e))))
     form_cases h rest (Pairs l above count call) e =
         layout_cases l rest _ (λ r is. within_cases (above r) h _ e (λ no.
         pairs_cases (count r) _ _ (λ pairs whole. copies _ (each.asks _ _ e))))

@@ -1,6 +1,8 @@
 pub mod FirstNames
 pub mod Rooms
 pub mod Pairs
+pub mod Blocks
+pub mod Refusing
 pub mod Asking
 pub mod Bodies
 pub mod Turns

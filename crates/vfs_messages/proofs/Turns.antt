@@ -18,7 +18,7 @@ use Rattle.vfs_files.specs.Runs.{Called}
 use Rattle.vfs_messages.specs.Limits.{max_len}
 use Rattle.vfs_messages.specs.Records.{size_of}
 use Rattle.vfs_messages.specs.Ask.{form_of, ask, ask_number}
-use Rattle.vfs_messages.specs.Forms.{Ask, Ends, Asks, Copies, Form, NoTail, NameTail, TwoNames, NameAndValue, Pairs, Versions, Silent, NotServed, ask_form, MayLackMemory}
+use Rattle.vfs_messages.specs.Forms.{Ask, Ends, Asks, Copies, Form, NoTail, NameTail, TwoNames, NameAndValue, NameAndExtensions, LinkAndExtensions, Pairs, Versions, Silent, NotServed, Layout, refused_or, layout_record, layout_size, tail_of, behind, TailIsWhole, ask_form, MayLackMemory}
 use Rattle.vfs_messages.specs.Laws.{unique_of, BeginsWithHeader, AreAgreed, WantsMemory, MayLackBehind}
 use Rattle.vfs_messages.specs.Options.{agreed, options_after}
 use Rattle.vfs_messages.specs.Reply.{Reply, Refusal, NoReply, Bytes, OpenBehind, Never, Saying, Fault, Body, Unsaid, Wrong, said, said_open, said_by, is_open, say, fault_reply, fault_number, body_reply, version_out}
@@ -27,7 +27,8 @@ use Rattle.vfs_messages.specs.Turn.{Turn, Follows, IsTurn, turn_tells}
 use Rattle.vfs_messages.specs.declared.limits.Limits.{Limits}
 use Rattle.vfs_messages.specs.declared.error.Error.{Error}
 use Rattle.vfs_messages.specs.declared.error.Error.TheVariants.{DecodeMessage, EncodeMessage, FlushMessage, InvalidCString2, OutOfMemory}
-use Rattle.vfs_messages.proofs.Asking.{MayRefuse, EachCase, ask_cases, layout_cases, tail_cases, pairs_cases, within_cases, versions_cases}
+use Rattle.vfs_messages.proofs.Asking.{EachCase, ask_cases, layout_cases, tail_cases, pairs_cases, within_cases, versions_cases}
+use Rattle.vfs_messages.proofs.Refusing.{MayRefuse}
 use Rattle.vfs_messages.proofs.Bodies.{IsShort, init_out_is_short, answers_are_short}
 use Rattle.vfs_messages.proofs.Rooms.{length-header, length-fault_reply, length-body_reply}
 
@@ -137,6 +138,16 @@ module _ (limits : Limits) (options after : ℕ) (t : Turn) (lacks : t.outcome �
   is_ok r x e = subst IsOk (sym e) refl
 
   -- where memory may be wanted by the form, it is; behind a request of another form it isn't
+  memory_tail : {R : Type 0} (h : InHeader) (rest : List ℕ) (l : Layout R) (next : R → List ℕ → Ask)
+      → Gives (TailIsWhole h rest l)
+      (refused_or (layout_record l rest) (λ r. refused_or (tail_of h (layout_size l) (behind l rest)) (λ tail. Copies (next r tail))))
+  unfolding Gives
+  memory_tail h rest l next =
+      let Q = TailIsWhole h rest l in
+      let all = each Q h.unique in
+      layout_cases (Gives Q) h.unique all l rest _ (λ r is.
+      tail_cases (Gives Q) h.unique all h _ _ _ (λ tail whole f. record { whole_record = is_ok _ r is; whole_tail = is_ok _ tail whole }))
+
   memory_form : (h : InHeader) (rest : List ℕ) (form : Form) → Gives (MayLackMemory h rest form) (ask_form h rest form)
   unfolding Gives
   memory_form h rest (NoTail l above call) =
@@ -144,21 +155,11 @@ module _ (limits : Limits) (options after : ℕ) (t : Turn) (lacks : t.outcome �
       let all = each Q h.unique in
       layout_cases (Gives Q) h.unique all l rest _ (λ r is.
       within_cases (Gives Q) h.unique all (above r) h _ refl (λ no. all.asks _ _ refl))
-  memory_form h rest (NameTail l above call) =
-      let Q = MayLackMemory h rest (NameTail l above call) in
-      let all = each Q h.unique in
-      layout_cases (Gives Q) h.unique all l rest _ (λ r is.
-      tail_cases (Gives Q) h.unique all h _ _ _ (λ tail whole f. record { whole_record = is_ok _ r is; whole_tail = is_ok _ tail whole }))
-  memory_form h rest (TwoNames l call) =
-      let Q = MayLackMemory h rest (TwoNames l call) in
-      let all = each Q h.unique in
-      layout_cases (Gives Q) h.unique all l rest _ (λ r is.
-      tail_cases (Gives Q) h.unique all h _ _ _ (λ tail whole f. record { whole_record = is_ok _ r is; whole_tail = is_ok _ tail whole }))
-  memory_form h rest (NameAndValue l size call) =
-      let Q = MayLackMemory h rest (NameAndValue l size call) in
-      let all = each Q h.unique in
-      layout_cases (Gives Q) h.unique all l rest _ (λ r is.
-      tail_cases (Gives Q) h.unique all h _ _ _ (λ tail whole f. record { whole_record = is_ok _ r is; whole_tail = is_ok _ tail whole }))
+  memory_form h rest (NameTail l above call) = memory_tail h rest l _
+  memory_form h rest (TwoNames l call) = memory_tail h rest l _
+  memory_form h rest (NameAndValue l size call) = memory_tail h rest l _
+  memory_form h rest (NameAndExtensions l options call) = memory_tail h rest l _
+  memory_form h rest (LinkAndExtensions l options call) = memory_tail h rest l _
   memory_form h rest (Pairs l above count call) =
       let Q = MayLackMemory h rest (Pairs l above count call) in
       let all = each Q h.unique in

@@ -11,7 +11,7 @@ use Rattle.vfs_wire.specs.Headers.{in_header}
 use Rattle.vfs_wire.specs.Attributes.{getattr_in, setattr_in}
 use Rattle.vfs_wire.specs.Entries.{forget_in, forget_one, batch_forget_in}
 use Rattle.vfs_wire.specs.Files.{open_in, release_in, flush_in, fsync_in}
-use Rattle.vfs_wire.specs.Names.{access_in, link_in, rename_in, rename2_in}
+use Rattle.vfs_wire.specs.Names.{access_in, create_in, link_in, mkdir_in, mknod_in, rename_in, rename2_in}
 use Rattle.vfs_wire.specs.Ranges.{lseek_in, copyfilerange_in, fallocate_in}
 use Rattle.vfs_wire.specs.Xattrs.{getxattr_in, setxattr_in}
 use Rattle.vfs_wire.specs.declared.headers.InHeader.{InHeader}
@@ -20,7 +20,7 @@ use Rattle.vfs_files.specs.Calls as call
 use Rattle.vfs_files.specs.Entries.{context_of}
 use Rattle.vfs_messages.specs.Limits.{max_len}
 use Rattle.vfs_messages.specs.Records.{size_of, record_of}
-use Rattle.vfs_messages.specs.Forms.{Ask, refused_or, faulted, within, Layout, no_record, Record, unlimited, Form, NoTail, NameTail, TwoNames, NameAndValue, Pairs, Versions, Silent, NotServed, ask_form}
+use Rattle.vfs_messages.specs.Forms.{Ask, refused_or, faulted, within, Layout, no_record, Record, unlimited, Form, NoTail, NameTail, TwoNames, NameAndValue, NameAndExtensions, LinkAndExtensions, Pairs, Versions, Silent, NotServed, ask_form}
 use Rattle.vfs_messages.specs.declared.limits.Limits.{Limits}
 
 -- whether a word of flags has one of these flags
@@ -69,9 +69,15 @@ form_of limits options room h Setattr =
     (bit_and r.valid known_setattr_valid))
 form_of limits options room h Readlink =
     NoTail no_record unlimited (λ r. call.Readlink (context_of h) h.nodeid)
-form_of limits options room h Symlink = NotServed
-form_of limits options room h Mknod = NotServed
-form_of limits options room h Mkdir = NotServed
+form_of limits options room h Symlink =
+    LinkAndExtensions no_record options (λ r name text ext.
+    call.Symlink (context_of h) text h.nodeid name ext)
+form_of limits options room h Mknod =
+    NameAndExtensions (Record mknod_in) options (λ r name ext.
+    call.Mknod (context_of h) h.nodeid name r.mode r.rdev r.umask ext)
+form_of limits options room h Mkdir =
+    NameAndExtensions (Record mkdir_in) options (λ r name ext.
+    call.Mkdir (context_of h) h.nodeid name r.mode r.umask ext)
 form_of limits options room h Unlink =
     NameTail no_record unlimited (λ r name. call.Unlink (context_of h) h.nodeid name)
 form_of limits options room h Rmdir =
@@ -127,7 +133,10 @@ form_of limits options room h Setlk = NoTail no_record unlimited (λ r. call.Set
 form_of limits options room h Setlkw = NoTail no_record unlimited (λ r. call.Setlkw)
 form_of limits options room h Access =
     NoTail (Record access_in) unlimited (λ r. call.Access (context_of h) h.nodeid r.mask)
-form_of limits options room h Create = NotServed
+form_of limits options room h Create =
+    NameAndExtensions (Record create_in) options (λ r name ext.
+    call.Create (context_of h) h.nodeid name r.mode (has_flag r.open_flags OPEN_KILL_SUIDGID)
+    r.flags r.umask ext)
 form_of limits options room h Interrupt = Silent
 form_of limits options room h Bmap = NoTail no_record unlimited (λ r. call.Bmap)
 form_of limits options room h Destroy = NoTail no_record unlimited (λ r. call.Destroy)

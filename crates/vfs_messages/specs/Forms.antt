@@ -12,7 +12,9 @@ use Rattle.vfs_wire.specs.declared.headers.InHeader.{InHeader}
 use Rattle.vfs_wire.specs.declared.init.InitInExt.{InitInExt}
 use Rattle.vfs_files.specs.Calls.{Call}
 use Rattle.vfs_files.specs.Calls as call
+use Rattle.vfs_files.specs.Extensions.{ExtensionValues}
 use Rattle.vfs_files.specs.Names.{name_of, first_name}
+use Rattle.vfs_messages.specs.Extensions.{error_or, extensions_in}
 use Rattle.vfs_messages.specs.Options.{offered}
 use Rattle.vfs_messages.specs.Records.{size_of, record_of}
 use Rattle.vfs_messages.specs.Reply.{Reply, Refusal, Bytes, NoReply, Echo, echo_of, fault_reply, body_reply, version_out}
@@ -94,6 +96,38 @@ sized_or_refusal size (Some part) =
 abbrev pub value_in : (size : ℕ) → (tail : List ℕ) → Result (List ℕ × List ℕ) Error
 value_in size tail = sized_or_refusal size (first_name tail)
 
+-- what follows the first name, where a 0 ends it, and else nothing
+abbrev pub behind_name : Option (List ℕ × List ℕ) → List ℕ
+behind_name None = []
+behind_name (Some part) = part.1
+
+-- the first name with these extensions, or the refusal of one that no 0 ends
+abbrev pub extended_or_refusal : Option (List ℕ × List ℕ) → ExtensionValues
+    → Result (List ℕ × ExtensionValues) Error
+extended_or_refusal None extensions = Err InvalidCString
+extended_or_refusal (Some part) extensions = Ok (part.0, extensions)
+
+-- The name and the extensions that bytes are: the name ends at its first 0, and the extensions are
+-- the rest. A name without a 0 runs to the end, and is refused after the extensions.
+abbrev pub extended_in : (options : ℕ) → (bytes : List ℕ) → Result (List ℕ × ExtensionValues) Error
+extended_in options [] = Err MissingParameter
+extended_in options (b ∷ bytes) =
+    error_or (extensions_in options (behind_name (first_name (b ∷ bytes))))
+    (extended_or_refusal (first_name (b ∷ bytes)))
+
+-- a name, and the text with extensions behind it, or the refusal of what has none
+abbrev pub link_or_refusal : (options : ℕ) → Option (List ℕ × List ℕ)
+    → Result (List ℕ × List ℕ × ExtensionValues) Error
+link_or_refusal options None = Err MissingParameter
+link_or_refusal options (Some part) =
+    error_or (extended_in options part.1) (λ text. Ok (part.0, text.0, text.1))
+
+-- the name, the link's text and the extensions that a tail is: name and text end at their first 0,
+-- and the extensions are the rest
+abbrev pub link_in_tail : (options : ℕ) → (tail : List ℕ)
+    → Result (List ℕ × List ℕ × ExtensionValues) Error
+link_in_tail options tail = link_or_refusal options (first_name tail)
+
 -- so many pairs of a node and a count
 abbrev pub pairs_of : (count : ℕ) → (bytes : List ℕ) → List (ℕ × ℕ)
 pairs_of zero bytes = []
@@ -167,6 +201,10 @@ pub data Form : Type 1 where
   TwoNames : {R : Type 0} (layout : Layout R) (call : R → (first second : List ℕ) → Call) → Form
   NameAndValue : {R : Type 0} (layout : Layout R) (size : R → ℕ)
       (call : R → (name value : List ℕ) → Call) → Form
+  NameAndExtensions : {R : Type 0} (layout : Layout R) (options : ℕ)
+      (call : R → (name : List ℕ) → ExtensionValues → Call) → Form
+  LinkAndExtensions : {R : Type 0} (layout : Layout R) (options : ℕ)
+      (call : R → (name text : List ℕ) → ExtensionValues → Call) → Form
   Pairs : {R : Type 0} (layout : Layout R) (above : R → Bool) (count : R → ℕ)
       (call : R → List (ℕ × ℕ) → Call) → Form
   Versions : Form
@@ -191,6 +229,16 @@ ask_form h rest (NameAndValue layout size call) =
     refused_or (layout_record layout rest) (λ r.
     refused_or (tail_of h (layout_size layout) (behind layout rest)) (λ tail.
     Copies (refused_or (value_in (size r) tail) (λ part. Asks (echo_of h) (call r part.0 part.1)))))
+ask_form h rest (NameAndExtensions layout options call) =
+    refused_or (layout_record layout rest) (λ r.
+    refused_or (tail_of h (layout_size layout) (behind layout rest)) (λ tail.
+    Copies (refused_or (extended_in options tail) (λ part.
+    Asks (echo_of h) (call r part.0 part.1)))))
+ask_form h rest (LinkAndExtensions layout options call) =
+    refused_or (layout_record layout rest) (λ r.
+    refused_or (tail_of h (layout_size layout) (behind layout rest)) (λ tail.
+    Copies (refused_or (link_in_tail options tail) (λ part.
+    Asks (echo_of h) (call r part.0 part.1 part.2)))))
 ask_form h rest (Pairs layout above count call) =
     refused_or (layout_record layout rest) (λ r.
     within (above r) h
@@ -221,5 +269,7 @@ abbrev pub MayLackMemory : InHeader → (rest : List ℕ) → Form → Type 0
 MayLackMemory h rest (NameTail layout above call) = TailIsWhole h rest layout
 MayLackMemory h rest (TwoNames layout call) = TailIsWhole h rest layout
 MayLackMemory h rest (NameAndValue layout size call) = TailIsWhole h rest layout
+MayLackMemory h rest (NameAndExtensions layout options call) = TailIsWhole h rest layout
+MayLackMemory h rest (LinkAndExtensions layout options call) = TailIsWhole h rest layout
 MayLackMemory h rest (Pairs layout above count call) = PairsAreWhole rest layout above count
 MayLackMemory h rest _ = ⊥

@@ -1,7 +1,10 @@
 -- What the calls that read the parts of a request say of them.
-use Rattle.std.specs.Prelude.{◌≡◌, ◌⊎◌, ℕ, List, [], map, Option, Some, None, Result, Ok, Err}
+use Rattle.std.specs.Prelude.{◌≡◌, ◌⊎◌, ◌==◌, ℕ, List, [], map, position, take, Option, Some, None, Result, Ok, Err}
 use Rattle.std.specs.declared.vec.Vec.{Vec}
 use Rattle.std.specs.declared.alloc.Global.{Global}
+use Rattle.vfs_files.specs.Extensions.{ExtensionValues, extension_values_of}
+use Rattle.vfs_files.specs.declared.extensions.Extensions.{Extensions}
+use Rattle.vfs_messages.specs.Forms.{extended_in}
 use Rattle.vfs_messages.specs.declared.error.Error.{Error}
 use Rattle.vfs_messages.specs.declared.error.Error.TheVariants.{OutOfMemory}
 
@@ -18,6 +21,37 @@ GivesPart part (Ok x) tail = (whole : List ℕ) × (tail ≡ Ok whole) × (part 
 GivesPart part (Err e) tail =
     (tail ≡ Err e)
     ⊎ ((whole : List ℕ) × (tail ≡ Ok whole) × ((part whole ≡ Err e) ⊎ (e ≡ OutOfMemory)))
+
+-- a part of bytes was found, with this value, or is refused as the grammar says, or there was no
+-- memory for what it holds
+abbrev pub GivesAs : {A B : Type 0} → (value : A → B) → Result A Error → (part : Result B Error)
+    → Type 0
+GivesAs value (Ok x) part = part ≡ Ok (value x)
+GivesAs value (Err e) part = (part ≡ Err e) ⊎ (e ≡ OutOfMemory)
+
+-- the same as of a part of a tail, where the part has this value
+abbrev pub GivesPartAs : {A B : Type 0} → (value : A → B) → (part : List ℕ → Result B Error)
+    → Result A Error → (tail : Result (List ℕ) Error) → Type 0
+GivesPartAs value part (Ok x) tail = (whole : List ℕ) × (tail ≡ Ok whole) × (part whole ≡ Ok (value x))
+GivesPartAs value part (Err e) tail =
+    (tail ≡ Err e)
+    ⊎ ((whole : List ℕ) × (tail ≡ Ok whole) × ((part whole ≡ Err e) ⊎ (e ≡ OutOfMemory)))
+
+-- the values of a name with what follows it, and of the extensions
+abbrev pub extended_values : (List ℕ × List ℕ) × Extensions → List ℕ × ExtensionValues
+extended_values part = (part.0.0, extension_values_of part.1)
+
+-- the values of a name, a text and the extensions
+abbrev pub link_values : (List ℕ × List ℕ) × Extensions → List ℕ × List ℕ × ExtensionValues
+link_values part = (part.0.0, part.0.1, extension_values_of part.1)
+
+-- a name was found to end at this place, with extensions behind it, or is refused as the grammar
+-- says, or there was no memory for the extensions
+abbrev pub GivesExtended : Result (ℕ × Extensions) Error → (options : ℕ) → (bytes : List ℕ) → Type 0
+GivesExtended (Ok part) options bytes =
+    (position (λ b. b == 0) bytes ≡ Some part.0)
+    × (extended_in options bytes ≡ Ok (take part.0 bytes, extension_values_of part.1))
+GivesExtended (Err e) options bytes = (extended_in options bytes ≡ Err e) ⊎ (e ≡ OutOfMemory)
 
 -- a text, or none where there is no text
 abbrev pub text_or_none : Option (List ℕ) → List ℕ

@@ -11,12 +11,12 @@ ghost use Rattle.vfs_flags.specs.Flags.{open_options_bits};
 ghost use Rattle.vfs_segments.specs.Written.{wrote, held_filled};
 ghost use Rattle.std.specs.Option.{option_copied};
 ghost use Rattle.vfs_files.specs.Answers.{IsFault, IsAnswer, FitsText, KeepsTextShort, Told, Untold, Entries, TimedAttributes};
-ghost use Rattle.vfs_files.specs.Answers.{Openings, Capacities, Texts, TextsOrCounts, Offsets, Writes, Faults, Failed};
-ghost use Rattle.vfs_files.specs.Answers.{done_answer, entry_answer, attr_answer, opened_answer, statistics_answer};
+ghost use Rattle.vfs_files.specs.Answers.{Openings, Creations, Capacities, Texts, TextsOrCounts, Offsets, Writes, Faults, Failed};
+ghost use Rattle.vfs_files.specs.Answers.{done_answer, entry_answer, attr_answer, opened_answer, created_answer, statistics_answer};
 ghost use Rattle.vfs_files.specs.Answers.{text_answer, getxattr_answer, listxattr_answer, offset_answer, written_answer};
 ghost use Rattle.vfs_messages.specs.Records.{size_of, bytes_of_option, bytes_or_none, size_of_option};
 ghost use Rattle.vfs_messages.specs.Reply.{Bytes, said, fault_reply, fault_number, body_reply};
-ghost use Rattle.vfs_messages.specs.Reply.{say_done, say_fault, say_entry, say_attr, say_opened, say_statistics};
+ghost use Rattle.vfs_messages.specs.Reply.{say_done, say_fault, say_entry, say_attr, say_opened, say_created, say_statistics};
 ghost use Rattle.vfs_messages.specs.Reply.{say_text, say_text_or_count, say_offset, say_written, say_fault_alone};
 ghost use Rattle.vfs_messages.specs.Reply.{attr_out_of, open_out_of, getxattr_out_of};
 ghost use Rattle.vfs_messages.specs.Room.{Replies};
@@ -125,6 +125,21 @@ pub fn reply_record<T: ByteValued + Drop>(out: T, unique: u64, w: &mut Writer) -
     ensures in_width { Fit T.table.widths (T.table.fields out) }
 {
     reply_parts(Some(out), &[], unique, w)
+}
+
+/// Replies a record and the bytes of another behind it.
+fn reply_both<T: ByteValued + Drop>(
+    out: T,
+    behind: &[u8],
+    unique: u64,
+    w: &mut Writer,
+) -> Result<usize>
+    requires { length behind.now ≤ 152 }
+    ensures replied { Replies (Bytes (body_reply (bytes_of T.table out ++ behind.now) unique))
+        w.old result w.new }
+    ensures in_width { Fit T.table.widths (T.table.fields out) }
+{
+    reply_parts(Some(out), behind, unique, w)
 }
 
 /// Replies a header alone.
@@ -298,6 +313,26 @@ pub fn reply_opened<H: Number>(
 {
     match answer {
         Ok((handle, options)) => reply_record(open_out::<H>(handle, options), unique, w),
+        Err(fault) => reply_failed(fault, unique, w),
+    }
+}
+
+/// Replies an entry and what was opened, as CREATE does.
+pub fn reply_created<H: Number>(
+    answer: std::result::Result<(Entry, Option<H>, OpenOptions), Fault>,
+    unique: u64,
+    w: &mut Writer,
+) -> Result<usize>
+    ensures replied { Replies (said unique (say_created (created_answer H.value answer)))
+        w.old result w.new }
+    ensures kind { IsAnswer Creations (created_answer H.value answer) }
+{
+    match answer {
+        Ok((entry, handle, options)) => {
+            let mut opened = [0; OpenOut::SIZE];
+            open_out::<H>(handle, options).put(&mut opened);
+            reply_both(EntryOut::from(entry), &opened, unique, w)
+        }
         Err(fault) => reply_failed(fault, unique, w),
     }
 }

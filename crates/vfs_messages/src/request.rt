@@ -8,16 +8,18 @@ ghost use Rattle.vfs_wire.specs.Entries.{forget_one};
 ghost use Rattle.vfs_messages.specs.Ask.{has_flag, if_set, setxattr_layout};
 ghost use Rattle.vfs_messages.specs.Forms.{tail_of, name_in, pairs_in, pairs_of};
 ghost use Rattle.vfs_messages.specs.Forms.{second_or_refusal, names_in, sized_or_refusal, value_in};
+ghost use Rattle.vfs_messages.specs.Forms.{extended_in, link_or_refusal, link_in_tail};
 ghost use Rattle.vfs_messages.specs.Forms.{layout_record, layout_size};
-ghost use Rattle.vfs_messages.specs.Parts.{GivesTail, GivesPart, GivesPairs};
+ghost use Rattle.vfs_messages.specs.Parts.{GivesTail, GivesPart, GivesPartAs, GivesAs, GivesExtended, extended_values, link_values, GivesPairs};
 ghost use Rattle.vfs_messages.specs.Records.{record_of, size_of};
 
 use crate::error::{Error, Result};
+use crate::extensions::get_extensions;
 use bitflags::Flags;
 use std::alloc::Global;
 use std::io::Read;
 use std::marker::Model;
-use vfs_files::{CStr, Number};
+use vfs_files::{CStr, Extensions, Number};
 use vfs_flags::{FsOptions, SetattrValid, SetxattrFlags};
 use vfs_segments::Reader;
 use vfs_wire::{ByteValued, ForgetOne, InHeader, SetxattrIn, SetxattrInCompat};
@@ -292,6 +294,136 @@ pub fn read_value(
 {
     let tail = read_tail(alloc, header, size, reader)?;
     value_of_tail(value, tail)
+}
+
+/// The place of the 0 that ends the name that bytes begin with, and the extensions behind it.
+fn extended(alloc: Global, options: FsOptions, bytes: &[u8]) -> Result<(usize, Extensions)>
+    ensures { GivesExtended result (fs_options_bits options) bytes.now }
+{
+    if bytes.is_empty() {
+        return Err(Error::MissingParameter);
+    }
+    let nul = first_nul(bytes);
+    let skip = match nul {
+        Some(nul) => nul + 1,
+        None => bytes.len(),
+    };
+    let extensions = get_extensions(alloc, options, skip, bytes)?;
+    match nul {
+        Some(nul) => Ok((nul, extensions)),
+        None => Err(Error::InvalidCString),
+    }
+}
+
+/// The name and the extensions that a tail is.
+fn extended_of_tail(
+    alloc: Global,
+    options: FsOptions,
+    tail: Vec<u8>,
+) -> Result<(FirstName, Extensions)>
+    ensures { GivesAs extended_values result
+        (extended_in (fs_options_bits options) tail.items) }
+{
+    let (nul, extensions) = extended(alloc, options, &tail)?;
+    Ok((FirstName { tail, nul }, extensions))
+}
+
+/// The name and the extensions that the tail is, of a request with a record of `size` bytes: the
+/// errors of [`read_tail`], then `MissingParameter` where it has no byte, the errors of
+/// [`get_extensions`], and `InvalidCString` where no 0 ends the name.
+pub fn read_extended(
+    alloc: Global,
+    options: FsOptions,
+    header: &InHeader,
+    size: usize,
+    reader: &mut Reader<'_>,
+) -> Result<(FirstName, Extensions)>
+    requires { size ≤ 152 }
+    ensures { GivesPartAs extended_values (extended_in (fs_options_bits options)) result
+        (tail_of header.now size reader.old.left) }
+{
+    let tail = read_tail(alloc, header, size, reader)?;
+    extended_of_tail(alloc, options, tail)
+}
+
+/// A tail that begins with a name and a text, each with the 0 behind it.
+#[derive(Drop)]
+pub struct NameAndText {
+    first: FirstName,
+    nul: usize,
+}
+
+impl Model for NameAndText {
+    ghost use Rattle.std.specs.Prelude.{◌≡◌, ◌==◌, ℕ, List, Some, position, take};
+
+    ghost Value = { List ℕ × List ℕ };
+
+    ghost view = { λ s. (s.first.0, take s.nul s.first.1) };
+
+    ghost invariant = { λ s. position (λ b. b == 0) s.first.1 ≡ Some s.nul };
+}
+
+impl NameAndText {
+    /// The name.
+    pub fn name(&self) -> CStr<'_>
+        ensures { name_text result ≡ self.now.0 }
+    {
+        self.first.as_c_str()
+    }
+
+    /// The text.
+    pub fn text(&self) -> CStr<'_>
+        ensures { name_text result ≡ self.now.1 }
+    {
+        match CStr::from_bytes_until_nul(self.first.rest()) {
+            Some(text) => text,
+            None => unreachable!(),
+        }
+    }
+}
+
+/// The name, the text and the extensions that begin so.
+fn link_of(
+    alloc: Global,
+    options: FsOptions,
+    first: FirstName,
+) -> Result<(NameAndText, Extensions)>
+    ensures { GivesAs link_values result
+        (link_or_refusal (fs_options_bits options) (Some first)) }
+{
+    let (nul, extensions) = extended(alloc, options, first.rest())?;
+    Ok((NameAndText { first, nul }, extensions))
+}
+
+/// The name, the text and the extensions that a tail is.
+fn link_of_tail(
+    alloc: Global,
+    options: FsOptions,
+    tail: Vec<u8>,
+) -> Result<(NameAndText, Extensions)>
+    ensures { GivesAs link_values result
+        (link_in_tail (fs_options_bits options) tail.items) }
+{
+    let Some(nul) = first_nul(&tail) else {
+        return Err(Error::MissingParameter);
+    };
+    link_of(alloc, options, FirstName { tail, nul })
+}
+
+/// The name of a link, its text and the extensions that the tail is, of a request without a record:
+/// the errors of [`read_tail`], then `MissingParameter` where no 0 ends the name or no byte follows
+/// it, the errors of [`get_extensions`], and `InvalidCString` where no 0 ends the text.
+pub fn read_link(
+    alloc: Global,
+    options: FsOptions,
+    header: &InHeader,
+    reader: &mut Reader<'_>,
+) -> Result<(NameAndText, Extensions)>
+    ensures { GivesPartAs link_values (link_in_tail (fs_options_bits options)) result
+        (tail_of header.now 0 reader.old.left) }
+{
+    let tail = read_tail(alloc, header, 0, reader)?;
+    link_of_tail(alloc, options, tail)
 }
 
 /// SETXATTR's record, by the agreed options.
