@@ -126,11 +126,14 @@ impl<F: FileSystem> Server<F> {
     /// that `w` has left. Answers the reply's length in bytes, 0 where there is none.
     ///
     /// `DecodeMessage` where the header, a record, a tail or a list is not whole,
-    /// `InvalidHeaderLength` where `len` is less than what stands before a tail, `InvalidCString`
-    /// where a tail is no name, `OutOfMemory` where there is no memory for a tail or a list that
-    /// is whole. After any error but `EncodeMessage` no call was made, nothing was written, and
-    /// the options are the old ones. After `EncodeMessage` the room holds the beginning of a
-    /// reply that was too long for it.
+    /// `InvalidHeaderLength` where `len` is less than what stands before a tail, or an extension is
+    /// smaller than its header, `MissingParameter` where a name or a text isn't there or, before
+    /// another part, has no end, `InvalidXattrSize` where the value of an extended attribute is not
+    /// as long as its record says, the errors of [`get_extensions`](vfs_messages::get_extensions),
+    /// `InvalidCString` where a last name or text has no end or another byte behind it,
+    /// `OutOfMemory` where there is no memory for a tail or a list that is whole. After any error
+    /// but `EncodeMessage` no call was made, nothing was written, and the options are the old ones.
+    /// After `EncodeMessage` the room holds the beginning of a reply that was too long for it.
     ///
     /// A hold that the caller left on `w` is given up first. What `w` had passed before stays, held
     /// bytes too; where it stands afterwards isn't said.
@@ -200,6 +203,9 @@ impl<F: FileSystem> Server<F> {
             Opcode::Getattr => self.getattr(header, r, w),
             Opcode::Setattr => self.setattr(header, r, w),
             Opcode::Readlink => self.readlink(header, r, w),
+            Opcode::Symlink => self.symlink(alloc, header, r, w),
+            Opcode::Mknod => self.mknod(alloc, header, r, w),
+            Opcode::Mkdir => self.mkdir(alloc, header, r, w),
             Opcode::Unlink => self.unlink(alloc, header, r, w),
             Opcode::Rmdir => self.rmdir(alloc, header, r, w),
             Opcode::Rename => self.rename(alloc, header, r, w),
@@ -221,6 +227,7 @@ impl<F: FileSystem> Server<F> {
             Opcode::Setlk => self.setlk(header, r, w),
             Opcode::Setlkw => self.setlkw(header, r, w),
             Opcode::Access => self.access(header, r, w),
+            Opcode::Create => self.create(alloc, header, r, w),
             Opcode::Interrupt => Ok(0),
             Opcode::Bmap => self.bmap(header, r, w),
             Opcode::Destroy => self.end_session(header, r, w),

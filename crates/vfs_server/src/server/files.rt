@@ -3,15 +3,16 @@
 ghost use Rattle.vfs_server.specs.Step.{Serves};
 
 use crate::server::Server;
+use std::alloc::Global;
 use vfs_files::{Context, FileSystem, Number};
 use vfs_flags::{FSYNC_FDATASYNC, OPEN_KILL_SUIDGID, Opcode, RELEASE_FLOCK_UNLOCK, RELEASE_FLUSH};
 use vfs_messages::{
-    Result, is_set, number_if, read_record, reply_done, reply_fault_alone, reply_offset,
+    Result, is_set, number_if, read_extended, read_record, reply_created, reply_done, reply_fault_alone, reply_offset,
     reply_opened, reply_written,
 };
 use vfs_segments::{Reader, Writer};
 use vfs_wire::{
-    CopyfilerangeIn, FallocateIn, FlushIn, FsyncIn, InHeader, LseekIn, OpenIn, ReleaseIn,
+    ByteValued, CopyfilerangeIn, CreateIn, FallocateIn, FlushIn, FsyncIn, InHeader, LseekIn, OpenIn, ReleaseIn,
 };
 
 impl<F: FileSystem> Server<F> {
@@ -32,6 +33,32 @@ impl<F: FileSystem> Server<F> {
             .fs
             .open(Context::from(*header), inode, kill_priv, open_in.flags);
         reply_opened::<F::Handle>(answer, header.unique, w)
+    }
+
+    /// CREATE (`struct fuse_create_in`): makes a file and opens it.
+    pub(super) fn create(
+        &mut self,
+        alloc: Global,
+        header: &InHeader,
+        r: &mut Reader<'_>,
+        w: &mut Writer,
+    ) -> Result<usize>
+        ensures { Serves F.allows Opcode.Create header.now r.old.left
+            self.old w.old result w.new self.new }
+    {
+        let create_in = read_record::<CreateIn>(r)?;
+        let (name, extensions) = read_extended(alloc, self.options, header, CreateIn::SIZE, r)?;
+        let answer = self.fs.create(
+            Context::from(*header),
+            F::Inode::from_number(header.nodeid),
+            name.as_c_str(),
+            create_in.mode,
+            is_set(create_in.open_flags, OPEN_KILL_SUIDGID),
+            create_in.flags,
+            create_in.umask,
+            extensions,
+        );
+        reply_created::<F::Handle>(answer, header.unique, w)
     }
 
     /// RELEASE (`struct fuse_release_in`): a file is closed. The owner of locks is passed where

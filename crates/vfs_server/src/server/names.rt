@@ -7,12 +7,13 @@ use std::alloc::Global;
 use vfs_files::{Context, FileSystem, Number};
 use vfs_flags::{Errno, Opcode};
 use vfs_messages::{
-    Result, read_name, read_names, read_pairs, read_record, reply_done, reply_entry, reply_failed,
-    reply_text,
+    Result, read_extended, read_link, read_name, read_names, read_pairs, read_record, reply_done,
+    reply_entry, reply_failed, reply_text,
 };
 use vfs_segments::{Reader, Writer};
 use vfs_wire::{
-    BatchForgetIn, ByteValued, ForgetIn, ForgetOne, InHeader, LinkIn, Rename2In, RenameIn,
+    BatchForgetIn, ByteValued, ForgetIn, ForgetOne, InHeader, LinkIn, MkdirIn, MknodIn, Rename2In,
+    RenameIn,
 };
 
 /// The flags of RENAME2 that are passed on: not to replace, to exchange, and to leave a whiteout.
@@ -89,6 +90,78 @@ impl<F: FileSystem> Server<F> {
         let inode = F::Inode::from_number(header.nodeid);
         let answer = self.fs.readlink(Context::from(*header), inode);
         reply_text(answer, header.unique, w)
+    }
+
+    /// SYMLINK: makes a symbolic link. The request has no record: the link's name and its text
+    /// stand in the tail, in this order, and the call takes the text first.
+    pub(super) fn symlink(
+        &mut self,
+        alloc: Global,
+        header: &InHeader,
+        r: &mut Reader<'_>,
+        w: &mut Writer,
+    ) -> Result<usize>
+        ensures { Serves F.allows Opcode.Symlink header.now r.old.left
+            self.old w.old result w.new self.new }
+    {
+        let (link, extensions) = read_link(alloc, self.options, header, r)?;
+        let answer = self.fs.symlink(
+            Context::from(*header),
+            link.text(),
+            F::Inode::from_number(header.nodeid),
+            link.name(),
+            extensions,
+        );
+        reply_entry(answer, header.unique, w)
+    }
+
+    /// MKNOD (`struct fuse_mknod_in`): makes a file, a pipe, a socket or a device.
+    pub(super) fn mknod(
+        &mut self,
+        alloc: Global,
+        header: &InHeader,
+        r: &mut Reader<'_>,
+        w: &mut Writer,
+    ) -> Result<usize>
+        ensures { Serves F.allows Opcode.Mknod header.now r.old.left
+            self.old w.old result w.new self.new }
+    {
+        let mknod_in = read_record::<MknodIn>(r)?;
+        let (name, extensions) = read_extended(alloc, self.options, header, MknodIn::SIZE, r)?;
+        let answer = self.fs.mknod(
+            Context::from(*header),
+            F::Inode::from_number(header.nodeid),
+            name.as_c_str(),
+            mknod_in.mode,
+            mknod_in.rdev,
+            mknod_in.umask,
+            extensions,
+        );
+        reply_entry(answer, header.unique, w)
+    }
+
+    /// MKDIR (`struct fuse_mkdir_in`): makes a directory.
+    pub(super) fn mkdir(
+        &mut self,
+        alloc: Global,
+        header: &InHeader,
+        r: &mut Reader<'_>,
+        w: &mut Writer,
+    ) -> Result<usize>
+        ensures { Serves F.allows Opcode.Mkdir header.now r.old.left
+            self.old w.old result w.new self.new }
+    {
+        let mkdir_in = read_record::<MkdirIn>(r)?;
+        let (name, extensions) = read_extended(alloc, self.options, header, MkdirIn::SIZE, r)?;
+        let answer = self.fs.mkdir(
+            Context::from(*header),
+            F::Inode::from_number(header.nodeid),
+            name.as_c_str(),
+            mkdir_in.mode,
+            mkdir_in.umask,
+            extensions,
+        );
+        reply_entry(answer, header.unique, w)
     }
 
     /// UNLINK: takes a file's name away.
