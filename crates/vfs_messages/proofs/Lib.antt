@@ -4,4 +4,5 @@ pub mod Asking
 pub mod Bodies
 pub mod Turns
 pub mod Examples
+mod Blocks
 mod ExtensionExamples

@@ -1,14 +1,16 @@
 -- The extensions of a request that makes a node: blocks, one behind the other, and what they say.
-use Rattle.std.specs.Prelude.{◌≡◌, ◌⊎◌, ◌==◌, ◌||◌, ◌&&◌, not, ℕ, zero, suc, bit_and, Bool, true, false, List, [], ◌∷◌, length, take, drop, is_some, nat_lt, if◌then◌else◌, Option, Some, None, Result, Ok, Err}
+use Rattle.std.specs.Prelude.{◌≡◌, ◌⊎◌, ◌-◌, ◌==◌, ◌||◌, ◌&&◌, not, ℕ, zero, suc, bit_and, Bool, true, false, List, [], ◌∷◌, length, take, drop, is_some, nat_lt, option_map, if◌then◌else◌, Option, Some, None, Result, Ok, Err}
 use Rattle.vfs_flags.specs.ExtType.{ext_type_of}
 use Rattle.vfs_flags.specs.Flags.{security_ctx, create_supp_group}
 use Rattle.vfs_flags.specs.declared.ext_type.ExtType.{ExtType}
 use Rattle.vfs_flags.specs.declared.ext_type.ExtType.TheVariants.{SecCtx, SupGroups}
 use Rattle.vfs_wire.specs.Fields.{lone_number, value_of}
 use Rattle.vfs_wire.specs.Extensions.{ext_header, secctx, supp_groups}
-use Rattle.vfs_files.specs.Extensions.{ExtensionValues}
+use Rattle.vfs_files.specs.Extensions.{ExtensionValues, context_values}
 use Rattle.vfs_files.specs.Names.{first_name}
 use Rattle.vfs_messages.specs.Records.{size_of, record_of}
+use Rattle.vfs_messages.specs.declared.extensions.Found.{Found}
+use Rattle.vfs_messages.specs.declared.extensions.Block as found
 use Rattle.vfs_messages.specs.declared.error.Error.{Error}
 use Rattle.vfs_messages.specs.declared.error.Error.TheVariants.{DecodeMessage, InvalidHeaderLength, MissingExtension, MissingParameter, OutOfMemory}
 
@@ -32,14 +34,13 @@ abbrev pub name_and_value : (size : ℕ) → (bytes : List ℕ) → Result (List
 name_and_value size [] = Err MissingParameter
 name_and_value size (b ∷ bytes) = value_behind size (first_name (b ∷ bytes))
 
--- the context that bytes begin with: a record with the size of its value, which isn't 0, then its
--- name and its value
-abbrev pub context_in : (bytes : List ℕ) → Result (Option (List ℕ × List ℕ)) Error
+-- the name and the value of the context that bytes begin with: behind a record with the size of the
+-- value, which isn't 0
+abbrev pub context_in : (bytes : List ℕ) → Result (List ℕ × List ℕ) Error
 context_in bytes =
     error_or (record_of secctx bytes) (λ r.
     if r.size == 0 then Err DecodeMessage
-    else
-    error_or (name_and_value r.size (drop (size_of secctx) bytes)) (λ context. Ok (Some context)))
+    else name_and_value r.size (drop (size_of secctx) bytes))
 
 -- the context in the body of a block of `nr` contexts: none where there are none, whatever the
 -- body; more than one are refused
@@ -48,7 +49,7 @@ abbrev pub security_context_in :
 security_context_in nr body =
     if nat_lt 1 nr then Err DecodeMessage
     else if nr == 0 then Ok None
-    else context_in body
+    else error_or (context_in body) (λ context. Ok (Some context))
 
 -- the group in the body of a block of groups, of which there is exactly one; more is ignored
 abbrev pub group_in : (body : List ℕ) → Result ℕ Error
@@ -77,7 +78,7 @@ block_in bytes =
     else
     Ok (record {
       ext_type = r.ext_type;
-      body = drop (size_of ext_header) (take r.size bytes);
+      body = take (r.size - size_of ext_header) (drop (size_of ext_header) bytes);
     }))
 
 -- what bytes are: blocks, one behind the other, and why what is left then begins with no block,
@@ -203,3 +204,17 @@ abbrev pub GivesValue :
     {A B : Type 0} → (value : A → B) → Result A Error → (said : Result B Error) → Type 0
 GivesValue value (Ok x) said = said ≡ Ok (value x)
 GivesValue value (Err e) said = (said ≡ Err e) ⊎ (e ≡ OutOfMemory)
+
+-- what was found so far, as values
+abbrev pub found_values : Found → Received
+found_values found = record {
+  has_contexts = found.has_contexts;
+  values = record { context = option_map context_values found.secctx; group = found.sup_gid };
+}
+
+-- a block was found at the beginning of bytes, and what stands behind it; or there is none
+abbrev pub GivesBlock : Result found.Block Error → (bytes : List ℕ) → Type 0
+GivesBlock (Ok block) bytes =
+    (block_in bytes ≡ Ok (record { ext_type = block.ext_type; body = block.body.now }))
+    × (block.behind.now ≡ drop (block_size bytes) bytes)
+GivesBlock (Err error) bytes = block_in bytes ≡ Err error

@@ -5,6 +5,7 @@
 #![tactic(auto)]
 
 mod error;
+mod extensions;
 pub mod laws;
 mod limits;
 mod options;
@@ -13,6 +14,7 @@ mod request;
 pub mod uses;
 
 pub use error::{Error, Result};
+pub use extensions::{get_extensions, parse_security_context, parse_sup_groups};
 pub use limits::{DEFAULT_MAX_BUFFER, Limits};
 pub use options::{agreed_options, offered_options, read_second_flags, reply_init, reply_version};
 pub use reply::{
