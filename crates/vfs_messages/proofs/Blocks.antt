@@ -8,7 +8,7 @@ use Rattle.vfs_wire.specs.Extensions.{ext_header}
 use Rattle.vfs_files.specs.Extensions.{ExtensionValues, extension_values_of}
 use Rattle.vfs_files.specs.declared.extensions.Extensions.{Extensions}
 use Rattle.vfs_messages.specs.Records.{size_of}
-use Rattle.vfs_messages.specs.Extensions.{Block, Cut, Received, block_in, block_size, cut_on, cut_of_most, cut_of, error_or, receive, receive_all, received_at_end, extensions_of, extensions_in, extensions_after, reads_extensions, no_extensions, nothing_received, GivesValue}
+use Rattle.vfs_messages.specs.Extensions.{Block, Cut, Received, block_in, block_size, cut_on, cut_of_most, cut_of, error_or, receive, receive_all, received_at_end, extensions_of, extensions_in, extensions_after, reads_extensions, no_extensions, nothing_received, GivesValue, MayHoldContext}
 use Rattle.vfs_messages.specs.declared.error.Error.{Error}
 use Rattle.vfs_messages.specs.declared.error.Error.TheVariants.{DecodeMessage, InvalidHeaderLength, OutOfMemory}
 
@@ -33,7 +33,7 @@ error_or-passed false b c r e f g make x is = passed (b r) (c r) f g (make r) x 
 pub block_in-has : (bytes : List ℕ) (b : Block) → block_in bytes ≡ Ok b → HasBlock bytes
 block_in-has bytes b e =
     let h = error_or-passed (nat_lt (length bytes) 8) (λ r. nat_lt r.size 8) (λ r. nat_lt (length bytes) r.size) (value_of ext_header bytes) DecodeMessage InvalidHeaderLength DecodeMessage
-      (λ r. record { ext_type = r.ext_type; body = take (r.size - 8) (drop 8 bytes) }) b e in
+    (λ r. record { ext_type = r.ext_type; body = take (r.size - 8) (drop 8 bytes) }) b e in
     record { header = omega (arith, ltb-false, h.0); whole = omega (arith, ltb-false, h.1) }
 
 -- what stands behind a fault isn't looked at
@@ -51,17 +51,17 @@ cut_of_most-enough (suc n) zero (b ∷ bytes) h k = absurd (omega arith)
 cut_of_most-enough (suc n) (suc m) [] h k = refl
 cut_of_most-enough (suc n) (suc m) (b ∷ bytes) h k =
     cut_on-same (block_in (b ∷ bytes)) _ _ (λ block e.
-      let has : HasBlock (b ∷ bytes) = block_in-has (b ∷ bytes) block e in
-      let left = length-drop (block_size (b ∷ bytes)) (b ∷ bytes) in
-      cut_of_most-enough n m (drop (block_size (b ∷ bytes)) (b ∷ bytes)) (omega arith) (omega arith))
+    let has : HasBlock (b ∷ bytes) = block_in-has (b ∷ bytes) block e in
+    let left = length-drop (block_size (b ∷ bytes)) (b ∷ bytes) in
+    cut_of_most-enough n m (drop (block_size (b ∷ bytes)) (b ∷ bytes)) (omega arith) (omega arith))
 
 -- the cut by the first block
 cut_of-cons : (b : ℕ) (bytes : List ℕ) → cut_of (b ∷ bytes) ≡ cut_on (block_in (b ∷ bytes)) (cut_of (drop (block_size (b ∷ bytes)) (b ∷ bytes)))
 unfolding cut_of
 cut_of-cons b bytes = cut_on-same (block_in (b ∷ bytes)) _ _ (λ block e.
-      let has : HasBlock (b ∷ bytes) = block_in-has (b ∷ bytes) block e in
-      let left = length-drop (block_size (b ∷ bytes)) (b ∷ bytes) in
-      cut_of_most-enough (length bytes) (length (drop (block_size (b ∷ bytes)) (b ∷ bytes))) (drop (block_size (b ∷ bytes)) (b ∷ bytes)) (omega arith) (omega arith))
+    let has : HasBlock (b ∷ bytes) = block_in-has (b ∷ bytes) block e in
+    let left = length-drop (block_size (b ∷ bytes)) (b ∷ bytes) in
+    cut_of_most-enough (length bytes) (length (drop (block_size (b ∷ bytes)) (b ∷ bytes))) (drop (block_size (b ∷ bytes)) (b ∷ bytes)) (omega arith) (omega arith))
 
 -- the same of bytes that are there
 cut_of-some : (bytes : List ℕ) → 0 < length bytes → cut_of bytes ≡ cut_on (block_in bytes) (cut_of (drop (block_size bytes) bytes))
@@ -98,7 +98,7 @@ says-fault options r bytes e all same h is = sym same ∙ extensions_of-fault op
 
 -- at a block that is bad, or that there is no memory for
 pub says-bad : (options : ℕ) (r : Received) (bytes : List ℕ) (b : Block) (e : Error) (all : Result ExtensionValues Error)
-    → extensions_of options r (cut_of bytes) ≡ all → block_in bytes ≡ Ok b → (receive options r b ≡ Err e) ⊎ (e ≡ OutOfMemory) → (all ≡ Err e) ⊎ (e ≡ OutOfMemory)
+    → extensions_of options r (cut_of bytes) ≡ all → block_in bytes ≡ Ok b → (receive options r b ≡ Err e) ⊎ (MayHoldContext options × (e ≡ OutOfMemory)) → (all ≡ Err e) ⊎ (MayHoldContext options × (e ≡ OutOfMemory))
 says-bad options r bytes b e all same is (inl bad) = inl (sym same ∙ extensions_of-block options r bytes b is ∙ rw bad refl)
 says-bad options r bytes b e all same is (inr memory) = inr memory
 
@@ -109,9 +109,9 @@ says-more options r more bytes rest b all same is behind well = rw behind (sym (
 
 -- at the end of them
 pub says-end : (options : ℕ) (r : Received) (bytes : List ℕ) (x : Result Extensions Error) (all : Result ExtensionValues Error)
-    → extensions_of options r (cut_of bytes) ≡ all → length bytes ≡ 0 → GivesValue extension_values_of x (received_at_end options None r) → GivesValue extension_values_of x all
+    → extensions_of options r (cut_of bytes) ≡ all → length bytes ≡ 0 → GivesValue (MayHoldContext options) extension_values_of x (received_at_end options None r) → GivesValue (MayHoldContext options) extension_values_of x all
 says-end options r bytes x all same none gives =
-    let P : Result ExtensionValues Error → Type 0 = λ said. GivesValue extension_values_of x said in
+    let P : Result ExtensionValues Error → Type 0 = λ said. GivesValue (MayHoldContext options) extension_values_of x said in
     subst P (sym (extensions_of-end options r bytes none) ∙ same) gives
 
 -- ---- which bytes are gone over
@@ -137,8 +137,8 @@ unfolding extensions_in
 extensions_after-read options skip bytes h long = read (nat_lt (length bytes) skip) (reads_extensions options) _ _ _ (le-ltb (length bytes) skip long) h
 
 pub gives-after : (options skip : ℕ) (bytes : List ℕ) (x : Result Extensions Error) → reads_extensions options ≡ true → skip ≤ length bytes
-    → GivesValue extension_values_of x (extensions_of options nothing_received (cut_of (take (length bytes - skip) (drop skip bytes)))) → GivesValue extension_values_of x (extensions_after options skip bytes)
+    → GivesValue (MayHoldContext options) extension_values_of x (extensions_of options nothing_received (cut_of (take (length bytes - skip) (drop skip bytes)))) → GivesValue (MayHoldContext options) extension_values_of x (extensions_after options skip bytes)
 gives-after options skip bytes x h long gives =
-    let P : Result ExtensionValues Error → Type 0 = λ said. GivesValue extension_values_of x said in
+    let P : Result ExtensionValues Error → Type 0 = λ said. GivesValue (MayHoldContext options) extension_values_of x said in
     let all : take (length bytes - skip) (drop skip bytes) ≡ drop skip bytes = take_all (length bytes - skip) (drop skip bytes) (omega (arith, length-drop skip bytes)) in
     subst P (ap (λ (behind : List ℕ). extensions_of options nothing_received (cut_of behind)) all ∙ sym (extensions_after-read options skip bytes h long)) gives

@@ -1,5 +1,5 @@
 -- The extensions of a request that makes a node: blocks, one behind the other, and what they say.
-use Rattle.std.specs.Prelude.{◌≡◌, ◌⊎◌, ◌-◌, ◌==◌, ◌||◌, ◌&&◌, not, ℕ, zero, suc, bit_and, Bool, true, false, List, [], ◌∷◌, length, take, drop, is_some, nat_lt, option_map, if◌then◌else◌, Option, Some, None, Result, Ok, Err}
+use Rattle.std.specs.Prelude.{◌≡◌, ◌⊎◌, ◌-◌, ◌==◌, ◌||◌, ◌&&◌, not, ℕ, zero, suc, bit_and, Bool, true, false, List, [], ◌∷◌, length, take, drop, is_some, nat_lt, option_map, if◌then◌else◌, IsTrue, IsOk, Option, Some, None, Result, Ok, Err}
 use Rattle.vfs_flags.specs.ExtType.{ext_type_of}
 use Rattle.vfs_flags.specs.Flags.{security_ctx, create_supp_group}
 use Rattle.vfs_flags.specs.declared.ext_type.ExtType.{ExtType}
@@ -199,11 +199,24 @@ extensions_after options skip bytes =
 
 -- ---- what the calls that read extensions say of them
 
--- it was found, and is of this value; or it is refused; or there was no memory for it
+-- it was found, and is of this value; or it is refused; or, where memory is wanted, there was none
 abbrev pub GivesValue :
-    {A B : Type 0} → (value : A → B) → Result A Error → (said : Result B Error) → Type 0
-GivesValue value (Ok x) said = said ≡ Ok (value x)
-GivesValue value (Err e) said = (said ≡ Err e) ⊎ (e ≡ OutOfMemory)
+    {A B : Type 0} → (wanted : Type 0) → (value : A → B) → Result A Error
+    → (said : Result B Error) → Type 0
+GivesValue wanted value (Ok x) said = said ≡ Ok (value x)
+GivesValue wanted value (Err e) said = (said ≡ Err e) ⊎ (wanted × (e ≡ OutOfMemory))
+
+-- memory is wanted for a context that is whole
+abbrev pub IsContext : (bytes : List ℕ) → Type 0
+IsContext bytes = IsOk (context_in bytes)
+
+-- and so in a body of one context alone
+abbrev pub HoldsContext : (nr : ℕ) → (body : List ℕ) → Type 0
+HoldsContext nr body = (nr ≡ 1) × IsContext body
+
+-- among extensions, only where contexts were agreed on
+abbrev pub MayHoldContext : (options : ℕ) → Type 0
+MayHoldContext options = IsTrue (has_option options security_ctx)
 
 -- what was found so far, as values
 abbrev pub found_values : Found → Received

@@ -9,7 +9,7 @@ ghost use Rattle.vfs_flags.specs.Flags.{fs_options_bits};
 ghost use Rattle.vfs_flags.specs.ExtType.{ext_type_of};
 ghost use Rattle.vfs_files.specs.Extensions.{context_values, extension_values_of};
 ghost use Rattle.vfs_files.specs.Names.{name_text};
-ghost use Rattle.vfs_messages.specs.Extensions.{GivesValue, GivesBlock, found_values, name_and_value, context_in, security_context_in, group_in, receive, receive_kind, received_at_end, cut_of, nothing_received, reads_extensions, extensions_of, extensions_after};
+ghost use Rattle.vfs_messages.specs.Extensions.{GivesValue, GivesBlock, IsContext, HoldsContext, MayHoldContext, found_values, name_and_value, context_in, security_context_in, group_in, receive, receive_kind, received_at_end, cut_of, nothing_received, reads_extensions, extensions_of, extensions_after};
 ghost use Rattle.vfs_messages.specs.Records.{record_of, size_of};
 
 use crate::error::{Error, Result};
@@ -73,7 +73,7 @@ fn copy_context(alloc: Global, name: CStr<'_>, value: &[u8]) -> Result<SecContex
 
 /// The context that a body of one context holds.
 fn read_context(alloc: Global, body: &[u8]) -> Result<SecContext>
-    ensures { GivesValue context_values result (context_in body.now) }
+    ensures { GivesValue (IsContext body.now) context_values result (context_in body.now) }
 {
     let (header, texts) = split_record::<Secctx>(body)?;
     if header.size == 0 {
@@ -92,7 +92,8 @@ fn read_context(alloc: Global, body: &[u8]) -> Result<SecContext>
 /// `MissingParameter` where no byte follows the record; `OutOfMemory` where there is no memory for
 /// a context that is whole.
 pub fn parse_security_context(alloc: Global, nr: u32, body: &[u8]) -> Result<Option<SecContext>>
-    ensures { GivesValue (option_map context_values) result (security_context_in nr body.now) }
+    ensures { GivesValue (HoldsContext nr body.now) (option_map context_values) result
+        (security_context_in nr body.now) }
 {
     match nr {
         0 => Ok(None),
@@ -159,7 +160,7 @@ fn receive_context(
     nr: u32,
     body: &[u8],
 ) -> Result<Found>
-    ensures { GivesValue found_values result
+    ensures { GivesValue (MayHoldContext (fs_options_bits options)) found_values result
         (receive_kind (fs_options_bits options) (found_values found)
         (Some (ExtType.SecCtx nr)) body.now) }
 {
@@ -176,7 +177,7 @@ fn receive_context(
 
 /// What is found with a block of groups.
 fn receive_group(options: FsOptions, found: Found, body: &[u8]) -> Result<Found>
-    ensures { GivesValue found_values result
+    ensures { GivesValue (MayHoldContext (fs_options_bits options)) found_values result
         (receive_kind (fs_options_bits options) (found_values found)
         (Some ExtType.SupGroups) body.now) }
 {
@@ -199,7 +200,7 @@ fn receive(
     ext_type: u32,
     body: &[u8],
 ) -> Result<Found>
-    ensures { GivesValue found_values result
+    ensures { GivesValue (MayHoldContext (fs_options_bits options)) found_values result
         (receive (fs_options_bits options) (found_values found)
         (record { ext_type = ext_type; body = body.now })) }
 {
@@ -213,7 +214,7 @@ fn receive(
 /// What was found in all blocks. `MissingExtension` where there was no block of contexts, but it
 /// was agreed on that there is.
 fn received(options: FsOptions, found: Found) -> Result<Extensions>
-    ensures { GivesValue extension_values_of result
+    ensures { GivesValue (MayHoldContext (fs_options_bits options)) extension_values_of result
         (received_at_end (fs_options_bits options) None (found_values found)) }
 {
     if options.contains(FsOptions::SECURITY_CTX) && !found.has_contexts {
@@ -227,7 +228,7 @@ fn received(options: FsOptions, found: Found) -> Result<Extensions>
 
 /// What is found in bytes that are all blocks, one behind the other.
 fn read_blocks(alloc: Global, options: FsOptions, bytes: &[u8]) -> Result<Extensions>
-    ensures { GivesValue extension_values_of result
+    ensures { GivesValue (MayHoldContext (fs_options_bits options)) extension_values_of result
         (extensions_of (fs_options_bits options) nothing_received (cut_of bytes.now)) }
 {
     let mut found = Found {
@@ -266,7 +267,7 @@ pub fn get_extensions(
     skip: usize,
     bytes: &[u8],
 ) -> Result<Extensions>
-    ensures { GivesValue extension_values_of result
+    ensures { GivesValue (MayHoldContext (fs_options_bits options)) extension_values_of result
         (extensions_after (fs_options_bits options) skip bytes.now) }
 {
     if !reads_extensions(options) {
