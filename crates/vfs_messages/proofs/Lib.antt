@@ -5,4 +5,7 @@ pub mod Bodies
 pub mod Turns
 pub mod Examples
 mod Blocks
+mod BlockLaws
+mod WrittenBlocks
+mod OneCut
 mod ExtensionExamples
