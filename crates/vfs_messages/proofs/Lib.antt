@@ -1,10 +1,13 @@
 pub mod FirstNames
 pub mod Rooms
 pub mod Pairs
-pub mod Blocks
 pub mod Refusing
 pub mod Asking
 pub mod Bodies
 pub mod Turns
 pub mod Examples
+mod Blocks
+mod BlockLaws
+mod WrittenBlocks
+mod OneCut
 mod ExtensionExamples

@@ -10,3 +10,4 @@ pub mod Turn
 pub mod Laws
 pub mod Uses
 pub mod Extensions
+pub mod ExtensionLaws

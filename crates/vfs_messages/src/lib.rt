@@ -5,6 +5,7 @@
 #![tactic(auto)]
 
 mod error;
+pub mod extension_laws;
 mod extensions;
 pub mod laws;
 mod limits;

@@ -2,6 +2,8 @@
 //! it calls, and from nothing else.
 
 ghost use Rattle.std.specs.Prelude.{◌≡◌, ◌<◌, ◌≤◌, ◌^◌, ◌++◌, ℕ, List, length, drop, Ok, Err, Some};
+ghost use Rattle.std.specs.Prelude.{None, MatchResult, codes};
+ghost use Rattle.vfs_files.specs.Extensions.{extension_values_of};
 ghost use Rattle.vfs_flags.specs.Opcode.{opcode_of};
 ghost use Rattle.vfs_flags.specs.declared.opcode.Opcode.{Opcode};
 ghost use Rattle.vfs_segments.specs.Segments.{with_bytes_at};
@@ -13,11 +15,13 @@ ghost use Rattle.vfs_messages.specs.declared.error.Error.{Error};
 ghost use Rattle.vfs_messages.specs.declared.limits.Limits.{Limits};
 
 use crate::error::Result;
+use crate::extensions::get_extensions;
 use crate::laws::replies_begin_with_their_header;
 use crate::reply::{reply_error, reply_failed, reply_ok};
 use crate::request::{read_record, read_tail};
 use std::alloc::Global;
-use vfs_flags::Errno;
+use vfs_files::Extensions;
+use vfs_flags::{Errno, FsOptions};
 use vfs_segments::{Reader, Writer};
 use vfs_wire::{GetattrIn, InHeader};
 
@@ -83,4 +87,27 @@ pub fn lengths_fit_their_field()
         t.outcome ≡ Ok n → 0 < n → n < 2 ^ 32 }
 {
     replies_begin_with_their_header();
+}
+
+/// Reads the extensions of a MKDIR behind the name `d`, where groups were agreed on: the group
+/// 1000, for which no memory is wanted.
+pub fn group_behind_a_name(alloc: Global) -> Result<Extensions>
+    ensures { MatchResult result
+        (λ ext. extension_values_of ext ≡ record { context = None; group = Some 1000 })
+        (λ error. ⊥) }
+{
+    let tail = b"d\0\x10\0\0\0\x20\0\0\0\x01\0\0\0\xe8\x03\0\0";
+    get_extensions(alloc, FsOptions::CREATE_SUPP_GROUP, 2, tail)
+}
+
+/// Reads the extensions of a MKDIR behind the name `d`, where a context was agreed on: one named
+/// `s`, whose value is `v`.
+pub fn context_behind_a_name(alloc: Global) -> Result<Extensions>
+    ensures { MatchResult result
+        (λ ext. extension_values_of ext
+        ≡ record { context = Some (codes "s", codes "v"); group = None })
+        (λ error. error ≡ Error.OutOfMemory) }
+{
+    let tail = b"d\0\x13\0\0\0\x01\0\0\0\x01\0\0\0\0\0\0\0s\0v";
+    get_extensions(alloc, FsOptions::SECURITY_CTX, 2, tail)
 }
