@@ -6,15 +6,17 @@
 ghost use Rattle.std.specs.Prelude.{◌≡◌, ◌≢◌, ℕ, ◌<◌, ◌==◌, length, slice_index, position};
 
 use crate::memory::copy_of;
+use memchr::memchr;
 use std::alloc::Global;
 use std::marker::Model;
 use vfs_flags::Fault;
 
 /// Where the first 0 stands.
+#[tactic(auto, using(crate::proofs::Texts::first_zero_is_place))]
 fn first_nul(bytes: &[u8]) -> Option<usize>
     ensures { result ≡ position (λ b. b == 0) bytes.now }
 {
-    bytes.iter().position(|b| *b == 0)
+    memchr(0, bytes)
 }
 
 /// A name: bytes with no 0 among them, borrowed from the request that carries them.
