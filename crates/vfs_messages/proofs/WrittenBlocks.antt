@@ -16,7 +16,7 @@ use Rattle.vfs_wire.specs.declared.extensions.SuppGroups.{SuppGroups}
 use Rattle.vfs_files.specs.Names.{first_name, cut_at}
 use Rattle.vfs_files.specs.Extensions.{ExtensionValues}
 use Rattle.vfs_messages.specs.Records.{size_of, record_of}
-use Rattle.vfs_messages.specs.Extensions.{Block, Received, error_or, value_behind, name_and_value, context_in, security_context_in, group_in, has_option, reads_extensions, nothing_received, with_context, with_group, receive, cut_of, extensions_of, extensions_in}
+use Rattle.vfs_messages.specs.Extensions.{Block, Received, error_or, value_behind, name_and_value, context_in, security_context_in, group_in, has_option, reads_extensions, nothing_received, with_context, with_group, receive, cut_of, extensions_of, extensions_in, extensions_after}
 use Rattle.vfs_messages.specs.ExtensionLaws.{block_bytes, context_bytes, context_block, group_bytes, group_block, blocks_of, FitsContext, MayFitContext, MayFitGroup, FitExtensions, IsBlock}
 use Rattle.vfs_messages.specs.declared.error.Error.{Error}
 use Rattle.vfs_messages.specs.declared.error.Error.TheVariants.{DecodeMessage}
@@ -177,6 +177,10 @@ reads : {A : Type 0} (b : Bool) (x y : A) → b ≡ true → (if b then x else y
 reads true x y h = refl
 reads false x y h = absurd cc
 
+short_or : {A : Type 0} (short b : Bool) (x y : A) → short ≡ false → (if short && b then x else y) ≡ y
+short_or true b x y h = absurd cc
+short_or false b x y h = refl
+
 -- where extensions are read
 extensions_in-read : (options : ℕ) (bytes : List ℕ) → reads_extensions options ≡ true
     → extensions_in options bytes ≡ extensions_of options nothing_received (cut_of bytes)
@@ -209,8 +213,17 @@ extensions_of-may_group options context (Some group) agreed fits =
     ∙ extensions_of-group options r group [] (agreed refl) refl fits
     ∙ extensions_of-received options (with_group r group) (and_false (has_option options security_ctx))
 
+-- behind names
+extensions_after-names : (options : ℕ) (names bytes : List ℕ)
+    → extensions_after options (length names) (names ++ bytes) ≡ extensions_in options bytes
+extensions_after-names options names bytes =
+    let long : length names ≤ length (names ++ bytes) = omega (arith, length-append names bytes) in
+    short_or (nat_lt (length (names ++ bytes)) (length names)) (reads_extensions options) _ _
+    (le-ltb (length (names ++ bytes)) (length names) long)
+    ∙ ap (extensions_in options) (drop_at names bytes (length names) refl)
+
 -- what is written is found
-pub extensions_in-written : (options : ℕ) (values : ExtensionValues) → has_option options security_ctx ≡ true
+extensions_in-written : (options : ℕ) (values : ExtensionValues) → has_option options security_ctx ≡ true
     → (is_some values.group ≡ true → has_option options create_supp_group ≡ true) → FitExtensions values
     → extensions_in options (blocks_of values) ≡ Ok values
 extensions_in-written options values agreed group fits =
@@ -219,10 +232,23 @@ extensions_in-written options values agreed group fits =
     ∙ extensions_of-may_group options values.context values.group group fits.group
 
 -- and so is a group alone
-pub extensions_in-group : (options group : ℕ) → has_option options security_ctx ≡ false → has_option options create_supp_group ≡ true → group < 2 ^ 32
+extensions_in-group : (options group : ℕ) → has_option options security_ctx ≡ false → has_option options create_supp_group ≡ true → group < 2 ^ 32
     → extensions_in options (group_block (Some group)) ≡ Ok (record { context = None; group = Some group })
 extensions_in-group options group unagreed agreed small =
     extensions_in-read options (group_block (Some group)) (or_else (has_option options security_ctx) (has_option options create_supp_group) agreed)
     ∙ ap (λ (bytes : List ℕ). extensions_of options nothing_received (cut_of bytes)) (sym (append-nil (group_block (Some group))))
     ∙ extensions_of-group options nothing_received group [] agreed refl small
     ∙ extensions_of-received options (with_group nothing_received group) (not_and (has_option options security_ctx) true unagreed)
+
+-- the same behind names
+pub extensions_after-written : (options : ℕ) (names : List ℕ) (values : ExtensionValues) → has_option options security_ctx ≡ true
+    → (is_some values.group ≡ true → has_option options create_supp_group ≡ true) → FitExtensions values
+    → extensions_after options (length names) (names ++ blocks_of values) ≡ Ok values
+extensions_after-written options names values agreed group fits =
+    extensions_after-names options names (blocks_of values) ∙ extensions_in-written options values agreed group fits
+
+pub extensions_after-group : (options group : ℕ) (names : List ℕ) → has_option options security_ctx ≡ false
+    → has_option options create_supp_group ≡ true → group < 2 ^ 32
+    → extensions_after options (length names) (names ++ group_block (Some group)) ≡ Ok (record { context = None; group = Some group })
+extensions_after-group options group names unagreed agreed small =
+    extensions_after-names options names (group_block (Some group)) ∙ extensions_in-group options group unagreed agreed small

@@ -1,5 +1,5 @@
-use Rattle.vfs_messages.proofs.WrittenBlocks.{extensions_in-group}
+use Rattle.vfs_messages.proofs.WrittenBlocks.{extensions_after-group}
 use Rattle.vfs_messages.proofs.extension_laws.written_groups_are_found.Goals as goal
 
 pub returns : goal.returns
-returns c options group = extensions_in-group options group
+returns c options group names = extensions_after-group options group names
