@@ -11,12 +11,13 @@ use Rattle.vfs_files.specs.Calls as call
 use Rattle.vfs_files.specs.Answers.{Done, Failed, Options, Found, Attributes, Opened, Statistics, Text, Count, Offset, Written}
 use Rattle.vfs_files.specs.Answers.{Agreements, Entries, Told, Untold, TimedAttributes, Openings, Capacities, Texts, TextsOrCounts, Offsets, Writes, Faults}
 use Rattle.vfs_messages.specs.Ask.{ask}
+use Rattle.vfs_messages.specs.Extensions.{extensions_in, cut_of, no_extensions}
 use Rattle.vfs_messages.specs.Forms.{Ask, Ends, Asks, Copies, refused, silent}
 use Rattle.vfs_messages.specs.declared.limits.Limits.{Limits}
 use Rattle.vfs_messages.specs.Options.{agreed, options_after}
 use Rattle.vfs_messages.specs.Reply.{Bytes, NoReply, Echo, reply_of}
 use Rattle.vfs_messages.specs.Room.{put_outcome, put_room}
-use Rattle.vfs_messages.specs.declared.error.Error.TheVariants.{DecodeMessage, EncodeMessage, InvalidCString, InvalidHeaderLength, InvalidXattrSize, MissingParameter}
+use Rattle.vfs_messages.specs.declared.error.Error.TheVariants.{DecodeMessage, EncodeMessage, InvalidCString, InvalidHeaderLength, InvalidXattrSize, MissingExtension, MissingParameter}
 
 -- four bytes of a number, the lowest first
 abbrev four : ℕ → List ℕ
@@ -263,6 +264,65 @@ link = refl
 link_without_a_name : ask usual 0 144 (header 48 13 9 1 ++ eight 5) ≡ Copies (refused InvalidCString)
 unfolding number little opcode_of
 link_without_a_name = refl
+
+-- SYMLINK: the link's name stands first, and the call is told its text first
+symlink : ask usual 0 144 (header 44 6 9 1 ++ (0x6e ∷ 0 ∷ 0x74 ∷ 0 ∷ [])) ≡ Copies (Asks (echo 9) (call.Symlink nobody (0x74 ∷ []) 1 (0x6e ∷ []) no_extensions))
+unfolding number little opcode_of extensions_in
+symlink = refl
+
+symlink_of_one_text : ask usual 0 144 (header 42 6 9 1 ++ (0x6e ∷ 0 ∷ [])) ≡ Copies (refused MissingParameter)
+unfolding number little opcode_of extensions_in
+symlink_of_one_text = refl
+
+symlink_to_a_text_without_end : ask usual 0 144 (header 43 6 9 1 ++ (0x6e ∷ 0 ∷ 0x74 ∷ [])) ≡ Copies (refused InvalidCString)
+unfolding number little opcode_of extensions_in
+symlink_to_a_text_without_end = refl
+
+-- MKNOD, MKDIR and CREATE: with no option agreed on, what is behind the name is ignored
+mknod : ask usual 0 144 (header 60 8 9 1 ++ ((eight 1 ++ eight 2) ++ (0x61 ∷ 0 ∷ 7 ∷ 7 ∷ []))) ≡ Copies (Asks (echo 9) (call.Mknod nobody 1 (0x61 ∷ []) 1 0 2 no_extensions))
+unfolding number little opcode_of extensions_in
+mknod = refl
+
+mknod_of_a_name_without_end : ask usual 0 144 (header 57 8 9 1 ++ (zeros 16 ++ (0x61 ∷ []))) ≡ Copies (refused InvalidCString)
+unfolding number little opcode_of extensions_in
+mknod_of_a_name_without_end = refl
+
+mknod_of_nothing : ask usual 0 144 (header 56 8 9 1 ++ zeros 16) ≡ Copies (refused MissingParameter)
+unfolding number little opcode_of extensions_in
+mknod_of_nothing = refl
+
+create : ask usual 0 160 (header 58 35 9 1 ++ ((eight 2 ++ (four 3 ++ four 1)) ++ (0x63 ∷ 0 ∷ []))) ≡ Copies (Asks (echo 9) (call.Create nobody 1 (0x63 ∷ []) 0 true 2 3 no_extensions))
+unfolding number little opcode_of extensions_in
+create = refl
+
+-- with SECURITY_CTX agreed on: a context of the name s and the value v; a block past the end, one
+-- smaller than its header, and none, which is missed also where the name has no end
+mkdir_with_a_context : ask usual 0x100000000 144 (header 69 9 9 1 ++ (zeros 8 ++ ((0x64 ∷ 0 ∷ []) ++ ((four 19 ++ four 1) ++ ((four 1 ++ zeros 4) ++ (0x73 ∷ 0 ∷ 0x76 ∷ []))))))
+    ≡ Copies (Asks (echo 9) (call.Mkdir nobody 1 (0x64 ∷ []) 0 0 (record { context = Some ((0x73 ∷ []), (0x76 ∷ [])); group = None })))
+unfolding number little opcode_of extensions_in cut_of
+mkdir_with_a_context = refl
+
+mkdir_with_a_block_past_the_end : ask usual 0x100000000 144 (header 58 9 9 1 ++ (zeros 8 ++ ((0x64 ∷ 0 ∷ []) ++ (four 9 ++ four 1)))) ≡ Copies (refused DecodeMessage)
+unfolding number little opcode_of extensions_in cut_of
+mkdir_with_a_block_past_the_end = refl
+
+mkdir_with_a_block_of_seven : ask usual 0x100000000 144 (header 58 9 9 1 ++ (zeros 8 ++ ((0x64 ∷ 0 ∷ []) ++ (four 7 ++ four 1)))) ≡ Copies (refused InvalidHeaderLength)
+unfolding number little opcode_of extensions_in cut_of
+mkdir_with_a_block_of_seven = refl
+
+mkdir_without_its_context : ask usual 0x100000000 144 (header 50 9 9 1 ++ (zeros 8 ++ (0x64 ∷ 0 ∷ []))) ≡ Copies (refused MissingExtension)
+unfolding number little opcode_of extensions_in cut_of
+mkdir_without_its_context = refl
+
+mkdir_without_context_or_end : ask usual 0x100000000 144 (header 49 9 9 1 ++ (zeros 8 ++ (0x64 ∷ []))) ≡ Copies (refused MissingExtension)
+unfolding number little opcode_of extensions_in cut_of
+mkdir_without_context_or_end = refl
+
+-- with CREATE_SUPP_GROUP agreed on: the group 1000
+mkdir_with_a_group : ask usual 0x400000000 144 (header 66 9 9 1 ++ (zeros 8 ++ ((0x64 ∷ 0 ∷ []) ++ ((four 16 ++ four 32) ++ (four 1 ++ four 1000)))))
+    ≡ Copies (Asks (echo 9) (call.Mkdir nobody 1 (0x64 ∷ []) 0 0 (record { context = None; group = Some 1000 })))
+unfolding number little opcode_of extensions_in cut_of
+mkdir_with_a_group = refl
 
 -- RENAME of a in node 1 to b in node 2
 rename : ask usual 0 16 (header 52 12 9 1 ++ (eight 2 ++ (0x61 ∷ 0 ∷ 0x62 ∷ 0 ∷ []))) ≡ Copies (Asks (echo 9) (call.Rename nobody 1 (0x61 ∷ []) 2 (0x62 ∷ []) 0))

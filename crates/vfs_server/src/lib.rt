@@ -14,4 +14,7 @@ pub mod server;
 mod tests;
 pub mod uses;
 
-pub use vfs_messages::{Error, Limits, Result, laws, reply_error, reply_ok};
+pub use vfs_messages::{
+    Error, Limits, Result, extension_laws, get_extensions, laws, parse_security_context,
+    parse_sup_groups, reply_error, reply_ok,
+};

@@ -105,13 +105,11 @@ impl<F: FileSystem> Server<F> {
             self.old w.old result w.new self.new }
     {
         let (link, extensions) = read_link(alloc, self.options, header, r)?;
-        let answer = self.fs.symlink(
-            Context::from(*header),
-            link.text(),
-            F::Inode::from_number(header.nodeid),
-            link.name(),
-            extensions,
-        );
+        let (name, text) = (link.name(), link.text());
+        let parent = F::Inode::from_number(header.nodeid);
+        let answer = self
+            .fs
+            .symlink(Context::from(*header), text, parent, name, extensions);
         reply_entry(answer, header.unique, w)
     }
 
