@@ -1,5 +1,5 @@
 -- Blocks as they are written, and that bytes are cut into blocks in one way.
-use Rattle.std.proofs.Common.{◌≡◌, ◌≢◌, ◌+◌, ◌-◌, ◌^◌, ◌<◌, ◌≤◌, ℕ, zero, suc, List, [], ◌∷◌, ◌++◌, length, take, drop, Bool, true, false, if◌then◌else◌, Some, None, Result, Ok, Err, refl, ap, sym, ◌∙◌, arith, length-drop, length-append, append_assoc, append-nil, ltb-false}
+use Rattle.std.proofs.Common.{◌≡◌, ◌+◌, ◌-◌, ◌^◌, ◌<◌, ℕ, List, [], ◌++◌, length, take, drop, Bool, true, false, if◌then◌else◌, Result, Ok, Err, refl, ap, sym, ◌∙◌, arith, length-append, append_assoc, append-nil}
 use Rattle.std.specs.Prelude.{nat_lt}
 use Rattle.std.proofs.lemmas.Bool.{le-ltb}
 use Rattle.std.proofs.lemmas.List.{drop_at, take_at}
@@ -7,7 +7,6 @@ use Rattle.vfs_wire.specs.Fields.{value_of, bytes_of}
 use Rattle.vfs_wire.specs.FieldLaws.{value_of-bytes_of-then, value_of-take, length-bytes_of}
 use Rattle.vfs_wire.specs.Extensions.{ext_header}
 use Rattle.vfs_wire.specs.declared.extensions.ExtHeader.{ExtHeader}
-use Rattle.vfs_messages.specs.Records.{size_of}
 use Rattle.vfs_messages.specs.Extensions.{Block, block_in, block_size, error_or}
 use Rattle.vfs_messages.specs.ExtensionLaws.{IsBlock, block_bytes}
 use Rattle.vfs_messages.specs.declared.error.Error.{Error}

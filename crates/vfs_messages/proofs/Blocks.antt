@@ -1,5 +1,5 @@
 -- Bytes that are cut into blocks: the first block, and those behind it.
-use Rattle.std.proofs.Common.{◌≡◌, ◌+◌, ◌-◌, ◌<◌, ◌≤◌, ℕ, zero, suc, List, [], ◌∷◌, length, take, drop, Bool, true, false, if◌then◌else◌, Some, None, Result, Ok, Err, refl, ap, sym, ◌∙◌, ◌⊎◌, inl, inr, subst, ◌&&◌, MatchResult, arith, length-drop, ltb-false}
+use Rattle.std.proofs.Common.{◌≡◌, ◌-◌, ◌<◌, ◌≤◌, ℕ, zero, suc, List, [], ◌∷◌, length, take, drop, Bool, true, false, if◌then◌else◌, None, Result, Ok, Err, refl, ap, sym, ◌∙◌, ◌⊎◌, inl, inr, subst, ◌&&◌, MatchResult, arith, length-drop, ltb-false}
 use Rattle.std.specs.Prelude.{nat_lt}
 use Rattle.std.proofs.lemmas.Bool.{le-ltb}
 use Rattle.std.proofs.lemmas.List.{take_all}
@@ -7,8 +7,7 @@ use Rattle.vfs_wire.specs.Fields.{value_of}
 use Rattle.vfs_wire.specs.Extensions.{ext_header}
 use Rattle.vfs_files.specs.Extensions.{ExtensionValues, extension_values_of}
 use Rattle.vfs_files.specs.declared.extensions.Extensions.{Extensions}
-use Rattle.vfs_messages.specs.Records.{size_of}
-use Rattle.vfs_messages.specs.Extensions.{Block, Cut, Received, block_in, block_size, cut_on, cut_of_most, cut_of, error_or, receive, receive_all, received_at_end, extensions_of, extensions_in, extensions_after, reads_extensions, no_extensions, nothing_received, GivesValue, MayHoldContext}
+use Rattle.vfs_messages.specs.Extensions.{Block, Cut, Received, block_in, block_size, cut_on, cut_of_most, cut_of, error_or, receive, received_at_end, extensions_of, extensions_in, extensions_after, reads_extensions, no_extensions, nothing_received, GivesValue, MayHoldContext}
 use Rattle.vfs_messages.specs.declared.error.Error.{Error}
 use Rattle.vfs_messages.specs.declared.error.Error.TheVariants.{DecodeMessage, InvalidHeaderLength, OutOfMemory}
 

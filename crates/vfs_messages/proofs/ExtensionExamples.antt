@@ -1,8 +1,7 @@
 -- Extensions held against examples: what these bytes are, computed.
-use Rattle.std.proofs.Common.{◌≡◌, ◌+◌, ◌/◌, ◌%◌, ◌^◌, ℕ, List, [], ◌∷◌, ◌++◌, Some, None, Ok, Err, refl}
+use Rattle.std.proofs.Common.{◌≡◌, ◌+◌, ℕ, List, [], ◌∷◌, ◌++◌, Some, None, Ok, Err, refl}
 use Rattle.vfs_flags.specs.Flags.{security_ctx, create_supp_group}
-use Rattle.vfs_wire.specs.Fields.{number, little, value_of}
-use Rattle.vfs_files.specs.Extensions.{ExtensionValues}
+use Rattle.vfs_wire.specs.Fields.{number}
 use Rattle.vfs_messages.specs.Extensions.{cut_of, extensions_in, extensions_after, no_extensions, security_context_in, group_in}
 use Rattle.vfs_messages.specs.declared.error.Error.TheVariants.{DecodeMessage, InvalidHeaderLength, MissingExtension, MissingParameter}
 

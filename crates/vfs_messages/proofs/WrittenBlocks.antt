@@ -1,5 +1,5 @@
 -- Extensions as they are written: what is found in them is what was written.
-use Rattle.std.proofs.Common.{◌≡◌, ◌≢◌, ◌+◌, ◌-◌, ◌^◌, ◌<◌, ◌≤◌, ◌==◌, ◌||◌, ◌&&◌, not, ℕ, zero, suc, List, [], ◌∷◌, ◌++◌, length, take, drop, get_or, position, Bool, true, false, if◌then◌else◌, Option, Some, None, is_some, Result, Ok, Err, refl, ap, sym, ◌∙◌, arith, lit<, length-append, append_assoc, append-nil, IsTrue, IsFalse}
+use Rattle.std.proofs.Common.{◌≡◌, ◌≢◌, ◌+◌, ◌^◌, ◌<◌, ◌≤◌, ◌==◌, ◌||◌, ◌&&◌, not, ℕ, List, [], ◌∷◌, ◌++◌, length, drop, get_or, position, Bool, true, false, if◌then◌else◌, Option, Some, None, is_some, Result, Ok, Err, refl, ap, sym, ◌∙◌, arith, lit<, length-append, append_assoc, append-nil}
 use Rattle.std.specs.Prelude.{nat_lt}
 use Rattle.std.specs.List.{position_or_len}
 use Rattle.std.proofs.lemmas.Bool.{le-ltb}
@@ -8,7 +8,7 @@ use Rattle.std.proofs.lemmas.Grind.{common_steps}
 use Rattle.std.proofs.lemmas.List.{drop_at, take_at, take_all, get_or_at, get_or_append_left}
 use Rattle.std.proofs.lemmas.List.Sums.{position_or_len_is}
 use Rattle.vfs_flags.specs.Flags.{security_ctx, create_supp_group}
-use Rattle.vfs_wire.specs.Fields.{Table, Fit, value_of, bytes_of, lone_number}
+use Rattle.vfs_wire.specs.Fields.{Table, Fit, bytes_of, lone_number}
 use Rattle.vfs_wire.specs.FieldLaws.{value_of-bytes_of-then, length-bytes_of}
 use Rattle.vfs_wire.specs.Extensions.{secctx, supp_groups}
 use Rattle.vfs_wire.specs.declared.extensions.Secctx.{Secctx}
@@ -17,7 +17,7 @@ use Rattle.vfs_files.specs.Names.{first_name, cut_at}
 use Rattle.vfs_files.specs.Extensions.{ExtensionValues}
 use Rattle.vfs_messages.specs.Records.{size_of, record_of}
 use Rattle.vfs_messages.specs.Extensions.{Block, Received, error_or, value_behind, name_and_value, context_in, security_context_in, group_in, has_option, reads_extensions, nothing_received, with_context, with_group, receive, cut_of, extensions_of, extensions_in, extensions_after}
-use Rattle.vfs_messages.specs.ExtensionLaws.{block_bytes, context_bytes, context_block, group_bytes, group_block, blocks_of, FitsContext, MayFitContext, MayFitGroup, FitExtensions, IsBlock}
+use Rattle.vfs_messages.specs.ExtensionLaws.{context_bytes, context_block, group_bytes, group_block, blocks_of, FitsContext, MayFitContext, MayFitGroup, FitExtensions, IsBlock}
 use Rattle.vfs_messages.specs.declared.error.Error.{Error}
 use Rattle.vfs_messages.specs.declared.error.Error.TheVariants.{DecodeMessage}
 use Rattle.vfs_messages.proofs.Blocks.{says-more, extensions_of-end}

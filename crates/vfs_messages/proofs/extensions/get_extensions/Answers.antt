@@ -1,4 +1,4 @@
-use Rattle.std.proofs.Common.{◌≡◌, ◌<◌, ◌≤◌, true, false, Ok, ap, sym, ◌∙◌}
+use Rattle.std.proofs.Common.{◌≡◌, true, false, Ok, ap, sym, ◌∙◌}
 use Rattle.vfs_files.specs.Extensions.{ExtensionValues}
 use Rattle.vfs_flags.specs.Flags.{fs_options_bits}
 use Rattle.vfs_messages.specs.Extensions.{reads_extensions}

@@ -1,4 +1,4 @@
-use Rattle.std.proofs.Common.{◌≡◌, ◌<◌, length, inl, sym, arith}
+use Rattle.std.proofs.Common.{◌≡◌, ◌<◌, length, inl, arith}
 use Rattle.std.proofs.lemmas.Bool.Decides.{nat_tests}
 use Rattle.std.proofs.lemmas.Result.{err_from_is_err_and}
 use Rattle.vfs_flags.specs.Flags.{fs_options_bits}
