@@ -182,7 +182,10 @@ fn a_reply_is_put_into_any_writer(rt: HostRuntime) -> Result<(), Fail> {
         size: 3,
         padding: 0,
     };
-    assert_eq!(rt; reply_ok(Some(count), Some(b"abc".as_slice()), 9, &mut writer)?, 27);
+    assert_eq!(rt;
+        reply_ok(Some(count), Some(b"abc".as_slice()), 9, &mut writer)?,
+        27
+    );
     assert_eq!(rt; reply_error(Some(Errno::ENOSYS), 8, &mut writer)?, 16);
     let room = b"\x1b\0\0\0\0\0\0\0\x09\0\0\0\0\0\0\0\x03\0\0\0\0\0\0\0abc\
         \x10\0\0\0\xda\xff\xff\xff\x08\0\0\0\0\0\0\0\xaa";
