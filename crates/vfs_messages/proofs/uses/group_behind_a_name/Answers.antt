@@ -1,4 +1,4 @@
-use Rattle.std.proofs.Common.{◌≡◌, Some, None, Ok, refl}
+use Rattle.std.proofs.Common.{Some, None, Ok, refl}
 use Rattle.std.proofs.lemmas.Result.{MatchResult-weaker}
 use Rattle.vfs_wire.specs.Fields.{number}
 use Rattle.vfs_files.specs.Extensions.{ExtensionValues, extension_values_of}
