@@ -15,7 +15,8 @@ use Rattle.vfs_messages.specs.declared.error.Error.TheVariants.{DecodeMessage, I
 -- two tests of a part that let it pass
 error_or-pass : {R : Type 0} (a : Bool) (b c : R → Bool) (r : R) (e f g : Error) (make : R → Block)
     → a ≡ false → b r ≡ false → c r ≡ false
-    → error_or (if a then Err e else Ok r) (λ k. if b k then Err f else if c k then Err g else Ok (make k)) ≡ Ok (make r)
+    → error_or (if a then Err e else Ok r) (λ k. if b k then Err f else if c k then Err g else Ok (make k))
+    ≡ Ok (make r)
 error_or-pass true b c r e f g make h i j = absurd cc
 error_or-pass false b c r e f g make h i j = rw (i, j) refl
 
@@ -27,16 +28,20 @@ head_is-read bytes b behind is =
     ∙ ap (value_of ext_header) (take_at is.head (b.body ++ behind) 8 is.whole_head) ∙ is.says
 
 -- what stands behind a block
-pub behind_block : (bytes : List ℕ) (b : Block) (behind : List ℕ) → IsBlock bytes b behind → drop (block_size bytes) bytes ≡ behind
+pub behind_block : (bytes : List ℕ) (b : Block) (behind : List ℕ) → IsBlock bytes b behind
+    → drop (block_size bytes) bytes ≡ behind
 behind_block bytes b behind is =
     let size : block_size bytes ≡ 8 + length b.body = ap (λ (r : ExtHeader). r.size) (head_is-read bytes b behind is) in
     let parts : bytes ≡ (is.head ++ b.body) ++ behind = is.parts ∙ sym (append_assoc is.head b.body behind) in
     ap (λ (n : ℕ). drop n bytes) size ∙ ap (drop (8 + length b.body)) parts
-    ∙ drop_at (is.head ++ b.body) behind (8 + length b.body) (omega (arith, length-append is.head b.body, is.whole_head))
+    ∙ drop_at (is.head ++ b.body) behind (8 + length b.body)
+    (omega (arith, length-append is.head b.body, is.whole_head))
 
+-- a block that is found
 abbrev ok_block : Block → Result Block Error
 ok_block b = Ok b
 
+-- blocks of the same type and body are the same
 same_block : (t u : ℕ) (b d : List ℕ) → t ≡ u → b ≡ d
     → ok_block (record { ext_type = t; body = b }) ≡ ok_block (record { ext_type = u; body = d })
 same_block t u b d e f = cc
@@ -45,16 +50,20 @@ same_block t u b d e f = cc
 pub block_in-is : (bytes : List ℕ) (b : Block) (behind : List ℕ) → IsBlock bytes b behind → block_in bytes ≡ Ok b
 block_in-is bytes b behind is =
     let size : block_size bytes ≡ 8 + length b.body = ap (λ (r : ExtHeader). r.size) (head_is-read bytes b behind is) in
-    let kind : (value_of ext_header bytes).ext_type ≡ b.ext_type = ap (λ (r : ExtHeader). r.ext_type) (head_is-read bytes b behind is) in
+    let kind : (value_of ext_header bytes).ext_type ≡ b.ext_type =
+    ap (λ (r : ExtHeader). r.ext_type) (head_is-read bytes b behind is) in
     let long : length bytes ≡ 8 + (length b.body + length behind) =
-    ap (λ (l : List ℕ). length l) is.parts ∙ omega (arith, length-append is.head (b.body ++ behind), length-append b.body behind, is.whole_head) in
+    ap (λ (l : List ℕ). length l) is.parts
+    ∙ omega (arith, length-append is.head (b.body ++ behind), length-append b.body behind, is.whole_head) in
     let body : take (block_size bytes - 8) (drop 8 bytes) ≡ b.body =
     ap (λ (l : List ℕ). take (block_size bytes - 8) (drop 8 l)) is.parts
     ∙ ap (take (block_size bytes - 8)) (drop_at is.head (b.body ++ behind) 8 is.whole_head)
     ∙ take_at b.body behind (block_size bytes - 8) (omega (arith, size)) in
-    error_or-pass (nat_lt (length bytes) 8) (λ r. nat_lt r.size 8) (λ r. nat_lt (length bytes) r.size) (value_of ext_header bytes) DecodeMessage InvalidHeaderLength DecodeMessage
+    error_or-pass (nat_lt (length bytes) 8) (λ r. nat_lt r.size 8) (λ r. nat_lt (length bytes) r.size)
+    (value_of ext_header bytes) DecodeMessage InvalidHeaderLength DecodeMessage
     (λ r. record { ext_type = r.ext_type; body = take (r.size - 8) (drop 8 bytes) })
-    (le-ltb (length bytes) 8 (omega (arith, long))) (le-ltb (block_size bytes) 8 (omega (arith, size))) (le-ltb (length bytes) (block_size bytes) (omega (arith, size, long)))
+    (le-ltb (length bytes) 8 (omega (arith, long))) (le-ltb (block_size bytes) 8 (omega (arith, size)))
+    (le-ltb (length bytes) (block_size bytes) (omega (arith, size, long)))
     ∙ same_block _ _ _ _ kind body
 
 -- a block as it is written
@@ -65,6 +74,7 @@ block_bytes-is ext_type body behind small short =
     record {
       head = bytes_of ext_header h;
       whole_head = length-bytes_of ext_header h (short, (small, tt));
-      says = ap (value_of ext_header) (sym (append-nil (bytes_of ext_header h))) ∙ value_of-bytes_of-then ext_header h [] (short, (small, tt)) refl;
+      says = ap (value_of ext_header) (sym (append-nil (bytes_of ext_header h)))
+          ∙ value_of-bytes_of-then ext_header h [] (short, (small, tt)) refl;
       parts = append_assoc (bytes_of ext_header h) body behind;
     }

@@ -21,7 +21,8 @@ context_s size = (head size 1 ++ head 1 0) ++ (0x73 ∷ 0 ∷ 0x76 ∷ [])
 abbrev groups : (size ext_type count : ℕ) → List ℕ
 groups size ext_type count = (head size ext_type ++ four count) ++ (0xe8 ∷ 3 ∷ 0 ∷ 0 ∷ [])
 
-context_is_read : extensions_in security_ctx (context_s 19) ≡ Ok (record { context = Some (0x73 ∷ [], 0x76 ∷ []); group = None })
+context_is_read : extensions_in security_ctx (context_s 19)
+    ≡ Ok (record { context = Some (0x73 ∷ [], 0x76 ∷ []); group = None })
 unfolding extensions_in cut_of number
 context_is_read = refl
 
@@ -103,7 +104,8 @@ no_group_may_come : extensions_in create_supp_group [] ≡ Ok no_extensions
 unfolding extensions_in cut_of number
 no_group_may_come = refl
 
-both_are_read : extensions_in (security_ctx + create_supp_group) (groups 16 32 1 ++ context_s 19) ≡ Ok (record { context = Some (0x73 ∷ [], 0x76 ∷ []); group = Some 1000 })
+both_are_read : extensions_in (security_ctx + create_supp_group) (groups 16 32 1 ++ context_s 19)
+    ≡ Ok (record { context = Some (0x73 ∷ [], 0x76 ∷ []); group = Some 1000 })
 unfolding extensions_in cut_of number
 both_are_read = refl
 
@@ -116,7 +118,8 @@ unfolding extensions_in cut_of number
 skip_past_the_bytes = refl
 
 -- bytes behind a value are ignored
-bytes_behind_a_value : security_context_in 1 (head 1 0 ++ (0x73 ∷ 0 ∷ 0x76 ∷ 0 ∷ 0 ∷ [])) ≡ Ok (Some (0x73 ∷ [], 0x76 ∷ []))
+bytes_behind_a_value : security_context_in 1 (head 1 0 ++ (0x73 ∷ 0 ∷ 0x76 ∷ 0 ∷ 0 ∷ []))
+    ≡ Ok (Some (0x73 ∷ [], 0x76 ∷ []))
 unfolding number
 bytes_behind_a_value = refl
 

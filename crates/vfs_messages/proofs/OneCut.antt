@@ -19,6 +19,7 @@ passed-made true c f g y x is = absurd cc
 passed-made false true f g y x is = absurd cc
 passed-made false false f g y x is = cc
 
+-- the same of a part
 error_or-made : {R : Type 0} (a : Bool) (b c : R → Bool) (r : R) (e f g : Error) (make : R → Block) (x : Block)
     → error_or (if a then Err e else Ok r) (λ k. if b k then Err f else if c k then Err g else Ok (make k)) ≡ Ok x
     → make r ≡ x
@@ -32,6 +33,7 @@ made_block bytes = record {
   body = take (block_size bytes - 8) (drop 8 bytes);
 }
 
+-- where one is found
 block_in-made : (bytes : List ℕ) (b : Block) → block_in bytes ≡ Ok b → made_block bytes ≡ b
 unfolding made_block
 block_in-made bytes b is =
@@ -39,6 +41,7 @@ block_in-made bytes b is =
     (value_of ext_header bytes) DecodeMessage InvalidHeaderLength DecodeMessage
     (λ r. record { ext_type = r.ext_type; body = take (r.size - 8) (drop 8 bytes) }) b is
 
+-- a header by its numbers
 abbrev header : (size kind : ℕ) → ExtHeader
 header size kind = record { size = size; ext_type = kind }
 
@@ -75,18 +78,34 @@ IsWell bytes cut = (rest : List ℕ) × IsCut bytes cut.blocks rest × (cut.faul
 
 -- nothing is cut into nothing
 nothing_is-well : IsWell [] (record { blocks = []; fault = None })
-nothing_is-well =
-    ([], (refl, λ b behind is. let has : HasBlock [] = block_in-has [] b (block_in-is [] b behind is) in absurd (omega arith)), refl)
+nothing_is-well = (
+  [],
+  (
+    refl,
+    λ b behind is. let has : HasBlock [] = block_in-has [] b (block_in-is [] b behind is) in
+        absurd (omega arith),
+  ),
+  refl,
+)
 
+-- a block in front of what is cut well, or none
 cut_on-is : (b : ℕ) (bytes : List ℕ) (next : Cut) (r : Result Block Error) → block_in (b ∷ bytes) ≡ r
     → ((block : Block) → r ≡ Ok block → IsWell (drop (block_size (b ∷ bytes)) (b ∷ bytes)) next)
     → IsWell (b ∷ bytes) (cut_on r next)
-cut_on-is b bytes next (Err e) is well =
-    (b ∷ bytes, (refl, λ block behind one. let found = block_in-is (b ∷ bytes) block behind one in absurd cc), sym (ap error_of is))
+cut_on-is b bytes next (Err e) is well = (
+  b ∷ bytes,
+  (
+    refl,
+    λ block behind one. let found = block_in-is (b ∷ bytes) block behind one in
+        absurd cc,
+  ),
+  sym (ap error_of is),
+)
 cut_on-is b bytes next (Ok block) is well =
     let w = well block refl in
     (w.0, (drop (block_size (b ∷ bytes)) (b ∷ bytes), block_is-in (b ∷ bytes) block is, w.1), w.2)
 
+-- by as many steps as there are bytes
 cut_of_most-is : (n : ℕ) (bytes : List ℕ) → length bytes ≤ n → IsWell bytes (cut_of_most n bytes)
 cut_of_most-is zero [] h = nothing_is-well
 cut_of_most-is zero (b ∷ bytes) h = absurd (omega arith)
@@ -98,26 +117,33 @@ cut_of_most-is (suc n) (b ∷ bytes) h =
     let left = length-drop (block_size (b ∷ bytes)) (b ∷ bytes) in
     cut_of_most-is n (drop (block_size (b ∷ bytes)) (b ∷ bytes)) (omega arith))
 
-pub cut_of-is : (bytes : List ℕ) → (rest : List ℕ) × IsCut bytes (cut_of bytes).blocks rest × ((cut_of bytes).fault ≡ fault_of rest)
+-- bytes are cut
+pub cut_of-is : (bytes : List ℕ)
+    → (rest : List ℕ) × IsCut bytes (cut_of bytes).blocks rest × ((cut_of bytes).fault ≡ fault_of rest)
 unfolding cut_of
 cut_of-is bytes = cut_of_most-is (length bytes) bytes (omega arith)
 
 -- ---- in no other way
 
 -- where no block begins there is none
-no_block : (bytes rest behind : List ℕ) (b : Block) → bytes ≡ rest → ((block : Block) (more : List ℕ) → ¬ (IsBlock rest block more)) → ¬ (IsBlock bytes b behind)
+no_block : (bytes rest behind : List ℕ) (b : Block) → bytes ≡ rest
+    → ((block : Block) (more : List ℕ) → ¬ (IsBlock rest block more)) → ¬ (IsBlock bytes b behind)
 no_block bytes rest behind b same none is =
     let P : List ℕ → Type 0 = λ l. IsBlock l b behind in
     none b behind (subst P same is)
 
-pub cut-only : (bytes rest other_rest : List ℕ) (blocks others : List Block) → IsCut bytes blocks rest → IsCut bytes others other_rest
+-- and in no other way
+pub cut-only : (bytes rest other_rest : List ℕ) (blocks others : List Block) → IsCut bytes blocks rest
+    → IsCut bytes others other_rest
     → (blocks ≡ others) × (rest ≡ other_rest)
 cut-only bytes rest other_rest [] [] cut other = (refl, sym cut.0 ∙ other.0)
 cut-only bytes rest other_rest [] (o ∷ others) cut other = absurd (no_block bytes rest other.0 o cut.0 cut.1 other.1)
-cut-only bytes rest other_rest (b ∷ blocks) [] cut other = absurd (no_block bytes other_rest cut.0 b other.0 other.1 cut.1)
+cut-only bytes rest other_rest (b ∷ blocks) [] cut other =
+    absurd (no_block bytes other_rest cut.0 b other.0 other.1 cut.1)
 cut-only bytes rest other_rest (b ∷ blocks) (o ∷ others) cut other =
     let behind : other.0 ≡ cut.0 = sym (behind_block bytes o other.0 other.1) ∙ behind_block bytes b cut.0 cut.1 in
     let P : List ℕ → Type 0 = λ l. IsCut l others other_rest in
     let rests = cut-only cut.0 rest other_rest blocks others cut.2 (subst P behind other.2) in
-    let first : b ≡ o = let e : block_in bytes ≡ Ok b = block_in-is bytes b cut.0 cut.1 in let f : block_in bytes ≡ Ok o = block_in-is bytes o other.0 other.1 in cc in
+    let first : b ≡ o = let e : block_in bytes ≡ Ok b = block_in-is bytes b cut.0 cut.1 in
+    let f : block_in bytes ≡ Ok o = block_in-is bytes o other.0 other.1 in cc in
     (ap (λ (block : Block). block ∷ blocks) first ∙ ap (λ (l : List Block). o ∷ l) rests.0, rests.1)

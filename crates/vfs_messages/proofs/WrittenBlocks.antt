@@ -37,11 +37,14 @@ not_refused false there h k = absurd cc
 -- ---- bodies
 
 -- a record is read from its bytes, whatever follows them
-record_of-written : {R : Type 0} (t : Table R) (x : R) (rest : List ℕ) → Fit t.widths (t.fields x) → t.made (t.fields x) ≡ x
+record_of-written : {R : Type 0} (t : Table R) (x : R) (rest : List ℕ) → Fit t.widths (t.fields x)
+    → t.made (t.fields x) ≡ x
     → record_of t (bytes_of t x ++ rest) ≡ Ok x
 record_of-written {R = R} t x rest fit again =
-    let long : size_of t ≤ length (bytes_of t x ++ rest) = omega (arith, length-append (bytes_of t x) rest, length-bytes_of t x fit) in
-    unless (nat_lt (length (bytes_of t x ++ rest)) (size_of t)) _ _ (le-ltb (length (bytes_of t x ++ rest)) (size_of t) long)
+    let long : size_of t ≤ length (bytes_of t x ++ rest) =
+    omega (arith, length-append (bytes_of t x) rest, length-bytes_of t x fit) in
+    unless (nat_lt (length (bytes_of t x ++ rest)) (size_of t)) _ _
+    (le-ltb (length (bytes_of t x ++ rest)) (size_of t) long)
     ∙ ap (λ (r : R). Ok r) (value_of-bytes_of-then t x rest fit again)
 
 -- the first 0 behind a name
@@ -64,7 +67,8 @@ first_name-written name rest h =
     ap (cut_at (name ++ 0 ∷ rest)) here ∙ rw (take_at name (0 ∷ rest) (length name) refl, behind) refl
 
 -- bytes that are there have a name
-name_and_value-some : (size : ℕ) (bytes : List ℕ) → 0 < length bytes → name_and_value size bytes ≡ value_behind size (first_name bytes)
+name_and_value-some : (size : ℕ) (bytes : List ℕ) → 0 < length bytes
+    → name_and_value size bytes ≡ value_behind size (first_name bytes)
 name_and_value-some size [] h = absurd (omega arith)
 name_and_value-some size (b ∷ bytes) h = refl
 
@@ -72,9 +76,11 @@ name_and_value-some size (b ∷ bytes) h = refl
 name_and_value-written : (context : List ℕ × List ℕ) → FitsContext context
     → name_and_value (length context.1) (context.0 ++ 0 ∷ context.1) ≡ Ok context
 name_and_value-written context fits =
-    name_and_value-some (length context.1) (context.0 ++ 0 ∷ context.1) (omega (arith, length-append context.0 (0 ∷ context.1)))
+    name_and_value-some (length context.1) (context.0 ++ 0 ∷ context.1)
+    (omega (arith, length-append context.0 (0 ∷ context.1)))
     ∙ ap (value_behind (length context.1)) (first_name-written context.0 context.1 fits.no_nul)
-    ∙ unless (nat_lt (length context.1) (length context.1)) _ _ (le-ltb (length context.1) (length context.1) (omega arith))
+    ∙ unless (nat_lt (length context.1) (length context.1)) _ _
+    (le-ltb (length context.1) (length context.1) (omega arith))
     ∙ ap (λ (value : List ℕ). Ok (context.0, value)) (take_all (length context.1) context.1 (omega arith))
 
 -- a context is found
@@ -83,13 +89,16 @@ context_in-written context fits =
     let h : Secctx = record { size = length context.1; padding = 0 } in
     let texts : List ℕ = context.0 ++ 0 ∷ context.1 in
     let size : length context.1 < 2 ^ 32 = omega (arith, fits.in_size) in
-    let next : Secctx → Result (List ℕ × List ℕ) Error = λ r. if r.size == 0 then Err DecodeMessage else name_and_value r.size (drop 8 (context_bytes context)) in
-    let behind : drop 8 (context_bytes context) ≡ texts = drop_at (bytes_of secctx h) texts 8 (length-bytes_of secctx h (size, (lit< tt, tt))) in
+    let next : Secctx → Result (List ℕ × List ℕ) Error =
+    λ r. if r.size == 0 then Err DecodeMessage else name_and_value r.size (drop 8 (context_bytes context)) in
+    let behind : drop 8 (context_bytes context) ≡ texts =
+    drop_at (bytes_of secctx h) texts 8 (length-bytes_of secctx h (size, (lit< tt, tt))) in
     let some : (length context.1 == 0) ≡ false = let has = fits.has_value in grind (arith, nat_tests) in
     ap (λ (r : Result Secctx Error). error_or r next) (record_of-written secctx h texts (size, (lit< tt, tt)) refl)
     ∙ unless (length context.1 == 0) _ _ some
     ∙ ap (name_and_value (length context.1)) behind ∙ name_and_value-written context fits
 
+-- and so in the body of a block of one
 security_context_in-written : (context : List ℕ × List ℕ) → FitsContext context
     → security_context_in 1 (context_bytes context) ≡ Ok (Some context)
 security_context_in-written context fits =
@@ -101,13 +110,17 @@ group_in-written : (group : ℕ) → group < 2 ^ 32 → group_in (group_bytes gr
 group_in-written group small =
     let h : SuppGroups = record { nr_groups = 1 } in
     let one : List ℕ = bytes_of (lone_number 4) group in
-    let next : SuppGroups → Result ℕ Error = λ r. if r.nr_groups == 1 then record_of (lone_number 4) (drop 4 (group_bytes group)) else Err DecodeMessage in
-    let behind : drop 4 (group_bytes group) ≡ one = drop_at (bytes_of supp_groups h) one 4 (length-bytes_of supp_groups h (lit< tt, tt)) in
+    let next : SuppGroups → Result ℕ Error =
+    λ r. if r.nr_groups == 1 then record_of (lone_number 4) (drop 4 (group_bytes group)) else Err DecodeMessage in
+    let behind : drop 4 (group_bytes group) ≡ one =
+    drop_at (bytes_of supp_groups h) one 4 (length-bytes_of supp_groups h (lit< tt, tt)) in
     ap (λ (r : Result SuppGroups Error). error_or r next) (record_of-written supp_groups h one (lit< tt, tt) refl)
-    ∙ ap (record_of (lone_number 4)) (behind ∙ sym (append-nil one)) ∙ record_of-written (lone_number 4) group [] (small, tt) refl
+    ∙ ap (record_of (lone_number 4)) (behind ∙ sym (append-nil one))
+    ∙ record_of-written (lone_number 4) group [] (small, tt) refl
 
 -- ---- blocks
 
+-- what was received, without a fault
 abbrev received_ok : Received → Result Received Error
 received_ok r = Ok r
 
@@ -136,47 +149,63 @@ group_is_short group small =
     )
 
 -- behind a block that is well
-extensions_of-written : (options : ℕ) (r more : Received) (bytes : List ℕ) (b : Block) (behind : List ℕ) → IsBlock bytes b behind → receive options r b ≡ Ok more
+extensions_of-written : (options : ℕ) (r more : Received) (bytes : List ℕ) (b : Block) (behind : List ℕ)
+    → IsBlock bytes b behind → receive options r b ≡ Ok more
     → extensions_of options r (cut_of bytes) ≡ extensions_of options more (cut_of behind)
 extensions_of-written options r more bytes b behind is well =
-    sym (says-more options r more bytes behind b _ refl (block_in-is bytes b behind is) (sym (behind_block bytes b behind is)) well)
+    sym (says-more options r more bytes behind b _ refl (block_in-is bytes b behind is)
+    (sym (behind_block bytes b behind is)) well)
 
 -- behind the block of contexts
-extensions_of-context : (options : ℕ) (context : Option (List ℕ × List ℕ)) (behind : List ℕ) → has_option options security_ctx ≡ true → MayFitContext context
-    → extensions_of options nothing_received (cut_of (context_block context ++ behind)) ≡ extensions_of options (with_context nothing_received context) (cut_of behind)
+extensions_of-context : (options : ℕ) (context : Option (List ℕ × List ℕ)) (behind : List ℕ)
+    → has_option options security_ctx ≡ true → MayFitContext context
+    → extensions_of options nothing_received (cut_of (context_block context ++ behind))
+    ≡ extensions_of options (with_context nothing_received context) (cut_of behind)
 extensions_of-context options None behind agreed fits =
-    extensions_of-written options nothing_received (with_context nothing_received None) _ (record { ext_type = 0; body = [] }) behind
+    extensions_of-written options nothing_received (with_context nothing_received None) _
+    (record { ext_type = 0; body = [] }) behind
     (block_bytes-is 0 [] behind (lit< tt) (lit< tt))
-    (unless (not (has_option options security_ctx) || false) _ _ (not_refused (has_option options security_ctx) false agreed refl))
+    (unless (not (has_option options security_ctx) || false) _ _
+    (not_refused (has_option options security_ctx) false agreed refl))
 extensions_of-context options (Some context) behind agreed fits =
-    extensions_of-written options nothing_received (with_context nothing_received (Some context)) _ (record { ext_type = 1; body = context_bytes context }) behind
+    extensions_of-written options nothing_received (with_context nothing_received (Some context)) _
+    (record { ext_type = 1; body = context_bytes context }) behind
     (block_bytes-is 1 (context_bytes context) behind (lit< tt) (context_is_short context fits))
-    (unless (not (has_option options security_ctx) || false) _ _ (not_refused (has_option options security_ctx) false agreed refl)
-    ∙ ap (λ (r : Result (Option (List ℕ × List ℕ)) Error). error_or r (λ c. received_ok (with_context nothing_received c))) (security_context_in-written context fits))
+    (unless (not (has_option options security_ctx) || false) _ _
+    (not_refused (has_option options security_ctx) false agreed refl)
+    ∙ ap (λ (r : Result (Option (List ℕ × List ℕ)) Error). error_or r
+    (λ c. received_ok (with_context nothing_received c))) (security_context_in-written context fits))
 
 -- behind the block of groups
-extensions_of-group : (options : ℕ) (r : Received) (group : ℕ) (behind : List ℕ) → has_option options create_supp_group ≡ true → is_some r.values.group ≡ false → group < 2 ^ 32
-    → extensions_of options r (cut_of (group_block (Some group) ++ behind)) ≡ extensions_of options (with_group r group) (cut_of behind)
+extensions_of-group : (options : ℕ) (r : Received) (group : ℕ) (behind : List ℕ)
+    → has_option options create_supp_group ≡ true → is_some r.values.group ≡ false → group < 2 ^ 32
+    → extensions_of options r (cut_of (group_block (Some group) ++ behind))
+    ≡ extensions_of options (with_group r group) (cut_of behind)
 extensions_of-group options r group behind agreed none small =
     extensions_of-written options r (with_group r group) _ (record { ext_type = 32; body = group_bytes group }) behind
     (block_bytes-is 32 (group_bytes group) behind (lit< tt) (group_is_short group small))
-    (unless (not (has_option options create_supp_group) || is_some r.values.group) _ _ (not_refused (has_option options create_supp_group) (is_some r.values.group) agreed none)
+    (unless (not (has_option options create_supp_group) || is_some r.values.group) _ _
+    (not_refused (has_option options create_supp_group) (is_some r.values.group) agreed none)
     ∙ ap (λ (g : Result ℕ Error). error_or g (λ n. received_ok (with_group r n))) (group_in-written group small))
 
 -- ---- extensions
 
+-- one of two is true
 either : (a b : Bool) → a ≡ true → (a || b) ≡ true
 either true b h = refl
 either false b h = absurd cc
 
+-- the other is
 or_else : (a b : Bool) → b ≡ true → (a || b) ≡ true
 or_else true b h = refl
 or_else false b h = h
 
+-- a test that passes
 reads : {A : Type 0} (b : Bool) (x y : A) → b ≡ true → (if b then x else y) ≡ x
 reads true x y h = refl
 reads false x y h = absurd cc
 
+-- two tests, of which the first fails
 short_or : {A : Type 0} (short b : Bool) (x y : A) → short ≡ false → (if short && b then x else y) ≡ y
 short_or true b x y h = absurd cc
 short_or false b x y h = refl
@@ -193,10 +222,12 @@ extensions_of-received : (options : ℕ) (r : Received) → (has_option options 
 extensions_of-received options r h =
     extensions_of-end options r [] refl ∙ unless (has_option options security_ctx && not r.has_contexts) _ _ h
 
+-- both of two, where the second is false
 and_false : (a : Bool) → (a && false) ≡ false
 and_false true = refl
 and_false false = refl
 
+-- and where the first is
 not_and : (a b : Bool) → a ≡ false → (a && b) ≡ false
 not_and true b h = absurd cc
 not_and false b h = refl
@@ -204,7 +235,8 @@ not_and false b h = refl
 -- the group behind the block of contexts
 extensions_of-may_group : (options : ℕ) (context : Option (List ℕ × List ℕ)) (group : Option ℕ)
     → (is_some group ≡ true → has_option options create_supp_group ≡ true) → MayFitGroup group
-    → extensions_of options (with_context nothing_received context) (cut_of (group_block group)) ≡ Ok (record { context = context; group = group })
+    → extensions_of options (with_context nothing_received context) (cut_of (group_block group))
+    ≡ Ok (record { context = context; group = group })
 extensions_of-may_group options context None agreed fits =
     extensions_of-received options (with_context nothing_received context) (and_false (has_option options security_ctx))
 extensions_of-may_group options context (Some group) agreed fits =
@@ -227,28 +259,37 @@ extensions_in-written : (options : ℕ) (values : ExtensionValues) → has_optio
     → (is_some values.group ≡ true → has_option options create_supp_group ≡ true) → FitExtensions values
     → extensions_in options (blocks_of values) ≡ Ok values
 extensions_in-written options values agreed group fits =
-    extensions_in-read options (blocks_of values) (either (has_option options security_ctx) (has_option options create_supp_group) agreed)
+    extensions_in-read options (blocks_of values)
+    (either (has_option options security_ctx) (has_option options create_supp_group) agreed)
     ∙ extensions_of-context options values.context (group_block values.group) agreed fits.context
     ∙ extensions_of-may_group options values.context values.group group fits.group
 
 -- and so is a group alone
-extensions_in-group : (options group : ℕ) → has_option options security_ctx ≡ false → has_option options create_supp_group ≡ true → group < 2 ^ 32
+extensions_in-group : (options group : ℕ) → has_option options security_ctx ≡ false
+    → has_option options create_supp_group ≡ true → group < 2 ^ 32
     → extensions_in options (group_block (Some group)) ≡ Ok (record { context = None; group = Some group })
 extensions_in-group options group unagreed agreed small =
-    extensions_in-read options (group_block (Some group)) (or_else (has_option options security_ctx) (has_option options create_supp_group) agreed)
-    ∙ ap (λ (bytes : List ℕ). extensions_of options nothing_received (cut_of bytes)) (sym (append-nil (group_block (Some group))))
+    extensions_in-read options (group_block (Some group))
+    (or_else (has_option options security_ctx) (has_option options create_supp_group) agreed)
+    ∙ ap (λ (bytes : List ℕ). extensions_of options nothing_received (cut_of bytes))
+    (sym (append-nil (group_block (Some group))))
     ∙ extensions_of-group options nothing_received group [] agreed refl small
-    ∙ extensions_of-received options (with_group nothing_received group) (not_and (has_option options security_ctx) true unagreed)
+    ∙ extensions_of-received options (with_group nothing_received group)
+    (not_and (has_option options security_ctx) true unagreed)
 
 -- the same behind names
-pub extensions_after-written : (options : ℕ) (names : List ℕ) (values : ExtensionValues) → has_option options security_ctx ≡ true
+pub extensions_after-written : (options : ℕ) (names : List ℕ) (values : ExtensionValues)
+    → has_option options security_ctx ≡ true
     → (is_some values.group ≡ true → has_option options create_supp_group ≡ true) → FitExtensions values
     → extensions_after options (length names) (names ++ blocks_of values) ≡ Ok values
 extensions_after-written options names values agreed group fits =
     extensions_after-names options names (blocks_of values) ∙ extensions_in-written options values agreed group fits
 
+-- and so is a group alone
 pub extensions_after-group : (options group : ℕ) (names : List ℕ) → has_option options security_ctx ≡ false
     → has_option options create_supp_group ≡ true → group < 2 ^ 32
-    → extensions_after options (length names) (names ++ group_block (Some group)) ≡ Ok (record { context = None; group = Some group })
+    → extensions_after options (length names) (names ++ group_block (Some group))
+    ≡ Ok (record { context = None; group = Some group })
 extensions_after-group options group names unagreed agreed small =
-    extensions_after-names options names (group_block (Some group)) ∙ extensions_in-group options group unagreed agreed small
+    extensions_after-names options names (group_block (Some group))
+    ∙ extensions_in-group options group unagreed agreed small

@@ -12,6 +12,8 @@ mod limits;
 mod options;
 mod reply;
 mod request;
+#[cfg(test)]
+mod tests;
 pub mod uses;
 
 pub use error::{Error, Result};

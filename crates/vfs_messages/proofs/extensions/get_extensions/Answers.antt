@@ -7,10 +7,14 @@ use Rattle.vfs_messages.proofs.extensions.get_extensions.Goals as goal
 
 pub returns-then-not-reads_extensions : goal.returns-then-not-reads_extensions
 returns-then-not-reads_extensions c =
-    let unread : reads_extensions (fs_options_bits c.args.options) ≡ false = sym c.reads_extensions.ensures ∙ c.if-not-reads_extensions.true in
-    extensions_after-unread (fs_options_bits c.args.options) c.args.skip c.args.bytes.now unread ∙ ap (λ (v : ExtensionValues). Ok v) (sym c.none.ensures)
+    let unread : reads_extensions (fs_options_bits c.args.options) ≡ false = sym c.reads_extensions.ensures
+    ∙ c.if-not-reads_extensions.true in
+    extensions_after-unread (fs_options_bits c.args.options) c.args.skip c.args.bytes.now unread
+    ∙ ap (λ (v : ExtensionValues). Ok v) (sym c.none.ensures)
 
 pub returns : goal.returns
 returns c =
-    let read : reads_extensions (fs_options_bits c.args.options) ≡ true = sym c.reads_extensions.ensures ∙ c.if-not-reads_extensions.false in
-    gives-after (fs_options_bits c.args.options) c.args.skip c.args.bytes.now c.read_blocks.result read c.if-bytes-skip.false c.read_blocks.ensures
+    let read : reads_extensions (fs_options_bits c.args.options) ≡ true = sym c.reads_extensions.ensures
+    ∙ c.if-not-reads_extensions.false in
+    gives-after (fs_options_bits c.args.options) c.args.skip c.args.bytes.now c.read_blocks.result read
+    c.if-bytes-skip.false c.read_blocks.ensures
