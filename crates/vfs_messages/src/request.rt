@@ -383,11 +383,7 @@ impl NameAndText {
 }
 
 /// The name, the text and the extensions that begin so.
-fn link_of(
-    alloc: Global,
-    options: FsOptions,
-    first: FirstName,
-) -> Result<(NameAndText, Extensions)>
+fn link_of(alloc: Global, options: FsOptions, first: FirstName) -> Result<(NameAndText, Extensions)>
     ensures { GivesAs link_values result
         (link_or_refusal (fs_options_bits options) (Some first)) }
 {
