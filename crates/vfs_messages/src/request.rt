@@ -137,7 +137,8 @@ pub fn read_name(
 fn first_nul(bytes: &[u8]) -> Option<usize>
     ensures { result ≡ position (λ b. b == 0) bytes.now }
 {
-    bytes.iter().position(|b| *b == 0)
+    let name = CStr::from_bytes_until_nul(bytes)?;
+    Some(name.to_bytes().len())
 }
 
 /// A tail that begins with a name and the 0 behind it.
