@@ -191,10 +191,11 @@ abbrev pub unlimited : {R : Type 0} → R → Bool
 unlimited r = false
 
 -- A line of the protocol's table: the form of a request, with its record and the call that it
--- asks for. By the form something may follow the record: nothing, a name, or pairs of a node and
--- a count, as many as the record says. `above` tells whether the record asks for more than the
--- limits allow. INIT has a form of its own; some requests ask for nothing, and some aren't
--- served.
+-- asks for. By the form something may follow the record: nothing; a name; two names; a name and a
+-- value of the size that the record says; a name, or a link's name and its text, and extensions; or
+-- pairs of a node and a count, as many as the record says. `above` tells whether the record asks for
+-- more than the limits allow. INIT has a form of its own; some requests ask for nothing, and some
+-- aren't served.
 pub data Form : Type 1 where
   NoTail : {R : Type 0} (layout : Layout R) (above : R → Bool) (call : R → Call) → Form
   NameTail : {R : Type 0} (layout : Layout R) (above : R → Bool) (call : R → List ℕ → Call) → Form
