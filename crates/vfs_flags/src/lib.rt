@@ -16,8 +16,6 @@ mod open_options;
 mod setattr_valid;
 mod setupmapping_flags;
 mod setxattr_flags;
-#[cfg(test)]
-mod tests;
 pub mod uses;
 
 pub use constants::{

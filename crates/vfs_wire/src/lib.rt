@@ -24,8 +24,6 @@ mod numbers;
 pub mod parts;
 mod ranges;
 mod stat;
-#[cfg(test)]
-mod tests;
 pub mod uses;
 mod xattrs;
 

@@ -10,8 +10,6 @@ mod listings;
 mod locks;
 mod mappings;
 mod notifications;
-#[cfg(test)]
-mod tests;
 pub mod uses;
 
 pub use devices::{BmapIn, BmapOut, IoctlIn, IoctlIovec, IoctlOut, PollIn, PollOut, SyncfsIn};
