@@ -1,0 +1,2 @@
+pub mod ViewCuts
+pub mod ViewPieces
