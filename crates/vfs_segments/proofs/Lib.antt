@@ -6,3 +6,4 @@ pub mod Writers
 pub mod Cuts
 pub mod LengthCuts
 pub mod AnswerLemmas
+pub mod Spans

@@ -1,6 +1,6 @@
 -- A writer's bytes after a write.
-use Rattle.std.proofs.Common.{◌≡◌, ℕ, ◌+◌, ◌≤◌, List, [], ◌∷◌, ◌++◌, length, take, drop, map, ap, ◌∙◌, sym, refl, arith, append_assoc, length-append, length-take, take-append-drop, take_at, drop_at}
-use Rattle.std.proofs.lemmas.List.{drop-append-le, drop-drop, drop-take, take-take}
+use Rattle.std.proofs.Common.{◌≡◌, ℕ, ◌+◌, ◌≤◌, List, [], ◌∷◌, ◌++◌, length, take, drop, map, ap, ◌∙◌, sym, refl, arith, append_assoc, length-append, length-take, take-append-drop, take_at, drop_at, append-nil, Ok, Err}
+use Rattle.std.proofs.lemmas.List.{take-append-le, drop-append-le, drop-drop, drop-take, take-take}
 use Rattle.std.specs.List.{concat}
 use Rattle.vfs_segments.specs.Segments.{contents, lengths_of, with_bytes_at}
 use Rattle.vfs_segments.specs.Lengths.{lengths_before}
@@ -8,7 +8,8 @@ use Rattle.vfs_segments.specs.Written.{Written, wrote, first_room, held_filled, 
 use Rattle.vfs_segments.specs.Writer.{IsWriter, written_of, room_bytes}
 use Rattle.vfs_segments.specs.declared.writer.Writer.TheInside.{Inside}
 use Rattle.vfs_segments.specs.SegmentLaws.{length-with_bytes_at}
-use Rattle.vfs_segments.proofs.Puts.{take-append_past}
+use Rattle.vfs_segments.specs.Transfer.{taken_in}
+use Rattle.vfs_segments.proofs.Puts.{take-append_past, drop-append_past}
 
 pub same_size : (xs ys : List (List ℕ)) → map length ys ≡ map length xs →
     length (concat ys) ≡ length (concat xs)
@@ -101,3 +102,40 @@ keeps w v n e at held_at held within lengths =
     let size : length (take w.at (room_bytes w)) ≡ w.at = omega (arith, length-take w.at (room_bytes w)) in
     rw at (written-eq (ap (take w.at) e ∙ take-take w.at (w.at + n) (room_bytes w) (omega arith)) (ap (drop w.at) e ∙ drop-take w.at n (room_bytes w)) held_at held
     (lengths ∙ ap (λ k. lengths_before (k + n) (room_lengths w)) (sym size)))
+
+-- bytes that were written from a place on, seen from m of them on
+take-put_part : (at m : ℕ) (bs xs : List ℕ) → at ≤ length xs → m ≤ length bs →
+    take (at + m) (with_bytes_at at bs xs) ≡ take at xs ++ take m bs
+unfolding with_bytes_at
+take-put_part at m bs xs h k =
+    take-append_past (take at xs) (bs ++ drop (at + length bs) xs) m (at + m) (omega (arith, length-take at xs))
+    ∙ ap (λ l. take at xs ++ l) (take-append-le m bs (drop (at + length bs) xs) k)
+
+drop-put_part : (at m : ℕ) (bs xs : List ℕ) → at ≤ length xs → m ≤ length bs →
+    drop (at + m) (with_bytes_at at bs xs) ≡ drop m bs ++ drop (length bs) (drop at xs)
+unfolding with_bytes_at
+drop-put_part at m bs xs h k =
+    drop-append_past (take at xs) (bs ++ drop (at + length bs) xs) m (at + m) (omega (arith, length-take at xs))
+    ∙ drop-append-le m bs (drop (at + length bs) xs) k ∙ ap (λ l. drop m bs ++ l) (sym (drop-drop (length bs) at xs))
+
+-- a writer whose next bytes were lent and left as bs, of which m were moved
+pub took : (E : Type 0) (w n : Inside) (m : ℕ) (bs : List ℕ) →
+    room_bytes n ≡ with_bytes_at w.at bs (room_bytes w) → w.at ≤ length (room_bytes w) → m ≤ length bs →
+    n.at ≡ w.at + m → n.held_at ≡ w.held_at → n.held ≡ w.held → room_lengths n ≡ room_lengths w →
+    written_of n ≡ taken_in {E = E} (written_of w) (Ok m) bs
+took E w n m bs e h k at held_at held lengths =
+    rw at (written-eq (ap (take (w.at + m)) e ∙ take-put_part w.at m bs (room_bytes w) h k)
+    (ap (drop (w.at + m)) e ∙ drop-put_part w.at m bs (room_bytes w) h k) held_at held lengths)
+
+-- and one of which none were moved, for a fault
+pub took_none : {E : Type 0} (w n : Inside) (f : E) (bs : List ℕ) →
+    room_bytes n ≡ with_bytes_at w.at bs (room_bytes w) → w.at ≤ length (room_bytes w) → n.at ≡ w.at →
+    n.held_at ≡ w.held_at → n.held ≡ w.held → room_lengths n ≡ room_lengths w →
+    written_of n ≡ taken_in (written_of w) (Err f) bs
+took_none w n f bs e h at held_at held lengths =
+    let z : w.at + 0 ≡ w.at = omega arith in
+    let front : take w.at (with_bytes_at w.at bs (room_bytes w)) ≡ take w.at (room_bytes w) =
+    rw z at (take-put_part w.at 0 bs (room_bytes w) h (omega arith)) ∙ append-nil (take w.at (room_bytes w)) in
+    let back : drop w.at (with_bytes_at w.at bs (room_bytes w)) ≡ bs ++ drop (length bs) (drop w.at (room_bytes w)) =
+    rw z at (drop-put_part w.at 0 bs (room_bytes w) h (omega arith)) in
+    rw at (written-eq (ap (take w.at) e ∙ front) (ap (drop w.at) e ∙ back) held_at held lengths)

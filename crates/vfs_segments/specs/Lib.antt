@@ -3,6 +3,8 @@ pub mod SegmentLaws
 pub mod Lengths
 pub mod Unread
 pub mod Written
+pub mod Transfer
+pub mod TransferLaws
 pub mod Reader
 pub mod Writer
 pub mod Answers

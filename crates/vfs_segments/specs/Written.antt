@@ -1,6 +1,6 @@
 -- What a writer is to its callers: the bytes of its room, those passed and those left, a held
 -- place, and how the room is cut into segments.
-use Rattle.std.specs.Prelude.{ℕ, ◌+◌, List, [], ◌++◌, length, take, drop}
+use Rattle.std.specs.Prelude.{ℕ, ◌≡◌, ◌+◌, List, [], ◌++◌, length, take, drop}
 use Rattle.vfs_segments.specs.Segments.{flat_bytes, lengths_of, with_bytes_at}
 use Rattle.vfs_segments.specs.Lengths.{lengths_before, lengths_from}
 
@@ -61,3 +61,12 @@ held_filled w bs = record w { passed = with_bytes_at w.held_at bs w.passed; held
 -- all bytes of a writer, those passed and those left
 abbrev pub whole : Written → List ℕ
 whole w = w.passed ++ w.left
+
+-- The bytes bs were put into the next bytes of the room, and count as written. What stands behind
+-- them there is open.
+pub record Moves (old : Written) (bs : List ℕ) (new : Written) : Type 0 where
+  pub passed : new.passed ≡ old.passed ++ bs
+  pub left : length new.left + length bs ≡ length old.left
+  pub held_at : new.held_at ≡ old.held_at
+  pub held : new.held ≡ old.held
+  pub lengths : new.lengths ≡ old.lengths

@@ -1,32 +1,12 @@
 //! Cuts segments in two.
 
-ghost use Rattle.std.specs.Prelude.{◌≡◌, ◌+◌, ◌<◌, ◌≤◌, [], length, take, drop, IfOk, OnOk, OnErr, slice_index_or};
+ghost use Rattle.std.specs.Prelude.{◌≡◌, ◌≤◌, length, take, drop, IfOk, OnOk, OnErr};
 ghost use Rattle.vfs_segments.specs.Segments.{contents, flat_bytes, lengths_of};
 ghost use Rattle.vfs_segments.specs.Lengths.{lengths_before, lengths_from};
 
+use crate::place::place_of;
 use std::alloc::AllocError;
 use std::mem;
-
-// The segment in which a place lies, and how far in. A place between two segments lies in the
-// second, and the place past all bytes behind the last one.
-#[tactic(auto, using(crate::proofs::Segments::held_segments))]
-fn place_of(segments: &[Vec<u8>], at: usize) -> (usize, usize)
-    requires { at ≤ length (flat_bytes (contents segments.now)) }
-    ensures within { result.0 ≤ length segments.now }
-    ensures place { length (flat_bytes (contents (take result.0 segments.now))) + result.1 ≡ at }
-    ensures inside { result.1 ≤ length (slice_index_or (contents segments.now) result.0 []) }
-    ensures before_end { result.0 < length segments.now →
-        result.1 < length (slice_index_or (contents segments.now) result.0 []) }
-{
-    let mut skip = at;
-    for (i, segment) in segments.iter().enumerate() {
-        if skip < segment.len() {
-            return (i, skip);
-        }
-        skip -= segment.len();
-    }
-    (segments.len(), 0)
-}
 
 // Moves the bytes from place `at` on into segments of their own, and copies only those of a segment
 // that is cut. Where memory is refused nothing changes.

@@ -5,6 +5,9 @@
 //! segment after another, and on a count. Nothing here knows what the bytes mean. The module `uses`
 //! has examples.
 //!
+//! A transfer moves bytes between segments and a file without a copy in between: the file is lent
+//! a view of just the next bytes, of `vfs_views`, and moves a beginning of them.
+//!
 //! A call walks the segments from the first one to the place where it moves bytes, moves each byte
 //! once, piece by piece, and stops there. Of these calls only a writer's `split_at` takes memory;
 //! the contracts of `new`, `split_at` and `clone` leave room for one that finds its place sooner
@@ -16,15 +19,16 @@ mod descriptor_type;
 mod error;
 mod gather;
 pub mod laws;
+mod place;
 mod reader;
 mod record;
 mod scatter;
-#[cfg(test)]
-mod tests;
+mod transfer;
 pub mod uses;
 mod writer;
 
 pub use descriptor_type::DescriptorType;
 pub use error::{Error, Result};
 pub use reader::Reader;
+pub use vfs_views::{PositionedFile, Slices, SlicesMut, WritevFlags};
 pub use writer::Writer;

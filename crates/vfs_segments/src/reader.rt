@@ -1,21 +1,25 @@
 //! Reads the bytes of a request from segments.
 
-ghost use Rattle.std.specs.Prelude.{◌≡◌, ◌+◌, ◌^◌, ◌<◌, ◌≤◌, ◌++◌, ◌↔◌, ℕ, List, length, take, drop, min, IfOk, IfErr, IsOk, OnOk, OnErr, MatchResult};
+ghost use Rattle.std.specs.Prelude.{◌≡◌, ◌+◌, ◌^◌, ◌<◌, ◌≤◌, ◌++◌, ◌↔◌, ℕ, List, [], length, take, drop, min, IfOk, IfErr, IsOk, OnOk, OnErr, MatchResult};
 ghost use Rattle.std.specs.IoError.{error_kind};
 ghost use Rattle.std.specs.Io.{ReadsAtMost};
 ghost use Rattle.std.specs.Io.KnownBytes.{Consumes, ReadConsumes};
 ghost use Rattle.vfs_segments.specs.Answers.{Answers, Available, Taken, Read, ReadExact, ReadObj, Count, Moved, Filled, Fields, TooFew};
 ghost use Rattle.vfs_segments.specs.Segments.{segments_of, flat_bytes};
+ghost use Rattle.vfs_segments.specs.Transfer.{taken_out};
 ghost use Rattle.vfs_segments.specs.Unread.{IsUnread, advanced, first_of, rest_of};
 ghost use Rattle.vfs_wire.specs.Fields.{Fit, value_of};
 
 use crate::error::{Error, Result};
 use crate::gather::{gather, total_of};
 use crate::record::LARGEST_RECORD;
+use crate::transfer::write_from;
 use std::alloc::Global;
-use std::io;
 use std::io::{ErrorKind, Read};
 use std::marker::Model;
+use std::{io, result};
+use vfs_flags::Fault;
+use vfs_views::{PositionedFile, WritevFlags};
 use vfs_wire::ByteValued;
 
 /// Reads bytes from segments, wherever they are cut. It lends the segments, and takes each byte
@@ -46,13 +50,14 @@ impl<'a> Reader<'a> {
     /// A reader of all bytes of the segments, of which any may be empty.
     ///
     /// `Error::DescriptorChainOverflow` where their lengths sum past `usize::MAX`, and
-    /// `Error::OutOfMemory` where memory is refused.
+    /// `Error::OutOfMemory` where memory is refused, which can't be where there are no segments.
     pub fn new(_alloc: Global, segments: &'a [&'a [u8]]) -> Result<Reader<'a>>
         ensures ok { IfOk result (IsUnread (flat_bytes (segments_of segments.now))) }
         ensures too_long { 2 ^ 64 ≤ length (flat_bytes (segments_of segments.now)) →
             result ≡ Err Error.DescriptorChainOverflow }
         ensures fits { length (flat_bytes (segments_of segments.now)) < 2 ^ 64 →
             IfErr result (λ e. e ≡ Error.OutOfMemory) }
+        ensures none { segments.now ≡ [] → IsOk result }
     {
         let Some(end) = total_of(segments) else {
             return Err(Error::DescriptorChainOverflow);
@@ -152,6 +157,42 @@ impl<'a> Reader<'a> {
         match self.read_exact(&mut buf[..T::SIZE]) {
             Ok(()) => Ok(T::take(&buf[..T::SIZE])),
             Err(e) => Err(e),
+        }
+    }
+
+    /// Lends a file the next bytes, `count` of them or all that are left, to be written into it
+    /// from byte `off` of it on, and takes as many as the file moved. It takes no memory.
+    ///
+    /// A fault is one of the file, and takes no byte.
+    pub fn write_to_file_at<P: PositionedFile>(
+        &mut self,
+        file: &mut P,
+        count: usize,
+        off: u64,
+        flags: Option<WritevFlags>,
+    ) -> result::Result<usize, Fault>
+        ensures bound { IfOk result (λ n. n ≤ min count (length self.old.left)) }
+
+        // Where no byte is to be moved the file isn't called.
+        ensures nothing { min count (length self.old.left) ≡ 0 →
+            (result ≡ Ok 0) × (self.new ≡ self.old) × (file.new ≡ file.old) }
+
+        // Else it was lent just the next bytes.
+        ensures lent { 0 < min count (length self.old.left) →
+            (self.new ≡ taken_out self.old result)
+            × P.write_gives file.old (take (min count (length self.old.left)) self.old.left)
+            off flags result file.new }
+    {
+        let n = count.min(self.available_bytes());
+        if n == 0 {
+            return Ok(0);
+        }
+        match write_from(self.segments, self.at, n, file, off, flags) {
+            Ok(moved) => {
+                self.at += moved;
+                Ok(moved)
+            }
+            Err(fault) => Err(fault),
         }
     }
 }

@@ -8,8 +8,10 @@ ghost use Rattle.vfs_wire.specs.Fields.{bytes_of, lone_number, value_of};
 
 use crate::{Error, Reader, Result, Writer};
 use std::alloc::Global;
-use std::io;
 use std::io::{ErrorKind, Read, Write};
+use std::{io, result};
+use vfs_flags::Fault;
+use vfs_views::uses::{Journal, Zeros};
 
 /// A new reader of two segments has the bytes of both left, and has given none. It is refused where
 /// they are too many to count, and else only for want of memory.
@@ -150,6 +152,27 @@ pub fn three_answers(reader: &mut Reader<'_>, buf: &mut [u8]) -> io::Result<(usi
     Ok((left, moved, taken))
 }
 
+/// Of a reader that has five bytes left the next three are written to a journal, and two are left.
+/// Only memory for the journal can be wanting, and then both are as they were.
+pub fn three_bytes_to_a_journal(
+    reader: &mut Reader<'_>,
+    journal: &mut Journal,
+) -> result::Result<usize, Fault>
+    requires { length reader.old.left ≡ 5 }
+    ensures count { IfOk result (λ n. n ≡ 3) }
+    ensures written { OnOk result (journal.new.bytes.items ≡
+        journal.old.bytes.items ++ take 3 reader.old.left) }
+    ensures left { OnOk result (reader.new.left ≡ drop 3 reader.old.left) }
+    ensures taken { OnOk result (reader.new.taken ≡ reader.old.taken + 3) }
+
+    // 12 is `Errno::ENOMEM`.
+    ensures memory { IfErr result (λ fault. fault ≡ Some 12) }
+    ensures err { OnErr result (reader.new ≡ reader.old) }
+    ensures kept { OnErr result (journal.new.bytes.items ≡ journal.old.bytes.items) }
+{
+    reader.write_to_file_at(journal, 3, 0, None)
+}
+
 /// A writer over no segments needs no memory, and has no room.
 pub fn writer_of_no_room(alloc: Global) -> Writer
     ensures left { result.left ≡ [] }
@@ -214,6 +237,17 @@ pub fn kind_of_a_long_record(writer: &mut Writer, number: u32) -> Option<ErrorKi
         Ok(()) => None,
         Err(e) => Some(e.kind()),
     }
+}
+
+/// Zeros are read from a file into the next three of five bytes. The two behind them stay.
+pub fn three_zeros_from_a_file(writer: &mut Writer) -> usize
+    requires { length writer.old.left ≡ 5 }
+    ensures count { result ≡ 3 }
+    ensures wrote { writer.new.passed ≡ writer.old.passed ++ 0 ∷ 0 ∷ 0 ∷ [] }
+    ensures left { writer.new.left ≡ drop 3 writer.old.left }
+    ensures lengths { writer.new.lengths ≡ writer.old.lengths }
+{
+    writer.read_from_file_at(&mut Zeros, 3, 0).unwrap()
 }
 
 /// A header is put before a body that is written first. Nothing is held then.

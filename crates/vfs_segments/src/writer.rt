@@ -1,10 +1,11 @@
 //! Writes the bytes of a reply into segments.
 
-ghost use Rattle.std.specs.Prelude.{◌≡◌, ◌+◌, ◌^◌, ◌<◌, ◌≤◌, ◌↔◌, [], length, take, min, IfOk, IfErr, IsOk, OnOk, OnErr};
+ghost use Rattle.std.specs.Prelude.{◌≡◌, ◌+◌, ◌^◌, ◌<◌, ◌≤◌, ◌↔◌, ℕ, List, [], length, take, min, IfOk, IfErr, IsOk, OnOk, OnErr};
 ghost use Rattle.std.specs.IoError.{error_kind};
 ghost use Rattle.std.specs.Io.{WritesAtMost};
 ghost use Rattle.std.specs.Io.KnownBytes.{Appends, Keeps, WriteAppends};
 ghost use Rattle.vfs_segments.specs.Segments.{contents, flat_bytes, lengths_of};
+ghost use Rattle.vfs_segments.specs.Transfer.{moved_bytes, taken_in};
 ghost use Rattle.vfs_segments.specs.Written.{unwritten, wrote, first_room, rest_room, held_over, held_filled, whole};
 ghost use Rattle.vfs_wire.specs.Fields.{Fit, bytes_of};
 
@@ -12,10 +13,13 @@ use crate::cut::cut_off;
 use crate::error::{Error, Result};
 use crate::record::LARGEST_RECORD;
 use crate::scatter::{room_of, scatter};
+use crate::transfer::read_into;
 use std::alloc::Global;
-use std::io;
 use std::io::{ErrorKind, Write};
 use std::marker::Model;
+use std::{io, result};
+use vfs_flags::Fault;
+use vfs_views::PositionedFile;
 use vfs_wire::ByteValued;
 
 /// Writes bytes over those of its segments, wherever they are cut. The segments' lengths are its
@@ -175,6 +179,44 @@ impl Writer {
         let mut buf = [0u8; LARGEST_RECORD];
         x.put(&mut buf[..T::SIZE]);
         self.write_all(&buf[..T::SIZE])
+    }
+
+    /// Lends a file the next bytes of the room, `count` of them or all that are left, to be read
+    /// into from byte `off` of the file on. As many as the file moved count as written. It takes
+    /// no memory.
+    ///
+    /// A fault is one of the file, and counts no byte. Past those that count the room that was lent
+    /// has what the file left there.
+    pub fn read_from_file_at<P: PositionedFile>(
+        &mut self,
+        file: &mut P,
+        count: usize,
+        off: u64,
+    ) -> result::Result<usize, Fault>
+        ensures bound { IfOk result (λ n. n ≤ min count (length self.old.left)) }
+
+        // Where no byte is to be moved the file isn't called.
+        ensures nothing { min count (length self.old.left) ≡ 0 →
+            (result ≡ Ok 0) × (self.new ≡ self.old) × (file.new ≡ file.old) }
+
+        // Else it was lent just the next bytes, and left some there.
+        ensures lent { 0 < min count (length self.old.left) →
+            (room : List ℕ) × (length room ≡ min count (length self.old.left))
+            × (self.new ≡ taken_in self.old result room)
+            × P.read_gives file.old off (min count (length self.old.left)) result
+            (moved_bytes result room) file.new }
+    {
+        let n = count.min(self.available_bytes());
+        if n == 0 {
+            return Ok(0);
+        }
+        match read_into(&mut self.segments, self.at, n, file, off) {
+            Ok(moved) => {
+                self.at += moved;
+                Ok(moved)
+            }
+            Err(fault) => Err(fault),
+        }
     }
 
     /// The segments, with what was written. Each has the length that it came with, but for one that
