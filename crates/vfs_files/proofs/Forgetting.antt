@@ -5,7 +5,7 @@ use Rattle.vfs_files.specs.Items.{Item}
 use Rattle.vfs_files.specs.Calls.{Call, Forget, Done, Handed, Plain}
 use Rattle.vfs_files.specs.Runs.{Event, Called, Happening, Calls, ForgetsEach, events_of}
 use Rattle.vfs_files.specs.declared.entry.Context.{Context}
-use Rattle.vfs_files.proofs.Joining.{run-join, events_of-append}
+use Rattle.vfs_files.specs.RunLaws.{run-join, events_of-append}
 
 module _ {S I N : Type 0}
     (allows : S → Call → Handed I → S → Type 0) (gives : I → Option Item → I → Type 0) (value : N → ℕ) where

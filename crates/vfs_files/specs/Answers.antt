@@ -1,5 +1,5 @@
 -- Answers, and the kinds of answers. Nothing here knows a file system's state or its iterators.
-use Rattle.std.specs.Prelude.{⊤, ◌<◌, ◌^◌, ◌-◌, length, ℕ, List, [], ◌∷◌, Option, Some, None, option_map, unwrap_or, Result, Ok, Err, Vec}
+use Rattle.std.specs.Prelude.{⊤, ◌≡◌, ◌≤◌, ◌<◌, ◌^◌, ◌-◌, length, ℕ, List, [], ◌∷◌, Option, Some, None, option_map, unwrap_or, Result, Ok, Err, Vec}
 use Rattle.std.specs.declared.alloc.Global.{Global}
 use Rattle.std.specs.declared.time.Duration.{Duration}
 use Rattle.vfs_flags.specs.Flags.{fs_options_bits, open_options_bits}
@@ -128,6 +128,16 @@ abbrev pub written_answer : Result ℕ (Option ℕ) → Answer
 written_answer (Ok count) = Written count
 written_answer (Err fault) = Failed fault
 
+-- the answer of `read`: the bytes that were put, or the fault
+abbrev pub read_answer : Result ℕ (Option ℕ) → List ℕ → Answer
+read_answer (Ok count) bytes = Put bytes
+read_answer (Err fault) bytes = Failed fault
+
+-- what `readdir` hands back: an iterator over the directory, or the fault
+abbrev pub directory_answer : {I : Type 0} → Result I (Option ℕ) → Handed I
+directory_answer (Ok it) = Iterator it
+directory_answer (Err fault) = Plain (Failed fault)
+
 -- the kinds of answers: which of them a call may have beside a fault
 pub data Kind : Type 0 where
   -- none at all, and no fault either: there is no reply
@@ -158,6 +168,8 @@ pub data Kind : Type 0 where
   Offsets : Kind
   -- how many bytes were written
   Writes : Kind
+  -- an iterator over a directory, which is no answer by value
+  Iterators : Kind
   -- a fault and nothing else
   Faults : Kind
 
@@ -194,6 +206,12 @@ FitsText bytes = length bytes < 2 ^ 32 - 16
 abbrev pub KeepsTextShort : Answer → Type 0
 KeepsTextShort (Text bytes) = FitsText bytes
 KeepsTextShort _ = ⊤
+
+-- where `read` answers a number, it is that of the bytes put, at most `size`, and their length leaves
+-- room for a header
+abbrev pub Counts : Result ℕ (Option ℕ) → List ℕ → ℕ → Type 0
+Counts (Ok count) bytes size = (count ≡ length bytes) × (count ≤ size) × FitsText bytes
+Counts (Err fault) bytes size = ⊤
 
 -- an answer of this kind, with its numbers in their widths
 abbrev pub IsAnswer : Kind → Answer → Type 0

@@ -7,9 +7,9 @@ use Rattle.vfs_files.specs.Extensions.{ExtensionValues}
 use Rattle.vfs_files.specs.declared.entry.Context.{Context}
 pub use Rattle.vfs_files.specs.Answers.{Answer, Done, Failed, Options, Found, Attributes, Put, Opened, Created, Statistics, Text, Count, Offset, Written}
 pub use Rattle.vfs_files.specs.Answers.{Handed, Plain, Iterator}
-pub use Rattle.vfs_files.specs.Answers.{init_answer, entry_answer, attr_answer, done_answer, opened_answer, created_answer, statistics_answer, text_answer, getxattr_answer, listxattr_answer, offset_answer, written_answer}
-pub use Rattle.vfs_files.specs.Answers.{Kind, Quiet, Told, Untold, Data, Agreements, Entries, TimedAttributes, Openings, Creations, Capacities, Texts, TextsOrCounts, Offsets, Writes, Faults}
-pub use Rattle.vfs_files.specs.Answers.{IsFault, FitsEntry, FitsAttributes, FitsOpening, FitsStatistics, FitsText, KeepsTextShort, IsAnswer}
+pub use Rattle.vfs_files.specs.Answers.{init_answer, entry_answer, attr_answer, done_answer, opened_answer, created_answer, statistics_answer, text_answer, getxattr_answer, listxattr_answer, offset_answer, written_answer, read_answer, directory_answer}
+pub use Rattle.vfs_files.specs.Answers.{Kind, Quiet, Told, Untold, Data, Agreements, Entries, TimedAttributes, Openings, Creations, Capacities, Texts, TextsOrCounts, Offsets, Writes, Iterators, Faults}
+pub use Rattle.vfs_files.specs.Answers.{IsFault, FitsEntry, FitsAttributes, FitsOpening, FitsStatistics, FitsText, KeepsTextShort, Counts, IsAnswer}
 
 -- every call with its arguments as values: nodes, handles and groups by number, names as bytes,
 -- options and other sets of flags as bits
@@ -34,6 +34,11 @@ pub data Call : Type 0 where
       → Call
   Link : (ctx : Context) (inode newparent : ℕ) (newname : List ℕ) → Call
   Open : (ctx : Context) (inode : ℕ) (kill_priv : Bool) (flags : ℕ) → Call
+  Read :
+      (ctx : Context) (inode handle room size offset : ℕ) (lock_owner : Option ℕ) (flags : ℕ) → Call
+  Write :
+      (ctx : Context) (inode handle : ℕ) (bytes : List ℕ) (size offset : ℕ)
+      (lock_owner : Option ℕ) (delayed_write kill_priv : Bool) (flags : ℕ) → Call
   Statfs : (ctx : Context) (inode : ℕ) → Call
   Release :
       (ctx : Context) (inode flags handle : ℕ) (flush flock_release : Bool) (lock_owner : Option ℕ)
@@ -46,6 +51,7 @@ pub data Call : Type 0 where
   Flush : (ctx : Context) (inode handle lock_owner : ℕ) → Call
   Init : (capable : ℕ) → Call
   Opendir : (ctx : Context) (inode flags : ℕ) → Call
+  Readdir : (ctx : Context) (inode handle size offset : ℕ) → Call
   Releasedir : (ctx : Context) (inode flags handle : ℕ) → Call
   Fsyncdir : (ctx : Context) (inode : ℕ) (datasync : Bool) (handle : ℕ) → Call
   Getlk : Call
@@ -84,6 +90,8 @@ kind_of (Rmdir _ _ _) = Told
 kind_of (Rename _ _ _ _ _ _) = Told
 kind_of (Link _ _ _ _) = Entries
 kind_of (Open _ _ _ _) = Openings
+kind_of (Read _ _ _ _ _ _ _ _) = Data
+kind_of (Write _ _ _ _ _ _ _ _ _ _) = Writes
 kind_of (Statfs _ _) = Capacities
 kind_of (Release _ _ _ _ _ _ _) = Told
 kind_of (Fsync _ _ _ _) = Told
@@ -94,6 +102,7 @@ kind_of (Removexattr _ _ _) = Told
 kind_of (Flush _ _ _ _) = Told
 kind_of (Init _) = Agreements
 kind_of (Opendir _ _ _) = Openings
+kind_of (Readdir _ _ _ _ _) = Iterators
 kind_of (Releasedir _ _ _ _) = Told
 kind_of (Fsyncdir _ _ _ _) = Told
 kind_of Getlk = Untold

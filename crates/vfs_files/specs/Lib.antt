@@ -5,3 +5,6 @@ pub mod Items
 pub mod Answers
 pub mod Calls
 pub mod Runs
+pub mod RunLaws
+pub mod Transfers
+pub mod TransferLaws

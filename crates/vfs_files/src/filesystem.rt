@@ -1,27 +1,29 @@
 //! File systems.
 
-ghost use Rattle.std.specs.Prelude.{option_map, map};
+ghost use Rattle.std.specs.Prelude.{option_map, map, ℕ, List};
 ghost use Rattle.vfs_flags.specs.Flags.{fs_options_bits, setattr_valid_bits, setxattr_flags_bits};
 ghost use Rattle.vfs_files.specs.Names.{name_text};
 ghost use Rattle.vfs_files.specs.Extensions.{extension_values_of};
 ghost use Rattle.vfs_files.specs.Calls.{Call, Lookup, Forget, Getattr, Setattr, Readlink, Symlink};
-ghost use Rattle.vfs_files.specs.Calls.{Mknod, Mkdir, Unlink, Rmdir, Rename, Link, Open, Statfs};
-ghost use Rattle.vfs_files.specs.Calls.{Release, Fsync, Setxattr, Getxattr, Listxattr, Removexattr};
-ghost use Rattle.vfs_files.specs.Calls.{Flush, Init, Opendir, Releasedir, Fsyncdir, Getlk, Setlk};
-ghost use Rattle.vfs_files.specs.Calls.{Setlkw, Access, Create, Bmap, Destroy, Ioctl, Poll};
-ghost use Rattle.vfs_files.specs.Calls.{NotifyReply, BatchForget, Fallocate, Lseek, Copyfilerange};
-ghost use Rattle.vfs_files.specs.Calls.{Syncfs, Tmpfile};
+ghost use Rattle.vfs_files.specs.Calls.{Mknod, Mkdir, Unlink, Rmdir, Rename, Link, Open, Read};
+ghost use Rattle.vfs_files.specs.Calls.{Write, Statfs, Release, Fsync, Setxattr, Getxattr};
+ghost use Rattle.vfs_files.specs.Calls.{Listxattr, Removexattr};
+ghost use Rattle.vfs_files.specs.Calls.{Flush, Init, Opendir, Readdir, Releasedir, Fsyncdir};
+ghost use Rattle.vfs_files.specs.Calls.{Getlk, Setlk, Setlkw, Access, Create, Bmap, Destroy};
+ghost use Rattle.vfs_files.specs.Calls.{Ioctl, Poll, NotifyReply, BatchForget, Fallocate, Lseek};
+ghost use Rattle.vfs_files.specs.Calls.{Copyfilerange, Syncfs, Tmpfile};
 ghost use Rattle.vfs_files.specs.Answers.{Handed, Plain, Done, Failed, init_answer, entry_answer};
 ghost use Rattle.vfs_files.specs.Answers.{attr_answer, done_answer, opened_answer, created_answer};
 ghost use Rattle.vfs_files.specs.Answers.{statistics_answer, text_answer, getxattr_answer};
 ghost use Rattle.vfs_files.specs.Answers.{listxattr_answer, offset_answer, written_answer};
-ghost use Rattle.vfs_files.specs.Answers.{KeepsTextShort};
+ghost use Rattle.vfs_files.specs.Answers.{KeepsTextShort, Counts, read_answer, directory_answer};
 
 use crate::directory::DirectoryIterator;
 use crate::entry::{Context, Entry};
 use crate::extensions::Extensions;
 use crate::name::CStr;
 use crate::number::Number;
+use crate::transfer::{ZeroCopyReader, ZeroCopyWriter};
 use crate::xattr::{GetxattrReply, ListxattrReply};
 use std::time::Duration;
 use vfs_flags::{Fault, FsOptions, OpenOptions, SetattrValid, SetxattrFlags};
@@ -233,6 +235,58 @@ pub trait FileSystem {
             (Plain (opened_answer Self.Handle.value result))
             self.new };
 
+    /// Puts up to `size` bytes of an open file, from `offset` on, into `w` (READ), and answers how
+    /// many: at most `size` and at most 4,294,967,279, as for `readlink`. Fewer than `size` say
+    /// that the file ends there. `lock_owner` is there where the kernel names the owner of the
+    /// caller's locks, and `flags` are those of the `open`.
+    ///
+    /// Bytes of a file are moved by [`read_from_file_at`](ZeroCopyWriter::read_from_file_at), with
+    /// no copy in between. After a fault what was put counts for nothing.
+    fn read<W: ZeroCopyWriter>(
+        &mut self,
+        ctx: Context,
+        inode: Self::Inode,
+        handle: Self::Handle,
+        w: &mut W,
+        size: u32,
+        offset: u64,
+        lock_owner: Option<u64>,
+        flags: u32,
+    ) -> Result<usize, Fault>
+        ensures { (bytes : List ℕ) × W.puts w.old bytes w.new × Counts result bytes size
+            × allows self.old
+            (Read ctx (Self.Inode.value inode) (Self.Handle.value handle) (W.room w.old) size
+            offset lock_owner flags)
+            (Plain (read_answer result bytes))
+            self.new };
+
+    /// Takes up to `size` bytes from `r` and puts them into an open file, from `offset` on (WRITE);
+    /// answers how many. `delayed_write` says that the kernel writes pages back that were written
+    /// to before, perhaps by another caller than `ctx`; `kill_priv` is as for `open`. `lock_owner`
+    /// and `flags` are as for `read`.
+    ///
+    /// Bytes are moved into a file by [`write_to_file_at`](ZeroCopyReader::write_to_file_at), with
+    /// no copy in between.
+    fn write<R: ZeroCopyReader>(
+        &mut self,
+        ctx: Context,
+        inode: Self::Inode,
+        handle: Self::Handle,
+        r: &mut R,
+        size: u32,
+        offset: u64,
+        lock_owner: Option<u64>,
+        delayed_write: bool,
+        kill_priv: bool,
+        flags: u32,
+    ) -> Result<u32, Fault>
+        ensures { (bytes : List ℕ) × R.takes r.old bytes r.new
+            × allows self.old
+            (Write ctx (Self.Inode.value inode) (Self.Handle.value handle) (R.left r.old) size
+            offset lock_owner delayed_write kill_priv flags)
+            (Plain (written_answer result))
+            self.new };
+
     /// How much the file system of this node holds, and how much of it is free (STATFS).
     fn statfs(&mut self, ctx: Context, inode: Self::Inode) -> Result<Statvfs64, Fault>
         ensures { allows self.old
@@ -367,6 +421,26 @@ pub trait FileSystem {
         ensures { allows self.old
             (Opendir ctx (Self.Inode.value inode) flags)
             (Plain (opened_answer Self.Handle.value result))
+            self.new };
+
+    /// Answers what gives the entries of a directory (READDIR, READDIRPLUS). `offset` is 0 at the
+    /// beginning of the directory, or that of an entry that was given before: the reading goes on
+    /// behind it. `handle` is that of the `opendir`, and says nothing where that answered none.
+    ///
+    /// `size` is how many bytes of records the reply may have. Entries are taken until one doesn't
+    /// fit in there; a reply without records says that the directory has ended. READDIRPLUS calls
+    /// `lookup` for each entry that it takes but `.` and `..`.
+    fn readdir(
+        &mut self,
+        ctx: Context,
+        inode: Self::Inode,
+        handle: Self::Handle,
+        size: u32,
+        offset: u64,
+    ) -> Result<Self::DirIter, Fault>
+        ensures { allows self.old
+            (Readdir ctx (Self.Inode.value inode) (Self.Handle.value handle) size offset)
+            (directory_answer result)
             self.new };
 
     /// Closes a handle of a directory, once for each `opendir` that answered one (RELEASEDIR).

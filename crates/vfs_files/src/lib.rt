@@ -14,8 +14,7 @@ pub mod laws;
 mod memory;
 mod name;
 mod number;
-#[cfg(test)]
-mod tests;
+mod transfer;
 mod unserved;
 pub mod uses;
 mod xattr;
@@ -26,5 +25,6 @@ pub use extensions::{Extensions, SecContext};
 pub use filesystem::FileSystem;
 pub use name::{CStr, CString};
 pub use number::Number;
+pub use transfer::{ZeroCopyReader, ZeroCopyWriter};
 pub use unserved::{NoEntries, Unserved};
 pub use xattr::{GetxattrReply, ListxattrReply};

@@ -6,7 +6,7 @@ ghost use Rattle.vfs_flags.specs.Flags.{setattr_valid_bits};
 
 use crate::{
     CStr, Context, DirEntry, DirectoryIterator, Entry, Extensions, FileSystem, GetxattrReply,
-    ListxattrReply, defaults,
+    ListxattrReply, ZeroCopyReader, ZeroCopyWriter, defaults,
 };
 use std::time::Duration;
 use vfs_flags::{Fault, FsOptions, OpenOptions, SetattrValid, SetxattrFlags};
@@ -166,6 +166,36 @@ impl FileSystem for Unserved {
         defaults::open::<u64>()
     }
 
+    fn read<W: ZeroCopyWriter>(
+        &mut self,
+        ctx: Context,
+        inode: u64,
+        handle: u64,
+        w: &mut W,
+        size: u32,
+        offset: u64,
+        lock_owner: Option<u64>,
+        flags: u32,
+    ) -> Result<usize, Fault> {
+        defaults::no_such_call::<usize>()
+    }
+
+    fn write<R: ZeroCopyReader>(
+        &mut self,
+        ctx: Context,
+        inode: u64,
+        handle: u64,
+        r: &mut R,
+        size: u32,
+        offset: u64,
+        lock_owner: Option<u64>,
+        delayed_write: bool,
+        kill_priv: bool,
+        flags: u32,
+    ) -> Result<u32, Fault> {
+        defaults::no_such_call::<u32>()
+    }
+
     fn statfs(&mut self, ctx: Context, inode: u64) -> Result<Statvfs64, Fault> {
         defaults::statfs()
     }
@@ -244,6 +274,17 @@ impl FileSystem for Unserved {
         flags: u32,
     ) -> Result<(Option<u64>, OpenOptions), Fault> {
         defaults::opendir::<u64>()
+    }
+
+    fn readdir(
+        &mut self,
+        ctx: Context,
+        inode: u64,
+        handle: u64,
+        size: u32,
+        offset: u64,
+    ) -> Result<NoEntries, Fault> {
+        defaults::no_such_call::<NoEntries>()
     }
 
     fn releasedir(

@@ -1,21 +1,22 @@
 //! Small callers, each with what follows for it from the public contracts alone.
 
 ghost use Rattle.std.specs.Prelude.{◌≡◌, ◌≤◌, pos, negsuc, IsTrue, IfOk, IfErr, Some};
-ghost use Rattle.std.specs.Prelude.{Err, map, option_map};
+ghost use Rattle.std.specs.Prelude.{Err, map, option_map, ℕ, List};
 ghost use Rattle.vfs_files.specs.Extensions.{context_values};
 ghost use Rattle.vfs_files.specs.Calls.{Unlink, not_served};
-ghost use Rattle.vfs_files.specs.Answers.{Plain, done_answer};
+ghost use Rattle.vfs_files.specs.Answers.{Plain, done_answer, Counts};
 ghost use Rattle.vfs_files.specs.Names.{name_text};
 ghost use Rattle.vfs_files.specs.Runs.{ForgetsEach};
 
 use crate::{
     CStr, CString, Context, Entry, Extensions, FileSystem, GetxattrReply, ListxattrReply, Number,
-    SecContext, Unserved, defaults,
+    SecContext, Unserved, ZeroCopyWriter, defaults,
 };
 use bitflags::Flags;
 use std::alloc::Global;
 use std::time::Duration;
 use vfs_flags::{Fault, GuestGid};
+use vfs_views::PositionedFile;
 use vfs_wire::{Attr, EntryOut, InHeader};
 
 /// A name ends at its only 0.
@@ -241,4 +242,17 @@ pub fn lookup_that_is_not_served(ctx: Context, name: CStr<'_>) -> Result<Entry, 
 {
     let mut fs = Unserved {};
     fs.lookup(ctx, 1, name)
+}
+
+/// A `read` whose bytes stand in a file from `offset` on: as many as a reply can count.
+pub fn read_through<P: PositionedFile, W: ZeroCopyWriter>(
+    f: &mut P,
+    w: &mut W,
+    size: u32,
+    offset: u64,
+) -> Result<usize, Fault>
+    ensures { (bytes : List ℕ) × W.puts w.old bytes w.new × Counts result bytes size }
+{
+    let count = size.min(u32::MAX - 16) as usize;
+    w.read_from_file_at(f, count, offset)
 }

@@ -1,4 +1,4 @@
-use Rattle.vfs_files.proofs.Joining.{run-join, events_of-append}
+use Rattle.vfs_files.specs.RunLaws.{run-join, events_of-append}
 use Rattle.vfs_files.proofs.laws.runs_join.Goals as goal
 
 pub returns-clause-runs : goal.returns-clause-runs
