@@ -6,7 +6,7 @@ use Rattle.vfs_flags.specs.Opcode.{opcode_of}
 use Rattle.vfs_flags.specs.declared.constants.TheConstants.{KERNEL_VERSION, MIN_KERNEL_MINOR_VERSION}
 use Rattle.vfs_flags.specs.declared.opcode.Opcode.{Opcode}
 use Rattle.vfs_wire.specs.Fields.{Table, bytes_of, value_of}
-use Rattle.vfs_wire.specs.Headers.{in_header}
+use Rattle.vfs_wire.specs.Headers.{in_header, out_header}
 use Rattle.vfs_wire.specs.Init.{init_in_compat, init_in_ext, init_out}
 use Rattle.vfs_wire.specs.Entries.{forget_one}
 use Rattle.vfs_wire.specs.declared.headers.InHeader.{InHeader}
@@ -17,13 +17,13 @@ use Rattle.vfs_messages.specs.Limits.{max_len}
 use Rattle.vfs_messages.specs.Records.{size_of, record_of}
 use Rattle.vfs_messages.specs.Ask.{form_of, ask_number, ask_header, ask}
 use Rattle.vfs_messages.specs.Forms.{second_or_refusal, both_or_refusal, sized_or_refusal}
-use Rattle.vfs_messages.specs.Forms.{Ask, Ends, Asks, Copies, refused, silent, within, refused_or, tail_of, name_or_refusal, pairs_of, pairs_in, second_flags, flags2_in, ask_version, Layout, Without, Record, layout_record, Form, NoTail, NameTail, TwoNames, NameAndValue, NameAndExtensions, LinkAndExtensions, Pairs, Versions, Silent, NotServed, ask_form}
+use Rattle.vfs_messages.specs.Forms.{Ask, Ends, Asks, Copies, refused, silent, within, refused_or, tail_of, name_or_refusal, pairs_of, pairs_in, second_flags, flags2_in, ask_version, Layout, Without, Record, layout_record, Form, NoTail, NameTail, TwoNames, NameAndValue, NameAndExtensions, LinkAndExtensions, Pairs, WithRest, IntoRoom, Versions, Silent, NotServed, room_behind_header, ask_form}
 use Rattle.vfs_messages.specs.Forms.{extended_in, link_in_tail}
 use Rattle.vfs_messages.specs.Laws.{unique_of}
 use Rattle.vfs_messages.specs.Reply.{Bytes, Echo, fault_reply, body_reply, version_out}
 use Rattle.vfs_messages.specs.declared.limits.Limits.{Limits}
 use Rattle.vfs_messages.specs.declared.error.Error.{Error}
-use Rattle.vfs_messages.specs.declared.error.Error.TheVariants.{DecodeMessage, MissingParameter, InvalidXattrSize, InvalidCString, InvalidHeaderLength}
+use Rattle.vfs_messages.specs.declared.error.Error.TheVariants.{DecodeMessage, EncodeMessage, MissingParameter, InvalidXattrSize, InvalidCString, InvalidHeaderLength}
 use Rattle.vfs_messages.proofs.Refusing.{MayRefuse, either, IsRefused, of_extended, of_link}
 
 -- what is to be shown of P in each case that a request may ask, but for copies
@@ -70,6 +70,10 @@ module _ (P : Ask → Type 0) (unique : ℕ) (each : EachCase P unique) where
       → ((ps : List (ℕ × ℕ)) → pairs_in count bytes ≡ Ok ps → P (next ps)) → P (refused_or (pairs_in count bytes) next)
   pairs_cases count bytes next p =
       test_cases (nat_lt (length bytes) (count * size_of forget_one)) DecodeMessage (pairs_of count bytes) next tt p
+
+  pub room_cases : (room : ℕ) (next : ℕ → Ask) → ((room_for_data : ℕ) → P (next room_for_data)) → P (refused_or (room_behind_header room) next)
+  room_cases room next p =
+      test_cases (nat_lt room (size_of out_header)) EncodeMessage (room - size_of out_header) next tt (λ room_for_data is. p room_for_data)
 
   pub within_cases : (above : Bool) (h : InHeader) (next : Ask) → h.unique ≡ unique
       → (above ≡ false → P next) → P (within above h next)
@@ -143,6 +147,8 @@ module _ (P : Ask → Type 0) (unique : ℕ) (each : EachCase P unique) where
     form_cases h rest (Pairs l above count call) e =
         layout_cases l rest _ (λ r is. within_cases (above r) h _ e (λ no.
         pairs_cases (count r) _ _ (λ pairs whole. copies _ (each.asks _ _ e))))
+    form_cases h rest (WithRest l call) e = layout_cases l rest _ (λ r is. each.asks _ _ e)
+    form_cases h rest (IntoRoom l room call) e = layout_cases l rest _ (λ r is. room_cases room _ (λ room_for_data. each.asks _ _ e))
     form_cases h rest Versions e = versions_cases h rest e
     form_cases h rest Silent e = each.nothing
     form_cases h rest NotServed e = rw e (each.fault (Some enosys))

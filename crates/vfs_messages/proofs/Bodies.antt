@@ -11,7 +11,7 @@ use Rattle.vfs_wire.specs.Stat.{kstatfs_of}
 use Rattle.vfs_wire.specs.Xattrs.{getxattr_out}
 use Rattle.vfs_wire.specs.Init.{init_out}
 use Rattle.vfs_wire.specs.declared.init.InitOut.{InitOut}
-use Rattle.vfs_files.specs.Answers.{Kind, Quiet, Told, Untold, Data, Agreements, Entries, TimedAttributes, Openings, Creations, Capacities, Texts, TextsOrCounts, Offsets, Writes, Faults, IsAnswer}
+use Rattle.vfs_files.specs.Answers.{Kind, Quiet, Told, Untold, Data, Agreements, Entries, TimedAttributes, Openings, Creations, Capacities, Texts, TextsOrCounts, Offsets, Writes, Iterators, Faults, IsAnswer}
 use Rattle.vfs_files.specs.Answers.{Answer, Done, Failed, Options, Found, Put, Attributes, Opened, Created, Statistics, Text, Count, Offset, Written}
 use Rattle.vfs_files.specs.Entries.{entry_out_of}
 use Rattle.vfs_messages.specs.Reply.{Echo, Saying, Body, say, say_quiet, say_done, say_fault, say_init, say_bytes, say_entry, say_attr, say_opened, say_created, say_statistics, say_text, say_text_or_count, say_offset, say_written, say_fault_alone, attr_out_of, init_out_of, open_out_of, getxattr_out_of, write_out_of}
@@ -133,4 +133,5 @@ answers_are_short limits echo options Texts answer a = text_is_short answer a
 answers_are_short limits echo options TextsOrCounts answer a = text_or_count_is_short answer a
 answers_are_short limits echo options Offsets answer a = offset_is_short answer
 answers_are_short limits echo options Writes answer a = written_is_short answer
+answers_are_short limits echo options Iterators answer a = fault_alone_is_short answer
 answers_are_short limits echo options Faults answer a = fault_alone_is_short answer

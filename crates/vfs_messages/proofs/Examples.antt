@@ -8,14 +8,14 @@ use Rattle.vfs_wire.specs.declared.stat.Statvfs64.{Statvfs64}
 use Rattle.vfs_files.specs.declared.entry.Context.{Context}
 use Rattle.vfs_files.specs.declared.entry.Entry.{Entry}
 use Rattle.vfs_files.specs.Calls as call
-use Rattle.vfs_files.specs.Answers.{Done, Failed, Options, Found, Attributes, Opened, Statistics, Text, Count, Offset, Written}
-use Rattle.vfs_files.specs.Answers.{Agreements, Entries, Told, Untold, TimedAttributes, Openings, Capacities, Texts, TextsOrCounts, Offsets, Writes, Faults}
+use Rattle.vfs_files.specs.Answers.{Done, Failed, Options, Found, Attributes, Put, Opened, Statistics, Text, Count, Offset, Written}
+use Rattle.vfs_files.specs.Answers.{Agreements, Data, Entries, Told, Untold, TimedAttributes, Openings, Capacities, Texts, TextsOrCounts, Offsets, Writes, Faults}
 use Rattle.vfs_messages.specs.Ask.{ask}
 use Rattle.vfs_messages.specs.Extensions.{extensions_in, cut_of, no_extensions}
 use Rattle.vfs_messages.specs.Forms.{Ask, Ends, Asks, Copies, refused, silent}
 use Rattle.vfs_messages.specs.declared.limits.Limits.{Limits}
 use Rattle.vfs_messages.specs.Options.{agreed, options_after}
-use Rattle.vfs_messages.specs.Reply.{Bytes, NoReply, Echo, reply_of}
+use Rattle.vfs_messages.specs.Reply.{Bytes, OpenBehind, NoReply, Echo, reply_of}
 use Rattle.vfs_messages.specs.Room.{put_outcome, put_room}
 use Rattle.vfs_messages.specs.declared.error.Error.TheVariants.{DecodeMessage, EncodeMessage, InvalidCString, InvalidHeaderLength, InvalidXattrSize, MissingExtension, MissingParameter}
 
@@ -176,6 +176,55 @@ open_that_kills_privileges = refl
 open_that_keeps_privileges : ask usual 0 32 (header 48 14 9 1 ++ (four 2 ++ four 2)) ≡ Asks (echo 9) (call.Open nobody 1 false 2)
 unfolding number little opcode_of
 open_that_keeps_privileges = refl
+
+-- READ: the call is told of the room behind a header; the record comes before the room is judged
+read : ask usual 0 18 (header 80 15 9 2 ++ ((zeros 16 ++ four 3) ++ zeros 20)) ≡ Asks (echo 9) (call.Read nobody 2 0 2 3 0 None 0)
+unfolding number little opcode_of
+read = refl
+
+read_without_room_for_a_header : ask usual 0 15 (header 80 15 9 2 ++ ((zeros 16 ++ four 3) ++ zeros 20)) ≡ refused EncodeMessage
+unfolding number little opcode_of
+read_without_room_for_a_header = refl
+
+read_cut_short : ask usual 0 15 (header 80 15 9 2 ++ zeros 39) ≡ refused DecodeMessage
+unfolding number little opcode_of
+read_cut_short = refl
+
+-- bit 1 of the flags alone passes the owner of locks, and `len` is not looked at
+read_by_an_owner_of_locks : ask usual 0 16 (header 0 15 9 2 ++ (((eight 7 ++ eight 10) ++ (four 3 ++ four 2)) ++ (eight 5 ++ (four 0x8000 ++ zeros 4)))) ≡ Asks (echo 9) (call.Read nobody 2 7 0 3 10 (Some 5) 0x8000)
+unfolding number little opcode_of
+read_by_an_owner_of_locks = refl
+
+read_by_all_flags_but_that_of_the_owner : ask usual 0 18 (header 80 15 9 2 ++ (((eight 7 ++ eight 10) ++ (four 3 ++ four 0xfffffffd)) ++ (eight 5 ++ zeros 8))) ≡ Asks (echo 9) (call.Read nobody 2 7 2 3 10 None 0)
+unfolding number little opcode_of
+read_by_all_flags_but_that_of_the_owner = refl
+
+-- WRITE: all bytes behind the record are the call's, whatever `len` and `size` say
+write : ask usual 0 24 (header 83 16 9 2 ++ (((zeros 16 ++ four 5) ++ zeros 20) ++ (0x48 ∷ 0x45 ∷ 0x59 ∷ []))) ≡ Asks (echo 9) (call.Write nobody 2 0 (0x48 ∷ 0x45 ∷ 0x59 ∷ []) 5 0 None false false 0)
+unfolding number little opcode_of
+write = refl
+
+write_of_nothing : ask usual 0 24 (header 0 16 9 2 ++ zeros 40) ≡ Asks (echo 9) (call.Write nobody 2 0 [] 0 0 None false false 0)
+unfolding number little opcode_of
+write_of_nothing = refl
+
+write_cut_short : ask usual 0 24 (header 80 16 9 2 ++ zeros 39) ≡ refused DecodeMessage
+unfolding number little opcode_of
+write_cut_short = refl
+
+-- bit 0 is a write of pages that were written to before, bit 1 that the owner of locks is told, bit 2
+-- that privileges are to be taken away
+write_back : ask usual 0 24 (header 80 16 9 2 ++ (((eight 7 ++ eight 10) ++ (four 3 ++ four 1)) ++ (eight 5 ++ (four 0x8001 ++ zeros 4)))) ≡ Asks (echo 9) (call.Write nobody 2 7 [] 3 10 None true false 0x8001)
+unfolding number little opcode_of
+write_back = refl
+
+write_by_an_owner_of_locks : ask usual 0 24 (header 80 16 9 2 ++ (((eight 7 ++ eight 10) ++ (four 3 ++ four 2)) ++ (eight 5 ++ (four 0x8001 ++ zeros 4)))) ≡ Asks (echo 9) (call.Write nobody 2 7 [] 3 10 (Some 5) false false 0x8001)
+unfolding number little opcode_of
+write_by_an_owner_of_locks = refl
+
+write_that_kills_privileges : ask usual 0 24 (header 80 16 9 2 ++ (((eight 7 ++ eight 10) ++ (four 3 ++ four 4)) ++ (eight 5 ++ (four 0x8001 ++ zeros 4)))) ≡ Asks (echo 9) (call.Write nobody 2 7 [] 3 10 None false true 0x8001)
+unfolding number little opcode_of
+write_that_kills_privileges = refl
 
 statfs : ask usual 0 96 (header 40 17 9 1) ≡ Asks (echo 9) (call.Statfs nobody 1)
 unfolding number little opcode_of
@@ -482,6 +531,15 @@ reply_of_an_offset = refl
 reply_of_bytes_written : reply_of usual (echo 9) 0 Writes (Written 5) ≡ Bytes (((four 24 ++ zeros 4) ++ eight 9) ++ (four 5 ++ zeros 4))
 unfolding number little
 reply_of_bytes_written = refl
+
+-- READ's data `he`, and a READ that failed: the room behind the reply is open
+reply_of_data : reply_of usual (echo 9) 0 Data (Put (0x68 ∷ 0x65 ∷ [])) ≡ OpenBehind (((four 18 ++ zeros 4) ++ eight 9) ++ (0x68 ∷ 0x65 ∷ []))
+unfolding number little
+reply_of_data = refl
+
+reply_of_no_data : reply_of usual (echo 9) 0 Data (Failed (Some 2)) ≡ OpenBehind ((four 16 ++ (0xfe ∷ 0xff ∷ 0xff ∷ 0xff ∷ [])) ++ eight 9)
+unfolding number little
+reply_of_no_data = refl
 
 reply_of_a_fault_alone : reply_of usual (echo 9) 0 Faults (Failed (Some 38)) ≡ Bytes ((four 16 ++ (0xda ∷ 0xff ∷ 0xff ∷ 0xff ∷ [])) ++ eight 9)
 unfolding number little

@@ -1,5 +1,6 @@
 pub mod FirstNames
 pub mod Rooms
+pub mod Behind
 pub mod Pairs
 pub mod Refusing
 pub mod Asking

@@ -18,7 +18,7 @@ use Rattle.vfs_files.specs.Runs.{Called}
 use Rattle.vfs_messages.specs.Limits.{max_len}
 use Rattle.vfs_messages.specs.Records.{size_of}
 use Rattle.vfs_messages.specs.Ask.{form_of, ask, ask_number}
-use Rattle.vfs_messages.specs.Forms.{Ask, Ends, Asks, Copies, Form, NoTail, NameTail, TwoNames, NameAndValue, NameAndExtensions, LinkAndExtensions, Pairs, Versions, Silent, NotServed, Layout, refused_or, layout_record, layout_size, tail_of, behind, TailIsWhole, ask_form, MayLackMemory}
+use Rattle.vfs_messages.specs.Forms.{Ask, Ends, Asks, Copies, Form, NoTail, NameTail, TwoNames, NameAndValue, NameAndExtensions, LinkAndExtensions, Pairs, WithRest, IntoRoom, Versions, Silent, NotServed, Layout, refused_or, layout_record, layout_size, tail_of, behind, TailIsWhole, ask_form, MayLackMemory}
 use Rattle.vfs_messages.specs.Laws.{unique_of, BeginsWithHeader, AreAgreed, WantsMemory, MayLackBehind}
 use Rattle.vfs_messages.specs.Options.{agreed, options_after}
 use Rattle.vfs_messages.specs.Reply.{Reply, Refusal, NoReply, Bytes, OpenBehind, Never, Saying, Fault, Body, Unsaid, Wrong, said, said_open, said_by, is_open, say, fault_reply, fault_number, body_reply, version_out}
@@ -27,7 +27,7 @@ use Rattle.vfs_messages.specs.Turn.{Turn, Follows, IsTurn, turn_tells}
 use Rattle.vfs_messages.specs.declared.limits.Limits.{Limits}
 use Rattle.vfs_messages.specs.declared.error.Error.{Error}
 use Rattle.vfs_messages.specs.declared.error.Error.TheVariants.{DecodeMessage, EncodeMessage, FlushMessage, InvalidCString2, OutOfMemory}
-use Rattle.vfs_messages.proofs.Asking.{EachCase, ask_cases, layout_cases, tail_cases, pairs_cases, within_cases, versions_cases}
+use Rattle.vfs_messages.proofs.Asking.{EachCase, ask_cases, layout_cases, tail_cases, pairs_cases, room_cases, within_cases, versions_cases}
 use Rattle.vfs_messages.proofs.Refusing.{MayRefuse}
 use Rattle.vfs_messages.proofs.Bodies.{IsShort, init_out_is_short, answers_are_short}
 use Rattle.vfs_messages.proofs.Rooms.{length-header, length-fault_reply, length-body_reply}
@@ -171,6 +171,15 @@ module _ (limits : Limits) (options after : ℕ) (t : Turn) (lacks : t.outcome �
         in_limit = no;
         whole_pairs = is_ok _ pairs whole;
       })))
+  memory_form h rest (WithRest l call) =
+      let Q = MayLackMemory h rest (WithRest l call) in
+      let all = each Q h.unique in
+      layout_cases (Gives Q) h.unique all l rest _ (λ r is. all.asks _ _ refl)
+  memory_form h rest (IntoRoom l room call) =
+      let Q = MayLackMemory h rest (IntoRoom l room call) in
+      let all = each Q h.unique in
+      layout_cases (Gives Q) h.unique all l rest _ (λ r is.
+      room_cases (Gives Q) h.unique all room _ (λ room_for_data. all.asks _ _ refl))
   memory_form h rest Versions =
       versions_cases (Gives (MayLackMemory h rest Versions)) h.unique (each (MayLackMemory h rest Versions) h.unique) h rest refl
   memory_form h rest Silent = (each (MayLackMemory h rest Silent) h.unique).nothing

@@ -3,14 +3,14 @@ use Rattle.std.specs.Prelude.{ℕ, [], ◌∷◌, slice_index, ◌*◌, ◌==◌
 use Rattle.vfs_flags.specs.Errors.{enosys}
 use Rattle.vfs_flags.specs.Flags.{known_setattr_valid, known_setxattr_flags, setxattr_ext}
 use Rattle.vfs_flags.specs.Opcode.{opcode_of}
-use Rattle.vfs_flags.specs.declared.constants.TheConstants.{FATTR_FH, GETATTR_FH, FSYNC_FDATASYNC, OPEN_KILL_SUIDGID, RELEASE_FLUSH, RELEASE_FLOCK_UNLOCK}
+use Rattle.vfs_flags.specs.declared.constants.TheConstants.{FATTR_FH, GETATTR_FH, FSYNC_FDATASYNC, OPEN_KILL_SUIDGID, READ_LOCKOWNER, RELEASE_FLUSH, RELEASE_FLOCK_UNLOCK, WRITE_CACHE, WRITE_KILL_PRIV, WRITE_LOCKOWNER}
 use Rattle.vfs_flags.specs.declared.opcode.Opcode.{Opcode}
 use Rattle.vfs_flags.specs.declared.opcode.Opcode.TheVariants.{Lookup, Forget, Getattr, Setattr, Readlink, Symlink, Mknod, Mkdir, Unlink, Rmdir, Rename, Link, Open, Read, Write, Statfs, Release, Fsync, Setxattr, Getxattr, Listxattr, Removexattr, Flush, Init, Opendir, Readdir, Releasedir, Fsyncdir, Getlk, Setlk, Setlkw, Access, Create, Interrupt, Bmap, Destroy, Ioctl, Poll, NotifyReply, BatchForget, Fallocate, Readdirplus, Rename2, Lseek, CopyFileRange, SetupMapping, RemoveMapping, Syncfs, TmpFile}
 use Rattle.vfs_wire.specs.Fields.{Table}
 use Rattle.vfs_wire.specs.Headers.{in_header}
 use Rattle.vfs_wire.specs.Attributes.{getattr_in, setattr_in}
 use Rattle.vfs_wire.specs.Entries.{forget_in, forget_one, batch_forget_in}
-use Rattle.vfs_wire.specs.Files.{open_in, release_in, flush_in, fsync_in}
+use Rattle.vfs_wire.specs.Files.{open_in, release_in, flush_in, fsync_in, read_in, write_in}
 use Rattle.vfs_wire.specs.Names.{access_in, create_in, link_in, mkdir_in, mknod_in, rename_in, rename2_in}
 use Rattle.vfs_wire.specs.Ranges.{lseek_in, copyfilerange_in, fallocate_in}
 use Rattle.vfs_wire.specs.Xattrs.{getxattr_in, setxattr_in}
@@ -20,7 +20,7 @@ use Rattle.vfs_files.specs.Calls as call
 use Rattle.vfs_files.specs.Entries.{context_of}
 use Rattle.vfs_messages.specs.Limits.{max_len}
 use Rattle.vfs_messages.specs.Records.{size_of, record_of}
-use Rattle.vfs_messages.specs.Forms.{Ask, refused_or, faulted, within, Layout, no_record, Record, unlimited, Form, NoTail, NameTail, TwoNames, NameAndValue, NameAndExtensions, LinkAndExtensions, Pairs, Versions, Silent, NotServed, ask_form}
+use Rattle.vfs_messages.specs.Forms.{Ask, refused_or, faulted, within, Layout, no_record, Record, unlimited, Form, NoTail, NameTail, TwoNames, NameAndValue, NameAndExtensions, LinkAndExtensions, Pairs, WithRest, IntoRoom, Versions, Silent, NotServed, ask_form}
 use Rattle.vfs_messages.specs.declared.limits.Limits.{Limits}
 
 -- whether a word of flags has one of these flags
@@ -91,8 +91,15 @@ form_of limits options room h Link =
 form_of limits options room h Open =
     NoTail (Record open_in) unlimited (λ r.
     call.Open (context_of h) h.nodeid (has_flag r.open_flags OPEN_KILL_SUIDGID) r.flags)
-form_of limits options room h Read = NotServed
-form_of limits options room h Write = NotServed
+form_of limits options room h Read =
+    IntoRoom (Record read_in) room (λ r room_for_data.
+    call.Read (context_of h) h.nodeid r.fh room_for_data r.size r.offset
+    (if_set r.read_flags READ_LOCKOWNER r.lock_owner) r.flags)
+form_of limits options room h Write =
+    WithRest (Record write_in) (λ r rest.
+    call.Write (context_of h) h.nodeid r.fh rest r.size r.offset
+    (if_set r.write_flags WRITE_LOCKOWNER r.lock_owner) (has_flag r.write_flags WRITE_CACHE)
+    (has_flag r.write_flags WRITE_KILL_PRIV) r.flags)
 form_of limits options room h Statfs =
     NoTail no_record unlimited (λ r. call.Statfs (context_of h) h.nodeid)
 form_of limits options room h Release =

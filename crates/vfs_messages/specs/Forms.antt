@@ -4,7 +4,7 @@ use Rattle.vfs_flags.specs.Errors.{enomem, enosys, eproto}
 use Rattle.vfs_flags.specs.Flags.{init_ext}
 use Rattle.vfs_flags.specs.declared.constants.TheConstants.{KERNEL_VERSION, MIN_KERNEL_MINOR_VERSION}
 use Rattle.vfs_wire.specs.Fields.{Table, bytes_of, value_of}
-use Rattle.vfs_wire.specs.Headers.{in_header}
+use Rattle.vfs_wire.specs.Headers.{in_header, out_header}
 use Rattle.vfs_wire.specs.Init.{init_in_compat, init_in_ext, init_out}
 use Rattle.vfs_wire.specs.Entries.{forget_one}
 use Rattle.vfs_wire.specs.declared.init.InitInCompat.{InitInCompat}
@@ -19,7 +19,7 @@ use Rattle.vfs_messages.specs.Options.{offered}
 use Rattle.vfs_messages.specs.Records.{size_of, record_of}
 use Rattle.vfs_messages.specs.Reply.{Reply, Refusal, Bytes, NoReply, Echo, echo_of, fault_reply, body_reply, version_out}
 use Rattle.vfs_messages.specs.declared.error.Error.{Error}
-use Rattle.vfs_messages.specs.declared.error.Error.TheVariants.{DecodeMessage, MissingParameter, InvalidCString, InvalidHeaderLength, InvalidXattrSize}
+use Rattle.vfs_messages.specs.declared.error.Error.TheVariants.{DecodeMessage, EncodeMessage, MissingParameter, InvalidCString, InvalidHeaderLength, InvalidXattrSize}
 
 -- What a request asks: to be ended without a call, by this coming back; a call, whose reply
 -- repeats this of the request; or that some of its bytes be copied, for which there may be no
@@ -141,6 +141,12 @@ pairs_in count bytes =
     if nat_lt (length bytes) (count * size_of forget_one) then Err DecodeMessage
     else Ok (pairs_of count bytes)
 
+-- the room behind the header of a reply, or the refusal of a room that is too small for the header
+abbrev pub room_behind_header : (room : ℕ) → Result ℕ Error
+room_behind_header room =
+    if nat_lt room (size_of out_header) then Err EncodeMessage
+    else Ok (room - size_of out_header)
+
 -- the word of flags in INIT's second record
 abbrev pub flags2_in : Result InitInExt Error → Result ℕ Error
 flags2_in (Ok r) = Ok r.flags2
@@ -192,10 +198,11 @@ unlimited r = false
 
 -- A line of the protocol's table: the form of a request, with its record and the call that it
 -- asks for. By the form something may follow the record: nothing; a name; two names; a name and a
--- value of the size that the record says; a name, or a link's name and its text, and extensions; or
--- pairs of a node and a count, as many as the record says. `above` tells whether the record asks for
--- more than the limits allow. INIT has a form of its own; some requests ask for nothing, and some
--- aren't served.
+-- value of the size that the record says; a name, or a link's name and its text, and extensions;
+-- pairs of a node and a count, as many as the record says; or bytes that the call takes as they
+-- are, to the end of the request. A call may want a room to put its reply's data into. `above` tells
+-- whether the record asks for more than the limits allow. INIT has a form of its own; some requests
+-- ask for nothing, and some aren't served.
 pub data Form : Type 1 where
   NoTail : {R : Type 0} (layout : Layout R) (above : R → Bool) (call : R → Call) → Form
   NameTail : {R : Type 0} (layout : Layout R) (above : R → Bool) (call : R → List ℕ → Call) → Form
@@ -208,6 +215,9 @@ pub data Form : Type 1 where
       (call : R → (name text : List ℕ) → ExtensionValues → Call) → Form
   Pairs : {R : Type 0} (layout : Layout R) (above : R → Bool) (count : R → ℕ)
       (call : R → List (ℕ × ℕ) → Call) → Form
+  WithRest : {R : Type 0} (layout : Layout R) (call : R → (rest : List ℕ) → Call) → Form
+  IntoRoom : {R : Type 0} (layout : Layout R) (room : ℕ)
+      (call : R → (room_for_data : ℕ) → Call) → Form
   Versions : Form
   Silent : Form
   NotServed : Form
@@ -245,6 +255,12 @@ ask_form h rest (Pairs layout above count call) =
     within (above r) h
     (refused_or (pairs_in (count r) (behind layout rest)) (λ pairs.
     Copies (Asks (echo_of h) (call r pairs)))))
+ask_form h rest (WithRest layout call) =
+    refused_or (layout_record layout rest) (λ r. Asks (echo_of h) (call r (behind layout rest)))
+ask_form h rest (IntoRoom layout room call) =
+    refused_or (layout_record layout rest) (λ r.
+    refused_or (room_behind_header room) (λ room_for_data.
+    Asks (echo_of h) (call r room_for_data)))
 ask_form h rest Versions =
     refused_or (record_of init_in_compat rest) (λ r.
     refused_or (second_flags r.flags (drop (size_of init_in_compat) rest)) (ask_version h r))

@@ -1,5 +1,5 @@
 -- What comes back to the client, and the bytes of replies.
-use Rattle.std.specs.Prelude.{ℕ, pos, ◌+◌, ◌-ℤ◌, ◌/◌, ◌%◌, ◌^◌, List, [], ◌∷◌, ◌++◌, length, Bool, true, false, Option, Some, None, unwrap_or}
+use Rattle.std.specs.Prelude.{ℕ, pos, ◌+◌, ◌-ℤ◌, ◌/◌, ◌%◌, ◌^◌, List, [], ◌∷◌, ◌++◌, length, Bool, true, false, Option, Some, None, unwrap_or, Result, Ok, Err}
 use Rattle.std.specs.declared.time.Duration.{Duration}
 use Rattle.vfs_flags.specs.Errors.{eio}
 use Rattle.vfs_flags.specs.declared.constants.TheConstants.{KERNEL_VERSION, KERNEL_MINOR_VERSION}
@@ -14,13 +14,14 @@ use Rattle.vfs_wire.specs.Ranges.{lseek_out}
 use Rattle.vfs_wire.specs.Stat.{kstatfs_of}
 use Rattle.vfs_wire.specs.Xattrs.{getxattr_out}
 use Rattle.vfs_wire.specs.declared.headers.InHeader.{InHeader}
+use Rattle.vfs_wire.specs.declared.headers.OutHeader.{OutHeader}
 use Rattle.vfs_wire.specs.declared.init.InitOut.{InitOut}
 use Rattle.vfs_wire.specs.declared.attributes.Attr.{Attr}
 use Rattle.vfs_wire.specs.declared.attributes.AttrOut.{AttrOut}
 use Rattle.vfs_wire.specs.declared.files.OpenOut.{OpenOut}
 use Rattle.vfs_wire.specs.declared.files.WriteOut.{WriteOut}
 use Rattle.vfs_wire.specs.declared.xattrs.GetxattrOut.{GetxattrOut}
-use Rattle.vfs_files.specs.Answers.{Kind, Quiet, Told, Untold, Data, Agreements, Entries, TimedAttributes, Openings, Creations, Capacities, Texts, TextsOrCounts, Offsets, Writes, Faults}
+use Rattle.vfs_files.specs.Answers.{Kind, Quiet, Told, Untold, Data, Agreements, Entries, TimedAttributes, Openings, Creations, Capacities, Texts, TextsOrCounts, Offsets, Writes, Iterators, Faults}
 use Rattle.vfs_files.specs.Answers.{Answer, Done, Failed, Options, Found, Put, Attributes, Opened, Created, Statistics, Text, Count, Offset, Written}
 use Rattle.vfs_files.specs.Entries.{entry_out_of, whole_seconds, nanoseconds_beyond}
 use Rattle.vfs_messages.specs.Limits.{max_pages}
@@ -67,6 +68,17 @@ body_reply body unique =
     bytes_of out_header
     (record { len = size_of out_header + length body; error = pos 0; unique = unique })
     ++ body
+
+-- the header of a reply behind which so many bytes of data were put, or of a fault
+abbrev pub data_header : Result ℕ (Option ℕ) → (unique : ℕ) → OutHeader
+data_header (Ok count) unique =
+    record { len = size_of out_header + count; error = pos 0; unique = unique }
+data_header (Err fault) unique =
+    record {
+      len = size_of out_header;
+      error = pos 0 -ℤ pos (fault_number fault);
+      unique = unique;
+    }
 
 -- the attributes of a node and how long they hold, as GETATTR replies them
 abbrev pub attr_out_of : Attr → (timeout : Duration) → AttrOut
@@ -263,6 +275,7 @@ say limits echo options Texts answer = say_text answer
 say limits echo options TextsOrCounts answer = say_text_or_count answer
 say limits echo options Offsets answer = say_offset answer
 say limits echo options Writes answer = say_written answer
+say limits echo options Iterators answer = say_fault_alone answer
 say limits echo options Faults answer = say_fault_alone answer
 
 -- the kinds behind whose replies the room is open

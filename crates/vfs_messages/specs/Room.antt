@@ -1,6 +1,8 @@
 -- How a reply is put into the room that its writer has left.
-use Rattle.std.specs.Prelude.{◌≡◌, ℕ, List, ◌++◌, length, take, drop, nat_le, if◌then◌else◌, Result, Ok, Err}
-use Rattle.vfs_segments.specs.Written.{Written, whole}
+use Rattle.std.specs.Prelude.{◌≡◌, ◌≤◌, ℕ, List, ◌++◌, length, take, drop, nat_le, if◌then◌else◌, Result, Ok, Err}
+use Rattle.vfs_wire.specs.Headers.{out_header}
+use Rattle.vfs_segments.specs.Written.{Written, Moves, held_over, whole}
+use Rattle.vfs_messages.specs.Records.{size_of}
 use Rattle.vfs_messages.specs.Reply.{Reply, Refusal, NoReply, Bytes, OpenBehind, Never}
 use Rattle.vfs_messages.specs.declared.error.Error.{Error}
 use Rattle.vfs_messages.specs.declared.error.Error.TheVariants.{EncodeMessage}
@@ -61,3 +63,9 @@ Replies NoReply old outcome new = (outcome ≡ Ok 0) × (new ≡ old)
 Replies (Bytes reply) old outcome new = Writes (Bytes reply) old outcome new
 Replies (OpenBehind reply) old outcome new = Writes (OpenBehind reply) old outcome new
 Replies Never old outcome new = ⊥
+
+-- These bytes were put into a writer behind the place of a reply's header, which it holds. What
+-- stands behind them in the room isn't said.
+pub record PutsBehindHeader (old : Written) (bytes : List ℕ) (new : Written) : Type 0 where
+  pub enough : size_of out_header ≤ length old.left
+  pub moves : Moves (held_over old (size_of out_header)) bytes new

@@ -12,8 +12,6 @@ mod limits;
 mod options;
 mod reply;
 mod request;
-#[cfg(test)]
-mod tests;
 pub mod uses;
 
 pub use error::{Error, Result};
@@ -21,9 +19,9 @@ pub use extensions::{get_extensions, parse_security_context, parse_sup_groups};
 pub use limits::{DEFAULT_MAX_BUFFER, Limits};
 pub use options::{agreed_options, offered_options, read_second_flags, reply_init, reply_version};
 pub use reply::{
-    reply_attr, reply_created, reply_done, reply_entry, reply_error, reply_failed, reply_fault,
-    reply_fault_alone, reply_names, reply_offset, reply_ok, reply_opened, reply_record,
-    reply_statistics, reply_text, reply_value, reply_written,
+    hold_header, reply_attr, reply_created, reply_data, reply_done, reply_entry, reply_error,
+    reply_failed, reply_fault, reply_fault_alone, reply_names, reply_offset, reply_ok,
+    reply_opened, reply_record, reply_statistics, reply_text, reply_value, reply_written,
 };
 pub use request::{
     FirstName, Name, NameAndText, TwoNames, further_flags, handle_if, is_set, known_valid,

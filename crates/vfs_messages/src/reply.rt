@@ -1,25 +1,27 @@
 //! Replies: a header (`struct fuse_out_header`) and a body, put into the room of a writer.
 //!
 //! Each call answers the reply's length, or `EncodeMessage` where the room is too small: then it
-//! holds as much of the reply's beginning as there is room for.
+//! holds as much of the reply's beginning as there is room for. Data are put before their header is
+//! known: its place is held in front of them, and filled in last.
 
-ghost use Rattle.std.specs.Prelude.{◌≡◌, ◌≢◌, ◌≤◌, ◌<◌, ◌+◌, ◌^◌, ◌%◌, ◌++◌, ◌-ℤ◌, pos, take, length, [], nat_le, if◌then◌else◌, Ok, Err, IfSome, option_map};
+ghost use Rattle.std.specs.Prelude.{◌≡◌, ◌≢◌, ◌≤◌, ◌<◌, ◌↔◌, ◌+◌, ◌-◌, ◌^◌, ◌%◌, ◌++◌, ◌-ℤ◌, pos, take, length, ℕ, List, [], nat_le, if◌then◌else◌, Ok, Err, IfSome, option_map, IfOk, IfErr, IsOk, OnOk, OnErr, MatchResult};
 ghost use Rattle.vfs_wire.specs.Fields.{Fit, bytes_of};
 ghost use Rattle.vfs_wire.specs.Headers.{out_header};
 ghost use Rattle.vfs_wire.specs.Xattrs.{getxattr_out};
 ghost use Rattle.vfs_flags.specs.Flags.{open_options_bits};
-ghost use Rattle.vfs_segments.specs.Written.{wrote, held_filled};
+ghost use Rattle.vfs_segments.specs.Written.{Written, wrote, held_over, held_filled};
 ghost use Rattle.std.specs.Option.{option_copied};
-ghost use Rattle.vfs_files.specs.Answers.{IsFault, IsAnswer, FitsText, KeepsTextShort, Told, Untold, Entries, TimedAttributes};
+ghost use Rattle.vfs_files.specs.Answers.{IsFault, IsAnswer, FitsText, KeepsTextShort, Counts, Data, Told, Untold, Entries, TimedAttributes};
 ghost use Rattle.vfs_files.specs.Answers.{Openings, Creations, Capacities, Texts, TextsOrCounts, Offsets, Writes, Faults, Failed};
 ghost use Rattle.vfs_files.specs.Answers.{done_answer, entry_answer, attr_answer, opened_answer, created_answer, statistics_answer};
-ghost use Rattle.vfs_files.specs.Answers.{text_answer, getxattr_answer, listxattr_answer, offset_answer, written_answer};
+ghost use Rattle.vfs_files.specs.Answers.{text_answer, getxattr_answer, listxattr_answer, offset_answer, written_answer, read_answer};
 ghost use Rattle.vfs_messages.specs.Records.{size_of, bytes_of_option, bytes_or_none, size_of_option};
-ghost use Rattle.vfs_messages.specs.Reply.{Bytes, said, fault_reply, fault_number, body_reply};
-ghost use Rattle.vfs_messages.specs.Reply.{say_done, say_fault, say_entry, say_attr, say_opened, say_created, say_statistics};
+ghost use Rattle.vfs_messages.specs.Reply.{Bytes, said, said_open, fault_reply, fault_number, body_reply, data_header};
+ghost use Rattle.vfs_messages.specs.Reply.{say_done, say_fault, say_bytes, say_entry, say_attr, say_opened, say_created, say_statistics};
 ghost use Rattle.vfs_messages.specs.Reply.{say_text, say_text_or_count, say_offset, say_written, say_fault_alone};
 ghost use Rattle.vfs_messages.specs.Reply.{attr_out_of, open_out_of, getxattr_out_of};
-ghost use Rattle.vfs_messages.specs.Room.{Replies};
+ghost use Rattle.vfs_messages.specs.Forms.{room_behind_header};
+ghost use Rattle.vfs_messages.specs.Room.{Replies, PutsBehindHeader};
 
 use crate::error::{Error, Result};
 use bitflags::Flags;
@@ -204,6 +206,63 @@ pub fn reply_error(fault: Fault, unique: u64, w: &mut Writer) -> Result<usize>
         return Ok(OutHeader::SIZE);
     }
     reply_failed(fault, unique, w)
+}
+
+/// Holds the place of a reply's header, so that the data of the reply can be put first.
+///
+/// `EncodeMessage` where there is no room for a header; then nothing changes.
+pub fn hold_header(w: &mut Writer) -> Result<()>
+    ensures room { MatchResult result
+        (λ held. room_behind_header (length w.old.left) ≡ Ok (length w.new.left))
+        (λ error. room_behind_header (length w.old.left) ≡ Err error) }
+    ensures held { OnOk result (w.new ≡ held_over w.old (size_of out_header)) }
+    ensures enough { OnOk result (size_of out_header ≤ length w.old.left) }
+    ensures refused { OnErr result (w.new ≡ w.old) }
+{
+    match w.hold(OutHeader::SIZE) {
+        Ok(()) => Ok(()),
+        Err(_) => Err(Error::EncodeMessage),
+    }
+}
+
+/// The header of a reply behind which so many bytes of data were put, or of a fault.
+fn data_header(answer: std::result::Result<usize, Fault>, unique: u64) -> OutHeader
+    requires { IfOk answer (λ count. count < 2 ^ 32 - 16) }
+    ensures header { result ≡ data_header answer unique }
+    ensures fault { IfErr answer IsFault }
+{
+    match answer {
+        Ok(count) => OutHeader {
+            len: (OutHeader::SIZE + count) as u32,
+            error: 0,
+            unique,
+        },
+        Err(fault) => fault_header(fault, unique),
+    }
+}
+
+/// Replies data, as READ does, which were put behind the held place of their header: `answer` is
+/// how many they are, and the header is filled in now. A fault is replied as the header alone,
+/// whatever was put behind it.
+///
+/// The room behind the reply is as it is left. Answers the reply's length, which always fits.
+pub fn reply_data(
+    answer: std::result::Result<usize, Fault>,
+    unique: u64,
+    w: &mut Writer,
+) -> Result<usize>
+    requires held { w.old.held ≡ size_of out_header }
+    requires short { IfOk answer (λ count. count < 2 ^ 32 - 16) }
+    ensures replied { (old : Written) (bytes : List ℕ) (size : ℕ) →
+        PutsBehindHeader old bytes w.old → Counts answer bytes size →
+        Replies (said_open unique (say_bytes (read_answer answer bytes))) old result w.new }
+    ensures kind { (bytes : List ℕ) (size : ℕ) → Counts answer bytes size →
+        IsAnswer Data (read_answer answer bytes) }
+{
+    let header = data_header(answer, unique);
+    let len = header.len as usize;
+    fill_header(header, w);
+    Ok(len)
 }
 
 /// Replies that a call was done, as ACCESS does: a header alone, or the fault.
