@@ -1,0 +1,108 @@
+-- What the reading of a directory does to a file system and to a writer: of one item, and as a
+-- whole.
+use Rattle.std.specs.Prelude.{◌≡◌, ◌≤◌, ℕ, Bool, true, false, List, ◌++◌, Option, Some, None, Result, Ok, Err, MatchResult, length, sum_by}
+use Rattle.vfs_segments.specs.Written.{Written, wrote}
+use Rattle.vfs_files.specs.Calls.{Call, Lookup, Forget, Readdir, directory_answer, Handed, Plain, Failed, Found, Done}
+use Rattle.vfs_files.specs.Items.{Item}
+use Rattle.vfs_files.specs.Runs.{Happening, IsRun, events_of}
+use Rattle.vfs_files.specs.declared.entry.Context.{Context}
+use Rattle.vfs_listings.specs.Records.{Verdict, Fits, Full, Fails, verdict, Adds}
+use Rattle.vfs_listings.specs.Listing.{Got, node_got, IsDotEntry, is_dot, judged, line_len, cut_of, IsListing, IsDirectory}
+
+-- the record of an item that got this was added; where it got a fault, this is the answer, and
+-- nothing was put
+abbrev pub AddsGot : (max room : ℕ) → Got → Item → Written → Result ℕ (Option ℕ) → Written → Type 0
+AddsGot max room (Ok entry) i old result new =
+    Adds (verdict max room entry i) entry i old result new
+AddsGot max room (Err fault) i old result new = (result ≡ Err fault) × (new ≡ old)
+
+-- these bytes were put into the next bytes of the room
+pub record Puts (old : Written) (bytes : List ℕ) (new : Written) : Type 0 where
+  pub within : length bytes ≤ length old.left
+  pub wrote : new ≡ wrote old bytes
+
+module _ {S I : Type 0} (allows : S → Call → Handed I → S → Type 0) (ctx : Context) where
+  -- the lookup of a name gave this
+  abbrev pub LooksUpName : (parent : ℕ) (name : List ℕ) → S → Got → S → Type 0
+  LooksUpName parent name old (Ok (Some entry)) new =
+      allows old (Lookup ctx parent name) (Plain (Found entry)) new
+  LooksUpName parent name old (Ok None) new = ⊥
+  LooksUpName parent name old (Err fault) new =
+      allows old (Lookup ctx parent name) (Plain (Failed fault)) new
+
+  -- an item got this: it is looked up where entries are wanted, but for `.` and `..`
+  abbrev pub LooksUp : (plus dot : Bool) (parent : ℕ) → Item → S → Got → S → Type 0
+  LooksUp false dot parent i old got new = (got ≡ Ok None) × (new ≡ old)
+  LooksUp true true parent i old got new = IsDotEntry i got × (new ≡ old)
+  LooksUp true false parent i old got new = LooksUpName parent i.name old got new
+
+  -- one lookup of a node is given back, where there is a node
+  abbrev pub GivesBackNode : Option ℕ → S → S → Type 0
+  GivesBackNode None old new = new ≡ old
+  GivesBackNode (Some node) old new = allows old (Forget ctx node 1) (Plain Done) new
+
+  -- the entry that was got is given back where its record was not written
+  abbrev pub GivesBack : Verdict → Got → S → S → Type 0
+  GivesBack Fits got old new = new ≡ old
+  GivesBack Full got old new = GivesBackNode (node_got got) old new
+  GivesBack (Fails fault) got old new = GivesBackNode (node_got got) old new
+
+  -- an item, after it was taken, is looked up, added, and given back where it was not written
+  pub record AddsLine
+      (plus : Bool) (parent max : ℕ) (i : Item)
+      (old : S) (room : Written) (result : Result ℕ (Option ℕ)) (new : S) (left : Written) : Type 0
+    where
+      pub got : Got
+      pub middle : S
+      pub looks_up : LooksUp plus (is_dot i.name) parent i old got middle
+      pub adds : AddsGot max (length room.left) got i room result left
+      pub gives_back : GivesBack (judged max (length room.left) got i) got middle new
+
+module _ {S I : Type 0}
+    (allows : S → Call → Handed I → S → Type 0) (gives : I → Option Item → I → Type 0)
+    (ctx : Context) where
+  -- A directory is read from an iterator: there is a run whose events are those of a listing, and
+  -- its records are put into the room. Behind them stands the beginning of one more where the room
+  -- was too small for it.
+  pub record ReadsItems
+      (plus : Bool) (parent size : ℕ) (it : I)
+      (old : S) (room : Written) (result : Result ℕ (Option ℕ)) (new : S) (left : Written) : Type 0
+    where
+      pub run : List (Happening I × S)
+      pub body : List ℕ
+      pub is_run : IsRun allows gives (Some it) old run new
+      pub listing : IsListing plus ctx parent size (length room.left) (events_of run) body result
+      pub puts :
+          Puts room
+          (body ++ cut_of size (length room.left) (sum_by line_len listing.lines) listing.stop)
+          left
+
+  -- `readdir` is called. The directory is read from the iterator that it hands back; or its fault
+  -- is the answer, and nothing is taken and nothing put.
+  pub record ReadsDirectory
+      (plus : Bool) (parent handle size offset : ℕ)
+      (old : S) (room : Written) (result : Result ℕ (Option ℕ)) (new : S) (left : Written) : Type 0
+    where
+      pub opened : Result I (Option ℕ)
+      pub middle : S
+      pub opens :
+          allows old (Readdir ctx parent handle size offset) (directory_answer opened) middle
+      pub reads :
+          MatchResult opened
+          (λ it. ReadsItems plus parent size it middle room result new left)
+          (λ fault. (result ≡ Err fault) × (new ≡ middle) × (left ≡ room))
+
+  -- the same in events: there is a run, which begins with no iterator at hand, and its events are
+  -- those of a whole READDIR or READDIRPLUS. What stands behind the records isn't said
+  pub record RunsDirectory
+      (plus : Bool) (parent handle size offset : ℕ)
+      (old : S) (room : Written) (result : Result ℕ (Option ℕ)) (new : S) (left : Written) : Type 0
+    where
+      pub run : List (Happening I × S)
+      pub body : List ℕ
+      pub beyond : List ℕ
+      pub is_run : IsRun allows gives None old run new
+      pub directory :
+          IsDirectory plus ctx parent handle size offset (length room.left) (events_of run) body
+          result
+      pub puts : Puts room (body ++ beyond) left

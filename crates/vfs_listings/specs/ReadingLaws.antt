@@ -1,0 +1,60 @@
+-- A directory that was read is a run of events.
+use Rattle.std.proofs.Common.{◌≡◌, ℕ, Bool, List, [], ◌∷◌, Option, Result, Ok, Err, MatchResult, inl, inr, refl, sym, ap, ◌∙◌, arith, append-nil, sum_by}
+use Rattle.vfs_segments.specs.Written.{Written}
+use Rattle.vfs_files.specs.Calls.{Call, Readdir, Handed, Failed, directory_answer}
+use Rattle.vfs_files.specs.Items.{Item}
+use Rattle.vfs_files.specs.Runs.{Calls, Opens, events_of}
+use Rattle.vfs_files.specs.declared.entry.Context.{Context}
+use Rattle.vfs_listings.specs.Listing.{line_len, cut_of}
+use Rattle.vfs_listings.specs.Reading.{Puts, ReadsItems, ReadsDirectory, RunsDirectory}
+
+-- nothing is put
+pub puts_nothing : (old new : Written) → new ≡ old → Puts old [] new
+puts_nothing old new e = record {
+  within = omega arith;
+  wrote = e
+      ∙ ap (λ (l : List ℕ). record old { passed = l }) (sym (append-nil old.passed));
+}
+
+module _ {S I : Type 0} (allows : S → Call → Handed I → S → Type 0)
+    (gives : I → Option Item → I → Type 0)
+    (ctx : Context) (plus : Bool) (parent handle size offset : ℕ)
+    (old : S) (room : Written) (result : Result ℕ (Option ℕ)) (new : S) (left : Written) where
+  run_by : (opened : Result I (Option ℕ)) (middle : S)
+      → allows old (Readdir ctx parent handle size offset) (directory_answer opened) middle
+      → MatchResult opened (λ it. ReadsItems allows gives ctx plus parent size it middle room result
+      new left) (λ fault. (result ≡ Err fault) × (new ≡ middle) × (left ≡ room))
+      → RunsDirectory allows gives ctx plus parent handle size offset old room result new left
+  run_by (Ok it) middle opens reads = record {
+    run = (Opens (Readdir ctx parent handle size offset) it, middle) ∷ reads.run;
+    body = reads.body;
+    beyond = cut_of size _ (sum_by line_len reads.listing.lines) reads.listing.stop;
+    is_run = (opens, reads.is_run);
+    directory = inr (record {
+      takings = events_of reads.run;
+      events_are = refl;
+      listing =
+          reads.listing;
+    });
+    puts = reads.puts;
+  }
+  run_by (Err fault) middle opens fails = record {
+    run = (Calls (Readdir ctx parent handle size offset) (Failed fault), middle) ∷ [];
+    body = [];
+    beyond = [];
+    is_run = (opens, fails.1);
+    directory = inl (record {
+      fault = fault;
+      events_are = refl;
+      body_is = refl;
+      answer_is =
+          fails.0;
+    });
+    puts = puts_nothing room left fails.2;
+  }
+
+  -- a directory that was read is a run
+  pub directory_runs : ReadsDirectory allows gives ctx plus parent handle size offset old room
+      result new left
+      → RunsDirectory allows gives ctx plus parent handle size offset old room result new left
+  directory_runs h = run_by h.opened h.middle h.opens h.reads

@@ -1,0 +1,179 @@
+//! The reading of a directory: each entry is taken, looked up for READDIRPLUS, and its record put,
+//! up to the first that isn't written.
+
+ghost use Rattle.std.specs.Prelude.{◌≡◌, ◌≤◌, Ok, IfOk};
+ghost use Rattle.vfs_files.specs.Entries.{context_of, entry_out_of};
+ghost use Rattle.vfs_files.specs.Items.{item};
+ghost use Rattle.vfs_listings.specs.Listing.{is_dot, dot_out, node_got, told};
+ghost use Rattle.vfs_listings.specs.Reading.{LooksUp, GivesBackNode, AddsLine, ReadsItems};
+ghost use Rattle.vfs_listings.specs.Reading.{ReadsDirectory};
+
+use crate::record::add_dirent;
+use std::time::Duration;
+use vfs_files::{Context, DirEntry, DirectoryIterator, Entry, FileSystem, Number};
+use vfs_flags::Fault;
+use vfs_segments::Writer;
+use vfs_wire::{Attr, InHeader, ReadIn};
+
+/// Whether a name is `.` or `..`.
+fn is_dot(name: &[u8]) -> bool
+    ensures { result ≡ is_dot name.now }
+{
+    name == b".".as_slice() || name == b"..".as_slice()
+}
+
+/// What `.` and `..` get: their number, and a mode that says their type and no more.
+fn dot_entry(dir_entry: DirEntry<'_>) -> Entry
+    ensures { entry_out_of result ≡ dot_out (item dir_entry.entry) }
+{
+    Entry {
+        inode: 0,
+        generation: 0,
+        attr: Attr {
+            ino: dir_entry.ino,
+            mode: dir_entry.type_.wrapping_mul(4096),
+            ..Attr::default()
+        },
+        attr_timeout: Duration::ZERO,
+        entry_timeout: Duration::ZERO,
+    }
+}
+
+/// What an entry of a directory gets: where `plus`, an `Entry`, which but for `.` and `..` is
+/// looked up.
+fn entry_of<F: FileSystem>(
+    fs: &mut F,
+    header: &InHeader,
+    plus: bool,
+    dir_entry: DirEntry<'_>,
+) -> Result<Option<Entry>, Fault>
+    ensures { LooksUp F.allows (context_of header.now) plus (is_dot (item dir_entry.entry).name)
+        header.now.nodeid (item dir_entry.entry) fs.old result fs.new }
+{
+    if !plus {
+        return Ok(None);
+    }
+    if is_dot(dir_entry.name.to_bytes()) {
+        return Ok(Some(dot_entry(dir_entry)));
+    }
+    let parent = F::Inode::from_number(header.nodeid);
+    match fs.lookup(Context::from(*header), parent, dir_entry.name) {
+        Ok(entry) => Ok(Some(entry)),
+        Err(fault) => Err(fault),
+    }
+}
+
+/// The node of an entry.
+fn node_of(entry: &Option<Entry>) -> Option<u64>
+    ensures { result ≡ node_got (Ok entry.now) }
+{
+    match entry {
+        Some(entry) => Some(entry.inode),
+        None => None,
+    }
+}
+
+/// Gives back one lookup of a node, where there is one.
+fn give_back<F: FileSystem>(fs: &mut F, header: &InHeader, node: Option<u64>)
+    ensures { GivesBackNode F.allows (context_of header.now) node fs.old fs.new }
+{
+    match node {
+        Some(node) => fs.forget(Context::from(*header), F::Inode::from_number(node), 1),
+        None => {}
+    }
+}
+
+/// Adds the record of a directory's entry, and gives back what it got where it isn't written.
+fn add_line<F: FileSystem>(
+    fs: &mut F,
+    header: &InHeader,
+    plus: bool,
+    w: &mut Writer,
+    max: usize,
+    dir_entry: DirEntry<'_>,
+) -> Result<usize, Fault>
+    ensures { AddsLine F.allows (context_of header.now) plus header.now.nodeid max
+        (item dir_entry.entry) fs.old w.old result fs.new w.new }
+{
+    let entry = entry_of(fs, header, plus, dir_entry)?;
+    let node = node_of(&entry);
+    let added = add_dirent(w, max, dir_entry, entry);
+    match added {
+        Ok(len) if len > 0 => Ok(len),
+        _ => {
+            give_back(fs, header, node);
+            added
+        }
+    }
+}
+
+/// What is answered where an entry fails behind this many bytes of records.
+fn tell(plus: bool, written: usize, fault: Fault) -> Result<usize, Fault>
+    ensures { result ≡ told plus written fault }
+{
+    if plus && written > 0 {
+        Ok(written)
+    } else {
+        Err(fault)
+    }
+}
+
+/// Reads a directory from its iterator.
+fn read_items<F: FileSystem>(
+    fs: &mut F,
+    header: &InHeader,
+    plus: bool,
+    it: &mut F::DirIter,
+    size: usize,
+    w: &mut Writer,
+) -> Result<usize, Fault>
+    ensures { ReadsItems F.allows F.DirIter.gives (context_of header.now) plus header.now.nodeid
+        size it.old fs.old w.old result fs.new w.new }
+{
+    let mut written = 0;
+    'items: loop {
+        match it.next() {
+            None => return Ok(written),
+            Some(entry) => match add_line(fs, header, plus, w, size - written, entry) {
+                Ok(0) => return Ok(written),
+                Ok(len) => written += len,
+                Err(fault) => return tell(plus, written, fault),
+            },
+        }
+    }
+}
+
+/// Serves READDIR or, where `plus`, READDIRPLUS, but for the reply's header: calls `readdir`, and
+/// puts the records of the entries where the writer stands, at most `read_in.size` bytes of them.
+/// For READDIRPLUS each entry but `.` and `..` is looked up before its record is put.
+///
+/// The reading stops at the directory's end, or at the first entry that isn't written: one whose
+/// `lookup` fails, one whose record doesn't fit into `read_in.size` any more, or one that
+/// [`add_dirent`] fails on. What that one's `lookup` answered is given back by a `forget`.
+///
+/// Answers how many bytes of records there are. A fault of `readdir` is answered as it is, and
+/// nothing is put. The fault of an entry is answered by READDIR whatever was put before, and by
+/// READDIRPLUS only where nothing was: what it put are entries that it looked up, and the client
+/// must have them. Where the room was too small for a record, its beginning stands behind those
+/// that count.
+pub fn read_directory<F: FileSystem>(
+    fs: &mut F,
+    header: &InHeader,
+    read_in: &ReadIn,
+    plus: bool,
+    w: &mut Writer,
+) -> Result<usize, Fault>
+    ensures reads { ReadsDirectory F.allows F.DirIter.gives (context_of header.now) plus
+        header.now.nodeid read_in.now.fh read_in.now.size read_in.now.offset
+        fs.old w.old result fs.new w.new }
+    ensures within { IfOk result (λ written. written ≤ read_in.now.size) }
+{
+    let mut it = fs.readdir(
+        Context::from(*header),
+        F::Inode::from_number(header.nodeid),
+        F::Handle::from_number(read_in.fh),
+        read_in.size,
+        read_in.offset,
+    )?;
+    read_items(fs, header, plus, &mut it, read_in.size as usize, w)
+}
