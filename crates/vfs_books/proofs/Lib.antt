@@ -1,0 +1,9 @@
+mod Decoding
+mod Sums
+mod Saying
+mod Table
+mod Replying
+mod Listings
+mod OneTurn
+mod InOrder
+mod Examples

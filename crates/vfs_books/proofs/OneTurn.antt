@@ -1,0 +1,111 @@
+-- The books of one turn.
+use Rattle.std.proofs.Common.{◌≡◌, ◌≢◌, ℕ, Bool, true, false, if◌then◌else◌, List, [], ◌∷◌, length, Result, Ok, refl, ap, sym, ◌∙◌, inl, inr, arith, zero-add}
+use Rattle.vfs_files.specs.Answers.{Answer}
+use Rattle.vfs_files.specs.Calls.{Call, kind_of}
+use Rattle.vfs_files.specs.Runs.{Called}
+use Rattle.vfs_messages.specs.Ask.{ask}
+use Rattle.vfs_messages.specs.Forms.{Ask, Ends, Asks, Copies}
+use Rattle.vfs_messages.specs.Reply.{Reply, Refusal, NoReply, Bytes, OpenBehind, Never, Saying, Fault, Body, Unsaid, Wrong, said_by, is_open, say, fault_reply, body_reply}
+use Rattle.vfs_messages.specs.Room.{IsReplied}
+use Rattle.vfs_messages.specs.Turn.{Turn, Follows, IsTurn, turn_tells}
+use Rattle.vfs_messages.specs.declared.limits.Limits.{Limits}
+use Rattle.vfs_messages.specs.declared.error.Error.{Error}
+use Rattle.vfs_messages.specs.declared.error.Error.TheVariants.{OutOfMemory}
+use Rattle.vfs_messages.proofs.Rooms.{length-fault_reply, length-body_reply}
+use Rattle.vfs_listings.specs.Nodes.{u64_at}
+use Rattle.vfs_books.specs.Books.{times, counts, opcode_in, answered_nodes, forgets_of, delivered_nodes, answered, sent}
+use Rattle.vfs_books.proofs.Decoding.{delivered_nodes-fault, delivered_nodes-body, u64_at-body}
+use Rattle.vfs_books.proofs.Replying.{ComesBack, put_back, Balances, reply_books, done_books, refused_books, LastOnly, no_event, one_event}
+use Rattle.vfs_books.proofs.Saying.{has_entry, node_first, NodesFit, FaultFits, ForgetsFit, nodes_fit, fault_fits, forgets_fit}
+use Rattle.vfs_books.proofs.Table.{CallFits, ReplyFits, AskFits, ask_fits}
+
+-- ---- what is said of an answer
+
+-- what came back where this is said of an answer
+abbrev SaidBack : (unique : ℕ) → Saying → Result ℕ Error → (room_after : List ℕ) → Type 0
+SaidBack unique (Fault fault) outcome room_after = ComesBack (fault_reply fault unique) outcome room_after
+SaidBack unique (Body body) outcome room_after = ComesBack (body_reply body unique) outcome room_after
+SaidBack unique Unsaid outcome room_after = outcome ≡ Ok 0
+SaidBack unique Wrong outcome room_after = ⊥
+
+said_back : (open_behind : Bool) (unique : ℕ) (s : Saying) (room : List ℕ) (outcome : Result ℕ Error) (room_after : List ℕ)
+    → IsReplied (said_by open_behind unique s) room outcome room_after → SaidBack unique s outcome room_after
+said_back false unique (Fault fault) room outcome room_after p = put_back (fault_reply fault unique) room outcome room_after p
+said_back false unique (Body body) room outcome room_after p = put_back (body_reply body unique) room outcome room_after p
+said_back false unique Unsaid room outcome room_after p = p.0
+said_back false unique Wrong room outcome room_after p = p
+said_back true unique (Fault fault) room outcome room_after p = inl (p.says, p.begins)
+said_back true unique (Body body) room outcome room_after p = inl (p.says, p.begins)
+said_back true unique Unsaid room outcome room_after p = absurd p
+said_back true unique Wrong room outcome room_after p = p
+
+-- the number that a body begins with, by its place in the reply
+first_behind : (entry : Bool) (body : List ℕ) (unique : ℕ)
+    → (if entry then u64_at 16 (body_reply body unique) ∷ [] else []) ≡ node_first entry body
+first_behind true body unique = ap (λ (k : ℕ). k ∷ []) (u64_at-body body unique)
+first_behind false body unique = refl
+
+-- ---- the books
+
+module _ (n : ℕ) (t : Turn) where
+  -- what comes back without a call
+  end_books : (reply : Reply) → ReplyFits (opcode_in t.request) t.request reply → t.events ≡ []
+      → IsReplied reply t.room t.outcome t.room_after → Balances n t
+  end_books (Refusal e) fits none p = refused_books n t e none p.0
+  end_books NoReply fits none p =
+      done_books n t p.0 (ap (answered n) none) (ap (sent n) none ∙ ap (counts n) (sym fits))
+  end_books (Bytes reply) fits none p =
+      reply_books n t reply (put_back reply t.room t.outcome t.room_after p) fits.0 (ap (answered n) none ∙ ap (times n) (sym fits.1)) (ap (sent n) none)
+  end_books (OpenBehind reply) fits none p = absurd fits
+  end_books Never fits none p = absurd fits
+
+  module _ (c : Call) (answer : Answer) (called : t.events ≡ Called c answer ∷ [])
+      (fits : CallFits (opcode_in t.request) t.request c) where
+    one_answered : (nodes : List ℕ) → answered_nodes c answer ≡ nodes → answered n t.events ≡ times n nodes
+    one_answered nodes e = ap (answered n) called ∙ zero-add _ ∙ ap (times n) e
+
+    one_sent : (forgets : List (ℕ × ℕ)) → forgets_of c ≡ forgets → sent n t.events ≡ counts n forgets
+    one_sent forgets e = ap (sent n) called ∙ zero-add _ ∙ ap (counts n) e
+
+    -- what is said of the answer
+    said_books : (unique : ℕ) (s : Saying) → NodesFit (answered_nodes c answer) (has_entry (kind_of c)) s → FaultFits s → ForgetsFit (forgets_of c) s
+        → SaidBack unique s t.outcome t.room_after → Balances n t
+    said_books unique (Fault fault) nodes small forgets back =
+        let none : delivered_nodes (opcode_in t.request) (fault_reply fault unique) ≡ [] = delivered_nodes-fault (opcode_in t.request) fault unique small.0 small.1 in
+        reply_books n t (fault_reply fault unique) back (omega (arith, length-fault_reply fault unique))
+        (one_answered [] nodes ∙ ap (times n) (sym none)) (one_sent [] forgets)
+    said_books unique (Body body) nodes small forgets back =
+        let reply = body_reply body unique in
+        let decoded : delivered_nodes (opcode_in t.request) reply ≡ node_first (has_entry (kind_of c)) body =
+        delivered_nodes-body (opcode_in t.request) body unique ∙ fits.nodes reply ∙ first_behind (has_entry (kind_of c)) body unique in
+        reply_books n t reply back (omega (arith, length-body_reply body unique))
+        (one_answered (node_first (has_entry (kind_of c)) body) nodes ∙ ap (times n) (sym decoded)) (one_sent [] forgets)
+    said_books unique Unsaid nodes small forgets back = done_books n t back (one_answered [] nodes) (one_sent _ fits.forgets)
+    said_books unique Wrong nodes small forgets back = absurd back
+
+  -- what a request asks
+  ask_books : (limits : Limits) (options : ℕ) (a : Ask) (after : ℕ) → AskFits (opcode_in t.request) t.request a
+      → Follows (turn_tells t) limits options a after → Balances n t
+  ask_books limits options (Ends reply) after fits f = end_books reply fits f.0 f.1
+  ask_books limits options (Asks echo c) after fits f =
+      let s = say limits echo after (kind_of c) f.0 in
+      said_books c f.0 f.1 fits echo.unique s (nodes_fit limits echo after c f.0 f.2) (fault_fits limits echo after (kind_of c) f.0 f.2)
+      (forgets_fit limits echo after c f.0)
+      (said_back (is_open (kind_of c)) echo.unique s t.room t.outcome t.room_after f.3)
+  ask_books limits options (Copies rest) after fits (inl f) = ask_books limits options rest after fits f
+  ask_books limits options (Copies rest) after fits (inr f) = refused_books n t OutOfMemory f.0 f.1.0
+
+pub turn_books : (n : ℕ) (limits : Limits) (options : ℕ) (t : Turn) (after : ℕ) → n ≢ 0 → IsTurn limits options t after → Balances n t
+turn_books n limits options t after some turn =
+    ask_books n t limits options (ask limits options (length t.room) t.request) after (ask_fits limits options (length t.room) t.request) turn
+
+-- ---- in the middle of a request
+
+ask_last : (n : ℕ) (limits : Limits) (options : ℕ) (a : Ask) (t : Turn) (after : ℕ) → Follows (turn_tells t) limits options a after → LastOnly n t.events
+ask_last n limits options (Ends reply) t after f = no_event n t.events f.0
+ask_last n limits options (Asks echo c) t after f = one_event n _ t.events f.1
+ask_last n limits options (Copies rest) t after (inl f) = ask_last n limits options rest t after f
+ask_last n limits options (Copies rest) t after (inr f) = no_event n t.events f.0
+
+pub turn_last : (n : ℕ) (limits : Limits) (options : ℕ) (t : Turn) (after : ℕ) → IsTurn limits options t after → LastOnly n t.events
+turn_last n limits options t after turn = ask_last n limits options (ask limits options (length t.room) t.request) t after turn

@@ -1,0 +1,4 @@
+pub mod Books
+pub mod Turns
+pub mod TurnLaws
+pub mod Laws
