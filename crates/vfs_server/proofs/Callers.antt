@@ -1,5 +1,5 @@
 -- What a step says of one request that is written out.
-use Rattle.std.proofs.Common.{◌≡◌, ◌≤◌, ℕ, Bool, false, List, [], ◌∷◌, ◌++◌, length, drop, nat_lt, Option, None, Result, Ok, ap, sym, ◌∙◌, arith, subst}
+use Rattle.std.proofs.Common.{◌≡◌, ◌≤◌, ℕ, Bool, false, List, [], ◌∷◌, ◌++◌, length, drop, nat_lt, Option, None, Result, Ok, Err, ap, sym, ◌∙◌, arith, subst}
 use Rattle.std.proofs.lemmas.Bool.Decides.{nat_tests}
 use Rattle.std.proofs.lemmas.List.{drop_all}
 use Rattle.vfs_flags.specs.Errors.{enosys}
@@ -13,7 +13,7 @@ use Rattle.vfs_files.specs.Calls.{Call, Statfs, default_answer}
 use Rattle.vfs_files.specs.Entries.{context_of}
 use Rattle.vfs_files.specs.Runs.{Called, Happening, Calls, Opens, Takes, IsRun, events_of}
 use Rattle.vfs_messages.specs.Ask.{ask}
-use Rattle.vfs_messages.specs.Forms.{Ask, Asks, within, faulted}
+use Rattle.vfs_messages.specs.Forms.{Ask, Asks, within, faulted, refused}
 use Rattle.vfs_messages.specs.Limits.{max_len}
 use Rattle.vfs_messages.specs.Reply.{echo_of, reply_of}
 use Rattle.vfs_messages.specs.Room.{IsReplied}
@@ -21,10 +21,11 @@ use Rattle.vfs_messages.specs.Turn.{Turn, Follows, turn_tells}
 use Rattle.vfs_messages.specs.Uses.{not_served_reply}
 use Rattle.vfs_messages.specs.declared.limits.Limits.{Limits}
 use Rattle.vfs_messages.specs.declared.error.Error.{Error}
+use Rattle.vfs_messages.specs.declared.error.Error.TheVariants.{EncodeMessage}
 use Rattle.vfs_messages.proofs.Rooms.{put_outcome-fits, put_room-fits}
 use Rattle.vfs_server.specs.Step.{ServerState, IsStep}
 use Rattle.vfs_server.specs.Uses.{statfs_reply}
-use Rattle.vfs_server.specs.declared.uses.TheConstants.{STATFS, UNKNOWN}
+use Rattle.vfs_server.specs.declared.uses.TheConstants.{READ, STATFS, UNKNOWN}
 
 -- a `len` of 40 is within every limit
 len_40_is_within : (limits : Limits) → nat_lt (max_len limits) 40 ≡ false
@@ -61,6 +62,35 @@ module _ {S I : Type 0} (allows : S → Call → Handed I → S → Type 0) (giv
         bytes = s.leaves.kept ∙ ap (λ (l : List ℕ). writer.passed ++ l) (f.1.leaves ∙ put_room-fits not_served_reply writer.left room);
         state = IsRun-no_events old.fs new.fs s.run s.is_run f.0;
         options = f.2;
+      }
+
+-- what the request asks
+ask-read : (limits : Limits) (options : ℕ) → ask limits options 8 READ ≡ refused EncodeMessage
+unfolding number opcode_of
+ask-read limits options =
+    let in_limit : nat_lt (max_len limits) 80 ≡ false = grind (arith, nat_tests) in
+    ap (λ (above : Bool). within above (value_of in_header READ) (refused EncodeMessage)) in_limit
+
+module _ {S I : Type 0} (allows : S → Call → Handed I → S → Type 0) (gives : I → Option Item → I → Type 0) where
+  -- what is seen of READ with a room that is too small for a header
+  pub record Refused (old : ServerState S) (writer : Written) (outcome : Result ℕ Error) (writer_after : Written) (new : ServerState S) : Type 0 where
+    pub outcome_is : outcome ≡ Err EncodeMessage
+    pub bytes : whole writer_after ≡ whole writer
+    pub state : new.fs ≡ old.fs
+
+  pub step-read : (old : ServerState S) (writer : Written) (outcome : Result ℕ Error) (writer_after : Written) (new : ServerState S) → IsStep allows gives old READ writer outcome writer_after new → length writer.left ≡ 8
+      → Refused old writer outcome writer_after new
+  unfolding number
+  step-read old writer outcome writer_after new s room =
+      let t : Turn = record { request = READ; room = writer.left; events = events_of s.run; outcome = outcome; room_after = s.room_after } in
+      let P : Ask → Type 0 = λ a. Follows (turn_tells t) old.limits old.options a new.options in
+      let asks : ask old.limits old.options (length writer.left) READ ≡ refused EncodeMessage =
+      ap (λ (n : ℕ). ask old.limits old.options n READ) room ∙ ask-read old.limits old.options in
+      let f = subst P asks s.turn in
+      record {
+        outcome_is = f.1.0;
+        bytes = s.leaves.kept ∙ ap (λ (l : List ℕ). writer.passed ++ l) f.1.1;
+        state = IsRun-no_events allows gives old.fs new.fs s.run s.is_run f.0;
       }
 
 -- what the request asks

@@ -2,9 +2,9 @@
 use Rattle.std.specs.Prelude.{◌≡◌, length, ℕ, List, Option, None, Result}
 use Rattle.vfs_flags.specs.declared.opcode.Opcode.{Opcode}
 use Rattle.vfs_wire.specs.declared.headers.InHeader.{InHeader}
-use Rattle.vfs_segments.specs.Written.{Written}
+use Rattle.vfs_segments.specs.Written.{Written, Moves}
 use Rattle.vfs_files.specs.Items.{Item}
-use Rattle.vfs_files.specs.Calls.{Call, Handed, Plain}
+use Rattle.vfs_files.specs.Calls.{Call, Handed, Plain, Counts, read_answer}
 use Rattle.vfs_files.specs.Runs.{Happening, IsRun, events_of}
 use Rattle.vfs_messages.specs.Forms.{Ask}
 use Rattle.vfs_messages.specs.Ask.{ask_opcode}
@@ -45,6 +45,18 @@ module _ {S I : Type 0} (allows : S → Call → Handed I → S → Type 0) wher
   Serves opcode header rest old writer outcome writer_after new =
       Handles (ask_opcode old.limits old.options (length writer.left) opcode header rest)
       old writer outcome writer_after new
+
+-- A READ was passed on: the file system was called so, with a writer lent to it, put some bytes
+-- into the writer, and gave this answer.
+pub record ReadsInto {S I : Type 0} (allows : S → Call → Handed I → S → Type 0) (call : Call)
+    (size : ℕ) (old : ServerState S) (writer : Written) (answer : Result ℕ (Option ℕ))
+    (writer_after : Written) (new : ServerState S) : Type 0 where
+  pub bytes : List ℕ
+  pub moves : Moves writer bytes writer_after
+  pub counts : Counts answer bytes size
+  pub allowed : allows old.fs call (Plain (read_answer answer bytes)) new.fs
+  pub same_options : new.options ≡ old.options
+  pub same_limits : new.limits ≡ old.limits
 
 -- One step: a run of the file system from its state before to that after, whose events are those
 -- of a turn of the request; the bytes that the writer had passed stay, and its room is as the

@@ -2,7 +2,7 @@
 
 pub use vfs_files::{
     CStr, CString, Context, DirEntry, DirectoryIterator, Entry, Extensions, FileSystem,
-    GetxattrReply, ListxattrReply, Number, SecContext, defaults,
+    GetxattrReply, ListxattrReply, Number, SecContext, ZeroCopyReader, ZeroCopyWriter, defaults,
 };
 pub use vfs_flags::{FsOptions, OpenOptions, ROOT_ID, SetattrValid, SetxattrFlags};
 pub use vfs_wire_more::RemovemappingOne;

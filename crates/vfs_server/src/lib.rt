@@ -10,8 +10,6 @@ pub mod descriptor_utils;
 pub mod filesystem;
 pub mod fuse;
 pub mod server;
-#[cfg(test)]
-mod tests;
 pub mod uses;
 
 pub use vfs_messages::{

@@ -2,6 +2,7 @@
 //! the writer's room. The handlers of the opcodes stand in files by subject.
 
 mod attributes;
+mod contents;
 mod directories;
 mod files;
 mod locks;
@@ -10,21 +11,25 @@ mod others;
 mod session;
 mod xattrs;
 
-ghost use Rattle.std.specs.Prelude.{◌≡◌, ◌≤◌, length};
+ghost use Rattle.std.specs.Prelude.{◌≡◌, ◌≤◌, length, map, vec_len};
 ghost use Rattle.vfs_flags.specs.Flags.{fs_options_bits};
 ghost use Rattle.vfs_segments.specs.Written.{held_over};
 ghost use Rattle.vfs_files.specs.Calls.{Destroy};
 ghost use Rattle.vfs_files.specs.Answers.{Plain, Done};
 ghost use Rattle.vfs_messages.specs.Ask.{ask_header};
+ghost use Rattle.vfs_server.specs.Session.{IsSession};
 ghost use Rattle.vfs_server.specs.Step.{IsStep, Handles, Serves};
 
 use bitflags::Flags;
 use std::alloc::Global;
 use std::marker::Model;
+use vfs_books::laws::turns_keep_books;
 use vfs_files::FileSystem;
+use vfs_files::laws::runs_join;
 use vfs_flags::{Errno, FsOptions, Opcode};
 use vfs_messages::{DEFAULT_MAX_BUFFER, Limits, Result, read_record, reply_failed};
 use vfs_segments::{Reader, Writer};
+pub use vfs_transfers::{ZcReader, ZcWriter};
 use vfs_wire::InHeader;
 
 /// A server of one client over a file system.
@@ -133,7 +138,9 @@ impl<F: FileSystem> Server<F> {
     /// `InvalidCString` where a last name or text has no end or another byte behind it,
     /// `OutOfMemory` where there is no memory for a tail or a list that is whole. After any error
     /// but `EncodeMessage` no call was made, nothing was written, and the options are the old ones.
-    /// After `EncodeMessage` the room holds the beginning of a reply that was too long for it.
+    /// After `EncodeMessage` the room holds the beginning of a reply that was too long for it; or
+    /// the request was a READ and the room too small for a header: then too no call was made and
+    /// nothing was written.
     ///
     /// A hold that the caller left on `w` is given up first. What `w` had passed before stays, held
     /// bytes too; where it stands afterwards isn't said.
@@ -149,6 +156,34 @@ impl<F: FileSystem> Server<F> {
     {
         give_up_hold(w);
         self.handle(alloc, &mut r, w)
+    }
+
+    /// Handles requests in order, each by [`handle_message`](Server::handle_message): the k-th from
+    /// the k-th reader, with the k-th writer, and its outcome goes to the k-th place of `outcomes`.
+    /// An outcome of one request never ends the list. It takes no memory of its own.
+    ///
+    /// For each node number but 0 the books balance over the session: entries answered and forgets
+    /// accepted are entries delivered, entries lost and forgets sent.
+    pub fn handle_session(
+        &mut self,
+        alloc: Global,
+        readers: Vec<Reader<'_>>,
+        writers: &mut [Writer],
+        outcomes: &mut [Result<usize>],
+    )
+        requires writers { length writers.old ≡ vec_len readers }
+        requires outcomes { length outcomes.old ≡ vec_len readers }
+        ensures session { IsSession F.allows F.DirIter.gives
+            self.old (map (λ r. r.left) readers.entry.items) writers.old
+            outcomes.new writers.new self.new }
+    {
+        runs_join::<F>();
+        turns_keep_books();
+        let mut at = 0;
+        for reader in readers {
+            outcomes[at] = self.handle_message(alloc, reader, &mut writers[at]);
+            at += 1;
+        }
     }
 
     /// Handles a request with a writer that holds nothing.
@@ -211,6 +246,8 @@ impl<F: FileSystem> Server<F> {
             Opcode::Rename => self.rename(alloc, header, r, w),
             Opcode::Link => self.link(alloc, header, r, w),
             Opcode::Open => self.open(header, r, w),
+            Opcode::Read => self.read(alloc, header, r, w),
+            Opcode::Write => self.write(alloc, header, r, w),
             Opcode::Statfs => self.statfs(header, r, w),
             Opcode::Release => self.release(header, r, w),
             Opcode::Fsync => self.fsync(header, r, w),

@@ -8,7 +8,7 @@ ghost use Rattle.vfs_segments.specs.Segments.{contents, flat_bytes};
 ghost use Rattle.vfs_segments.specs.Written.{whole};
 ghost use Rattle.vfs_messages.specs.Laws.{header_of};
 ghost use Rattle.vfs_messages.specs.Uses.{not_served_reply};
-ghost use Rattle.vfs_messages.specs.declared.error.Error.TheVariants.{OutOfMemory};
+ghost use Rattle.vfs_messages.specs.declared.error.Error.TheVariants.{EncodeMessage, OutOfMemory};
 ghost use Rattle.vfs_server.specs.Uses.{statfs_reply};
 
 use crate::server::Server;
@@ -103,6 +103,33 @@ pub fn behind_a_hold<F: FileSystem>(
 {
     w.hold(16).ok()?;
     unknown_opcode(alloc, server, w)
+}
+
+/// Request 9, READ of three bytes of node 2: a header and a record, of 80 bytes.
+const READ: [u8; 80] = [
+    80, 0, 0, 0, 15, 0, 0, 0, 9, 0, 0, 0, 0, 0, 0, 0, 2, 0, 0, 0, 0, 0, 0, 0, 0, 0, 0, 0, 0, 0, 0,
+    0, 0, 0, 0, 0, 0, 0, 0, 0, 0, 0, 0, 0, 0, 0, 0, 0, 0, 0, 0, 0, 0, 0, 0, 0, 3, 0, 0, 0, 0, 0, 0,
+    0, 0, 0, 0, 0, 0, 0, 0, 0, 0, 0, 0, 0, 0, 0, 0, 0,
+];
+
+/// Hands over a READ with eight bytes of room, which is too small for a header: it is refused, the
+/// bytes of the room are as they were, and the file system wasn't called. `None` where there is no
+/// memory for the reader.
+pub fn read_into_eight_bytes<F: FileSystem>(
+    alloc: Global,
+    server: &mut Server<F>,
+    w: &mut Writer,
+) -> Option<Result<usize>>
+    requires { length w.old.left ≡ 8 }
+    ensures outcome { IfSome result (λ outcome. outcome ≡ Err EncodeMessage) }
+    ensures bytes { OnSome result (whole w.new ≡ whole w.old) }
+    ensures state { OnSome result (server.new.fs ≡ server.old.fs) }
+{
+    let segments = [READ.as_slice()];
+    let Ok(reader) = Reader::new(alloc, &segments) else {
+        return None;
+    };
+    Some(server.handle_message(alloc, reader, w))
 }
 
 /// Hands over a GETATTR, which has no tail: whatever its bytes, the room and the cutting, it is
