@@ -1,5 +1,5 @@
 -- The outcome of an answer that names no node, at each kind of such an answer.
-use Rattle.std.proofs.Common.{◌≡◌, ℕ, Option, Result, Ok, Err, Vec, refl}
+use Rattle.std.proofs.Common.{◌≡◌, ℕ, List, Option, Result, Ok, Err, Vec, refl}
 use Rattle.std.specs.declared.alloc.Global.{Global}
 use Rattle.std.specs.declared.time.Duration.{Duration}
 use Rattle.vfs_flags.specs.declared.fs_options.FsOptions.{FsOptions}
@@ -10,8 +10,13 @@ use Rattle.vfs_files.specs.declared.xattr.GetxattrReply.{GetxattrReply}
 use Rattle.vfs_files.specs.declared.xattr.GetxattrReply.TheVariants as getxattr
 use Rattle.vfs_files.specs.declared.xattr.ListxattrReply.{ListxattrReply}
 use Rattle.vfs_files.specs.declared.xattr.ListxattrReply.TheVariants as listxattr
-use Rattle.vfs_files.specs.Answers.{init_answer, attr_answer, done_answer, opened_answer, statistics_answer, text_answer, getxattr_answer, listxattr_answer, offset_answer, written_answer}
+use Rattle.vfs_files.specs.Answers.{init_answer, attr_answer, done_answer, opened_answer, statistics_answer, text_answer, getxattr_answer, listxattr_answer, offset_answer, written_answer, read_answer}
+use Rattle.vfs_files.specs.Answers.{directory_answer}
+use Rattle.vfs_files.specs.Calls.{Readdir}
+use Rattle.vfs_files.specs.declared.entry.Context.{Context}
+use Rattle.vfs_bench.specs.Notes.{note_of_handed}
 use Rattle.vfs_bench.specs.Outcomes.{outcome_of, plain_outcome}
+use Rattle.vfs_bench.specs.declared.outcome.Outcome.{Outcome}
 
 -- of a call that answers only whether it was done
 pub plain_outcome-done : (r : Result (Unit {0}) (Option ℕ)) → plain_outcome r ≡ outcome_of (done_answer r)
@@ -75,5 +80,19 @@ unfolding plain_outcome
 plain_outcome-written (Ok count) = refl
 plain_outcome-written (Err fault) = refl
 
+-- of the bytes that were put
+pub plain_outcome-read : (r : Result ℕ (Option ℕ)) (bytes : List ℕ)
+    → plain_outcome r ≡ outcome_of (read_answer r bytes)
+unfolding plain_outcome
+plain_outcome-read (Ok count) bytes = refl
+plain_outcome-read (Err fault) bytes = refl
+
+-- the note of a directory that was opened, or of the fault
+pub noted-directory : {I : Type 0} (ctx : Context) (inode handle size offset : ℕ) (r : Result I (Option ℕ)) (outcome : Outcome) → outcome ≡ plain_outcome r
+    → note_of_handed (Readdir ctx inode handle size offset) (directory_answer r) ≡ record { call = 28; node = inode; count = 0; kind = outcome.kind; value = outcome.value }
+unfolding plain_outcome
+noted-directory ctx inode handle size offset (Ok it) outcome e = rw e refl
+noted-directory ctx inode handle size offset (Err fault) outcome e = rw e refl
+
 -- all of them but that of attributes, whose type of answer a search does not match
-pub ruleset plain_outcomes = (plain_outcome-done, plain_outcome-init, plain_outcome-opened, plain_outcome-statistics, plain_outcome-text, plain_outcome-getxattr, plain_outcome-listxattr, plain_outcome-offset, plain_outcome-written)
+pub ruleset plain_outcomes = (plain_outcome-done, plain_outcome-init, plain_outcome-opened, plain_outcome-statistics, plain_outcome-text, plain_outcome-getxattr, plain_outcome-listxattr, plain_outcome-offset, plain_outcome-written, plain_outcome-read)

@@ -1,6 +1,6 @@
 -- Notes of calls.
 use Rattle.std.specs.Prelude.{ℕ, List, [], ◌∷◌, unwrap_or, length}
-use Rattle.vfs_files.specs.Calls.{Call, Lookup, Forget, Getattr, Setattr, Readlink, Symlink, Mknod, Mkdir, Unlink, Rmdir, Rename, Link, Open, Statfs, Release, Fsync, Setxattr, Getxattr, Listxattr, Removexattr, Flush, Init, Opendir, Releasedir, Fsyncdir, Getlk, Setlk, Setlkw, Access, Create, Bmap, Destroy, Ioctl, Poll, NotifyReply, BatchForget, Fallocate, Lseek, Copyfilerange, Syncfs, Tmpfile}
+use Rattle.vfs_files.specs.Calls.{Call, Lookup, Forget, Getattr, Setattr, Readlink, Symlink, Mknod, Mkdir, Unlink, Rmdir, Rename, Link, Open, Read, Write, Statfs, Release, Fsync, Setxattr, Getxattr, Listxattr, Removexattr, Flush, Init, Opendir, Readdir, Releasedir, Fsyncdir, Getlk, Setlk, Setlkw, Access, Create, Bmap, Destroy, Ioctl, Poll, NotifyReply, BatchForget, Fallocate, Lseek, Copyfilerange, Syncfs, Tmpfile}
 use Rattle.vfs_files.specs.Answers.{Answer, Done, Failed, Found, Created, Handed, Plain, Iterator}
 use Rattle.vfs_files.specs.Runs.{Event, Called, Opened, Taken}
 use Rattle.vfs_bench.specs.declared.note.Note.{Note}
@@ -54,6 +54,9 @@ note_of (Rmdir ctx parent name) = asked 11 parent
 note_of (Rename ctx olddir oldname newdir newname flags) = asked 12 olddir
 note_of (Link ctx inode newparent newname) = asked 13 inode
 note_of (Open ctx inode kill_priv flags) = asked 14 inode
+note_of (Read ctx inode handle room size offset lock_owner flags) = asked 15 inode
+note_of (Write ctx inode handle bytes size offset lock_owner delayed_write kill_priv flags) =
+    asked 16 inode
 note_of (Statfs ctx inode) = asked 17 inode
 note_of (Release ctx inode flags handle flush flock_release lock_owner) = asked 18 inode
 note_of (Fsync ctx inode datasync handle) = asked 20 inode
@@ -64,6 +67,7 @@ note_of (Removexattr ctx inode name) = asked 24 inode
 note_of (Flush ctx inode handle lock_owner) = asked 25 inode
 note_of (Init capable) = asked 26 0
 note_of (Opendir ctx inode flags) = asked 27 inode
+note_of (Readdir ctx inode handle size offset) = asked 28 inode
 note_of (Releasedir ctx inode flags handle) = asked 29 inode
 note_of (Fsyncdir ctx inode datasync handle) = asked 30 inode
 note_of Getlk = asked 31 0

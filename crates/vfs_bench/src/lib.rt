@@ -2,15 +2,15 @@
 //! calls of another, and one that answers what its maker says.
 #![tactic(auto)]
 
+mod file;
 pub mod laws;
 mod note;
 mod outcome;
 mod recorder;
 mod script;
-#[cfg(test)]
-mod tests;
 pub mod uses;
 
+pub use file::ScriptFile;
 pub use note::{Note, NoteKind};
 pub use recorder::Recorder;
 pub use script::Script;

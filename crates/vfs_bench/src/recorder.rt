@@ -15,6 +15,7 @@ use std::marker::Model;
 use std::time::Duration;
 use vfs_files::{
     CStr, Context, Entry, Extensions, FileSystem, GetxattrReply, ListxattrReply, Number,
+    ZeroCopyReader, ZeroCopyWriter,
 };
 use vfs_flags::{Errno, Fault, FsOptions, Opcode, OpenOptions, SetattrValid, SetxattrFlags};
 use vfs_wire::{Attr, SetattrIn, Statvfs64};
@@ -313,6 +314,55 @@ impl<F: FileSystem> FileSystem for Recorder<F> {
         answer
     }
 
+    fn read<W: ZeroCopyWriter>(
+        &mut self,
+        ctx: Context,
+        inode: F::Inode,
+        handle: F::Handle,
+        w: &mut W,
+        size: u32,
+        offset: u64,
+        lock_owner: Option<u64>,
+        flags: u32,
+    ) -> Result<usize, Fault> {
+        let node = inode.number();
+        let answer = self
+            .inner
+            .read(ctx, inode, handle, w, size, offset, lock_owner, flags);
+        self.note_asked(Opcode::Read, node, Outcome::of(&answer));
+        answer
+    }
+
+    fn write<R: ZeroCopyReader>(
+        &mut self,
+        ctx: Context,
+        inode: F::Inode,
+        handle: F::Handle,
+        r: &mut R,
+        size: u32,
+        offset: u64,
+        lock_owner: Option<u64>,
+        delayed_write: bool,
+        kill_priv: bool,
+        flags: u32,
+    ) -> Result<u32, Fault> {
+        let node = inode.number();
+        let answer = self.inner.write(
+            ctx,
+            inode,
+            handle,
+            r,
+            size,
+            offset,
+            lock_owner,
+            delayed_write,
+            kill_priv,
+            flags,
+        );
+        self.note_asked(Opcode::Write, node, Outcome::of(&answer));
+        answer
+    }
+
     fn statfs(&mut self, ctx: Context, inode: F::Inode) -> Result<Statvfs64, Fault> {
         let node = inode.number();
         let answer = self.inner.statfs(ctx, inode);
@@ -432,6 +482,20 @@ impl<F: FileSystem> FileSystem for Recorder<F> {
         let node = inode.number();
         let answer = self.inner.opendir(ctx, inode, flags);
         self.note_asked(Opcode::Opendir, node, Outcome::of(&answer));
+        answer
+    }
+
+    fn readdir(
+        &mut self,
+        ctx: Context,
+        inode: F::Inode,
+        handle: F::Handle,
+        size: u32,
+        offset: u64,
+    ) -> Result<F::DirIter, Fault> {
+        let node = inode.number();
+        let answer = self.inner.readdir(ctx, inode, handle, size, offset);
+        self.note_asked(Opcode::Readdir, node, Outcome::of(&answer));
         answer
     }
 

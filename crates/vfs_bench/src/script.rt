@@ -1,6 +1,6 @@
 //! A file system that answers what its maker says.
 
-ghost use Rattle.std.specs.Prelude.{◌≡◌, Ok, Err, IfOk, IfErr};
+ghost use Rattle.std.specs.Prelude.{◌≡◌, ℕ, List, None, Ok, Err, IfOk, IfErr};
 ghost use Rattle.vfs_flags.specs.Flags.{setattr_valid_bits};
 ghost use Rattle.vfs_files.specs.Calls.{Getattr, Setattr, BatchForget, Options, Plain, Done};
 ghost use Rattle.vfs_files.specs.Calls.{not_served, default_opening, default_statistics};
@@ -9,10 +9,11 @@ ghost use Rattle.vfs_files.specs.Calls.{getxattr_answer, listxattr_answer};
 ghost use Rattle.vfs_files.specs.Answers.{FitsText, KeepsTextShort};
 ghost use Rattle.vfs_bench.specs.Scripts.{stays};
 
+use crate::file::ScriptFile;
 use std::time::Duration;
 use vfs_files::{
     CStr, Context, Entry, Extensions, FileSystem, GetxattrReply, ListxattrReply, NoEntries,
-    defaults,
+    ZeroCopyReader, ZeroCopyWriter, defaults,
 };
 use vfs_flags::{Errno, Fault, FsOptions, OpenOptions, SetattrValid, SetxattrFlags};
 use vfs_wire::{Attr, SetattrIn, Statvfs64};
@@ -54,6 +55,9 @@ pub struct Script {
     pub names: Result<ListxattrReply, Fault>,
     /// What `lseek` answers.
     pub offset: Result<u64, Fault>,
+    /// The file that `read` and `write` move bytes of and into, whatever node they are about, or
+    /// none: then they are not served.
+    pub file: Option<ScriptFile>,
     /// What `copyfilerange` answers.
     pub written: Result<u32, Fault>,
     /// What each call answers that says only whether it was done, as `unlink`.
@@ -75,6 +79,7 @@ impl Script {
         ensures value { result.value ≡ Err not_served }
         ensures names { result.names ≡ Err not_served }
         ensures offset { result.offset ≡ Err not_served }
+        ensures file { result.file ≡ None }
         ensures written { result.written ≡ Err not_served }
         ensures done { result.done ≡ Err not_served }
         ensures tmpfile { result.tmpfile ≡ not_served }
@@ -90,6 +95,7 @@ impl Script {
             value: defaults::no_such_call::<GetxattrReply>(),
             names: defaults::no_such_call::<ListxattrReply>(),
             offset: defaults::no_such_call::<u64>(),
+            file: None,
             written: defaults::no_such_call::<u32>(),
             done: defaults::no_such_call::<()>(),
             tmpfile: defaults::tmpfile(),
@@ -145,6 +151,24 @@ fn same_bytes(bytes: &Vec<u8>) -> Result<Vec<u8>, Fault>
         return Err(Some(Errno::ERANGE));
     }
     bytes.clone().map_err(|_| Some(Errno::ENOMEM))
+}
+
+/// How many bytes `read` puts at most: with those of their header they can be counted in a reply.
+const MOST_PUT: u32 = u32::MAX - 16;
+
+/// Moves up to `size` bytes into the file, and answers how many.
+fn write_file<R: ZeroCopyReader>(
+    file: &mut ScriptFile,
+    r: &mut R,
+    size: u32,
+    offset: u64,
+) -> Result<u32, Fault>
+    ensures { (bytes : List ℕ) × R.takes r.old bytes r.new }
+{
+    match r.write_to_file_at(file, size as usize, offset, None) {
+        Ok(count) => Ok(count as u32),
+        Err(fault) => Err(fault),
+    }
 }
 
 /// The same text as `same_bytes` gives it, or the fault.
@@ -311,6 +335,42 @@ impl FileSystem for Script {
         self.opening
     }
 
+    fn read<W: ZeroCopyWriter>(
+        &mut self,
+        ctx: Context,
+        inode: u64,
+        handle: u64,
+        w: &mut W,
+        size: u32,
+        offset: u64,
+        lock_owner: Option<u64>,
+        flags: u32,
+    ) -> Result<usize, Fault> {
+        match &mut self.file {
+            Some(file) => w.read_from_file_at(file, size.min(MOST_PUT) as usize, offset),
+            None => defaults::no_such_call::<usize>(),
+        }
+    }
+
+    fn write<R: ZeroCopyReader>(
+        &mut self,
+        ctx: Context,
+        inode: u64,
+        handle: u64,
+        r: &mut R,
+        size: u32,
+        offset: u64,
+        lock_owner: Option<u64>,
+        delayed_write: bool,
+        kill_priv: bool,
+        flags: u32,
+    ) -> Result<u32, Fault> {
+        match &mut self.file {
+            Some(file) => write_file(file, r, size, offset),
+            None => defaults::no_such_call::<u32>(),
+        }
+    }
+
     fn statfs(&mut self, ctx: Context, inode: u64) -> Result<Statvfs64, Fault> {
         self.statistics
     }
@@ -389,6 +449,17 @@ impl FileSystem for Script {
         flags: u32,
     ) -> Result<(Option<u64>, OpenOptions), Fault> {
         self.opening
+    }
+
+    fn readdir(
+        &mut self,
+        ctx: Context,
+        inode: u64,
+        handle: u64,
+        size: u32,
+        offset: u64,
+    ) -> Result<NoEntries, Fault> {
+        defaults::no_such_call::<NoEntries>()
     }
 
     fn releasedir(
