@@ -1,1 +1,4 @@
+mod FileTransfers
+mod FilesAt
 mod LineLemmas
+mod Pieces

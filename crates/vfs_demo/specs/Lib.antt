@@ -1,1 +1,2 @@
+pub mod MemFile
 pub mod MemFs

@@ -1,12 +1,13 @@
 -- The file system in memory: its files in order of creation, and what its calls answer of them.
-use Rattle.std.specs.Prelude.{◌≡◌, ℕ, ◌==◌, ◌+◌, ◌-◌, ◌^◌, ◌||◌, nat_le, not, List, [], ◌∷◌, ◌++◌, length, find, position, remove, codes, Option, Some, None, is_some, Result, Ok, Err, if◌then◌else◌}
+use Rattle.std.specs.Prelude.{◌≡◌, ℕ, zero, suc, ◌==◌, ◌+◌, ◌-◌, ◌^◌, ◌||◌, nat_le, not, List, [], ◌∷◌, ◌++◌, length, map, min, take, slice_index_or, find, position, remove, codes, Option, Some, None, is_some, Result, Ok, Err, if◌then◌else◌}
 use Rattle.std.specs.Str.{bytes_eq}
 use Rattle.std.specs.Duration.{as_nanos}
 use Rattle.std.specs.declared.time.Duration.{Duration}
 use Rattle.vfs_flags.specs.Errors.{enoent, eexist, enospc, enomem}
 use Rattle.vfs_wire.specs.declared.attributes.Attr.{Attr}
 use Rattle.vfs_files.specs.declared.entry.Entry.{Entry}
-use Rattle.vfs_files.specs.Calls.{Call, Init, Lookup, Getattr, Unlink, Create, Answer, Done, Failed, Options, Found, Attributes, Created, Handed, Plain, Iterator, default_answer}
+use Rattle.vfs_files.specs.Calls.{Call, Init, Lookup, Getattr, Unlink, Read, Write, Create, Answer, Done, Failed, Options, Found, Attributes, Put, Created, Written, Handed, Plain, Iterator, default_answer}
+use Rattle.vfs_demo.specs.MemFile.{part_of, Writes}
 
 -- a file: its node, its name and its contents
 pub record Stored : Type 0 where
@@ -60,6 +61,10 @@ file_attr file = attr_of file.node 0o100644 1 (length file.contents)
 abbrev pub file_named : Stock → (parent : ℕ) → (name : List ℕ) → Option Stored
 file_named stock parent name =
     if parent == 1 then find (λ file. bytes_eq file.name name) stock.files else None
+
+-- where the file of this node is
+abbrev pub node_place : Stock → (node : ℕ) → Option ℕ
+node_place stock node = position (λ file. file.node == node) stock.files
 
 -- the file of this node
 abbrev pub file_at : Stock → (node : ℕ) → Option Stored
@@ -141,6 +146,50 @@ Makes old name None (Created entry handle options) new =
 Makes old name None (Failed fault) new = AddsFile old name (Err fault) new
 Makes old name None _ new = ⊥
 
+-- the contents of the file at this place
+abbrev pub contents_at : List Stored → (place : ℕ) → List ℕ
+contents_at files place = slice_index_or (map (λ file. file.contents) files) place []
+
+-- files, where the one at this place has other contents
+abbrev pub with_contents : List Stored → (place : ℕ) → List ℕ → List Stored
+with_contents [] place bytes = []
+with_contents (file ∷ files) zero bytes = record file { contents = bytes } ∷ files
+with_contents (file ∷ files) (suc place) bytes = file ∷ with_contents files place bytes
+
+-- how many bytes are put into a reply at most: so many are asked for, there is room for so many,
+-- and the length of the reply has its place in the header
+abbrev pub most_put : (room size : ℕ) → ℕ
+most_put room size = min (min size (2 ^ 32 - 17)) room
+
+-- bytes of a file were put into a reply: all that are there from off on, as many as may be put; and
+-- the file stays
+pub record PutsPart
+    (old : List ℕ) (room size off : ℕ) (result : Result ℕ (Option ℕ)) (bytes new : List ℕ)
+    : Type 0 where
+  pub answered : result ≡ Ok (length bytes)
+  pub part : bytes ≡ part_of old off (most_put room size)
+  pub same : new ≡ old
+
+-- bytes of the file at this place are put into a reply, from off on and at most so many: all of
+-- these that are there; or there is no such file
+abbrev pub AnswersRead : Stock → Option ℕ → (off most : ℕ) → Answer → Type 0
+AnswersRead stock (Some place) off most answer =
+    answer ≡ Put (part_of (contents_at stock.files place) off most)
+AnswersRead stock None off most answer = answer ≡ Failed (Some enoent)
+
+-- these bytes are written into the file at this place from off on, as `Writes` says, and all other
+-- files stay; or there is no such file
+abbrev pub WritesInto :
+    Stock → Option ℕ → (off : ℕ) → (bytes : List ℕ) → Answer → Stock → Type 0
+WritesInto old (Some place) off bytes (Written count) new =
+    (contents : List ℕ) × Writes (contents_at old.files place) bytes off (Ok count) contents
+    × (new ≡ record old { files = with_contents old.files place contents })
+WritesInto old (Some place) off bytes (Failed fault) new =
+    Writes (contents_at old.files place) bytes off (Err fault) (contents_at old.files place)
+    × (new ≡ old)
+WritesInto old (Some place) off bytes _ new = ⊥
+WritesInto old None off bytes answer new = (answer ≡ Failed (Some enoent)) × (new ≡ old)
+
 -- from the old files this call may hand this back and leave the new files: the one table of what
 -- the file system does. What it has no line for has its default answer, and the files stay.
 abbrev pub MemFsAllows : {I : Type 0} → Stock → Call → Handed I → Stock → Type 0
@@ -153,5 +202,9 @@ MemFsAllows old (Unlink _ parent name) (Plain answer) new =
     TakesOut old (place_of old parent name) answer new
 MemFsAllows old (Create _ parent name _ _ _ _ _) (Plain answer) new =
     Makes old name (refusal_of old parent name) answer new
+MemFsAllows old (Read _ inode _ room size off _ _) (Plain answer) new =
+    AnswersRead old (node_place old inode) off (most_put room size) answer × (new ≡ old)
+MemFsAllows old (Write _ inode _ bytes size off _ _ _ _) (Plain answer) new =
+    WritesInto old (node_place old inode) off (take size bytes) answer new
 MemFsAllows old call (Plain answer) new = (answer ≡ default_answer call) × (new ≡ old)
 MemFsAllows old call (Iterator _) new = ⊥

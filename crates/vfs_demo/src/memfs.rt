@@ -5,6 +5,7 @@ ghost use Rattle.std.specs.Str.{bytes_eq};
 ghost use Rattle.vfs_flags.specs.Errors.{enoent, enomem};
 ghost use Rattle.vfs_demo.specs.MemFs.{attr_of, file_attr, first_stock, IsEntryOf, AddsFile};
 
+use crate::memfile::MemFile;
 use std::alloc::Global;
 use std::marker::Model;
 use std::time::Duration;
@@ -28,13 +29,14 @@ const BLOCK_SIZE: u32 = 4096;
 const MOST_FILES: usize = 1000;
 
 mod calls;
+mod transfers;
 
 /// A file of the root.
 #[derive(Debug, Drop)]
 struct File {
     node: u64,
     name: Vec<u8>,
-    contents: Vec<u8>,
+    contents: MemFile,
 }
 
 impl Model for File {
@@ -45,12 +47,15 @@ impl Model for File {
     ghost view = { λ file. record {
       node = file.node;
       name = file.name.items;
-      contents = file.contents.items;
+      contents = file.contents;
     } };
 }
 
 /// A file system in memory. It has a root directory, node 1, and begins with one file in it: node
 /// 2, named `a`, with the contents `hello`. It says of each answer that it holds for a second.
+///
+/// Files are not opened: `read` and `write` find them by their node alone, whatever the handle is.
+/// The files themselves are [`MemFile`]s.
 #[derive(Debug, Drop)]
 pub struct MemFs {
     alloc: Global,
@@ -75,7 +80,7 @@ impl MemFs {
         let file = File {
             node: ROOT_ID + 1,
             name: copied(alloc, b"a")?,
-            contents: copied(alloc, b"hello")?,
+            contents: MemFile::new(copied(alloc, b"hello")?),
         };
         let mut files = Vec::new(alloc);
         match files.push(file) {
@@ -96,7 +101,7 @@ impl MemFs {
         let file = File {
             node: self.next,
             name: copied(self.alloc, name)?,
-            contents: Vec::new(self.alloc),
+            contents: MemFile::new(Vec::new(self.alloc)),
         };
         let entry = entry(&file);
         match self.files.push(file) {
@@ -180,4 +185,12 @@ fn place_of(files: &[File], name: &[u8]) -> Option<usize>
     ensures within { IfSome result (λ i. i < length files.now) }
 {
     files.iter().position(|file| file.name.as_slice() == name)
+}
+
+// Where the first file of this node is.
+fn place_of_node(files: &[File], node: u64) -> Option<usize>
+    ensures place { result ≡ position (λ file. file.node == node) files.now }
+    ensures within { IfSome result (λ i. i < length files.now) }
+{
+    files.iter().position(|file| file.node == node)
 }

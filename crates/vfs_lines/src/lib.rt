@@ -7,8 +7,6 @@ mod answer;
 mod error;
 mod line;
 mod session;
-#[cfg(test)]
-mod tests;
 pub mod uses;
 
 pub use error::{RunError, exit_status, report};

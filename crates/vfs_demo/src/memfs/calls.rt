@@ -5,15 +5,16 @@ ghost use Rattle.std.specs.Prelude.{◌≡◌};
 ghost use Rattle.vfs_files.specs.Calls.{attr_answer, no_such_call};
 ghost use Rattle.vfs_demo.specs.MemFs.{MemFsAllows, AnswersAttr, attr_at};
 
+use super::transfers::{read_into, write_from};
 use super::{
     MOST_FILES, MemFs, ROOT_MODE, TIMEOUT_SECONDS, attr, entry, find_name, find_node, make_attr,
-    not_found, place_of,
+    not_found, place_of, place_of_node,
 };
 use bitflags::Flags;
 use std::time::Duration;
 use vfs_files::{
     CStr, Context, Entry, Extensions, FileSystem, GetxattrReply, ListxattrReply, NoEntries,
-    defaults,
+    ZeroCopyReader, ZeroCopyWriter, defaults,
 };
 use vfs_flags::{Errno, Fault, FsOptions, OpenOptions, ROOT_ID, SetattrValid, SetxattrFlags};
 use vfs_wire::{Attr, SetattrIn, Statvfs64};
@@ -161,6 +162,44 @@ impl FileSystem for MemFs {
         defaults::open::<u64>()
     }
 
+    fn read<W: ZeroCopyWriter>(
+        &mut self,
+        _ctx: Context,
+        inode: u64,
+        _handle: u64,
+        w: &mut W,
+        size: u32,
+        offset: u64,
+        _lock_owner: Option<u64>,
+        _flags: u32,
+    ) -> Result<usize, Fault> {
+        let Some(place) = place_of_node(&self.files, inode) else {
+            return Err(not_found());
+        };
+        let file = &mut self.files[place];
+        read_into(&mut file.contents, w, size, offset)
+    }
+
+    fn write<R: ZeroCopyReader>(
+        &mut self,
+        _ctx: Context,
+        inode: u64,
+        _handle: u64,
+        r: &mut R,
+        size: u32,
+        offset: u64,
+        _lock_owner: Option<u64>,
+        _delayed_write: bool,
+        _kill_priv: bool,
+        _flags: u32,
+    ) -> Result<u32, Fault> {
+        let Some(place) = place_of_node(&self.files, inode) else {
+            return Err(not_found());
+        };
+        let file = &mut self.files[place];
+        write_from(&mut file.contents, r, size, offset)
+    }
+
     fn statfs(&mut self, _ctx: Context, _inode: u64) -> Result<Statvfs64, Fault> {
         defaults::statfs()
     }
@@ -244,6 +283,17 @@ impl FileSystem for MemFs {
         _flags: u32,
     ) -> Result<(Option<u64>, OpenOptions), Fault> {
         defaults::opendir::<u64>()
+    }
+
+    fn readdir(
+        &mut self,
+        _ctx: Context,
+        _inode: u64,
+        _handle: u64,
+        _size: u32,
+        _offset: u64,
+    ) -> Result<NoEntries, Fault> {
+        defaults::no_such_call::<NoEntries>()
     }
 
     fn releasedir(
