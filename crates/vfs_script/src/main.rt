@@ -13,6 +13,7 @@
 //! file system must write the same lines. The program takes no arguments and opens no file.
 #![tactic(auto)]
 
+mod contents;
 mod notes;
 mod rules;
 mod run;

@@ -123,6 +123,18 @@ impl Notes {
         self.keep(noted);
     }
 
+    /// Begins the line of a call of a file, of whose answer the bytes that were moved are still to
+    /// come.
+    pub fn file(&mut self, call: &str, off: u64, view: usize, answer: &Result<usize, Fault>) {
+        let noted = write!(self.text, "  file {call} off={off} view={view} ");
+        self.keep(noted);
+        let noted = match answer {
+            Ok(count) => write!(self.text, "moved={count} "),
+            Err(_) => self.text.push_str("fault"),
+        };
+        self.keep(noted);
+    }
+
     /// Begins the line of an answer. The parts of one that is no fault go on with it.
     pub fn answer<T>(&mut self, answer: &Result<T, Fault>) {
         match answer {
@@ -146,8 +158,8 @@ impl Notes {
         self.keep(noted);
     }
 
-    // Appends bytes in hex.
-    fn hex(&mut self, value: &[u8]) {
+    /// Bytes in hex, with nothing before them.
+    pub fn hex(&mut self, value: &[u8]) {
         match hex::encode(self.alloc, value) {
             Ok(value) => {
                 let noted = self.text.push_str(value.as_str());

@@ -21,13 +21,16 @@
 //! - `statfs`: numbers by the seed.
 //! - `lseek`: the offset where the seed is even, else the seed.
 //! - `copyfilerange`: the length, at most the seed.
+//! - `read`, `write`: bytes of the file of the module `contents`, and into it.
 //! - `tmpfile`: ENOSYS.
 //! - All others: that it is done.
 //!
 //! An answer that the input tells goes before all this.
 
-ghost use Rattle.std.specs.Prelude.{◌≤◌, IfOk, IfSome, vec_len};
+ghost use Rattle.std.specs.Prelude.{◌≤◌, ℕ, List, IfOk, IfSome, vec_len};
+ghost use Rattle.vfs_files.specs.Answers.{Counts};
 
+use crate::contents::Contents;
 use crate::notes::Notes;
 use crate::rules::{attr, bytes, entry, fault_of, handle, open_options, time, wanted_bits};
 use crate::told::{Told, bare_entry};
@@ -35,8 +38,9 @@ use bitflags::Flags;
 use std::alloc::Global;
 use std::cell::RefCell;
 use std::collections::VecDeque;
+use std::mem;
 use std::time::Duration;
-use vfs_files::{Context, Entry};
+use vfs_files::{Context, Entry, ZeroCopyReader, ZeroCopyWriter};
 use vfs_flags::{Errno, Fault, FsOptions, OpenOptions};
 use vfs_wire::{Attr, SetattrIn};
 
@@ -190,6 +194,47 @@ impl<'a> ScriptFs<'a> {
         Ok((attr, time(t)))
     }
 
+    // Puts bytes of a file into `w`.
+    fn read_file<W: ZeroCopyWriter>(
+        &mut self,
+        w: &mut W,
+        size: u32,
+        offset: u64,
+    ) -> Result<usize, Fault>
+        ensures { (bytes : List ℕ) × W.puts w.old bytes w.new × Counts result bytes size }
+    {
+        let seed = self.seed_or_told()?;
+        let mut file = self.lend_notes(seed);
+        let answer = file.read_into(w, size, offset);
+        self.notes = file.into_notes();
+        answer
+    }
+
+    // Takes bytes from `r` for a file.
+    fn write_file<R: ZeroCopyReader>(
+        &mut self,
+        r: &mut R,
+        size: u32,
+        offset: u64,
+    ) -> Result<u32, Fault>
+        ensures { (bytes : List ℕ) × R.takes r.old bytes r.new }
+    {
+        let seed = self.seed_or_told()?;
+        let mut file = self.lend_notes(seed);
+        let answer = file.write_from(r, size, offset);
+        self.notes = file.into_notes();
+        match answer {
+            Ok(count) => Ok(count as u32),
+            Err(fault) => Err(fault),
+        }
+    }
+
+    // A file that has the notes, to add to them.
+    fn lend_notes(&mut self, seed: u32) -> Contents {
+        let notes = mem::replace(&mut self.notes, Notes::new(self.alloc));
+        Contents::new(seed, notes)
+    }
+
     // The text of a link.
     fn text(&self) -> Result<Vec<u8>, Fault>
         ensures { IfOk result (λ text. vec_len text ≤ 500) }
@@ -272,6 +317,15 @@ impl<'a> ScriptFs<'a> {
         self.notes.answer(answer);
         if let Ok(entry) = answer {
             self.notes.number("node", entry.inode);
+        }
+        self.notes.end();
+    }
+
+    // Notes an answer that says how many bytes were moved.
+    fn note_moved(&mut self, answer: &Result<usize, Fault>) {
+        self.notes.answer(answer);
+        if let Ok(count) = answer {
+            self.notes.number("count", *count as u64);
         }
         self.notes.end();
     }

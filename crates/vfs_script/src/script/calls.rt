@@ -6,6 +6,7 @@ use bitflags::Flags;
 use std::time::Duration;
 use vfs_files::{
     CStr, Context, Entry, Extensions, FileSystem, GetxattrReply, ListxattrReply, NoEntries,
+    ZeroCopyReader, ZeroCopyWriter, defaults,
 };
 use vfs_flags::{Fault, FsOptions, OpenOptions, SetattrValid, SetxattrFlags};
 use vfs_wire::{Attr, ByteValued, SetattrIn, Statvfs64};
@@ -203,6 +204,58 @@ impl FileSystem for ScriptFs<'_> {
         self.done_opening()
     }
 
+    fn read<W: ZeroCopyWriter>(
+        &mut self,
+        ctx: Context,
+        inode: u64,
+        handle: u64,
+        w: &mut W,
+        size: u32,
+        offset: u64,
+        lock_owner: Option<u64>,
+        flags: u32,
+    ) -> Result<usize, Fault> {
+        self.called_by("read", &ctx);
+        self.notes.number("inode", inode);
+        self.notes.number("handle", handle);
+        self.notes.number("size", u64::from(size));
+        self.notes.number("offset", offset);
+        self.notes.option("owner", lock_owner);
+        self.notes.number("flags", u64::from(flags));
+        self.notes.end();
+        let answer = self.read_file(w, size, offset);
+        self.note_moved(&answer);
+        answer
+    }
+
+    fn write<R: ZeroCopyReader>(
+        &mut self,
+        ctx: Context,
+        inode: u64,
+        handle: u64,
+        r: &mut R,
+        size: u32,
+        offset: u64,
+        lock_owner: Option<u64>,
+        delayed_write: bool,
+        kill_priv: bool,
+        flags: u32,
+    ) -> Result<u32, Fault> {
+        self.called_by("write", &ctx);
+        self.notes.number("inode", inode);
+        self.notes.number("handle", handle);
+        self.notes.number("size", u64::from(size));
+        self.notes.number("offset", offset);
+        self.notes.option("owner", lock_owner);
+        self.notes.truth("delayed_write", delayed_write);
+        self.notes.truth("kill_priv", kill_priv);
+        self.notes.number("flags", u64::from(flags));
+        self.notes.end();
+        let answer = self.write_file(r, size, offset);
+        self.note_number("count", &answer);
+        answer
+    }
+
     fn statfs(&mut self, ctx: Context, inode: u64) -> Result<Statvfs64, Fault> {
         self.called_by("statfs", &ctx);
         self.notes.number("inode", inode);
@@ -346,6 +399,17 @@ impl FileSystem for ScriptFs<'_> {
         self.notes.number("inode", inode);
         self.notes.number("flags", u64::from(flags));
         self.done_opening()
+    }
+
+    fn readdir(
+        &mut self,
+        _ctx: Context,
+        _inode: u64,
+        _handle: u64,
+        _size: u32,
+        _offset: u64,
+    ) -> Result<NoEntries, Fault> {
+        defaults::no_such_call::<NoEntries>()
     }
 
     fn releasedir(
