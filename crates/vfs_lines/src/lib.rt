@@ -11,4 +11,4 @@ pub mod uses;
 
 pub use error::{RunError, exit_status, report};
 pub use line::{Line, MOST_ROOM, lines_of, parse_line};
-pub use session::{answer_to, read_all, write_all};
+pub use session::{answer_to, answers_to, read_all, write_all};

@@ -1,6 +1,6 @@
 //! One request of a session, and the input and output of a whole one.
 
-ghost use Rattle.std.specs.Prelude.{◌≡◌, IfOk, IfErr, IfSome, OnOk};
+ghost use Rattle.std.specs.Prelude.{◌≡◌, length, vec_len, IfOk, IfErr, IfSome, OnOk};
 ghost use Rattle.std.specs.Io.KnownBytes.{Appends};
 ghost use Rattle.vfs_lines.specs.Lines.{IsFault};
 
@@ -64,6 +64,87 @@ pub fn answer_to<F: FileSystem>(
     };
     let outcome = server.handle_message(alloc, reader, &mut writer);
     Ok(answer_line(alloc, &outcome, &writer.into_segments())?)
+}
+
+/// The server's answers to requests in order, as one session: a line for each, as [`answer_to`]
+/// gives it.
+pub fn answers_to<F: FileSystem>(
+    alloc: Global,
+    server: &mut Server<F>,
+    requests: &[Line],
+) -> Result<String, RunError>
+    ensures memory { IfErr result (λ e. e ≡ RunError.OutOfMemory) }
+{
+    let slices = all_slices(alloc, requests)?;
+    let readers = readers_over(alloc, requests, &slices)?;
+    let mut writers = writers_for(alloc, requests)?;
+    let mut outcomes = vec![in alloc; Ok(0); requests.len()]?;
+    server.handle_session(alloc, readers, &mut writers, &mut outcomes);
+    answer_lines(alloc, &outcomes, writers)
+}
+
+// The segments of all requests, in order, as slices.
+fn all_slices(alloc: Global, requests: &[Line]) -> Result<Vec<&[u8]>, AllocError> {
+    let mut slices = Vec::new(alloc);
+    for request in requests {
+        for segment in &request.segments {
+            slices.push(segment.as_slice())?;
+        }
+    }
+    Ok(slices)
+}
+
+// A reader over the segments of each request, which stand in order in `slices`.
+fn readers_over<'a>(
+    alloc: Global,
+    requests: &[Line],
+    slices: &'a [&'a [u8]],
+) -> Result<Vec<Reader<'a>>, RunError>
+    ensures count { IfOk result (λ readers. vec_len readers ≡ length requests.now) }
+    ensures memory { IfErr result (λ e. e ≡ RunError.OutOfMemory) }
+{
+    let mut readers = Vec::new(alloc);
+    let mut start = 0;
+    for request in requests {
+        let end = slices.len().min(start + request.segments.len());
+        let segments = &slices[start..end];
+        start = end;
+        match Reader::new(alloc, segments) {
+            Ok(reader) => readers.push(reader)?,
+            Err(_) => return Err(RunError::OutOfMemory),
+        }
+    }
+    Ok(readers)
+}
+
+// A writer over the empty rooms of each request.
+fn writers_for(alloc: Global, requests: &[Line]) -> Result<Vec<Writer>, RunError>
+    ensures count { IfOk result (λ writers. vec_len writers ≡ length requests.now) }
+    ensures memory { IfErr result (λ e. e ≡ RunError.OutOfMemory) }
+{
+    let mut writers = Vec::new(alloc);
+    for request in requests {
+        match Writer::new(alloc, empty_rooms(alloc, &request.rooms)?) {
+            Ok(writer) => writers.push(writer)?,
+            Err(_) => return Err(RunError::OutOfMemory),
+        }
+    }
+    Ok(writers)
+}
+
+// The answers with these outcomes, a line each.
+fn answer_lines(
+    alloc: Global,
+    outcomes: &[vfs_server::Result<usize>],
+    writers: Vec<Writer>,
+) -> Result<String, RunError>
+    ensures memory { IfErr result (λ e. e ≡ RunError.OutOfMemory) }
+{
+    let mut answers = String::new(alloc);
+    for (outcome, writer) in outcomes.iter().zip(writers) {
+        answers.push_str(answer_line(alloc, outcome, &writer.into_segments())?.as_str())?;
+    }
+    Ok(answers)
 }
 
 // The segments of a request as slices.
