@@ -2,3 +2,4 @@ mod FileTransfers
 mod FilesAt
 mod LineLemmas
 mod Pieces
+mod RootItems

@@ -1,12 +1,13 @@
 -- The file system in memory: its files in order of creation, and what its calls answer of them.
-use Rattle.std.specs.Prelude.{◌≡◌, ℕ, zero, suc, ◌==◌, ◌+◌, ◌-◌, ◌^◌, ◌||◌, nat_le, not, List, [], ◌∷◌, ◌++◌, length, map, min, take, slice_index_or, find, position, remove, codes, Option, Some, None, is_some, Result, Ok, Err, if◌then◌else◌}
+use Rattle.std.specs.Prelude.{◌≡◌, ℕ, zero, suc, ◌==◌, ◌+◌, ◌-◌, ◌^◌, ◌||◌, nat_le, not, List, [], ◌∷◌, ◌++◌, length, map, min, take, drop, slice_index_or, find, position, remove, codes, Option, Some, None, is_some, Result, Ok, Err, if◌then◌else◌}
 use Rattle.std.specs.Str.{bytes_eq}
 use Rattle.std.specs.Duration.{as_nanos}
 use Rattle.std.specs.declared.time.Duration.{Duration}
-use Rattle.vfs_flags.specs.Errors.{enoent, eexist, enospc, enomem}
+use Rattle.vfs_flags.specs.Errors.{enoent, enomem, eexist, enotdir, enospc}
 use Rattle.vfs_wire.specs.declared.attributes.Attr.{Attr}
 use Rattle.vfs_files.specs.declared.entry.Entry.{Entry}
-use Rattle.vfs_files.specs.Calls.{Call, Init, Lookup, Getattr, Unlink, Read, Write, Create, Answer, Done, Failed, Options, Found, Attributes, Put, Created, Written, Handed, Plain, Iterator, default_answer}
+use Rattle.vfs_files.specs.Items.{Item}
+use Rattle.vfs_files.specs.Calls.{Call, Init, Lookup, Getattr, Unlink, Read, Write, Readdir, Create, Answer, Done, Failed, Options, Found, Attributes, Put, Created, Written, Handed, Plain, Iterator, default_answer}
 use Rattle.vfs_demo.specs.MemFile.{part_of, Writes}
 
 -- a file: its node, its name and its contents
@@ -190,9 +191,45 @@ WritesInto old (Some place) off bytes (Failed fault) new =
 WritesInto old (Some place) off bytes _ new = ⊥
 WritesInto old None off bytes answer new = (answer ≡ Failed (Some enoent)) × (new ≡ old)
 
+-- the item of a name that leads back to the root
+abbrev pub root_item : (offset : ℕ) → (name : List ℕ) → Item
+root_item offset name = record { ino = 1; offset = offset; type_ = 4; name = name }
+
+-- the item of a file
+abbrev pub file_item : (offset : ℕ) → Stored → Item
+file_item offset file =
+    record { ino = file.node; offset = offset; type_ = 8; name = file.name }
+
+-- the items of files in order, with offsets that count on from this one
+abbrev pub file_items : (offset : ℕ) → List Stored → List Item
+file_items offset [] = []
+file_items offset (file ∷ files) = file_item offset file ∷ file_items (offset + 1) files
+
+-- what a root with these files holds: `.`, `..` and then the files, with offsets from 1 on
+abbrev pub root_items : List Stored → List Item
+root_items files =
+    root_item 1 (codes ".") ∷ root_item 2 (codes "..") ∷ file_items 3 files
+
+-- what an iterator with these items left gives: the first, and the others are left, or the end,
+-- where none is left
+abbrev pub GivesFirst : (old : List Item) → Option Item → (new : List Item) → Type 0
+GivesFirst old (Some first) new = old ≡ first ∷ new
+GivesFirst old None new = (old ≡ []) × (new ≡ [])
+
+-- why a reading of this node is refused: there is no memory, or the node is no directory
+abbrev pub reading_refusal : (node : ℕ) → ℕ
+reading_refusal node = if node == 1 then enomem else enotdir
+
+-- a reading of this node is an iterator over what the root holds now, but for so many items at the
+-- beginning; or it is refused
+abbrev pub OpensRoot : Stock → (node off : ℕ) → Handed (List Item) → Type 0
+OpensRoot stock node off (Iterator items) =
+    (node ≡ 1) × (items ≡ drop off (root_items stock.files))
+OpensRoot stock node off (Plain answer) = answer ≡ Failed (Some (reading_refusal node))
+
 -- from the old files this call may hand this back and leave the new files: the one table of what
 -- the file system does. What it has no line for has its default answer, and the files stay.
-abbrev pub MemFsAllows : {I : Type 0} → Stock → Call → Handed I → Stock → Type 0
+abbrev pub MemFsAllows : Stock → Call → Handed (List Item) → Stock → Type 0
 MemFsAllows old (Init _) (Plain answer) new = (answer ≡ Options 0x2000) × (new ≡ old)
 MemFsAllows old (Lookup _ parent name) (Plain answer) new =
     AnswersEntry (file_named old parent name) answer × (new ≡ old)
@@ -206,5 +243,6 @@ MemFsAllows old (Read _ inode _ room size off _ _) (Plain answer) new =
     AnswersRead old (node_place old inode) off (most_put room size) answer × (new ≡ old)
 MemFsAllows old (Write _ inode _ bytes size off _ _ _ _) (Plain answer) new =
     WritesInto old (node_place old inode) off (take size bytes) answer new
+MemFsAllows old (Readdir _ inode _ _ off) handed new = OpensRoot old inode off handed × (new ≡ old)
 MemFsAllows old call (Plain answer) new = (answer ≡ default_answer call) × (new ≡ old)
 MemFsAllows old call (Iterator _) new = ⊥

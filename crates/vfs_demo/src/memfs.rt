@@ -1,15 +1,16 @@
 //! A file system in memory: a root directory, and files in it.
-ghost use Rattle.std.specs.Prelude.{◌≡◌, ◌==◌, ◌<◌, ◌^◌, ◌-◌, find, position, length, Some, IfSome, MatchResult};
+ghost use Rattle.std.specs.Prelude.{◌≡◌, ◌==◌, ◌<◌, ◌^◌, ◌-◌, find, position, length, Some, IfSome, IsSome, MatchResult};
 ghost use Rattle.std.specs.Option.{option_copied};
 ghost use Rattle.std.specs.Str.{bytes_eq};
 ghost use Rattle.vfs_flags.specs.Errors.{enoent, enomem};
+ghost use Rattle.vfs_files.specs.Names.{name_of, name_text};
 ghost use Rattle.vfs_demo.specs.MemFs.{attr_of, file_attr, first_stock, IsEntryOf, AddsFile};
 
 use crate::memfile::MemFile;
 use std::alloc::Global;
 use std::marker::Model;
 use std::time::Duration;
-use vfs_files::Entry;
+use vfs_files::{CStr, CString, Entry};
 use vfs_flags::{Errno, Fault, ROOT_ID};
 use vfs_wire::Attr;
 
@@ -29,13 +30,14 @@ const BLOCK_SIZE: u32 = 4096;
 const MOST_FILES: usize = 1000;
 
 mod calls;
+mod entries;
 mod transfers;
 
 /// A file of the root.
 #[derive(Debug, Drop)]
 struct File {
     node: u64,
-    name: Vec<u8>,
+    name: CString,
     contents: MemFile,
 }
 
@@ -46,7 +48,7 @@ impl Model for File {
 
     ghost view = { λ file. record {
       node = file.node;
-      name = file.name.items;
+      name = file.name;
       contents = file.contents;
     } };
 }
@@ -79,7 +81,7 @@ impl MemFs {
     {
         let file = File {
             node: ROOT_ID + 1,
-            name: copied(alloc, b"a")?,
+            name: CString::new(alloc, name_in(b"a\0"))?,
             contents: MemFile::new(copied(alloc, b"hello")?),
         };
         let mut files = Vec::new(alloc);
@@ -94,13 +96,13 @@ impl MemFs {
     }
 
     // Adds a file of this name without contents. ENOMEM where there is no memory for it.
-    fn add(&mut self, name: &[u8]) -> Result<Entry, Fault>
+    fn add(&mut self, name: CStr<'_>) -> Result<Entry, Fault>
         requires { self.old.next < 2 ^ 64 - 1 }
-        ensures { AddsFile self.old name.now result self.new }
+        ensures { AddsFile self.old (name_text name.entry) result self.new }
     {
         let file = File {
             node: self.next,
-            name: copied(self.alloc, name)?,
+            name: CString::new(self.alloc, name)?,
             contents: MemFile::new(Vec::new(self.alloc)),
         };
         let entry = entry(&file);
@@ -111,6 +113,17 @@ impl MemFs {
             }
             Err(_) => Err(Some(Errno::ENOMEM)),
         }
+    }
+}
+
+// The name in these bytes, which end at their only 0.
+fn name_in(bytes: &[u8]) -> CStr<'_>
+    requires { IsSome (name_of bytes.now) }
+    ensures { name_of bytes.now ≡ Some (name_text result) }
+{
+    match CStr::from_bytes_with_nul(bytes) {
+        Some(name) => name,
+        None => unreachable!(),
     }
 }
 
@@ -169,7 +182,9 @@ fn entry(file: &File) -> Entry
 fn find_name<'a>(files: &'a [File], name: &[u8]) -> Option<&'a File>
     ensures { option_copied result ≡ find (λ file. bytes_eq file.name name.now) files.now }
 {
-    files.iter().find(|file| file.name.as_slice() == name)
+    files
+        .iter()
+        .find(|file| file.name.as_c_str().to_bytes() == name)
 }
 
 // The first file of this node.
@@ -184,7 +199,9 @@ fn place_of(files: &[File], name: &[u8]) -> Option<usize>
     ensures place { result ≡ position (λ file. bytes_eq file.name name.now) files.now }
     ensures within { IfSome result (λ i. i < length files.now) }
 {
-    files.iter().position(|file| file.name.as_slice() == name)
+    files
+        .iter()
+        .position(|file| file.name.as_c_str().to_bytes() == name)
 }
 
 // Where the first file of this node is.

@@ -5,6 +5,7 @@ ghost use Rattle.std.specs.Prelude.{◌≡◌};
 ghost use Rattle.vfs_files.specs.Calls.{attr_answer, no_such_call};
 ghost use Rattle.vfs_demo.specs.MemFs.{MemFsAllows, AnswersAttr, attr_at};
 
+use super::entries::Entries;
 use super::transfers::{read_into, write_from};
 use super::{
     MOST_FILES, MemFs, ROOT_MODE, TIMEOUT_SECONDS, attr, entry, find_name, find_node, make_attr,
@@ -13,8 +14,8 @@ use super::{
 use bitflags::Flags;
 use std::time::Duration;
 use vfs_files::{
-    CStr, Context, Entry, Extensions, FileSystem, GetxattrReply, ListxattrReply, NoEntries,
-    ZeroCopyReader, ZeroCopyWriter, defaults,
+    CStr, Context, Entry, Extensions, FileSystem, GetxattrReply, ListxattrReply, ZeroCopyReader,
+    ZeroCopyWriter, defaults,
 };
 use vfs_flags::{Errno, Fault, FsOptions, OpenOptions, ROOT_ID, SetattrValid, SetxattrFlags};
 use vfs_wire::{Attr, SetattrIn, Statvfs64};
@@ -24,7 +25,7 @@ impl FileSystem for MemFs {
 
     type Handle = u64;
 
-    type DirIter = NoEntries;
+    type DirIter = Entries;
 
     ghost allows = { MemFsAllows };
 
@@ -288,12 +289,15 @@ impl FileSystem for MemFs {
     fn readdir(
         &mut self,
         _ctx: Context,
-        _inode: u64,
+        inode: u64,
         _handle: u64,
         _size: u32,
-        _offset: u64,
-    ) -> Result<NoEntries, Fault> {
-        defaults::no_such_call::<NoEntries>()
+        offset: u64,
+    ) -> Result<Entries, Fault> {
+        if inode != ROOT_ID {
+            return Err(Some(Errno::ENOTDIR));
+        }
+        Entries::new(self.alloc, &self.files, offset)
     }
 
     fn releasedir(
@@ -352,7 +356,7 @@ impl FileSystem for MemFs {
         if self.files.len() >= MOST_FILES || self.next == u64::MAX {
             return Err(Some(Errno::ENOSPC));
         }
-        Ok((self.add(name.to_bytes())?, None, OpenOptions::empty()))
+        Ok((self.add(name)?, None, OpenOptions::empty()))
     }
 
     fn bmap(&mut self) -> Result<(), Fault> {

@@ -23,7 +23,7 @@ returns g c =
     let files : List Stored = c.self.inside.files.items in
     let file : Stored = record {
       node = c.file.inside.node;
-      name = c.file.inside.name.items;
+      name = c.file.inside.name;
       contents = c.file.inside.contents;
     } in
     let is : file ≡ get_or files place file =
