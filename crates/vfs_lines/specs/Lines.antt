@@ -102,6 +102,11 @@ EndsAs lines (Err (BadLine number)) = IsFirstBad lines number
 EndsAs lines (Err Io) = Unit {0}
 EndsAs lines (Err OutOfMemory) = Unit {0}
 
+-- how a session ends whose first bad line has this number, where there is one
+abbrev pub ending : Option ℕ → Result (Unit {0}) RunError
+ending None = Ok tt
+ending (Some number) = Err (BadLine number)
+
 -- the faults that no line is to blame for
 abbrev pub IsFault : RunError → Type 0
 IsFault (BadLine number) = ⊥
