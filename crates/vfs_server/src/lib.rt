@@ -12,7 +12,8 @@ pub mod fuse;
 pub mod server;
 pub mod uses;
 
+pub use vfs_listings::add_dirent;
 pub use vfs_messages::{
     Error, Limits, Result, extension_laws, get_extensions, laws, parse_security_context,
-    parse_sup_groups, reply_error, reply_ok,
+    parse_sup_groups, reply_error, reply_ok, reply_readdir,
 };
