@@ -57,7 +57,8 @@ impl Model for File {
 /// 2, named `a`, with the contents `hello`. It says of each answer that it holds for a second.
 ///
 /// Files are not opened: `read` and `write` find them by their node alone, whatever the handle is.
-/// The files themselves are [`MemFile`]s.
+/// The files themselves are [`MemFile`]s. The root is not opened either: `readdir` gives what it
+/// holds at the call, from an offset on.
 #[derive(Debug, Drop)]
 pub struct MemFs {
     alloc: Global,
