@@ -62,7 +62,7 @@ module _ (n : ℕ) (some : n ≢ 0) (limits : Limits) where
         | inl before ↦
             let w = within 0 in
             let begins : take k (t.events ++ events_in ts) ≡ take k t.events = take-append-le k t.events (events_in ts) (omega (arith, before)) in
-            let none = none_before n k t.events (turn_last n limits options t are.0 are.1) before in
+            let none = none_before n k t.events (turn_last n some limits options t are.0 are.1) before in
             rw begins (omega (arith, w, e, none))
         | inr past ↦
             let m = k - length t.events in

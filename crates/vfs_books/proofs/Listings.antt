@@ -8,7 +8,7 @@ use Rattle.vfs_flags.specs.declared.opcode.Opcode.{Opcode}
 use Rattle.vfs_wire.specs.declared.entries.EntryOut.{EntryOut}
 use Rattle.vfs_files.specs.declared.entry.Context.{Context}
 use Rattle.vfs_files.specs.Items.{Item}
-use Rattle.vfs_files.specs.Calls.{Call, Readdir}
+use Rattle.vfs_files.specs.Calls.{Call, Readdir, read_answer}
 use Rattle.vfs_files.specs.Runs.{Event, Opened, Taken}
 use Rattle.vfs_listings.specs.Laws.{node_of_line}
 use Rattle.vfs_listings.specs.Listing.{Got, Line, Stop, End, At, Gets, IsGot, is_dot, lookups, line_events, stop_events, given_back, line_len, line_bytes, AreWritten, Stops, fate, answer_at, answer_of, IsListing, IsUnopened, IsOpened, IsDirectory, node_got}
@@ -16,7 +16,7 @@ use Rattle.vfs_listings.specs.ListingLaws.{lines_least}
 use Rattle.vfs_listings.specs.NodeLaws.{nodes_in-listing}
 use Rattle.vfs_listings.specs.Nodes.{nodes_in}
 use Rattle.vfs_listings.specs.Records.{Verdict, Fits, Full, Fails}
-use Rattle.vfs_messages.specs.Reply.{Saying, Fault, Body, said_open, fault_reply, body_reply}
+use Rattle.vfs_messages.specs.Reply.{Saying, say_bytes, said_open, fault_reply, body_reply}
 use Rattle.vfs_messages.specs.Room.{IsReplied}
 use Rattle.vfs_messages.specs.Turn.{Turn}
 use Rattle.vfs_messages.proofs.Rooms.{length-fault_reply, length-body_reply}
@@ -208,8 +208,7 @@ fault_delivers true ctx parent size room n events body g h =
 
 -- what is said of a directory that was read
 abbrev pub said_of : Result ℕ (Option ℕ) → (body : List ℕ) → Saying
-said_of (Ok count) body = Body body
-said_of (Err fault) body = Fault fault
+said_of result body = say_bytes (read_answer result body)
 
 -- the opcode is that of READDIRPLUS or, where not `plus`, one whose replies have no entries
 pub record ListsFor (plus : Bool) (opcode : Option Opcode) : Type 0 where

@@ -1,10 +1,10 @@
 -- The books of one turn.
 use Rattle.std.proofs.Common.{◌≡◌, ◌≢◌, ℕ, Bool, true, false, if◌then◌else◌, List, [], ◌∷◌, length, Result, Ok, refl, ap, sym, ◌∙◌, inl, inr, arith, zero-add}
 use Rattle.vfs_files.specs.Answers.{Answer}
-use Rattle.vfs_files.specs.Calls.{Call, kind_of}
+use Rattle.vfs_files.specs.Calls.{Call, Data, kind_of, read_answer}
 use Rattle.vfs_files.specs.Runs.{Called}
 use Rattle.vfs_messages.specs.Ask.{ask}
-use Rattle.vfs_messages.specs.Forms.{Ask, Ends, Asks, Copies}
+use Rattle.vfs_messages.specs.Forms.{Ask, Ends, Asks, Lists, Copies}
 use Rattle.vfs_messages.specs.Reply.{Reply, Refusal, NoReply, Bytes, OpenBehind, Never, Saying, Fault, Body, Unsaid, Wrong, said_by, is_open, say, fault_reply, body_reply}
 use Rattle.vfs_messages.specs.Room.{IsReplied}
 use Rattle.vfs_messages.specs.Turn.{Turn, Follows, IsTurn, turn_tells}
@@ -15,6 +15,7 @@ use Rattle.vfs_messages.proofs.Rooms.{length-fault_reply, length-body_reply}
 use Rattle.vfs_listings.specs.Nodes.{u64_at}
 use Rattle.vfs_books.specs.Books.{times, counts, opcode_in, answered_nodes, forgets_of, delivered_nodes, answered, sent}
 use Rattle.vfs_books.proofs.Decoding.{delivered_nodes-fault, delivered_nodes-body, u64_at-body}
+use Rattle.vfs_books.proofs.Listings.{directory_books, directory_last}
 use Rattle.vfs_books.proofs.Replying.{ComesBack, put_back, Balances, reply_books, done_books, refused_books, LastOnly, no_event, one_event}
 use Rattle.vfs_books.proofs.Saying.{has_entry, node_first, NodesFit, FaultFits, ForgetsFit, nodes_fit, fault_fits, forgets_fit}
 use Rattle.vfs_books.proofs.Table.{CallFits, ReplyFits, AskFits, ask_fits}
@@ -84,28 +85,32 @@ module _ (n : ℕ) (t : Turn) where
     said_books unique Wrong nodes small forgets back = absurd back
 
   -- what a request asks
-  ask_books : (limits : Limits) (options : ℕ) (a : Ask) (after : ℕ) → AskFits (opcode_in t.request) t.request a
+  ask_books : n ≢ 0 → (limits : Limits) (options : ℕ) (a : Ask) (after : ℕ) → AskFits (opcode_in t.request) t.request a
       → Follows (turn_tells t) limits options a after → Balances n t
-  ask_books limits options (Ends reply) after fits f = end_books reply fits f.0 f.1
-  ask_books limits options (Asks echo c) after fits f =
+  ask_books some limits options (Ends reply) after fits f = end_books reply fits f.0 f.1
+  ask_books some limits options (Asks echo c) after fits f =
       let s = say limits echo after (kind_of c) f.0 in
       said_books c f.0 f.1 fits echo.unique s (nodes_fit limits echo after c f.0 f.2) (fault_fits limits echo after (kind_of c) f.0 f.2)
       (forgets_fit limits echo after c f.0)
       (said_back (is_open (kind_of c)) echo.unique s t.room t.outcome t.room_after f.3)
-  ask_books limits options (Copies rest) after fits (inl f) = ask_books limits options rest after fits f
-  ask_books limits options (Copies rest) after fits (inr f) = refused_books n t OutOfMemory f.0 f.1.0
+  ask_books some limits options (Lists echo l) after fits f =
+      directory_books n some t l.plus l.ctx l.parent l.handle l.size l.offset l.room echo.unique f.0 f.1 fits f.2
+      (fault_fits limits echo after Data (read_answer f.1 f.0) f.3) f.4
+  ask_books some limits options (Copies rest) after fits (inl f) = ask_books some limits options rest after fits f
+  ask_books some limits options (Copies rest) after fits (inr f) = refused_books n t OutOfMemory f.0 f.1.0
 
 pub turn_books : (n : ℕ) (limits : Limits) (options : ℕ) (t : Turn) (after : ℕ) → n ≢ 0 → IsTurn limits options t after → Balances n t
 turn_books n limits options t after some turn =
-    ask_books n t limits options (ask limits options (length t.room) t.request) after (ask_fits limits options (length t.room) t.request) turn
+    ask_books n t some limits options (ask limits options (length t.room) t.request) after (ask_fits limits options (length t.room) t.request) turn
 
 -- ---- in the middle of a request
 
-ask_last : (n : ℕ) (limits : Limits) (options : ℕ) (a : Ask) (t : Turn) (after : ℕ) → Follows (turn_tells t) limits options a after → LastOnly n t.events
-ask_last n limits options (Ends reply) t after f = no_event n t.events f.0
-ask_last n limits options (Asks echo c) t after f = one_event n _ t.events f.1
-ask_last n limits options (Copies rest) t after (inl f) = ask_last n limits options rest t after f
-ask_last n limits options (Copies rest) t after (inr f) = no_event n t.events f.0
+ask_last : (n : ℕ) → n ≢ 0 → (limits : Limits) (options : ℕ) (a : Ask) (t : Turn) (after : ℕ) → Follows (turn_tells t) limits options a after → LastOnly n t.events
+ask_last n some limits options (Ends reply) t after f = no_event n t.events f.0
+ask_last n some limits options (Asks echo c) t after f = one_event n _ t.events f.1
+ask_last n some limits options (Lists echo l) t after f = directory_last n some t l.plus l.ctx l.parent l.handle l.size l.offset l.room f.0 f.1 f.2
+ask_last n some limits options (Copies rest) t after (inl f) = ask_last n some limits options rest t after f
+ask_last n some limits options (Copies rest) t after (inr f) = no_event n t.events f.0
 
-pub turn_last : (n : ℕ) (limits : Limits) (options : ℕ) (t : Turn) (after : ℕ) → IsTurn limits options t after → LastOnly n t.events
-turn_last n limits options t after turn = ask_last n limits options (ask limits options (length t.room) t.request) t after turn
+pub turn_last : (n : ℕ) → n ≢ 0 → (limits : Limits) (options : ℕ) (t : Turn) (after : ℕ) → IsTurn limits options t after → LastOnly n t.events
+turn_last n some limits options t after turn = ask_last n some limits options (ask limits options (length t.room) t.request) t after turn

@@ -19,7 +19,7 @@ use Rattle.vfs_files.specs.Calls.{Call, kind_of}
 use Rattle.vfs_files.specs.Calls as call
 use Rattle.vfs_files.specs.Extensions.{ExtensionValues}
 use Rattle.vfs_messages.specs.Ask.{form_of, ask_number, ask_header, ask}
-use Rattle.vfs_messages.specs.Forms.{Ask, Ends, Asks, Copies, refused, faulted, silent, refused_or, within, tail_of, name_in, names_in, value_in, extended_in, link_in_tail, pairs_of, pairs_in, room_behind_header, second_flags, ask_version, Layout, layout_size, layout_record, behind, Form, NoTail, NameTail, TwoNames, NameAndValue, NameAndExtensions, LinkAndExtensions, Pairs, WithRest, IntoRoom, Versions, Silent, NotServed, ask_form}
+use Rattle.vfs_messages.specs.Forms.{Ask, Ends, Asks, Lists, Copies, refused, faulted, silent, refused_or, within, tail_of, name_in, names_in, value_in, extended_in, link_in_tail, pairs_of, pairs_in, room_behind_header, second_flags, ask_version, Layout, layout_size, layout_record, behind, Form, NoTail, NameTail, TwoNames, NameAndValue, NameAndExtensions, LinkAndExtensions, Pairs, WithRest, IntoRoom, Directories, Versions, Silent, NotServed, ask_form}
 use Rattle.vfs_messages.specs.Limits.{max_len}
 use Rattle.vfs_messages.specs.Records.{size_of, record_of}
 use Rattle.vfs_messages.specs.Reply.{Reply, Refusal, NoReply, Bytes, OpenBehind, Never, Echo, echo_of, body_reply, version_out}
@@ -31,6 +31,7 @@ use Rattle.vfs_messages.proofs.Rooms.{length-fault_reply, length-body_reply}
 use Rattle.vfs_listings.specs.Nodes.{u32_at, u64_at}
 use Rattle.vfs_books.specs.Books.{opcode_in, nodes_behind, delivered_nodes, pairs_at, forgets_of, forgets_in}
 use Rattle.vfs_books.proofs.Decoding.{delivered_nodes-fault, delivered_nodes-body, pairs_of-pairs_at}
+use Rattle.vfs_books.proofs.Listings.{ListsFor}
 use Rattle.vfs_books.proofs.Saying.{has_entry}
 
 -- ---- every case of a form
@@ -58,6 +59,8 @@ module _ (P : Ask → Type 0) (h : InHeader) (rest : List ℕ) where
       (x : R × List ℕ) → layout_record layout rest ≡ Ok x.0 → P (Asks (echo_of h) (call x.0 x.1))
   Shows (IntoRoom {R} layout room call) =
       (x : R × ℕ) → layout_record layout rest ≡ Ok x.0 → P (Asks (echo_of h) (call x.0 x.1))
+  Shows (Directories {R} layout above room listing) =
+      (x : R × ℕ) → layout_record layout rest ≡ Ok x.0 → P (Lists (echo_of h) (listing x.0 x.1))
   Shows Versions =
       P (Ends (Bytes (body_reply (bytes_of init_out version_out) h.unique)))
       × ((echo : Echo) (offered : ℕ) → P (Asks echo (call.Init offered)))
@@ -110,6 +113,9 @@ module _ (P : Ask → Type 0) (h : InHeader) (rest : List ℕ) where
     form_shown (WithRest layout call) s = part_shown (layout_record layout rest) _ (λ r is. s (r, behind layout rest) is)
     form_shown (IntoRoom layout room call) s =
         part_shown (layout_record layout rest) _ (λ r is. part_shown (room_behind_header room) _ (λ n fits. s (r, n) is))
+    form_shown (Directories layout above room listing) s =
+        part_shown (layout_record layout rest) _ (λ r is. limit_shown (above r) _
+        (part_shown (room_behind_header room) _ (λ n fits. s (r, n) is)))
     form_shown Versions s =
         part_shown (record_of init_in_compat rest) _ (λ r is.
         part_shown (second_flags r.flags (drop (size_of init_in_compat) rest)) _ (λ flags2 found. version_shown r flags2 s))
@@ -135,6 +141,7 @@ ReplyFits opcode request Never = ⊥
 abbrev pub AskFits : Option Opcode → (request : List ℕ) → Ask → Type 0
 AskFits opcode request (Ends reply) = ReplyFits opcode request reply
 AskFits opcode request (Asks echo c) = CallFits opcode request c
+AskFits opcode request (Lists echo l) = ListsFor l.plus opcode
 AskFits opcode request (Copies rest) = AskFits opcode request rest
 
 fault_fits : (opcode : Option Opcode) (request : List ℕ) (h : InHeader) (number : ℕ) → 0 < number → number < 2 ^ 31
@@ -183,8 +190,8 @@ module _ (limits : Limits) (options room : ℕ) (request : List ℕ) where
     λ echo offered. record { nodes = λ reply. refl; forgets = refl },
   )
   opcode_fits Interrupt = refl
-  opcode_fits Readdir = tt
-  opcode_fits Readdirplus = tt
+  opcode_fits Readdir = λ x is. record { nodes = λ reply. refl }
+  opcode_fits Readdirplus = λ x is. record { nodes = λ reply. refl }
   opcode_fits SetupMapping = tt
   opcode_fits RemoveMapping = tt
   opcode_fits _ = λ x is. record { nodes = λ reply. refl; forgets = refl }

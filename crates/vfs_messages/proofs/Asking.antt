@@ -17,7 +17,7 @@ use Rattle.vfs_messages.specs.Limits.{max_len}
 use Rattle.vfs_messages.specs.Records.{size_of, record_of}
 use Rattle.vfs_messages.specs.Ask.{form_of, ask_number, ask_header, ask}
 use Rattle.vfs_messages.specs.Forms.{second_or_refusal, both_or_refusal, sized_or_refusal}
-use Rattle.vfs_messages.specs.Forms.{Ask, Ends, Asks, Copies, refused, silent, within, refused_or, tail_of, name_or_refusal, pairs_of, pairs_in, second_flags, flags2_in, ask_version, Layout, Without, Record, layout_record, Form, NoTail, NameTail, TwoNames, NameAndValue, NameAndExtensions, LinkAndExtensions, Pairs, WithRest, IntoRoom, Versions, Silent, NotServed, room_behind_header, ask_form}
+use Rattle.vfs_messages.specs.Forms.{Listing, Ask, Ends, Asks, Lists, Copies, refused, silent, within, refused_or, tail_of, name_or_refusal, pairs_of, pairs_in, second_flags, flags2_in, ask_version, Layout, Without, Record, layout_record, Form, NoTail, NameTail, TwoNames, NameAndValue, NameAndExtensions, LinkAndExtensions, Pairs, WithRest, IntoRoom, Directories, Versions, Silent, NotServed, room_behind_header, ask_form}
 use Rattle.vfs_messages.specs.Forms.{extended_in, link_in_tail}
 use Rattle.vfs_messages.specs.Laws.{unique_of}
 use Rattle.vfs_messages.specs.Reply.{Bytes, Echo, fault_reply, body_reply, version_out}
@@ -33,6 +33,7 @@ pub record EachCase (P : Ask → Type 0) (unique : ℕ) : Type 0 where
   pub version : P (Ends (Bytes (body_reply (bytes_of init_out version_out) unique)))
   pub nothing : P silent
   pub asks : (echo : Echo) (c : Call) → echo.unique ≡ unique → P (Asks echo c)
+  pub lists : (echo : Echo) (l : Listing) → echo.unique ≡ unique → P (Lists echo l)
 
 module _ (P : Ask → Type 0) (unique : ℕ) (each : EachCase P unique) where
   -- one test refuses a part
@@ -149,6 +150,9 @@ module _ (P : Ask → Type 0) (unique : ℕ) (each : EachCase P unique) where
         pairs_cases (count r) _ _ (λ pairs whole. copies _ (each.asks _ _ e))))
     form_cases h rest (WithRest l call) e = layout_cases l rest _ (λ r is. each.asks _ _ e)
     form_cases h rest (IntoRoom l room call) e = layout_cases l rest _ (λ r is. room_cases room _ (λ room_for_data. each.asks _ _ e))
+    form_cases h rest (Directories l above room listing) e =
+        layout_cases l rest _ (λ r is. within_cases (above r) h _ e (λ no.
+        room_cases room _ (λ room_for_records. each.lists _ _ e)))
     form_cases h rest Versions e = versions_cases h rest e
     form_cases h rest Silent e = each.nothing
     form_cases h rest NotServed e = rw e (each.fault (Some enosys))

@@ -12,20 +12,20 @@ use Rattle.vfs_messages.specs.Room.{Replies, PutsBehindHeader}
 use Rattle.vfs_messages.proofs.Rooms.{length-header, length-body_reply, length-fault_reply}
 
 -- all bytes of a writer whose held place was filled
-whole-filled : (old mid : Written) (bytes head : List ℕ) → length head ≡ 16 → PutsBehindHeader old bytes mid
-    → whole (held_filled mid head) ≡ old.passed ++ (head ++ (bytes ++ mid.left))
+whole-filled : (old mid : Written) (bytes head : List ℕ) → length head ≡ 16
+    → (h : PutsBehindHeader old bytes mid) → whole (held_filled mid head) ≡ old.passed ++ (head ++ (bytes ++ (h.beyond ++ mid.left)))
 whole-filled old mid bytes head n h =
     let place = take 16 old.left in
     let same : length head ≡ length place = omega (arith, n, h.enough, length-take 16 old.left) in
-    rw (h.moves.passed, h.moves.held_at, with_bytes_at-append old.passed place bytes head same) (simp append_assoc)
+    rw (h.moves.passed, h.moves.held_at, with_bytes_at-append old.passed place (bytes ++ h.beyond) head same) (simp append_assoc)
 
 -- a reply that the header begins, with the bytes or without them, and what stands behind it
 replied_by : (old mid new : Written) (bytes head reply behind : List ℕ) (len : ℕ) → length head ≡ 16
-    → PutsBehindHeader old bytes mid → new ≡ held_filled mid head
-    → head ++ (bytes ++ mid.left) ≡ reply ++ behind → len ≡ length reply → Replies (OpenBehind reply) old (Ok len) new
+    → (h : PutsBehindHeader old bytes mid) → new ≡ held_filled mid head
+    → head ++ (bytes ++ (h.beyond ++ mid.left)) ≡ reply ++ behind → len ≡ length reply → Replies (OpenBehind reply) old (Ok len) new
 replied_by old mid new bytes head reply behind len n h e same l =
     let long : length (reply ++ behind) ≡ length old.left =
-    ap length (sym same) ∙ omega (arith, n, length-append head (bytes ++ mid.left), length-append bytes mid.left, h.enough, h.moves.left, length-drop 16 old.left) in
+    ap length (sym same) ∙ omega (arith, n, length-append head (bytes ++ (h.beyond ++ mid.left)), length-append bytes (h.beyond ++ mid.left), length-append h.beyond mid.left, length-append bytes h.beyond, h.enough, h.moves.left, length-drop 16 old.left) in
     record {
       room_after = reply ++ behind;
       leaves = record {
@@ -45,11 +45,11 @@ data_replied old mid new bytes (Ok count) unique size h counts e =
     let head : OutHeader = data_header (Ok (length bytes)) unique in
     let is : new ≡ held_filled mid (bytes_of out_header head) =
     e ∙ ap (λ (k : ℕ). held_filled mid (bytes_of out_header (data_header (Ok k) unique))) counts.0 in
-    replied_by old mid new bytes (bytes_of out_header head) (body_reply bytes unique) mid.left (16 + count) (length-header head) h is
-    (sym (append_assoc (bytes_of out_header head) bytes mid.left)) (omega (arith, counts.0, length-body_reply bytes unique))
+    replied_by old mid new bytes (bytes_of out_header head) (body_reply bytes unique) (h.beyond ++ mid.left) (16 + count) (length-header head) h is
+    (sym (append_assoc (bytes_of out_header head) bytes (h.beyond ++ mid.left))) (omega (arith, counts.0, length-body_reply bytes unique))
 data_replied old mid new bytes (Err fault) unique size h counts e =
     let head : OutHeader = data_header (Err fault) unique in
-    replied_by old mid new bytes (bytes_of out_header head) (fault_reply fault unique) (bytes ++ mid.left) 16 (length-header head) h e refl
+    replied_by old mid new bytes (bytes_of out_header head) (fault_reply fault unique) (bytes ++ (h.beyond ++ mid.left)) 16 (length-header head) h e refl
     (sym (length-fault_reply fault unique))
 
 -- data and a fault are the answers of READ

@@ -1,5 +1,5 @@
 -- The definitions held against examples: what these bytes ask, and what these replies are, computed.
-use Rattle.std.proofs.Common.{◌≡◌, ◌+◌, ◌/◌, ◌%◌, ◌^◌, ℕ, List, [], ◌∷◌, ◌++◌, take, replicate, true, false, Some, None, Ok, Err, refl, pos, negsuc}
+use Rattle.std.proofs.Common.{◌≡◌, ◌+◌, ◌/◌, ◌%◌, ◌^◌, ℕ, Bool, List, [], ◌∷◌, ◌++◌, take, replicate, true, false, Some, None, Ok, Err, refl, pos, negsuc}
 use Rattle.vfs_flags.specs.Opcode.{opcode_of}
 use Rattle.vfs_wire.specs.Fields.{number, little, value_of}
 use Rattle.vfs_wire.specs.Attributes.{attr, setattr_in}
@@ -12,7 +12,7 @@ use Rattle.vfs_files.specs.Answers.{Done, Failed, Options, Found, Attributes, Pu
 use Rattle.vfs_files.specs.Answers.{Agreements, Data, Entries, Told, Untold, TimedAttributes, Openings, Capacities, Texts, TextsOrCounts, Offsets, Writes, Faults}
 use Rattle.vfs_messages.specs.Ask.{ask}
 use Rattle.vfs_messages.specs.Extensions.{extensions_in, cut_of, no_extensions}
-use Rattle.vfs_messages.specs.Forms.{Ask, Ends, Asks, Copies, refused, silent}
+use Rattle.vfs_messages.specs.Forms.{Ask, Ends, Asks, Lists, Copies, refused, silent}
 use Rattle.vfs_messages.specs.declared.limits.Limits.{Limits}
 use Rattle.vfs_messages.specs.Options.{agreed, options_after}
 use Rattle.vfs_messages.specs.Reply.{Bytes, OpenBehind, NoReply, Echo, reply_of}
@@ -198,6 +198,40 @@ read_by_an_owner_of_locks = refl
 read_by_all_flags_but_that_of_the_owner : ask usual 0 18 (header 80 15 9 2 ++ (((eight 7 ++ eight 10) ++ (four 3 ++ four 0xfffffffd)) ++ (eight 5 ++ zeros 8))) ≡ Asks (echo 9) (call.Read nobody 2 7 2 3 10 None 0)
 unfolding number little opcode_of
 read_by_all_flags_but_that_of_the_owner = refl
+
+-- READDIR and READDIRPLUS: the record comes first, then its size by the limit and by the whole room,
+-- and only then the room by a header
+abbrev listed : (plus : Bool) → (handle size offset room : ℕ) → Ask
+listed plus handle size offset room =
+    Lists (echo 9) (record { plus = plus; ctx = nobody; parent = 1; handle = handle; size = size; offset = offset; room = room })
+
+readdir : ask usual 0 112 (header 80 28 9 1 ++ (((eight 7 ++ eight 2) ++ four 96) ++ zeros 20)) ≡ listed false 7 96 2 96
+unfolding number little opcode_of
+readdir = refl
+
+readdirplus : ask usual 0 335 (header 80 44 9 1 ++ ((zeros 16 ++ four 319) ++ zeros 20)) ≡ listed true 0 319 0 319
+unfolding number little opcode_of
+readdirplus = refl
+
+readdir_of_more_than_the_room : ask usual 0 8 (header 80 28 9 1 ++ ((zeros 16 ++ four 9) ++ zeros 20)) ≡ said_so ((four 16 ++ (0xf4 ∷ 0xff ∷ 0xff ∷ 0xff ∷ [])) ++ eight 9)
+unfolding number little opcode_of
+readdir_of_more_than_the_room = refl
+
+readdir_of_the_whole_room : ask usual 0 32 (header 80 28 9 1 ++ ((zeros 16 ++ four 32) ++ zeros 20)) ≡ listed false 0 32 0 16
+unfolding number little opcode_of
+readdir_of_the_whole_room = refl
+
+readdirplus_above_the_limit : ask usual 0 0x200000 (header 80 44 9 1 ++ ((zeros 16 ++ four 0x100001) ++ zeros 20)) ≡ said_so ((four 16 ++ (0xf4 ∷ 0xff ∷ 0xff ∷ 0xff ∷ [])) ++ eight 9)
+unfolding number little opcode_of
+readdirplus_above_the_limit = refl
+
+readdir_without_room_for_a_header : ask usual 0 8 (header 80 28 9 1 ++ zeros 40) ≡ refused EncodeMessage
+unfolding number little opcode_of
+readdir_without_room_for_a_header = refl
+
+readdir_cut_short : ask usual 0 8 (header 80 28 9 1 ++ zeros 39) ≡ refused DecodeMessage
+unfolding number little opcode_of
+readdir_cut_short = refl
 
 -- WRITE: all bytes behind the record are the call's, whatever `len` and `size` say
 write : ask usual 0 24 (header 83 16 9 2 ++ (((zeros 16 ++ four 5) ++ zeros 20) ++ (0x48 ∷ 0x45 ∷ 0x59 ∷ []))) ≡ Asks (echo 9) (call.Write nobody 2 0 (0x48 ∷ 0x45 ∷ 0x59 ∷ []) 5 0 None false false 0)

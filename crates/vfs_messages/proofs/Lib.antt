@@ -6,6 +6,7 @@ pub mod Refusing
 pub mod Asking
 pub mod Bodies
 pub mod Turns
+pub mod Directories
 pub mod Examples
 mod Blocks
 mod BlockLaws

@@ -13,17 +13,17 @@ use Rattle.vfs_wire.specs.Headers.{in_header, out_header}
 use Rattle.vfs_wire.specs.Init.{init_out}
 use Rattle.vfs_wire.specs.declared.headers.InHeader.{InHeader}
 use Rattle.vfs_wire.specs.declared.headers.OutHeader.{OutHeader}
-use Rattle.vfs_files.specs.Calls.{Call, Init, Destroy, Answer, Options, kind_of}
-use Rattle.vfs_files.specs.Runs.{Called}
+use Rattle.vfs_files.specs.Calls.{Call, Init, Destroy, Readdir, Answer, Failed, Options, Data, kind_of, read_answer}
+use Rattle.vfs_files.specs.Runs.{Event, Called}
 use Rattle.vfs_messages.specs.Limits.{max_len}
 use Rattle.vfs_messages.specs.Records.{size_of}
 use Rattle.vfs_messages.specs.Ask.{form_of, ask, ask_number}
-use Rattle.vfs_messages.specs.Forms.{Ask, Ends, Asks, Copies, Form, NoTail, NameTail, TwoNames, NameAndValue, NameAndExtensions, LinkAndExtensions, Pairs, WithRest, IntoRoom, Versions, Silent, NotServed, Layout, refused_or, layout_record, layout_size, tail_of, behind, TailIsWhole, ask_form, MayLackMemory}
+use Rattle.vfs_messages.specs.Forms.{Listing, Ask, Ends, Asks, Lists, Copies, Form, NoTail, NameTail, TwoNames, NameAndValue, NameAndExtensions, LinkAndExtensions, Pairs, WithRest, IntoRoom, Directories, Versions, Silent, NotServed, Layout, refused_or, layout_record, layout_size, tail_of, behind, TailIsWhole, ask_form, MayLackMemory}
 use Rattle.vfs_messages.specs.Laws.{unique_of, BeginsWithHeader, AreAgreed, WantsMemory, MayLackBehind}
 use Rattle.vfs_messages.specs.Options.{agreed, options_after}
-use Rattle.vfs_messages.specs.Reply.{Reply, Refusal, NoReply, Bytes, OpenBehind, Never, Saying, Fault, Body, Unsaid, Wrong, said, said_open, said_by, is_open, say, fault_reply, fault_number, body_reply, version_out}
+use Rattle.vfs_messages.specs.Reply.{Reply, echo_of, Refusal, NoReply, Bytes, OpenBehind, Never, Saying, Fault, Body, Unsaid, Wrong, said, said_open, said_by, is_open, say, fault_reply, fault_number, body_reply, version_out}
 use Rattle.vfs_messages.specs.Room.{IsReplied}
-use Rattle.vfs_messages.specs.Turn.{Turn, Follows, IsTurn, turn_tells}
+use Rattle.vfs_messages.specs.Turn.{Turn, Follows, IsRead, IsTurn, turn_tells}
 use Rattle.vfs_messages.specs.declared.limits.Limits.{Limits}
 use Rattle.vfs_messages.specs.declared.error.Error.{Error}
 use Rattle.vfs_messages.specs.declared.error.Error.TheVariants.{DecodeMessage, EncodeMessage, FlushMessage, InvalidCString2, OutOfMemory}
@@ -70,6 +70,7 @@ ended_so Never room outcome left e h o n = absurd h
 nothing_follows : (limits : Limits) (options : ℕ) (a : Ask) (t : Turn) (after : ℕ) (e : Error) → Follows (turn_tells t) limits options a after → t.outcome ≡ Err e → e ≢ EncodeMessage → (t.events ≡ []) × (t.room_after ≡ t.room) × (after ≡ options)
 nothing_follows limits options (Ends reply) t after e f o n = (f.0, ended_so reply t.room t.outcome t.room_after e f.1 o n, f.2)
 nothing_follows limits options (Asks echo call) t after e f o n = absurd (n (answer_error (is_open (kind_of call)) echo.unique (say limits echo after (kind_of call) f.0) t.room t.outcome t.room_after e f.3 o))
+nothing_follows limits options (Lists echo l) t after e f o n = absurd (n (answer_error true echo.unique (say limits echo after Data (read_answer f.1 f.0)) t.room t.outcome t.room_after e f.4 o))
 nothing_follows limits options (Copies rest) t after e (inl f) o n = nothing_follows limits options rest t after e f o n
 nothing_follows limits options (Copies rest) t after e (inr f) o n = (f.0, f.1.1, f.2)
 
@@ -105,6 +106,7 @@ answers limits options after t e o =
       version = λ f. encode (bytes_error (body_reply (bytes_of init_out version_out) u) t.room t.outcome t.room_after e f.1 o);
       nothing = λ f. absurd (let a = sym f.1.0 ∙ o in cc);
       asks = λ echo c same f. encode (answer_error (is_open (kind_of c)) echo.unique (say limits echo after (kind_of c) f.0) t.room t.outcome t.room_after e f.3 o);
+      lists = λ echo l same f. encode (answer_error true echo.unique (say limits echo after Data (read_answer f.1 f.0)) t.room t.outcome t.room_after e f.4 o);
     })
     (λ a p f. elim f as (λ x. MayAnswer e) [ inl g ↦ p g | inr g ↦ of_error OutOfMemory e t.outcome g.1.0 o tt ])
     limits options (length t.room) t.request refl
@@ -132,6 +134,7 @@ module _ (limits : Limits) (options after : ℕ) (t : Turn) (lacks : t.outcome �
     version = λ f. absurd (let a = bytes_error (body_reply (bytes_of init_out version_out) unique) t.room t.outcome t.room_after OutOfMemory f.1 lacks in cc);
     nothing = λ f. absurd (let a = sym f.1.0 ∙ lacks in cc);
     asks = λ echo c same f. absurd (let a = answer_error (is_open (kind_of c)) echo.unique (say limits echo after (kind_of c) f.0) t.room t.outcome t.room_after OutOfMemory f.3 lacks in cc);
+    lists = λ echo l same f. absurd (let a = answer_error true echo.unique (say limits echo after Data (read_answer f.1 f.0)) t.room t.outcome t.room_after OutOfMemory f.4 lacks in cc);
   }
 
   is_ok : {A : Type 0} (r : Result A Error) (x : A) → r ≡ Ok x → IsOk r
@@ -180,6 +183,12 @@ module _ (limits : Limits) (options after : ℕ) (t : Turn) (lacks : t.outcome �
       let all = each Q h.unique in
       layout_cases (Gives Q) h.unique all l rest _ (λ r is.
       room_cases (Gives Q) h.unique all room _ (λ room_for_data. all.asks _ _ refl))
+  memory_form h rest (Directories l above room listing) =
+      let Q = MayLackMemory h rest (Directories l above room listing) in
+      let all = each Q h.unique in
+      layout_cases (Gives Q) h.unique all l rest _ (λ r is.
+      within_cases (Gives Q) h.unique all (above r) h _ refl (λ no.
+      room_cases (Gives Q) h.unique all room _ (λ room_for_records. all.lists (echo_of h) (listing r room_for_records) refl)))
   memory_form h rest Versions =
       versions_cases (Gives (MayLackMemory h rest Versions)) h.unique (each (MayLackMemory h rest Versions) h.unique) h rest refl
   memory_form h rest Silent = (each (MayLackMemory h rest Silent) h.unique).nothing
@@ -308,6 +317,9 @@ begins limits options after n t f o some =
       asks = λ echo c same f. subst (λ (v : ℕ). BeginsWithHeader n v t.room_after) same
           (answer_begins (is_open (kind_of c)) echo.unique (say limits echo after (kind_of c) f.0) t.room t.outcome t.room_after n
           (answers_are_short limits echo after (kind_of c) f.0 f.2) f.3 o some);
+      lists = λ echo l same f. subst (λ (v : ℕ). BeginsWithHeader n v t.room_after) same
+          (answer_begins true echo.unique (say limits echo after Data (read_answer f.1 f.0)) t.room t.outcome t.room_after n
+          (answers_are_short limits echo after Data (read_answer f.1 f.0) f.3) f.4 o some);
     })
     (λ a p f. elim f as (λ x. BeginsWithHeader n u t.room_after) [ inl g ↦ p g | inr g ↦ absurd (let a = sym g.1.0 ∙ o in cc) ])
     limits options (length t.room) t.request refl f
@@ -323,6 +335,15 @@ AreAgreed-agreed offered want = record {
   supported_too = λ k a b. omega (arith, a, b, bit_at_and offered (bit_or want supported_fs_options) k, bit_at_or want supported_fs_options k, bit_at-le want k);
 }
 
+-- a directory that was read in one event keeps the options: the event is that `readdir` failed
+listed_alone : (l : Listing) (events : List Event) (records : List ℕ) (result : Result ℕ (Option ℕ)) (call : Call) (answer : Answer) (options : ℕ)
+    → IsRead l events records result → events ≡ Called call answer ∷ [] → options_after call answer options ≡ options
+listed_alone l events records result call answer options (inl u) e =
+    let a = sym u.events_are ∙ e in
+    let same : Readdir l.ctx l.parent l.handle l.size l.offset ≡ call = cc in
+    ap (λ (c : Call). options_after c answer options) (sym same)
+listed_alone l events records result call answer options (inr o) e = absurd (let a = sym o.events_are ∙ e in cc)
+
 -- the options after the one call of a turn
 after_call : (limits : Limits) (options : ℕ) (a : Ask) (t : Turn) (after : ℕ) (call : Call) (answer : Answer) → Follows (turn_tells t) limits options a after → t.events ≡ Called call answer ∷ [] → after ≡ options_after call answer options
 after_call limits options (Ends reply) t after call answer f e = absurd (let a = sym f.0 ∙ e in cc)
@@ -331,6 +352,7 @@ after_call limits options (Asks echo c) t after call answer f e =
     let same : c ≡ call = cc in
     let answered : f.0 ≡ answer = cc in
     f.4 ∙ ap (λ (x : Call). options_after x f.0 options) same ∙ ap (λ (x : Answer). options_after call x options) answered
+after_call limits options (Lists echo l) t after call answer f e = f.5 ∙ sym (listed_alone l t.events f.0 f.1 call answer options f.2 e)
 after_call limits options (Copies rest) t after call answer (inl f) e = after_call limits options rest t after call answer f e
 after_call limits options (Copies rest) t after call answer (inr f) e = absurd (let a = sym f.0 ∙ e in cc)
 

@@ -1,5 +1,5 @@
 -- What a request asks, by its bytes alone: the table of the protocol.
-use Rattle.std.specs.Prelude.{ℕ, [], ◌∷◌, slice_index, ◌*◌, ◌==◌, bit_and, bit_or, Bool, List, drop, nat_lt, not, if◌then◌else◌, Option, Some, None}
+use Rattle.std.specs.Prelude.{ℕ, [], ◌∷◌, slice_index, ◌*◌, ◌==◌, ◌||◌, true, false, bit_and, bit_or, Bool, List, drop, nat_lt, not, if◌then◌else◌, Option, Some, None}
 use Rattle.vfs_flags.specs.Errors.{enosys}
 use Rattle.vfs_flags.specs.Flags.{known_setattr_valid, known_setxattr_flags, setxattr_ext}
 use Rattle.vfs_flags.specs.Opcode.{opcode_of}
@@ -14,13 +14,14 @@ use Rattle.vfs_wire.specs.Files.{open_in, release_in, flush_in, fsync_in, read_i
 use Rattle.vfs_wire.specs.Names.{access_in, create_in, link_in, mkdir_in, mknod_in, rename_in, rename2_in}
 use Rattle.vfs_wire.specs.Ranges.{lseek_in, copyfilerange_in, fallocate_in}
 use Rattle.vfs_wire.specs.Xattrs.{getxattr_in, setxattr_in}
+use Rattle.vfs_wire.specs.declared.files.ReadIn.{ReadIn}
 use Rattle.vfs_wire.specs.declared.headers.InHeader.{InHeader}
 use Rattle.vfs_wire.specs.declared.xattrs.SetxattrIn.{SetxattrIn}
 use Rattle.vfs_files.specs.Calls as call
 use Rattle.vfs_files.specs.Entries.{context_of}
 use Rattle.vfs_messages.specs.Limits.{max_len}
 use Rattle.vfs_messages.specs.Records.{size_of, record_of}
-use Rattle.vfs_messages.specs.Forms.{Ask, refused_or, faulted, within, Layout, no_record, Record, unlimited, Form, NoTail, NameTail, TwoNames, NameAndValue, NameAndExtensions, LinkAndExtensions, Pairs, WithRest, IntoRoom, Versions, Silent, NotServed, ask_form}
+use Rattle.vfs_messages.specs.Forms.{Ask, Listing, refused_or, faulted, within, Layout, no_record, Record, unlimited, Form, NoTail, NameTail, TwoNames, NameAndValue, NameAndExtensions, LinkAndExtensions, Pairs, WithRest, IntoRoom, Directories, Versions, Silent, NotServed, ask_form}
 use Rattle.vfs_messages.specs.declared.limits.Limits.{Limits}
 
 -- whether a word of flags has one of these flags
@@ -52,6 +53,23 @@ setxattr_layout options =
 -- the flags of RENAME2 that are passed on: not to replace, to exchange, and to leave a whiteout
 abbrev pub rename_flags : ℕ
 rename_flags = 7
+
+-- whether a directory's records may have more bytes than the limit, or than there is room for
+abbrev pub lists_too_much : Limits → (room : ℕ) → ReadIn → Bool
+lists_too_much limits room r = nat_lt limits.max_buffer r.size || nat_lt room r.size
+
+-- the directory that is read, with entries where `plus`
+abbrev pub listing_of : (plus : Bool) → InHeader → ReadIn → (room_for_records : ℕ) → Listing
+listing_of plus h r room_for_records =
+    record {
+      plus = plus;
+      ctx = context_of h;
+      parent = h.nodeid;
+      handle = r.fh;
+      size = r.size;
+      offset = r.offset;
+      room = room_for_records;
+    }
 
 -- The table of the protocol: a line for each opcode, by the limits, the agreed options, the room
 -- and the header. The calls that name a caller and a node name those of the header.
@@ -128,7 +146,8 @@ form_of limits options room h Flush =
 form_of limits options room h Init = Versions
 form_of limits options room h Opendir =
     NoTail (Record open_in) unlimited (λ r. call.Opendir (context_of h) h.nodeid r.flags)
-form_of limits options room h Readdir = NotServed
+form_of limits options room h Readdir =
+    Directories (Record read_in) (lists_too_much limits room) room (listing_of false h)
 form_of limits options room h Releasedir =
     NoTail (Record release_in) unlimited (λ r.
     call.Releasedir (context_of h) h.nodeid r.flags r.fh)
@@ -156,7 +175,8 @@ form_of limits options room h BatchForget =
 form_of limits options room h Fallocate =
     NoTail (Record fallocate_in) unlimited (λ r.
     call.Fallocate (context_of h) h.nodeid r.fh r.mode r.offset r.length)
-form_of limits options room h Readdirplus = NotServed
+form_of limits options room h Readdirplus =
+    Directories (Record read_in) (lists_too_much limits room) room (listing_of true h)
 form_of limits options room h Rename2 =
     TwoNames (Record rename2_in) (λ r old new.
     call.Rename (context_of h) h.nodeid old r.newdir new (bit_and r.flags rename_flags))

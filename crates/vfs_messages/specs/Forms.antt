@@ -14,6 +14,7 @@ use Rattle.vfs_files.specs.Calls.{Call}
 use Rattle.vfs_files.specs.Calls as call
 use Rattle.vfs_files.specs.Extensions.{ExtensionValues}
 use Rattle.vfs_files.specs.Names.{name_of, first_name}
+use Rattle.vfs_files.specs.declared.entry.Context.{Context}
 use Rattle.vfs_messages.specs.Extensions.{error_or, extensions_in}
 use Rattle.vfs_messages.specs.Options.{offered}
 use Rattle.vfs_messages.specs.Records.{size_of, record_of}
@@ -21,12 +22,24 @@ use Rattle.vfs_messages.specs.Reply.{Reply, Refusal, Bytes, NoReply, Echo, echo_
 use Rattle.vfs_messages.specs.declared.error.Error.{Error}
 use Rattle.vfs_messages.specs.declared.error.Error.TheVariants.{DecodeMessage, EncodeMessage, MissingParameter, InvalidCString, InvalidHeaderLength, InvalidXattrSize}
 
--- What a request asks: to be ended without a call, by this coming back; a call, whose reply
--- repeats this of the request; or that some of its bytes be copied, for which there may be no
--- memory, and then the rest.
+-- A directory that is to be read: for this caller, with an entry behind each of its items where
+-- `plus`, from this offset on; and at most `size` bytes of records, for which there is this room.
+pub record Listing : Type 0 where
+  pub plus : Bool
+  pub ctx : Context
+  pub parent : ℕ
+  pub handle : ℕ
+  pub size : ℕ
+  pub offset : ℕ
+  pub room : ℕ
+
+-- What a request asks: to be ended without a call, by this coming back; a call, or that a directory
+-- be read, whose reply repeats this of the request; or that some of its bytes be copied, for which
+-- there may be no memory, and then the rest.
 pub data Ask : Type 0 where
   Ends : (reply : Reply) → Ask
   Asks : (echo : Echo) (call : Call) → Ask
+  Lists : (echo : Echo) (listing : Listing) → Ask
   Copies : (rest : Ask) → Ask
 
 -- a request that is refused with an error
@@ -200,9 +213,10 @@ unlimited r = false
 -- asks for. By the form something may follow the record: nothing; a name; two names; a name and a
 -- value of the size that the record says; a name, or a link's name and its text, and extensions;
 -- pairs of a node and a count, as many as the record says; or bytes that the call takes as they
--- are, to the end of the request. A call may want a room to put its reply's data into. `above` tells
--- whether the record asks for more than the limits allow. INIT has a form of its own; some requests
--- ask for nothing, and some aren't served.
+-- are, to the end of the request. A call may want a room to put its reply's data into, and a
+-- directory one for its records. `above` tells whether the record asks for more than the limits
+-- allow, or than there is room for. INIT has a form of its own; some requests ask for nothing, and
+-- some aren't served.
 pub data Form : Type 1 where
   NoTail : {R : Type 0} (layout : Layout R) (above : R → Bool) (call : R → Call) → Form
   NameTail : {R : Type 0} (layout : Layout R) (above : R → Bool) (call : R → List ℕ → Call) → Form
@@ -218,6 +232,8 @@ pub data Form : Type 1 where
   WithRest : {R : Type 0} (layout : Layout R) (call : R → (rest : List ℕ) → Call) → Form
   IntoRoom : {R : Type 0} (layout : Layout R) (room : ℕ)
       (call : R → (room_for_data : ℕ) → Call) → Form
+  Directories : {R : Type 0} (layout : Layout R) (above : R → Bool) (room : ℕ)
+      (listing : R → (room_for_records : ℕ) → Listing) → Form
   Versions : Form
   Silent : Form
   NotServed : Form
@@ -261,6 +277,11 @@ ask_form h rest (IntoRoom layout room call) =
     refused_or (layout_record layout rest) (λ r.
     refused_or (room_behind_header room) (λ room_for_data.
     Asks (echo_of h) (call r room_for_data)))
+ask_form h rest (Directories layout above room listing) =
+    refused_or (layout_record layout rest) (λ r.
+    within (above r) h
+    (refused_or (room_behind_header room) (λ room_for_records.
+    Lists (echo_of h) (listing r room_for_records))))
 ask_form h rest Versions =
     refused_or (record_of init_in_compat rest) (λ r.
     refused_or (second_flags r.flags (drop (size_of init_in_compat) rest)) (ask_version h r))

@@ -1,6 +1,7 @@
 -- What follows of every turn.
-use Rattle.std.specs.Prelude.{◌≡◌, ◌≤◌, ◌<◌, ◌^◌, ℕ, ℤ, List, length, take, drop, Option, Some, None}
+use Rattle.std.specs.Prelude.{◌≡◌, ◌≤◌, ◌<◌, ◌+◌, ◌/◌, ◌^◌, ℕ, ℤ, List, ◌∷◌, length, take, drop, Option, Some, None, Result, Ok, Err}
 use Rattle.std.specs.Int.{bit_at}
+use Rattle.std.specs.List.{All}
 use Rattle.vfs_flags.specs.Flags.{supported_fs_options}
 use Rattle.vfs_flags.specs.Opcode.{opcode_of}
 use Rattle.vfs_flags.specs.declared.opcode.Opcode.{Opcode}
@@ -8,9 +9,15 @@ use Rattle.vfs_wire.specs.Fields.{bytes_of, value_of}
 use Rattle.vfs_wire.specs.Headers.{in_header, out_header}
 use Rattle.vfs_wire.specs.declared.headers.InHeader.{InHeader}
 use Rattle.vfs_messages.specs.Ask.{form_of}
-use Rattle.vfs_messages.specs.Forms.{MayLackMemory}
+use Rattle.vfs_files.specs.Calls.{Readdir}
+use Rattle.vfs_files.specs.Runs.{Event, Opened}
+use Rattle.vfs_listings.specs.Laws.{takings, least_record, GoesOn, IsWhole}
+use Rattle.vfs_messages.specs.Forms.{Listing, MayLackMemory}
 use Rattle.vfs_messages.specs.Limits.{max_len}
 use Rattle.vfs_messages.specs.Records.{size_of}
+use Rattle.vfs_messages.specs.Reply.{fault_reply, body_reply}
+use Rattle.vfs_messages.specs.Room.{IsPutOpen}
+use Rattle.vfs_messages.specs.Turn.{Turn, IsRead}
 use Rattle.vfs_messages.specs.declared.limits.Limits.{Limits}
 
 -- the header that a request begins with
@@ -50,3 +57,37 @@ pub record WantsMemory (limits : Limits) (options room : ℕ) (request : List �
   pub form :
       MayLackBehind limits options room (opcode_of (header_of request).opcode) (header_of request)
       (drop (size_of in_header) request)
+
+-- ---- directories
+
+-- the reply to the reading of a directory: its records, or the fault
+abbrev pub listing_reply : Result ℕ (Option ℕ) → (records : List ℕ) → (unique : ℕ) → List ℕ
+listing_reply (Ok count) records unique = body_reply records unique
+listing_reply (Err fault) records unique = fault_reply fault unique
+
+-- The reading of a directory stopped for a cause: at its end, at a fault, or at the first item that
+-- was not written; and what it gave up to there is what came back.
+pub record StopsForACause (l : Listing) (unique : ℕ) (t : Turn) : Type 0 where
+  pub records : List ℕ
+  pub answer : Result ℕ (Option ℕ)
+  pub stops : IsRead l t.events records answer
+  pub replied : IsPutOpen (listing_reply answer records unique) t.room t.outcome t.room_after
+
+-- A directory came back whole: the records of all items that were taken but of a last one whose
+-- record would pass `size`; where there is no such one, the iterator answered its end.
+pub record CameWhole (l : Listing) (unique : ℕ) (taken : List Event) (t : Turn) : Type 0 where
+  pub records : List ℕ
+  pub whole : IsWhole l.plus l.ctx l.parent l.size taken records (Ok (length records))
+  pub replied : IsPutOpen (body_reply records unique) t.room t.outcome t.room_after
+
+-- where the directory was opened, there is room for as much as was asked for, no lookup failed and
+-- no name has 2 ^ 32 bytes or more, it came back whole
+abbrev pub ComesWhole : (l : Listing) (unique : ℕ) (t : Turn) → Type 0
+ComesWhole l unique t =
+    (taken : List Event)
+    → t.events ≡ Opened (Readdir l.ctx l.parent l.handle l.size l.offset) ∷ taken
+    → l.size ≤ l.room → All GoesOn taken → CameWhole l unique taken t
+
+-- no more items were taken than records can have been asked for, and one
+abbrev pub TakesFew : (l : Listing) (t : Turn) → Type 0
+TakesFew l t = length (takings t.events) ≤ l.size / least_record l.plus + 1

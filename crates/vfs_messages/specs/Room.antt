@@ -64,8 +64,9 @@ Replies (Bytes reply) old outcome new = Writes (Bytes reply) old outcome new
 Replies (OpenBehind reply) old outcome new = Writes (OpenBehind reply) old outcome new
 Replies Never old outcome new = ⊥
 
--- These bytes were put into a writer behind the place of a reply's header, which it holds. What
--- stands behind them in the room isn't said.
+-- These bytes were put into a writer behind the place of a reply's header, which it holds, and
+-- perhaps others beyond them, which don't count. What stands behind them in the room isn't said.
 pub record PutsBehindHeader (old : Written) (bytes : List ℕ) (new : Written) : Type 0 where
+  pub beyond : List ℕ
   pub enough : size_of out_header ≤ length old.left
-  pub moves : Moves (held_over old (size_of out_header)) bytes new
+  pub moves : Moves (held_over old (size_of out_header)) (bytes ++ beyond) new

@@ -1,8 +1,9 @@
 -- What follows from a request: the calls, what comes back, and the options afterwards.
-use Rattle.std.specs.Prelude.{◌≡◌, ◌⊎◌, length, ℕ, List, [], ◌∷◌, Result}
-use Rattle.vfs_files.specs.Calls.{Call, Answer, kind_of, IsAnswer}
+use Rattle.std.specs.Prelude.{◌≡◌, ◌⊎◌, length, ℕ, List, [], ◌∷◌, Option, Result}
+use Rattle.vfs_files.specs.Calls.{Call, Answer, Data, kind_of, read_answer, IsAnswer}
 use Rattle.vfs_files.specs.Runs.{Event, Called}
-use Rattle.vfs_messages.specs.Forms.{Ask, Ends, Asks, Copies}
+use Rattle.vfs_listings.specs.Listing.{IsDirectory}
+use Rattle.vfs_messages.specs.Forms.{Listing, Ask, Ends, Asks, Lists, Copies}
 use Rattle.vfs_messages.specs.Ask.{ask}
 use Rattle.vfs_messages.specs.Options.{options_after}
 use Rattle.vfs_messages.specs.Reply.{Reply, Refusal, reply_of}
@@ -11,20 +12,34 @@ use Rattle.vfs_messages.specs.declared.limits.Limits.{Limits}
 use Rattle.vfs_messages.specs.declared.error.Error.{Error}
 use Rattle.vfs_messages.specs.declared.error.Error.TheVariants.{OutOfMemory}
 
+-- a directory was read in these events: its records, and how many bytes these have, or a fault in
+-- their place
+abbrev pub IsRead : Listing → List Event → (records : List ℕ) → Result ℕ (Option ℕ) → Type 0
+IsRead l events records answer =
+    IsDirectory l.plus l.ctx l.parent l.handle l.size l.offset l.room events records answer
+
 -- Who tells what happened at a request: that the file system wasn't called; that it was called
--- once, so, with this answer; and that this came back to the client.
+-- once, so, with this answer; that a directory was read, with these records and this answer; and
+-- that this came back to the client.
 pub record Witness : Type 1 where
   pub no_call : Type 0
   pub called : Call → Answer → Type 0
+  pub listed : Listing → (records : List ℕ) → Result ℕ (Option ℕ) → Type 0
   pub replied : Reply → Type 0
 
 -- The table of what follows from a request that asks this, with the options before and after it.
+-- The records of a directory are replied as the data of a READ are.
 abbrev pub Follows : Witness → Limits → (options : ℕ) → Ask → (after : ℕ) → Type 0
 Follows w limits options (Ends reply) after = w.no_call × w.replied reply × (after ≡ options)
 Follows w limits options (Asks echo call) after =
     (answer : Answer) × w.called call answer × IsAnswer (kind_of call) answer
     × w.replied (reply_of limits echo after (kind_of call) answer)
     × (after ≡ options_after call answer options)
+Follows w limits options (Lists echo listing) after =
+    (records : List ℕ) × (answer : Result ℕ (Option ℕ)) × w.listed listing records answer
+    × IsAnswer Data (read_answer answer records)
+    × w.replied (reply_of limits echo after Data (read_answer answer records))
+    × (after ≡ options)
 Follows w limits options (Copies rest) after =
     Follows w limits options rest after
     ⊎ (w.no_call × w.replied (Refusal OutOfMemory) × (after ≡ options))
@@ -42,6 +57,7 @@ abbrev pub turn_tells : Turn → Witness
 turn_tells t = record {
   no_call = t.events ≡ [];
   called = λ call answer. t.events ≡ Called call answer ∷ [];
+  listed = λ listing records answer. IsRead listing t.events records answer;
   replied = λ reply. IsReplied reply t.room t.outcome t.room_after;
 }
 

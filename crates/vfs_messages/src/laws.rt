@@ -6,7 +6,11 @@ ghost use Rattle.vfs_files.specs.Calls.{Init, Destroy, Answer, Options};
 ghost use Rattle.vfs_files.specs.Runs.{Called};
 ghost use Rattle.vfs_messages.specs.Turn.{Turn, IsTurn};
 ghost use Rattle.vfs_messages.specs.declared.limits.Limits.{Limits};
+ghost use Rattle.vfs_messages.specs.Ask.{ask};
+ghost use Rattle.vfs_messages.specs.Forms.{Listing, Lists};
 ghost use Rattle.vfs_messages.specs.Laws.{unique_of, BeginsWithHeader, AreAgreed, WantsMemory};
+ghost use Rattle.vfs_messages.specs.Laws.{StopsForACause, ComesWhole, TakesFew};
+ghost use Rattle.vfs_messages.specs.Reply.{Echo};
 ghost use Rattle.vfs_messages.specs.declared.error.Error.{Error};
 
 /// After every error but `EncodeMessage` no call was made, the room is as it was, and the options
@@ -51,4 +55,28 @@ pub fn options_are_agreed()
 pub fn destroy_leaves_no_options()
     ensures { (limits : Limits) (options after : ℕ) (answer : Answer) (t : Turn) →
         IsTurn limits options t after → t.events ≡ Called Destroy answer ∷ [] → after ≡ 0 }
+{}
+
+/// Of every turn that reads a directory:
+///
+/// - It stops for a cause alone: at the directory's end, at a fault, or at the first item whose
+///   record does not fit; and what comes back is what it gave up to there.
+/// - The directory comes back whole where nothing cuts it short: where it could be opened, there is
+///   room for as much as was asked for, no lookup fails, and no name has 2^32 bytes or more, the
+///   reply has the records of all items that were taken, but of a last one whose record would pass
+///   the size; and where there is no such one, the directory ended there.
+/// - At most `size / 24 + 1` items are taken for a READDIR, and `size / 152 + 1` for a READDIRPLUS,
+///   also of a directory that has no end.
+pub fn directories_are_read()
+    ensures stops { (limits : Limits) (options after : ℕ) (t : Turn) (echo : Echo) (l : Listing) →
+        IsTurn limits options t after →
+        ask limits options (length t.room) t.request ≡ Lists echo l →
+        StopsForACause l echo.unique t }
+    ensures whole { (limits : Limits) (options after : ℕ) (t : Turn) (echo : Echo) (l : Listing) →
+        IsTurn limits options t after →
+        ask limits options (length t.room) t.request ≡ Lists echo l →
+        ComesWhole l echo.unique t }
+    ensures few { (limits : Limits) (options after : ℕ) (t : Turn) (echo : Echo) (l : Listing) →
+        IsTurn limits options t after →
+        ask limits options (length t.room) t.request ≡ Lists echo l → TakesFew l t }
 {}

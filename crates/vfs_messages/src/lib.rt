@@ -21,7 +21,8 @@ pub use options::{agreed_options, offered_options, read_second_flags, reply_init
 pub use reply::{
     hold_header, reply_attr, reply_created, reply_data, reply_done, reply_entry, reply_error,
     reply_failed, reply_fault, reply_fault_alone, reply_names, reply_offset, reply_ok,
-    reply_opened, reply_record, reply_statistics, reply_text, reply_value, reply_written,
+    reply_opened, reply_readdir, reply_record, reply_statistics, reply_text, reply_value,
+    reply_written,
 };
 pub use request::{
     FirstName, Name, NameAndText, TwoNames, further_flags, handle_if, is_set, known_valid,

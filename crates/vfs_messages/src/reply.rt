@@ -200,6 +200,7 @@ pub fn reply_error(fault: Fault, unique: u64, w: &mut Writer) -> Result<usize>
         w.new ≡ held_filled w.old (fault_reply fault unique) }
     ensures replied { w.old.held ≢ size_of out_header →
         Replies (Bytes (fault_reply fault unique)) w.old result w.new }
+    ensures fault { IsFault fault }
 {
     if w.held() == OutHeader::SIZE {
         fill_header(fault_header(fault, unique), w);
@@ -225,25 +226,29 @@ pub fn hold_header(w: &mut Writer) -> Result<()>
     }
 }
 
-/// The header of a reply behind which so many bytes of data were put, or of a fault.
-fn data_header(answer: std::result::Result<usize, Fault>, unique: u64) -> OutHeader
-    requires { IfOk answer (λ count. count < 2 ^ 32 - 16) }
-    ensures header { result ≡ data_header answer unique }
-    ensures fault { IfErr answer IsFault }
+/// Replies so many bytes that were put behind the held place of their header, as READDIR does: the
+/// header is filled in now. The room behind them is as it is left.
+///
+/// The header says the length of the reply in 32 bits: of a longer one nothing is promised.
+pub fn reply_readdir(len: usize, unique: u64, w: &mut Writer) -> Result<usize>
+    requires held { w.old.held ≡ size_of out_header }
+    ensures outcome { len < 2 ^ 32 - 16 → result ≡ Ok (size_of out_header + len) }
+    ensures filled { len < 2 ^ 32 - 16 →
+        w.new ≡ held_filled w.old (bytes_of out_header (data_header (Ok len) unique)) }
 {
-    match answer {
-        Ok(count) => OutHeader {
-            len: (OutHeader::SIZE + count) as u32,
-            error: 0,
-            unique,
-        },
-        Err(fault) => fault_header(fault, unique),
-    }
+    let len = OutHeader::SIZE.wrapping_add(len);
+    let header = OutHeader {
+        len: (len % (1 << 32)) as u32,
+        error: 0,
+        unique,
+    };
+    fill_header(header, w);
+    Ok(len)
 }
 
-/// Replies data, as READ does, which were put behind the held place of their header: `answer` is
-/// how many they are, and the header is filled in now. A fault is replied as the header alone,
-/// whatever was put behind it.
+/// Replies what was put behind the held place of its header, as READ and READDIR do: `answer` is
+/// how many bytes count of it, and the header is filled in now. A fault is replied as the header
+/// alone, whatever was put behind it.
 ///
 /// The room behind the reply is as it is left. Answers the reply's length, which always fits.
 pub fn reply_data(
@@ -259,10 +264,10 @@ pub fn reply_data(
     ensures kind { (bytes : List ℕ) (size : ℕ) → Counts answer bytes size →
         IsAnswer Data (read_answer answer bytes) }
 {
-    let header = data_header(answer, unique);
-    let len = header.len as usize;
-    fill_header(header, w);
-    Ok(len)
+    match answer {
+        Ok(count) => reply_readdir(count, unique, w),
+        Err(fault) => reply_error(fault, unique, w),
+    }
 }
 
 /// Replies that a call was done, as ACCESS does: a header alone, or the fault.

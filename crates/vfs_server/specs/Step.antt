@@ -6,10 +6,12 @@ use Rattle.vfs_segments.specs.Written.{Written, Moves}
 use Rattle.vfs_files.specs.Items.{Item}
 use Rattle.vfs_files.specs.Calls.{Call, Handed, Plain, Counts, read_answer}
 use Rattle.vfs_files.specs.Runs.{Happening, IsRun, events_of}
-use Rattle.vfs_messages.specs.Forms.{Ask}
-use Rattle.vfs_messages.specs.Ask.{ask_opcode}
+use Rattle.vfs_messages.specs.Forms.{Listing, Ask, Lists}
+use Rattle.vfs_messages.specs.Ask.{ask, ask_opcode}
+use Rattle.vfs_messages.specs.Laws.{StopsForACause, ComesWhole, TakesFew}
+use Rattle.vfs_messages.specs.Reply.{Echo}
 use Rattle.vfs_messages.specs.Room.{Leaves, Replies}
-use Rattle.vfs_messages.specs.Turn.{Witness, Follows, IsTurn}
+use Rattle.vfs_messages.specs.Turn.{Witness, Follows, IsRead, Turn, IsTurn}
 use Rattle.vfs_messages.specs.declared.limits.Limits.{Limits}
 use Rattle.vfs_messages.specs.declared.error.Error.{Error}
 
@@ -19,14 +21,23 @@ pub record ServerState (S : Type 0) : Type 0 where
   pub limits : Limits
   pub fs : S
 
-module _ {S I : Type 0} (allows : S → Call → Handed I → S → Type 0) where
+module _ {S I : Type 0} (allows : S → Call → Handed I → S → Type 0)
+    (gives : I → Option Item → I → Type 0) where
+  -- a directory was read: a run leads from one state to the other, in whose events it was
+  pub record Reads (listing : Listing) (old : S) (records : List ℕ) (answer : Result ℕ (Option ℕ))
+      (new : S) : Type 0 where
+    pub run : List (Happening I × S)
+    pub is_run : IsRun allows gives None old run new
+    pub is_read : IsRead listing (events_of run) records answer
+
   -- what a server and a writer, both seen before and after, tell of a request: by the states of
-  -- the file system, without a list of events
+  -- the file system, and for a directory that was read by a run between them
   abbrev pub server_tells : (old : ServerState S) → (writer : Written) → Result ℕ Error
       → (writer_after : Written) → (new : ServerState S) → Witness
   server_tells old writer outcome writer_after new = record {
     no_call = new.fs ≡ old.fs;
     called = λ call answer. allows old.fs call (Plain answer) new.fs;
+    listed = λ listing records answer. Reads listing old.fs records answer new.fs;
     replied = λ reply. Replies reply writer outcome writer_after;
   }
 
@@ -58,6 +69,18 @@ pub record ReadsInto {S I : Type 0} (allows : S → Call → Handed I → S → 
   pub same_options : new.options ≡ old.options
   pub same_limits : new.limits ≡ old.limits
 
+-- a turn of this request, over a run: what a writer had as its room, and what it has there now
+abbrev pub turn_over : {S I : Type 0} → (request : List ℕ) → (writer : Written)
+    → (run : List (Happening I × S)) → Result ℕ Error → (room_after : List ℕ) → Turn
+turn_over request writer run outcome room_after =
+    record {
+      request = request;
+      room = writer.left;
+      events = events_of run;
+      outcome = outcome;
+      room_after = room_after;
+    }
+
 -- One step: a run of the file system from its state before to that after, whose events are those
 -- of a turn of the request; the bytes that the writer had passed stay, and its room is as the
 -- turn says.
@@ -69,13 +92,30 @@ pub record IsStep {S I : Type 0} (allows : S → Call → Handed I → S → Typ
   pub is_run : IsRun allows gives None old.fs run new.fs
   pub leaves : Leaves writer room_after writer_after
   pub turn :
-      IsTurn old.limits old.options
-      (record {
-        request = request;
-        room = writer.left;
-        events = events_of run;
-        outcome = outcome;
-        room_after = room_after;
-      })
-      new.options
+      IsTurn old.limits old.options (turn_over request writer run outcome room_after) new.options
   pub same_limits : new.limits ≡ old.limits
+
+-- A directory was read, for this request: a run of the file system, in which it stopped for a
+-- cause, came back whole where nothing cut it short, and took few items.
+pub record ReadsListing {S I : Type 0} (allows : S → Call → Handed I → S → Type 0)
+    (gives : I → Option Item → I → Type 0) (listing : Listing) (unique : ℕ) (old : ServerState S)
+    (request : List ℕ) (writer : Written) (outcome : Result ℕ Error) (writer_after : Written)
+    (new : ServerState S) : Type 0 where
+  pub run : List (Happening I × S)
+  pub room_after : List ℕ
+  pub is_run : IsRun allows gives None old.fs run new.fs
+  pub leaves : Leaves writer room_after writer_after
+  pub stops :
+      StopsForACause listing unique (turn_over request writer run outcome room_after)
+  pub whole : ComesWhole listing unique (turn_over request writer run outcome room_after)
+  pub few : TakesFew listing (turn_over request writer run outcome room_after)
+
+-- where the request asks for a directory, it was read so
+abbrev pub ReadsDirectories : {S I : Type 0} → (S → Call → Handed I → S → Type 0)
+    → (I → Option Item → I → Type 0) → (old : ServerState S) → (request : List ℕ)
+    → (writer : Written) → Result ℕ Error → (writer_after : Written) → (new : ServerState S)
+    → Type 0
+ReadsDirectories allows gives old request writer outcome writer_after new =
+    (echo : Echo) (listing : Listing)
+    → ask old.limits old.options (length writer.left) request ≡ Lists echo listing
+    → ReadsListing allows gives listing echo.unique old request writer outcome writer_after new

@@ -18,7 +18,7 @@ ghost use Rattle.vfs_files.specs.Calls.{Destroy};
 ghost use Rattle.vfs_files.specs.Answers.{Plain, Done};
 ghost use Rattle.vfs_messages.specs.Ask.{ask_header};
 ghost use Rattle.vfs_server.specs.Session.{IsSession};
-ghost use Rattle.vfs_server.specs.Step.{IsStep, Handles, Serves};
+ghost use Rattle.vfs_server.specs.Step.{IsStep, ReadsDirectories, Handles, Serves};
 
 use bitflags::Flags;
 use std::alloc::Global;
@@ -27,6 +27,7 @@ use vfs_books::laws::turns_keep_books;
 use vfs_files::FileSystem;
 use vfs_files::laws::runs_join;
 use vfs_flags::{Errno, FsOptions, Opcode};
+use vfs_messages::laws::directories_are_read;
 use vfs_messages::{DEFAULT_MAX_BUFFER, Limits, Result, read_record, reply_failed};
 use vfs_segments::{Reader, Writer};
 pub use vfs_transfers::{ZcReader, ZcWriter};
@@ -139,8 +140,8 @@ impl<F: FileSystem> Server<F> {
     /// `OutOfMemory` where there is no memory for a tail or a list that is whole. After any error
     /// but `EncodeMessage` no call was made, nothing was written, and the options are the old ones.
     /// After `EncodeMessage` the room holds the beginning of a reply that was too long for it; or
-    /// the request was a READ and the room too small for a header: then too no call was made and
-    /// nothing was written.
+    /// the request was a READ, READDIR or READDIRPLUS and the room too small for a header: then too
+    /// no call was made and nothing was written.
     ///
     /// A hold that the caller left on `w` is given up first. What `w` had passed before stays, held
     /// bytes too; where it stands afterwards isn't said.
@@ -153,7 +154,10 @@ impl<F: FileSystem> Server<F> {
         ensures step { IsStep F.allows F.DirIter.gives
             self.old r.entry.left w.old result w.new self.new }
         ensures hold_given_up { w.new.held ≡ 0 }
+        ensures directories { ReadsDirectories F.allows F.DirIter.gives
+            self.old r.entry.left w.old result w.new self.new }
     {
+        directories_are_read();
         give_up_hold(w);
         self.handle(alloc, &mut r, w)
     }
@@ -207,7 +211,7 @@ impl<F: FileSystem> Server<F> {
         r: &mut Reader<'_>,
         w: &mut Writer,
     ) -> Result<usize>
-        ensures { Handles F.allows
+        ensures { Handles F.allows F.DirIter.gives
             (ask_header self.old.limits self.old.options (length w.old.left) header.now r.old.left)
             self.old w.old result w.new self.new }
     {
@@ -229,7 +233,7 @@ impl<F: FileSystem> Server<F> {
         r: &mut Reader<'_>,
         w: &mut Writer,
     ) -> Result<usize>
-        ensures { Serves F.allows opcode header.now r.old.left
+        ensures { Serves F.allows F.DirIter.gives opcode header.now r.old.left
             self.old w.old result w.new self.new }
     {
         match opcode {
@@ -258,6 +262,7 @@ impl<F: FileSystem> Server<F> {
             Opcode::Flush => self.flush(header, r, w),
             Opcode::Init => self.init(header, r, w),
             Opcode::Opendir => self.opendir(header, r, w),
+            Opcode::Readdir => self.readdir(header, r, w),
             Opcode::Releasedir => self.releasedir(header, r, w),
             Opcode::Fsyncdir => self.fsyncdir(header, r, w),
             Opcode::Getlk => self.getlk(header, r, w),
@@ -273,12 +278,15 @@ impl<F: FileSystem> Server<F> {
             Opcode::NotifyReply => self.notify_reply(header, r, w),
             Opcode::BatchForget => self.batch_forget(alloc, header, r, w),
             Opcode::Fallocate => self.fallocate(header, r, w),
+            Opcode::Readdirplus => self.readdirplus(header, r, w),
             Opcode::Rename2 => self.rename2(alloc, header, r, w),
             Opcode::Lseek => self.lseek(header, r, w),
             Opcode::CopyFileRange => self.copyfilerange(header, r, w),
             Opcode::Syncfs => self.syncfs(header, r, w),
             Opcode::TmpFile => self.tmpfile(header, r, w),
-            _ => reply_failed(Some(Errno::ENOSYS), header.unique, w),
+            Opcode::SetupMapping | Opcode::RemoveMapping => {
+                reply_failed(Some(Errno::ENOSYS), header.unique, w)
+            }
         }
     }
 }

@@ -1,13 +1,20 @@
-//! Open directories.
+//! Open directories, and what is read of them.
 
-ghost use Rattle.vfs_server.specs.Step.{Serves};
+ghost use Rattle.std.specs.Prelude.{length};
+ghost use Rattle.vfs_wire.specs.Files.{read_in};
+ghost use Rattle.vfs_messages.specs.Ask.{listing_of, lists_too_much};
+ghost use Rattle.vfs_messages.specs.Forms.{Directories, Record, ask_form};
+ghost use Rattle.vfs_server.specs.Step.{Handles, Serves};
 
 use crate::server::Server;
 use vfs_files::{Context, FileSystem, Number};
-use vfs_flags::{FSYNC_FDATASYNC, Opcode};
-use vfs_messages::{Result, is_set, read_record, reply_done, reply_opened};
+use vfs_flags::{Errno, FSYNC_FDATASYNC, Opcode};
+use vfs_listings::read_directory;
+use vfs_messages::{
+    Result, hold_header, is_set, read_record, reply_data, reply_done, reply_failed, reply_opened,
+};
 use vfs_segments::{Reader, Writer};
-use vfs_wire::{FsyncIn, InHeader, OpenIn, ReleaseIn};
+use vfs_wire::{FsyncIn, InHeader, OpenIn, ReadIn, ReleaseIn};
 
 impl<F: FileSystem> Server<F> {
     /// OPENDIR (`struct fuse_open_in`): opens a directory.
@@ -17,7 +24,7 @@ impl<F: FileSystem> Server<F> {
         r: &mut Reader<'_>,
         w: &mut Writer,
     ) -> Result<usize>
-        ensures { Serves F.allows Opcode.Opendir header.now r.old.left
+        ensures { Serves F.allows F.DirIter.gives Opcode.Opendir header.now r.old.left
             self.old w.old result w.new self.new }
     {
         let open_in = read_record::<OpenIn>(r)?;
@@ -28,6 +35,56 @@ impl<F: FileSystem> Server<F> {
         reply_opened::<F::Handle>(answer, header.unique, w)
     }
 
+    /// READDIR (`struct fuse_read_in`): the records of a directory's entries.
+    pub(super) fn readdir(
+        &mut self,
+        header: &InHeader,
+        r: &mut Reader<'_>,
+        w: &mut Writer,
+    ) -> Result<usize>
+        ensures { Serves F.allows F.DirIter.gives Opcode.Readdir header.now r.old.left
+            self.old w.old result w.new self.new }
+    {
+        self.list(header, false, r, w)
+    }
+
+    /// READDIRPLUS (`struct fuse_read_in`): the same, each with what a LOOKUP of it answers.
+    pub(super) fn readdirplus(
+        &mut self,
+        header: &InHeader,
+        r: &mut Reader<'_>,
+        w: &mut Writer,
+    ) -> Result<usize>
+        ensures { Serves F.allows F.DirIter.gives Opcode.Readdirplus header.now r.old.left
+            self.old w.old result w.new self.new }
+    {
+        self.list(header, true, r, w)
+    }
+
+    /// Reads a directory into the room, behind the place of the reply's header, which is filled in
+    /// last.
+    fn list(
+        &mut self,
+        header: &InHeader,
+        plus: bool,
+        r: &mut Reader<'_>,
+        w: &mut Writer,
+    ) -> Result<usize>
+        ensures { Handles F.allows F.DirIter.gives
+            (ask_form header.now r.old.left
+            (Directories (Record read_in) (lists_too_much self.old.limits (length w.old.left))
+            (length w.old.left) (listing_of plus header.now)))
+            self.old w.old result w.new self.new }
+    {
+        let read_in = read_record::<ReadIn>(r)?;
+        if read_in.size > self.limits.max_buffer || read_in.size as usize > w.available_bytes() {
+            return reply_failed(Some(Errno::ENOMEM), header.unique, w);
+        }
+        hold_header(w)?;
+        let answer = read_directory(&mut self.fs, header, &read_in, plus, w);
+        reply_data(answer, header.unique, w)
+    }
+
     /// RELEASEDIR (`struct fuse_release_in`): a directory is closed.
     pub(super) fn releasedir(
         &mut self,
@@ -35,7 +92,7 @@ impl<F: FileSystem> Server<F> {
         r: &mut Reader<'_>,
         w: &mut Writer,
     ) -> Result<usize>
-        ensures { Serves F.allows Opcode.Releasedir header.now r.old.left
+        ensures { Serves F.allows F.DirIter.gives Opcode.Releasedir header.now r.old.left
             self.old w.old result w.new self.new }
     {
         let release_in = read_record::<ReleaseIn>(r)?;
@@ -54,7 +111,7 @@ impl<F: FileSystem> Server<F> {
         r: &mut Reader<'_>,
         w: &mut Writer,
     ) -> Result<usize>
-        ensures { Serves F.allows Opcode.Fsyncdir header.now r.old.left
+        ensures { Serves F.allows F.DirIter.gives Opcode.Fsyncdir header.now r.old.left
             self.old w.old result w.new self.new }
     {
         let fsync_in = read_record::<FsyncIn>(r)?;

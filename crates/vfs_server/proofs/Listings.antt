@@ -1,0 +1,72 @@
+-- What was put into a room behind the place of a reply's header: the data of a READ, and the records
+-- of a directory.
+use Rattle.std.proofs.Common.{◌≡◌, ◌≤◌, ◌<◌, ◌-◌, ◌^◌, ◌||◌, ℕ, Bool, false, nat_lt, List, [], ◌++◌, length, drop, Option, None, Result, Ok, Err, inl, inr, refl, subst, arith, append-nil, length-drop}
+use Rattle.std.proofs.lemmas.Bool.Decides.{nat_tests}
+use Rattle.vfs_segments.specs.Written.{Written, Moves, held_over, wrote}
+use Rattle.vfs_wire.specs.declared.files.ReadIn.{ReadIn}
+use Rattle.vfs_files.specs.declared.entry.Context.{Context}
+use Rattle.vfs_files.specs.Answers.{Handed, Counts}
+use Rattle.vfs_files.specs.Calls.{Call}
+use Rattle.vfs_files.specs.Items.{Item}
+use Rattle.vfs_files.specs.Runs.{Event, Happening, IsRun}
+use Rattle.vfs_listings.specs.Listing.{IsListing}
+use Rattle.vfs_listings.specs.ListingLaws.{length-listing, listing_within}
+use Rattle.vfs_listings.specs.Reading.{Puts}
+use Rattle.vfs_messages.specs.Ask.{lists_too_much}
+use Rattle.vfs_messages.specs.Forms.{Listing}
+use Rattle.vfs_messages.specs.Room.{PutsBehindHeader}
+use Rattle.vfs_messages.specs.Turn.{IsRead}
+use Rattle.vfs_messages.specs.declared.limits.Limits.{Limits}
+
+-- data were put, and nothing beyond them
+pub data_behind : (old held new : Written) (bytes : List ℕ) → held ≡ held_over old 16 → 16 ≤ length old.left → Moves held bytes new
+    → PutsBehindHeader old bytes new
+data_behind old held new bytes e enough moves = record {
+  beyond = [];
+  enough = enough;
+  moves = rw (append-nil bytes) (subst (λ (w : Written). Moves w bytes new) e moves);
+}
+
+moves_of : (old new : Written) (bytes : List ℕ) → Puts old bytes new → Moves old bytes new
+moves_of old new bytes puts = rw puts.wrote (record {
+  passed = refl;
+  left = omega (arith, puts.within, length-drop (length bytes) old.left);
+  held_at = refl;
+  held = refl;
+  lengths = refl;
+})
+
+-- records were put, and perhaps the beginning of one more
+pub records_behind : (old held new : Written) (records beyond : List ℕ) → held ≡ held_over old 16 → 16 ≤ length old.left → Puts held (records ++ beyond) new
+    → PutsBehindHeader old records new
+records_behind old held new records beyond e enough puts = record {
+  beyond = beyond;
+  enough = enough;
+  moves = subst (λ (w : Written). Moves w (records ++ beyond) new) e (moves_of held new (records ++ beyond) puts);
+}
+
+counts_by : (plus : Bool) (ctx : Context) (parent size room : ℕ) (events : List Event) (body : List ℕ) (answer : Result ℕ (Option ℕ))
+    → IsListing plus ctx parent size room events body answer → size < 2 ^ 32 - 16 → Counts answer body size
+counts_by plus ctx parent size room events body (Ok n) h small =
+    let long = length-listing h n refl in
+    let within = listing_within h in
+    (long, omega (arith, long, within), omega (arith, within, small))
+counts_by plus ctx parent size room events body (Err fault) h small = tt
+
+-- the records that are answered are counted
+pub directory_counts : (listing : Listing) (events : List Event) (body : List ℕ) (answer : Result ℕ (Option ℕ))
+    → IsRead listing events body answer → listing.size < 2 ^ 32 - 16 → Counts answer body listing.size
+directory_counts l events body answer (inl u) small = rw u.answer_is tt
+directory_counts l events body answer (inr o) small = counts_by l.plus l.ctx l.parent l.size l.room o.takings body answer o.listing small
+
+-- what asks for no more than the limit and than there is room for
+pub not_too_much : (limits : Limits) (room : ℕ) (r : ReadIn) → r.size ≤ limits.max_buffer → r.size ≤ room → lists_too_much limits room r ≡ false
+not_too_much limits room r limit fits =
+    let a : nat_lt limits.max_buffer r.size ≡ false = grind (arith, nat_tests) in
+    let b : nat_lt room r.size ≡ false = grind (arith, nat_tests) in
+    rw (a, b) refl
+
+-- a run from an equal state
+pub run_from : {S I : Type 0} (allows : S → Call → Handed I → S → Type 0) (gives : I → Option Item → I → Type 0) (old same new : S) (run : List (Happening I × S))
+    → old ≡ same → IsRun allows gives None old run new → IsRun allows gives None same run new
+run_from allows gives old same new run e is = subst (λ s. IsRun allows gives None s run new) e is
