@@ -1,3 +1,4 @@
+pub mod Directories
 pub mod Notes
 pub mod Outcomes
 pub mod Recorded

@@ -1,13 +1,13 @@
 -- What the tests' file system may do.
 use Rattle.std.specs.Prelude.{◌≡◌, ◌==◌, ◌+◌, ◌-◌, ◌^◌, ℕ, List, length, min, replicate, Option, Some, None, Result, Ok, Err, Bool, false, if◌then◌else◌}
 use Rattle.vfs_files.specs.Calls.{Call, Read, Write, Handed}
-use Rattle.vfs_files.specs.declared.unserved.NoEntries.{NoEntries}
+use Rattle.vfs_bench.specs.Directories.{Reading}
 use Rattle.vfs_bench.specs.declared.file.ScriptFile.{ScriptFile}
 use Rattle.vfs_bench.specs.declared.script.Script.{Script}
 
 -- each call may hand back anything, and the script stays as it was, but for the count of its file's
 -- calls where bytes are moved
-abbrev pub stays : Script → Call → Handed NoEntries → Script → Type 0
+abbrev pub stays : Script → Call → Handed Reading → Script → Type 0
 stays old (Read _ _ _ _ _ _ _ _) handed new = new ≡ record old { file = new.file }
 stays old (Write _ _ _ _ _ _ _ _ _ _) handed new = new ≡ record old { file = new.file }
 stays old call handed new = new ≡ old

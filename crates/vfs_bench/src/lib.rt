@@ -2,6 +2,7 @@
 //! calls of another, and one that answers what its maker says.
 #![tactic(auto)]
 
+mod directory;
 mod file;
 pub mod laws;
 mod note;
@@ -10,6 +11,7 @@ mod recorder;
 mod script;
 pub mod uses;
 
+pub use directory::{ScriptDirectory, ScriptEntries, ScriptItem};
 pub use file::ScriptFile;
 pub use note::{Note, NoteKind};
 pub use recorder::Recorder;

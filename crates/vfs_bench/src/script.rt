@@ -9,11 +9,12 @@ ghost use Rattle.vfs_files.specs.Calls.{getxattr_answer, listxattr_answer};
 ghost use Rattle.vfs_files.specs.Answers.{FitsText, KeepsTextShort};
 ghost use Rattle.vfs_bench.specs.Scripts.{stays};
 
+use crate::directory::{ScriptDirectory, ScriptEntries};
 use crate::file::ScriptFile;
 use std::time::Duration;
 use vfs_files::{
-    CStr, Context, Entry, Extensions, FileSystem, GetxattrReply, ListxattrReply, NoEntries,
-    ZeroCopyReader, ZeroCopyWriter, defaults,
+    CStr, Context, Entry, Extensions, FileSystem, GetxattrReply, ListxattrReply, ZeroCopyReader,
+    ZeroCopyWriter, defaults,
 };
 use vfs_flags::{Errno, Fault, FsOptions, OpenOptions, SetattrValid, SetxattrFlags};
 use vfs_wire::{Attr, SetattrIn, Statvfs64};
@@ -30,7 +31,7 @@ use vfs_wire::{Attr, SetattrIn, Statvfs64};
 /// ```
 ///
 /// `forget`, `batch_forget` and `destroy` have no answer and do nothing. Where there is no memory
-/// for a text to answer, the answer is ENOMEM.
+/// for a text to answer, the answer is ENOMEM, and so it is for a directory.
 #[derive(Drop)]
 pub struct Script {
     /// The options that `init` wants.
@@ -58,6 +59,9 @@ pub struct Script {
     /// The file that `read` and `write` move bytes of and into, whatever node they are about, or
     /// none: then they are not served.
     pub file: Option<ScriptFile>,
+    /// The directory that `readdir` answers a reading of, from its first item on whatever the
+    /// offset.
+    pub directory: Result<ScriptDirectory, Fault>,
     /// What `copyfilerange` answers.
     pub written: Result<u32, Fault>,
     /// What each call answers that says only whether it was done, as `unlink`.
@@ -80,6 +84,7 @@ impl Script {
         ensures names { result.names ≡ Err not_served }
         ensures offset { result.offset ≡ Err not_served }
         ensures file { result.file ≡ None }
+        ensures directory { result.directory ≡ Err not_served }
         ensures written { result.written ≡ Err not_served }
         ensures done { result.done ≡ Err not_served }
         ensures tmpfile { result.tmpfile ≡ not_served }
@@ -96,6 +101,7 @@ impl Script {
             names: defaults::no_such_call::<ListxattrReply>(),
             offset: defaults::no_such_call::<u64>(),
             file: None,
+            directory: defaults::no_such_call::<ScriptDirectory>(),
             written: defaults::no_such_call::<u32>(),
             done: defaults::no_such_call::<()>(),
             tmpfile: defaults::tmpfile(),
@@ -212,7 +218,7 @@ impl FileSystem for Script {
 
     type Handle = u64;
 
-    type DirIter = NoEntries;
+    type DirIter = ScriptEntries;
 
     ghost allows = { stays };
 
@@ -458,8 +464,11 @@ impl FileSystem for Script {
         handle: u64,
         size: u32,
         offset: u64,
-    ) -> Result<NoEntries, Fault> {
-        defaults::no_such_call::<NoEntries>()
+    ) -> Result<ScriptEntries, Fault> {
+        match &self.directory {
+            Ok(directory) => directory.entries(),
+            Err(fault) => Err(*fault),
+        }
     }
 
     fn releasedir(

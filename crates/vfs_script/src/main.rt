@@ -4,8 +4,9 @@
 //!
 //! - A request, in the form of `vfs_demo`. Its answer is written as there, and below it the calls
 //!   that it was turned into, each line with two spaces before it.
-//! - `answer N`, `answer fault N` or `answer fault none`: what the next call is answered, in place
-//!   of what the file system's rules say (`told`).
+//! - `answer N`, `answer fault N`, `answer fault none`, `answer items ITEM ..` or
+//!   `answer endless ITEM ..`: what the next call is answered, in place of what the file system's
+//!   rules say (`told`).
 //! - A line that begins with `#` is passed over.
 //!
 //! What each call is answered else is a function of its caller's process (`script`), so that any
@@ -14,6 +15,7 @@
 #![tactic(auto)]
 
 mod contents;
+mod listing;
 mod notes;
 mod rules;
 mod run;

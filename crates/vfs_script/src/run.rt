@@ -73,7 +73,7 @@ fn read_line(alloc: Global, line: &[u8]) -> Result<Option<Said>, RunError> {
         return Ok(Some(Said::Comment));
     }
     if let Some(told) = line.strip_prefix(ANSWER) {
-        return Ok(parse_told(told).map(Said::Answer));
+        return Ok(parse_told(alloc, told)?.map(Said::Answer));
     }
     Ok(parse_line(alloc, line)?.map(Said::Request))
 }

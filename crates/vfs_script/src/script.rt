@@ -22,6 +22,7 @@
 //! - `lseek`: the offset where the seed is even, else the seed.
 //! - `copyfilerange`: the length, at most the seed.
 //! - `read`, `write`: bytes of the file of the module `contents`, and into it.
+//! - `readdir`: the directory of the module `listing`, from the offset on.
 //! - `tmpfile`: ENOSYS.
 //! - All others: that it is done.
 //!
@@ -31,6 +32,7 @@ ghost use Rattle.std.specs.Prelude.{◌≤◌, ℕ, List, IfOk, IfSome, vec_len}
 ghost use Rattle.vfs_files.specs.Answers.{Counts};
 
 use crate::contents::Contents;
+use crate::listing::{Listing, Seeded};
 use crate::notes::Notes;
 use crate::rules::{attr, bytes, entry, fault_of, handle, open_options, time, wanted_bits};
 use crate::told::{Told, bare_entry};
@@ -99,7 +101,7 @@ impl<'a> ScriptFs<'a> {
     // The seed, or what the input tells in its place.
     fn seed_or_told(&self) -> Result<u32, Fault> {
         match self.next_told() {
-            Some(told) => Ok((told.value()? % 4_294_967_296) as u32),
+            Some(told) => told.seed(),
             None => self.seed(),
         }
     }
@@ -153,6 +155,16 @@ impl<'a> ScriptFs<'a> {
         }
         let seed = self.seed()?;
         Ok((entry(seed, ctx, name), handle(seed), open_options(seed)))
+    }
+
+    // A reading of a directory from this place on.
+    fn listing(&self, place: u64) -> Result<Listing, Fault> {
+        let seed = match self.next_told() {
+            Some(Told::Directory(directory)) => return Ok(Listing::Told(directory.entries()?)),
+            Some(told) => told.seed()?,
+            None => self.seed()?,
+        };
+        Ok(Listing::Seeded(Seeded::new(seed, place)))
     }
 
     // The attributes of a node.

@@ -1,12 +1,13 @@
 //! The calls of the scripted file system, in the trait's order.
 
 use super::ScriptFs;
+use crate::listing::Listing;
 use crate::rules::statistics;
 use bitflags::Flags;
 use std::time::Duration;
 use vfs_files::{
-    CStr, Context, Entry, Extensions, FileSystem, GetxattrReply, ListxattrReply, NoEntries,
-    ZeroCopyReader, ZeroCopyWriter, defaults,
+    CStr, Context, Entry, Extensions, FileSystem, GetxattrReply, ListxattrReply, ZeroCopyReader,
+    ZeroCopyWriter,
 };
 use vfs_flags::{Fault, FsOptions, OpenOptions, SetattrValid, SetxattrFlags};
 use vfs_wire::{Attr, ByteValued, SetattrIn, Statvfs64};
@@ -19,7 +20,7 @@ impl FileSystem for ScriptFs<'_> {
 
     type Handle = u64;
 
-    type DirIter = NoEntries;
+    type DirIter = Listing;
 
     ghost allows = { λ old call handed new. ⊤ };
 
@@ -403,13 +404,21 @@ impl FileSystem for ScriptFs<'_> {
 
     fn readdir(
         &mut self,
-        _ctx: Context,
-        _inode: u64,
-        _handle: u64,
-        _size: u32,
-        _offset: u64,
-    ) -> Result<NoEntries, Fault> {
-        defaults::no_such_call::<NoEntries>()
+        ctx: Context,
+        inode: u64,
+        handle: u64,
+        size: u32,
+        offset: u64,
+    ) -> Result<Listing, Fault> {
+        self.called_by("readdir", &ctx);
+        self.notes.number("inode", inode);
+        self.notes.number("handle", handle);
+        self.notes.number("size", u64::from(size));
+        self.notes.number("offset", offset);
+        self.notes.end();
+        let answer = self.listing(offset);
+        self.note_plain(&answer);
+        answer
     }
 
     fn releasedir(
