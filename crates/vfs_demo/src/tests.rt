@@ -1,12 +1,15 @@
 //! How a run ends, each form of answer, and faults of input and output.
 
+use crate::memfs::MemFs;
 use crate::run::run;
-use std::alloc::Global;
+use std::alloc::{AllocError, Global};
 use std::io;
 use std::io::{ErrorKind, Read, Write};
 use std::process::Abort;
 use std::test::Fail;
-use vfs_lines::{RunError, exit_status};
+use vfs_bench::{Note, NoteKind, Recorder};
+use vfs_lines::{RunError, answers_to, exit_status, parse_line};
+use vfs_server::server::Server;
 
 // A FORGET of node 2, and its answer.
 const FORGET: &str =
@@ -186,6 +189,68 @@ fn the_root_is_listed(rt: HostRuntime) -> Result<(), Fail> {
         ),
     ];
     are_answered(&rt, rt.alloc(), &cases)
+}
+
+// A recorder of up to eight calls over new files.
+fn recorded_files(alloc: Global) -> Result<Recorder<MemFs>, AllocError> {
+    let files = MemFs::new(alloc).map_err(|_| AllocError)?;
+    Recorder::new(alloc, files, 8).map_err(|_| AllocError)
+}
+
+// A note of a call about this node.
+fn note(call: u32, node: u64, count: u64, kind: NoteKind, value: u64) -> Note {
+    Note {
+        call,
+        node,
+        count,
+        kind,
+        value,
+    }
+}
+
+// Of node 2: three entries answered, one delivered, one lost, one forget accepted and two sent.
+#[test]
+fn the_books_of_a_session_balance(rt: HostRuntime) -> Result<(), Fail> {
+    let alloc = rt.alloc();
+    let lines = [
+        "144 2a0000000100000003000000000000000100000000000000000000000000000000000000000000006100",
+        "100 2a0000000100000004000000000000000100000000000000000000000000000000000000000000006100",
+        "0 300000000200000005000000000000000200000000000000000000000000000000000000000000000100000000000000",
+        "495 500000002c000000060000000000000001000000000000000000000000000000000000000000000000000000000000000000000000000000df0100000000000000000000000000000000000000000000",
+        "0 400000002a0000000700000000000000000000000000000000000000000000000000000000000000020000000000000002000000000000000100000000000000",
+    ];
+    let answers = concat!(
+        "ok 144 9000000000000000030000000000000002000000000000000000000000000000010000000000000001000000000000000000000000000000020000000000000005000000000000000000000000000000000000000000000000000000000000000000000000000000000000000000000000000000a4810000010000000000000000000000000000000010000000000000\n",
+        "err EncodeMessage 90000000000000000400000000000000020000000000000000000000000000000100000000000000010000000000000000000000000000000200000000000000050000000000000000000000000000000000000000000000000000000000000000000000\n",
+        "ok 0\n",
+        "ok 336 5001000000000000060000000000000000000000000000000000000000000000000000000000000000000000000000000000000000000000010000000000000000000000000000000000000000000000000000000000000000000000000000000000000000000000000000000000000000000000004000000000000000000000000000000000000000000000000000000100000000000000010000000000000001000000040000002e0000000000000000000000000000000000000000000000000000000000000000000000000000000000000000000000010000000000000000000000000000000000000000000000000000000000000000000000000000000000000000000000000000000000000000000000004000000000000000000000000000000000000000000000000000000100000000000000020000000000000002000000040000002e2e000000000000\n",
+        "err DecodeMessage\n",
+    );
+    let mut requests = Vec::new(alloc);
+    for line in lines {
+        if let Some(request) = parse_line(alloc, line.as_bytes())? {
+            requests.push(request)?;
+        }
+    }
+
+    let mut server = Server::new(recorded_files(alloc)?, 4096);
+    let nothing = answers_to(alloc, &mut server, &[])?;
+    assert_eq!(rt; nothing.as_str(), "");
+    assert_eq!(rt; server.fs().notes().len(), 0);
+
+    let answered = answers_to(alloc, &mut server, &requests)?;
+    assert_eq!(rt; answered.as_str(), answers);
+    let notes = [
+        note(1, 1, 0, NoteKind::Ok, 2),
+        note(1, 1, 0, NoteKind::Ok, 2),
+        note(2, 2, 1, NoteKind::Nothing, 0),
+        note(28, 1, 0, NoteKind::Ok, 0),
+        note(1, 1, 0, NoteKind::Ok, 2),
+        note(2, 2, 1, NoteKind::Nothing, 0),
+    ];
+    assert_eq!(rt; server.fs().notes(), notes.as_slice());
+    assert!(rt; !server.fs().missed());
+    Ok(())
 }
 
 // Gives its bytes, and then fails.
