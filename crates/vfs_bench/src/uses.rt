@@ -1,11 +1,13 @@
 //! Recorders and scripts at work: calls of this crate, each with a fact that its contracts give.
 
 ghost use Rattle.std.specs.Prelude.{◌≡◌, ◌≤◌, ◌<◌, ◌++◌, [], ◌∷◌, true, false, length, IfOk, IsOk};
+ghost use Rattle.std.specs.Prelude.{None, vec_len};
 ghost use Rattle.vfs_files.specs.Answers.{entry_answer};
 ghost use Rattle.vfs_files.specs.Calls.{no_such_call, not_served};
+ghost use Rattle.vfs_bench.specs.Directories.{GivesNext, Reading};
 ghost use Rattle.vfs_bench.specs.declared.note.NoteKind.TheVariants.{Nothing, Fault as Failed};
 
-use crate::{Recorder, Script};
+use crate::{Recorder, Script, ScriptDirectory, ScriptEntries, ScriptItem};
 use std::alloc::Global;
 use vfs_files::{CStr, Context, Entry, FileSystem, Unserved};
 use vfs_flags::Fault;
@@ -82,6 +84,14 @@ pub fn all_done() -> Script
     let mut script = Script::new();
     script.done = Ok(());
     script
+}
+
+/// A reading of a directory that has items and no end: it never gives the end.
+pub fn reading_without_end(alloc: Global, items: Vec<ScriptItem>) -> Result<ScriptEntries, Fault>
+    requires { 0 < vec_len items }
+    ensures { IfOk result (λ entries. (new : Reading) → ¬ (GivesNext entries None new)) }
+{
+    ScriptDirectory::endless(alloc, items)?.entries()
 }
 
 /// How many calls a recorder noted, where it missed none.

@@ -1,15 +1,18 @@
 //! Each call once through a recorder, and what a script answers.
 
+use crate::message;
 use bitflags::Flags;
 use std::alloc::{AllocError, Global};
 use std::test::Fail;
 use std::time::Duration;
-use vfs_bench::{Note, NoteKind, Recorder, Script, ScriptFile};
+use vfs_bench::{Note, NoteKind, Recorder, Script, ScriptDirectory, ScriptFile, ScriptItem};
 use vfs_files::{
-    CStr, Context, Entry, Extensions, FileSystem, GetxattrReply, ListxattrReply, Number, Unserved,
+    CStr, CString, Context, Entry, Extensions, FileSystem, GetxattrReply, ListxattrReply, Number,
+    Unserved,
 };
 use vfs_flags::{Errno, Fault, FsOptions, OpenOptions, SetattrValid, SetxattrFlags};
 use vfs_segments::{Reader, Writer};
+use vfs_server::server::Server;
 use vfs_transfers::{ZcReader, ZcWriter};
 use vfs_wire::{Attr, InHeader, SetattrIn, Statvfs64};
 
@@ -103,6 +106,7 @@ fn call_of_handles<F: FileSystem>(fs: &mut F) {
     let _ = fs.fsync(caller(), node::<F>(20), true, handle::<F>(7));
     let _ = fs.flush(caller(), node::<F>(25), handle::<F>(7), 0);
     let _ = fs.opendir(caller(), node::<F>(27), 0);
+    let _ = fs.readdir(caller(), node::<F>(28), handle::<F>(7), 64, 0);
     let _ = fs.releasedir(caller(), node::<F>(29), 0, handle::<F>(7));
     let _ = fs.fsyncdir(caller(), node::<F>(30), true, handle::<F>(7));
     let _ = fs.fallocate(caller(), node::<F>(43), handle::<F>(7), 0, 0, 1);
@@ -155,7 +159,7 @@ fn call_of_nothing<F: FileSystem>(fs: &mut F) {
 
 /// The rows of all calls in the order in which they are made here: call, node and count, and then
 /// the kind and the value where a script answers and where nothing is served.
-const ROWS: [(u32, u64, u64, NoteKind, u64, NoteKind, u64); 43] = [
+const ROWS: [(u32, u64, u64, NoteKind, u64, NoteKind, u64); 44] = [
     (26, 0, 0, NoteKind::Ok, 0, NoteKind::Ok, 0),
     (2, 2, 3, NoteKind::Nothing, 0, NoteKind::Nothing, 0),
     (3, 3, 0, NoteKind::Ok, 0, NoteKind::Fault, 38),
@@ -184,6 +188,7 @@ const ROWS: [(u32, u64, u64, NoteKind, u64, NoteKind, u64); 43] = [
     (20, 20, 0, NoteKind::Fault, 0, NoteKind::Fault, 38),
     (25, 25, 0, NoteKind::Fault, 0, NoteKind::Fault, 38),
     (27, 27, 0, NoteKind::Ok, 0, NoteKind::Ok, 0),
+    (28, 28, 0, NoteKind::Ok, 0, NoteKind::Fault, 38),
     (29, 29, 0, NoteKind::Fault, 0, NoteKind::Fault, 38),
     (30, 30, 0, NoteKind::Fault, 0, NoteKind::Fault, 38),
     (43, 43, 0, NoteKind::Fault, 0, NoteKind::Fault, 38),
@@ -215,6 +220,21 @@ fn entry_of(inode: u64) -> Entry {
     }
 }
 
+/// A directory without end, whose items are this one and have no name.
+fn nameless(alloc: Global, ino: u64) -> Result<ScriptDirectory, Fault> {
+    let mut items = Vec::new(alloc);
+    if let Some(name) = CStr::from_bytes_with_nul(b"\0") {
+        let item = ScriptItem {
+            ino,
+            offset: 1,
+            type_: 4,
+            name: CString::new(alloc, name)?,
+        };
+        items.push(item).map_err(|_| Some(Errno::ENOMEM))?;
+    }
+    ScriptDirectory::endless(alloc, items)
+}
+
 /// A script that answers something else than the default to each call.
 fn script_of_answers(alloc: Global) -> Result<Script, AllocError> {
     let mut script = Script::new();
@@ -235,6 +255,7 @@ fn script_of_answers(alloc: Global) -> Result<Script, AllocError> {
         byte: b'f',
         calls: 0,
     });
+    script.directory = nameless(alloc, 500);
     script.written = Ok(100);
     script.done = Err(None);
     script.tmpfile = Errno::new(11);
@@ -405,6 +426,31 @@ fn a_script_answers_entries_and_attributes_of_names(rt: HostRuntime) -> Result<(
     match given(fs.listxattr(caller(), 1, 0))? {
         ListxattrReply::Names(_) => assert!(rt; false, "names"),
         ListxattrReply::Count(count) => assert_eq!(rt; count, 9),
+    }
+    Ok(())
+}
+
+#[test]
+fn takings_from_a_directory_without_end_are_counted(rt: HostRuntime) -> Result<(), Fail> {
+    let alloc = rt.alloc();
+    let mut script = Script::new();
+    script.directory = nameless(alloc, 1);
+    let mut server = Server::new(script, 4096);
+
+    // READDIR of 240 bytes: ten records of 24, and an eleventh that doesn't fit.
+    let mut read_in = [0u8; 40];
+    read_in[16] = 240;
+    let readdir = message::request(alloc, 28, &read_in)?;
+    let (len, reply) = message::handle(alloc, &mut server, &readdir, 256)?;
+    assert_eq!(rt; len, 256);
+    assert_eq!(rt; reply.len(), 256);
+    let record = b"\x01\0\0\0\0\0\0\0\x01\0\0\0\0\0\0\0\0\0\0\0\x04\0\0\0";
+    for chunk in reply[16..].chunks(24) {
+        assert_eq!(rt; chunk, record.as_slice());
+    }
+    match &server.fs().directory {
+        Ok(directory) => assert_eq!(rt; directory.takings(), 11),
+        Err(_) => assert!(rt; false, "no directory"),
     }
     Ok(())
 }
