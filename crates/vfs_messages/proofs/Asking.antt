@@ -74,7 +74,7 @@ module _ (P : Ask → Type 0) (unique : ℕ) (each : EachCase P unique) where
 
   pub room_cases : (room : ℕ) (next : ℕ → Ask) → ((room_for_data : ℕ) → P (next room_for_data)) → P (refused_or (room_behind_header room) next)
   room_cases room next p =
-      test_cases (nat_lt room (size_of out_header)) EncodeMessage (room - size_of out_header) next tt (λ room_for_data is. p room_for_data)
+      test_cases (nat_lt room (size_of out_header)) EncodeMessage _ next tt (λ room_for_data is. p room_for_data)
 
   pub within_cases : (above : Bool) (h : InHeader) (next : Ask) → h.unique ≡ unique
       → (above ≡ false → P next) → P (within above h next)
