@@ -8,3 +8,4 @@ pub mod Runs
 pub mod RunLaws
 pub mod Transfers
 pub mod TransferLaws
+pub mod Migrations

@@ -1,6 +1,7 @@
 //! What the calls answer that a file system doesn't serve.
 //!
-//! An implementation of [`FileSystem`](crate::FileSystem) calls these. They are no bodies in the
+//! An implementation of [`FileSystem`](crate::FileSystem), or of
+//! [`SerializableFileSystem`](crate::SerializableFileSystem), calls these. They are no bodies in the
 //! trait: a body there could only be proved from a law that every file system allows its answer.
 //! Most calls answer the fault ENOSYS, by [`no_such_call`]; those that don't have a function of
 //! their name. `batch_forget` has none: it is to call the `forget` of the same file system for each
@@ -9,7 +10,9 @@
 ghost use Rattle.std.specs.Prelude.{◌≡◌, Ok, Err};
 ghost use Rattle.vfs_files.specs.Calls.{Options, init_answer, opened_answer};
 ghost use Rattle.vfs_files.specs.Calls.{not_served, default_opening, default_statistics};
+ghost use Rattle.vfs_files.specs.declared.migration.MigrateError.TheVariants.{Unsupported};
 
+use crate::migration::MigrateError;
 use crate::number::Number;
 use bitflags::Flags;
 use vfs_flags::{Errno, Fault, FsOptions, OpenOptions};
@@ -67,4 +70,15 @@ pub fn tmpfile() -> Fault
     ensures { result ≡ not_served }
 {
     Some(Errno::ENOSYS)
+}
+
+/// Prepares nothing.
+pub fn prepare_serialization() {}
+
+/// The error `Unsupported`: for `serialize`, without a byte written, and `deserialize_and_apply`,
+/// without one read.
+pub fn no_migration() -> Result<(), MigrateError>
+    ensures { result ≡ Err Unsupported }
+{
+    Err(MigrateError::Unsupported)
 }

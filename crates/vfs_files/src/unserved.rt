@@ -6,8 +6,9 @@ ghost use Rattle.vfs_flags.specs.Flags.{setattr_valid_bits};
 
 use crate::{
     CStr, Context, DirEntry, DirectoryIterator, Entry, Extensions, FileSystem, GetxattrReply,
-    ListxattrReply, ZeroCopyReader, ZeroCopyWriter, defaults,
+    ListxattrReply, MigrateError, SerializableFileSystem, ZeroCopyReader, ZeroCopyWriter, defaults,
 };
+use std::io;
 use std::time::Duration;
 use vfs_flags::{Fault, FsOptions, OpenOptions, SetattrValid, SetxattrFlags};
 use vfs_wire::{Attr, SetattrIn, Statvfs64};
@@ -407,5 +408,25 @@ impl FileSystem for Unserved {
 
     fn tmpfile(&mut self) -> Fault {
         defaults::tmpfile()
+    }
+}
+
+impl SerializableFileSystem for Unserved {
+    ghost use Rattle.std.specs.Prelude.{◌≡◌};
+    ghost use Rattle.vfs_files.specs.Migrations.{default_migration};
+
+    ghost migrates = { λ old call answer new.
+        (answer ≡ default_migration call) × (new ≡ old) };
+
+    fn prepare_serialization(&mut self, cancel: bool) {
+        defaults::prepare_serialization()
+    }
+
+    fn serialize<W: io::Write>(&mut self, w: &mut W) -> Result<(), MigrateError> {
+        defaults::no_migration()
+    }
+
+    fn deserialize_and_apply<R: io::Read>(&mut self, r: &mut R) -> Result<(), MigrateError> {
+        defaults::no_migration()
     }
 }

@@ -6,6 +6,7 @@ use Rattle.vfs_segments.specs.Written.{Written, Moves}
 use Rattle.vfs_files.specs.Items.{Item}
 use Rattle.vfs_files.specs.Calls.{Call, Handed, Plain, Counts, read_answer}
 use Rattle.vfs_files.specs.Runs.{Happening, IsRun, events_of}
+use Rattle.vfs_files.specs.Migrations.{MigrationCall, MigrationAnswer}
 use Rattle.vfs_messages.specs.Forms.{Listing, Ask, Lists}
 use Rattle.vfs_messages.specs.Ask.{ask, ask_opcode}
 use Rattle.vfs_messages.specs.Laws.{StopsForACause, ComesWhole, TakesFew}
@@ -119,3 +120,11 @@ ReadsDirectories allows gives old request writer outcome writer_after new =
     (echo : Echo) (listing : Listing)
     → ask old.limits old.options (length writer.left) request ≡ Lists echo listing
     → ReadsListing allows gives listing echo.unique old request writer outcome writer_after new
+
+-- The file system of a server was called so, as its own relation allows; the options and the limits
+-- stay.
+abbrev pub migrates_over : {S : Type 0} → (S → MigrationCall → MigrationAnswer → S → Type 0)
+    → (old : ServerState S) → MigrationCall → MigrationAnswer → (new : ServerState S) → Type 0
+migrates_over migrates old call answer new =
+    migrates old.fs call answer new.fs
+    × (new.options ≡ old.options) × (new.limits ≡ old.limits)

@@ -6,6 +6,7 @@ mod contents;
 mod directories;
 mod files;
 mod locks;
+mod migration;
 mod names;
 mod others;
 mod session;

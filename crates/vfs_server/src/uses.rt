@@ -6,6 +6,7 @@ ghost use Rattle.vfs_flags.specs.Opcode.{opcode_of};
 ghost use Rattle.vfs_flags.specs.declared.opcode.Opcode.{Opcode};
 ghost use Rattle.vfs_segments.specs.Segments.{contents, flat_bytes};
 ghost use Rattle.vfs_segments.specs.Written.{whole};
+ghost use Rattle.vfs_files.specs.declared.migration.MigrateError.TheVariants.{Unsupported};
 ghost use Rattle.vfs_messages.specs.Laws.{header_of};
 ghost use Rattle.vfs_messages.specs.Uses.{not_served_reply};
 ghost use Rattle.vfs_messages.specs.declared.error.Error.TheVariants.{EncodeMessage, OutOfMemory};
@@ -13,7 +14,8 @@ ghost use Rattle.vfs_server.specs.Uses.{statfs_reply};
 
 use crate::server::Server;
 use std::alloc::Global;
-use vfs_files::{FileSystem, Unserved};
+use std::io;
+use vfs_files::{FileSystem, MigrateError, SerializableFileSystem, Unserved};
 use vfs_messages::{Result, laws};
 use vfs_segments::{Reader, Writer};
 
@@ -145,4 +147,17 @@ pub fn getattr_lacks_no_memory<F: FileSystem>(
 {
     laws::memory_is_wanted_for_whole_tails();
     server.handle_message(alloc, r, w)
+}
+
+/// Asks a server over a file system that serves nothing for its state: there is none to carry over.
+/// Nothing is written, and the options and all else of the server stay.
+pub fn state_that_is_not_served<W: io::Write>(
+    server: &mut Server<Unserved>,
+    w: &mut W,
+) -> std::result::Result<(), MigrateError>
+    ensures outcome { result ≡ Err Unsupported }
+    ensures nothing_written { w.new ≡ w.old }
+    ensures state { server.new ≡ server.old }
+{
+    server.serialize(w)
 }

@@ -13,4 +13,6 @@ mod message;
 #[cfg(test)]
 mod messages;
 #[cfg(test)]
+mod migration;
+#[cfg(test)]
 mod server;
