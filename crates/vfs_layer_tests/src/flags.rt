@@ -3,109 +3,144 @@
 use bitflags::Flags;
 use vfs_flags::*;
 
+/// The errors that have a name, and their numbers.
+const ERRORS: [(Errno, i32); 20] = [
+    (Errno::EPERM, 1),
+    (Errno::ENOENT, 2),
+    (Errno::EIO, 5),
+    (Errno::EBADF, 9),
+    (Errno::ENOMEM, 12),
+    (Errno::EACCES, 13),
+    (Errno::EEXIST, 17),
+    (Errno::EXDEV, 18),
+    (Errno::ENOTDIR, 20),
+    (Errno::EISDIR, 21),
+    (Errno::EINVAL, 22),
+    (Errno::ENOSPC, 28),
+    (Errno::EROFS, 30),
+    (Errno::ERANGE, 34),
+    (Errno::ENOSYS, 38),
+    (Errno::ENOTEMPTY, 39),
+    (Errno::ENODATA, 61),
+    (Errno::EPROTO, 71),
+    (Errno::EOVERFLOW, 75),
+    (Errno::EOPNOTSUPP, 95),
+];
+
+/// The first number that is another error's.
+fn wrong_error() -> Option<i32> {
+    for (e, n) in ERRORS {
+        if e.get() != n || Errno::new(n) != Some(e) {
+            return Some(n);
+        }
+    }
+    None
+}
+
 #[test]
 fn error_numbers(rt: HostRuntime) {
-    let named = [
-        (Errno::EPERM, 1),
-        (Errno::ENOENT, 2),
-        (Errno::EIO, 5),
-        (Errno::EBADF, 9),
-        (Errno::ENOMEM, 12),
-        (Errno::EACCES, 13),
-        (Errno::EEXIST, 17),
-        (Errno::EXDEV, 18),
-        (Errno::ENOTDIR, 20),
-        (Errno::EISDIR, 21),
-        (Errno::EINVAL, 22),
-        (Errno::ENOSPC, 28),
-        (Errno::EROFS, 30),
-        (Errno::ERANGE, 34),
-        (Errno::ENOSYS, 38),
-        (Errno::ENOTEMPTY, 39),
-        (Errno::ENODATA, 61),
-        (Errno::EPROTO, 71),
-        (Errno::EOVERFLOW, 75),
-        (Errno::EOPNOTSUPP, 95),
-    ];
-    for (e, n) in named {
-        assert_eq!(rt; e.get(), n);
-        assert_eq!(rt; Errno::new(n), Some(e));
-    }
+    assert_eq!(rt; wrong_error(), None);
+}
+
+/// An id of each kind that is made of a number, as a number again.
+fn ids_of(n: u32) -> [u32; 4] {
+    [
+        GuestUid::from(n).into_inner(),
+        GuestGid::from(n).into_inner(),
+        HostUid::from(n).into_inner(),
+        HostGid::from(n).into_inner(),
+    ]
 }
 
 #[test]
 fn ids_come_back_unchanged(rt: HostRuntime) {
-    assert_eq!(rt; GuestUid::from(u32::MAX).into_inner(), u32::MAX);
-    assert_eq!(rt; GuestGid::from(u32::MAX).into_inner(), u32::MAX);
-    assert_eq!(rt; HostUid::from(u32::MAX).into_inner(), u32::MAX);
-    assert_eq!(rt; HostGid::from(u32::MAX).into_inner(), u32::MAX);
+    assert_eq!(rt; ids_of(u32::MAX), [u32::MAX; 4]);
+}
+
+/// The number of the opcode that has this number, where there is one.
+fn known(n: u32) -> Option<u32> {
+    match Opcode::try_from(n) {
+        Ok(opcode) => Some(opcode as u32),
+        Err(()) => None,
+    }
 }
 
 #[test]
 fn opcodes_have_their_numbers(rt: HostRuntime) {
     for n in 0..60 {
-        let known = 1 <= n && n <= 51 && n != 7 && n != 19;
-        match Opcode::try_from(n) {
-            Ok(opcode) => {
-                assert!(rt; known, "at {n}");
-                assert_eq!(rt; opcode as u32, n);
-            }
-            Err(()) => assert!(rt; !known, "at {n}"),
-        }
+        let want = if 1 <= n && n <= 51 && n != 7 && n != 19 {
+            Some(n)
+        } else {
+            None
+        };
+        assert_eq!(rt; known(n), want);
     }
 }
+
+/// The constants, and their values.
+const CONSTANTS: [(u32, u32); 27] = [
+    (KERNEL_VERSION, 7),
+    (KERNEL_MINOR_VERSION, 38),
+    (MIN_KERNEL_MINOR_VERSION, 27),
+    (FATTR_FH, 64),
+    (FATTR_LOCKOWNER, 512),
+    (RELEASE_FLUSH, 1),
+    (RELEASE_FLOCK_UNLOCK, 2),
+    (GETATTR_FH, 1),
+    (LK_FLOCK, 1),
+    (WRITE_CACHE, 1),
+    (WRITE_LOCKOWNER, 2),
+    (WRITE_KILL_PRIV, 4),
+    (READ_LOCKOWNER, 2),
+    (POLL_SCHEDULE_NOTIFY, 1),
+    (FUSE_MIN_READ_BUFFER, 8192),
+    (FUSE_COMPAT_ENTRY_OUT_SIZE, 120),
+    (FUSE_COMPAT_ATTR_OUT_SIZE, 96),
+    (FUSE_COMPAT_MKNOD_IN_SIZE, 8),
+    (FUSE_COMPAT_WRITE_IN_SIZE, 24),
+    (FUSE_COMPAT_STATFS_SIZE, 48),
+    (FUSE_COMPAT_INIT_OUT_SIZE, 8),
+    (FUSE_COMPAT_22_INIT_OUT_SIZE, 24),
+    (FUSE_COMPAT_SETXATTR_IN_SIZE, 8),
+    (FSYNC_FDATASYNC, 1),
+    (ATTR_SUBMOUNT, 1),
+    (ATTR_DAX, 2),
+    (OPEN_KILL_SUIDGID, 1),
+];
 
 #[test]
 fn constants_have_their_values(rt: HostRuntime) {
     assert_eq!(rt; ROOT_ID, 1);
-    let values = [
-        (KERNEL_VERSION, 7),
-        (KERNEL_MINOR_VERSION, 38),
-        (MIN_KERNEL_MINOR_VERSION, 27),
-        (FATTR_FH, 64),
-        (FATTR_LOCKOWNER, 512),
-        (RELEASE_FLUSH, 1),
-        (RELEASE_FLOCK_UNLOCK, 2),
-        (GETATTR_FH, 1),
-        (LK_FLOCK, 1),
-        (WRITE_CACHE, 1),
-        (WRITE_LOCKOWNER, 2),
-        (WRITE_KILL_PRIV, 4),
-        (READ_LOCKOWNER, 2),
-        (POLL_SCHEDULE_NOTIFY, 1),
-        (FUSE_MIN_READ_BUFFER, 8192),
-        (FUSE_COMPAT_ENTRY_OUT_SIZE, 120),
-        (FUSE_COMPAT_ATTR_OUT_SIZE, 96),
-        (FUSE_COMPAT_MKNOD_IN_SIZE, 8),
-        (FUSE_COMPAT_WRITE_IN_SIZE, 24),
-        (FUSE_COMPAT_STATFS_SIZE, 48),
-        (FUSE_COMPAT_INIT_OUT_SIZE, 8),
-        (FUSE_COMPAT_22_INIT_OUT_SIZE, 24),
-        (FUSE_COMPAT_SETXATTR_IN_SIZE, 8),
-        (FSYNC_FDATASYNC, 1),
-        (ATTR_SUBMOUNT, 1),
-        (ATTR_DAX, 2),
-        (OPEN_KILL_SUIDGID, 1),
-    ];
-    for (constant, want) in values {
+    for (constant, want) in CONSTANTS {
         assert_eq!(rt; constant, want);
     }
 }
 
+/// The bits of each set whose members are all there.
+fn all_bits() -> [u64; 8] {
+    [
+        FsOptions::from_bits_truncate(u64::MAX).bits(),
+        FsOptions::SUPPORTED.bits(),
+        u64::from(SetattrValid::from_bits_truncate(u32::MAX).bits()),
+        u64::from(OpenOptions::from_bits_truncate(u32::MAX).bits()),
+        u64::from(IoctlFlags::from_bits_truncate(u32::MAX).bits()),
+        u64::from(SetxattrFlags::from_bits_truncate(u32::MAX).bits()),
+        u64::from(NotifyInvalEntryOutFlags::from_bits_truncate(u32::MAX).bits()),
+        SetupmappingFlags::from_bits_truncate(u64::MAX).bits(),
+    ]
+}
+
 #[test]
 fn sets_know_their_bits(rt: HostRuntime) {
-    assert_eq!(rt;
-        FsOptions::from_bits_truncate(u64::MAX).bits(),
-        0x117_fbff_ffff
-    );
-    assert_eq!(rt; FsOptions::SUPPORTED.bits(), 0x104_4844_9829);
-    assert_eq!(rt; SetattrValid::from_bits_truncate(u32::MAX).bits(), 0xdbf);
-    assert_eq!(rt; OpenOptions::from_bits_truncate(u32::MAX).bits(), 0x7f);
-    assert_eq!(rt; IoctlFlags::from_bits_truncate(u32::MAX).bits(), 0x13f);
-    assert_eq!(rt; SetxattrFlags::from_bits_truncate(u32::MAX).bits(), 1);
-    assert_eq!(rt;
-        NotifyInvalEntryOutFlags::from_bits_truncate(u32::MAX).bits(),
-        1
-    );
-    assert_eq!(rt; SetupmappingFlags::from_bits_truncate(u64::MAX).bits(), 3);
+    let bits = [
+        0x117_fbff_ffff,
+        0x104_4844_9829,
+        0xdbf,
+        0x7f,
+        0x13f,
+        1,
+        1,
+        3,
+    ];
+    assert_eq!(rt; all_bits(), bits);
 }

@@ -1,10 +1,336 @@
+//! Readers and writers over segments of all kinds: what each call answers, and what is left and
+//! passed after it.
+
 use std::alloc::{AllocError, Global};
 use std::io;
 use std::io::{ErrorKind, Read, Write};
 use std::test::Fail;
 use vfs_segments::{DescriptorType, Error, Reader, Writer};
 
-// Segments of zeros, of these lengths.
+/// How many bytes the largest write of a client has.
+const LARGEST_WRITE: usize = 65_536;
+
+/// How many bytes were moved, or the kind of the error.
+type Answer = Result<usize, ErrorKind>;
+
+/// The byte at this place of what readers are to read. It is never 0.
+fn number(at: usize) -> u8 {
+    (at % 255) as u8 + 1
+}
+
+/// So many bytes, each with its number.
+fn numbers(alloc: Global, n: usize) -> Result<Vec<u8>, AllocError> {
+    let mut bytes = vec![in alloc; 0u8; n]?;
+    for (at, b) in bytes.iter_mut().enumerate() {
+        *b = number(at);
+    }
+    Ok(bytes)
+}
+
+/// The first of these bytes, cut into segments of these lengths.
+fn cut<'a>(alloc: Global, bytes: &'a [u8], lengths: &[usize]) -> Result<Vec<&'a [u8]>, AllocError> {
+    let mut segments = Vec::new(alloc);
+    let mut rest = bytes;
+    for n in lengths {
+        let (segment, behind) = rest.split_at((*n).min(rest.len()));
+        segments.push(segment)?;
+        rest = behind;
+    }
+    Ok(segments)
+}
+
+/// Whether the first `count` bytes of a buffer are those from the place `from` on, and the others
+/// are still 0.
+fn has_numbers(buf: &[u8], from: usize, count: usize) -> bool {
+    for (i, b) in buf.iter().enumerate() {
+        let want = if i < count {
+            number(from.saturating_add(i))
+        } else {
+            0
+        };
+        if *b != want {
+            return false;
+        }
+    }
+    true
+}
+
+/// A call of a reader.
+#[derive(Clone, Copy)]
+enum ReadCall {
+    /// `read` into so many bytes.
+    UpTo(usize),
+    /// `read_exact` of so many bytes.
+    All(usize),
+    /// `read_obj::<u8>`.
+    Byte,
+    /// `read_obj::<u32>`.
+    Word,
+}
+
+/// `read` into `n` bytes, which are to be those from the place `from` on.
+fn read(alloc: Global, reader: &mut Reader<'_>, from: usize, n: usize) -> Result<Answer, Fail> {
+    let mut buf = vec![in alloc; 0u8; n]?;
+    let count = reader.read(&mut buf)?;
+    if !has_numbers(&buf, from, count) {
+        return Err("other bytes were read".into());
+    }
+    Ok(Ok(count))
+}
+
+/// `read_exact` of `n` bytes, which are to be those from the place `from` on.
+fn read_exact(
+    alloc: Global,
+    reader: &mut Reader<'_>,
+    from: usize,
+    n: usize,
+) -> Result<Answer, Fail> {
+    let mut buf = vec![in alloc; 0u8; n]?;
+    if let Err(e) = reader.read_exact(&mut buf) {
+        return Ok(Err(e.kind()));
+    }
+    if !has_numbers(&buf, from, n) {
+        return Err("other bytes were read".into());
+    }
+    Ok(Ok(n))
+}
+
+/// What a record answers that is to be these bytes.
+fn record<const N: usize>(bytes: [u8; N], from: usize) -> Result<Answer, Fail> {
+    if !has_numbers(&bytes, from, N) {
+        return Err("another record was read".into());
+    }
+    Ok(Ok(N))
+}
+
+/// What a reader answers to a call. What it reads is to be the bytes from the place `from` on.
+fn read_by(
+    alloc: Global,
+    reader: &mut Reader<'_>,
+    from: usize,
+    call: ReadCall,
+) -> Result<Answer, Fail> {
+    match call {
+        ReadCall::UpTo(n) => read(alloc, reader, from, n),
+        ReadCall::All(n) => read_exact(alloc, reader, from, n),
+        ReadCall::Byte => match reader.read_obj::<u8>() {
+            Ok(x) => record(x.to_le_bytes(), from),
+            Err(e) => Ok(Err(e.kind())),
+        },
+        ReadCall::Word => match reader.read_obj::<u32>() {
+            Ok(x) => record(x.to_le_bytes(), from),
+            Err(e) => Ok(Err(e.kind())),
+        },
+    }
+}
+
+/// What is left of a reader, and what it has read.
+fn read_state(reader: &Reader<'_>) -> (usize, usize) {
+    (reader.available_bytes(), reader.bytes_read())
+}
+
+/// What a reader is asked, what it answers, and what is left and was read afterwards.
+type ReadRow = (ReadCall, Answer, (usize, usize));
+
+/// Whether a reader answers so, whose first byte is the one at the place 0.
+fn answers_so(alloc: Global, reader: &mut Reader<'_>, rows: &[ReadRow]) -> Result<bool, Fail> {
+    for (call, answer, state) in rows {
+        let from = reader.bytes_read();
+        if read_by(alloc, reader, from, *call)? != *answer || read_state(reader) != *state {
+            return Ok(false);
+        }
+    }
+    Ok(true)
+}
+
+/// The lengths of a reader's segments, and its calls.
+const READS: [(&[usize], &[ReadRow]); 8] = [
+    (
+        &[8, 16, 18, 64],
+        &[
+            (ReadCall::UpTo(0), Ok(0), (106, 0)),
+            (ReadCall::UpTo(64), Ok(64), (42, 64)),
+            (ReadCall::UpTo(64), Ok(42), (0, 106)),
+            (ReadCall::UpTo(64), Ok(0), (0, 106)),
+        ],
+    ),
+    (
+        &[],
+        &[
+            (ReadCall::UpTo(0), Ok(0), (0, 0)),
+            (ReadCall::Byte, Err(ErrorKind::UnexpectedEof), (0, 0)),
+        ],
+    ),
+    (&[16, 16, 96], &[(ReadCall::UpTo(200), Ok(128), (0, 128))]),
+    (
+        &[256, 256],
+        &[(ReadCall::All(1024), Err(ErrorKind::UnexpectedEof), (0, 512))],
+    ),
+    (
+        &[2, 1],
+        &[(ReadCall::Word, Err(ErrorKind::UnexpectedEof), (0, 3))],
+    ),
+    (&[1, 1, 1, 1], &[(ReadCall::Word, Ok(4), (0, 4))]),
+    (&[16, 16, 16], &[(ReadCall::UpTo(64), Ok(48), (0, 48))]),
+    (
+        &[0, 2, 0, 2],
+        &[
+            (ReadCall::UpTo(0), Ok(0), (4, 0)),
+            (ReadCall::UpTo(3), Ok(3), (1, 3)),
+        ],
+    ),
+];
+
+/// The number of the first row that a reader doesn't answer so.
+fn wrong_reads(alloc: Global) -> Result<Option<usize>, Fail> {
+    let bytes = numbers(alloc, 512)?;
+    for (i, (lengths, calls)) in READS.iter().enumerate() {
+        let segments = cut(alloc, &bytes, lengths)?;
+        if !answers_so(alloc, &mut Reader::new(alloc, &segments)?, calls)? {
+            return Ok(Some(i));
+        }
+    }
+    Ok(None)
+}
+
+#[test]
+fn readers_answer_and_count(rt: HostRuntime) -> Result<(), Fail> {
+    assert_eq!(rt; wrong_reads(rt.alloc())?, None);
+    Ok(())
+}
+
+/// Whether `n` bytes, and no more, are read into `size` bytes. They are to be those from the place
+/// `from` on.
+fn reads(
+    alloc: Global,
+    reader: &mut Reader<'_>,
+    from: usize,
+    size: usize,
+    n: usize,
+) -> Result<bool, Fail> {
+    Ok(read(alloc, reader, from, size)? == Ok(n))
+}
+
+/// Whether `n` bytes are left of a reader, those from the place `from` on. They are read.
+fn has_left(alloc: Global, reader: &mut Reader<'_>, from: usize, n: usize) -> Result<bool, Fail> {
+    Ok(reader.available_bytes() == n && reads(alloc, reader, from, 200, n)?)
+}
+
+/// The lengths of a reader's segments, how many bytes are read of it, where it is split then, and
+/// what is left of both parts.
+const READER_SPLITS: [(&[usize], usize, usize, (usize, usize)); 5] = [
+    (&[16, 16, 96], 0, 0, (0, 128)),
+    (&[16, 16, 96], 0, 24, (24, 104)),
+    (&[16, 16, 96], 0, 32, (32, 96)),
+    (&[16, 16, 96], 0, 128, (128, 0)),
+    (&[3, 5], 2, 3, (3, 3)),
+];
+
+/// Whether a reader that is split `at` bytes on keeps its count and so many bytes, and the rest
+/// begins its count anew and has so many. Both are read.
+fn is_split(
+    alloc: Global,
+    reader: &mut Reader<'_>,
+    at: usize,
+    (first, second): (usize, usize),
+) -> Result<bool, Fail> {
+    let from = reader.bytes_read();
+    let mut rest = reader.split_at(at)?;
+    Ok(
+        (reader.bytes_read(), rest.bytes_read()) == (from, 0)
+            && has_left(alloc, reader, from, first)?
+            && has_left(alloc, &mut rest, from.saturating_add(at), second)?
+            && rest.bytes_read() == second,
+    )
+}
+
+/// The number of the first row of a reader that isn't split so.
+fn wrong_reader_split(alloc: Global) -> Result<Option<usize>, Fail> {
+    let bytes = numbers(alloc, 128)?;
+    for (i, (lengths, before, at, left)) in READER_SPLITS.iter().enumerate() {
+        let segments = cut(alloc, &bytes, lengths)?;
+        let mut reader = Reader::new(alloc, &segments)?;
+        if !reads(alloc, &mut reader, 0, *before, *before)?
+            || !is_split(alloc, &mut reader, *at, *left)?
+        {
+            return Ok(Some(i));
+        }
+    }
+    Ok(None)
+}
+
+#[test]
+fn a_reader_is_split_at_the_cuts_and_between_them(rt: HostRuntime) -> Result<(), Fail> {
+    assert_eq!(rt; wrong_reader_split(rt.alloc())?, None);
+    Ok(())
+}
+
+/// Whether a reader is not split past its end, and can be split at it then.
+fn is_refused_past_its_end(alloc: Global) -> Result<bool, Fail> {
+    let bytes = numbers(alloc, 128)?;
+    let segments = cut(alloc, &bytes, &[16, 16, 96])?;
+    let mut reader = Reader::new(alloc, &segments)?;
+    Ok(
+        reader.split_at(256).err() == Some(Error::SplitOutOfBounds(256))
+            && read_state(&reader) == (128, 0)
+            && is_split(alloc, &mut reader, 128, (128, 0))?,
+    )
+}
+
+#[test]
+fn a_reader_is_not_split_past_its_end(rt: HostRuntime) -> Result<(), Fail> {
+    assert!(rt; is_refused_past_its_end(rt.alloc())?);
+    Ok(())
+}
+
+/// Whether a clone of a reader has its counts, and leaves them as they are when the last byte is
+/// read, which is at the place `from`.
+fn is_cloned(alloc: Global, reader: &Reader<'_>, from: usize) -> Result<bool, Fail> {
+    let state = read_state(reader);
+    let mut clone = reader.clone()?;
+    Ok(
+        read_state(&clone) == state
+            && has_left(alloc, &mut clone, from, 1)?
+            && read_state(&clone) == (0, from.saturating_add(1))
+            && read_state(reader) == state,
+    )
+}
+
+/// Whether a reader is cloned between its empty segments.
+fn is_cloned_past_empty_segments(alloc: Global) -> Result<bool, Fail> {
+    let bytes = numbers(alloc, 4)?;
+    let segments = cut(alloc, &bytes, &[0, 2, 0, 2])?;
+    let mut reader = Reader::new(alloc, &segments)?;
+    Ok(
+        reads(alloc, &mut reader, 0, 3, 3)?
+            && read_state(&reader) == (1, 3)
+            && is_cloned(alloc, &reader, 3)?,
+    )
+}
+
+#[test]
+fn a_clone_goes_on_from_where_the_reader_stands(rt: HostRuntime) -> Result<(), Fail> {
+    assert!(rt; is_cloned_past_empty_segments(rt.alloc())?);
+    Ok(())
+}
+
+/// The bytes of 0x12345678, each a segment.
+const WORD: [&[u8]; 4] = [&[0x78], &[0x56], &[0x34], &[0x12]];
+
+/// A number of four bytes that is read over segments of one byte, and the counts afterwards.
+fn word_read(alloc: Global) -> Result<(u32, (usize, usize)), Fail> {
+    let mut reader = Reader::new(alloc, &WORD)?;
+    let word = reader.read_obj::<u32>()?;
+    Ok((word, read_state(&reader)))
+}
+
+#[test]
+fn a_record_is_read_over_segments_of_one_byte(rt: HostRuntime) -> Result<(), Fail> {
+    assert_eq!(rt; word_read(rt.alloc())?, (0x1234_5678, (0, 4)));
+    Ok(())
+}
+
+/// Segments of zeros, of these lengths.
 fn zeros(alloc: Global, lengths: &[usize]) -> Result<Vec<Vec<u8>>, AllocError> {
     let mut segments = Vec::new(alloc);
     for n in lengths {
@@ -13,38 +339,304 @@ fn zeros(alloc: Global, lengths: &[usize]) -> Result<Vec<Vec<u8>>, AllocError> {
     Ok(segments)
 }
 
-// The segments as a reader takes them.
-fn slices_of(alloc: Global, segments: &[Vec<u8>]) -> Result<Vec<&[u8]>, AllocError> {
-    let mut slices = Vec::new(alloc);
-    for segment in segments {
-        slices.push(segment.as_slice())?;
-    }
-    Ok(slices)
+/// A call of a writer.
+#[derive(Clone, Copy)]
+enum WriteCall {
+    /// `write` of these bytes.
+    UpTo(&'static [u8]),
+    /// `write_all` of these bytes.
+    All(&'static [u8]),
+    /// `write_obj` of a number of one byte.
+    Byte(u8),
+    /// `write_obj` of a number of four bytes.
+    Word(u32),
+    /// `flush`.
+    Flush,
+    /// `hold` of so many bytes. That it is past the room is answered as invalid input here.
+    Hold(usize),
+    /// `fill_held` by these bytes, which are as many as are held.
+    Fill(&'static [u8]),
 }
 
-// The next bytes of a reader.
-fn next_bytes(alloc: Global, reader: &mut Reader, n: usize) -> Result<Vec<u8>, Fail> {
-    let mut bytes = vec![in alloc; 0u8; n]?;
-    reader.read_exact(&mut bytes)?;
-    Ok(bytes)
-}
-
-// Which kind of error came, if one did.
-fn kind<T: Drop>(answer: io::Result<T>) -> Option<ErrorKind> {
+/// The answer of a call that moves all of so many bytes, or fails.
+fn all_of(n: usize, answer: io::Result<()>) -> Answer {
     match answer {
-        Ok(_) => None,
-        Err(e) => Some(e.kind()),
+        Ok(()) => Ok(n),
+        Err(e) => Err(e.kind()),
     }
 }
 
-// How many bytes the largest write of a client has.
-const LARGEST_WRITE: usize = 65_536;
+/// What a writer answers that is to hold so many bytes.
+fn hold(writer: &mut Writer, n: usize) -> Answer {
+    match writer.hold(n) {
+        Ok(()) => Ok(n),
+        Err(Error::SplitOutOfBounds(m)) if m == n => Err(ErrorKind::InvalidInput),
+        Err(_) => Err(ErrorKind::Other),
+    }
+}
 
-// A place inside the ninth of the segments below that have bytes.
+/// How many bytes a writer held that are now these.
+fn fill(writer: &mut Writer, bytes: &[u8]) -> Answer {
+    if writer.held() != bytes.len() {
+        return Err(ErrorKind::Other);
+    }
+    writer.fill_held(bytes);
+    Ok(bytes.len())
+}
+
+/// What a writer answers to a call.
+fn write_by(writer: &mut Writer, call: WriteCall) -> Answer {
+    match call {
+        WriteCall::UpTo(bytes) => match writer.write(bytes) {
+            Ok(n) => Ok(n),
+            Err(e) => Err(e.kind()),
+        },
+        WriteCall::All(bytes) => all_of(bytes.len(), writer.write_all(bytes)),
+        WriteCall::Byte(x) => all_of(1, writer.write_obj(x)),
+        WriteCall::Word(x) => all_of(4, writer.write_obj(x)),
+        WriteCall::Flush => all_of(0, writer.flush()),
+        WriteCall::Hold(n) => hold(writer, n),
+        WriteCall::Fill(bytes) => fill(writer, bytes),
+    }
+}
+
+/// What is left of a writer, what is written, and what it holds.
+fn write_state(writer: &Writer) -> (usize, usize, usize) {
+    (
+        writer.available_bytes(),
+        writer.bytes_written(),
+        writer.held(),
+    )
+}
+
+/// What a writer is asked, what it answers, and what is left, written and held afterwards.
+type WriteRow = (WriteCall, Answer, (usize, usize, usize));
+
+/// Whether a writer answers so.
+fn does_so(writer: &mut Writer, rows: &[WriteRow]) -> bool {
+    for (call, answer, state) in rows {
+        if write_by(writer, *call) != *answer || write_state(writer) != *state {
+            return false;
+        }
+    }
+    true
+}
+
+/// Whether a writer's segments have these bytes.
+fn has_segments(writer: Writer, want: &[&[u8]]) -> bool {
+    let segments = writer.into_segments();
+    for (segment, bytes) in segments.iter().zip(want) {
+        if segment.as_slice() != *bytes {
+            return false;
+        }
+    }
+    segments.len() == want.len()
+}
+
+/// The lengths of a writer's segments, its calls, and its segments afterwards.
+const WRITES: [(&[usize], &[WriteRow], &[&[u8]]); 10] = [
+    (
+        &[8, 16, 18, 64],
+        &[
+            (WriteCall::UpTo(&[]), Ok(0), (106, 0, 0)),
+            (WriteCall::UpTo(&[7; 64]), Ok(64), (42, 64, 0)),
+            (WriteCall::UpTo(&[7; 64]), Ok(42), (0, 106, 0)),
+        ],
+        &[&[7; 8], &[7; 16], &[7; 18], &[7; 64]],
+    ),
+    (
+        &[],
+        &[
+            (WriteCall::UpTo(&[]), Ok(0), (0, 0, 0)),
+            (WriteCall::Byte(0), Err(ErrorKind::WriteZero), (0, 0, 0)),
+        ],
+        &[],
+    ),
+    (
+        &[64, 1, 3],
+        &[(WriteCall::All(&[5; 68]), Ok(68), (0, 68, 0))],
+        &[&[5; 64], &[5], &[5; 3]],
+    ),
+    (
+        &[1, 1, 1, 1],
+        &[(WriteCall::Word(0x1234_5678), Ok(4), (0, 4, 0))],
+        &WORD,
+    ),
+    (
+        &[16, 16, 16],
+        &[(
+            WriteCall::All(&[3; 64]),
+            Err(ErrorKind::WriteZero),
+            (0, 48, 0),
+        )],
+        &[&[3; 16], &[3; 16], &[3; 16]],
+    ),
+    (
+        &[1, 2],
+        &[(
+            WriteCall::Word(0x0403_0201),
+            Err(ErrorKind::WriteZero),
+            (0, 3, 0),
+        )],
+        &[&[1], &[2, 3]],
+    ),
+    (
+        &[16, 16, 16],
+        &[
+            (WriteCall::UpTo(&[1; 64]), Ok(48), (0, 48, 0)),
+            (WriteCall::Flush, Ok(0), (0, 48, 0)),
+        ],
+        &[&[1; 16], &[1; 16], &[1; 16]],
+    ),
+    (
+        &[0, 2, 0, 2],
+        &[(WriteCall::All(&[1, 2, 3]), Ok(3), (1, 3, 0))],
+        &[&[], &[1, 2], &[], &[3, 0]],
+    ),
+    (
+        &[3, 3],
+        &[
+            (WriteCall::Hold(2), Ok(2), (4, 2, 2)),
+            (WriteCall::Hold(2), Ok(2), (2, 4, 2)),
+            (WriteCall::Fill(&[1, 2]), Ok(2), (2, 4, 0)),
+            (WriteCall::Hold(0), Ok(0), (2, 4, 0)),
+        ],
+        &[&[0, 0, 1], &[2, 0, 0]],
+    ),
+    (
+        &[10, 10],
+        &[
+            (WriteCall::Hold(16), Ok(16), (4, 16, 16)),
+            (WriteCall::UpTo(&[0xaa, 0xbb]), Ok(2), (2, 18, 16)),
+            (
+                WriteCall::Fill(&[0, 1, 2, 3, 4, 5, 6, 7, 8, 9, 10, 11, 12, 13, 14, 15]),
+                Ok(16),
+                (2, 18, 0),
+            ),
+            (WriteCall::Hold(3), Err(ErrorKind::InvalidInput), (2, 18, 0)),
+        ],
+        &[
+            &[0, 1, 2, 3, 4, 5, 6, 7, 8, 9],
+            &[10, 11, 12, 13, 14, 15, 0xaa, 0xbb, 0, 0],
+        ],
+    ),
+];
+
+/// A writer over zeros in segments of these lengths.
+pub fn writer_over(alloc: Global, lengths: &[usize]) -> Result<Writer, Fail> {
+    Ok(Writer::new(alloc, zeros(alloc, lengths)?)?)
+}
+
+/// The number of the first row that a writer doesn't answer so.
+fn wrong_writes(alloc: Global) -> Result<Option<usize>, Fail> {
+    for (i, (lengths, calls, segments)) in WRITES.iter().enumerate() {
+        let mut writer = writer_over(alloc, lengths)?;
+        if !does_so(&mut writer, calls) || !has_segments(writer, segments) {
+            return Ok(Some(i));
+        }
+    }
+    Ok(None)
+}
+
+#[test]
+fn writers_answer_and_count(rt: HostRuntime) -> Result<(), Fail> {
+    assert_eq!(rt; wrong_writes(rt.alloc())?, None);
+    Ok(())
+}
+
+/// The rest of a writer that is split. Where memory is refused, as `rt try --test --fail-alloc N`
+/// does, nothing changes, and it is split again.
+fn split(writer: &mut Writer, at: usize) -> Result<Writer, Fail> {
+    let state = write_state(writer);
+    match writer.split_at(at) {
+        Err(Error::OutOfMemory) => {
+            if write_state(writer) != state {
+                return Err("a refused split changes the writer".into());
+            }
+            Ok(writer.split_at(at)?)
+        }
+        answer => Ok(answer?),
+    }
+}
+
+/// Where a writer over 16, 16 and 96 bytes is split, and the room of both parts.
+const WRITER_SPLITS: [(usize, usize, usize); 4] = [
+    (0, 0, 128),
+    (24, 24, 104),
+    (32, 32, 96),
+    (128, 128, 0),
+];
+
+/// Whether a writer isn't split past its end, and is split here so.
+fn is_writer_split(
+    writer: &mut Writer,
+    (at, first, second): (usize, usize, usize),
+) -> Result<bool, Fail> {
+    let refused = writer.split_at(256).err() == Some(Error::SplitOutOfBounds(256));
+    let state = write_state(writer);
+    let rest = split(writer, at)?;
+    Ok(
+        refused
+            && state == (128, 0, 0)
+            && write_state(writer) == (first, 0, 0)
+            && write_state(&rest) == (second, 0, 0),
+    )
+}
+
+#[test]
+fn a_writer_is_split_at_the_cuts_and_between_them(rt: HostRuntime) -> Result<(), Fail> {
+    for row in WRITER_SPLITS {
+        let mut writer = writer_over(rt.alloc(), &[16, 16, 96])?;
+        assert!(rt; is_writer_split(&mut writer, row)?);
+    }
+    Ok(())
+}
+
+/// The calls of a writer before it is split.
+const BEFORE: [WriteRow; 2] = [
+    (WriteCall::Hold(1), Ok(1), (6, 1, 1)),
+    (WriteCall::All(&[0xa1, 0xa2]), Ok(2), (4, 3, 1)),
+];
+
+/// The calls of its first part.
+const FIRST: [WriteRow; 3] = [
+    (WriteCall::UpTo(&[]), Ok(0), (1, 3, 1)),
+    (WriteCall::UpTo(&[0xa3, 0xa4]), Ok(1), (0, 4, 1)),
+    (WriteCall::Fill(&[0xa0]), Ok(1), (0, 4, 0)),
+];
+
+/// The calls of its rest.
+const REST: [WriteRow; 2] = [
+    (WriteCall::UpTo(&[]), Ok(0), (3, 0, 0)),
+    (WriteCall::All(&[0xb1, 0xb2, 0xb3]), Ok(3), (0, 3, 0)),
+];
+
+/// Whether the calls of a writer and of its rest answer so, and fill their segments.
+fn fills_both_parts(alloc: Global) -> Result<bool, Fail> {
+    let mut writer = writer_over(alloc, &[2, 0, 4, 1])?;
+    if !does_so(&mut writer, &BEFORE) {
+        return Ok(false);
+    }
+    let mut rest = split(&mut writer, 1)?;
+    Ok(
+        does_so(&mut writer, &FIRST)
+            && does_so(&mut rest, &REST)
+            && has_segments(writer, &[&[0xa0, 0xa1], &[], &[0xa2, 0xa3]])
+            && has_segments(rest, &[&[0xb1, 0xb2], &[0xb3]]),
+    )
+}
+
+#[test]
+fn a_split_writer_keeps_its_hold_and_each_part_fills_its_room(rt: HostRuntime) -> Result<(), Fail> {
+    assert!(rt; fills_both_parts(rt.alloc())?);
+    Ok(())
+}
+
+/// A place inside the ninth of the segments below that have bytes.
 const MIDDLE: usize = 33_005;
 
-// The lengths of a thousand segments, of which sixteen have bytes, 66,000 in all. The others need
-// no memory of their own, so that a test can refuse each allocation in turn.
+/// The lengths of a thousand segments, of which sixteen have bytes, 66,000 in all. The others need
+/// no memory of their own, so that a test can refuse each allocation in turn.
 fn thousand_lengths() -> [usize; 1000] {
     let mut lengths = [0; 1000];
     for i in 0..16 {
@@ -53,384 +645,63 @@ fn thousand_lengths() -> [usize; 1000] {
     lengths
 }
 
-// The numbers from 1 on.
-const NUMBERED: [u8; 8] = [1, 2, 3, 4, 5, 6, 7, 8];
-
-#[test]
-fn reads_106_bytes_of_four_segments(rt: HostRuntime) -> Result<(), Fail> {
-    let bytes = [7u8; 106];
-    let segments = [&bytes[..8], &bytes[8..24], &bytes[24..42], &bytes[42..]];
-    let mut reader = Reader::new(rt.alloc(), &segments)?;
-    assert_eq!(rt; reader.available_bytes(), 106);
-    assert_eq!(rt; reader.bytes_read(), 0);
-    let mut buf = [0u8; 64];
-    assert_eq!(rt; reader.read(&mut buf)?, 64);
-    assert_eq!(rt; reader.available_bytes(), 42);
-    assert_eq!(rt; reader.bytes_read(), 64);
-    assert_eq!(rt; reader.read(&mut buf)?, 42);
-    assert_eq!(rt; reader.available_bytes(), 0);
-    assert_eq!(rt; reader.bytes_read(), 106);
-    assert_eq!(rt; reader.read(&mut buf)?, 0);
-    Ok(())
+/// A thousand segments that a writer fills with these bytes, without the last 264 of its room, of
+/// which it is split. What is left of both parts, and the number of segments of the second, stand
+/// beside them.
+fn thousand_written(
+    alloc: Global,
+    bytes: &[u8],
+) -> Result<(Vec<Vec<u8>>, (usize, usize, usize)), Fail> {
+    let mut writer = writer_over(alloc, &thousand_lengths())?;
+    writer.write_all(bytes)?;
+    let rest = writer.split_at(200)?;
+    let (first, second) = (writer.available_bytes(), rest.available_bytes());
+    let count = rest.into_segments().len();
+    Ok((writer.into_segments(), (first, second, count)))
 }
 
-#[test]
-fn writes_106_bytes_of_four_segments(rt: HostRuntime) -> Result<(), Fail> {
-    let alloc = rt.alloc();
-    let mut writer = Writer::new(alloc, zeros(alloc, &[8, 16, 18, 64])?)?;
-    assert_eq!(rt; writer.available_bytes(), 106);
-    assert_eq!(rt; writer.bytes_written(), 0);
-    assert_eq!(rt; writer.write(&[7u8; 64])?, 64);
-    assert_eq!(rt; writer.available_bytes(), 42);
-    assert_eq!(rt; writer.bytes_written(), 64);
-    assert_eq!(rt; writer.write(&[7u8; 64])?, 42);
-    assert_eq!(rt; writer.available_bytes(), 0);
-    assert_eq!(rt; writer.bytes_written(), 106);
-    for segment in &writer.into_segments() {
-        assert!(rt; segment.iter().all(|b| *b == 7));
+/// The segments as a reader takes them.
+fn slices_of(alloc: Global, segments: &[Vec<u8>]) -> Result<Vec<&[u8]>, AllocError> {
+    let mut slices = Vec::new(alloc);
+    for segment in segments {
+        slices.push(segment.as_slice())?;
     }
-    Ok(())
+    Ok(slices)
 }
 
-#[test]
-fn refuses_records_over_no_segments(rt: HostRuntime) -> Result<(), Fail> {
-    let alloc = rt.alloc();
-    let mut reader = Reader::new(alloc, &[])?;
-    assert_eq!(rt; (reader.available_bytes(), reader.bytes_read()), (0, 0));
-    assert_eq!(rt;
-        kind(reader.read_obj::<u8>()),
-        Some(ErrorKind::UnexpectedEof)
-    );
-    assert_eq!(rt; (reader.available_bytes(), reader.bytes_read()), (0, 0));
-    let mut writer = Writer::new(alloc, Vec::new(alloc))?;
-    assert_eq!(rt; (writer.available_bytes(), writer.bytes_written()), (0, 0));
-    assert_eq!(rt; kind(writer.write_obj(0u8)), Some(ErrorKind::WriteZero));
-    assert_eq!(rt; (writer.available_bytes(), writer.bytes_written()), (0, 0));
-    Ok(())
+/// Whether a clone of a reader of these segments reads all bytes.
+fn clone_reads_all(alloc: Global, segments: &[&[u8]]) -> Result<bool, Fail> {
+    let mut clone = Reader::new(alloc, segments)?.clone()?;
+    Ok(read_exact(alloc, &mut clone, 0, LARGEST_WRITE)? == Ok(LARGEST_WRITE))
 }
 
-#[test]
-fn reads_into_a_larger_buffer_and_writes_a_whole_room(rt: HostRuntime) -> Result<(), Fail> {
-    let alloc = rt.alloc();
-    let bytes = [5u8; 128];
-    let segments = [&bytes[..16], &bytes[16..32], &bytes[32..]];
-    let mut reader = Reader::new(alloc, &segments)?;
-    let mut writer = Writer::new(alloc, zeros(alloc, &[64, 1, 3])?)?;
-    let mut buf = [0u8; 200];
-    assert_eq!(rt; reader.read(&mut buf)?, 128);
-    assert!(rt; buf[..128].iter().all(|b| *b == 5));
-    assert!(rt; buf[128..].iter().all(|b| *b == 0));
-    writer.write_all(&buf[..68])?;
-    assert_eq!(rt; (reader.available_bytes(), reader.bytes_read()), (0, 128));
-    assert_eq!(rt; (writer.available_bytes(), writer.bytes_written()), (0, 68));
-    Ok(())
+/// Whether a reader of these segments that is split inside one of them reads all bytes.
+fn parts_read_all(alloc: Global, segments: &[&[u8]]) -> Result<bool, Fail> {
+    let mut reader = Reader::new(alloc, segments)?;
+    let mut rest = reader.split_at(MIDDLE)?;
+    let behind = LARGEST_WRITE - MIDDLE;
+    Ok(
+        reads(alloc, &mut reader, 0, LARGEST_WRITE, MIDDLE)?
+            && read_exact(alloc, &mut rest, MIDDLE, behind)? == Ok(behind),
+    )
 }
 
-#[test]
-fn a_record_goes_over_segments_of_one_byte_and_comes_back(rt: HostRuntime) -> Result<(), Fail> {
-    let alloc = rt.alloc();
-    let mut writer = Writer::new(alloc, zeros(alloc, &[1, 1, 1, 1])?)?;
-    writer.write_obj(0x1234_5678u32)?;
-    assert_eq!(rt; writer.available_bytes(), 0);
-    let written = writer.into_segments();
-    assert_eq!(rt; written.len(), 4);
-    let segments: [&[u8]; 4] = [&written[0], &written[1], &written[2], &written[3]];
-    for (segment, byte) in segments.iter().zip(&[[0x78u8], [0x56], [0x34], [0x12]]) {
-        assert_eq!(rt; *segment, byte.as_slice());
-    }
-    let mut reader = Reader::new(alloc, &segments)?;
-    assert_eq!(rt; reader.read_obj::<u32>()?, 0x1234_5678);
-    assert_eq!(rt; (reader.available_bytes(), reader.bytes_read()), (0, 4));
-    Ok(())
-}
-
-#[test]
-fn a_read_past_the_end_takes_all(rt: HostRuntime) -> Result<(), Fail> {
-    let bytes = [9u8; 512];
-    let segments = [&bytes[..256], &bytes[256..]];
-    let mut reader = Reader::new(rt.alloc(), &segments)?;
-    let mut buf = [0u8; 1024];
-    assert_eq!(rt;
-        kind(reader.read_exact(&mut buf)),
-        Some(ErrorKind::UnexpectedEof)
-    );
-    assert_eq!(rt; (reader.available_bytes(), reader.bytes_read()), (0, 512));
-    Ok(())
-}
-
-#[test]
-fn a_record_that_is_cut_off_takes_all(rt: HostRuntime) -> Result<(), Fail> {
-    let segments = [&NUMBERED[..2], &NUMBERED[2..3]];
-    let mut reader = Reader::new(rt.alloc(), &segments)?;
-    assert_eq!(rt;
-        kind(reader.read_obj::<u32>()),
-        Some(ErrorKind::UnexpectedEof)
-    );
-    assert_eq!(rt; (reader.available_bytes(), reader.bytes_read()), (0, 3));
-    Ok(())
-}
-
-#[test]
-fn a_write_past_the_room_fills_it(rt: HostRuntime) -> Result<(), Fail> {
-    let alloc = rt.alloc();
-    let mut writer = Writer::new(alloc, zeros(alloc, &[16, 16, 16])?)?;
-    assert_eq!(rt;
-        kind(writer.write_all(&[3u8; 64])),
-        Some(ErrorKind::WriteZero)
-    );
-    assert_eq!(rt; (writer.available_bytes(), writer.bytes_written()), (0, 48));
-    for segment in &writer.into_segments() {
-        assert_eq!(rt; segment.as_slice(), [3u8; 16].as_slice());
-    }
-    Ok(())
-}
-
-#[test]
-fn a_record_past_the_room_leaves_its_beginning(rt: HostRuntime) -> Result<(), Fail> {
-    let alloc = rt.alloc();
-    let mut writer = Writer::new(alloc, zeros(alloc, &[1, 2])?)?;
-    assert_eq!(rt;
-        kind(writer.write_obj(0x0403_0201u32)),
-        Some(ErrorKind::WriteZero)
-    );
-    let written = writer.into_segments();
-    assert_eq!(rt; written.len(), 2);
-    assert_eq!(rt; written[0].as_slice(), [1u8].as_slice());
-    assert_eq!(rt; written[1].as_slice(), [2u8, 3].as_slice());
-    Ok(())
-}
-
-#[test]
-fn read_and_write_of_64_move_the_48_that_are_there(rt: HostRuntime) -> Result<(), Fail> {
-    let alloc = rt.alloc();
-    let bytes = [1u8; 48];
-    let segments = [&bytes[..16], &bytes[16..32], &bytes[32..]];
-    let mut reader = Reader::new(alloc, &segments)?;
-    let mut writer = Writer::new(alloc, zeros(alloc, &[16, 16, 16])?)?;
-    let mut buf = [0u8; 64];
-    assert_eq!(rt; reader.read(&mut buf)?, 48);
-    assert_eq!(rt; writer.write(&buf)?, 48);
-    writer.flush()?;
-    assert_eq!(rt; writer.bytes_written(), 48);
-    Ok(())
-}
-
-#[test]
-fn empty_segments_are_passed_over(rt: HostRuntime) -> Result<(), Fail> {
-    let alloc = rt.alloc();
-    let segments = [&[], &NUMBERED[..2], &[], &NUMBERED[2..4]];
-    let mut reader = Reader::new(alloc, &segments)?;
-    assert_eq!(rt; reader.available_bytes(), 4);
-    let mut buf = [0u8; 3];
-    assert_eq!(rt; reader.read(&mut buf)?, 3);
-    assert_eq!(rt; buf.as_slice(), [1u8, 2, 3].as_slice());
-    assert_eq!(rt; (reader.available_bytes(), reader.bytes_read()), (1, 3));
-    let mut writer = Writer::new(alloc, zeros(alloc, &[0, 2, 0, 2])?)?;
-    writer.write_all(&NUMBERED[..3])?;
-    let written = writer.into_segments();
-    assert_eq!(rt; written.len(), 4);
-    assert_eq!(rt; written[1].as_slice(), [1u8, 2].as_slice());
-    assert_eq!(rt; written[3].as_slice(), [3u8, 0].as_slice());
-    Ok(())
-}
-
-#[test]
-fn held_bytes_are_filled_after_those_behind_them(rt: HostRuntime) -> Result<(), Fail> {
-    let alloc = rt.alloc();
-    let mut writer = Writer::new(alloc, zeros(alloc, &[10, 10])?)?;
-    writer.hold(16)?;
-    assert_eq!(rt; (writer.bytes_written(), writer.available_bytes()), (16, 4));
-    assert_eq!(rt; writer.held(), 16);
-    assert_eq!(rt; writer.write(&[0xaa, 0xbb])?, 2);
-    let header = [0u8, 1, 2, 3, 4, 5, 6, 7, 8, 9, 10, 11, 12, 13, 14, 15];
-    assert_eq!(rt; writer.held(), header.len());
-    writer.fill_held(&header);
-    assert_eq!(rt; writer.held(), 0);
-    assert_eq!(rt; writer.hold(3), Err(Error::SplitOutOfBounds(3)));
-    assert_eq!(rt; writer.available_bytes(), 2);
-    let written = writer.into_segments();
-    assert_eq!(rt; written.len(), 2);
-    assert_eq!(rt; written[0].as_slice(), &header[..10]);
-    assert_eq!(rt;
-        written[1].as_slice(),
-        [10u8, 11, 12, 13, 14, 15, 0xaa, 0xbb, 0, 0].as_slice()
-    );
-    Ok(())
-}
-
-#[test]
-fn a_reader_is_split_at_the_cuts_and_between_them(rt: HostRuntime) -> Result<(), Fail> {
-    let alloc = rt.alloc();
-    let bytes = [6u8; 128];
-    let segments = [&bytes[..16], &bytes[16..32], &bytes[32..]];
-    for (n, first, second) in [(0, 0, 128), (24, 24, 104), (32, 32, 96), (128, 128, 0)] {
-        let mut reader = Reader::new(alloc, &segments)?;
-        let rest = reader.split_at(n)?;
-        assert_eq!(rt;
-            (reader.available_bytes(), rest.available_bytes()),
-            (first, second),
-            "at {n}"
-        );
-    }
-    let mut reader = Reader::new(alloc, &segments)?;
-    assert_eq!(rt;
-        reader.split_at(256).err(),
-        Some(Error::SplitOutOfBounds(256))
-    );
-    assert_eq!(rt; (reader.available_bytes(), reader.bytes_read()), (128, 0));
-    let rest = reader.split_at(128)?;
-    assert_eq!(rt;
-        (reader.available_bytes(), rest.available_bytes()),
-        (128, 0)
-    );
-    Ok(())
-}
-
-#[test]
-fn a_split_reader_keeps_its_count_and_the_rest_begins_anew(rt: HostRuntime) -> Result<(), Fail> {
-    let segments = [&NUMBERED[..3], &NUMBERED[3..8]];
-    let mut reader = Reader::new(rt.alloc(), &segments)?;
-    let mut buf = [0u8; 2];
-    reader.read_exact(&mut buf)?;
-    let mut rest = reader.split_at(3)?;
-    assert_eq!(rt; (reader.available_bytes(), reader.bytes_read()), (3, 2));
-    assert_eq!(rt; (rest.available_bytes(), rest.bytes_read()), (3, 0));
-    let mut buf = [0u8; 4];
-    assert_eq!(rt; reader.read(&mut buf)?, 3);
-    assert_eq!(rt; buf, [3, 4, 5, 0]);
-    assert_eq!(rt; rest.read(&mut buf)?, 3);
-    assert_eq!(rt; buf, [6, 7, 8, 0]);
-    assert_eq!(rt; (reader.bytes_read(), rest.bytes_read()), (5, 3));
-    Ok(())
-}
-
-#[test]
-fn a_clone_goes_on_from_where_the_reader_stands(rt: HostRuntime) -> Result<(), Fail> {
-    let segments = [&[], &NUMBERED[..2], &[], &NUMBERED[2..4]];
-    let mut reader = Reader::new(rt.alloc(), &segments)?;
-    let mut buf = [0u8; 3];
-    assert_eq!(rt; reader.read(&mut buf)?, 3);
-    let mut clone = reader.clone()?;
-    assert_eq!(rt; (clone.available_bytes(), clone.bytes_read()), (1, 3));
-    assert_eq!(rt; clone.read(&mut buf)?, 1);
-    assert_eq!(rt; buf, [4, 2, 3]);
-    assert_eq!(rt; (clone.available_bytes(), clone.bytes_read()), (0, 4));
-    assert_eq!(rt; (reader.available_bytes(), reader.bytes_read()), (1, 3));
-    Ok(())
-}
-
-#[test]
-fn a_writer_is_split_at_the_cuts_and_between_them(rt: HostRuntime) -> Result<(), Fail> {
-    let alloc = rt.alloc();
-    for (n, first, second) in [(0, 0, 128), (24, 24, 104), (32, 32, 96), (128, 128, 0)] {
-        let mut writer = Writer::new(alloc, zeros(alloc, &[16, 16, 96])?)?;
-        let rest = writer.split_at(n)?;
-        assert_eq!(rt;
-            (writer.available_bytes(), rest.available_bytes()),
-            (first, second),
-            "at {n}"
-        );
-    }
-    let mut writer = Writer::new(alloc, zeros(alloc, &[16, 16, 96])?)?;
-    assert_eq!(rt;
-        writer.split_at(256).err(),
-        Some(Error::SplitOutOfBounds(256))
-    );
-    assert_eq!(rt;
-        (writer.available_bytes(), writer.bytes_written()),
-        (128, 0)
-    );
-    let rest = writer.split_at(128)?;
-    assert_eq!(rt;
-        (writer.available_bytes(), rest.available_bytes()),
-        (128, 0)
-    );
-    Ok(())
-}
-
-#[test]
-fn a_split_writer_keeps_its_hold_and_each_part_fills_its_room(rt: HostRuntime) -> Result<(), Fail> {
-    let alloc = rt.alloc();
-    let mut writer = Writer::new(alloc, zeros(alloc, &[2, 0, 4, 1])?)?;
-    writer.hold(1)?;
-    writer.write_all(&[0xa1, 0xa2])?;
-    // Where memory is refused, as `rt try --test --fail-alloc N` does, nothing changes.
-    let mut rest = match writer.split_at(1) {
-        Err(Error::OutOfMemory) => {
-            assert_eq!(rt; (writer.available_bytes(), writer.bytes_written()), (4, 3));
-            assert_eq!(rt; writer.held(), 1);
-            writer.split_at(1)?
-        }
-        answer => answer?,
-    };
-    assert_eq!(rt;
-        (
-            writer.available_bytes(),
-            writer.bytes_written(),
-            writer.held()
-        ),
-        (1, 3, 1)
-    );
-    assert_eq!(rt;
-        (rest.available_bytes(), rest.bytes_written(), rest.held()),
-        (3, 0, 0)
-    );
-    assert_eq!(rt; writer.write(&[0xa3, 0xa4])?, 1);
-    rest.write_all(&[0xb1, 0xb2, 0xb3])?;
-    writer.fill_held(&[0xa0]);
-    let first = writer.into_segments();
-    assert_eq!(rt; first.len(), 3);
-    assert_eq!(rt; first[0].as_slice(), [0xa0u8, 0xa1].as_slice());
-    assert_eq!(rt; first[2].as_slice(), [0xa2u8, 0xa3].as_slice());
-    let second = rest.into_segments();
-    assert_eq!(rt; second.len(), 2);
-    assert_eq!(rt; second[0].as_slice(), [0xb1u8, 0xb2].as_slice());
-    assert_eq!(rt; second[1].as_slice(), [0xb3u8].as_slice());
-    Ok(())
-}
-
-#[test]
-fn a_second_hold_takes_the_place_of_the_first(rt: HostRuntime) -> Result<(), Fail> {
-    let alloc = rt.alloc();
-    let mut writer = Writer::new(alloc, zeros(alloc, &[3, 3])?)?;
-    writer.hold(2)?;
-    writer.hold(2)?;
-    assert_eq!(rt; (writer.held(), writer.bytes_written()), (2, 4));
-    writer.fill_held(&[1, 2]);
-    writer.hold(0)?;
-    assert_eq!(rt; (writer.held(), writer.bytes_written()), (0, 4));
-    let written = writer.into_segments();
-    assert_eq!(rt; written.len(), 2);
-    assert_eq!(rt; written[0].as_slice(), [0u8, 0, 1].as_slice());
-    assert_eq!(rt; written[1].as_slice(), [2u8, 0, 0].as_slice());
-    Ok(())
+/// Whether a thousand segments are written and read.
+fn moves_a_thousand_segments(alloc: Global) -> Result<bool, Fail> {
+    let bytes = numbers(alloc, LARGEST_WRITE)?;
+    let (written, counts) = thousand_written(alloc, &bytes)?;
+    let slices = slices_of(alloc, &written)?;
+    Ok(
+        counts == (200, 264, 70)
+            && slices.len() == 931
+            && clone_reads_all(alloc, &slices)?
+            && parts_read_all(alloc, &slices)?,
+    )
 }
 
 #[test]
 fn a_thousand_segments_are_written_split_cloned_and_read(rt: HostRuntime) -> Result<(), Fail> {
-    let alloc = rt.alloc();
-    let mut bytes = vec![in alloc; 0u8; LARGEST_WRITE]?;
-    for (i, b) in bytes.iter_mut().enumerate() {
-        *b = (i % 251) as u8;
-    }
-    let mut writer = Writer::new(alloc, zeros(alloc, &thousand_lengths())?)?;
-    writer.write_all(&bytes)?;
-    let rest = writer.split_at(200)?;
-    assert_eq!(rt;
-        (writer.available_bytes(), rest.available_bytes()),
-        (200, 264)
-    );
-    let written = writer.into_segments();
-    assert_eq!(rt; (written.len(), rest.into_segments().len()), (931, 70));
-
-    let slices = slices_of(alloc, &written)?;
-    let mut reader = Reader::new(alloc, &slices)?;
-    let mut clone = reader.clone()?;
-    assert!(rt; next_bytes(alloc, &mut clone, LARGEST_WRITE)?.as_slice() == bytes.as_slice());
-    let mut rest = reader.split_at(MIDDLE)?;
-    let mut halves = next_bytes(alloc, &mut reader, MIDDLE)?;
-    halves.extend_from_slice(&next_bytes(alloc, &mut rest, LARGEST_WRITE - MIDDLE)?)?;
-    assert!(rt; halves.as_slice() == bytes.as_slice());
+    assert!(rt; moves_a_thousand_segments(rt.alloc())?);
     Ok(())
 }
 
@@ -440,21 +711,23 @@ fn descriptors_are_readable_or_writable(rt: HostRuntime) {
     assert!(rt; DescriptorType::Readable != DescriptorType::Writable);
 }
 
+/// The errors and their texts.
+const TEXTS: [(Error, &str); 4] = [
+    (
+        Error::DescriptorChainOverflow,
+        "the lengths of the segments sum past the largest count",
+    ),
+    (
+        Error::SplitOutOfBounds(7),
+        "a place 7 bytes on is past what is left",
+    ),
+    (Error::IoError, "a segment could not be read or written"),
+    (Error::OutOfMemory, "out of memory"),
+];
+
 #[test]
 fn each_error_has_a_text(rt: HostRuntime) -> Result<(), Fail> {
-    let texts = [
-        (
-            Error::DescriptorChainOverflow,
-            "the lengths of the segments sum past the largest count",
-        ),
-        (
-            Error::SplitOutOfBounds(7),
-            "a place 7 bytes on is past what is left",
-        ),
-        (Error::IoError, "a segment could not be read or written"),
-        (Error::OutOfMemory, "out of memory"),
-    ];
-    for (error, text) in texts {
+    for (error, text) in TEXTS {
         assert_eq!(rt; format!(in rt.alloc(); "{error}")?.as_str(), text);
     }
     Ok(())

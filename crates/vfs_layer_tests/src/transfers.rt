@@ -2,11 +2,12 @@
 
 ghost use Rattle.std.specs.Prelude.{◌≤◌, IfOk};
 
-use std::alloc::{AllocError, Global};
+use crate::segments::writer_over;
+use std::alloc::Global;
 use std::test::Fail;
 use vfs_files::{ZeroCopyReader, ZeroCopyWriter};
 use vfs_flags::{Errno, Fault};
-use vfs_segments::{Reader, Writer};
+use vfs_segments::Reader;
 use vfs_transfers::{ZcReader, ZcWriter};
 use vfs_views::{PositionedFile, Slices, SlicesMut, WritevFlags};
 
@@ -73,61 +74,93 @@ impl PositionedFile for Slow {
     }
 }
 
-/// Segments of zeros, of these lengths.
-fn zeros(alloc: Global, lengths: &[usize]) -> Result<Vec<Vec<u8>>, AllocError> {
-    let mut segments = Vec::new(alloc);
-    for n in lengths {
-        segments.push(vec![in alloc; 0u8; *n]?)?;
+/// What a transfer out of these segments answers, and how much is left of them.
+fn sent(
+    alloc: Global,
+    segments: &[&[u8]],
+    file: &mut Slow,
+    count: usize,
+    off: u64,
+) -> Result<(Result<usize, Fault>, usize), Fail> {
+    let mut reader = ZcReader(Reader::new(alloc, segments)?);
+    let answer = reader.write_to_file_at(file, count, off, None);
+    Ok((answer, reader.0.available_bytes()))
+}
+
+/// A transfer out of the segments `a` and `bc`: how much its file moves a call, the call of it that
+/// fails, the count and the position, what the transfer answers, how much is left, and the position
+/// and the length of each view.
+type Transfer = (
+    usize,
+    usize,
+    usize,
+    u64,
+    Result<usize, Fault>,
+    usize,
+    &'static [(u64, usize)],
+);
+
+const TRANSFERS: [Transfer; 4] = [
+    // All that is left, by two calls.
+    (2, 0, 5, 0, Ok(3), 0, &[(0, 3), (2, 1)]),
+    // A fault of the second call.
+    (2, 2, 5, 0, Err(Some(Errno::EIO)), 1, &[(0, 3), (2, 1)]),
+    // The position passes the largest number, with bytes still to be moved and without.
+    (1, 0, 2, u64::MAX, Err(None), 2, &[(u64::MAX, 2)]),
+    (1, 0, 1, u64::MAX, Err(None), 2, &[(u64::MAX, 1)]),
+];
+
+/// The number of the first transfer that isn't made so.
+fn wrong_transfer(alloc: Global) -> Result<Option<usize>, Fail> {
+    for (i, row) in TRANSFERS.iter().enumerate() {
+        let (most, fails_at, count, off, answer, left, views) = *row;
+        let mut file = Slow::new(alloc, most, fails_at);
+        let sent = sent(alloc, &[b"a", b"bc"], &mut file, count, off)?;
+        if sent != (answer, left) || file.views.as_slice() != views {
+            return Ok(Some(i));
+        }
     }
-    Ok(segments)
+    Ok(None)
 }
 
 #[test]
 fn files_are_lent_the_next_bytes_until_all_is_moved(rt: HostRuntime) -> Result<(), Fail> {
-    let alloc = rt.alloc();
-
-    // All that is asked for in one call, which ends inside the second segment.
-    let segments: [&[u8]; 2] = [b"abcd", b"efgh"];
-    let mut reader = Reader::new(alloc, &segments)?;
-    let mut file = Slow::new(alloc, usize::MAX, 0);
-    assert!(rt; reader.write_to_file_at(&mut file, 5, 0, None) == Ok(5));
-    assert!(rt; file.pieces.as_slice() == [4, 1].as_slice());
-    assert_eq!(rt; reader.available_bytes(), 3);
-
-    // All that is left, by two calls.
-    let segments: [&[u8]; 2] = [b"a", b"bc"];
-    let mut reader = ZcReader(Reader::new(alloc, &segments)?);
-    let mut file = Slow::new(alloc, 2, 0);
-    assert!(rt; reader.write_to_file_at(&mut file, 5, 0, None) == Ok(3));
-    assert!(rt; file.views.as_slice() == [(0, 3), (2, 1)].as_slice());
-    assert_eq!(rt; reader.0.available_bytes(), 0);
-
-    // The same into a room.
-    let mut writer = ZcWriter(Writer::new(alloc, zeros(alloc, &[1, 2])?)?);
-    let mut file = Slow::new(alloc, 2, 0);
-    assert!(rt; writer.read_from_file_at(&mut file, 5, 0) == Ok(3));
-    assert!(rt; file.views.as_slice() == [(0, 3), (2, 1)].as_slice());
-    assert_eq!(rt; writer.0.bytes_written(), 3);
+    assert_eq!(rt; wrong_transfer(rt.alloc())?, None);
     Ok(())
 }
 
+/// Whether a file that takes all is lent the segments themselves, here one and a part of the next.
+fn is_lent_pieces(alloc: Global) -> Result<bool, Fail> {
+    let mut file = Slow::new(alloc, usize::MAX, 0);
+    let mut reader = Reader::new(alloc, &[b"abcd", b"efgh"])?;
+    let answer = reader.write_to_file_at(&mut file, 5, 0, None);
+    Ok(
+        answer == Ok(5)
+            && reader.available_bytes() == 3
+            && file.pieces.as_slice() == [4, 1].as_slice(),
+    )
+}
+
 #[test]
-fn a_fault_leaves_what_was_moved_before(rt: HostRuntime) -> Result<(), Fail> {
-    let alloc = rt.alloc();
+fn a_file_is_lent_the_segments_themselves(rt: HostRuntime) -> Result<(), Fail> {
+    assert!(rt; is_lent_pieces(rt.alloc())?);
+    Ok(())
+}
 
-    // A fault of the second call.
-    let segments: [&[u8]; 2] = [b"a", b"bc"];
-    let mut reader = ZcReader(Reader::new(alloc, &segments)?);
-    let mut file = Slow::new(alloc, 2, 2);
-    assert!(rt; reader.write_to_file_at(&mut file, 5, 0, None) == Err(Some(Errno::EIO)));
-    assert_eq!(rt; reader.0.available_bytes(), 1);
+/// Whether a room of three bytes is lent to a file until it is full.
+fn fills_a_room(alloc: Global) -> Result<bool, Fail> {
+    let mut file = Slow::new(alloc, 2, 0);
+    let mut writer = ZcWriter(writer_over(alloc, &[1, 2])?);
+    let answer = writer.read_from_file_at(&mut file, 5, 0);
+    Ok(
+        answer == Ok(3)
+            && writer.0.bytes_written() == 3
+            && file.views.as_slice() == [(0, 3), (2, 1)].as_slice(),
+    )
+}
 
-    // The position passes the largest number, with bytes still to be moved and without.
-    for count in [2, 1] {
-        let mut reader = ZcReader(Reader::new(alloc, &segments)?);
-        let mut file = Slow::new(alloc, 1, 0);
-        assert!(rt; reader.write_to_file_at(&mut file, count, u64::MAX, None) == Err(None));
-        assert_eq!(rt; reader.0.bytes_read(), 1);
-    }
+#[test]
+fn a_room_is_lent_until_it_is_full(rt: HostRuntime) -> Result<(), Fail> {
+    assert!(rt; fills_a_room(rt.alloc())?);
     Ok(())
 }

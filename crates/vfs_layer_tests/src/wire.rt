@@ -5,15 +5,18 @@ ghost use Rattle.std.specs.Prelude.{◌≡◌, length};
 use vfs_flags::{Errno, GuestGid, GuestUid};
 use vfs_wire::*;
 
+/// The bytes of a record, with zeros behind them.
+fn bytes_of<T: ByteValued + Drop>(x: &T) -> [u8; 152] {
+    let mut bytes = [0; 152];
+    x.put(&mut bytes[..T::SIZE]);
+    bytes
+}
+
 /// Whether `x` is written as `want`, and what is read from `want` is written so again.
-fn is_written_as<T: ByteValued + Drop>(x: &T, want: &[u8]) -> bool
+pub fn is_written_as<T: ByteValued + Drop>(x: &T, want: &[u8]) -> bool
     requires { length want.now ≡ T.SIZE }
 {
-    let mut first = [0; 152];
-    x.put(&mut first[..T::SIZE]);
-    let mut again = [0; 152];
-    T::take(want).put(&mut again[..T::SIZE]);
-    &first[..T::SIZE] == want && &again[..T::SIZE] == want
+    &bytes_of(x)[..T::SIZE] == want && &bytes_of(&T::take(want))[..T::SIZE] == want
 }
 
 #[test]

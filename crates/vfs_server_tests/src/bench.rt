@@ -274,7 +274,42 @@ fn call_each<F: FileSystem>(alloc: Global, fs: &mut F, name: CStr<'_>) -> Result
 
 /// A recorder of `n` places.
 fn recorder_of<F: Drop>(alloc: Global, inner: F, n: usize) -> Result<Recorder<F>, AllocError> {
-    Recorder::new(alloc, inner, n).map_err(|_| AllocError)
+    match Recorder::new(alloc, inner, n) {
+        Ok(recorder) => Ok(recorder),
+        Err(_) => Err(AllocError),
+    }
+}
+
+/// Whether these are the notes of the rows, of a file system that answers or of one that serves
+/// nothing.
+fn are_notes(notes: &[Note], answers: bool) -> bool {
+    for (note, row) in notes.iter().zip(&ROWS) {
+        let (call, node, count, answered, value, unserved, number) = *row;
+        let (kind, value) = if answers {
+            (answered, value)
+        } else {
+            (unserved, number)
+        };
+        let want = Note {
+            call,
+            node,
+            count,
+            kind,
+            value,
+        };
+        if *note != want {
+            return false;
+        }
+    }
+    notes.len() == ROWS.len()
+}
+
+/// Whether a recorder notes each call of this file system, and misses none.
+fn is_recorded<F: FileSystem + Drop>(alloc: Global, inner: F, answers: bool) -> Result<bool, Fail> {
+    let mut recorder = recorder_of(alloc, inner, ROWS.len())?;
+    let name = CStr::from_bytes_with_nul(b"a\0").ok_or("no name")?;
+    call_each(alloc, &mut recorder, name)?;
+    Ok(!recorder.missed() && are_notes(recorder.notes(), answers))
 }
 
 #[test]
@@ -282,151 +317,149 @@ fn a_recorder_notes_each_call_of_a_script(rt: HostRuntime) -> Result<(), Fail> {
     let mut script = script_of_answers(rt.alloc())?;
     script.text = Ok(Vec::new(rt.alloc()));
     script.value = Ok(GetxattrReply::Count(8));
-    let mut recorder = recorder_of(rt.alloc(), script, ROWS.len())?;
-    if let Some(name) = CStr::from_bytes_with_nul(b"a\0") {
-        call_each(rt.alloc(), &mut recorder, name)?;
-    }
-    assert!(rt; !recorder.missed());
-    assert_eq!(rt; recorder.notes().len(), ROWS.len());
-    for (note, row) in recorder.notes().iter().zip(&ROWS) {
-        let (call, node, count, kind, value, _, _) = *row;
-        assert_eq!(rt;
-            *note,
-            Note {
-                call,
-                node,
-                count,
-                kind,
-                value
-            }
-        );
-    }
+    assert!(rt; is_recorded(rt.alloc(), script, true)?);
     Ok(())
 }
 
 #[test]
 fn a_recorder_notes_each_call_that_is_not_served(rt: HostRuntime) -> Result<(), Fail> {
-    let mut recorder = recorder_of(rt.alloc(), Unserved {}, ROWS.len())?;
-    if let Some(name) = CStr::from_bytes_with_nul(b"a\0") {
-        call_each(rt.alloc(), &mut recorder, name)?;
-    }
-    assert!(rt; !recorder.missed());
-    assert_eq!(rt; recorder.notes().len(), ROWS.len());
-    for (note, row) in recorder.notes().iter().zip(&ROWS) {
-        let (call, node, count, _, _, kind, value) = *row;
-        assert_eq!(rt;
-            *note,
-            Note {
-                call,
-                node,
-                count,
-                kind,
-                value
-            }
-        );
-    }
+    assert!(rt; is_recorded(rt.alloc(), Unserved {}, false)?);
     Ok(())
+}
+
+/// Whether a GETLK succeeds, and so many calls are noted and missed afterwards.
+fn is_noted(recorder: &mut Recorder<Script>, noted: usize, missed: bool) -> bool {
+    recorder.getlk().is_ok() && recorder.notes().len() == noted && recorder.missed() == missed
+}
+
+/// Whether a recorder of two places notes two calls, and misses each further one.
+fn misses_the_third(alloc: Global) -> Result<bool, AllocError> {
+    let mut script = Script::new();
+    script.done = Ok(());
+    let mut recorder = recorder_of(alloc, script, 2)?;
+    Ok(
+        is_noted(&mut recorder, 1, false)
+            && is_noted(&mut recorder, 2, false)
+            && is_noted(&mut recorder, 2, true)
+            && is_noted(&mut recorder, 2, true)
+            && recorder.inner().done.is_ok(),
+    )
 }
 
 #[test]
 fn a_call_without_a_place_is_missed_and_answered(rt: HostRuntime) -> Result<(), Fail> {
-    let mut script = Script::new();
-    script.done = Ok(());
-    let mut recorder = recorder_of(rt.alloc(), script, 2)?;
-    for (noted, missed) in [(1, false), (2, false), (2, true), (2, true)] {
-        assert!(rt; recorder.getlk().is_ok());
-        assert_eq!(rt; recorder.notes().len(), noted);
-        assert_eq!(rt; recorder.missed(), missed);
-    }
-    assert!(rt; recorder.inner().done.is_ok());
+    assert!(rt; misses_the_third(rt.alloc())?);
     Ok(())
 }
 
 /// The answer, where memory was not wanting for it.
 fn given<T: Drop>(answer: Result<T, Fault>) -> Result<T, AllocError> {
-    answer.map_err(|_| AllocError)
+    match answer {
+        Ok(value) => Ok(value),
+        Err(_) => Err(AllocError),
+    }
+}
+
+/// Whether a script answers what it has of nodes.
+fn answers_of_nodes(fs: &mut Script) -> Result<bool, AllocError> {
+    let wanted = given(fs.init(FsOptions::empty()))?;
+    let (attr, timeout) = given(fs.getattr(caller(), 1, None))?;
+    let text = given(fs.readlink(caller(), 1))?;
+    Ok(
+        wanted == FsOptions::ASYNC_READ
+            && attr.ino == 500
+            && timeout.as_secs() == 4
+            && text.as_slice() == b"to".as_slice(),
+    )
+}
+
+/// Whether a script answers what it has of files.
+fn answers_of_files(fs: &mut Script) -> Result<bool, AllocError> {
+    let (handle, options) = given(fs.open(caller(), 1, false, 0))?;
+    let offset = given(fs.lseek(caller(), 1, 6, 0, 3))?;
+    let copied = given(fs.copyfilerange(caller(), 1, 6, 0, 1, 6, 0, 1, 0))?;
+    Ok(handle == Some(6) && options == OpenOptions::DIRECT_IO && offset == 4096 && copied == 100)
 }
 
 #[test]
 fn a_script_answers_what_its_maker_set(rt: HostRuntime) -> Result<(), Fail> {
     let mut script = script_of_answers(rt.alloc())?;
-    let fs = &mut script;
-    assert!(rt; given(fs.init(FsOptions::empty()))? == FsOptions::ASYNC_READ);
-    let (attr, timeout) = given(fs.getattr(caller(), 1, None))?;
-    assert_eq!(rt; attr.ino, 500);
-    assert_eq!(rt; timeout.as_secs(), 4);
-    assert_eq!(rt;
-        given(fs.readlink(caller(), 1))?.as_slice(),
-        b"to".as_slice()
-    );
-    let (handle, options) = given(fs.open(caller(), 1, false, 0))?;
-    assert_eq!(rt; handle, Some(6));
-    assert!(rt; options == OpenOptions::DIRECT_IO);
-    assert_eq!(rt; given(fs.lseek(caller(), 1, 6, 0, 3))?, 4096);
-    assert_eq!(rt;
-        given(fs.copyfilerange(caller(), 1, 6, 0, 1, 6, 0, 1, 0))?,
-        100
-    );
-    assert!(rt; fs.getlk() == Err(None));
+    assert!(rt; answers_of_nodes(&mut script)?);
+    assert!(rt; answers_of_files(&mut script)?);
+    assert!(rt; script.getlk() == Err(None));
     Ok(())
+}
+
+/// All of a room of three bytes, which is read into by two calls.
+fn room_read_into(alloc: Global, fs: &mut Script) -> Result<Vec<Vec<u8>>, Fail> {
+    let room = vec![in alloc; vec![in alloc; 0u8; 1]?, vec![in alloc; 0u8; 2]?]?;
+    let mut w = ZcWriter(Writer::new(alloc, room)?);
+    if given(fs.read(caller(), 1, 6, &mut w, 5, 0, None, 0))? != 3 {
+        return Err("the room is not full".into());
+    }
+    let ZcWriter(writer) = w;
+    Ok(writer.into_segments())
+}
+
+/// What a WRITE of four bytes answers, and how much of them is left.
+fn written(alloc: Global, fs: &mut Script) -> Result<(Result<u32, Fault>, usize), Fail> {
+    let mut r = ZcReader(Reader::new(alloc, &[b"abcd"])?);
+    let answer = fs.write(caller(), 1, 6, &mut r, 4, 0, None, false, false, 0);
+    Ok((answer, r.0.available_bytes()))
 }
 
 #[test]
 fn a_script_moves_few_bytes_a_call(rt: HostRuntime) -> Result<(), Fail> {
-    let alloc = rt.alloc();
-    let mut fs = script_of_answers(alloc)?;
-
-    // All of a room of three bytes, by two calls.
-    let room = vec![in alloc; vec![in alloc; 0u8; 1]?, vec![in alloc; 0u8; 2]?]?;
-    let mut w = ZcWriter(Writer::new(alloc, room)?);
-    assert_eq!(rt; given(fs.read(caller(), 1, 6, &mut w, 5, 0, None, 0))?, 3);
-    let ZcWriter(writer) = w;
-    let put: [&[u8]; 2] = [b"f", b"ff"];
-    for (segment, bytes) in writer.into_segments().iter().zip(&put) {
-        assert_eq!(rt; segment.as_slice(), *bytes);
-    }
+    let mut fs = script_of_answers(rt.alloc())?;
+    let put = room_read_into(rt.alloc(), &mut fs)?;
+    assert_eq!(rt;
+        message::joined(rt.alloc(), &put)?.as_slice(),
+        b"fff".as_slice()
+    );
 
     // The call after the next one fails.
-    let bytes: [&[u8]; 1] = [b"abcd"];
-    let mut r = ZcReader(Reader::new(alloc, &bytes)?);
-    let answer = fs.write(caller(), 1, 6, &mut r, 4, 0, None, false, false, 0);
-    assert!(rt; answer == Err(Some(Errno::EIO)));
-    assert_eq!(rt; r.0.available_bytes(), 2);
+    assert!(rt; written(rt.alloc(), &mut fs)? == (Err(Some(Errno::EIO)), 2));
     Ok(())
+}
+
+/// Whether a script finds its entry.
+fn finds(fs: &mut Script, name: CStr<'_>) -> Result<bool, AllocError> {
+    let entry = given(fs.lookup(caller(), 1, name))?;
+    Ok(
+        entry.inode == 77
+            && entry.generation == 3
+            && entry.attr.ino == 500
+            && entry.attr_timeout.as_secs() == 1
+            && entry.entry_timeout.as_secs() == 2,
+    )
+}
+
+/// Whether a script creates its file.
+fn creates(fs: &mut Script, name: CStr<'_>) -> Result<bool, AllocError> {
+    let answer = fs.create(caller(), 1, name, 0, false, 0, 0, Extensions::none());
+    let (entry, handle, _) = given(answer)?;
+    Ok(entry.inode == 78 && handle == Some(7))
+}
+
+/// Whether a script answers its value of an attribute, and how long its names are.
+fn answers_of_attributes(fs: &mut Script, name: CStr<'_>) -> Result<bool, AllocError> {
+    let value = given(fs.getxattr(caller(), 1, name, 0))?;
+    let names = given(fs.listxattr(caller(), 1, 0))?;
+    Ok(match (value, names) {
+        (GetxattrReply::Value(value), ListxattrReply::Count(count)) => {
+            value.as_slice() == b"v".as_slice() && count == 9
+        }
+        _ => false,
+    })
 }
 
 #[test]
 fn a_script_answers_entries_and_attributes_of_names(rt: HostRuntime) -> Result<(), Fail> {
     let mut script = script_of_answers(rt.alloc())?;
-    let fs = &mut script;
-    if let Some(name) = CStr::from_bytes_with_nul(b"a\0") {
-        let entry = given(fs.lookup(caller(), 1, name))?;
-        assert_eq!(rt; entry.inode, 77);
-        assert_eq!(rt; entry.generation, 3);
-        assert_eq!(rt; entry.attr.ino, 500);
-        assert_eq!(rt; entry.attr_timeout.as_secs(), 1);
-        assert_eq!(rt; entry.entry_timeout.as_secs(), 2);
-        let (entry, handle, _) = given(fs.create(
-            caller(),
-            1,
-            name,
-            0,
-            false,
-            0,
-            0,
-            Extensions::none(),
-        ))?;
-        assert_eq!(rt; entry.inode, 78);
-        assert_eq!(rt; handle, Some(7));
-        match given(fs.getxattr(caller(), 1, name, 0))? {
-            GetxattrReply::Value(value) => assert_eq!(rt; value.as_slice(), b"v".as_slice()),
-            GetxattrReply::Count(_) => assert!(rt; false, "a length"),
-        }
-    }
-    match given(fs.listxattr(caller(), 1, 0))? {
-        ListxattrReply::Names(_) => assert!(rt; false, "names"),
-        ListxattrReply::Count(count) => assert_eq!(rt; count, 9),
-    }
+    let name = CStr::from_bytes_with_nul(b"a\0").ok_or("no name")?;
+    assert!(rt; finds(&mut script, name)?);
+    assert!(rt; creates(&mut script, name)?);
+    assert!(rt; answers_of_attributes(&mut script, name)?);
     Ok(())
 }
 
