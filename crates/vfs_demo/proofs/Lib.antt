@@ -1,5 +1,1 @@
-mod FileTransfers
-mod FilesAt
 mod LineLemmas
-mod Pieces
-mod RootItems

@@ -4,8 +4,6 @@
 //! standard output gets a line for each answer. The program takes no arguments and opens no file.
 #![tactic(auto)]
 
-mod memfile;
-mod memfs;
 mod run;
 #[cfg(test)]
 mod tests;

@@ -2,10 +2,10 @@
 ghost use Rattle.std.specs.Prelude.{◌≡◌, map, IfOk, IfErr, IfSome};
 ghost use Rattle.vfs_lines.specs.Lines.{lines_in, ending, EndsAs};
 
-use crate::memfs::MemFs;
 use std::alloc::Global;
 use std::io;
 use vfs_lines::{Line, RunError, answers_to, lines_of, parse_line, read_all, write_all};
+use vfs_memory::MemFs;
 use vfs_server::server::Server;
 
 /// The page size of the server, in bytes.

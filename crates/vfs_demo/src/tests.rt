@@ -1,6 +1,5 @@
 //! How a run ends, each form of answer, and faults of input and output.
 
-use crate::memfs::MemFs;
 use crate::run::run;
 use std::alloc::{AllocError, Global};
 use std::io;
@@ -9,6 +8,7 @@ use std::process::Abort;
 use std::test::Fail;
 use vfs_bench::{Note, NoteKind, Recorder};
 use vfs_lines::{RunError, answers_to, exit_status, parse_line};
+use vfs_memory::MemFs;
 use vfs_server::server::Server;
 
 // A FORGET of node 2, and its answer.

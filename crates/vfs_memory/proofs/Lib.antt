@@ -1,0 +1,4 @@
+mod FileTransfers
+mod FilesAt
+mod Pieces
+mod RootItems
