@@ -181,13 +181,13 @@ const READS: [(&[usize], &[ReadRow]); 8] = [
     ),
 ];
 
-/// The number of the first row that a reader doesn't answer so.
-fn wrong_reads(alloc: Global) -> Result<Option<usize>, Fail> {
+/// The segments of the first reader that doesn't answer so.
+fn wrong_reads(alloc: Global) -> Result<Option<&'static [usize]>, Fail> {
     let bytes = numbers(alloc, 512)?;
-    for (i, (lengths, calls)) in READS.iter().enumerate() {
+    for (lengths, calls) in READS {
         let segments = cut(alloc, &bytes, lengths)?;
         if !answers_so(alloc, &mut Reader::new(alloc, &segments)?, calls)? {
-            return Ok(Some(i));
+            return Ok(Some(lengths));
         }
     }
     Ok(None)
@@ -195,7 +195,7 @@ fn wrong_reads(alloc: Global) -> Result<Option<usize>, Fail> {
 
 #[test]
 fn readers_answer_and_count(rt: HostRuntime) -> Result<(), Fail> {
-    assert_eq!(rt; wrong_reads(rt.alloc())?, None);
+    assert!(rt; wrong_reads(rt.alloc())?.is_none());
     Ok(())
 }
 
@@ -244,16 +244,16 @@ fn is_split(
     )
 }
 
-/// The number of the first row of a reader that isn't split so.
+/// The place of the first split of a reader that doesn't leave so much.
 fn wrong_reader_split(alloc: Global) -> Result<Option<usize>, Fail> {
     let bytes = numbers(alloc, 128)?;
-    for (i, (lengths, before, at, left)) in READER_SPLITS.iter().enumerate() {
+    for (lengths, before, at, left) in READER_SPLITS {
         let segments = cut(alloc, &bytes, lengths)?;
         let mut reader = Reader::new(alloc, &segments)?;
-        if !reads(alloc, &mut reader, 0, *before, *before)?
-            || !is_split(alloc, &mut reader, *at, *left)?
+        if !reads(alloc, &mut reader, 0, before, before)?
+            || !is_split(alloc, &mut reader, at, left)?
         {
-            return Ok(Some(i));
+            return Ok(Some(at));
         }
     }
     Ok(None)
@@ -527,12 +527,12 @@ pub fn writer_over(alloc: Global, lengths: &[usize]) -> Result<Writer, Fail> {
     Ok(Writer::new(alloc, zeros(alloc, lengths)?)?)
 }
 
-/// The number of the first row that a writer doesn't answer so.
-fn wrong_writes(alloc: Global) -> Result<Option<usize>, Fail> {
-    for (i, (lengths, calls, segments)) in WRITES.iter().enumerate() {
+/// The segments of the first writer that doesn't answer so.
+fn wrong_writes(alloc: Global) -> Result<Option<&'static [usize]>, Fail> {
+    for (lengths, calls, segments) in WRITES {
         let mut writer = writer_over(alloc, lengths)?;
         if !does_so(&mut writer, calls) || !has_segments(writer, segments) {
-            return Ok(Some(i));
+            return Ok(Some(lengths));
         }
     }
     Ok(None)
@@ -540,7 +540,7 @@ fn wrong_writes(alloc: Global) -> Result<Option<usize>, Fail> {
 
 #[test]
 fn writers_answer_and_count(rt: HostRuntime) -> Result<(), Fail> {
-    assert_eq!(rt; wrong_writes(rt.alloc())?, None);
+    assert!(rt; wrong_writes(rt.alloc())?.is_none());
     Ok(())
 }
 
