@@ -1,5 +1,5 @@
 -- Bytes that are written over a list of segments.
-use Rattle.std.proofs.Common.{◌≡◌, ℕ, ◌+◌, ◌-◌, ◌<◌, ◌≤◌, List, [], ◌∷◌, ◌++◌, zero, suc, length, take, drop, map, min, set, get_or, ap, ◌∙◌, sym, arith, append_assoc, append-nil, length-append, length-drop, length-take, take-append-drop, ⊎_elim}
+use Rattle.std.proofs.Common.{◌≡◌, ℕ, ◌+◌, ◌-◌, ◌<◌, ◌≤◌, List, [], ◌∷◌, ◌++◌, zero, suc, length, take, drop, map, min, set, get_or, ap, ◌∙◌, sym, arith, append_assoc, append-nil, length-append, length-drop, length-take, take-append-drop, refl, ⊎_elim}
 use Rattle.std.proofs.lemmas.List.{take_all, drop_all, take-append-le, drop-append-le, drop-drop, take_more_set, drop-set-lt, drop_more, map-set, set-get_or, get_or-map, nil_from_length}
 use Rattle.std.proofs.lemmas.Bool.{cases_lt}
 use Rattle.std.specs.List.{concat}
@@ -94,3 +94,27 @@ ended xs i skip bs whole h t =
 pub stopped : (xs : List (List ℕ)) (i skip : ℕ) (bs whole : List ℕ) → bs ≡ [] → IsTurn xs i skip bs whole → concat xs ≡ whole
 stopped xs i skip bs whole e t =
     concat-split xs i ∙ ap (λ l. concat (take i xs) ++ l) (sym (nothing_put skip (concat (drop i xs)))) ∙ rw e at t.joined
+
+-- bytes that are written past a first list are written over what follows it
+past : (xs ys bs : List ℕ) (k at : ℕ) → length xs + k ≡ at → with_bytes_at at bs (xs ++ ys) ≡ xs ++ with_bytes_at k bs ys
+unfolding with_bytes_at
+past xs ys bs k at e =
+    rw (take-append_past xs ys k at (omega (arith, e)), drop-append_past xs ys (k + length bs) (at + length bs) (omega (arith, e)))
+    (append_assoc xs (take k ys) (bs ++ drop (k + length bs) ys))
+
+-- bytes that lie in one segment are written over all by writing over that one
+pub one_written : (xs : List (List ℕ)) (i k at : ℕ) (bs : List ℕ) → i < length xs → length (concat (take i xs)) + k ≡ at → k + length bs ≤ length (get_or xs i [])
+    → concat (set xs i (with_bytes_at k bs (get_or xs i []))) ≡ with_bytes_at at bs (concat xs)
+one_written xs i k at bs h e fits =
+    let s = get_or xs i [] in
+    let whole = with_bytes_at at bs (concat xs) in
+    let more : concat (drop i xs) ≡ s ++ concat (drop (i + 1) xs) = ap concat (drop_more xs i [] h) in
+    let begun : IsTurn xs i k bs whole = record {
+      still_fits = omega (arith, fits, ap length more, length-append s (concat (drop (i + 1) xs)));
+      joined = sym (ap (with_bytes_at at bs) (concat-split xs i) ∙ past (concat (take i xs)) (concat (drop i xs)) bs k at e);
+    } in
+    let all : take (length bs) bs ≡ bs = take_all (length bs) bs (omega arith) in
+    let none : drop (length bs) bs ≡ [] = drop_all (length bs) bs (omega arith) in
+    let next = turn xs i k k (length bs) s bs whole h refl (omega (arith, fits)) (omega (arith, fits)) begun in
+    ap (λ l. concat (set xs i (with_bytes_at k l s))) (sym all)
+    ∙ stopped (set xs i (with_bytes_at k (take (length bs) bs) s)) (i + 1) (k - k) (drop (length bs) bs) whole none next

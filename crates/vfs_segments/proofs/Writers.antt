@@ -1,6 +1,6 @@
 -- A writer's bytes after a write.
-use Rattle.std.proofs.Common.{◌≡◌, ℕ, ◌+◌, ◌≤◌, List, [], ◌∷◌, ◌++◌, length, take, drop, map, ap, ◌∙◌, sym, refl, arith, append_assoc, length-append, length-take, take-append-drop, take_at, drop_at, append-nil, Ok, Err}
-use Rattle.std.proofs.lemmas.List.{take-append-le, drop-append-le, drop-drop, drop-take, take-take}
+use Rattle.std.proofs.Common.{◌≡◌, ℕ, ◌+◌, ◌<◌, ◌≤◌, get_or, set, List, [], ◌∷◌, ◌++◌, length, take, drop, map, ap, ◌∙◌, sym, refl, arith, append_assoc, length-append, length-drop, length-take, take-append-drop, take_all, take_at, drop_at, append-nil, Ok, Err}
+use Rattle.std.proofs.lemmas.List.{take-append-le, drop-append-le, drop-drop, drop-take, drop_more, take-map, take-take, length-map}
 use Rattle.std.specs.List.{concat}
 use Rattle.vfs_segments.specs.Segments.{contents, lengths_of, with_bytes_at}
 use Rattle.vfs_segments.specs.Lengths.{lengths_before}
@@ -9,7 +9,10 @@ use Rattle.vfs_segments.specs.Writer.{IsWriter, written_of, room_bytes}
 use Rattle.vfs_segments.specs.declared.writer.Writer.TheInside.{Inside}
 use Rattle.vfs_segments.specs.SegmentLaws.{length-with_bytes_at}
 use Rattle.vfs_segments.specs.Transfer.{taken_in}
-use Rattle.vfs_segments.proofs.Puts.{take-append_past, drop-append_past}
+use Rattle.vfs_segments.proofs.Puts.{take-append_past, drop-append_past, one_written, same_lengths}
+use Rattle.vfs_segments.proofs.Segments.{concat-split}
+use Rattle.std.specs.declared.vec.Vec.{Vec}
+use Rattle.std.specs.declared.alloc.Global.{Global}
 
 pub same_size : (xs ys : List (List ℕ)) → map length ys ≡ map length xs →
     length (concat ys) ≡ length (concat xs)
@@ -139,3 +142,58 @@ took_none w n f bs e h at held_at held lengths =
     let back : drop w.at (with_bytes_at w.at bs (room_bytes w)) ≡ bs ++ drop (length bs) (drop w.at (room_bytes w)) =
     rw z at (drop-put_part w.at 0 bs (room_bytes w) h (omega arith)) in
     rw at (written-eq (ap (take w.at) e ∙ front) (ap (drop w.at) e ∙ back) held_at held lengths)
+
+-- a record that was put into the one segment that has its place
+pub record PutIn (w n : Inside) (i k : ℕ) (bs : List ℕ) : Type 0 where
+  pub listed : i < length w.segments.items
+  pub place : length (concat (contents (take i w.segments.items))) + k ≡ w.at
+  pub whole : k + length bs ≤ length (get_or (contents w.segments.items) i [])
+  pub put : contents n.segments.items ≡ set (contents w.segments.items) i (with_bytes_at k bs (get_or (contents w.segments.items) i []))
+  pub at : n.at ≡ w.at + length bs
+  pub end : n.end ≡ w.end
+  pub held_at : n.held_at ≡ w.held_at
+  pub held : n.held ≡ w.held
+
+module _ (w : Inside) (i k : ℕ) (listed : i < length w.segments.items) (place : length (concat (contents (take i w.segments.items))) + k ≡ w.at) where
+  at_place : length (concat (take i (contents w.segments.items))) + k ≡ w.at
+  at_place = ap (λ xs. length (concat xs) + k) (take-map (λ (v : Vec ℕ Global). v.items) i w.segments.items) ∙ place
+
+  at_listed : i < length (contents w.segments.items)
+  at_listed = omega (arith, listed, length-map w.segments.items (λ (v : Vec ℕ Global). v.items))
+
+  -- what a segment has from the place on is left
+  pub whole_fits : (m : ℕ) → k + m ≤ length (get_or (contents w.segments.items) i []) → w.at + m ≤ length (room_bytes w)
+  whole_fits m whole =
+      let xs = contents w.segments.items in
+      let split = concat-split xs i in
+      let more = drop_more xs i [] at_listed in
+      omega (arith, whole, at_place, ap length split, length-append (concat (take i xs)) (concat (drop i xs)), ap (λ l. length (concat l)) more, length-append (get_or xs i []) (concat (drop (i + 1) xs)))
+
+module _ (w n : Inside) (i k : ℕ) (bs : List ℕ) (p : PutIn w n i k bs) where
+  put_fits : w.at + length bs ≤ length (room_bytes w)
+  put_fits = whole_fits w i k p.listed p.place (length bs) p.whole
+
+  put_bytes : room_bytes n ≡ with_bytes_at w.at bs (room_bytes w)
+  put_bytes = ap concat p.put ∙ one_written (contents w.segments.items) i k w.at bs (at_listed w i k p.listed p.place) (at_place w i k p.listed p.place) p.whole
+
+  put_lengths : room_lengths n ≡ room_lengths w
+  put_lengths =
+      ap lengths_of p.put ∙ same_lengths (contents w.segments.items) i (with_bytes_at k bs (get_or (contents w.segments.items) i []))
+      (length-with_bytes_at k bs (get_or (contents w.segments.items) i []) p.whole) (at_listed w i k p.listed p.place)
+
+  put_same_end : length (room_bytes n) ≡ length (room_bytes w)
+  put_same_end = ap length put_bytes ∙ length-with_bytes_at w.at bs (room_bytes w) put_fits
+
+  pub put_writer : IsWriter w → IsWriter n
+  put_writer ok = record {
+    all = p.end ∙ ok.all ∙ sym put_same_end;
+    within = omega (arith, p.at, p.end, ok.all, put_fits);
+    held_in = omega (arith, p.at, p.held_at, p.held, ok.held_in);
+  }
+
+  -- all of the record is written
+  pub put_wrote : written_of n ≡ wrote (written_of w) (take (length (drop w.at (room_bytes w))) bs)
+  put_wrote =
+      let all : take (length (drop w.at (room_bytes w))) bs ≡ bs = take_all (length (drop w.at (room_bytes w))) bs (omega (arith, put_fits, length-drop w.at (room_bytes w))) in
+      wrote_next w n bs put_bytes (omega (arith, put_fits, put_same_end)) p.at p.held_at p.held put_lengths
+      ∙ ap (wrote (written_of w)) (sym all)

@@ -1,6 +1,6 @@
 //! Finds where bytes lie in segments.
 
-ghost use Rattle.std.specs.Prelude.{◌≡◌, ◌+◌, ◌^◌, ◌<◌, ◌≤◌, [], length, take, slice_index_or};
+ghost use Rattle.std.specs.Prelude.{◌≡◌, ◌+◌, ◌^◌, ◌<◌, ◌≤◌, [], length, take, slice_index_or, IfSome};
 ghost use Rattle.vfs_segments.specs.Segments.{contents, flat_bytes, segments_of};
 ghost use Rattle.vfs_views.specs.Views.{IsSpan, room_of};
 
@@ -63,6 +63,23 @@ pub(crate) fn place_of(segments: &[Vec<u8>], at: usize) -> (usize, usize)
         skip -= segment.len();
     }
     (segments.len(), 0)
+}
+
+// The segment that has all of the `n` bytes from place `at` on, if one has, and how far in.
+pub(crate) fn place_whole(segments: &[Vec<u8>], at: usize, n: usize) -> Option<(usize, usize)>
+    requires { at ≤ length (flat_bytes (contents segments.now)) }
+    ensures within { IfSome result (λ p. p.0 < length segments.now) }
+    ensures place { IfSome result
+        (λ p. length (flat_bytes (contents (take p.0 segments.now))) + p.1 ≡ at) }
+    ensures whole { IfSome result
+        (λ p. p.1 + n ≤ length (slice_index_or (contents segments.now) p.0 [])) }
+{
+    let (i, skip) = place_of(segments, at);
+    let segment = segments.get(i)?;
+    if segment.len() - skip < n {
+        return None;
+    }
+    Some((i, skip))
 }
 
 // The span of the `n` bytes from place `at` on, of segments that are written.

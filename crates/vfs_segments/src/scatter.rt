@@ -2,6 +2,9 @@
 
 ghost use Rattle.std.specs.Prelude.{◌≡◌, ◌+◌, ◌^◌, ◌≤◌, length, vec_len, MatchOption};
 ghost use Rattle.vfs_segments.specs.Segments.{contents, flat_bytes, lengths_of, with_bytes_at};
+ghost use Rattle.vfs_wire.specs.Fields.{Fit, bytes_of};
+
+use vfs_wire::ByteValued;
 
 // How many bytes the segments have, unless that passes `usize::MAX`.
 #[tactic(auto, using(crate::proofs::Segments::held_segments))]
@@ -27,6 +30,18 @@ fn put_in(segment: &mut Vec<u8>, at: usize, bytes: &[u8])
     segment
         .slice_mut(at..at + bytes.len())
         .copy_from_slice(bytes);
+}
+
+// Writes a record over as many bytes that stand from place `at` on.
+pub(crate) fn put_record<T: ByteValued + Drop>(segment: &mut Vec<u8>, at: usize, x: T)
+    requires { at + T.SIZE ≤ vec_len segment.old }
+    ensures wrote { segment.new.items ≡
+        with_bytes_at at (bytes_of T.table x) segment.old.items }
+    ensures size { length (bytes_of T.table x) ≡ T.SIZE }
+    ensures in_width { Fit T.table.widths (T.table.fields x) }
+    ensures in_range { T.in_range x }
+{
+    x.put(segment.slice_mut(at..at + T::SIZE));
 }
 
 // Writes the bytes over as many that follow `skip` bytes of the segments, piece by piece.

@@ -11,8 +11,9 @@ ghost use Rattle.vfs_wire.specs.Fields.{Fit, bytes_of};
 
 use crate::cut::cut_off;
 use crate::error::{Error, Result};
+use crate::place::place_whole;
 use crate::record::LARGEST_RECORD;
-use crate::scatter::{room_of, scatter};
+use crate::scatter::{put_record, room_of, scatter};
 use crate::transfer::read_into;
 use std::alloc::Global;
 use std::io::{ErrorKind, Write};
@@ -169,6 +170,25 @@ impl Writer {
     ///
     /// Where fewer are left the error's kind is `WriteZero`, and the record's beginning fills them.
     pub fn write_obj<T: ByteValued + Drop>(&mut self, x: T) -> io::Result<()>
+        ensures variant { IsOk result ↔ (T.SIZE ≤ length self.old.left) }
+        ensures wrote { self.new ≡
+            wrote self.old (take (length self.old.left) (bytes_of T.table x)) }
+        ensures full { IfErr result (λ fault. error_kind fault ≡ ErrorKind.WriteZero) }
+        ensures in_width { Fit T.table.widths (T.table.fields x) }
+        ensures in_range { T.in_range x }
+    {
+        match place_whole(&self.segments, self.at, T::SIZE) {
+            Some((i, skip)) => {
+                put_record(&mut self.segments[i], skip, x);
+                self.at += T::SIZE;
+                Ok(())
+            }
+            None => self.write_spelled(x),
+        }
+    }
+
+    // The same, of a record that may be cut: it is spelled into a buffer first.
+    fn write_spelled<T: ByteValued + Drop>(&mut self, x: T) -> io::Result<()>
         ensures variant { IsOk result ↔ (T.SIZE ≤ length self.old.left) }
         ensures wrote { self.new ≡
             wrote self.old (take (length self.old.left) (bytes_of T.table x)) }
