@@ -1,6 +1,6 @@
 -- A record that lies whole in one segment is put there, and nowhere else.
-use Rattle.std.proofs.Common.{◌≡◌, ◌∙◌, ◌+◌, ◌<◌, ◌≤◌, ℕ, [], ap, sym, refl, arith, length, get_or, set, take, length-drop}
-use Rattle.std.proofs.lemmas.List.{map-set, get_or-map, length-map}
+use Rattle.std.proofs.Common.{◌∙◌, ◌+◌, ◌<◌, ℕ, [], ap, sym, refl, arith, length, set, take, length-drop}
+use Rattle.std.proofs.lemmas.List.{map-set, get_or-map}
 use Rattle.std.specs.declared.vec.Vec.{Vec}
 use Rattle.std.specs.declared.alloc.Global.{Global}
 use Rattle.vfs_wire.specs.Fields.{bytes_of}
