@@ -207,7 +207,8 @@ pub fn length_of_a_link<F: FileSystem>(
     Ok(text.len())
 }
 
-/// The value of an extended attribute has at most as many.
+/// The value of an extended attribute, or the length told in its place, is at most 4,294,967,295
+/// bytes.
 pub fn length_of_a_value<F: FileSystem>(
     fs: &mut F,
     ctx: Context,
@@ -222,7 +223,8 @@ pub fn length_of_a_value<F: FileSystem>(
     }
 }
 
-/// The names of all extended attributes have at most as many.
+/// The names of all extended attributes, or the length told in their place, are at most
+/// 4,294,967,295 bytes.
 pub fn length_of_all_names<F: FileSystem>(
     fs: &mut F,
     ctx: Context,
