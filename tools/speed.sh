@@ -1,0 +1,74 @@
+#!/usr/bin/env bash
+# Measures what requests cost, with the library of crates/vfs_speed.
+#
+# Usage: tools/speed.sh [--beside FOLDER] [--growth] [--only TEXT] [--runs N] [--ms N]
+# By itself it prints, for each class of request and each cutting of it, the processor time of a
+# request in nanoseconds, the least and the middle of N runs of N milliseconds, and its allocations.
+# With --growth: how the time of many reads and writes of 16 bytes over pieces of 64 grows.
+#
+# --beside FOLDER holds virtiofsd's own Rust beside it, in one process: FOLDER has that code built as
+# a library `fast/liboracle.rlib` with a harness `mended/src/bin/oracle_bench.rs` over it, which calls
+# `nizwarf_batch`, and beside it the crates that it uses. The replies of both are compared first, and nothing is timed where they differ.
+# Then trust the last column, the middle of the ratios of runs that followed each other.
+#
+# It builds the library where sources are newer, with its proof, which takes minutes.
+set -eu
+here=$(cd "$(dirname "${BASH_SOURCE[0]}")/.." && pwd)
+crate=$here/crates/vfs_speed
+library=$crate/out/libvfs_speed.a
+
+# Stops where a command is not there.
+need() {
+    if ! command -v "$1" > /dev/null; then
+        echo "Missing: the command \`$1\`, $2." >&2
+        exit 2
+    fi
+}
+
+beside= growth=
+flags=()
+while [ $# -gt 0 ]; do
+    case $1 in
+        --beside) beside=$(realpath "$2") && shift 2 ;;
+        --growth) growth=1 && shift ;;
+        --only | --runs | --ms) flags+=("$1" "$2") && shift 2 ;;
+        *) sed -n '2,/^set/s/^# \{0,1\}//p' "${BASH_SOURCE[0]}" >&2 && exit 2 ;;
+    esac
+done
+
+need rt "of the Rattle toolchain, which builds the library: put its folder bin on the PATH"
+kit=$(cd "$(dirname "$(rt doc)")" && pwd)
+if [ ! -e "$library" ] ||
+    [ -n "$(find "$here/crates.txt" "$here"/crates/*/{src,specs,proofs} -newer "$library" -print -quit 2> /dev/null)" ]; then
+    echo "Building $library .." >&2
+    (cd "$crate" && rt lib > out.txt 2>&1) || { tail -n 20 "$crate/out.txt" >&2 && exit 1; }
+    rm -f "$crate/out.txt"
+fi
+
+folder=$(mktemp -d)
+trap 'rm -rf "$folder"' EXIT
+
+if [ -z "$beside" ]; then
+    need cc "a C compiler"
+    wraps=$(printf ' -Wl,--wrap=%s' malloc calloc realloc aligned_alloc)
+    # shellcheck disable=SC2086
+    cc -O2 -o "$folder/speed" "$here/tools/speed.c" "$library" "$kit/c/liblibc_c.a" $wraps
+    "$folder/speed" ${growth:+--growth} "${flags[@]}"
+    exit
+fi
+
+need rustc "a Rust compiler"
+rust=(--edition 2021 -C opt-level=3 -C target-cpu=x86-64-v2 --cap-lints allow
+    -L "$beside/fast" --extern "oracle=$beside/fast/liboracle.rlib"
+    -C "link-arg=$library" -C "link-arg=$kit/c/liblibc_c.a")
+if [ -n "$growth" ]; then
+    for name in vm_memory virtio_queue vhost_user_backend; do
+        rust+=(--extern "$name=$beside/fast/lib$name.rlib")
+    done
+    rustc "${rust[@]}" -o "$folder/growth" "$here/tools/growth.rs"
+    "$folder/growth"
+    exit
+fi
+rustc "${rust[@]}" --cfg other -o "$folder/beside" "$beside/mended/src/bin/oracle_bench.rs"
+"$folder/beside" "${flags[@]}" --digests > "$folder/digests" || { grep DIFFER "$folder/digests" >&2 && exit 1; }
+"$folder/beside" "${flags[@]}"
