@@ -52,6 +52,7 @@ fn put_at(buf: &mut [u8], at: usize, bytes: &[u8])
 }
 
 // Copies into the buffer the bytes that follow `skip` bytes of the segments, piece by piece.
+#[inline(never)]
 #[tactic(auto, using(crate::proofs::Segments::segments, crate::proofs::Lists::bytes_at))]
 fn gather(segments: &[&[u8]], mut skip: usize, buf: &mut [u8])
     requires { skip + length buf.old ≤ length (flat_bytes (segments_of segments.now)) }
@@ -91,7 +92,7 @@ pub(crate) fn copy_from(segments: &[&[u8]], totals: &[usize], at: usize, buf: &m
 }
 
 // The record whose bytes follow `skip` bytes of the segments, wherever they are cut.
-#[cold]
+#[inline(never)]
 fn gathered<T: ByteValued>(segments: &[&[u8]], skip: usize) -> T
     requires { skip + T.SIZE ≤ length (flat_bytes (segments_of segments.now)) }
     ensures value { result ≡ value_of T.table (drop skip (flat_bytes (segments_of segments.now))) }

@@ -143,6 +143,16 @@ impl<'a> Reader<'a> {
         self.at += buf.len();
     }
 
+    // Takes all bytes that are left, and tells that they were too few.
+    #[cold]
+    fn too_few(&mut self) -> io::Error
+        ensures kind { error_kind result ≡ ErrorKind.UnexpectedEof }
+        ensures moved { self.new ≡ advanced self.old (length self.old.left) }
+    {
+        self.at = self.end;
+        io::Error::from(ErrorKind::UnexpectedEof)
+    }
+
     /// Takes a record, as many bytes as it has.
     ///
     /// Where fewer are left the error's kind is `UnexpectedEof`, and all of them are taken.
@@ -160,8 +170,7 @@ impl<'a> Reader<'a> {
         ensures at_end { OnErr result (self.new ≡ advanced self.old (length self.old.left)) }
     {
         if T::SIZE > self.available_bytes() {
-            self.at = self.end;
-            return Err(io::Error::from(ErrorKind::UnexpectedEof));
+            return Err(self.too_few());
         }
         let record = record_at(self.segments, &self.totals, self.at);
         self.at += T::SIZE;
@@ -241,8 +250,7 @@ impl<'a> Read for Reader<'a> {
         ensures at_end { OnErr result (self.new ≡ advanced self.old (length self.old.left)) }
     {
         if buf.len() > self.available_bytes() {
-            self.at = self.end;
-            return Err(io::Error::from(ErrorKind::UnexpectedEof));
+            return Err(self.too_few());
         }
         self.take_next(buf);
         Ok(())

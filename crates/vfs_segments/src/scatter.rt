@@ -65,6 +65,7 @@ fn put_record<T: ByteValued + Drop>(segment: &mut Vec<u8>, at: usize, x: T)
 }
 
 // Writes the bytes over as many that follow `skip` bytes of segment `first`, piece by piece.
+#[inline(never)]
 fn scatter(segments: &mut [Vec<u8>], first: usize, mut skip: usize, bytes: &[u8])
     requires listed { first ≤ length segments.old }
     requires fits { skip + length bytes.now ≤
@@ -110,7 +111,7 @@ pub(crate) fn put_from(segments: &mut [Vec<u8>], totals: &[usize], at: usize, by
 
 // Spells a record over as many bytes that follow `skip` bytes of segment `first`, wherever they are
 // cut.
-#[cold]
+#[inline(never)]
 fn put_spelled<T: ByteValued + Drop>(segments: &mut [Vec<u8>], first: usize, skip: usize, x: T)
     requires listed { first ≤ length segments.old }
     requires fits { skip + T.SIZE ≤ length (flat_bytes (contents (drop first segments.old))) }

@@ -304,9 +304,9 @@ impl Write for Writer {
         ensures wrote { self.new ≡ wrote self.old (take (length self.old.left) buf.now) }
         ensures full { IfErr result (λ e. error_kind e ≡ ErrorKind.WriteZero) }
     {
-        let n = self.available_bytes();
-        if buf.len() > n {
-            self.put_next(&buf[..n]);
+        let room = self.available_bytes();
+        if buf.len() > room {
+            self.put_next(&buf[..room]);
             return Err(io::Error::from(ErrorKind::WriteZero));
         }
         self.put_next(buf);
