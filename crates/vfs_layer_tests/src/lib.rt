@@ -10,6 +10,8 @@ mod flags;
 #[cfg(test)]
 mod segments;
 #[cfg(test)]
+mod totals;
+#[cfg(test)]
 mod transfers;
 #[cfg(test)]
 mod wire;

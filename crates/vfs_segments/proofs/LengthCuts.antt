@@ -18,7 +18,7 @@ held_lengths xs = lengths_of (contents xs)
 -- ---- a place inside the first segment, and past it
 
 -- a place inside the first segment cuts it
-lengths_before-inside : (at n : ℕ) (ns : List ℕ) → 0 < at → at < n → lengths_before at (n ∷ ns) ≡ at ∷ []
+pub lengths_before-inside : (at n : ℕ) (ns : List ℕ) → 0 < at → at < n → lengths_before at (n ∷ ns) ≡ at ∷ []
 lengths_before-inside at n ns p h =
     let below : nat_lt at n ≡ true = grind (arith, nat_tests) in
     let some : (at == 0) ≡ false = grind (arith, nat_tests) in
@@ -30,7 +30,7 @@ lengths_before-past : (at n : ℕ) (ns : List ℕ) → n ≤ at →
 lengths_before-past at n ns h = let past : nat_lt at n ≡ false = grind (arith, nat_tests) in rw past
 
 -- of a segment that is cut the rest begins at the place
-lengths_from-inside : (at n : ℕ) (ns : List ℕ) → at < n → lengths_from at (n ∷ ns) ≡ (n - at) ∷ ns
+pub lengths_from-inside : (at n : ℕ) (ns : List ℕ) → at < n → lengths_from at (n ∷ ns) ≡ (n - at) ∷ ns
 lengths_from-inside at n ns h = let below : nat_lt at n ≡ true = grind (arith, nat_tests) in rw below
 
 -- a first segment before the place is none of the rest
@@ -80,7 +80,7 @@ sum-lengths_from at (n ∷ ns) h =
 -- ---- a place behind the first i segments
 
 -- the first i segments lie before it
-lengths_before-at : (xs : List (Vec ℕ Global)) (i inside at : ℕ) →
+pub lengths_before-at : (xs : List (Vec ℕ Global)) (i inside at : ℕ) →
     length (held_flat (take i xs)) + inside ≡ at →
     lengths_before at (held_lengths xs) ≡ held_lengths (take i xs) ++ lengths_before inside (held_lengths (drop i xs))
 lengths_before-at xs zero inside at e = let same : at ≡ inside = omega arith in rw same
@@ -91,7 +91,7 @@ lengths_before-at (x ∷ xs) (suc i) inside at e =
     ∙ ap (λ l. length x.items ∷ l) (lengths_before-at xs i inside (at - length x.items) (omega arith))
 
 -- and are none of the rest
-lengths_from-at : (xs : List (Vec ℕ Global)) (i inside at : ℕ) →
+pub lengths_from-at : (xs : List (Vec ℕ Global)) (i inside at : ℕ) →
     length (held_flat (take i xs)) + inside ≡ at →
     lengths_from at (held_lengths xs) ≡ lengths_from inside (held_lengths (drop i xs))
 lengths_from-at xs zero inside at e = let same : at ≡ inside = omega arith in rw same

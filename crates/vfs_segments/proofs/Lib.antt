@@ -1,9 +1,13 @@
 pub mod Lists
 pub mod Segments
+pub mod Halves
+pub mod Totals
 pub mod Places
 pub mod Puts
+pub mod Found
 pub mod Writers
 pub mod Cuts
 pub mod LengthCuts
+pub mod TotalCuts
 pub mod AnswerLemmas
 pub mod Spans

@@ -1,10 +1,13 @@
 -- Bytes that are written over a list of segments.
 use Rattle.std.proofs.Common.{◌≡◌, ℕ, ◌+◌, ◌-◌, ◌<◌, ◌≤◌, List, [], ◌∷◌, ◌++◌, zero, suc, length, take, drop, map, min, set, get_or, ap, ◌∙◌, sym, arith, append_assoc, append-nil, length-append, length-drop, length-take, take-append-drop, refl, ⊎_elim}
-use Rattle.std.proofs.lemmas.List.{take_all, drop_all, take-append-le, drop-append-le, drop-drop, take_more_set, drop-set-lt, drop_more, map-set, set-get_or, get_or-map, nil_from_length}
+use Rattle.std.proofs.lemmas.List.{take_all, drop_all, take-append-le, drop-append-le, drop-drop, take_more_set, drop-set-lt, drop_more, map-set, set-get_or, get_or-map, length-map, nil_from_length, take-map}
 use Rattle.std.proofs.lemmas.Bool.{cases_lt}
 use Rattle.std.specs.List.{concat}
-use Rattle.vfs_segments.specs.Segments.{with_bytes_at}
-use Rattle.vfs_segments.proofs.Segments.{concat-append, concat-split}
+use Rattle.std.specs.declared.vec.Vec.{Vec}
+use Rattle.std.specs.declared.alloc.Global.{Global}
+use Rattle.vfs_segments.specs.Segments.{contents, lengths_of, with_bytes_at}
+use Rattle.vfs_segments.specs.SegmentLaws.{length-with_bytes_at}
+use Rattle.vfs_segments.proofs.Segments.{concat-append, concat-split, held_flat}
 
 pub take-append_past : (xs ys : List ℕ) (n m : ℕ) → m ≡ length xs + n → take m (xs ++ ys) ≡ xs ++ take n ys
 take-append_past [] ys n m e = let same : m ≡ n = omega arith in rw same
@@ -102,6 +105,14 @@ past xs ys bs k at e =
     rw (take-append_past xs ys k at (omega (arith, e)), drop-append_past xs ys (k + length bs) (at + length bs) (omega (arith, e)))
     (append_assoc xs (take k ys) (bs ++ drop (k + length bs) ys))
 
+-- a write begins at the segment in which its place lies
+pub begun : (xs : List (List ℕ)) (i k at : ℕ) (bs : List ℕ) → length (concat (take i xs)) + k ≡ at →
+    k + length bs ≤ length (concat (drop i xs)) → IsTurn xs i k bs (with_bytes_at at bs (concat xs))
+begun xs i k at bs e fits = record {
+  still_fits = fits;
+  joined = sym (ap (with_bytes_at at bs) (concat-split xs i) ∙ past (concat (take i xs)) (concat (drop i xs)) bs k at e);
+}
+
 -- bytes that lie in one segment are written over all by writing over that one
 pub one_written : (xs : List (List ℕ)) (i k at : ℕ) (bs : List ℕ) → i < length xs → length (concat (take i xs)) + k ≡ at → k + length bs ≤ length (get_or xs i [])
     → concat (set xs i (with_bytes_at k bs (get_or xs i []))) ≡ with_bytes_at at bs (concat xs)
@@ -109,12 +120,28 @@ one_written xs i k at bs h e fits =
     let s = get_or xs i [] in
     let whole = with_bytes_at at bs (concat xs) in
     let more : concat (drop i xs) ≡ s ++ concat (drop (i + 1) xs) = ap concat (drop_more xs i [] h) in
-    let begun : IsTurn xs i k bs whole = record {
-      still_fits = omega (arith, fits, ap length more, length-append s (concat (drop (i + 1) xs)));
-      joined = sym (ap (with_bytes_at at bs) (concat-split xs i) ∙ past (concat (take i xs)) (concat (drop i xs)) bs k at e);
-    } in
+    let first = begun xs i k at bs e (omega (arith, fits, ap length more, length-append s (concat (drop (i + 1) xs)))) in
     let all : take (length bs) bs ≡ bs = take_all (length bs) bs (omega arith) in
     let none : drop (length bs) bs ≡ [] = drop_all (length bs) bs (omega arith) in
-    let next = turn xs i k k (length bs) s bs whole h refl (omega (arith, fits)) (omega (arith, fits)) begun in
+    let next = turn xs i k k (length bs) s bs whole h refl (omega (arith, fits)) (omega (arith, fits)) first in
     ap (λ l. concat (set xs i (with_bytes_at k l s))) (sym all)
     ∙ stopped (set xs i (with_bytes_at k (take (length bs) bs) s)) (i + 1) (k - k) (drop (length bs) bs) whole none next
+
+-- bytes that lie in one segment of a writer, which is `new` once they are written there
+pub put_whole : (xs : List (Vec ℕ Global)) (i k at : ℕ) (bs : List ℕ) (d new : Vec ℕ Global) → i < length xs →
+    length (held_flat (take i xs)) + k ≡ at → k + length bs ≤ length (get_or (contents xs) i []) →
+    new.items ≡ with_bytes_at k bs (get_or xs i d).items →
+    (held_flat (set xs i new) ≡ with_bytes_at at bs (held_flat xs))
+    × (lengths_of (contents (set xs i new)) ≡ lengths_of (contents xs))
+put_whole xs i k at bs d new h e whole put =
+    let items = λ (v : Vec ℕ Global). v.items in
+    let ys = contents xs in
+    let s = get_or ys i [] in
+    let listed : i < length ys = omega (arith, length-map xs items) in
+    let here : s ≡ (get_or xs i d).items = get_or-map items xs i d [] h in
+    let place : length (concat (take i ys)) + k ≡ at = ap (λ l. length (concat l) + k) (take-map items i xs) ∙ e in
+    let now : contents (set xs i new) ≡ set ys i (with_bytes_at k bs s) =
+    map-set items xs i new ∙ ap (set ys i) (put ∙ ap (with_bytes_at k bs) (sym here)) in (
+      ap concat now ∙ one_written ys i k at bs listed place whole,
+      ap lengths_of now ∙ same_lengths ys i (with_bytes_at k bs s) (length-with_bytes_at k bs s whole) listed,
+    )

@@ -4,13 +4,14 @@ use Rattle.std.proofs.lemmas.List.{take-append-le, drop-append-le, drop-drop, dr
 use Rattle.std.specs.List.{concat}
 use Rattle.vfs_segments.specs.Segments.{contents, lengths_of, with_bytes_at}
 use Rattle.vfs_segments.specs.Lengths.{lengths_before}
+use Rattle.vfs_segments.specs.Totals.{totals_of}
 use Rattle.vfs_segments.specs.Written.{Written, wrote, first_room, held_filled, held_over}
 use Rattle.vfs_segments.specs.Writer.{IsWriter, written_of, room_bytes}
 use Rattle.vfs_segments.specs.declared.writer.Writer.TheInside.{Inside}
 use Rattle.vfs_segments.specs.SegmentLaws.{length-with_bytes_at}
 use Rattle.vfs_segments.specs.Transfer.{taken_in}
 use Rattle.vfs_segments.proofs.Puts.{take-append_past, drop-append_past, one_written, same_lengths}
-use Rattle.vfs_segments.proofs.Segments.{concat-split}
+use Rattle.vfs_segments.proofs.Totals.{length-totals_from}
 use Rattle.std.specs.declared.vec.Vec.{Vec}
 use Rattle.std.specs.declared.alloc.Global.{Global}
 
@@ -59,13 +60,20 @@ put_below k at bs xs h w =
     let back : drop n xs ≡ drop n (take at xs) ++ drop at xs = sym (ap (drop n) split) ∙ drop-append-le n (take at xs) (drop at xs) (omega arith) in
     rw (front, back) (simp append_assoc)
 
+-- a writer has a total for each segment
+pub length-totals : (w : Inside) → IsWriter w → length w.totals.items ≡ length w.segments.items
+length-totals w ok =
+    ap length ok.totals ∙ length-totals_from 0 (room_lengths w) ∙ length-map (contents w.segments.items) length
+    ∙ length-map w.segments.items (λ (v : Vec ℕ Global). v.items)
+
 -- segments of the same lengths serve a writer
 pub still_writer : (w n : Inside) → IsWriter w → room_lengths n ≡ room_lengths w → n.end ≡ w.end →
-    n.at ≤ w.end → n.held_at + n.held ≤ n.at → IsWriter n
-still_writer w n ok e end within held = record {
+    n.totals ≡ w.totals → n.at ≤ w.end → n.held_at + n.held ≤ n.at → IsWriter n
+still_writer w n ok e end totals within held = record {
   all = end ∙ ok.all ∙ sym (same_size (contents w.segments.items) (contents n.segments.items) e);
   within = rw end within;
   held_in = held;
+  totals = ap (λ (v : Vec ℕ Global). v.items) totals ∙ ok.totals ∙ ap totals_of (sym e);
 }
 
 pub wrote_next : (w n : Inside) (bs : List ℕ) → room_bytes n ≡ with_bytes_at w.at bs (room_bytes w) →
@@ -142,58 +150,3 @@ took_none w n f bs e h at held_at held lengths =
     let back : drop w.at (with_bytes_at w.at bs (room_bytes w)) ≡ bs ++ drop (length bs) (drop w.at (room_bytes w)) =
     rw z at (drop-put_part w.at 0 bs (room_bytes w) h (omega arith)) in
     rw at (written-eq (ap (take w.at) e ∙ front) (ap (drop w.at) e ∙ back) held_at held lengths)
-
--- a record that was put into the one segment that has its place
-pub record PutIn (w n : Inside) (i k : ℕ) (bs : List ℕ) : Type 0 where
-  pub listed : i < length w.segments.items
-  pub place : length (concat (contents (take i w.segments.items))) + k ≡ w.at
-  pub whole : k + length bs ≤ length (get_or (contents w.segments.items) i [])
-  pub put : contents n.segments.items ≡ set (contents w.segments.items) i (with_bytes_at k bs (get_or (contents w.segments.items) i []))
-  pub at : n.at ≡ w.at + length bs
-  pub end : n.end ≡ w.end
-  pub held_at : n.held_at ≡ w.held_at
-  pub held : n.held ≡ w.held
-
-module _ (w : Inside) (i k : ℕ) (listed : i < length w.segments.items) (place : length (concat (contents (take i w.segments.items))) + k ≡ w.at) where
-  at_place : length (concat (take i (contents w.segments.items))) + k ≡ w.at
-  at_place = ap (λ xs. length (concat xs) + k) (take-map (λ (v : Vec ℕ Global). v.items) i w.segments.items) ∙ place
-
-  at_listed : i < length (contents w.segments.items)
-  at_listed = omega (arith, listed, length-map w.segments.items (λ (v : Vec ℕ Global). v.items))
-
-  -- what a segment has from the place on is left
-  pub whole_fits : (m : ℕ) → k + m ≤ length (get_or (contents w.segments.items) i []) → w.at + m ≤ length (room_bytes w)
-  whole_fits m whole =
-      let xs = contents w.segments.items in
-      let split = concat-split xs i in
-      let more = drop_more xs i [] at_listed in
-      omega (arith, whole, at_place, ap length split, length-append (concat (take i xs)) (concat (drop i xs)), ap (λ l. length (concat l)) more, length-append (get_or xs i []) (concat (drop (i + 1) xs)))
-
-module _ (w n : Inside) (i k : ℕ) (bs : List ℕ) (p : PutIn w n i k bs) where
-  put_fits : w.at + length bs ≤ length (room_bytes w)
-  put_fits = whole_fits w i k p.listed p.place (length bs) p.whole
-
-  put_bytes : room_bytes n ≡ with_bytes_at w.at bs (room_bytes w)
-  put_bytes = ap concat p.put ∙ one_written (contents w.segments.items) i k w.at bs (at_listed w i k p.listed p.place) (at_place w i k p.listed p.place) p.whole
-
-  put_lengths : room_lengths n ≡ room_lengths w
-  put_lengths =
-      ap lengths_of p.put ∙ same_lengths (contents w.segments.items) i (with_bytes_at k bs (get_or (contents w.segments.items) i []))
-      (length-with_bytes_at k bs (get_or (contents w.segments.items) i []) p.whole) (at_listed w i k p.listed p.place)
-
-  put_same_end : length (room_bytes n) ≡ length (room_bytes w)
-  put_same_end = ap length put_bytes ∙ length-with_bytes_at w.at bs (room_bytes w) put_fits
-
-  pub put_writer : IsWriter w → IsWriter n
-  put_writer ok = record {
-    all = p.end ∙ ok.all ∙ sym put_same_end;
-    within = omega (arith, p.at, p.end, ok.all, put_fits);
-    held_in = omega (arith, p.at, p.held_at, p.held, ok.held_in);
-  }
-
-  -- all of the record is written
-  pub put_wrote : written_of n ≡ wrote (written_of w) (take (length (drop w.at (room_bytes w))) bs)
-  put_wrote =
-      let all : take (length (drop w.at (room_bytes w))) bs ≡ bs = take_all (length (drop w.at (room_bytes w))) bs (omega (arith, put_fits, length-drop w.at (room_bytes w))) in
-      wrote_next w n bs put_bytes (omega (arith, put_fits, put_same_end)) p.at p.held_at p.held put_lengths
-      ∙ ap (wrote (written_of w)) (sym all)

@@ -1,6 +1,7 @@
 pub mod Segments
 pub mod SegmentLaws
 pub mod Lengths
+pub mod Totals
 pub mod Unread
 pub mod Written
 pub mod Transfer

@@ -1,6 +1,7 @@
 -- How a reader's fields stand for what its callers see.
-use Rattle.std.specs.Prelude.{◌-◌, ◌≤◌, length, take, drop}
-use Rattle.vfs_segments.specs.Segments.{segments_of, flat_bytes}
+use Rattle.std.specs.Prelude.{◌≡◌, ◌-◌, ◌≤◌, length, take, drop}
+use Rattle.vfs_segments.specs.Segments.{segments_of, flat_bytes, lengths_of}
+use Rattle.vfs_segments.specs.Totals.{totals_of}
 use Rattle.vfs_segments.specs.Unread.{Unread}
 use Rattle.vfs_segments.specs.declared.reader.Reader.TheInside.{Inside}
 
@@ -11,8 +12,9 @@ unread_of r = record {
   taken = r.at - r.start;
 }
 
--- the places of a reader are in order and lie in its segments
+-- the places of a reader are in order and lie in its segments, whose running totals it has
 pub record IsReader (r : Inside) : Type 0 where
   pub after_start : r.start ≤ r.at
   pub before_end : r.at ≤ r.end
   pub within : r.end ≤ length (flat_bytes (segments_of r.segments.now))
+  pub totals : r.totals.items ≡ totals_of (lengths_of (segments_of r.segments.now))

@@ -1,6 +1,7 @@
 -- How a writer's fields stand for what its callers see.
 use Rattle.std.specs.Prelude.{ℕ, ◌≡◌, ◌+◌, ◌≤◌, List, length, take, drop}
 use Rattle.vfs_segments.specs.Segments.{contents, flat_bytes, lengths_of}
+use Rattle.vfs_segments.specs.Totals.{totals_of}
 use Rattle.vfs_segments.specs.Written.{Written}
 use Rattle.vfs_segments.specs.declared.writer.Writer.TheInside.{Inside}
 
@@ -18,8 +19,10 @@ written_of w = record {
   lengths = lengths_of (contents w.segments.items);
 }
 
--- the place of a writer lies in its segments, and what it holds lies before the place
+-- The place of a writer lies in its segments, whose running totals it has, and what it holds lies
+-- before the place.
 pub record IsWriter (w : Inside) : Type 0 where
   pub all : w.end ≡ length (room_bytes w)
   pub within : w.at ≤ w.end
   pub held_in : w.held_at + w.held ≤ w.at
+  pub totals : w.totals.items ≡ totals_of (lengths_of (contents w.segments.items))

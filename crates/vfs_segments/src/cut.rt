@@ -1,17 +1,25 @@
 //! Cuts segments in two.
 
-ghost use Rattle.std.specs.Prelude.{◌≡◌, ◌≤◌, length, take, drop, IfOk, OnOk, OnErr};
+ghost use Rattle.std.specs.Prelude.{◌≡◌, ◌+◌, ◌-◌, ◌<◌, ◌≤◌, [], ◌∷◌, ◌++◌, length, map, take, drop, slice_index_or, vec_len, IfOk, OnOk, OnErr};
 ghost use Rattle.vfs_segments.specs.Segments.{contents, flat_bytes, lengths_of};
 ghost use Rattle.vfs_segments.specs.Lengths.{lengths_before, lengths_from};
 
-use crate::place::place_of;
-use std::alloc::AllocError;
+use std::alloc::{AllocError, Global};
 use std::mem;
 
-// Moves the bytes from place `at` on into segments of their own, and copies only those of a segment
-// that is cut. Where memory is refused nothing changes.
-pub(crate) fn cut_off(segments: &mut Vec<Vec<u8>>, at: usize) -> Result<Vec<Vec<u8>>, AllocError>
-    requires { at ≤ length (flat_bytes (contents segments.old.items)) }
+// Moves the bytes from place `at` on, `inside` bytes into segment `first`, into segments of their
+// own, and copies only those of a segment that is cut. Where memory is refused nothing changes.
+pub(crate) fn cut_off(
+    segments: &mut Vec<Vec<u8>>,
+    at: usize,
+    first: usize,
+    inside: usize,
+) -> Result<Vec<Vec<u8>>, AllocError>
+    requires within { first ≤ length segments.old.items }
+    requires place { length (flat_bytes (contents (take first segments.old.items))) + inside ≡ at }
+    requires inside { inside ≤ length (slice_index_or (contents segments.old.items) first []) }
+    requires before_end { first < length segments.old.items →
+        inside < length (slice_index_or (contents segments.old.items) first []) }
     ensures front { OnOk result
         (flat_bytes (contents segments.new.items)
         ≡ take at (flat_bytes (contents segments.old.items))) }
@@ -23,7 +31,6 @@ pub(crate) fn cut_off(segments: &mut Vec<Vec<u8>>, at: usize) -> Result<Vec<Vec<
         ≡ lengths_from at (lengths_of (contents segments.old.items))) }
     ensures err { OnErr result (segments.new ≡ segments.old) }
 {
-    let (first, inside) = place_of(segments, at);
     if inside == 0 {
         return segments.split_off(first);
     }
@@ -33,4 +40,32 @@ pub(crate) fn cut_off(segments: &mut Vec<Vec<u8>>, at: usize) -> Result<Vec<Vec<
     head.truncate(inside);
     segments.push(head).unwrap();
     Ok(rest)
+}
+
+// The totals of the segments from place `at` on, which lies in segment `first`.
+pub(crate) fn totals_past(
+    alloc: Global,
+    totals: &[usize],
+    at: usize,
+    first: usize,
+) -> Result<Vec<usize>, AllocError>
+    requires { first ≤ length totals.now }
+    ensures { IfOk result (λ v. v.items ≡ map (λ total. total - at) (drop first totals.now)) }
+{
+    let rest = &totals[first..];
+    rest.iter()
+        .map(|total| total.saturating_sub(at))
+        .collect(alloc)
+}
+
+// Leaves the totals of the segments up to place `at`, `inside` bytes into segment `first`.
+pub(crate) fn end_totals(totals: &mut Vec<usize>, at: usize, first: usize, inside: usize)
+    requires { 0 < inside → first < vec_len totals.old }
+    ensures between { inside ≡ 0 → totals.new.items ≡ take first totals.old.items }
+    ensures cut { 0 < inside → totals.new.items ≡ take first totals.old.items ++ at ∷ [] }
+{
+    totals.truncate(first);
+    if inside > 0 {
+        totals.push(at).unwrap();
+    }
 }

@@ -1,7 +1,14 @@
 //! Copies bytes out of segments.
 
-ghost use Rattle.std.specs.Prelude.{◌≡◌, ◌+◌, ◌^◌, ◌≤◌, length, take, drop, MatchOption};
-ghost use Rattle.vfs_segments.specs.Segments.{segments_of, flat_bytes, with_bytes_at};
+ghost use Rattle.std.specs.Prelude.{◌≡◌, ◌+◌, ◌^◌, ◌<◌, ◌≤◌, length, take, drop, vec_len, IfOk, MatchOption, IsOk};
+ghost use Rattle.vfs_segments.specs.Segments.{segments_of, flat_bytes, lengths_of, with_bytes_at};
+ghost use Rattle.vfs_segments.specs.Totals.{totals_of};
+ghost use Rattle.vfs_wire.specs.Fields.{Fit, value_of};
+
+use crate::place::place_in;
+use crate::record::LARGEST_RECORD;
+use std::alloc::{AllocError, Global};
+use vfs_wire::ByteValued;
 
 // How many bytes the segments have, unless that passes `usize::MAX`.
 #[tactic(auto, using(crate::proofs::Segments::segments))]
@@ -19,6 +26,23 @@ pub(crate) fn total_of(segments: &[&[u8]]) -> Option<usize>
     Some(total)
 }
 
+// The running totals of their lengths.
+#[tactic(auto, using(crate::proofs::Segments::segments))]
+pub(crate) fn totals_in(alloc: Global, segments: &[&[u8]]) -> Result<Vec<usize>, AllocError>
+    requires { length (flat_bytes (segments_of segments.now)) < 2 ^ 64 }
+    ensures totals { IfOk result
+        (λ v. v.items ≡ totals_of (lengths_of (segments_of segments.now))) }
+    ensures none { length segments.now ≡ 0 → IsOk result }
+{
+    let mut totals = Vec::with_capacity(alloc, segments.len())?;
+    let mut total: usize = 0;
+    for segment in segments {
+        total += segment.len();
+        totals.push_reserved(total);
+    }
+    Ok(totals)
+}
+
 // Writes the bytes over as many that stand from place `at` on.
 fn put_at(buf: &mut [u8], at: usize, bytes: &[u8])
     requires { at + length bytes.now ≤ length buf.old }
@@ -28,8 +52,9 @@ fn put_at(buf: &mut [u8], at: usize, bytes: &[u8])
 }
 
 // Copies into the buffer the bytes that follow `skip` bytes of the segments, piece by piece.
+#[inline(never)]
 #[tactic(auto, using(crate::proofs::Segments::segments, crate::proofs::Lists::bytes_at))]
-pub(crate) fn gather(segments: &[&[u8]], mut skip: usize, buf: &mut [u8])
+fn gather(segments: &[&[u8]], mut skip: usize, buf: &mut [u8])
     requires { skip + length buf.old ≤ length (flat_bytes (segments_of segments.now)) }
     ensures { buf.new ≡ take (length buf.old) (drop skip (flat_bytes (segments_of segments.now))) }
 {
@@ -44,4 +69,57 @@ pub(crate) fn gather(segments: &[&[u8]], mut skip: usize, buf: &mut [u8])
         done += n;
         skip -= from;
     }
+}
+
+// Copies into the buffer the bytes that stand from place `at` on. Where one segment has all of them
+// they are copied at once.
+pub(crate) fn copy_from(segments: &[&[u8]], totals: &[usize], at: usize, buf: &mut [u8])
+    requires totals { totals.now ≡ totals_of (lengths_of (segments_of segments.now)) }
+    requires fits { at + length buf.old ≤ length (flat_bytes (segments_of segments.now)) }
+    requires small { at + length buf.old < 2 ^ 64 }
+    ensures { buf.new ≡ take (length buf.old) (drop at (flat_bytes (segments_of segments.now))) }
+{
+    if buf.is_empty() {
+        return;
+    }
+    let (first, skip) = place_in(segments, totals, at);
+    let segment = segments[first];
+    if buf.len() <= segment.len() - skip {
+        buf.copy_from_slice(&segment[skip..skip + buf.len()]);
+    } else {
+        gather(&segments[first..], skip, buf);
+    }
+}
+
+// The record whose bytes follow `skip` bytes of the segments, wherever they are cut.
+#[inline(never)]
+fn gathered<T: ByteValued>(segments: &[&[u8]], skip: usize) -> T
+    requires { skip + T.SIZE ≤ length (flat_bytes (segments_of segments.now)) }
+    ensures value { result ≡ value_of T.table (drop skip (flat_bytes (segments_of segments.now))) }
+    ensures in_width { Fit T.table.widths (T.table.fields result) }
+    ensures in_range { T.in_range result }
+{
+    let mut buf = [0u8; LARGEST_RECORD];
+    gather(segments, skip, &mut buf[..T::SIZE]);
+    T::take(&buf[..T::SIZE])
+}
+
+// The record whose bytes stand from place `at` on. Where one segment has all of them it is read
+// right there.
+pub(crate) fn record_at<T: ByteValued>(segments: &[&[u8]], totals: &[usize], at: usize) -> T
+    requires totals { totals.now ≡ totals_of (lengths_of (segments_of segments.now)) }
+    requires fits { at + T.SIZE ≤ length (flat_bytes (segments_of segments.now)) }
+    requires small { at + T.SIZE < 2 ^ 64 }
+    ensures value { result ≡ value_of T.table (drop at (flat_bytes (segments_of segments.now))) }
+    ensures in_width { Fit T.table.widths (T.table.fields result) }
+    ensures in_range { T.in_range result }
+{
+    let (first, skip) = place_in(segments, totals, at);
+    if first < segments.len() {
+        let segment = segments[first];
+        if T::SIZE <= segment.len() - skip {
+            return T::take(&segment[skip..skip + T::SIZE]);
+        }
+    }
+    gathered(&segments[first..], skip)
 }

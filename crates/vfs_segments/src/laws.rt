@@ -1,10 +1,14 @@
 //! What readers and writers promise as a whole, beyond single calls: laws over the values that
-//! contracts see. The functions do nothing; their contracts are the laws.
+//! contracts see. The functions do nothing; their contracts are the laws. Beside them the search by
+//! which both find their place, whose contract counts its looks.
 
-ghost use Rattle.std.specs.Prelude.{◌≡◌, ◌≤◌, ◌++◌, ℕ, length, sum};
+ghost use Rattle.std.specs.Prelude.{◌≡◌, ◌+◌, ◌-◌, ◌^◌, ◌<◌, ◌≤◌, ◌++◌, ℕ, List, length, slice_index, sum};
 ghost use Rattle.vfs_segments.specs.Answers.{AnswerAlike, AnswerAll};
+ghost use Rattle.vfs_segments.specs.Totals.{NeverFalls};
 ghost use Rattle.vfs_segments.specs.Unread.{Unread, first_of, rest_of};
 ghost use Rattle.vfs_segments.specs.Written.{Written, first_room, rest_room, whole};
+
+use std::marker::Model;
 
 /// After a `split_at(n)` of a reader the first part has `n` bytes, and the first part followed by
 /// the second is what was left.
@@ -34,3 +38,101 @@ pub fn equal_bytes_answer_alike()
     ensures alike { AnswerAlike }
     ensures answered { AnswerAll }
 {}
+
+/// Running totals of lengths that are looked at one by one.
+///
+/// Contracts see a list, which no call changes, and how many looks were made.
+pub trait Totals {
+    /// The totals.
+    ghost totals: { Self → List ℕ };
+
+    /// How many looks were made.
+    ghost looks: { Self → ℕ };
+
+    /// How many totals there are.
+    fn count(&self) -> usize
+        ensures { result ≡ length (totals self.now) };
+
+    /// Total `i`, counted from 0.
+    fn look(&mut self, i: usize) -> usize
+        requires within { i < length (totals self.old) }
+        requires countable { looks self.old < 2 ^ 32 - 1 }
+        ensures value { result ≡ slice_index (totals self.old) i }
+        ensures same { totals self.new ≡ totals self.old }
+        ensures counted { looks self.new ≡ looks self.old + 1 };
+}
+
+/// Totals in memory, with the number of looks.
+#[derive(Drop)]
+pub struct Counted<'a> {
+    totals: &'a [usize],
+    looks: u32,
+}
+
+impl<'a> Model for Counted<'a> {
+    ghost use Rattle.vfs_segments.specs.Totals.{Looked};
+
+    ghost Value = { Looked };
+
+    ghost view = { λ c. record { totals = c.totals.now; looks = c.looks } };
+}
+
+impl<'a> Counted<'a> {
+    /// Totals at which no look was made.
+    pub fn new(totals: &'a [usize]) -> Counted<'a>
+        ensures totals { result.totals ≡ totals.now }
+        ensures looks { result.looks ≡ 0 }
+    {
+        Counted { totals, looks: 0 }
+    }
+
+    /// How many looks were made.
+    pub fn looks(&self) -> u32
+        ensures { result ≡ self.now.looks }
+    {
+        self.looks
+    }
+}
+
+impl<'a> Totals for Counted<'a> {
+    ghost totals = { λ c. c.totals };
+
+    ghost looks = { λ c. c.looks };
+
+    fn count(&self) -> usize {
+        self.totals.len()
+    }
+
+    fn look(&mut self, i: usize) -> usize {
+        self.looks += 1;
+        self.totals[i]
+    }
+}
+
+/// The first index whose total is above `at`, which is the segment in which the place `at` lies, or
+/// how many totals there are where none is. An empty segment is passed over. It looks at most as
+/// often as that number has binary digits.
+pub fn find_segment<T: Totals>(totals: &mut T, at: usize) -> usize
+    requires ordered { NeverFalls (T.totals totals.old) }
+    requires fresh { T.looks totals.old ≡ 0 }
+    ensures within { result ≤ length (T.totals totals.old) }
+    ensures passed { (i : ℕ) → i < result → slice_index (T.totals totals.old) i ≤ at }
+    ensures found { result < length (T.totals totals.old) →
+        at < slice_index (T.totals totals.old) result }
+    ensures same { T.totals totals.new ≡ T.totals totals.old }
+
+    // A number below 2 ^ k has at most k binary digits.
+    ensures few { (k : ℕ) → length (T.totals totals.old) < 2 ^ k → T.looks totals.new ≤ k }
+{
+    let mut low: usize = 0;
+    let mut high = totals.count();
+    while low < high {
+        let middle = low + (high - low) / 2;
+        if totals.look(middle) > at {
+            high = middle;
+        } else {
+            low = middle + 1;
+        }
+    }
+    low
+}

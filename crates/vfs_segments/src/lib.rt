@@ -8,10 +8,9 @@
 //! A transfer moves bytes between segments and a file without a copy in between: the file is lent
 //! a view of just the next bytes, of `vfs_views`, and moves a beginning of them.
 //!
-//! A call walks the segments from the first one to the place where it moves bytes, moves each byte
-//! once, piece by piece, and stops there. Of these calls only a writer's `split_at` takes memory;
-//! the contracts of `new`, `split_at` and `clone` leave room for one that finds its place sooner
-//! and keeps memory for that.
+//! Both keep the running totals of their segments' lengths, for which `new`, `split_at` and `clone`
+//! take memory. A call finds the segment of its place by one search of them, moves each byte once,
+//! segment by segment, and stops there. Bytes that lie whole in one segment are moved at once.
 #![tactic(auto)]
 
 mod cut;

@@ -11,8 +11,7 @@ ghost use Rattle.vfs_segments.specs.Unread.{IsUnread, advanced, first_of, rest_o
 ghost use Rattle.vfs_wire.specs.Fields.{Fit, value_of};
 
 use crate::error::{Error, Result};
-use crate::gather::{gather, total_of};
-use crate::record::LARGEST_RECORD;
+use crate::gather::{copy_from, record_at, total_of, totals_in};
 use crate::transfer::write_from;
 use std::alloc::Global;
 use std::io::{ErrorKind, Read};
@@ -29,6 +28,7 @@ use vfs_wire::ByteValued;
 #[derive(Drop)]
 pub struct Reader<'a> {
     segments: &'a [&'a [u8]],
+    totals: Vec<usize>,
     start: usize,
     at: usize,
     end: usize,
@@ -51,7 +51,7 @@ impl<'a> Reader<'a> {
     ///
     /// `Error::DescriptorChainOverflow` where their lengths sum past `usize::MAX`, and
     /// `Error::OutOfMemory` where memory is refused, which can't be where there are no segments.
-    pub fn new(_alloc: Global, segments: &'a [&'a [u8]]) -> Result<Reader<'a>>
+    pub fn new(alloc: Global, segments: &'a [&'a [u8]]) -> Result<Reader<'a>>
         ensures ok { IfOk result (IsUnread (flat_bytes (segments_of segments.now))) }
         ensures too_long { 2 ^ 64 ≤ length (flat_bytes (segments_of segments.now)) →
             result ≡ Err Error.DescriptorChainOverflow }
@@ -62,8 +62,10 @@ impl<'a> Reader<'a> {
         let Some(end) = total_of(segments) else {
             return Err(Error::DescriptorChainOverflow);
         };
+        let totals = totals_in(alloc, segments)?;
         Ok(Reader {
             segments,
+            totals,
             start: 0,
             at: 0,
             end,
@@ -101,9 +103,11 @@ impl<'a> Reader<'a> {
         if n > self.available_bytes() {
             return Err(Error::SplitOutOfBounds(n));
         }
+        let totals = self.totals.clone()?;
         let middle = self.at + n;
         let rest = Reader {
             segments: self.segments,
+            totals,
             start: middle,
             at: middle,
             end: self.end,
@@ -119,8 +123,10 @@ impl<'a> Reader<'a> {
         ensures ok { IfOk result (λ r. r ≡ self.now) }
         ensures err { IfErr result (λ e. e ≡ Error.OutOfMemory) }
     {
+        let totals = self.totals.clone()?;
         Ok(Reader {
             segments: self.segments,
+            totals,
             start: self.start,
             at: self.at,
             end: self.end,
@@ -133,8 +139,18 @@ impl<'a> Reader<'a> {
         ensures copied { buf.new ≡ take (length buf.old) self.old.left }
         ensures moved { self.new ≡ advanced self.old (length buf.old) }
     {
-        gather(self.segments, self.at, buf);
+        copy_from(self.segments, &self.totals, self.at, buf);
         self.at += buf.len();
+    }
+
+    // Takes all bytes that are left, and tells that they were too few.
+    #[cold]
+    fn too_few(&mut self) -> io::Error
+        ensures kind { error_kind result ≡ ErrorKind.UnexpectedEof }
+        ensures moved { self.new ≡ advanced self.old (length self.old.left) }
+    {
+        self.at = self.end;
+        io::Error::from(ErrorKind::UnexpectedEof)
     }
 
     /// Takes a record, as many bytes as it has.
@@ -153,11 +169,12 @@ impl<'a> Reader<'a> {
         ensures eof { IfErr result (λ fault. error_kind fault ≡ ErrorKind.UnexpectedEof) }
         ensures at_end { OnErr result (self.new ≡ advanced self.old (length self.old.left)) }
     {
-        let mut buf = [0u8; LARGEST_RECORD];
-        match self.read_exact(&mut buf[..T::SIZE]) {
-            Ok(()) => Ok(T::take(&buf[..T::SIZE])),
-            Err(e) => Err(e),
+        if T::SIZE > self.available_bytes() {
+            return Err(self.too_few());
         }
+        let record = record_at(self.segments, &self.totals, self.at);
+        self.at += T::SIZE;
+        Ok(record)
     }
 
     /// Lends a file the next bytes, `count` of them or all that are left, to be written into it
@@ -187,7 +204,7 @@ impl<'a> Reader<'a> {
         if n == 0 {
             return Ok(0);
         }
-        match write_from(self.segments, self.at, n, file, off, flags) {
+        match write_from(self.segments, &self.totals, self.at, n, file, off, flags) {
             Ok(moved) => {
                 self.at += moved;
                 Ok(moved)
@@ -233,8 +250,7 @@ impl<'a> Read for Reader<'a> {
         ensures at_end { OnErr result (self.new ≡ advanced self.old (length self.old.left)) }
     {
         if buf.len() > self.available_bytes() {
-            self.at = self.end;
-            return Err(io::Error::from(ErrorKind::UnexpectedEof));
+            return Err(self.too_few());
         }
         self.take_next(buf);
         Ok(())

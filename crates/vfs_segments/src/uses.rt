@@ -6,6 +6,7 @@ ghost use Rattle.vfs_segments.specs.Answers.{AreAnswers, Available, Taken, Read,
 ghost use Rattle.vfs_segments.specs.Segments.{contents, flat_bytes, lengths_of};
 ghost use Rattle.vfs_wire.specs.Fields.{bytes_of, lone_number, value_of};
 
+use crate::laws::{Counted, find_segment};
 use crate::{Error, Reader, Result, Writer};
 use std::alloc::Global;
 use std::io::{ErrorKind, Read, Write};
@@ -328,4 +329,26 @@ pub fn segments_with_what_was_written(
     let mut writer = Writer::new(alloc, segments)?;
     writer.write_all(bytes).unwrap();
     Ok(writer.into_segments())
+}
+
+/// Where a place lies among segments of 8, 16, 18 and 64 bytes, found by their running totals, and
+/// how many looks that took.
+pub fn place_among_four_segments(at: usize) -> (usize, u32)
+    ensures begin { at ≡ 0 → result.0 ≡ 0 }
+    ensures second { at ≡ 8 → result.0 ≡ 1 }
+    ensures last { at ≡ 64 → result.0 ≡ 3 }
+    ensures end { at ≡ 106 → result.0 ≡ 4 }
+    ensures looks { result.1 ≤ 3 }
+{
+    let mut totals = Counted::new(&[8, 24, 42, 106]);
+    let segment = find_segment(&mut totals, at);
+    (segment, totals.looks())
+}
+
+/// An empty segment is passed over: the place behind the first of segments of 8, 0 and 16 bytes lies
+/// in the third.
+pub fn place_past_an_empty_segment() -> usize
+    ensures { result ≡ 2 }
+{
+    find_segment(&mut Counted::new(&[8, 8, 24]), 8)
 }

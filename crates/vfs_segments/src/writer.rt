@@ -1,6 +1,6 @@
 //! Writes the bytes of a reply into segments.
 
-ghost use Rattle.std.specs.Prelude.{◌≡◌, ◌+◌, ◌^◌, ◌<◌, ◌≤◌, ◌↔◌, ℕ, List, [], length, take, min, IfOk, IfErr, IsOk, OnOk, OnErr};
+ghost use Rattle.std.specs.Prelude.{◌≡◌, ◌+◌, ◌^◌, ◌<◌, ◌≤◌, ◌↔◌, ℕ, List, [], length, take, min, IfOk, IfErr, IsErr, IsOk, OnOk, OnErr};
 ghost use Rattle.std.specs.IoError.{error_kind};
 ghost use Rattle.std.specs.Io.{WritesAtMost};
 ghost use Rattle.std.specs.Io.KnownBytes.{Appends, Keeps, WriteAppends};
@@ -9,11 +9,11 @@ ghost use Rattle.vfs_segments.specs.Transfer.{moved_bytes, taken_in};
 ghost use Rattle.vfs_segments.specs.Written.{unwritten, wrote, first_room, rest_room, held_over, held_filled, whole};
 ghost use Rattle.vfs_wire.specs.Fields.{Fit, bytes_of};
 
-use crate::cut::cut_off;
+use crate::cut::{cut_off, end_totals, totals_past};
 use crate::error::{Error, Result};
-use crate::place::place_whole;
+use crate::place::place_of;
 use crate::record::LARGEST_RECORD;
-use crate::scatter::{put_record, room_of, scatter};
+use crate::scatter::{put_from, put_obj, room_of, totals_held};
 use crate::transfer::read_into;
 use std::alloc::Global;
 use std::io::{ErrorKind, Write};
@@ -34,6 +34,7 @@ use vfs_wire::ByteValued;
 #[derive(Drop)]
 pub struct Writer {
     segments: Vec<Vec<u8>>,
+    totals: Vec<usize>,
     at: usize,
     end: usize,
     held_at: usize,
@@ -59,7 +60,7 @@ impl Writer {
     /// `Error::DescriptorChainOverflow` where their lengths sum past `usize::MAX`, and
     /// `Error::OutOfMemory` where memory is refused, which can't be where there are no segments.
     /// A refusal drops the segments.
-    pub fn new(_alloc: Global, segments: Vec<Vec<u8>>) -> Result<Writer>
+    pub fn new(alloc: Global, segments: Vec<Vec<u8>>) -> Result<Writer>
         ensures ok { IfOk result (λ w. w ≡ unwritten (contents segments.items)) }
         ensures too_long { 2 ^ 64 ≤ length (flat_bytes (contents segments.items)) →
             result ≡ Err Error.DescriptorChainOverflow }
@@ -70,8 +71,10 @@ impl Writer {
         let Some(end) = room_of(&segments) else {
             return Err(Error::DescriptorChainOverflow);
         };
+        let totals = totals_held(alloc, &segments)?;
         Ok(Writer {
             segments,
+            totals,
             at: 0,
             end,
             held_at: 0,
@@ -117,9 +120,14 @@ impl Writer {
             return Err(Error::SplitOutOfBounds(n));
         }
         let middle = self.at + n;
-        let segments = cut_off(&mut self.segments, middle)?;
+        let (first, inside) = place_of(&self.segments, &self.totals, middle);
+        let alloc = *self.segments.allocator();
+        let totals = totals_past(alloc, &self.totals, middle, first)?;
+        let segments = cut_off(&mut self.segments, middle, first, inside)?;
+        end_totals(&mut self.totals, middle, first, inside);
         let rest = Writer {
             segments,
+            totals,
             at: 0,
             end: self.end - middle,
             held_at: 0,
@@ -153,7 +161,7 @@ impl Writer {
         requires { length bytes.now ≡ self.old.held }
         ensures { self.new ≡ held_filled self.old bytes.now }
     {
-        scatter(&mut self.segments, self.held_at, bytes);
+        put_from(&mut self.segments, &self.totals, self.held_at, bytes);
         self.held = 0;
     }
 
@@ -162,7 +170,7 @@ impl Writer {
         requires { length bytes.now ≤ length self.old.left }
         ensures { self.new ≡ wrote self.old bytes.now }
     {
-        scatter(&mut self.segments, self.at, bytes);
+        put_from(&mut self.segments, &self.totals, self.at, bytes);
         self.at += bytes.len();
     }
 
@@ -177,19 +185,19 @@ impl Writer {
         ensures in_width { Fit T.table.widths (T.table.fields x) }
         ensures in_range { T.in_range x }
     {
-        match place_whole(&self.segments, self.at, T::SIZE) {
-            Some((i, skip)) => {
-                put_record(&mut self.segments[i], skip, x);
-                self.at += T::SIZE;
-                Ok(())
-            }
-            None => self.write_spelled(x),
+        if T::SIZE > self.available_bytes() {
+            return self.write_cut(x);
         }
+        put_obj(&mut self.segments, &self.totals, self.at, x);
+        self.at += T::SIZE;
+        Ok(())
     }
 
-    // The same, of a record that may be cut: it is spelled into a buffer first.
-    fn write_spelled<T: ByteValued + Drop>(&mut self, x: T) -> io::Result<()>
-        ensures variant { IsOk result ↔ (T.SIZE ≤ length self.old.left) }
+    // Fills the room that is left with the beginning of a record, which has more bytes.
+    #[cold]
+    fn write_cut<T: ByteValued + Drop>(&mut self, x: T) -> io::Result<()>
+        requires { length self.old.left < T.SIZE }
+        ensures refused { IsErr result }
         ensures wrote { self.new ≡
             wrote self.old (take (length self.old.left) (bytes_of T.table x)) }
         ensures full { IfErr result (λ fault. error_kind fault ≡ ErrorKind.WriteZero) }
@@ -198,7 +206,9 @@ impl Writer {
     {
         let mut buf = [0u8; LARGEST_RECORD];
         x.put(&mut buf[..T::SIZE]);
-        self.write_all(&buf[..T::SIZE])
+        let n = self.available_bytes();
+        self.put_next(&buf[..n]);
+        Err(io::Error::from(ErrorKind::WriteZero))
     }
 
     /// Lends a file the next bytes of the room, `count` of them or all that are left, to be read
@@ -230,7 +240,7 @@ impl Writer {
         if n == 0 {
             return Ok(0);
         }
-        match read_into(&mut self.segments, self.at, n, file, off) {
+        match read_into(&mut self.segments, &self.totals, self.at, n, file, off) {
             Ok(moved) => {
                 self.at += moved;
                 Ok(moved)
@@ -247,6 +257,7 @@ impl Writer {
     {
         let Writer {
             segments,
+            totals: _,
             at: _,
             end: _,
             held_at: _,
@@ -293,10 +304,12 @@ impl Write for Writer {
         ensures wrote { self.new ≡ wrote self.old (take (length self.old.left) buf.now) }
         ensures full { IfErr result (λ e. error_kind e ≡ ErrorKind.WriteZero) }
     {
-        let n = self.write(buf)?;
-        if n < buf.len() {
+        let room = self.available_bytes();
+        if buf.len() > room {
+            self.put_next(&buf[..room]);
             return Err(io::Error::from(ErrorKind::WriteZero));
         }
+        self.put_next(buf);
         Ok(())
     }
 }

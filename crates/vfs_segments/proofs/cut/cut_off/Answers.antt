@@ -11,27 +11,27 @@ use Rattle.vfs_segments.proofs.cut.cut_off.Goals as goal
 pub returns-then-inside-eq0-clause-front : goal.returns-then-inside-eq0-clause-front
 returns-then-inside-eq0-clause-front c =
     let xs = c.args.segments.now.items in
-    let i = c.place_of-first.result.0 in
-    let place = rw c.deref.ensures.value at c.place_of-first.ensures.place in
+    let i = c.args.first in
+    let place = c.requires.place in
     let e : length (held_flat (take i xs)) ≡ c.args.at = omega (arith, place) in
     on_ok_weaker c.split_off.result (λ (h : c.split_off.new.self.items ≡ take i xs). ap held_flat h ∙ between_front xs i c.args.at e) c.split_off.ensures.items
 
 pub returns-then-inside-eq0-clause-back : goal.returns-then-inside-eq0-clause-back
 returns-then-inside-eq0-clause-back c =
     let xs = c.args.segments.now.items in
-    let i = c.place_of-first.result.0 in
-    let place = rw c.deref.ensures.value at c.place_of-first.ensures.place in
+    let i = c.args.first in
+    let place = c.requires.place in
     let e : length (held_flat (take i xs)) ≡ c.args.at = omega (arith, place) in
     IfOk-weaker c.split_off.result _ _ (λ w h. ap held_flat h ∙ between_back xs i c.args.at e) c.split_off.ensures.tail
 
 pub returns-clause-front : goal.returns-clause-front
 returns-clause-front c =
     let xs = c.args.segments.now.items in
-    let i = c.place_of-first.result.0 in
-    let n = c.place_of-first.result.1 in
+    let i = c.args.first in
+    let n = c.args.inside in
     let s = c.index_mut.result.now in
-    let place = rw c.deref.ensures.value at c.place_of-first.ensures.place in
-    let inside = rw c.deref.ensures.value at c.place_of-first.ensures.inside in
+    let place = c.requires.place in
+    let inside = c.requires.inside in
     let listed : i < length xs = IsListed xs i n (omega arith) inside in
     let r : get_or xs i s ≡ s = first_is xs c.in_ok-rest.rest.items i s c.in_ok-rest.ensures.tail c.index_mut.ensures.value in
     let head : c.truncate.new.self.items ≡ take n s.items = c.truncate.ensures.items ∙ ap (λ (v : Vec ℕ Global). take n v.items) c.replace-head.ensures.value in
@@ -42,11 +42,11 @@ returns-clause-front c =
 pub returns-clause-back : goal.returns-clause-back
 returns-clause-back c =
     let xs = c.args.segments.now.items in
-    let i = c.place_of-first.result.0 in
-    let n = c.place_of-first.result.1 in
+    let i = c.args.first in
+    let n = c.args.inside in
     let s = c.index.result.now in
-    let place = rw c.deref.ensures.value at c.place_of-first.ensures.place in
-    let inside = rw c.deref.ensures.value at c.place_of-first.ensures.inside in
+    let place = c.requires.place in
+    let inside = c.requires.inside in
     let listed : i < length xs = IsListed xs i n (omega arith) inside in
     let r : get_or xs i s ≡ s = sym c.index.ensures in
     let copied : c.in_ok-tail.tail.items ≡ drop n s.items = grind (arith, common_steps) in
@@ -57,9 +57,9 @@ returns-clause-back c =
 pub returns-then-inside-eq0-clause-front_lengths : goal.returns-then-inside-eq0-clause-front_lengths
 returns-then-inside-eq0-clause-front_lengths c =
     let xs = c.args.segments.now.items in
-    let i = c.place_of-first.result.0 in
-    let place = rw c.deref.ensures.value at c.place_of-first.ensures.place in
-    let some = rw c.deref.ensures.value at c.place_of-first.ensures.before_end in
+    let i = c.args.first in
+    let place = c.requires.place in
+    let some = c.requires.before_end in
     let e : length (held_flat (take i xs)) ≡ c.args.at = omega (arith, place) in
     on_ok_weaker c.split_off.result
     (λ (h : c.split_off.new.self.items ≡ take i xs).
@@ -69,9 +69,9 @@ returns-then-inside-eq0-clause-front_lengths c =
 pub returns-then-inside-eq0-clause-back_lengths : goal.returns-then-inside-eq0-clause-back_lengths
 returns-then-inside-eq0-clause-back_lengths c =
     let xs = c.args.segments.now.items in
-    let i = c.place_of-first.result.0 in
-    let place = rw c.deref.ensures.value at c.place_of-first.ensures.place in
-    let some = rw c.deref.ensures.value at c.place_of-first.ensures.before_end in
+    let i = c.args.first in
+    let place = c.requires.place in
+    let some = c.requires.before_end in
     let e : length (held_flat (take i xs)) ≡ c.args.at = omega (arith, place) in
     IfOk-weaker c.split_off.result _ _
     (λ w h. ap held_lengths h ∙ between_lengths_from xs i c.args.at e (λ h. omega (arith, some h)))
@@ -80,13 +80,13 @@ returns-then-inside-eq0-clause-back_lengths c =
 pub returns-clause-front_lengths : goal.returns-clause-front_lengths
 returns-clause-front_lengths c =
     let xs = c.args.segments.now.items in
-    let i = c.place_of-first.result.0 in
-    let n = c.place_of-first.result.1 in
+    let i = c.args.first in
+    let n = c.args.inside in
     let s = c.index_mut.result.now in
-    let place = rw c.deref.ensures.value at c.place_of-first.ensures.place in
-    let inside = rw c.deref.ensures.value at c.place_of-first.ensures.inside in
+    let place = c.requires.place in
+    let inside = c.requires.inside in
     let listed : i < length xs = IsListed xs i n (omega arith) inside in
-    let strictly = rw c.deref.ensures.value at c.place_of-first.ensures.before_end in
+    let strictly = c.requires.before_end in
     let r : get_or xs i s ≡ s = first_is xs c.in_ok-rest.rest.items i s c.in_ok-rest.ensures.tail c.index_mut.ensures.value in
     let below : n < length s.items = inside_first xs i n s listed r (strictly listed) in
     let head : c.truncate.new.self.items ≡ take n s.items = c.truncate.ensures.items ∙ ap (λ (v : Vec ℕ Global). take n v.items) c.replace-head.ensures.value in
@@ -98,13 +98,13 @@ returns-clause-front_lengths c =
 pub returns-clause-back_lengths : goal.returns-clause-back_lengths
 returns-clause-back_lengths c =
     let xs = c.args.segments.now.items in
-    let i = c.place_of-first.result.0 in
-    let n = c.place_of-first.result.1 in
+    let i = c.args.first in
+    let n = c.args.inside in
     let s = c.index.result.now in
-    let place = rw c.deref.ensures.value at c.place_of-first.ensures.place in
-    let inside = rw c.deref.ensures.value at c.place_of-first.ensures.inside in
+    let place = c.requires.place in
+    let inside = c.requires.inside in
     let listed : i < length xs = IsListed xs i n (omega arith) inside in
-    let strictly = rw c.deref.ensures.value at c.place_of-first.ensures.before_end in
+    let strictly = c.requires.before_end in
     let r : get_or xs i s ≡ s = sym c.index.ensures in
     let below : n < length s.items = inside_first xs i n s listed r (strictly listed) in
     let copied : c.in_ok-tail.tail.items ≡ drop n s.items = grind (arith, common_steps) in

@@ -1,34 +1,44 @@
-use Rattle.std.proofs.Common.{arith, rules, ap, ◌≡◌, ◌∙◌, ◌≤◌, refl, length, take}
-use Rattle.std.proofs.lemmas.Grind.{common_steps}
+use Rattle.std.proofs.Common.{arith, ap, sym, ◌≡◌, ◌+◌, ◌-◌, ◌∙◌, ◌≤◌, refl, length, take, drop, length-take, length-drop}
 use Rattle.std.specs.Prelude.{sum}
 use Rattle.vfs_wire.specs.Fields.{numbers, value_of}
 use Rattle.vfs_wire.specs.FieldLaws.{value_of-take}
 use Rattle.vfs_segments.specs.Unread.{Unread, advanced}
+use Rattle.vfs_segments.proofs.Places.{left_moved, unread-eq}
+use Rattle.vfs_segments.proofs.Segments.{flat}
 use Rattle.vfs_segments.proofs.reader.Reader.read_obj.Goals as goal
 
-pub returns-in-Ok-clause-value : goal.returns-in-Ok-clause-value
-returns-in-Ok-clause-value g c =
+pub returns-clause-value : goal.returns-clause-value
+returns-clause-value g c =
+    let r = c.self.inside in
     let t = g.T.ByteValued.table in
-    let n = g.T.ByteValued.SIZE in
-    let left = c.args.self.now.left in
-    let read : c.take.result ≡ value_of t (take n left) = grind (arith, common_steps) in
-    read ∙ value_of-take t n left (omega (arith, g.met.T.ByteValued.size_is))
+    let fits : sum t.widths ≤ r.end - r.at = omega (arith, g.met.T.ByteValued.size_is, c.SIZE.ensures, c.available_bytes.ensures.left, ap (λ (u : Unread). length u.left) c.self.view_is, length-take (r.end - r.at) (drop r.at (flat r.segments.now))) in
+    c.record_at-record.ensures.value ∙ sym (value_of-take t (r.end - r.at) (drop r.at (flat r.segments.now)) fits)
+    ∙ ap (λ (u : Unread). value_of t u.left) c.self.view_is
 
-pub returns-in-Ok-clause-answers : goal.returns-in-Ok-clause-answers
-returns-in-Ok-clause-answers g c =
+pub returns-clause-moved : goal.returns-clause-moved
+returns-clause-moved g c =
+    let r = c.self.inside in
+    let n = g.T.ByteValued.SIZE in
+    let bytes = flat r.segments.now in
+    let size = c.SIZE-2.ensures in
+    let h : r.at + n ≤ r.end = omega (arith, c.SIZE.ensures, c.available_bytes.ensures.left, c.self.invariant.before_end, c.self.invariant.within, ap (λ (u : Unread). length u.left) c.self.view_is, length-take (r.end - r.at) (drop r.at bytes), length-drop r.at bytes) in
+    rw size (unread-eq (left_moved bytes r.at r.end n h ∙ ap (λ (u : Unread). drop n u.left) c.self.view_is)
+    (omega (arith, c.self.invariant.after_start, ap (λ (u : Unread). u.taken) c.self.view_is)))
+
+pub returns-clause-answers : goal.returns-clause-answers
+returns-clause-answers g c =
     let t = g.T.ByteValued.table in
     let n = g.T.ByteValued.SIZE in
     let u = c.args.self.now in
     let size : n ≡ sum t.widths = omega (arith, g.met.T.ByteValued.size_is) in
-    let moved : c.read_exact.new.self ≡ advanced u n = search rules in
-    let fits : n ≤ length u.left = search rules in
-    let at : c.read_exact.new.self ≡ advanced u (sum t.widths) = moved ∙ ap (advanced u) size in (
+    let at = returns-clause-moved g c ∙ ap (advanced u) size in
+    let fits : n ≤ length u.left = omega (arith, c.SIZE.ensures, c.available_bytes.ensures.left) in (
       numbers t.widths u.left,
       (
-        returns-in-Ok-clause-value g c,
+        returns-clause-value g c,
         record {
           enough = λ h. (refl, record { left = ap (λ (v : Unread). v.left) at; taken = ap (λ (v : Unread). v.taken) at });
-          short = λ h. absurd (omega (arith, size));
+          short = λ h. absurd (omega (arith, size, fits));
         },
       ),
     )

@@ -10,18 +10,18 @@ use Rattle.vfs_segments.proofs.writer.Writer.fill_held.Goals as goal
 pub invariant_of-self : goal.invariant_of-self
 invariant_of-self c =
     let w = c.self.inside in
-    let items = with_items_is w.segments c.scatter.new.segments (c.scatter.auto.segments ∙ c.deref_mut.ensures.len) in
-    let lengths = rw c.deref_mut.ensures.value at c.scatter.ensures.lengths in
-    still_writer w (record { segments = with_items w.segments c.scatter.new.segments; at = w.at; end = w.end; held_at = w.held_at; held = 0 }) c.self.invariant
-    (ap (λ l. lengths_of (contents l)) items ∙ lengths) refl c.self.invariant.within (omega (arith, c.self.invariant.held_in))
+    let items = with_items_is w.segments c.put_from.new.segments (c.put_from.auto.segments ∙ c.deref_mut.ensures.len) in
+    let lengths = rw c.deref_mut.ensures.value at c.put_from.ensures.lengths in
+    still_writer w (record { segments = with_items w.segments c.put_from.new.segments; totals = w.totals; at = w.at; end = w.end; held_at = w.held_at; held = 0 }) c.self.invariant
+    (ap (λ l. lengths_of (contents l)) items ∙ lengths) refl refl c.self.invariant.within (omega (arith, c.self.invariant.held_in))
 
 pub returns : goal.returns
 returns c =
     let w = c.self.inside in
-    let items = with_items_is w.segments c.scatter.new.segments (c.scatter.auto.segments ∙ c.deref_mut.ensures.len) in
-    let bytes = rw c.deref_mut.ensures.value at c.scatter.ensures.bytes in
-    let lengths = rw c.deref_mut.ensures.value at c.scatter.ensures.lengths in
+    let items = with_items_is w.segments c.put_from.new.segments (c.put_from.auto.segments ∙ c.deref_mut.ensures.len) in
+    let bytes = rw c.deref_mut.ensures.value at c.put_from.ensures.bytes in
+    let lengths = rw c.deref_mut.ensures.value at c.put_from.ensures.lengths in
     let size : length c.args.bytes.now ≡ w.held = c.requires ∙ sym (ap (λ (u : Written). u.held) c.self.view_is) in
-    filled w (record { segments = with_items w.segments c.scatter.new.segments; at = w.at; end = w.end; held_at = w.held_at; held = 0 }) c.args.bytes.now c.self.invariant
+    filled w (record { segments = with_items w.segments c.put_from.new.segments; totals = w.totals; at = w.at; end = w.end; held_at = w.held_at; held = 0 }) c.args.bytes.now c.self.invariant
     (ap (λ l. concat (contents l)) items ∙ bytes) size refl refl refl
     (ap (λ l. lengths_of (contents l)) items ∙ lengths) ∙ ap (λ (u : Written). held_filled u c.args.bytes.now) c.self.view_is

@@ -1,0 +1,78 @@
+use Rattle.std.proofs.Common.{arith, ap, sym, ◌∙◌, ◌≡◌, ◌<◌, List, [], ℕ, length, get_or}
+use Rattle.std.specs.declared.vec.Vec.{Vec}
+use Rattle.std.specs.declared.alloc.Global.{Global}
+use Rattle.std.proofs.lemmas.List.{get_or-map}
+use Rattle.vfs_segments.proofs.Totals.{never_falls, placed}
+use Rattle.vfs_segments.proofs.place.place_of.Goals as goal
+
+pub find_segment-first-requires-clause-ordered : goal.find_segment-first-requires-clause-ordered
+find_segment-first-requires-clause-ordered c = rw (c.new.ensures.totals ∙ c.requires.totals) (never_falls _)
+
+pub returns-then-first-segments-clause-place : goal.returns-then-first-segments-clause-place
+returns-then-first-segments-clause-place c =
+    let f = rw c.new.ensures.totals at c.find_segment-first.ensures in
+    let p = placed (λ (v : Vec ℕ Global). v.items) c.args.segments.now c.args.totals.now c.args.at c.find_segment-first.result c.requires.totals c.requires.fits f.within f.passed f.found in
+    omega (arith, p.past (omega arith))
+
+pub bounds-totals-first : goal.bounds-totals-first
+bounds-totals-first c =
+    let f = rw c.new.ensures.totals at c.find_segment-first.ensures in
+    let p = placed (λ (v : Vec ℕ Global). v.items) c.args.segments.now c.args.totals.now c.args.at c.find_segment-first.result c.requires.totals c.requires.fits f.within f.passed f.found in
+    omega arith
+
+pub overflow_sub-result : goal.overflow_sub-result
+overflow_sub-result c =
+    let f = rw c.new.ensures.totals at c.find_segment-first.ensures in
+    let p = placed (λ (v : Vec ℕ Global). v.items) c.args.segments.now c.args.totals.now c.args.at c.find_segment-first.result c.requires.totals c.requires.fits f.within f.passed f.found in
+    let h : c.find_segment-first.result < length c.args.segments.now = omega arith in
+    let v = c.index-segments-first.result in
+    let size = ap length (get_or-map (λ (v : Vec ℕ Global). v.items) c.args.segments.now c.find_segment-first.result v [] h ∙ ap (λ (v : Vec ℕ Global). v.items) (sym c.index-segments-first.is)) in
+    omega (arith, size, v.ok.0, p.ends h, p.inside h)
+
+pub overflow_sub-result-2 : goal.overflow_sub-result-2
+overflow_sub-result-2 c =
+    let f = rw c.new.ensures.totals at c.find_segment-first.ensures in
+    let p = placed (λ (v : Vec ℕ Global). v.items) c.args.segments.now c.args.totals.now c.args.at c.find_segment-first.result c.requires.totals c.requires.fits f.within f.passed f.found in
+    let h : c.find_segment-first.result < length c.args.segments.now = omega arith in
+    let v = c.index-segments-first.result in
+    let size = ap length (get_or-map (λ (v : Vec ℕ Global). v.items) c.args.segments.now c.find_segment-first.result v [] h ∙ ap (λ (v : Vec ℕ Global). v.items) (sym c.index-segments-first.is)) in
+    omega (arith, size, v.ok.0, p.ends h, p.inside h)
+
+pub returns-clause-within : goal.returns-clause-within
+returns-clause-within c =
+    let f = rw c.new.ensures.totals at c.find_segment-first.ensures in
+    let p = placed (λ (v : Vec ℕ Global). v.items) c.args.segments.now c.args.totals.now c.args.at c.find_segment-first.result c.requires.totals c.requires.fits f.within f.passed f.found in
+    p.within
+
+pub returns-clause-place : goal.returns-clause-place
+returns-clause-place c =
+    let f = rw c.new.ensures.totals at c.find_segment-first.ensures in
+    let p = placed (λ (v : Vec ℕ Global). v.items) c.args.segments.now c.args.totals.now c.args.at c.find_segment-first.result c.requires.totals c.requires.fits f.within f.passed f.found in
+    let h : c.find_segment-first.result < length c.args.segments.now = omega arith in
+    let v = c.index-segments-first.result in
+    let size = ap length (get_or-map (λ (v : Vec ℕ Global). v.items) c.args.segments.now c.find_segment-first.result v [] h ∙ ap (λ (v : Vec ℕ Global). v.items) (sym c.index-segments-first.is)) in
+    omega (arith, size, v.ok.0, p.ends h, p.inside h)
+
+pub returns-clause-inside : goal.returns-clause-inside
+returns-clause-inside c =
+    let f = rw c.new.ensures.totals at c.find_segment-first.ensures in
+    let p = placed (λ (v : Vec ℕ Global). v.items) c.args.segments.now c.args.totals.now c.args.at c.find_segment-first.result c.requires.totals c.requires.fits f.within f.passed f.found in
+    let h : c.find_segment-first.result < length c.args.segments.now = omega arith in
+    let v = c.index-segments-first.result in
+    let size = ap length (get_or-map (λ (v : Vec ℕ Global). v.items) c.args.segments.now c.find_segment-first.result v [] h ∙ ap (λ (v : Vec ℕ Global). v.items) (sym c.index-segments-first.is)) in
+    omega (arith, size, v.ok.0, p.ends h, p.inside h)
+
+pub returns-clause-before_end : goal.returns-clause-before_end
+returns-clause-before_end c =
+    let f = rw c.new.ensures.totals at c.find_segment-first.ensures in
+    let p = placed (λ (v : Vec ℕ Global). v.items) c.args.segments.now c.args.totals.now c.args.at c.find_segment-first.result c.requires.totals c.requires.fits f.within f.passed f.found in
+    let h : c.find_segment-first.result < length c.args.segments.now = omega arith in
+    let v = c.index-segments-first.result in
+    let size = ap length (get_or-map (λ (v : Vec ℕ Global). v.items) c.args.segments.now c.find_segment-first.result v [] h ∙ ap (λ (v : Vec ℕ Global). v.items) (sym c.index-segments-first.is)) in
+    λ k. omega (arith, size, v.ok.0, p.ends h, p.inside h)
+
+pub returns-then-first-segments-clause-within : goal.returns-then-first-segments-clause-within
+returns-then-first-segments-clause-within c =
+    let f = rw c.new.ensures.totals at c.find_segment-first.ensures in
+    let p = placed (λ (v : Vec ℕ Global). v.items) c.args.segments.now c.args.totals.now c.args.at c.find_segment-first.result c.requires.totals c.requires.fits f.within f.passed f.found in
+    p.within
