@@ -1,8 +1,8 @@
 -- What was put into a room behind the place of a reply's header: the data of a READ, and the records
 -- of a directory.
-use Rattle.std.proofs.Common.{◌≡◌, ◌≤◌, ◌<◌, ◌-◌, ◌^◌, ◌||◌, ℕ, Bool, false, nat_lt, List, [], ◌++◌, length, drop, Option, None, Result, Ok, Err, inl, inr, refl, subst, arith, append-nil, length-drop}
+use Rattle.std.proofs.Common.{◌≡◌, ◌≤◌, ◌<◌, ◌-◌, ◌^◌, ℕ, Bool, false, List, [], ◌++◌, length, Option, None, Result, Ok, Err, inl, inr, refl, subst, arith, append-nil, length-drop}
 use Rattle.std.proofs.lemmas.Bool.Decides.{nat_tests}
-use Rattle.vfs_segments.specs.Written.{Written, Moves, held_over, wrote}
+use Rattle.vfs_segments.specs.Written.{Written, Moves, held_over}
 use Rattle.vfs_wire.specs.declared.files.ReadIn.{ReadIn}
 use Rattle.vfs_files.specs.declared.entry.Context.{Context}
 use Rattle.vfs_files.specs.Answers.{Handed, Counts}
@@ -60,11 +60,8 @@ directory_counts l events body answer (inl u) small = rw u.answer_is tt
 directory_counts l events body answer (inr o) small = counts_by l.plus l.ctx l.parent l.size l.room o.takings body answer o.listing small
 
 -- what asks for no more than the limit and than there is room for
-pub not_too_much : (limits : Limits) (room : ℕ) (r : ReadIn) → r.size ≤ limits.max_buffer → r.size ≤ room → lists_too_much limits room r ≡ false
-not_too_much limits room r limit fits =
-    let a : nat_lt limits.max_buffer r.size ≡ false = grind (arith, nat_tests) in
-    let b : nat_lt room r.size ≡ false = grind (arith, nat_tests) in
-    rw (a, b) refl
+pub within_limit : (limits : Limits) (room : ℕ) (r : ReadIn) → lists_too_much limits room r ≡ false → r.size ≤ limits.max_buffer
+within_limit limits room r e = grind (arith, nat_tests)
 
 -- a run from an equal state
 pub run_from : {S I : Type 0} (allows : S → Call → Handed I → S → Type 0) (gives : I → Option Item → I → Type 0) (old same new : S) (run : List (Happening I × S))

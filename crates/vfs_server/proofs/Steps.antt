@@ -5,7 +5,7 @@ use Rattle.vfs_wire.specs.declared.headers.InHeader.{InHeader}
 use Rattle.vfs_segments.specs.Written.{Written, held_over}
 use Rattle.vfs_files.specs.Items.{Item}
 use Rattle.vfs_files.specs.Calls.{Call, Handed, Data, kind_of, read_answer}
-use Rattle.vfs_files.specs.Runs.{Happening, Calls, IsRun, events_of}
+use Rattle.vfs_files.specs.Runs.{Happening, Calls, IsRun}
 use Rattle.vfs_messages.specs.Records.{record_of, size_of}
 use Rattle.vfs_messages.specs.Forms.{Listing, Ask, Ends, Asks, Lists, Copies, refused, refused_or}
 use Rattle.vfs_messages.specs.Ask.{ask, ask_header}

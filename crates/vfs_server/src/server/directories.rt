@@ -1,6 +1,6 @@
 //! Open directories, and what is read of them.
 
-ghost use Rattle.std.specs.Prelude.{length};
+ghost use Rattle.std.specs.Prelude.{◌≡◌, length};
 ghost use Rattle.vfs_wire.specs.Files.{read_in};
 ghost use Rattle.vfs_messages.specs.Ask.{listing_of, lists_too_much};
 ghost use Rattle.vfs_messages.specs.Forms.{Directories, Record, ask_form};
@@ -61,6 +61,14 @@ impl<F: FileSystem> Server<F> {
         self.list(header, true, r, w)
     }
 
+    /// Whether a directory's records may have more bytes than a payload may hold, or than there is
+    /// room for: the place of the reply's header counts as room here.
+    fn is_too_much(&self, read_in: &ReadIn, w: &Writer) -> bool
+        ensures { result ≡ lists_too_much self.now.limits (length w.now.left) read_in.now }
+    {
+        read_in.size > self.limits.max_buffer || read_in.size as usize > w.available_bytes()
+    }
+
     /// Reads a directory into the room, behind the place of the reply's header, which is filled in
     /// last.
     fn list(
@@ -77,7 +85,7 @@ impl<F: FileSystem> Server<F> {
             self.old w.old result w.new self.new }
     {
         let read_in = read_record::<ReadIn>(r)?;
-        if read_in.size > self.limits.max_buffer || read_in.size as usize > w.available_bytes() {
+        if self.is_too_much(&read_in, w) {
             return reply_failed(Some(Errno::ENOMEM), header.unique, w);
         }
         hold_header(w)?;

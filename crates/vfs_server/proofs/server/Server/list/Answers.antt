@@ -1,9 +1,9 @@
 -- The reading is a run, whose records are counted and stand behind the place of the header.
-use Rattle.std.proofs.Common.{◌≡◌, ◌≤◌, length, ap, arith}
+use Rattle.std.proofs.Common.{◌≡◌, false, length, ap, arith}
 use Rattle.vfs_files.specs.Entries.{context_of}
 use Rattle.vfs_listings.specs.ReadingLaws.{directory_runs}
-use Rattle.vfs_messages.specs.Ask.{listing_of}
-use Rattle.vfs_server.proofs.Listings.{records_behind, directory_counts, not_too_much, run_from}
+use Rattle.vfs_messages.specs.Ask.{listing_of, lists_too_much}
+use Rattle.vfs_server.proofs.Listings.{records_behind, directory_counts, within_limit, run_from}
 use Rattle.vfs_server.specs.Step.{ServerState}
 use Rattle.vfs_server.proofs.server.Server.list.Goals as goal
 
@@ -16,12 +16,12 @@ returns g c =
     let answer = c.read_directory-answer.result in
     let left = c.read_directory-answer.new.w in
     let same : _ ≡ c.args.self.now = c.self.view_is in
-    let limit : r.size ≤ c.args.self.now.limits.max_buffer = omega (arith, c.if-read_in-self.false, ap (λ (s : ServerState g.row.F.Denot). s.limits.max_buffer) same) in
-    let fits : r.size ≤ length w.left = omega (arith, c.if-read_in-available_bytes.false, c.available_bytes.ensures) in
+    let fits : lists_too_much c.args.self.now.limits (length w.left) r ≡ false = cc in
+    let limit = within_limit c.args.self.now.limits (length w.left) r fits in
     let run = directory_runs g.F.FileSystem.allows g.F.DirIter.DirectoryIterator.gives (context_of h) c.args.plus h.nodeid r.fh r.size r.offset c.self.inside.fs held answer c.read_directory-answer.new.fs left c.read_directory-answer.ensures.reads in
-    let counts = directory_counts (listing_of c.args.plus h r (length held.left)) _ run.body answer run.directory (omega (arith, c.if-read_in-self.false, c.self.invariant.greatest)) in
+    let counts = directory_counts (listing_of c.args.plus h r (length held.left)) _ run.body answer run.directory (omega (arith, limit, c.self.invariant.greatest, ap (λ (s : ServerState g.row.F.Denot). s.limits.max_buffer) same)) in
     let behind = records_behind w held left run.body run.beyond c.in_ok-hold_header.ensures.held c.in_ok-hold_header.ensures.enough run.puts in
-    rw (c.in_ok-read_in.ensures.value, not_too_much c.args.self.now.limits (length w.left) r limit fits, c.in_ok-hold_header.ensures.room) (
+    rw (c.in_ok-read_in.ensures.value, fits, c.in_ok-hold_header.ensures.room) (
       (
         run.body,
         answer,

@@ -1,5 +1,4 @@
 -- Nothing was put beyond the data.
-use Rattle.std.proofs.Common.{rules}
 use Rattle.vfs_files.specs.Answers.{read_answer}
 use Rattle.vfs_server.proofs.Listings.{data_behind}
 use Rattle.vfs_server.proofs.server.Server.read.Goals as goal
