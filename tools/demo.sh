@@ -14,10 +14,19 @@ kind_of() {
         01000000) echo LOOKUP ;;
         02000000) echo FORGET ;;
         03000000) echo GETATTR ;;
+        0a000000) echo UNLINK ;;
         0e000000) echo OPEN ;;
+        0f000000) echo READ ;;
+        10000000) echo WRITE ;;
         11000000) echo STATFS ;;
         1a000000) echo INIT ;;
+        1c000000) echo READDIR ;;
+        1f000000) echo GETLK ;;
         22000000) echo ACCESS ;;
+        23000000) echo CREATE ;;
+        24000000) echo INTERRUPT ;;
+        2c000000) echo READDIRPLUS ;;
+        33000000) echo TMPFILE ;;
         *) echo request ;;
     esac
 }

@@ -4,14 +4,13 @@
 # of memory; a failed assertion or another error is wrong.
 #
 # Usage: tools/refuse-allocations-in-tests.sh [CRATE]
-# CRATE is vfs_layer_tests if left out; vfs_server_tests has the tests of the server. A run takes
-# some ten seconds. It stops once three runs in a row met no refusal that a test ends by. Status 0:
-# each test of each run was right.
+# CRATE is vfs_tests if left out. A run takes some ten seconds. It stops once three runs in a row met
+# no refusal that a test ends by. Status 0: each test of each run was right.
 set -eu
 . "$(dirname "$0")/program.sh"
 need_toolchain
 
-crate=$here/crates/${1:-vfs_layer_tests}
+crate=$here/crates/${1:-vfs_tests}
 log=$(mktemp)
 trap 'rm -f "$log"' EXIT
 

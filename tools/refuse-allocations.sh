@@ -1,6 +1,8 @@
 #!/usr/bin/env bash
-# Runs the program vfs_demo on its stored session again and again, each time with another one of its
-# allocations refused, and looks for an answer that changes in place of the error.
+# Runs the program vfs_demo on the beginning of its stored session again and again, each time with
+# another one of its allocations refused, and looks for an answer that changes in place of the error.
+# It is the requests before the first that changes a file: where memory is refused to such a one, the
+# answers behind it are others.
 #
 # A run is right where it ends in one of these ways, and else wrong:
 # - the program wanted memory: status 4, some of the stored answers, and then `out of memory`;
@@ -14,20 +16,21 @@
 set -eu
 . "$(dirname "$0")/program.sh"
 
-stored=$crate/stdout
+# How many requests that are, each with one answer.
+requests=12
 
 # Runs the proved program with allocation $1 refused, and keeps what it said in folder $2.
 run_built() {
     local status=0
     REFUSE_ALLOCATION=$1 REFUSE_ALLOCATION_COUNT=$2/count LD_PRELOAD=$2/refuse_allocation.so \
-        "$program" < "$crate/stdin" > "$2/$1.out" 2> "$2/$1.err" || status=$?
+        "$program" < "$2/stdin" > "$2/$1.out" 2> "$2/$1.err" || status=$?
     echo "$status" > "$2/$1.status"
 }
 
 # The same with a program that is built for it, without a proof.
 run_unproved() {
     local status=0
-    (cd "$crate" && rt try --fail-alloc "$1" < stdin) > "$2/$1.out" 2> "$2/$1.err" || status=$?
+    (cd "$crate" && rt try --fail-alloc "$1" < "$2/stdin") > "$2/$1.out" 2> "$2/$1.err" || status=$?
     sed -n 's/^allocations: //p' "$2/$1.err" > "$2/count"
     if ! grep -q '^run=ended' "$2/$1.err"; then
         status='of no end'
@@ -72,6 +75,9 @@ fi
 
 folder=$(mktemp -d)
 trap 'rm -rf "$folder"' EXIT
+stored=$folder/stdout
+head -n "$requests" "$crate/stdin" > "$folder/stdin"
+head -n "$requests" "$crate/stdout" > "$stored"
 
 if is_built && command -v cc > /dev/null; then
     echo "The proved program, $program:"

@@ -2,17 +2,54 @@
 //!
 //! Standard input has a line for each request, with the rooms for its reply and its bytes, and
 //! standard output gets a line for each answer. The program takes no arguments and opens no file.
+//!
+//! The lines of its stored session, `stdin`, show:
+//!
+//! - 1 to 12: how a client begins. INIT, attributes, the file `a` found and others not, FORGET, INIT
+//!   again, what a file system that serves no more answers to STATFS, OPEN and ACCESS.
+//! - 13 to 19: each form of answer. An opcode that isn't there; INIT's reply of 80 bytes in a room
+//!   of 20; a LOOKUP without room; a header cut short, a `len` too small, no name, no byte.
+//! - 20 to 23: the file `c` is made, is there then, is taken out, and isn't there then.
+//! - 24 to 28: the root's three entries, those behind the second and the third; a file is no
+//!   directory; READDIRPLUS, where `.` and `..` have their number and type alone, and the file is
+//!   looked up.
+//! - 29 to 34: READ. Two of three bytes fit, with the room in one piece and in two; without room for
+//!   the header nothing is read; at the end there is nothing; node 1 is no file, for WRITE too.
+//! - 35 to 40: WRITE. What is written is read, and the size is that of the file then; of three bytes
+//!   two end within the limit, and the gap before them holds zeros; at the limit nothing is written.
+//! - 41 to 43: GETLK and TMPFILE, which are not served, and INTERRUPT, which has no reply.
 #![tactic(auto)]
 
-mod run;
-#[cfg(test)]
-mod tests;
+ghost use Rattle.std.specs.Prelude.{IfSome};
+ghost use Rattle.vfs_lines.specs.Lines.{lines_in, EndsAs};
 
+use std::alloc::Global;
+use std::io;
 use std::process::ExitCode;
-use vfs_lines::{exit_status, report};
+use vfs_lines::{RunError, exit_status, report};
+use vfs_memory::MemFs;
+use vfs_server::server::Server;
+
+/// The page size of the server, in bytes.
+const PAGE_SIZE: u32 = 4096;
 
 fn main(rt: HostRuntime) -> ExitCode {
-    let outcome = run::run(rt.alloc(), &mut rt.stdin(), &mut rt.stdout());
+    let outcome = run(rt.alloc(), &mut rt.stdin(), &mut rt.stdout());
     let _ = report(&rt, &outcome);
     ExitCode::from(exit_status(&outcome))
+}
+
+/// Answers the lines of `input` by a server over a new [`MemFs`], with no options agreed, as
+/// [`vfs_lines::run`] does.
+pub fn run<R: io::Read, W: io::Write>(
+    alloc: Global,
+    input: &mut R,
+    output: &mut W,
+) -> Result<(), RunError>
+    ensures { IfSome (R.remaining input.old) (λ text. EndsAs (lines_in text) result) }
+{
+    match MemFs::new(alloc) {
+        Ok(fs) => vfs_lines::run(alloc, &mut Server::new(fs, PAGE_SIZE), input, output),
+        Err(_) => Err(RunError::OutOfMemory),
+    }
 }

@@ -5,10 +5,12 @@
 
 mod answer;
 mod error;
+mod input;
 mod line;
 mod session;
 pub mod uses;
 
 pub use error::{RunError, exit_status, report};
+pub use input::run;
 pub use line::{Line, MOST_ROOM, lines_of, parse_line};
 pub use session::{answer_to, answers_to, read_all, write_all};

@@ -1,7 +1,7 @@
 use Rattle.std.proofs.Common.{sym, ap, ◌∙◌}
 use Rattle.vfs_lines.specs.Lines.{request_option}
-use Rattle.vfs_demo.proofs.LineLemmas.{all_requests-more, all_requests-whole, first_bad}
-use Rattle.vfs_demo.proofs.run.read_requests.Goals as goal
+use Rattle.vfs_lines.proofs.LineLemmas.{all_requests-more, all_requests-whole, first_bad}
+use Rattle.vfs_lines.proofs.input.read_requests.Goals as goal
 
 pub returns-in-None-clause-read : goal.returns-in-None-clause-read
 returns-in-None-clause-read c =

@@ -1,6 +1,7 @@
 //! Readers and writers over segments of all kinds: what each call answers, and what is left and
 //! passed after it.
 
+use crate::message::{are, filled};
 use std::alloc::{AllocError, Global};
 use std::io;
 use std::io::{ErrorKind, Read, Write};
@@ -236,12 +237,10 @@ fn is_split(
 ) -> Result<bool, Fail> {
     let from = reader.bytes_read();
     let mut rest = reader.split_at(at)?;
-    Ok(
-        (reader.bytes_read(), rest.bytes_read()) == (from, 0)
-            && has_left(alloc, reader, from, first)?
-            && has_left(alloc, &mut rest, from.saturating_add(at), second)?
-            && rest.bytes_read() == second,
-    )
+    let counts = (reader.bytes_read(), rest.bytes_read());
+    let keeps = has_left(alloc, reader, from, first)?;
+    let leaves = has_left(alloc, &mut rest, from.saturating_add(at), second)?;
+    Ok(counts == (from, 0) && keeps && leaves && rest.bytes_read() == second)
 }
 
 /// The place of the first split of a reader that doesn't leave so much.
@@ -250,9 +249,9 @@ fn wrong_reader_split(alloc: Global) -> Result<Option<usize>, Fail> {
     for (lengths, before, at, left) in READER_SPLITS {
         let segments = cut(alloc, &bytes, lengths)?;
         let mut reader = Reader::new(alloc, &segments)?;
-        if !reads(alloc, &mut reader, 0, before, before)?
-            || !is_split(alloc, &mut reader, at, left)?
-        {
+        let begins = reads(alloc, &mut reader, 0, before, before)?;
+        let is_split = is_split(alloc, &mut reader, at, left)?;
+        if !begins || !is_split {
             return Ok(Some(at));
         }
     }
@@ -328,15 +327,6 @@ fn word_read(alloc: Global) -> Result<(u32, (usize, usize)), Fail> {
 fn a_record_is_read_over_segments_of_one_byte(rt: HostRuntime) -> Result<(), Fail> {
     assert_eq!(rt; word_read(rt.alloc())?, (0x1234_5678, (0, 4)));
     Ok(())
-}
-
-/// Segments of zeros, of these lengths.
-fn zeros(alloc: Global, lengths: &[usize]) -> Result<Vec<Vec<u8>>, AllocError> {
-    let mut segments = Vec::new(alloc);
-    for n in lengths {
-        segments.push(vec![in alloc; 0u8; *n]?)?;
-    }
-    Ok(segments)
 }
 
 /// A call of a writer.
@@ -424,13 +414,7 @@ fn does_so(writer: &mut Writer, rows: &[WriteRow]) -> bool {
 
 /// Whether a writer's segments have these bytes.
 fn has_segments(writer: Writer, want: &[&[u8]]) -> bool {
-    let segments = writer.into_segments();
-    for (segment, bytes) in segments.iter().zip(want) {
-        if segment.as_slice() != *bytes {
-            return false;
-        }
-    }
-    segments.len() == want.len()
+    are(&writer.into_segments(), want)
 }
 
 /// The lengths of a writer's segments, its calls, and its segments afterwards.
@@ -524,7 +508,7 @@ const WRITES: [(&[usize], &[WriteRow], &[&[u8]]); 10] = [
 
 /// A writer over zeros in segments of these lengths.
 pub fn writer_over(alloc: Global, lengths: &[usize]) -> Result<Writer, Fail> {
-    Ok(Writer::new(alloc, zeros(alloc, lengths)?)?)
+    Ok(Writer::new(alloc, filled(alloc, lengths, 0)?)?)
 }
 
 /// The segments of the first writer that doesn't answer so.
@@ -637,12 +621,12 @@ const MIDDLE: usize = 33_005;
 
 /// The lengths of a thousand segments, of which sixteen have bytes, 66,000 in all. The others need
 /// no memory of their own, so that a test can refuse each allocation in turn.
-fn thousand_lengths() -> [usize; 1000] {
-    let mut lengths = [0; 1000];
-    for i in 0..16 {
-        lengths[i * 62] = 4_125;
+fn thousand_lengths(alloc: Global) -> Result<Vec<usize>, AllocError> {
+    let mut lengths = Vec::new(alloc);
+    for i in 0..1000 {
+        lengths.push(if i % 63 == 0 { 4_125 } else { 0 })?;
     }
-    lengths
+    Ok(lengths)
 }
 
 /// A thousand segments that a writer fills with these bytes, without the last 264 of its room, of
@@ -652,7 +636,7 @@ fn thousand_written(
     alloc: Global,
     bytes: &[u8],
 ) -> Result<(Vec<Vec<u8>>, (usize, usize, usize)), Fail> {
-    let mut writer = writer_over(alloc, &thousand_lengths())?;
+    let mut writer = writer_over(alloc, &thousand_lengths(alloc)?)?;
     writer.write_all(bytes)?;
     let rest = writer.split_at(200)?;
     let (first, second) = (writer.available_bytes(), rest.available_bytes());
@@ -692,8 +676,8 @@ fn moves_a_thousand_segments(alloc: Global) -> Result<bool, Fail> {
     let (written, counts) = thousand_written(alloc, &bytes)?;
     let slices = slices_of(alloc, &written)?;
     Ok(
-        counts == (200, 264, 70)
-            && slices.len() == 931
+        counts == (200, 264, 55)
+            && slices.len() == 946
             && clone_reads_all(alloc, &slices)?
             && parts_read_all(alloc, &slices)?,
     )

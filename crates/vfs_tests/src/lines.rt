@@ -1,5 +1,6 @@
 //! Lines that are read and refused, and the texts of errors.
 
+use crate::message::are;
 use std::alloc::Global;
 use std::test::Fail;
 use vfs_lines::{RunError, parse_line};
@@ -43,16 +44,6 @@ const REFUSED: [&str; 22] = [
     "16 00\r",
     "0x10 00",
 ];
-
-/// Whether segments have these bytes.
-fn are(segments: &[Vec<u8>], want: &[&[u8]]) -> bool {
-    for (segment, bytes) in segments.iter().zip(want) {
-        if segment.as_slice() != *bytes {
-            return false;
-        }
-    }
-    segments.len() == want.len()
-}
 
 /// Whether this is a line that asks for these rooms, and whose request has these segments.
 fn is_line(alloc: Global, text: &str, rooms: &[usize], segments: &[&[u8]]) -> Result<bool, Fail> {

@@ -1,0 +1,34 @@
+//! Tests of all libraries, by their public calls alone: of what no contract says.
+//!
+//! They stand in a crate of their own, since a check of a crate's tests proves the crate again; and
+//! in one crate, since what they have in common is then proved once.
+#![tactic(auto)]
+
+#[cfg(test)]
+mod bench;
+#[cfg(test)]
+mod files;
+#[cfg(test)]
+mod flags;
+#[cfg(test)]
+mod lines;
+#[cfg(test)]
+mod message;
+#[cfg(test)]
+mod messages;
+#[cfg(test)]
+mod migration;
+#[cfg(test)]
+mod segments;
+#[cfg(test)]
+mod server;
+#[cfg(test)]
+mod session;
+#[cfg(test)]
+mod totals;
+#[cfg(test)]
+mod transfers;
+#[cfg(test)]
+mod wire;
+#[cfg(test)]
+mod wire_more;
