@@ -2,7 +2,7 @@
 
 ghost use Rattle.std.specs.Prelude.{◌≡◌, ◌==◌, ◌≤◌, ◌+◌, ◌-◌, ◌*◌, length, drop, take, map, option_map, bit_and, position, OnOk, IfOk, IfErr, MatchResult, Ok, Err, Some};
 ghost use Rattle.vfs_flags.specs.Flags.{fs_options_bits, setattr_valid_bits, known_setattr_valid};
-ghost use Rattle.vfs_flags.specs.Flags.{setxattr_flags_bits, known_setxattr_flags};
+ghost use Rattle.vfs_flags.specs.Flags.{setxattr_flags_bits, known_setxattr_flags, setxattr_ext};
 ghost use Rattle.vfs_files.specs.Names.{name_text, name_of};
 ghost use Rattle.vfs_wire.specs.Entries.{forget_one};
 ghost use Rattle.vfs_messages.specs.Ask.{has_flag, if_set, setxattr_layout};
@@ -423,6 +423,13 @@ pub fn read_link(
     link_of_tail(alloc, options, tail)
 }
 
+/// Whether SETXATTR has its shorter record: its longer one was not agreed on.
+fn has_short_setxattr(options: FsOptions) -> bool
+    ensures { result ≡ (bit_and (fs_options_bits options) setxattr_ext == 0) }
+{
+    options.bits() & FsOptions::SETXATTR_EXT.bits() == 0
+}
+
 /// SETXATTR's record, by the agreed options.
 pub fn read_setxattr(options: FsOptions, reader: &mut Reader<'_>) -> Result<SetxattrIn>
     ensures value { layout_record (setxattr_layout (fs_options_bits options)) reader.old.left
@@ -430,7 +437,7 @@ pub fn read_setxattr(options: FsOptions, reader: &mut Reader<'_>) -> Result<Setx
     ensures moved { OnOk result (reader.new.left ≡
         drop (layout_size (setxattr_layout (fs_options_bits options))) reader.old.left) }
 {
-    if options.bits() & FsOptions::SETXATTR_EXT.bits() == 0 {
+    if has_short_setxattr(options) {
         let short = read_record::<SetxattrInCompat>(reader)?;
         Ok(SetxattrIn {
             size: short.size,
@@ -448,7 +455,7 @@ pub fn setxattr_size(options: FsOptions) -> usize
     ensures size { result ≡ layout_size (setxattr_layout (fs_options_bits options)) }
     ensures small { result ≤ 152 }
 {
-    if options.bits() & FsOptions::SETXATTR_EXT.bits() == 0 {
+    if has_short_setxattr(options) {
         SetxattrInCompat::SIZE
     } else {
         SetxattrIn::SIZE
