@@ -521,7 +521,7 @@ static double allocations_of(const struct work *work)
 static int measure_class(const struct class *class)
 {
 	struct bytes batch = batch_of(class);
-	uint32_t room, len;
+	uint32_t room = 0, len = 0;
 	size_t all = rooms(&batch, &room, &len), seen[4] = { 0 };
 	struct work work = { .batch = &batch, .replies_len = all };
 	uint64_t digest = 0;
