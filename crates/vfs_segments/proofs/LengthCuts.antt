@@ -25,7 +25,7 @@ lengths_before-inside at n ns p h =
     rw (below, some)
 
 -- a first segment before the place stays whole
-lengths_before-past : (at n : ℕ) (ns : List ℕ) → n ≤ at →
+pub lengths_before-past : (at n : ℕ) (ns : List ℕ) → n ≤ at →
     lengths_before at (n ∷ ns) ≡ n ∷ lengths_before (at - n) ns
 lengths_before-past at n ns h = let past : nat_lt at n ≡ false = grind (arith, nat_tests) in rw past
 
@@ -34,13 +34,13 @@ pub lengths_from-inside : (at n : ℕ) (ns : List ℕ) → at < n → lengths_fr
 lengths_from-inside at n ns h = let below : nat_lt at n ≡ true = grind (arith, nat_tests) in rw below
 
 -- a first segment before the place is none of the rest
-lengths_from-past : (at n : ℕ) (ns : List ℕ) → n ≤ at → lengths_from at (n ∷ ns) ≡ lengths_from (at - n) ns
+pub lengths_from-past : (at n : ℕ) (ns : List ℕ) → n ≤ at → lengths_from at (n ∷ ns) ≡ lengths_from (at - n) ns
 lengths_from-past at n ns h = let past : nat_lt at n ≡ false = grind (arith, nat_tests) in rw past
 
 -- ---- how many bytes the parts have
 
 -- the sum of a list, one element on
-sum-cons : (n : ℕ) (ns : List ℕ) → sum (n ∷ ns) ≡ n + sum ns
+pub sum-cons : (n : ℕ) (ns : List ℕ) → sum (n ∷ ns) ≡ n + sum ns
 sum-cons n ns = sum_by-cons (λ x. x) n ns
 
 -- where the first segment ends before the place

@@ -8,6 +8,7 @@ pub mod Found
 pub mod Writers
 pub mod Cuts
 pub mod LengthCuts
+pub mod Together
 pub mod TotalCuts
 pub mod AnswerLemmas
 pub mod Spans

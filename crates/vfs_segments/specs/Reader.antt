@@ -1,15 +1,17 @@
 -- How a reader's fields stand for what its callers see.
 use Rattle.std.specs.Prelude.{◌≡◌, ◌-◌, ◌≤◌, length, take, drop}
 use Rattle.vfs_segments.specs.Segments.{segments_of, flat_bytes, lengths_of}
+use Rattle.vfs_segments.specs.Lengths.{lengths_before, lengths_from}
 use Rattle.vfs_segments.specs.Totals.{totals_of}
 use Rattle.vfs_segments.specs.Unread.{Unread}
 use Rattle.vfs_segments.specs.declared.reader.Reader.TheInside.{Inside}
 
--- the bytes between the two places, and how far the first has come
+-- the bytes between the two places, how far the first has come, and the pieces between them
 abbrev pub unread_of : Inside → Unread
 unread_of r = record {
   left = take (r.end - r.at) (drop r.at (flat_bytes (segments_of r.segments.now)));
   taken = r.at - r.start;
+  pieces = lengths_before (r.end - r.at) (lengths_from r.at (lengths_of (segments_of r.segments.now)));
 }
 
 -- the places of a reader are in order and lie in its segments, whose running totals it has

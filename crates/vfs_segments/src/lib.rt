@@ -18,6 +18,7 @@ mod descriptor_type;
 mod error;
 mod gather;
 pub mod laws;
+mod lend;
 mod place;
 mod reader;
 mod record;

@@ -1,17 +1,19 @@
 //! Reads the bytes of a request from segments.
 
-ghost use Rattle.std.specs.Prelude.{◌≡◌, ◌+◌, ◌^◌, ◌<◌, ◌≤◌, ◌++◌, ◌↔◌, ℕ, List, [], length, take, drop, min, IfOk, IfErr, IsOk, OnOk, OnErr, MatchResult};
+ghost use Rattle.std.specs.Prelude.{◌≡◌, ◌+◌, ◌^◌, ◌<◌, ◌≤◌, ◌++◌, ◌↔◌, ℕ, List, [], length, take, drop, min, is_some, IfSome, IfNone, OnSome, IfOk, IfErr, IsOk, OnOk, OnErr, MatchResult};
 ghost use Rattle.std.specs.IoError.{error_kind};
 ghost use Rattle.std.specs.Io.{ReadsAtMost};
 ghost use Rattle.std.specs.Io.KnownBytes.{Consumes, ReadConsumes};
 ghost use Rattle.vfs_segments.specs.Answers.{Answers, Available, Taken, Read, ReadExact, ReadObj, Count, Moved, Filled, Fields, TooFew};
-ghost use Rattle.vfs_segments.specs.Segments.{segments_of, flat_bytes};
+ghost use Rattle.vfs_segments.specs.Lengths.{lengths_from};
+ghost use Rattle.vfs_segments.specs.Segments.{segments_of, flat_bytes, lengths_of};
 ghost use Rattle.vfs_segments.specs.Transfer.{taken_out};
-ghost use Rattle.vfs_segments.specs.Unread.{IsUnread, advanced, first_of, rest_of};
+ghost use Rattle.vfs_segments.specs.Unread.{IsUnread, advanced, are_together, first_of, rest_of};
 ghost use Rattle.vfs_wire.specs.Fields.{Fit, value_of};
 
 use crate::error::{Error, Result};
 use crate::gather::{copy_from, record_at, total_of, totals_in};
+use crate::lend::{is_one_piece, lent};
 use crate::transfer::write_from;
 use std::alloc::Global;
 use std::io::{ErrorKind, Read};
@@ -24,7 +26,8 @@ use vfs_wire::ByteValued;
 /// Reads bytes from segments, wherever they are cut. It lends the segments, and takes each byte
 /// once.
 ///
-/// Contracts see the flat bytes that are left and how many were taken.
+/// Contracts see the flat bytes that are left, how many were taken, and the lengths of the pieces of
+/// segments in which those left lie.
 #[derive(Drop)]
 pub struct Reader<'a> {
     segments: &'a [&'a [u8]],
@@ -58,6 +61,8 @@ impl<'a> Reader<'a> {
         ensures fits { length (flat_bytes (segments_of segments.now)) < 2 ^ 64 →
             IfErr result (λ e. e ≡ Error.OutOfMemory) }
         ensures none { segments.now ≡ [] → IsOk result }
+        ensures pieces { IfOk result (λ r.
+            r.pieces ≡ lengths_from 0 (lengths_of (segments_of segments.now))) }
     {
         let Some(end) = total_of(segments) else {
             return Err(Error::DescriptorChainOverflow);
@@ -131,6 +136,32 @@ impl<'a> Reader<'a> {
             at: self.at,
             end: self.end,
         })
+    }
+
+    /// Whether the `n` bytes from place `at` of what is left are all there and lie in one segment.
+    /// No bytes do at each place up to the end.
+    pub fn together(&self, at: usize, n: usize) -> bool
+        ensures { result ≡ are_together self.now at n }
+    {
+        is_one_piece(self.segments, &self.totals, self.at, self.end, at, n)
+    }
+
+    /// Takes the next `n` bytes and lends them, where they are left and lie in one segment.
+    /// Otherwise nothing changes.
+    pub fn take_slice(&mut self, n: usize) -> Option<&'a [u8]>
+        ensures variant { is_some result ≡ are_together self.old 0 n }
+        ensures bytes { IfSome result (λ bytes. bytes.now ≡ take n self.old.left) }
+        ensures moved { OnSome result (self.new ≡ advanced self.old n) }
+        ensures none { IfNone result (self.new ≡ self.old) }
+    {
+        if n > self.available_bytes() {
+            return None;
+        }
+        let Some(bytes) = lent(self.segments, &self.totals, self.at, n) else {
+            return None;
+        };
+        self.at += n;
+        Some(bytes)
     }
 
     // Takes the next bytes, as many as the buffer has.

@@ -3,7 +3,7 @@ use Rattle.std.specs.Prelude.{sum}
 use Rattle.vfs_wire.specs.Fields.{numbers, value_of}
 use Rattle.vfs_wire.specs.FieldLaws.{value_of-take}
 use Rattle.vfs_segments.specs.Unread.{Unread, advanced}
-use Rattle.vfs_segments.proofs.Places.{left_moved, unread-eq}
+use Rattle.vfs_segments.proofs.Places.{length-left, moved_on}
 use Rattle.vfs_segments.proofs.Segments.{flat}
 use Rattle.vfs_segments.proofs.reader.Reader.read_obj.Goals as goal
 
@@ -19,11 +19,10 @@ pub returns-clause-moved : goal.returns-clause-moved
 returns-clause-moved g c =
     let r = c.self.inside in
     let n = g.T.ByteValued.SIZE in
-    let bytes = flat r.segments.now in
     let size = c.SIZE-2.ensures in
-    let h : r.at + n ≤ r.end = omega (arith, c.SIZE.ensures, c.available_bytes.ensures.left, c.self.invariant.before_end, c.self.invariant.within, ap (λ (u : Unread). length u.left) c.self.view_is, length-take (r.end - r.at) (drop r.at bytes), length-drop r.at bytes) in
-    rw size (unread-eq (left_moved bytes r.at r.end n h ∙ ap (λ (u : Unread). drop n u.left) c.self.view_is)
-    (omega (arith, c.self.invariant.after_start, ap (λ (u : Unread). u.taken) c.self.view_is)))
+    let left = length-left r c.self.invariant c.args.self.now c.self.view_is in
+    let h : r.at + n ≤ r.end = omega (arith, c.SIZE.ensures, c.available_bytes.ensures.left, left, c.self.invariant.before_end) in
+    rw size (moved_on r c.self.invariant c.args.self.now c.self.view_is n h)
 
 pub returns-clause-answers : goal.returns-clause-answers
 returns-clause-answers g c =

@@ -2,7 +2,7 @@ use Rattle.std.proofs.Common.{arith, ap, sym, ◌∙◌, ◌≡◌, ◌-◌, ◌
 use Rattle.std.proofs.lemmas.List.{take-take}
 use Rattle.vfs_segments.specs.Unread.{Unread}
 use Rattle.vfs_segments.proofs.Segments.{flat}
-use Rattle.vfs_segments.proofs.Places.{left_moved, unread-eq}
+use Rattle.vfs_segments.proofs.Places.{length-left, moved_on}
 use Rattle.vfs_segments.proofs.reader.Reader.write_to_file_at.Goals as goal
 
 pub returns-in-Ok-clause-lent : goal.returns-in-Ok-clause-lent
@@ -12,15 +12,13 @@ returns-in-Ok-clause-lent g c = λ some.
     let bytes = flat r.segments.now in
     let left = c.args.self.now.left in
     let k = min c.args.count (length left) in
-    let size : length left ≡ r.end - r.at =
-    omega (arith, c.self.invariant.before_end, c.self.invariant.within, ap (λ (u : Unread). length u.left) c.self.view_is, length-take (r.end - r.at) (drop r.at bytes), length-drop r.at bytes) in
+    let size : length left ≡ r.end - r.at = length-left r c.self.invariant c.args.self.now c.self.view_is in
     let n : c.min-n.result ≡ k = omega (arith, c.min-n.ensures, c.available_bytes.ensures) in
     let b = c.in-Ok.ensures.bound in
     let h : r.at + m ≤ r.end = omega (arith, b, n, size, c.self.invariant.before_end) in
     let is : take c.min-n.result (drop r.at bytes) ≡ take k left =
     ap (λ j. take j (drop r.at bytes)) n ∙ sym (take-take k (r.end - r.at) (drop r.at bytes) (omega (arith, size)))
     ∙ ap (λ (u : Unread). take k u.left) c.self.view_is in (
-      unread-eq (left_moved bytes r.at r.end m h ∙ ap (λ (u : Unread). drop m u.left) c.self.view_is)
-          (omega (arith, c.self.invariant.after_start, ap (λ (u : Unread). u.taken) c.self.view_is)),
+      moved_on r c.self.invariant c.args.self.now c.self.view_is m h,
       rw is at c.in-Ok.ensures.gives,
     )
