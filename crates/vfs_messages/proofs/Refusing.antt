@@ -1,15 +1,17 @@
 -- The errors by which the table refuses a request; the extensions of a request are refused by no
 -- other.
-use Rattle.std.proofs.Common.{◌==◌, ◌||◌, ◌&&◌, ℕ, zero, suc, Bool, true, false, not, List, [], ◌∷◌, length, take, drop, is_some, nat_lt, if◌then◌else◌, Option, Some, None, Result, Ok, Err}
+use Rattle.std.proofs.Common.{◌==◌, ◌||◌, ◌&&◌, ℕ, zero, suc, Bool, true, false, not, List, [], ◌∷◌, length, take, drop, is_some, nat_lt, if◌then◌else◌, Option, Some, None, Result, Ok, Err, ◌≡◌, ◌≢◌, ◌∙◌, sym, subst, inl, inr}
+use Rattle.std.specs.Prelude.{IsFalse}
 use Rattle.vfs_flags.specs.ExtType.{ext_type_of}
 use Rattle.vfs_flags.specs.Flags.{security_ctx, create_supp_group}
 use Rattle.vfs_flags.specs.declared.ext_type.ExtType.{ExtType}
 use Rattle.vfs_flags.specs.declared.ext_type.ExtType.TheVariants.{SecCtx, SupGroups}
 use Rattle.vfs_wire.specs.Fields.{Table, lone_number, value_of}
 use Rattle.vfs_wire.specs.Extensions.{ext_header, secctx, supp_groups}
-use Rattle.vfs_files.specs.Extensions.{ExtensionValues}
+use Rattle.vfs_files.specs.Extensions.{ExtensionValues, extension_values_of}
+use Rattle.vfs_files.specs.declared.extensions.Extensions.{Extensions}
 use Rattle.vfs_files.specs.Names.{first_name}
-use Rattle.vfs_messages.specs.Extensions.{error_or, value_behind, name_and_value, context_in, security_context_in, group_in, Block, block_size, block_in, Cut, cut_on, cut_of_most, cut_of, has_option, reads_extensions, Received, nothing_received, with_context, with_group, receive_kind, receive, receive_all, received_at_end, extensions_in}
+use Rattle.vfs_messages.specs.Extensions.{error_or, value_behind, name_and_value, context_in, security_context_in, group_in, Block, block_size, block_in, Cut, cut_on, cut_of_most, cut_of, has_option, reads_extensions, Received, nothing_received, with_context, with_group, receive_kind, receive, receive_all, received_at_end, extensions_in, extensions_after, GivesValue, MayHoldContext}
 use Rattle.vfs_messages.specs.Forms.{behind_name, extended_or_refusal, extended_in, link_or_refusal, link_in_tail}
 use Rattle.vfs_messages.specs.Records.{size_of, record_of}
 use Rattle.vfs_messages.specs.declared.error.Error.{Error}
@@ -124,6 +126,24 @@ of_extensions options bytes =
     (onward (receive_all options nothing_received cut.blocks) _ (of_all options nothing_received cut.blocks)
     (λ received. of_end options cut.fault received (of_cut (length bytes) bytes)))
     tt
+
+-- extensions that were read aren't refused for want of memory where contexts aren't agreed on
+gives_else : {A B : Type 0} (wanted : Type 0) (value : A → B) (result : Result A Error) (said : Result B Error) → IsRefused said
+    → GivesValue wanted value result said → result ≡ Err OutOfMemory → wanted
+gives_else wanted value (Ok x) said m g o = absurd (let a = o in cc)
+gives_else wanted value (Err e) said m (inl g) o =
+    let same : e ≡ OutOfMemory = cc in
+    absurd (subst MayRefuse same (subst IsRefused g m))
+gives_else wanted value (Err e) said m (inr g) o = g.0
+
+pub never_memory : (options skip : ℕ) (bytes : List ℕ) (result : Result Extensions Error)
+    → GivesValue (MayHoldContext options) extension_values_of result (extensions_after options skip bytes)
+    → IsFalse (has_option options security_ctx) → result ≢ Err OutOfMemory
+never_memory options skip bytes result g unagreed o =
+    let said : IsRefused (extensions_after options skip bytes) =
+    tested (nat_lt (length bytes) skip && reads_extensions options) _ _ tt (of_extensions options (drop skip bytes)) in
+    let agreed = gives_else (MayHoldContext options) extension_values_of result _ said g o in
+    absurd (let a = sym agreed ∙ unagreed in cc)
 
 -- ---- names and extensions
 

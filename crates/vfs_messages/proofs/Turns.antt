@@ -23,7 +23,7 @@ use Rattle.vfs_messages.specs.Laws.{unique_of, BeginsWithHeader, AreAgreed, Want
 use Rattle.vfs_messages.specs.Options.{agreed, options_after}
 use Rattle.vfs_messages.specs.Reply.{Reply, echo_of, Refusal, NoReply, Bytes, OpenBehind, Never, Saying, Fault, Body, Unsaid, Wrong, said, said_open, said_by, is_open, say, fault_reply, fault_number, body_reply, version_out}
 use Rattle.vfs_messages.specs.Room.{IsReplied}
-use Rattle.vfs_messages.specs.Turn.{Turn, Follows, IsRead, IsTurn, turn_tells}
+use Rattle.vfs_messages.specs.Turn.{Turn, Follows, IsRead, IsTurn, IsTurnWithMemory, turn_tells, turn_with_memory_tells}
 use Rattle.vfs_messages.specs.declared.limits.Limits.{Limits}
 use Rattle.vfs_messages.specs.declared.error.Error.{Error}
 use Rattle.vfs_messages.specs.declared.error.Error.TheVariants.{DecodeMessage, EncodeMessage, FlushMessage, InvalidCString2, OutOfMemory}
@@ -213,6 +213,23 @@ module _ (limits : Limits) (options after : ℕ) (t : Turn) (lacks : t.outcome �
   pub memory_wanted : IsTurn limits options t after → WantsMemory limits options (length t.room) t.request
   unfolding Gives
   memory_wanted f = memory_header (length t.room) t.request _ _ refl refl f
+
+-- where memory was there for each copy, no request is refused for want of it
+pub enough_memory : (limits : Limits) (options after : ℕ) (t : Turn) → IsTurnWithMemory limits options t after → t.outcome ≢ Err OutOfMemory
+enough_memory limits options after t f o =
+    let P : Ask → Type 0 = λ a. Follows (turn_with_memory_tells t) limits options a after → MayRefuse OutOfMemory in
+    let u = unique_of t.request in
+    ask_cases P u
+    (record {
+      refusal = λ x m f. let same : x ≡ OutOfMemory = (let a = sym f.1.0 ∙ o in cc) in subst MayRefuse same m;
+      fault = λ x f. absurd (let a = bytes_error (fault_reply x u) t.room t.outcome t.room_after OutOfMemory f.1 o in cc);
+      version = λ f. absurd (let a = bytes_error (body_reply (bytes_of init_out version_out) u) t.room t.outcome t.room_after OutOfMemory f.1 o in cc);
+      nothing = λ f. absurd (let a = sym f.1.0 ∙ o in cc);
+      asks = λ echo c same f. absurd (let a = answer_error (is_open (kind_of c)) echo.unique (say limits echo after (kind_of c) f.0) t.room t.outcome t.room_after OutOfMemory f.3 o in cc);
+      lists = λ echo l same f. absurd (let a = answer_error true echo.unique (say limits echo after Data (read_answer f.1 f.0)) t.room t.outcome t.room_after OutOfMemory f.4 o in cc);
+    })
+    (λ a p f. elim f as (λ x. MayRefuse OutOfMemory) [ inl g ↦ p g | inr g ↦ absurd g.0 ])
+    limits options (length t.room) t.request refl f
 
 -- ---- replies
 

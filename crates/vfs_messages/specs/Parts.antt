@@ -1,41 +1,45 @@
 -- What the calls that read the parts of a request say of them.
-use Rattle.std.specs.Prelude.{◌≡◌, ◌⊎◌, ◌==◌, ℕ, List, [], map, position, take, Option, Some, None, Result, Ok, Err}
+use Rattle.std.specs.Prelude.{◌≡◌, ◌⊎◌, ◌==◌, ◌+◌, ◌-◌, ℕ, List, [], map, position, take, Option, Some, None, Result, Ok, Err, IsFalse}
 use Rattle.std.specs.declared.vec.Vec.{Vec}
 use Rattle.std.specs.declared.alloc.Global.{Global}
 use Rattle.vfs_files.specs.Extensions.{ExtensionValues, extension_values_of}
 use Rattle.vfs_files.specs.declared.extensions.Extensions.{Extensions}
+use Rattle.vfs_segments.specs.Lengths.{lie_together}
+use Rattle.vfs_wire.specs.Headers.{in_header}
+use Rattle.vfs_wire.specs.declared.headers.InHeader.{InHeader}
+use Rattle.vfs_messages.specs.Extensions.{MayHoldContext}
 use Rattle.vfs_messages.specs.Forms.{extended_in}
+use Rattle.vfs_messages.specs.Records.{size_of}
 use Rattle.vfs_messages.specs.declared.error.Error.{Error}
 use Rattle.vfs_messages.specs.declared.error.Error.TheVariants.{OutOfMemory}
 
--- the tail was copied, or refused as the grammar says, or there was no memory for one that is whole
-abbrev pub GivesTail : Result (Vec ℕ Global) Error → (tail : Result (List ℕ) Error) → Type 0
-GivesTail (Ok v) tail = tail ≡ Ok v.items
-GivesTail (Err e) tail = (tail ≡ Err e) ⊎ ((whole : List ℕ) × (tail ≡ Ok whole) × (e ≡ OutOfMemory))
+-- a tail behind a record of `size` bytes is cut between two segments, where the bytes from it on lie
+-- in pieces of these lengths
+abbrev pub TailIsCut : InHeader → (size : ℕ) → (pieces : List ℕ) → Type 0
+TailIsCut h size pieces = IsFalse (lie_together 0 (h.len - (size_of in_header + size)) pieces)
 
--- the same of a part of a tail: it was copied, or the tail or the part is refused as the grammar
--- says, or there was no memory for a tail that is whole
-abbrev pub GivesPart : {A : Type 0} → (part : List ℕ → Result A Error) → Result A Error
-    → (tail : Result (List ℕ) Error) → Type 0
-GivesPart part (Ok x) tail = (whole : List ℕ) × (tail ≡ Ok whole) × (part whole ≡ Ok x)
-GivesPart part (Err e) tail =
-    (tail ≡ Err e)
-    ⊎ ((whole : List ℕ) × (tail ≡ Ok whole) × ((part whole ≡ Err e) ⊎ (e ≡ OutOfMemory)))
-
--- a part of bytes was found, with this value, or is refused as the grammar says, or there was no
--- memory for what it holds
-abbrev pub GivesAs : {A B : Type 0} → (value : A → B) → Result A Error → (part : Result B Error)
+-- the tail is this one, or refused as the grammar says, or, where memory is wanted, there was none
+-- for one that is whole
+abbrev pub GivesTail : (wanted : Type 0) → Result (List ℕ) Error → (tail : Result (List ℕ) Error)
     → Type 0
-GivesAs value (Ok x) part = part ≡ Ok (value x)
-GivesAs value (Err e) part = (part ≡ Err e) ⊎ (e ≡ OutOfMemory)
+GivesTail wanted (Ok bytes) tail = tail ≡ Ok bytes
+GivesTail wanted (Err e) tail =
+    (tail ≡ Err e) ⊎ ((whole : List ℕ) × (tail ≡ Ok whole) × wanted × (e ≡ OutOfMemory))
 
--- the same as of a part of a tail, where the part has this value
-abbrev pub GivesPartAs : {A B : Type 0} → (value : A → B) → (part : List ℕ → Result B Error)
-    → Result A Error → (tail : Result (List ℕ) Error) → Type 0
-GivesPartAs value part (Ok x) tail = (whole : List ℕ) × (tail ≡ Ok whole) × (part whole ≡ Ok (value x))
-GivesPartAs value part (Err e) tail =
+-- the same of a part of a tail, which has this value: it was found, or the tail or the part is
+-- refused as the grammar says, or, where memory is wanted, there was none for a tail that is whole
+abbrev pub GivesPartAs : {A B : Type 0} → (wanted : Type 0) → (value : A → B)
+    → (part : List ℕ → Result B Error) → Result A Error → (tail : Result (List ℕ) Error) → Type 0
+GivesPartAs wanted value part (Ok x) tail =
+    (whole : List ℕ) × (tail ≡ Ok whole) × (part whole ≡ Ok (value x))
+GivesPartAs wanted value part (Err e) tail =
     (tail ≡ Err e)
-    ⊎ ((whole : List ℕ) × (tail ≡ Ok whole) × ((part whole ≡ Err e) ⊎ (e ≡ OutOfMemory)))
+    ⊎ ((whole : List ℕ) × (tail ≡ Ok whole) × ((part whole ≡ Err e) ⊎ (wanted × (e ≡ OutOfMemory))))
+
+-- the same where the part is its value
+abbrev pub GivesPart : {A : Type 0} → (wanted : Type 0) → (part : List ℕ → Result A Error)
+    → Result A Error → (tail : Result (List ℕ) Error) → Type 0
+GivesPart wanted part result tail = GivesPartAs wanted (λ x. x) part result tail
 
 -- the values of a name with what follows it, and of the extensions
 abbrev pub extended_values : (List ℕ × List ℕ) × Extensions → List ℕ × ExtensionValues
@@ -46,12 +50,13 @@ abbrev pub link_values : (List ℕ × List ℕ) × Extensions → List ℕ × Li
 link_values part = (part.0.0, part.0.1, extension_values_of part.1)
 
 -- a name was found to end at this place, with extensions behind it, or is refused as the grammar
--- says, or there was no memory for the extensions
+-- says, or there was no memory for a context, where contexts were agreed on
 abbrev pub GivesExtended : Result (ℕ × Extensions) Error → (options : ℕ) → (bytes : List ℕ) → Type 0
 GivesExtended (Ok part) options bytes =
     (position (λ b. b == 0) bytes ≡ Some part.0)
     × (extended_in options bytes ≡ Ok (take part.0 bytes, extension_values_of part.1))
-GivesExtended (Err e) options bytes = (extended_in options bytes ≡ Err e) ⊎ (e ≡ OutOfMemory)
+GivesExtended (Err e) options bytes =
+    (extended_in options bytes ≡ Err e) ⊎ (MayHoldContext options × (e ≡ OutOfMemory))
 
 -- a text, or none where there is no text
 abbrev pub text_or_none : Option (List ℕ) → List ℕ

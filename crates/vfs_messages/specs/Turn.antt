@@ -20,12 +20,13 @@ IsRead l events records answer =
 
 -- Who tells what happened at a request: that the file system wasn't called; that it was called
 -- once, so, with this answer; that a directory was read, with these records and this answer; and
--- that this came back to the client.
+-- that this came back to the client; and that there was no memory for a copy, and no call.
 pub record Witness : Type 1 where
   pub no_call : Type 0
   pub called : Call → Answer → Type 0
   pub listed : Listing → (records : List ℕ) → Result ℕ (Option ℕ) → Type 0
   pub replied : Reply → Type 0
+  pub no_memory : Type 0
 
 -- The table of what follows from a request that asks this, with the options before and after it.
 -- The records of a directory are replied as the data of a READ are.
@@ -42,7 +43,7 @@ Follows w limits options (Lists echo listing) after =
     × (after ≡ options)
 Follows w limits options (Copies rest) after =
     Follows w limits options rest after
-    ⊎ (w.no_call × w.replied (Refusal OutOfMemory) × (after ≡ options))
+    ⊎ (w.no_memory × w.replied (Refusal OutOfMemory) × (after ≡ options))
 
 -- a request with all that a reader of the bytes and of the calls sees of it
 pub record Turn : Type 0 where
@@ -59,9 +60,20 @@ turn_tells t = record {
   called = λ call answer. t.events ≡ Called call answer ∷ [];
   listed = λ listing records answer. IsRead listing t.events records answer;
   replied = λ reply. IsReplied reply t.room t.outcome t.room_after;
+  no_memory = t.events ≡ [];
 }
+
+-- what a turn tells in which memory was there for each copy
+abbrev pub turn_with_memory_tells : Turn → Witness
+turn_with_memory_tells t = record (turn_tells t) { no_memory = ⊥ }
 
 -- a turn: what the table gives for the request
 abbrev pub IsTurn : Limits → (options : ℕ) → Turn → (after : ℕ) → Type 0
 IsTurn limits options t after =
     Follows (turn_tells t) limits options (ask limits options (length t.room) t.request) after
+
+-- the same of a turn in which memory was there for each copy
+abbrev pub IsTurnWithMemory : Limits → (options : ℕ) → Turn → (after : ℕ) → Type 0
+IsTurnWithMemory limits options t after =
+    Follows (turn_with_memory_tells t) limits options
+    (ask limits options (length t.room) t.request) after

@@ -4,12 +4,12 @@
 //! No size or count is gone by before it is compared with the bytes that are there. Memory is taken
 //! for the name and the value of a security context, once each, and for nothing else.
 
-ghost use Rattle.std.specs.Prelude.{◌≡◌, ◌<◌, drop, option_map, MatchResult, Ok, Err, Some};
-ghost use Rattle.vfs_flags.specs.Flags.{fs_options_bits};
+ghost use Rattle.std.specs.Prelude.{◌≡◌, ◌≢◌, ◌<◌, IsFalse, drop, option_map, MatchResult, Ok, Err, Some};
+ghost use Rattle.vfs_flags.specs.Flags.{fs_options_bits, security_ctx};
 ghost use Rattle.vfs_flags.specs.ExtType.{ext_type_of};
 ghost use Rattle.vfs_files.specs.Extensions.{context_values, extension_values_of};
 ghost use Rattle.vfs_files.specs.Names.{name_text};
-ghost use Rattle.vfs_messages.specs.Extensions.{GivesValue, GivesBlock, IsContext, HoldsContext, MayHoldContext, found_values, name_and_value, context_in, security_context_in, group_in, receive, receive_kind, received_at_end, cut_of, nothing_received, reads_extensions, extensions_of, extensions_after};
+ghost use Rattle.vfs_messages.specs.Extensions.{GivesValue, GivesBlock, IsContext, HoldsContext, MayHoldContext, has_option, found_values, name_and_value, context_in, security_context_in, group_in, receive, receive_kind, received_at_end, cut_of, nothing_received, reads_extensions, extensions_of, extensions_after};
 ghost use Rattle.vfs_messages.specs.Records.{record_of, size_of};
 
 use crate::error::{Error, Result};
@@ -260,15 +260,17 @@ fn reads_extensions(options: FsOptions) -> bool
 /// was not agreed on, or is the second of its kind; `InvalidHeaderLength` where a block's size is
 /// less than its header's 8 bytes; the errors of [`parse_security_context`] and
 /// [`parse_sup_groups`]; `MissingExtension` where `SECURITY_CTX` was agreed on and no block is of
-/// contexts.
+/// contexts. `OutOfMemory` is among them only where `SECURITY_CTX` was agreed on.
 pub fn get_extensions(
     alloc: Global,
     options: FsOptions,
     skip: usize,
     bytes: &[u8],
 ) -> Result<Extensions>
-    ensures { GivesValue (MayHoldContext (fs_options_bits options)) extension_values_of result
+    ensures gives { GivesValue (MayHoldContext (fs_options_bits options)) extension_values_of result
         (extensions_after (fs_options_bits options) skip bytes.now) }
+    ensures memory { IsFalse (has_option (fs_options_bits options) security_ctx) →
+        result ≢ Err Error.OutOfMemory }
 {
     if !reads_extensions(options) {
         return Ok(Extensions::none());

@@ -4,7 +4,7 @@
 ghost use Rattle.std.specs.Prelude.{◌≡◌, ◌≢◌, ◌<◌, ℕ, length, List, [], ◌∷◌, Ok, Err};
 ghost use Rattle.vfs_files.specs.Calls.{Init, Destroy, Answer, Options};
 ghost use Rattle.vfs_files.specs.Runs.{Called};
-ghost use Rattle.vfs_messages.specs.Turn.{Turn, IsTurn};
+ghost use Rattle.vfs_messages.specs.Turn.{Turn, IsTurn, IsTurnWithMemory};
 ghost use Rattle.vfs_messages.specs.declared.limits.Limits.{Limits};
 ghost use Rattle.vfs_messages.specs.Ask.{ask};
 ghost use Rattle.vfs_messages.specs.Forms.{Listing, Lists};
@@ -34,6 +34,12 @@ pub fn two_errors_are_never_answered()
 pub fn memory_is_wanted_for_whole_tails()
     ensures { (limits : Limits) (options after : ℕ) (t : Turn) → IsTurn limits options t after →
         t.outcome ≡ Err Error.OutOfMemory → WantsMemory limits options (length t.room) t.request }
+{}
+
+/// Where memory was there for each copy that a request asks for, `OutOfMemory` isn't answered.
+pub fn memory_is_wanted_for_copies()
+    ensures { (limits : Limits) (options after : ℕ) (t : Turn) →
+        IsTurnWithMemory limits options t after → t.outcome ≢ Err Error.OutOfMemory }
 {}
 
 /// Where the answer is n above 0, the room begins with a header whose `len` is n, which fits it,

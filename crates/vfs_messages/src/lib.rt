@@ -25,7 +25,7 @@ pub use reply::{
     reply_written,
 };
 pub use request::{
-    FirstName, Name, NameAndText, TwoNames, further_flags, handle_if, is_set, known_valid,
+    FirstName, Name, NameAndText, Tail, TwoNames, further_flags, handle_if, is_set, known_valid,
     name_of_tail, number_if, read_extended, read_link, read_name, read_names, read_pairs,
     read_record, read_setxattr, read_tail, read_value, setxattr_size,
 };

@@ -1,16 +1,18 @@
 //! The parts of a request: records, tails, pairs of a node and a count.
 
-ghost use Rattle.std.specs.Prelude.{◌≡◌, ◌==◌, ◌≤◌, ◌+◌, ◌-◌, ◌*◌, length, drop, take, map, option_map, bit_and, position, OnOk, IfOk, IfErr, MatchResult, Ok, Err, Some};
+ghost use Rattle.std.specs.Prelude.{◌≡◌, ◌==◌, ◌≤◌, ◌+◌, ◌-◌, ◌*◌, length, drop, take, map, option_map, bit_and, position, ◌⊎◌, OnOk, IfOk, IfErr, IsErr, IsFalse, MatchResult, Ok, Err, Some};
 ghost use Rattle.vfs_flags.specs.Flags.{fs_options_bits, setattr_valid_bits, known_setattr_valid};
 ghost use Rattle.vfs_flags.specs.Flags.{setxattr_flags_bits, known_setxattr_flags, setxattr_ext};
 ghost use Rattle.vfs_files.specs.Names.{name_text, name_of};
 ghost use Rattle.vfs_wire.specs.Entries.{forget_one};
+ghost use Rattle.vfs_segments.specs.Lengths.{lengths_from, lie_together};
 ghost use Rattle.vfs_messages.specs.Ask.{has_flag, if_set, setxattr_layout};
+ghost use Rattle.vfs_messages.specs.Extensions.{GivesValue, MayHoldContext};
 ghost use Rattle.vfs_messages.specs.Forms.{tail_of, name_in, pairs_in, pairs_of};
 ghost use Rattle.vfs_messages.specs.Forms.{second_or_refusal, names_in, sized_or_refusal, value_in};
 ghost use Rattle.vfs_messages.specs.Forms.{extended_in, link_or_refusal, link_in_tail};
 ghost use Rattle.vfs_messages.specs.Forms.{layout_record, layout_size};
-ghost use Rattle.vfs_messages.specs.Parts.{GivesTail, GivesPart, GivesPartAs, GivesAs, GivesExtended, extended_values, link_values, GivesPairs};
+ghost use Rattle.vfs_messages.specs.Parts.{TailIsCut, GivesTail, GivesPart, GivesPartAs, GivesExtended, extended_values, link_values, GivesPairs};
 ghost use Rattle.vfs_messages.specs.Records.{record_of, size_of};
 
 use crate::error::{Error, Result};
@@ -28,6 +30,8 @@ use vfs_wire::{ByteValued, ForgetOne, InHeader, SetxattrIn, SetxattrInCompat};
 pub fn read_record<T: ByteValued>(reader: &mut Reader<'_>) -> Result<T>
     ensures value { record_of T.table reader.old.left ≡ result }
     ensures moved { OnOk result (reader.new.left ≡ drop (size_of T.table) reader.old.left) }
+    ensures pieces { OnOk result
+        (reader.new.pieces ≡ lengths_from (size_of T.table) reader.old.pieces) }
 {
     match reader.read_obj() {
         Ok(record) => Ok(record),
@@ -51,19 +55,70 @@ fn copy_bytes(alloc: Global, len: usize, reader: &mut Reader<'_>) -> Result<Vec<
     }
 }
 
+/// The tail of a request: lent from the segment in which it lies, or a copy of one that is cut.
+#[derive(Drop)]
+pub struct Tail<'a> {
+    /// No byte where the tail was copied.
+    lent: &'a [u8],
+    /// No byte, and no memory, where the tail is lent.
+    copied: Vec<u8>,
+}
+
+impl<'a> Model for Tail<'a> {
+    ghost use Rattle.std.specs.Prelude.{◌≡◌, ◌<◌, ◌++◌, ℕ, List, [], length};
+
+    ghost Value = { List ℕ };
+
+    ghost view = { λ t. t.lent.now ++ t.copied.items };
+
+    ghost invariant = { λ t. 0 < length t.lent.now → t.copied.items ≡ [] };
+}
+
+impl<'a> Tail<'a> {
+    /// Its bytes.
+    pub fn as_bytes(&self) -> &[u8]
+        ensures { result.now ≡ self.now }
+    {
+        if self.lent.is_empty() {
+            &self.copied
+        } else {
+            self.lent
+        }
+    }
+}
+
+/// The next `len` bytes, which the reader has: lent where they lie in one segment, else copied.
+fn take_tail<'a>(alloc: Global, len: usize, reader: &mut Reader<'a>) -> Result<Tail<'a>>
+    requires { len ≤ length reader.old.left }
+    ensures bytes { IfOk result (λ tail. tail ≡ take len reader.old.left) }
+    ensures err { IfErr result (λ e. e ≡ Error.OutOfMemory) }
+    ensures cut { IsErr result → IsFalse (lie_together 0 len reader.old.pieces) }
+{
+    if let Some(lent) = reader.take_slice(len) {
+        return Ok(Tail {
+            lent,
+            copied: Vec::new(alloc),
+        });
+    }
+    let copied = copy_bytes(alloc, len, reader)?;
+    Ok(Tail { lent: &[], copied })
+}
+
 /// The tail of a request behind its header and a record of `size` bytes, as long as `len` says.
-/// It is copied once its bytes were found to be there.
+/// It is lent where it lies in one segment, and else copied once its bytes were found to be there.
 ///
 /// `InvalidHeaderLength` where `len` is less than header and record, `DecodeMessage` where bytes
-/// are missing, `OutOfMemory` where there is no memory for a tail that is whole, in this order.
-pub fn read_tail(
+/// are missing, `OutOfMemory` where there is no memory for a tail that is whole and cut between two
+/// segments, in this order.
+pub fn read_tail<'a>(
     alloc: Global,
     header: &InHeader,
     size: usize,
-    reader: &mut Reader<'_>,
-) -> Result<Vec<u8>>
+    reader: &mut Reader<'a>,
+) -> Result<Tail<'a>>
     requires { size ≤ 152 }
-    ensures { GivesTail result (tail_of header.now size reader.old.left) }
+    ensures { GivesTail (TailIsCut header.now size reader.old.pieces) result
+        (tail_of header.now size reader.old.left) }
 {
     let len = header.len as usize;
     if len < InHeader::SIZE + size {
@@ -73,33 +128,33 @@ pub fn read_tail(
     if reader.available_bytes() < tail {
         return Err(Error::DecodeMessage);
     }
-    copy_bytes(alloc, tail, reader)
+    take_tail(alloc, tail, reader)
 }
 
 /// A tail that is a name.
 #[derive(Drop)]
-pub struct Name {
-    tail: Vec<u8>,
+pub struct Name<'a> {
+    tail: Tail<'a>,
 }
 
-impl Model for Name {
+impl<'a> Model for Name<'a> {
     ghost use Rattle.std.specs.Prelude.{◌≡◌, ℕ, List, Some};
     ghost use Rattle.vfs_files.specs.Names.{name_of};
     ghost use Rattle.vfs_messages.specs.Parts.{text_or_none};
 
     ghost Value = { List ℕ };
 
-    ghost view = { λ s. text_or_none (name_of s.tail.items) };
+    ghost view = { λ s. text_or_none (name_of s.tail) };
 
-    ghost invariant = { λ s. name_of s.tail.items ≡ Some (text_or_none (name_of s.tail.items)) };
+    ghost invariant = { λ s. name_of s.tail ≡ Some (text_or_none (name_of s.tail)) };
 }
 
-impl Name {
+impl<'a> Name<'a> {
     /// The name.
     pub fn as_c_str(&self) -> CStr<'_>
         ensures { name_text result ≡ self.now }
     {
-        match CStr::from_bytes_with_nul(&self.tail) {
+        match CStr::from_bytes_with_nul(self.tail.as_bytes()) {
             Some(name) => name,
             None => unreachable!(),
         }
@@ -107,12 +162,12 @@ impl Name {
 }
 
 /// The name that a tail is. `InvalidCString` where it is none.
-pub fn name_of_tail(tail: Vec<u8>) -> Result<Name>
+pub fn name_of_tail<'a>(tail: Tail<'a>) -> Result<Name<'a>>
     ensures { MatchResult result
-        (λ name. name_in tail.items ≡ Ok name)
-        (λ error. name_in tail.items ≡ Err error) }
+        (λ name. name_in tail.entry ≡ Ok name)
+        (λ error. name_in tail.entry ≡ Err error) }
 {
-    if CStr::from_bytes_with_nul(&tail).is_none() {
+    if CStr::from_bytes_with_nul(tail.as_bytes()).is_none() {
         return Err(Error::InvalidCString);
     }
     Ok(Name { tail })
@@ -120,14 +175,15 @@ pub fn name_of_tail(tail: Vec<u8>) -> Result<Name>
 
 /// The name that the tail is, of a request with a record of `size` bytes: the errors of
 /// [`read_tail`], then `InvalidCString` where the tail is no name.
-pub fn read_name(
+pub fn read_name<'a>(
     alloc: Global,
     header: &InHeader,
     size: usize,
-    reader: &mut Reader<'_>,
-) -> Result<Name>
+    reader: &mut Reader<'a>,
+) -> Result<Name<'a>>
     requires { size ≤ 152 }
-    ensures { GivesPart name_in result (tail_of header.now size reader.old.left) }
+    ensures { GivesPart (TailIsCut header.now size reader.old.pieces) name_in result
+        (tail_of header.now size reader.old.left) }
 {
     let tail = read_tail(alloc, header, size, reader)?;
     name_of_tail(tail)
@@ -143,27 +199,27 @@ fn first_nul(bytes: &[u8]) -> Option<usize>
 
 /// A tail that begins with a name and the 0 behind it.
 #[derive(Drop)]
-pub struct FirstName {
-    tail: Vec<u8>,
+pub struct FirstName<'a> {
+    tail: Tail<'a>,
     nul: usize,
 }
 
-impl Model for FirstName {
+impl<'a> Model for FirstName<'a> {
     ghost use Rattle.std.specs.Prelude.{◌≡◌, ◌==◌, ◌+◌, ℕ, List, Some, position, take, drop};
 
     ghost Value = { List ℕ × List ℕ };
 
-    ghost view = { λ s. (take s.nul s.tail.items, drop (s.nul + 1) s.tail.items) };
+    ghost view = { λ s. (take s.nul s.tail, drop (s.nul + 1) s.tail) };
 
-    ghost invariant = { λ s. position (λ b. b == 0) s.tail.items ≡ Some s.nul };
+    ghost invariant = { λ s. position (λ b. b == 0) s.tail ≡ Some s.nul };
 }
 
-impl FirstName {
+impl<'a> FirstName<'a> {
     /// The name.
     pub fn as_c_str(&self) -> CStr<'_>
         ensures { name_text result ≡ self.now.0 }
     {
-        match CStr::from_bytes_until_nul(&self.tail) {
+        match CStr::from_bytes_until_nul(self.tail.as_bytes()) {
             Some(name) => name,
             None => unreachable!(),
         }
@@ -174,17 +230,17 @@ impl FirstName {
     pub fn rest(&self) -> &[u8]
         ensures { result.now ≡ self.now.1 }
     {
-        &self.tail[self.nul + 1..]
+        &self.tail.as_bytes()[self.nul + 1..]
     }
 }
 
 /// A tail that is two names, the first with the 0 behind it.
 #[derive(Drop)]
-pub struct TwoNames {
-    first: FirstName,
+pub struct TwoNames<'a> {
+    first: FirstName<'a>,
 }
 
-impl Model for TwoNames {
+impl<'a> Model for TwoNames<'a> {
     ghost use Rattle.std.specs.Prelude.{◌≡◌, ℕ, List, Some};
     ghost use Rattle.vfs_files.specs.Names.{name_of};
     ghost use Rattle.vfs_messages.specs.Parts.{text_or_none};
@@ -196,7 +252,7 @@ impl Model for TwoNames {
     ghost invariant = { λ s. name_of s.first.1 ≡ Some (text_or_none (name_of s.first.1)) };
 }
 
-impl TwoNames {
+impl<'a> TwoNames<'a> {
     /// The first name.
     pub fn first(&self) -> CStr<'_>
         ensures { name_text result ≡ self.now.0 }
@@ -216,10 +272,10 @@ impl TwoNames {
 }
 
 /// The two names that begin so.
-fn second_of(first: FirstName) -> Result<TwoNames>
+fn second_of<'a>(first: FirstName<'a>) -> Result<TwoNames<'a>>
     ensures { MatchResult result
-        (λ names. second_or_refusal first.0 (name_of first.1) ≡ Ok names)
-        (λ error. second_or_refusal first.0 (name_of first.1) ≡ Err error) }
+        (λ names. second_or_refusal first.entry.0 (name_of first.entry.1) ≡ Ok names)
+        (λ error. second_or_refusal first.entry.0 (name_of first.entry.1) ≡ Err error) }
 {
     if CStr::from_bytes_with_nul(first.rest()).is_none() {
         return Err(Error::InvalidCString);
@@ -228,12 +284,12 @@ fn second_of(first: FirstName) -> Result<TwoNames>
 }
 
 /// The two names that a tail is.
-fn names_of_tail(tail: Vec<u8>) -> Result<TwoNames>
+fn names_of_tail<'a>(tail: Tail<'a>) -> Result<TwoNames<'a>>
     ensures { MatchResult result
-        (λ names. names_in tail.items ≡ Ok names)
-        (λ error. names_in tail.items ≡ Err error) }
+        (λ names. names_in tail.entry ≡ Ok names)
+        (λ error. names_in tail.entry ≡ Err error) }
 {
-    let Some(nul) = first_nul(&tail) else {
+    let Some(nul) = first_nul(tail.as_bytes()) else {
         return Err(Error::MissingParameter);
     };
     second_of(FirstName { tail, nul })
@@ -242,24 +298,25 @@ fn names_of_tail(tail: Vec<u8>) -> Result<TwoNames>
 /// The two names that the tail is, of a request with a record of `size` bytes: the errors of
 /// [`read_tail`], then `MissingParameter` where no 0 ends the first, and `InvalidCString` where the
 /// rest is no name.
-pub fn read_names(
+pub fn read_names<'a>(
     alloc: Global,
     header: &InHeader,
     size: usize,
-    reader: &mut Reader<'_>,
-) -> Result<TwoNames>
+    reader: &mut Reader<'a>,
+) -> Result<TwoNames<'a>>
     requires { size ≤ 152 }
-    ensures { GivesPart names_in result (tail_of header.now size reader.old.left) }
+    ensures { GivesPart (TailIsCut header.now size reader.old.pieces) names_in result
+        (tail_of header.now size reader.old.left) }
 {
     let tail = read_tail(alloc, header, size, reader)?;
     names_of_tail(tail)
 }
 
 /// A name and a value, where the value has this size.
-fn sized(size: u32, part: FirstName) -> Result<FirstName>
+fn sized<'a>(size: u32, part: FirstName<'a>) -> Result<FirstName<'a>>
     ensures { MatchResult result
-        (λ same. sized_or_refusal size (Some part) ≡ Ok same)
-        (λ error. sized_or_refusal size (Some part) ≡ Err error) }
+        (λ same. sized_or_refusal size (Some part.entry) ≡ Ok same)
+        (λ error. sized_or_refusal size (Some part.entry) ≡ Err error) }
 {
     let len = part.rest().len();
     if len != size as usize {
@@ -269,12 +326,12 @@ fn sized(size: u32, part: FirstName) -> Result<FirstName>
 }
 
 /// The name and the value that a tail is.
-fn value_of_tail(size: u32, tail: Vec<u8>) -> Result<FirstName>
+fn value_of_tail<'a>(size: u32, tail: Tail<'a>) -> Result<FirstName<'a>>
     ensures { MatchResult result
-        (λ part. value_in size tail.items ≡ Ok part)
-        (λ error. value_in size tail.items ≡ Err error) }
+        (λ part. value_in size tail.entry ≡ Ok part)
+        (λ error. value_in size tail.entry ≡ Err error) }
 {
-    let Some(nul) = first_nul(&tail) else {
+    let Some(nul) = first_nul(tail.as_bytes()) else {
         return Err(Error::MissingParameter);
     };
     sized(size, FirstName { tail, nul })
@@ -283,15 +340,16 @@ fn value_of_tail(size: u32, tail: Vec<u8>) -> Result<FirstName>
 /// The name and the value that the tail is, of a request with a record of `size` bytes, which says
 /// that the value has `value` bytes: the errors of [`read_tail`], then `MissingParameter` where no 0
 /// ends the name, and `InvalidXattrSize` where the value has another length.
-pub fn read_value(
+pub fn read_value<'a>(
     alloc: Global,
     header: &InHeader,
     size: usize,
     value: u32,
-    reader: &mut Reader<'_>,
-) -> Result<FirstName>
+    reader: &mut Reader<'a>,
+) -> Result<FirstName<'a>>
     requires { size ≤ 152 }
-    ensures { GivesPart (value_in value) result (tail_of header.now size reader.old.left) }
+    ensures { GivesPart (TailIsCut header.now size reader.old.pieces) (value_in value) result
+        (tail_of header.now size reader.old.left) }
 {
     let tail = read_tail(alloc, header, size, reader)?;
     value_of_tail(value, tail)
@@ -317,30 +375,32 @@ fn extended(alloc: Global, options: FsOptions, bytes: &[u8]) -> Result<(usize, E
 }
 
 /// The name and the extensions that a tail is.
-fn extended_of_tail(
+fn extended_of_tail<'a>(
     alloc: Global,
     options: FsOptions,
-    tail: Vec<u8>,
-) -> Result<(FirstName, Extensions)>
-    ensures { GivesAs extended_values result
-        (extended_in (fs_options_bits options) tail.items) }
+    tail: Tail<'a>,
+) -> Result<(FirstName<'a>, Extensions)>
+    ensures { GivesValue (MayHoldContext (fs_options_bits options)) extended_values result
+        (extended_in (fs_options_bits options) tail.entry) }
 {
-    let (nul, extensions) = extended(alloc, options, &tail)?;
+    let (nul, extensions) = extended(alloc, options, tail.as_bytes())?;
     Ok((FirstName { tail, nul }, extensions))
 }
 
 /// The name and the extensions that the tail is, of a request with a record of `size` bytes: the
 /// errors of [`read_tail`], then `MissingParameter` where it has no byte, the errors of
 /// [`get_extensions`], and `InvalidCString` where no 0 ends the name.
-pub fn read_extended(
+pub fn read_extended<'a>(
     alloc: Global,
     options: FsOptions,
     header: &InHeader,
     size: usize,
-    reader: &mut Reader<'_>,
-) -> Result<(FirstName, Extensions)>
+    reader: &mut Reader<'a>,
+) -> Result<(FirstName<'a>, Extensions)>
     requires { size ≤ 152 }
-    ensures { GivesPartAs extended_values (extended_in (fs_options_bits options)) result
+    ensures { GivesPartAs
+        (TailIsCut header.now size reader.old.pieces ⊎ MayHoldContext (fs_options_bits options))
+        extended_values (extended_in (fs_options_bits options)) result
         (tail_of header.now size reader.old.left) }
 {
     let tail = read_tail(alloc, header, size, reader)?;
@@ -349,12 +409,12 @@ pub fn read_extended(
 
 /// A tail that begins with a name and a text, each with the 0 behind it.
 #[derive(Drop)]
-pub struct NameAndText {
-    first: FirstName,
+pub struct NameAndText<'a> {
+    first: FirstName<'a>,
     nul: usize,
 }
 
-impl Model for NameAndText {
+impl<'a> Model for NameAndText<'a> {
     ghost use Rattle.std.specs.Prelude.{◌≡◌, ◌==◌, ℕ, List, Some, position, take};
 
     ghost Value = { List ℕ × List ℕ };
@@ -364,7 +424,7 @@ impl Model for NameAndText {
     ghost invariant = { λ s. position (λ b. b == 0) s.first.1 ≡ Some s.nul };
 }
 
-impl NameAndText {
+impl<'a> NameAndText<'a> {
     /// The name.
     pub fn name(&self) -> CStr<'_>
         ensures { name_text result ≡ self.now.0 }
@@ -384,24 +444,24 @@ impl NameAndText {
 }
 
 /// The name, the text and the extensions that begin so.
-fn link_of(alloc: Global, options: FsOptions, first: FirstName) -> Result<(NameAndText, Extensions)>
-    ensures { GivesAs link_values result
-        (link_or_refusal (fs_options_bits options) (Some first)) }
+fn link_of<'a>(alloc: Global, options: FsOptions, first: FirstName<'a>) -> Result<(NameAndText<'a>, Extensions)>
+    ensures { GivesValue (MayHoldContext (fs_options_bits options)) link_values result
+        (link_or_refusal (fs_options_bits options) (Some first.entry)) }
 {
     let (nul, extensions) = extended(alloc, options, first.rest())?;
     Ok((NameAndText { first, nul }, extensions))
 }
 
 /// The name, the text and the extensions that a tail is.
-fn link_of_tail(
+fn link_of_tail<'a>(
     alloc: Global,
     options: FsOptions,
-    tail: Vec<u8>,
-) -> Result<(NameAndText, Extensions)>
-    ensures { GivesAs link_values result
-        (link_in_tail (fs_options_bits options) tail.items) }
+    tail: Tail<'a>,
+) -> Result<(NameAndText<'a>, Extensions)>
+    ensures { GivesValue (MayHoldContext (fs_options_bits options)) link_values result
+        (link_in_tail (fs_options_bits options) tail.entry) }
 {
-    let Some(nul) = first_nul(&tail) else {
+    let Some(nul) = first_nul(tail.as_bytes()) else {
         return Err(Error::MissingParameter);
     };
     link_of(alloc, options, FirstName { tail, nul })
@@ -410,13 +470,15 @@ fn link_of_tail(
 /// The name of a link, its text and the extensions that the tail is, of a request without a record:
 /// the errors of [`read_tail`], then `MissingParameter` where no 0 ends the name or no byte follows
 /// it, the errors of [`get_extensions`], and `InvalidCString` where no 0 ends the text.
-pub fn read_link(
+pub fn read_link<'a>(
     alloc: Global,
     options: FsOptions,
     header: &InHeader,
-    reader: &mut Reader<'_>,
-) -> Result<(NameAndText, Extensions)>
-    ensures { GivesPartAs link_values (link_in_tail (fs_options_bits options)) result
+    reader: &mut Reader<'a>,
+) -> Result<(NameAndText<'a>, Extensions)>
+    ensures { GivesPartAs
+        (TailIsCut header.now 0 reader.old.pieces ⊎ MayHoldContext (fs_options_bits options))
+        link_values (link_in_tail (fs_options_bits options)) result
         (tail_of header.now 0 reader.old.left) }
 {
     let tail = read_tail(alloc, header, 0, reader)?;
@@ -436,6 +498,8 @@ pub fn read_setxattr(options: FsOptions, reader: &mut Reader<'_>) -> Result<Setx
         ≡ result }
     ensures moved { OnOk result (reader.new.left ≡
         drop (layout_size (setxattr_layout (fs_options_bits options))) reader.old.left) }
+    ensures pieces { OnOk result (reader.new.pieces ≡
+        lengths_from (layout_size (setxattr_layout (fs_options_bits options))) reader.old.pieces) }
 {
     if has_short_setxattr(options) {
         let short = read_record::<SetxattrInCompat>(reader)?;

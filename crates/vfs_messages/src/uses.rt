@@ -18,7 +18,7 @@ use crate::error::Result;
 use crate::extensions::get_extensions;
 use crate::laws::replies_begin_with_their_header;
 use crate::reply::{reply_error, reply_failed, reply_ok};
-use crate::request::{read_record, read_tail};
+use crate::request::{Tail, read_record, read_tail};
 use std::alloc::Global;
 use vfs_files::Extensions;
 use vfs_flags::{Errno, FsOptions};
@@ -59,7 +59,11 @@ pub fn say_not_served_in_front(w: &mut Writer) -> Result<usize>
 
 /// Reads the tail of a request whose `len` is less than its header: it is refused before a byte is
 /// looked for, and before memory is asked for.
-pub fn tail_of_a_short_len(alloc: Global, header: &InHeader, r: &mut Reader<'_>) -> Result<Vec<u8>>
+pub fn tail_of_a_short_len<'a>(
+    alloc: Global,
+    header: &InHeader,
+    r: &mut Reader<'a>,
+) -> Result<Tail<'a>>
     requires { header.now.len < 40 }
     ensures { result ≡ Err Error.InvalidHeaderLength }
 {

@@ -11,5 +11,5 @@ unfolding extensions_in cut_of number
 returns c =
     let said : ExtensionValues = record { context = None; group = Some 1000 } in
     MatchResult-weaker c.get_extensions.result
-    (GivesValue-at_ok _ extension_values_of c.get_extensions.result (Ok said) said c.get_extensions.ensures refl)
+    (GivesValue-at_ok _ extension_values_of c.get_extensions.result (Ok said) said c.get_extensions.ensures.gives refl)
     (λ ext same. same) (λ error (wanted, same). absurd (cc))
