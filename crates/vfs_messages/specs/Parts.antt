@@ -4,14 +4,19 @@ use Rattle.std.specs.declared.vec.Vec.{Vec}
 use Rattle.std.specs.declared.alloc.Global.{Global}
 use Rattle.vfs_files.specs.Extensions.{ExtensionValues, extension_values_of}
 use Rattle.vfs_files.specs.declared.extensions.Extensions.{Extensions}
-use Rattle.vfs_segments.specs.Lengths.{lie_together}
+use Rattle.vfs_segments.specs.Lengths.{lengths_from, lie_together}
 use Rattle.vfs_wire.specs.Headers.{in_header}
 use Rattle.vfs_wire.specs.declared.headers.InHeader.{InHeader}
 use Rattle.vfs_messages.specs.Extensions.{MayHoldContext}
-use Rattle.vfs_messages.specs.Forms.{extended_in}
+use Rattle.vfs_messages.specs.Forms.{Layout, Without, Record, extended_in}
 use Rattle.vfs_messages.specs.Records.{size_of}
 use Rattle.vfs_messages.specs.declared.error.Error.{Error}
 use Rattle.vfs_messages.specs.declared.error.Error.TheVariants.{OutOfMemory}
+
+-- the lengths of the pieces in which the bytes behind a record lie, of those from the record on
+abbrev pub pieces_behind : {R : Type 0} → Layout R → (pieces : List ℕ) → List ℕ
+pieces_behind (Without r) pieces = pieces
+pieces_behind (Record t) pieces = lengths_from (size_of t) pieces
 
 -- a tail behind a record of `size` bytes is cut between two segments, where the bytes from it on lie
 -- in pieces of these lengths

@@ -12,7 +12,7 @@ ghost use Rattle.vfs_messages.specs.Forms.{tail_of, name_in, pairs_in, pairs_of}
 ghost use Rattle.vfs_messages.specs.Forms.{second_or_refusal, names_in, sized_or_refusal, value_in};
 ghost use Rattle.vfs_messages.specs.Forms.{extended_in, link_or_refusal, link_in_tail};
 ghost use Rattle.vfs_messages.specs.Forms.{layout_record, layout_size};
-ghost use Rattle.vfs_messages.specs.Parts.{TailIsCut, GivesTail, GivesPart, GivesPartAs, GivesExtended, extended_values, link_values, GivesPairs};
+ghost use Rattle.vfs_messages.specs.Parts.{TailIsCut, pieces_behind, GivesTail, GivesPart, GivesPartAs, GivesExtended, extended_values, link_values, GivesPairs};
 ghost use Rattle.vfs_messages.specs.Records.{record_of, size_of};
 
 use crate::error::{Error, Result};
@@ -444,7 +444,11 @@ impl<'a> NameAndText<'a> {
 }
 
 /// The name, the text and the extensions that begin so.
-fn link_of<'a>(alloc: Global, options: FsOptions, first: FirstName<'a>) -> Result<(NameAndText<'a>, Extensions)>
+fn link_of<'a>(
+    alloc: Global,
+    options: FsOptions,
+    first: FirstName<'a>,
+) -> Result<(NameAndText<'a>, Extensions)>
     ensures { GivesValue (MayHoldContext (fs_options_bits options)) link_values result
         (link_or_refusal (fs_options_bits options) (Some first.entry)) }
 {
@@ -499,7 +503,7 @@ pub fn read_setxattr(options: FsOptions, reader: &mut Reader<'_>) -> Result<Setx
     ensures moved { OnOk result (reader.new.left ≡
         drop (layout_size (setxattr_layout (fs_options_bits options))) reader.old.left) }
     ensures pieces { OnOk result (reader.new.pieces ≡
-        lengths_from (layout_size (setxattr_layout (fs_options_bits options))) reader.old.pieces) }
+        pieces_behind (setxattr_layout (fs_options_bits options)) reader.old.pieces) }
 {
     if has_short_setxattr(options) {
         let short = read_record::<SetxattrInCompat>(reader)?;

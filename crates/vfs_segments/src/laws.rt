@@ -2,8 +2,9 @@
 //! contracts see. The functions do nothing; their contracts are the laws. Beside them the search by
 //! which both find their place, whose contract counts its looks.
 
-ghost use Rattle.std.specs.Prelude.{◌≡◌, ◌+◌, ◌-◌, ◌^◌, ◌<◌, ◌≤◌, ◌++◌, ℕ, List, length, slice_index, sum};
+ghost use Rattle.std.specs.Prelude.{◌≡◌, ◌+◌, ◌-◌, ◌^◌, ◌<◌, ◌≤◌, ◌++◌, ◌∷◌, ℕ, List, true, false, length, slice_index, sum};
 ghost use Rattle.vfs_segments.specs.Answers.{AnswerAlike, AnswerAll};
+ghost use Rattle.vfs_segments.specs.Lengths.{lengths_before, lengths_from, lie_together};
 ghost use Rattle.vfs_segments.specs.Totals.{NeverFalls};
 ghost use Rattle.vfs_segments.specs.Unread.{Unread, first_of, rest_of};
 ghost use Rattle.vfs_segments.specs.Written.{Written, first_room, rest_room, whole};
@@ -37,6 +38,27 @@ pub fn writer_split()
 pub fn equal_bytes_answer_alike()
     ensures alike { AnswerAlike }
     ensures answered { AnswerAll }
+{}
+
+/// Of the segments of a new reader, bytes that lie in one of them lie together: here in one of
+/// `size` bytes, behind others.
+pub fn together_in_a_segment()
+    ensures { (before after : List ℕ) (size at n : ℕ) → at + n ≤ size →
+        lie_together (sum before + at) n (before ++ size ∷ after) ≡ true }
+{}
+
+/// Bytes that begin before a cut between two segments and end behind it don't lie together.
+pub fn together_over_a_cut()
+    ensures { (before after : List ℕ) (at n : ℕ) → at < sum before → sum before < at + n →
+        lie_together at n (before ++ after) ≡ false }
+{}
+
+/// When bytes were taken, or are cut off, those that are left lie together as they did.
+pub fn together_behind_a_place()
+    ensures from { (lengths : List ℕ) (k at n : ℕ) →
+        lie_together at n (lengths_from k lengths) ≡ lie_together (k + at) n lengths }
+    ensures before { (lengths : List ℕ) (k at n : ℕ) → at + n ≤ k →
+        lie_together at n (lengths_before k lengths) ≡ lie_together at n lengths }
 {}
 
 /// Running totals of lengths that are looked at one by one.

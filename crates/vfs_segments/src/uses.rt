@@ -1,7 +1,7 @@
 //! Examples of readers and writers. Each function makes a few calls and says what comes of them,
 //! proved by the calls' public contracts alone.
 
-ghost use Rattle.std.specs.Prelude.{◌≡◌, ◌+◌, ◌^◌, ◌<◌, ◌≤◌, ◌++◌, [], ◌∷◌, length, take, drop, IfOk, IfErr, OnOk, OnErr};
+ghost use Rattle.std.specs.Prelude.{◌≡◌, ◌+◌, ◌^◌, ◌<◌, ◌≤◌, ◌++◌, [], ◌∷◌, None, true, false, length, take, drop, IfOk, IfErr, MatchOption, OnOk, OnErr};
 ghost use Rattle.vfs_segments.specs.Answers.{AreAnswers, Available, Taken, Read, Count, Moved};
 ghost use Rattle.vfs_segments.specs.Segments.{contents, flat_bytes, lengths_of};
 ghost use Rattle.vfs_wire.specs.Fields.{bytes_of, lone_number, value_of};
@@ -138,6 +138,50 @@ pub fn read_by_a_clone(reader: &Reader<'_>, buf: &mut [u8]) -> Result<usize>
     let mut clone = reader.clone()?;
     clone.read_exact(buf).unwrap();
     Ok(reader.available_bytes())
+}
+
+/// Which bytes of segments of three and four bytes lie together: those of each segment, and none over
+/// the cut or past the end.
+pub fn together_in_two_segments(
+    alloc: Global,
+    first: &[u8],
+    second: &[u8],
+) -> Result<(bool, bool, bool, bool)>
+    requires three { length first.now ≡ 3 }
+    requires four { length second.now ≡ 4 }
+    ensures { IfOk result (λ answers. answers ≡ (true, false, true, false)) }
+{
+    let segments = [first, second];
+    let reader = Reader::new(alloc, &segments)?;
+    Ok((
+        reader.together(0, 3),
+        reader.together(2, 2),
+        reader.together(3, 4),
+        reader.together(5, 3),
+    ))
+}
+
+/// Four bytes that a cut stands in are not lent, and the reader is as it was.
+pub fn slice_over_a_cut<'a>(reader: &mut Reader<'a>) -> Option<&'a [u8]>
+    requires left { length reader.old.left ≡ 7 }
+    requires pieces { reader.old.pieces ≡ 3 ∷ 4 ∷ [] }
+    ensures none { result ≡ None }
+    ensures same { reader.new ≡ reader.old }
+{
+    reader.take_slice(4)
+}
+
+/// The bytes of two segments are lent one after the other, where they are taken as they are cut.
+pub fn slices_of_two_segments<'a>(reader: &mut Reader<'a>) -> (Option<&'a [u8]>, Option<&'a [u8]>)
+    requires left { length reader.old.left ≡ 7 }
+    requires pieces { reader.old.pieces ≡ 3 ∷ 4 ∷ [] }
+    ensures first { MatchOption result.0 ⊥ (λ bytes. bytes.now ≡ take 3 reader.old.left) }
+    ensures second { MatchOption result.1 ⊥ (λ bytes. bytes.now ≡ drop 3 reader.old.left) }
+    ensures none_left { reader.new.left ≡ [] }
+{
+    let first = reader.take_slice(3);
+    let second = reader.take_slice(4);
+    (first, second)
 }
 
 /// Three calls of a reader, and what it answers, in the words of the law that readers of equal flat

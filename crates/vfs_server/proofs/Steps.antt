@@ -1,21 +1,23 @@
 -- From what a handler says of one request to the step that it is.
-use Rattle.std.proofs.Common.{◌≡◌, ◌∙◌, ℕ, List, [], ◌∷◌, Option, None, Result, Ok, Err, length, drop, refl, ap, inl, inr, ◌++◌, append-nil}
+use Rattle.std.proofs.Common.{◌≡◌, ◌≢◌, ◌∙◌, ℕ, Bool, true, false, nat_lt, if◌then◌else◌, subst, List, [], ◌∷◌, Option, None, Result, Ok, Err, length, drop, refl, ap, inl, inr, ◌++◌, append-nil}
+use Rattle.vfs_flags.specs.Opcode.{opcode_of}
 use Rattle.vfs_wire.specs.Headers.{in_header}
 use Rattle.vfs_wire.specs.declared.headers.InHeader.{InHeader}
 use Rattle.vfs_segments.specs.Written.{Written, held_over}
 use Rattle.vfs_files.specs.Items.{Item}
 use Rattle.vfs_files.specs.Calls.{Call, Handed, Data, kind_of, read_answer}
-use Rattle.vfs_files.specs.Runs.{Happening, Calls, IsRun}
+use Rattle.vfs_files.specs.Runs.{Happening, Calls, IsRun, events_of}
 use Rattle.vfs_messages.specs.Records.{record_of, size_of}
 use Rattle.vfs_messages.specs.Forms.{Listing, Ask, Ends, Asks, Lists, Copies, refused, refused_or}
 use Rattle.vfs_messages.specs.Ask.{ask, ask_header}
-use Rattle.vfs_messages.specs.Laws.{StopsForACause, ComesWhole, TakesFew}
+use Rattle.vfs_messages.specs.Laws.{StopsForACause, ComesWhole, TakesFew, header_of}
 use Rattle.vfs_messages.specs.Reply.{Echo, Reply, Refusal, NoReply, Bytes, OpenBehind, Never, reply_of}
 use Rattle.vfs_messages.specs.Room.{IsReplied, Leaves, Replies}
-use Rattle.vfs_messages.specs.Turn.{Turn, Follows, IsTurn, turn_tells}
+use Rattle.vfs_messages.specs.Turn.{Turn, Witness, Follows, IsTurn, IsTurnWithMemory, turn_tells}
 use Rattle.vfs_messages.specs.declared.limits.Limits.{Limits}
 use Rattle.vfs_messages.specs.declared.error.Error.{Error}
-use Rattle.vfs_messages.specs.declared.error.Error.TheVariants.{OutOfMemory}
+use Rattle.vfs_messages.specs.declared.error.Error.TheVariants.{DecodeMessage, OutOfMemory}
+use Rattle.vfs_server.specs.Memory.{MayWantBehind}
 use Rattle.vfs_server.specs.Step.{ServerState, Handles, IsStep, ReadsDirectories, server_tells, turn_over}
 
 -- what came back through a writer, as a reader of the room's bytes sees it
@@ -35,51 +37,102 @@ came (Bytes reply) old new outcome h = record { room_after = h.room_after; leave
 came (OpenBehind reply) old new outcome h = record { room_after = h.room_after; leaves = h.leaves; says = h.says; no_hold = h.no_hold }
 came Never old new outcome h = absurd h
 
+-- the header that a request begins with, where it is whole
+header_is : (short : Bool) (v h : InHeader) → (if short then Err DecodeMessage else Ok v) ≡ Ok h → h ≡ v
+header_is true v h e = absurd (let a = e in cc)
+header_is false v h e = cc
+
+-- where it isn't, that is the error
+pub short_error : (short : Bool) (v : InHeader) (e : Error) → (if short then Err DecodeMessage else Ok v) ≡ Err e → e ≢ OutOfMemory
+short_error true v e f o = absurd (let a = f in cc)
+short_error false v e f o = absurd (let a = f in cc)
+
+-- what a turn tells, of which no memory says that
+turn_says : (no_memory : Type 0) → Turn → Witness
+turn_says no_memory t = record (turn_tells t) { no_memory = no_memory }
+
+-- what follows of it, where no memory says less
+follows_less : (limits : Limits) (options after : ℕ) (t : Turn) (P Q : Type 0) → (P → Q) → (a : Ask)
+    → Follows (turn_says P t) limits options a after → Follows (turn_says Q t) limits options a after
+unfolding turn_says
+follows_less limits options after t P Q less (Ends reply) f = f
+follows_less limits options after t P Q less (Asks echo call) f = f
+follows_less limits options after t P Q less (Lists echo l) f = f
+follows_less limits options after t P Q less (Copies rest) (inl f) = inl (follows_less limits options after t P Q less rest f)
+follows_less limits options after t P Q less (Copies rest) (inr f) = inr (less f.0, f.1, f.2)
+
 module _ {S I : Type 0} (allows : S → Call → Handed I → S → Type 0) (gives : I → Option Item → I → Type 0) (old : ServerState S) (request : List ℕ) (writer : Written) (outcome : Result ℕ Error) (writer_after : Written) (new : ServerState S) where
   -- what was handled without a list of events is a run with the events that the table gives
-  record Followed (a : Ask) : Type 0 where
+  record Followed (wanted : Type 0) (a : Ask) : Type 0 where
     run : List (Happening I × S)
     room_after : List ℕ
     is_run : IsRun allows gives None old.fs run new.fs
     leaves : Leaves writer room_after writer_after
-    follows : Follows (turn_tells (turn_over request writer run outcome room_after)) old.limits old.options a new.options
+    follows : Follows (turn_says ((events_of run ≡ []) × wanted) (turn_over request writer run outcome room_after)) old.limits old.options a new.options
     no_hold : writer.held ≡ 0 → writer_after.held ≡ 0
 
-  follow : (a : Ask) → Follows (server_tells allows gives old writer outcome writer_after new) old.limits old.options a new.options → Followed a
-  follow (Ends reply) h =
+  follow : (wanted : Type 0) (a : Ask) → Follows (server_tells allows gives wanted old writer outcome writer_after new) old.limits old.options a new.options → Followed wanted a
+  unfolding turn_says
+  follow wanted (Ends reply) h =
       let c = came reply writer writer_after outcome h.1 in
       record { run = []; room_after = c.room_after; is_run = h.0; leaves = c.leaves; follows = (refl, c.says, h.2); no_hold = c.no_hold }
-  follow (Asks echo call) h =
+  follow wanted (Asks echo call) h =
       let c = came (reply_of old.limits echo new.options (kind_of call) h.0) writer writer_after outcome h.3 in
       record { run = (Calls call h.0, new.fs) ∷ []; room_after = c.room_after; is_run = (h.1, refl); leaves = c.leaves; follows = (h.0, refl, h.2, c.says, h.4); no_hold = c.no_hold }
-  follow (Lists echo l) h =
+  follow wanted (Lists echo l) h =
       let c = came (reply_of old.limits echo new.options Data (read_answer h.1 h.0)) writer writer_after outcome h.4 in
       record { run = h.2.run; room_after = c.room_after; is_run = h.2.is_run; leaves = c.leaves; follows = (h.0, h.1, h.2.is_read, h.3, c.says, h.5); no_hold = c.no_hold }
-  follow (Copies rest) (inl h) =
-      let f = follow rest h in
+  follow wanted (Copies rest) (inl h) =
+      let f = follow wanted rest h in
       record { run = f.run; room_after = f.room_after; is_run = f.is_run; leaves = f.leaves; follows = inl f.follows; no_hold = f.no_hold }
-  follow (Copies rest) (inr h) =
+  follow wanted (Copies rest) (inr h) =
       let c = came (Refusal OutOfMemory) writer writer_after outcome h.1 in
-      record { run = []; room_after = c.room_after; is_run = h.0; leaves = c.leaves; follows = inr (refl, c.says, h.2); no_hold = c.no_hold }
+      record { run = []; room_after = c.room_after; is_run = h.0.0; leaves = c.leaves; follows = inr ((refl, h.0.1), c.says, h.2); no_hold = c.no_hold }
 
-  step_of : (a : Ask) → ask old.limits old.options (length writer.left) request ≡ a → Handles allows gives a old writer outcome writer_after new → IsStep allows gives old request writer outcome writer_after new
-  step_of a e h =
-      let f = follow a h.0 in
-      record { run = f.run; room_after = f.room_after; is_run = f.is_run; leaves = f.leaves; turn = rw e f.follows; same_limits = h.1 }
+  step_of : (wanted : Type 0) (a : Ask) → ask old.limits old.options (length writer.left) request ≡ a → Handles allows gives wanted a old writer outcome writer_after new → IsStep allows gives old request writer outcome writer_after new
+  unfolding turn_says
+  step_of wanted a e h =
+      let f = follow wanted a h.0 in
+      let t = turn_over request writer f.run outcome f.room_after in
+      let g = follows_less old.limits old.options new.options t ((events_of f.run ≡ []) × wanted) (events_of f.run ≡ []) (λ p. p.0) a f.follows in
+      record { run = f.run; room_after = f.room_after; is_run = f.is_run; leaves = f.leaves; turn = rw e g; same_limits = h.1 }
+
+  -- where no memory may be wanted, the request isn't refused for want of it
+  enough_of : (wanted : Type 0) (a : Ask) → ask old.limits old.options (length writer.left) request ≡ a → Handles allows gives wanted a old writer outcome writer_after new
+      → ((limits : Limits) (options after : ℕ) (t : Turn) → IsTurnWithMemory limits options t after → t.outcome ≢ Err OutOfMemory) → ¬ wanted → outcome ≢ Err OutOfMemory
+  unfolding turn_says
+  enough_of wanted a e h enough none =
+      let f = follow wanted a h.0 in
+      let t = turn_over request writer f.run outcome f.room_after in
+      let g = follows_less old.limits old.options new.options t ((events_of f.run ≡ []) × wanted) ⊥ (λ p. none p.1) a f.follows in
+      enough old.limits old.options new.options t (rw e g)
 
   -- a request without a whole header
   pub step_short : (error : Error) → record_of in_header request ≡ Err error → outcome ≡ Err error → writer_after ≡ writer → new ≡ old → IsStep allows gives old request writer outcome writer_after new
   step_short error e o a n =
-      step_of (refused error) (ap (λ part. refused_or part (λ h. ask_header old.limits old.options (length writer.left) h (drop (size_of in_header) request))) e)
+      step_of ⊥ (refused error) (ap (λ part. refused_or part (λ h. ask_header old.limits old.options (length writer.left) h (drop (size_of in_header) request))) e)
       ((ap (λ (s : ServerState S). s.fs) n, (o, a), ap (λ (s : ServerState S). s.options) n), ap (λ (s : ServerState S). s.limits) n)
 
   -- a request with a header
-  pub step_of_header : (h : InHeader) → record_of in_header request ≡ Ok h
-      → Handles allows gives (ask_header old.limits old.options (length writer.left) h (drop (size_of in_header) request)) old writer outcome writer_after new
+  pub step_of_header : (wanted : Type 0) (h : InHeader) → record_of in_header request ≡ Ok h
+      → Handles allows gives wanted (ask_header old.limits old.options (length writer.left) h (drop (size_of in_header) request)) old writer outcome writer_after new
       → IsStep allows gives old request writer outcome writer_after new
-  step_of_header h e d =
-      step_of (ask_header old.limits old.options (length writer.left) h (drop (size_of in_header) request))
+  step_of_header wanted h e d =
+      step_of wanted (ask_header old.limits old.options (length writer.left) h (drop (size_of in_header) request))
       (ap (λ part. refused_or part (λ k. ask_header old.limits old.options (length writer.left) k (drop (size_of in_header) request))) e) d
+
+  -- which wants no memory
+  pub enough_of_header : (h : InHeader) → record_of in_header request ≡ Ok h → (pieces : List ℕ)
+      → Handles allows gives (MayWantBehind old.limits old.options (length writer.left) (opcode_of h.opcode) h pieces)
+      (ask_header old.limits old.options (length writer.left) h (drop (size_of in_header) request)) old writer outcome writer_after new
+      → ((limits : Limits) (options after : ℕ) (t : Turn) → IsTurnWithMemory limits options t after → t.outcome ≢ Err OutOfMemory)
+      → ¬ (MayWantBehind old.limits old.options (length writer.left) (opcode_of (header_of request).opcode) (header_of request) pieces) → outcome ≢ Err OutOfMemory
+  enough_of_header h e pieces d enough none =
+      let W : InHeader → Type 0 = λ k. MayWantBehind old.limits old.options (length writer.left) (opcode_of k.opcode) k pieces in
+      let same : h ≡ header_of request = header_is (nat_lt (length request) (size_of in_header)) (header_of request) h e in
+      enough_of (W h) (ask_header old.limits old.options (length writer.left) h (drop (size_of in_header) request))
+      (ap (λ part. refused_or part (λ k. ask_header old.limits old.options (length writer.left) k (drop (size_of in_header) request))) e)
+      d enough (λ w. none (subst W same w))
 
   -- what the laws say of a turn holds of the step's
   pub read_by_step :
@@ -111,5 +164,5 @@ module _ {S I : Type 0} (allows : S → Call → Handed I → S → Type 0) (giv
   }
 
   -- a writer that holds nothing still holds nothing when its request was handled
-  pub no_hold : (a : Ask) → Handles allows gives a old writer outcome writer_after new → writer.held ≡ 0 → writer_after.held ≡ 0
-  no_hold a h = (follow a h.0).no_hold
+  pub no_hold : (wanted : Type 0) (a : Ask) → Handles allows gives wanted a old writer outcome writer_after new → writer.held ≡ 0 → writer_after.held ≡ 0
+  no_hold wanted a h = (follow wanted a h.0).no_hold

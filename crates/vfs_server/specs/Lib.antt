@@ -1,3 +1,4 @@
+pub mod Memory
 pub mod Step
 pub mod Session
 pub mod Uses

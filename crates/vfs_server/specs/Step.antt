@@ -2,19 +2,21 @@
 use Rattle.std.specs.Prelude.{◌≡◌, length, ℕ, List, Option, None, Result}
 use Rattle.vfs_flags.specs.declared.opcode.Opcode.{Opcode}
 use Rattle.vfs_wire.specs.declared.headers.InHeader.{InHeader}
+use Rattle.vfs_segments.specs.Unread.{Unread}
 use Rattle.vfs_segments.specs.Written.{Written, Moves}
 use Rattle.vfs_files.specs.Items.{Item}
 use Rattle.vfs_files.specs.Calls.{Call, Handed, Plain, Counts, read_answer}
 use Rattle.vfs_files.specs.Runs.{Happening, IsRun, events_of}
 use Rattle.vfs_files.specs.Migrations.{MigrationCall, MigrationAnswer}
 use Rattle.vfs_messages.specs.Forms.{Listing, Ask, Lists}
-use Rattle.vfs_messages.specs.Ask.{ask, ask_opcode}
+use Rattle.vfs_messages.specs.Ask.{ask, ask_opcode, form_of}
 use Rattle.vfs_messages.specs.Laws.{StopsForACause, ComesWhole, TakesFew}
 use Rattle.vfs_messages.specs.Reply.{Echo}
 use Rattle.vfs_messages.specs.Room.{Leaves, Replies}
 use Rattle.vfs_messages.specs.Turn.{Witness, Follows, IsRead, Turn, IsTurn}
 use Rattle.vfs_messages.specs.declared.limits.Limits.{Limits}
 use Rattle.vfs_messages.specs.declared.error.Error.{Error}
+use Rattle.vfs_server.specs.Memory.{MayWantForm}
 
 -- a server as contracts see it: the agreed options, the limits, the state of the file system
 pub record ServerState (S : Type 0) : Type 0 where
@@ -32,30 +34,35 @@ module _ {S I : Type 0} (allows : S → Call → Handed I → S → Type 0)
     pub is_read : IsRead listing (events_of run) records answer
 
   -- what a server and a writer, both seen before and after, tell of a request: by the states of
-  -- the file system, and for a directory that was read by a run between them
-  abbrev pub server_tells : (old : ServerState S) → (writer : Written) → Result ℕ Error
-      → (writer_after : Written) → (new : ServerState S) → Witness
-  server_tells old writer outcome writer_after new = record {
+  -- the file system, and for a directory that was read by a run between them; and where there was
+  -- no memory, that it was wanted
+  abbrev pub server_tells : (wanted : Type 0) → (old : ServerState S) → (writer : Written)
+      → Result ℕ Error → (writer_after : Written) → (new : ServerState S) → Witness
+  server_tells wanted old writer outcome writer_after new = record {
     no_call = new.fs ≡ old.fs;
     called = λ call answer. allows old.fs call (Plain answer) new.fs;
     listed = λ listing records answer. Reads listing old.fs records answer new.fs;
     replied = λ reply. Replies reply writer outcome writer_after;
+    no_memory = (new.fs ≡ old.fs) × wanted;
   }
 
-  -- a request that asks this was handled
-  abbrev pub Handles : Ask → (old : ServerState S) → (writer : Written) → Result ℕ Error
-      → (writer_after : Written) → (new : ServerState S) → Type 0
-  Handles a old writer outcome writer_after new =
-      Follows (server_tells old writer outcome writer_after new)
+  -- a request that asks this, for which memory may be wanted so, was handled
+  abbrev pub Handles : (wanted : Type 0) → Ask → (old : ServerState S) → (writer : Written)
+      → Result ℕ Error → (writer_after : Written) → (new : ServerState S) → Type 0
+  Handles wanted a old writer outcome writer_after new =
+      Follows (server_tells wanted old writer outcome writer_after new)
       old.limits old.options a new.options
       × (new.limits ≡ old.limits)
 
-  -- a request of this opcode, with this header and these bytes behind it, was handled
-  abbrev pub Serves : Opcode → InHeader → (rest : List ℕ) → (old : ServerState S)
+  -- a request of this opcode, with this header and what the reader had left behind it, was handled
+  abbrev pub Serves : Opcode → InHeader → (reader : Unread) → (old : ServerState S)
       → (writer : Written) → Result ℕ Error → (writer_after : Written) → (new : ServerState S)
       → Type 0
-  Serves opcode header rest old writer outcome writer_after new =
-      Handles (ask_opcode old.limits old.options (length writer.left) opcode header rest)
+  Serves opcode header reader old writer outcome writer_after new =
+      Handles
+      (MayWantForm header reader.pieces
+      (form_of old.limits old.options (length writer.left) header opcode))
+      (ask_opcode old.limits old.options (length writer.left) opcode header reader.left)
       old writer outcome writer_after new
 
 -- A READ was passed on: the file system was called so, with a writer lent to it, put some bytes

@@ -12,12 +12,15 @@ mod others;
 mod session;
 mod xattrs;
 
-ghost use Rattle.std.specs.Prelude.{◌≡◌, ◌≤◌, length, map, vec_len};
+ghost use Rattle.std.specs.Prelude.{◌≡◌, ◌≢◌, ◌≤◌, length, map, vec_len, Err};
 ghost use Rattle.vfs_flags.specs.Flags.{fs_options_bits};
+ghost use Rattle.vfs_flags.specs.Opcode.{opcode_of};
 ghost use Rattle.vfs_segments.specs.Written.{held_over};
 ghost use Rattle.vfs_files.specs.Calls.{Destroy};
 ghost use Rattle.vfs_files.specs.Answers.{Plain, Done};
 ghost use Rattle.vfs_messages.specs.Ask.{ask_header};
+ghost use Rattle.vfs_messages.specs.declared.error.Error.{Error};
+ghost use Rattle.vfs_server.specs.Memory.{MayWant, MayWantBehind, WantsNoMemory};
 ghost use Rattle.vfs_server.specs.Session.{IsSession};
 ghost use Rattle.vfs_server.specs.Step.{IsStep, ReadsDirectories, Handles, Serves};
 
@@ -28,8 +31,9 @@ use vfs_books::laws::turns_keep_books;
 use vfs_files::FileSystem;
 use vfs_files::laws::runs_join;
 use vfs_flags::{Errno, FsOptions, Opcode};
-use vfs_messages::laws::directories_are_read;
+use vfs_messages::laws::{directories_are_read, memory_is_wanted_for_copies};
 use vfs_messages::{DEFAULT_MAX_BUFFER, Limits, Result, read_record, reply_failed};
+use vfs_segments::laws::together_behind_a_place;
 use vfs_segments::{Reader, Writer};
 pub use vfs_transfers::{ZcReader, ZcWriter};
 use vfs_wire::InHeader;
@@ -138,7 +142,8 @@ impl<F: FileSystem> Server<F> {
     /// another part, has no end, `InvalidXattrSize` where the value of an extended attribute is not
     /// as long as its record says, the errors of [`get_extensions`](vfs_messages::get_extensions),
     /// `InvalidCString` where a last name or text has no end or another byte behind it,
-    /// `OutOfMemory` where there is no memory for a tail or a list that is whole. After any error
+    /// `OutOfMemory` where there is no memory for a list that is whole, a tail that is whole and cut
+    /// between two segments, or a context among extensions. After any error
     /// but `EncodeMessage` no call was made, nothing was written, and the options are the old ones.
     /// After `EncodeMessage` the room holds the beginning of a reply that was too long for it; or
     /// the request was a READ, READDIR or READDIRPLUS and the room too small for a header: then too
@@ -157,8 +162,13 @@ impl<F: FileSystem> Server<F> {
         ensures hold_given_up { w.new.held ≡ 0 }
         ensures directories { ReadsDirectories F.allows F.DirIter.gives
             self.old r.entry.left w.old result w.new self.new }
+
+        // No memory is taken for a tail that lies in one segment.
+        ensures memory { WantsNoMemory self.old.limits self.old.options (length w.old.left) r.entry
+            → result ≢ Err Error.OutOfMemory }
     {
         directories_are_read();
+        together_behind_a_place();
         give_up_hold(w);
         self.handle(alloc, &mut r, w)
     }
@@ -196,7 +206,10 @@ impl<F: FileSystem> Server<F> {
         ensures step { IsStep F.allows F.DirIter.gives
             self.old r.old.left w.old result w.new self.new }
         ensures no_hold { w.old.held ≡ 0 → w.new.held ≡ 0 }
+        ensures memory { ¬ (MayWant self.old.limits self.old.options (length w.old.left) r.old)
+            → result ≢ Err Error.OutOfMemory }
     {
+        memory_is_wanted_for_copies();
         match read_record::<InHeader>(r) {
             Ok(header) => self.handle_header(alloc, &header, r, w),
             Err(error) => Err(error),
@@ -213,6 +226,8 @@ impl<F: FileSystem> Server<F> {
         w: &mut Writer,
     ) -> Result<usize>
         ensures { Handles F.allows F.DirIter.gives
+            (MayWantBehind self.old.limits self.old.options (length w.old.left)
+            (opcode_of header.now.opcode) header.now r.old.pieces)
             (ask_header self.old.limits self.old.options (length w.old.left) header.now r.old.left)
             self.old w.old result w.new self.new }
     {
@@ -234,7 +249,7 @@ impl<F: FileSystem> Server<F> {
         r: &mut Reader<'_>,
         w: &mut Writer,
     ) -> Result<usize>
-        ensures { Serves F.allows F.DirIter.gives opcode header.now r.old.left
+        ensures { Serves F.allows F.DirIter.gives opcode header.now r.old
             self.old w.old result w.new self.new }
     {
         match opcode {

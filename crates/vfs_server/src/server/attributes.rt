@@ -20,7 +20,7 @@ impl<F: FileSystem> Server<F> {
         r: &mut Reader<'_>,
         w: &mut Writer,
     ) -> Result<usize>
-        ensures { Serves F.allows F.DirIter.gives Opcode.Getattr header.now r.old.left
+        ensures { Serves F.allows F.DirIter.gives Opcode.Getattr header.now r.old
             self.old w.old result w.new self.new }
     {
         let getattr_in = read_record::<GetattrIn>(r)?;
@@ -38,7 +38,7 @@ impl<F: FileSystem> Server<F> {
         r: &mut Reader<'_>,
         w: &mut Writer,
     ) -> Result<usize>
-        ensures { Serves F.allows F.DirIter.gives Opcode.Setattr header.now r.old.left
+        ensures { Serves F.allows F.DirIter.gives Opcode.Setattr header.now r.old
             self.old w.old result w.new self.new }
     {
         let setattr_in = read_record::<SetattrIn>(r)?;
@@ -58,7 +58,7 @@ impl<F: FileSystem> Server<F> {
         r: &mut Reader<'_>,
         w: &mut Writer,
     ) -> Result<usize>
-        ensures { Serves F.allows F.DirIter.gives Opcode.Access header.now r.old.left
+        ensures { Serves F.allows F.DirIter.gives Opcode.Access header.now r.old
             self.old w.old result w.new self.new }
     {
         let access_in = read_record::<AccessIn>(r)?;
@@ -76,7 +76,7 @@ impl<F: FileSystem> Server<F> {
         r: &mut Reader<'_>,
         w: &mut Writer,
     ) -> Result<usize>
-        ensures { Serves F.allows F.DirIter.gives Opcode.Statfs header.now r.old.left
+        ensures { Serves F.allows F.DirIter.gives Opcode.Statfs header.now r.old
             self.old w.old result w.new self.new }
     {
         let inode = F::Inode::from_number(header.nodeid);

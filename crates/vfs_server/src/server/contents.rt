@@ -49,7 +49,7 @@ impl<F: FileSystem> Server<F> {
         r: &mut Reader<'_>,
         w: &mut Writer,
     ) -> Result<usize>
-        ensures { Serves F.allows F.DirIter.gives Opcode.Read header.now r.old.left
+        ensures { Serves F.allows F.DirIter.gives Opcode.Read header.now r.old
             self.old w.old result w.new self.new }
     {
         let read_in = read_record::<ReadIn>(r)?;
@@ -97,7 +97,7 @@ impl<F: FileSystem> Server<F> {
         r: &mut Reader<'_>,
         w: &mut Writer,
     ) -> Result<usize>
-        ensures { Serves F.allows F.DirIter.gives Opcode.Write header.now r.old.left
+        ensures { Serves F.allows F.DirIter.gives Opcode.Write header.now r.old
             self.old w.old result w.new self.new }
     {
         let write_in = read_record::<WriteIn>(r)?;

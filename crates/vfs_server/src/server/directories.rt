@@ -24,7 +24,7 @@ impl<F: FileSystem> Server<F> {
         r: &mut Reader<'_>,
         w: &mut Writer,
     ) -> Result<usize>
-        ensures { Serves F.allows F.DirIter.gives Opcode.Opendir header.now r.old.left
+        ensures { Serves F.allows F.DirIter.gives Opcode.Opendir header.now r.old
             self.old w.old result w.new self.new }
     {
         let open_in = read_record::<OpenIn>(r)?;
@@ -42,7 +42,7 @@ impl<F: FileSystem> Server<F> {
         r: &mut Reader<'_>,
         w: &mut Writer,
     ) -> Result<usize>
-        ensures { Serves F.allows F.DirIter.gives Opcode.Readdir header.now r.old.left
+        ensures { Serves F.allows F.DirIter.gives Opcode.Readdir header.now r.old
             self.old w.old result w.new self.new }
     {
         self.list(header, false, r, w)
@@ -55,7 +55,7 @@ impl<F: FileSystem> Server<F> {
         r: &mut Reader<'_>,
         w: &mut Writer,
     ) -> Result<usize>
-        ensures { Serves F.allows F.DirIter.gives Opcode.Readdirplus header.now r.old.left
+        ensures { Serves F.allows F.DirIter.gives Opcode.Readdirplus header.now r.old
             self.old w.old result w.new self.new }
     {
         self.list(header, true, r, w)
@@ -78,7 +78,7 @@ impl<F: FileSystem> Server<F> {
         r: &mut Reader<'_>,
         w: &mut Writer,
     ) -> Result<usize>
-        ensures { Handles F.allows F.DirIter.gives
+        ensures { Handles F.allows F.DirIter.gives ⊥
             (ask_form header.now r.old.left
             (Directories (Record read_in) (lists_too_much self.old.limits (length w.old.left))
             (length w.old.left) (listing_of plus header.now)))
@@ -100,7 +100,7 @@ impl<F: FileSystem> Server<F> {
         r: &mut Reader<'_>,
         w: &mut Writer,
     ) -> Result<usize>
-        ensures { Serves F.allows F.DirIter.gives Opcode.Releasedir header.now r.old.left
+        ensures { Serves F.allows F.DirIter.gives Opcode.Releasedir header.now r.old
             self.old w.old result w.new self.new }
     {
         let release_in = read_record::<ReleaseIn>(r)?;
@@ -119,7 +119,7 @@ impl<F: FileSystem> Server<F> {
         r: &mut Reader<'_>,
         w: &mut Writer,
     ) -> Result<usize>
-        ensures { Serves F.allows F.DirIter.gives Opcode.Fsyncdir header.now r.old.left
+        ensures { Serves F.allows F.DirIter.gives Opcode.Fsyncdir header.now r.old
             self.old w.old result w.new self.new }
     {
         let fsync_in = read_record::<FsyncIn>(r)?;

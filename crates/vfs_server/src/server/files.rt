@@ -24,7 +24,7 @@ impl<F: FileSystem> Server<F> {
         r: &mut Reader<'_>,
         w: &mut Writer,
     ) -> Result<usize>
-        ensures { Serves F.allows F.DirIter.gives Opcode.Open header.now r.old.left
+        ensures { Serves F.allows F.DirIter.gives Opcode.Open header.now r.old
             self.old w.old result w.new self.new }
     {
         let open_in = read_record::<OpenIn>(r)?;
@@ -44,7 +44,7 @@ impl<F: FileSystem> Server<F> {
         r: &mut Reader<'_>,
         w: &mut Writer,
     ) -> Result<usize>
-        ensures { Serves F.allows F.DirIter.gives Opcode.Create header.now r.old.left
+        ensures { Serves F.allows F.DirIter.gives Opcode.Create header.now r.old
             self.old w.old result w.new self.new }
     {
         let create_in = read_record::<CreateIn>(r)?;
@@ -70,7 +70,7 @@ impl<F: FileSystem> Server<F> {
         r: &mut Reader<'_>,
         w: &mut Writer,
     ) -> Result<usize>
-        ensures { Serves F.allows F.DirIter.gives Opcode.Release header.now r.old.left
+        ensures { Serves F.allows F.DirIter.gives Opcode.Release header.now r.old
             self.old w.old result w.new self.new }
     {
         let release_in = read_record::<ReleaseIn>(r)?;
@@ -101,7 +101,7 @@ impl<F: FileSystem> Server<F> {
         r: &mut Reader<'_>,
         w: &mut Writer,
     ) -> Result<usize>
-        ensures { Serves F.allows F.DirIter.gives Opcode.Fsync header.now r.old.left
+        ensures { Serves F.allows F.DirIter.gives Opcode.Fsync header.now r.old
             self.old w.old result w.new self.new }
     {
         let fsync_in = read_record::<FsyncIn>(r)?;
@@ -121,7 +121,7 @@ impl<F: FileSystem> Server<F> {
         r: &mut Reader<'_>,
         w: &mut Writer,
     ) -> Result<usize>
-        ensures { Serves F.allows F.DirIter.gives Opcode.Flush header.now r.old.left
+        ensures { Serves F.allows F.DirIter.gives Opcode.Flush header.now r.old
             self.old w.old result w.new self.new }
     {
         let flush_in = read_record::<FlushIn>(r)?;
@@ -140,7 +140,7 @@ impl<F: FileSystem> Server<F> {
         r: &mut Reader<'_>,
         w: &mut Writer,
     ) -> Result<usize>
-        ensures { Serves F.allows F.DirIter.gives Opcode.Fallocate header.now r.old.left
+        ensures { Serves F.allows F.DirIter.gives Opcode.Fallocate header.now r.old
             self.old w.old result w.new self.new }
     {
         let fallocate_in = read_record::<FallocateIn>(r)?;
@@ -164,7 +164,7 @@ impl<F: FileSystem> Server<F> {
         r: &mut Reader<'_>,
         w: &mut Writer,
     ) -> Result<usize>
-        ensures { Serves F.allows F.DirIter.gives Opcode.Lseek header.now r.old.left
+        ensures { Serves F.allows F.DirIter.gives Opcode.Lseek header.now r.old
             self.old w.old result w.new self.new }
     {
         let lseek_in = read_record::<LseekIn>(r)?;
@@ -187,7 +187,7 @@ impl<F: FileSystem> Server<F> {
         r: &mut Reader<'_>,
         w: &mut Writer,
     ) -> Result<usize>
-        ensures { Serves F.allows F.DirIter.gives Opcode.CopyFileRange header.now r.old.left
+        ensures { Serves F.allows F.DirIter.gives Opcode.CopyFileRange header.now r.old
             self.old w.old result w.new self.new }
     {
         let range = read_record::<CopyfilerangeIn>(r)?;
@@ -212,7 +212,7 @@ impl<F: FileSystem> Server<F> {
         r: &mut Reader<'_>,
         w: &mut Writer,
     ) -> Result<usize>
-        ensures { Serves F.allows F.DirIter.gives Opcode.TmpFile header.now r.old.left
+        ensures { Serves F.allows F.DirIter.gives Opcode.TmpFile header.now r.old
             self.old w.old result w.new self.new }
     {
         let fault = self.fs.tmpfile();

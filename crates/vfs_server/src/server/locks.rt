@@ -17,7 +17,7 @@ impl<F: FileSystem> Server<F> {
         r: &mut Reader<'_>,
         w: &mut Writer,
     ) -> Result<usize>
-        ensures { Serves F.allows F.DirIter.gives Opcode.Getlk header.now r.old.left
+        ensures { Serves F.allows F.DirIter.gives Opcode.Getlk header.now r.old
             self.old w.old result w.new self.new }
     {
         let answer = self.fs.getlk();
@@ -31,7 +31,7 @@ impl<F: FileSystem> Server<F> {
         r: &mut Reader<'_>,
         w: &mut Writer,
     ) -> Result<usize>
-        ensures { Serves F.allows F.DirIter.gives Opcode.Setlk header.now r.old.left
+        ensures { Serves F.allows F.DirIter.gives Opcode.Setlk header.now r.old
             self.old w.old result w.new self.new }
     {
         let answer = self.fs.setlk();
@@ -45,7 +45,7 @@ impl<F: FileSystem> Server<F> {
         r: &mut Reader<'_>,
         w: &mut Writer,
     ) -> Result<usize>
-        ensures { Serves F.allows F.DirIter.gives Opcode.Setlkw header.now r.old.left
+        ensures { Serves F.allows F.DirIter.gives Opcode.Setlkw header.now r.old
             self.old w.old result w.new self.new }
     {
         let answer = self.fs.setlkw();

@@ -28,7 +28,7 @@ impl<F: FileSystem> Server<F> {
         r: &mut Reader<'_>,
         w: &mut Writer,
     ) -> Result<usize>
-        ensures { Serves F.allows F.DirIter.gives Opcode.Lookup header.now r.old.left
+        ensures { Serves F.allows F.DirIter.gives Opcode.Lookup header.now r.old
             self.old w.old result w.new self.new }
     {
         let name = read_name(alloc, header, 0, r)?;
@@ -46,7 +46,7 @@ impl<F: FileSystem> Server<F> {
         r: &mut Reader<'_>,
         w: &mut Writer,
     ) -> Result<usize>
-        ensures { Serves F.allows F.DirIter.gives Opcode.Forget header.now r.old.left
+        ensures { Serves F.allows F.DirIter.gives Opcode.Forget header.now r.old
             self.old w.old result w.new self.new }
     {
         let forget_in = read_record::<ForgetIn>(r)?;
@@ -65,7 +65,7 @@ impl<F: FileSystem> Server<F> {
         r: &mut Reader<'_>,
         w: &mut Writer,
     ) -> Result<usize>
-        ensures { Serves F.allows F.DirIter.gives Opcode.BatchForget header.now r.old.left
+        ensures { Serves F.allows F.DirIter.gives Opcode.BatchForget header.now r.old
             self.old w.old result w.new self.new }
     {
         let batch = read_record::<BatchForgetIn>(r)?;
@@ -84,7 +84,7 @@ impl<F: FileSystem> Server<F> {
         r: &mut Reader<'_>,
         w: &mut Writer,
     ) -> Result<usize>
-        ensures { Serves F.allows F.DirIter.gives Opcode.Readlink header.now r.old.left
+        ensures { Serves F.allows F.DirIter.gives Opcode.Readlink header.now r.old
             self.old w.old result w.new self.new }
     {
         let inode = F::Inode::from_number(header.nodeid);
@@ -101,7 +101,7 @@ impl<F: FileSystem> Server<F> {
         r: &mut Reader<'_>,
         w: &mut Writer,
     ) -> Result<usize>
-        ensures { Serves F.allows F.DirIter.gives Opcode.Symlink header.now r.old.left
+        ensures { Serves F.allows F.DirIter.gives Opcode.Symlink header.now r.old
             self.old w.old result w.new self.new }
     {
         let (link, extensions) = read_link(alloc, self.options, header, r)?;
@@ -121,7 +121,7 @@ impl<F: FileSystem> Server<F> {
         r: &mut Reader<'_>,
         w: &mut Writer,
     ) -> Result<usize>
-        ensures { Serves F.allows F.DirIter.gives Opcode.Mknod header.now r.old.left
+        ensures { Serves F.allows F.DirIter.gives Opcode.Mknod header.now r.old
             self.old w.old result w.new self.new }
     {
         let mknod_in = read_record::<MknodIn>(r)?;
@@ -146,7 +146,7 @@ impl<F: FileSystem> Server<F> {
         r: &mut Reader<'_>,
         w: &mut Writer,
     ) -> Result<usize>
-        ensures { Serves F.allows F.DirIter.gives Opcode.Mkdir header.now r.old.left
+        ensures { Serves F.allows F.DirIter.gives Opcode.Mkdir header.now r.old
             self.old w.old result w.new self.new }
     {
         let mkdir_in = read_record::<MkdirIn>(r)?;
@@ -170,7 +170,7 @@ impl<F: FileSystem> Server<F> {
         r: &mut Reader<'_>,
         w: &mut Writer,
     ) -> Result<usize>
-        ensures { Serves F.allows F.DirIter.gives Opcode.Unlink header.now r.old.left
+        ensures { Serves F.allows F.DirIter.gives Opcode.Unlink header.now r.old
             self.old w.old result w.new self.new }
     {
         let name = read_name(alloc, header, 0, r)?;
@@ -189,7 +189,7 @@ impl<F: FileSystem> Server<F> {
         r: &mut Reader<'_>,
         w: &mut Writer,
     ) -> Result<usize>
-        ensures { Serves F.allows F.DirIter.gives Opcode.Rmdir header.now r.old.left
+        ensures { Serves F.allows F.DirIter.gives Opcode.Rmdir header.now r.old
             self.old w.old result w.new self.new }
     {
         let name = read_name(alloc, header, 0, r)?;
@@ -209,7 +209,7 @@ impl<F: FileSystem> Server<F> {
         r: &mut Reader<'_>,
         w: &mut Writer,
     ) -> Result<usize>
-        ensures { Serves F.allows F.DirIter.gives Opcode.Link header.now r.old.left
+        ensures { Serves F.allows F.DirIter.gives Opcode.Link header.now r.old
             self.old w.old result w.new self.new }
     {
         let link_in = read_record::<LinkIn>(r)?;
@@ -231,7 +231,7 @@ impl<F: FileSystem> Server<F> {
         r: &mut Reader<'_>,
         w: &mut Writer,
     ) -> Result<usize>
-        ensures { Serves F.allows F.DirIter.gives Opcode.Rename header.now r.old.left
+        ensures { Serves F.allows F.DirIter.gives Opcode.Rename header.now r.old
             self.old w.old result w.new self.new }
     {
         let rename_in = read_record::<RenameIn>(r)?;
@@ -256,7 +256,7 @@ impl<F: FileSystem> Server<F> {
         r: &mut Reader<'_>,
         w: &mut Writer,
     ) -> Result<usize>
-        ensures { Serves F.allows F.DirIter.gives Opcode.Rename2 header.now r.old.left
+        ensures { Serves F.allows F.DirIter.gives Opcode.Rename2 header.now r.old
             self.old w.old result w.new self.new }
     {
         let rename2_in = read_record::<Rename2In>(r)?;

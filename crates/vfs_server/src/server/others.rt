@@ -18,7 +18,7 @@ impl<F: FileSystem> Server<F> {
         r: &mut Reader<'_>,
         w: &mut Writer,
     ) -> Result<usize>
-        ensures { Serves F.allows F.DirIter.gives Opcode.Bmap header.now r.old.left
+        ensures { Serves F.allows F.DirIter.gives Opcode.Bmap header.now r.old
             self.old w.old result w.new self.new }
     {
         let answer = self.fs.bmap();
@@ -32,7 +32,7 @@ impl<F: FileSystem> Server<F> {
         r: &mut Reader<'_>,
         w: &mut Writer,
     ) -> Result<usize>
-        ensures { Serves F.allows F.DirIter.gives Opcode.Ioctl header.now r.old.left
+        ensures { Serves F.allows F.DirIter.gives Opcode.Ioctl header.now r.old
             self.old w.old result w.new self.new }
     {
         let answer = self.fs.ioctl();
@@ -46,7 +46,7 @@ impl<F: FileSystem> Server<F> {
         r: &mut Reader<'_>,
         w: &mut Writer,
     ) -> Result<usize>
-        ensures { Serves F.allows F.DirIter.gives Opcode.Poll header.now r.old.left
+        ensures { Serves F.allows F.DirIter.gives Opcode.Poll header.now r.old
             self.old w.old result w.new self.new }
     {
         let answer = self.fs.poll();
@@ -60,7 +60,7 @@ impl<F: FileSystem> Server<F> {
         r: &mut Reader<'_>,
         w: &mut Writer,
     ) -> Result<usize>
-        ensures { Serves F.allows F.DirIter.gives Opcode.NotifyReply header.now r.old.left
+        ensures { Serves F.allows F.DirIter.gives Opcode.NotifyReply header.now r.old
             self.old w.old result w.new self.new }
     {
         let answer = self.fs.notify_reply();

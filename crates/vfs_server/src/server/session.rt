@@ -22,7 +22,7 @@ impl<F: FileSystem> Server<F> {
         r: &mut Reader<'_>,
         w: &mut Writer,
     ) -> Result<usize>
-        ensures { Serves F.allows F.DirIter.gives Opcode.Init header.now r.old.left
+        ensures { Serves F.allows F.DirIter.gives Opcode.Init header.now r.old
             self.old w.old result w.new self.new }
     {
         let init_in = read_record::<InitInCompat>(r)?;
@@ -39,7 +39,7 @@ impl<F: FileSystem> Server<F> {
         flags2: u32,
         w: &mut Writer,
     ) -> Result<usize>
-        ensures { Handles F.allows F.DirIter.gives (ask_version header.now init_in.now flags2)
+        ensures { Handles F.allows F.DirIter.gives ⊥ (ask_version header.now init_in.now flags2)
             self.old w.old result w.new self.new }
     {
         if init_in.major < KERNEL_VERSION {
@@ -71,7 +71,7 @@ impl<F: FileSystem> Server<F> {
         r: &mut Reader<'_>,
         w: &mut Writer,
     ) -> Result<usize>
-        ensures { Serves F.allows F.DirIter.gives Opcode.Destroy header.now r.old.left
+        ensures { Serves F.allows F.DirIter.gives Opcode.Destroy header.now r.old
             self.old w.old result w.new self.new }
     {
         Ok(self.destroy())
@@ -84,7 +84,7 @@ impl<F: FileSystem> Server<F> {
         r: &mut Reader<'_>,
         w: &mut Writer,
     ) -> Result<usize>
-        ensures { Serves F.allows F.DirIter.gives Opcode.Syncfs header.now r.old.left
+        ensures { Serves F.allows F.DirIter.gives Opcode.Syncfs header.now r.old
             self.old w.old result w.new self.new }
     {
         let inode = F::Inode::from_number(header.nodeid);

@@ -22,7 +22,7 @@ impl<F: FileSystem> Server<F> {
         r: &mut Reader<'_>,
         w: &mut Writer,
     ) -> Result<usize>
-        ensures { Serves F.allows F.DirIter.gives Opcode.Listxattr header.now r.old.left
+        ensures { Serves F.allows F.DirIter.gives Opcode.Listxattr header.now r.old
             self.old w.old result w.new self.new }
     {
         let getxattr_in = read_record::<GetxattrIn>(r)?;
@@ -45,7 +45,7 @@ impl<F: FileSystem> Server<F> {
         r: &mut Reader<'_>,
         w: &mut Writer,
     ) -> Result<usize>
-        ensures { Serves F.allows F.DirIter.gives Opcode.Setxattr header.now r.old.left
+        ensures { Serves F.allows F.DirIter.gives Opcode.Setxattr header.now r.old
             self.old w.old result w.new self.new }
     {
         let setxattr_in = read_setxattr(self.options, r)?;
@@ -72,7 +72,7 @@ impl<F: FileSystem> Server<F> {
         r: &mut Reader<'_>,
         w: &mut Writer,
     ) -> Result<usize>
-        ensures { Serves F.allows F.DirIter.gives Opcode.Getxattr header.now r.old.left
+        ensures { Serves F.allows F.DirIter.gives Opcode.Getxattr header.now r.old
             self.old w.old result w.new self.new }
     {
         let getxattr_in = read_record::<GetxattrIn>(r)?;
@@ -99,7 +99,7 @@ impl<F: FileSystem> Server<F> {
         r: &mut Reader<'_>,
         w: &mut Writer,
     ) -> Result<usize>
-        ensures { Serves F.allows F.DirIter.gives Opcode.Removexattr header.now r.old.left
+        ensures { Serves F.allows F.DirIter.gives Opcode.Removexattr header.now r.old
             self.old w.old result w.new self.new }
     {
         let name = read_name(alloc, header, 0, r)?;
