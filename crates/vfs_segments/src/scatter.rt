@@ -7,6 +7,7 @@ ghost use Rattle.vfs_wire.specs.Fields.{Fit, bytes_of};
 
 use crate::place::place_of;
 use crate::record::LARGEST_RECORD;
+use crate::running::Running;
 use std::alloc::{AllocError, Global};
 use vfs_wire::ByteValued;
 
@@ -28,12 +29,12 @@ pub(crate) fn room_of(segments: &[Vec<u8>]) -> Option<usize>
 
 // The running totals of their lengths.
 #[tactic(auto, using(crate::proofs::Segments::held_segments))]
-pub(crate) fn totals_held(alloc: Global, segments: &[Vec<u8>]) -> Result<Vec<usize>, AllocError>
+pub(crate) fn totals_held(alloc: Global, segments: &[Vec<u8>]) -> Result<Running, AllocError>
     requires { length (flat_bytes (contents segments.now)) < 2 ^ 64 }
-    ensures totals { IfOk result (λ v. v.items ≡ totals_of (lengths_of (contents segments.now))) }
-    ensures none { length segments.now ≡ 0 → IsOk result }
+    ensures totals { IfOk result (λ r. r.items ≡ totals_of (lengths_of (contents segments.now))) }
+    ensures few { length segments.now ≤ 4 → IsOk result }
 {
-    let mut totals = Vec::with_capacity(alloc, segments.len())?;
+    let mut totals = Running::with_capacity(alloc, segments.len())?;
     let mut total: usize = 0;
     for segment in segments {
         total += segment.len();

@@ -1,4 +1,4 @@
-use Rattle.std.proofs.Common.{arith, ◌≡◌, ◌∙◌, ◌+◌, ◌++◌, ◌∷◌, ap, sym, List, [], ℕ, get_or, length, map, take}
+use Rattle.std.proofs.Common.{arith, ◌∙◌, ◌+◌, ◌++◌, ◌∷◌, ap, sym, List, [], ℕ, get_or, length, map, take}
 use Rattle.std.specs.Borrow.{Bor}
 use Rattle.vfs_segments.specs.Totals.{totals_of}
 use Rattle.vfs_segments.proofs.Segments.{length-flat-take_more}
