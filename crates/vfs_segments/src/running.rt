@@ -1,12 +1,13 @@
 //! Running totals of segments' lengths, which take no memory where they are few.
 
-ghost use Rattle.std.specs.Prelude.{◌≡◌, ◌+◌, ◌<◌, ◌≤◌, [], ◌∷◌, ◌++◌, length, take, IfOk, IsOk};
+ghost use Rattle.std.specs.Prelude.{◌≡◌, ◌+◌, ◌^◌, ◌<◌, ◌≤◌, [], ◌∷◌, ◌++◌, length, take, IfOk};
+ghost use Rattle.vfs_segments.specs.Totals.{totals_of};
 
 use std::alloc::{AllocError, Global};
 use std::marker::Model;
 use std::ops::DerefSlice;
 
-// How many totals have their place in the value itself.
+// How many totals lie in the value itself.
 pub(crate) const FEW: usize = 4;
 
 // Running totals, of which up to `FEW` lie in the value, and more in memory.
@@ -15,7 +16,7 @@ pub(crate) const FEW: usize = 4;
 #[derive(Drop)]
 pub(crate) struct Running {
     few: [usize; FEW],
-    // How many of the few there are, or more than `FEW` where the totals are in memory.
+    // How many of the few there are. Past `FEW` the totals are the many, however many those are.
     count: usize,
     many: Vec<usize>,
 }
@@ -35,7 +36,6 @@ impl Running {
     pub(crate) fn with_capacity(alloc: Global, n: usize) -> Result<Running, AllocError>
         ensures none { IfOk result (λ r. r.items ≡ []) }
         ensures places { IfOk result (λ r. n ≤ r.capacity) }
-        ensures few { n ≤ 4 → IsOk result }
     {
         let few = [0; FEW];
         if n > FEW {
@@ -51,6 +51,30 @@ impl Running {
             count: 0,
             many: Vec::new(alloc),
         })
+    }
+
+    // The totals of the first `count` of four lengths, in place.
+    #[inline]
+    pub(crate) fn of_few(
+        alloc: Global,
+        first: usize,
+        second: usize,
+        third: usize,
+        fourth: usize,
+        count: usize,
+    ) -> Running
+        requires few { count ≤ 4 }
+        requires fits { first + second + third + fourth < 2 ^ 64 }
+        ensures { result.items ≡
+            take count (totals_of (first ∷ second ∷ third ∷ fourth ∷ [])) }
+    {
+        let two = first + second;
+        let three = two + third;
+        Running {
+            few: [first, two, three, three + fourth],
+            count,
+            many: Vec::new(alloc),
+        }
     }
 
     // Puts a total behind the others, which has a place.

@@ -4,7 +4,7 @@ use Rattle.std.specs.declared.alloc.Global.{Global}
 use Rattle.vfs_segments.specs.Totals.{totals_of}
 use Rattle.vfs_segments.proofs.Segments.{held_flat, length-held_flat-take_more}
 use Rattle.vfs_segments.proofs.Totals.{totals_of-more}
-use Rattle.vfs_segments.proofs.scatter.totals_held.Goals as goal
+use Rattle.vfs_segments.proofs.scatter.many_totals_held.Goals as goal
 
 pub loop-segment-preserved : goal.loop-segment-preserved
 loop-segment-preserved c =

@@ -2,7 +2,7 @@ use Rattle.std.proofs.Common.{◌≡◌, ◌≤◌, length, take}
 use Rattle.vfs_segments.specs.Segments.{lengths_of, segments_of}
 use Rattle.vfs_segments.specs.Totals.{totals_of}
 use Rattle.vfs_segments.proofs.Segments.{flat}
-use Rattle.vfs_segments.proofs.gather.totals_in.Given as goal
+use Rattle.vfs_segments.proofs.gather.many_totals_in.Given as goal
 
 abbrev pub invariant-loop-segment : goal.invariant-loop-segment
 invariant-loop-segment l = record {

@@ -2,7 +2,7 @@ use Rattle.std.proofs.Common.{◌≡◌, ◌≤◌, length, take}
 use Rattle.vfs_segments.specs.Segments.{lengths_of, contents}
 use Rattle.vfs_segments.specs.Totals.{totals_of}
 use Rattle.vfs_segments.proofs.Segments.{held_flat}
-use Rattle.vfs_segments.proofs.scatter.totals_held.Given as goal
+use Rattle.vfs_segments.proofs.scatter.many_totals_held.Given as goal
 
 abbrev pub invariant-loop-segment : goal.invariant-loop-segment
 invariant-loop-segment l = record {
