@@ -4,7 +4,7 @@ use Rattle.std.proofs.lemmas.List.{take-append-le, drop-append-le, drop-drop, dr
 use Rattle.std.specs.List.{concat}
 use Rattle.vfs_segments.specs.Segments.{contents, lengths_of, with_bytes_at}
 use Rattle.vfs_segments.specs.Lengths.{lengths_before}
-use Rattle.vfs_segments.specs.Totals.{totals_of}
+use Rattle.vfs_segments.specs.Totals.{Kept, totals_of}
 use Rattle.vfs_segments.specs.Written.{Written, wrote, first_room, held_filled, held_over}
 use Rattle.vfs_segments.specs.Writer.{IsWriter, written_of, room_bytes}
 use Rattle.vfs_segments.specs.declared.writer.Writer.TheInside.{Inside}
@@ -73,7 +73,7 @@ still_writer w n ok e end totals within held = record {
   all = end ∙ ok.all ∙ sym (same_size (contents w.segments.items) (contents n.segments.items) e);
   within = rw end within;
   held_in = held;
-  totals = ap (λ (v : Vec ℕ Global). v.items) totals ∙ ok.totals ∙ ap totals_of (sym e);
+  totals = ap (λ (k : Kept). k.items) totals ∙ ok.totals ∙ ap totals_of (sym e);
 }
 
 pub wrote_next : (w n : Inside) (bs : List ℕ) → room_bytes n ≡ with_bytes_at w.at bs (room_bytes w) →

@@ -6,6 +6,7 @@ pub mod Unread
 pub mod Written
 pub mod Transfer
 pub mod TransferLaws
+pub mod Running
 pub mod Reader
 pub mod Writer
 pub mod Answers

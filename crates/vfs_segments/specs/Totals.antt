@@ -18,3 +18,8 @@ pub record NeverFalls (totals : List ℕ) : Type 0 where
 pub record Looked : Type 0 where
   pub totals : List ℕ
   pub looks : ℕ
+
+-- totals that are kept, and how many have a place without further memory
+pub record Kept : Type 0 where
+  pub items : List ℕ
+  pub capacity : ℕ

@@ -1,9 +1,10 @@
 //! Cuts segments in two.
 
-ghost use Rattle.std.specs.Prelude.{◌≡◌, ◌+◌, ◌-◌, ◌<◌, ◌≤◌, [], ◌∷◌, ◌++◌, length, map, take, drop, slice_index_or, vec_len, IfOk, OnOk, OnErr};
+ghost use Rattle.std.specs.Prelude.{◌≡◌, ◌+◌, ◌-◌, ◌<◌, ◌≤◌, [], ◌∷◌, ◌++◌, length, map, take, drop, slice_index_or, IfOk, OnOk, OnErr};
 ghost use Rattle.vfs_segments.specs.Segments.{contents, flat_bytes, lengths_of};
 ghost use Rattle.vfs_segments.specs.Lengths.{lengths_before, lengths_from};
 
+use crate::running::Running;
 use std::alloc::{AllocError, Global};
 use std::mem;
 
@@ -48,24 +49,26 @@ pub(crate) fn totals_past(
     totals: &[usize],
     at: usize,
     first: usize,
-) -> Result<Vec<usize>, AllocError>
+) -> Result<Running, AllocError>
     requires { first ≤ length totals.now }
-    ensures { IfOk result (λ v. v.items ≡ map (λ total. total - at) (drop first totals.now)) }
+    ensures { IfOk result (λ r. r.items ≡ map (λ total. total - at) (drop first totals.now)) }
 {
     let rest = &totals[first..];
-    rest.iter()
-        .map(|total| total.saturating_sub(at))
-        .collect(alloc)
+    let mut past = Running::with_capacity(alloc, rest.len())?;
+    for total in rest {
+        past.push_reserved(total.saturating_sub(at));
+    }
+    Ok(past)
 }
 
 // Leaves the totals of the segments up to place `at`, `inside` bytes into segment `first`.
-pub(crate) fn end_totals(totals: &mut Vec<usize>, at: usize, first: usize, inside: usize)
-    requires { 0 < inside → first < vec_len totals.old }
+pub(crate) fn end_totals(totals: &mut Running, at: usize, first: usize, inside: usize)
+    requires { 0 < inside → first < length totals.old.items }
     ensures between { inside ≡ 0 → totals.new.items ≡ take first totals.old.items }
     ensures cut { 0 < inside → totals.new.items ≡ take first totals.old.items ++ at ∷ [] }
 {
     totals.truncate(first);
     if inside > 0 {
-        totals.push(at).unwrap();
+        totals.push_reserved(at);
     }
 }

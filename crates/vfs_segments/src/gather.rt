@@ -1,12 +1,13 @@
 //! Copies bytes out of segments.
 
-ghost use Rattle.std.specs.Prelude.{◌≡◌, ◌+◌, ◌^◌, ◌<◌, ◌≤◌, length, take, drop, vec_len, IfOk, MatchOption, IsOk};
+ghost use Rattle.std.specs.Prelude.{◌≡◌, ◌+◌, ◌^◌, ◌<◌, ◌≤◌, [], length, take, drop, slice_index_or, IfOk, MatchOption, IsOk};
 ghost use Rattle.vfs_segments.specs.Segments.{segments_of, flat_bytes, lengths_of, with_bytes_at};
 ghost use Rattle.vfs_segments.specs.Totals.{totals_of};
 ghost use Rattle.vfs_wire.specs.Fields.{Fit, value_of};
 
 use crate::place::place_in;
 use crate::record::LARGEST_RECORD;
+use crate::running::{FEW, Running};
 use std::alloc::{AllocError, Global};
 use vfs_wire::ByteValued;
 
@@ -26,15 +27,48 @@ pub(crate) fn total_of(segments: &[&[u8]]) -> Option<usize>
     Some(total)
 }
 
-// The running totals of their lengths.
+// How long segment `i` is, or 0 where there is none.
+#[inline]
 #[tactic(auto, using(crate::proofs::Segments::segments))]
-pub(crate) fn totals_in(alloc: Global, segments: &[&[u8]]) -> Result<Vec<usize>, AllocError>
+fn len_at(segments: &[&[u8]], i: usize) -> usize
+    ensures { result ≡ length (slice_index_or (segments_of segments.now) i []) }
+{
+    if i < segments.len() {
+        segments[i].len()
+    } else {
+        0
+    }
+}
+
+// The running totals of their lengths. Up to `FEW` of them take no memory.
+#[inline]
+pub(crate) fn totals_in(alloc: Global, segments: &[&[u8]]) -> Result<Running, AllocError>
     requires { length (flat_bytes (segments_of segments.now)) < 2 ^ 64 }
     ensures totals { IfOk result
-        (λ v. v.items ≡ totals_of (lengths_of (segments_of segments.now))) }
-    ensures none { length segments.now ≡ 0 → IsOk result }
+        (λ r. r.items ≡ totals_of (lengths_of (segments_of segments.now))) }
+    ensures few { length segments.now ≤ 4 → IsOk result }
 {
-    let mut totals = Vec::with_capacity(alloc, segments.len())?;
+    if segments.len() > FEW {
+        return many_totals_in(alloc, segments);
+    }
+    Ok(Running::of_few(
+        alloc,
+        len_at(segments, 0),
+        len_at(segments, 1),
+        len_at(segments, 2),
+        len_at(segments, 3),
+        segments.len(),
+    ))
+}
+
+// The same of any number of segments.
+#[inline(never)]
+#[tactic(auto, using(crate::proofs::Segments::segments))]
+fn many_totals_in(alloc: Global, segments: &[&[u8]]) -> Result<Running, AllocError>
+    requires { length (flat_bytes (segments_of segments.now)) < 2 ^ 64 }
+    ensures { IfOk result (λ r. r.items ≡ totals_of (lengths_of (segments_of segments.now))) }
+{
+    let mut totals = Running::with_capacity(alloc, segments.len())?;
     let mut total: usize = 0;
     for segment in segments {
         total += segment.len();

@@ -9,7 +9,7 @@
 //! a view of just the next bytes, of `vfs_views`, and moves a beginning of them.
 //!
 //! Both keep the running totals of their segments' lengths, for which `new`, `split_at` and `clone`
-//! take memory. A call finds the segment of its place by one search of them, moves each byte once,
+//! take memory where they are more than four. A call finds the segment of its place by one search of them, moves each byte once,
 //! segment by segment, and stops there. Bytes that lie whole in one segment are moved at once.
 #![tactic(auto)]
 
@@ -22,6 +22,7 @@ mod lend;
 mod place;
 mod reader;
 mod record;
+mod running;
 mod scatter;
 mod transfer;
 pub mod uses;

@@ -14,6 +14,7 @@ ghost use Rattle.vfs_wire.specs.Fields.{Fit, value_of};
 use crate::error::{Error, Result};
 use crate::gather::{copy_from, record_at, total_of, totals_in};
 use crate::lend::{is_one_piece, lent};
+use crate::running::Running;
 use crate::transfer::write_from;
 use std::alloc::Global;
 use std::io::{ErrorKind, Read};
@@ -31,7 +32,7 @@ use vfs_wire::ByteValued;
 #[derive(Drop)]
 pub struct Reader<'a> {
     segments: &'a [&'a [u8]],
-    totals: Vec<usize>,
+    totals: Running,
     start: usize,
     at: usize,
     end: usize,
@@ -53,7 +54,8 @@ impl<'a> Reader<'a> {
     /// A reader of all bytes of the segments, of which any may be empty.
     ///
     /// `Error::DescriptorChainOverflow` where their lengths sum past `usize::MAX`, and
-    /// `Error::OutOfMemory` where memory is refused, which can't be where there are no segments.
+    /// `Error::OutOfMemory` where memory is refused. Up to four segments take none.
+    #[inline]
     pub fn new(alloc: Global, segments: &'a [&'a [u8]]) -> Result<Reader<'a>>
         ensures ok { IfOk result (IsUnread (flat_bytes (segments_of segments.now))) }
         ensures too_long { 2 ^ 64 ≤ length (flat_bytes (segments_of segments.now)) →
@@ -63,6 +65,8 @@ impl<'a> Reader<'a> {
         ensures none { segments.now ≡ [] → IsOk result }
         ensures pieces { IfOk result (λ r.
             r.pieces ≡ lengths_from 0 (lengths_of (segments_of segments.now))) }
+        ensures few { length segments.now ≤ 4 →
+            length (flat_bytes (segments_of segments.now)) < 2 ^ 64 → IsOk result }
     {
         let Some(end) = total_of(segments) else {
             return Err(Error::DescriptorChainOverflow);

@@ -1,12 +1,13 @@
 //! Copies bytes into segments.
 
-ghost use Rattle.std.specs.Prelude.{◌≡◌, ◌+◌, ◌^◌, ◌<◌, ◌≤◌, length, drop, take, vec_len, IfOk, IsOk, MatchOption};
+ghost use Rattle.std.specs.Prelude.{◌≡◌, ◌+◌, ◌^◌, ◌<◌, ◌≤◌, [], length, drop, take, slice_index_or, vec_len, IfOk, IsOk, MatchOption};
 ghost use Rattle.vfs_segments.specs.Segments.{contents, flat_bytes, lengths_of, with_bytes_at};
 ghost use Rattle.vfs_segments.specs.Totals.{totals_of};
 ghost use Rattle.vfs_wire.specs.Fields.{Fit, bytes_of};
 
 use crate::place::place_of;
 use crate::record::LARGEST_RECORD;
+use crate::running::{FEW, Running};
 use std::alloc::{AllocError, Global};
 use vfs_wire::ByteValued;
 
@@ -26,14 +27,47 @@ pub(crate) fn room_of(segments: &[Vec<u8>]) -> Option<usize>
     Some(total)
 }
 
-// The running totals of their lengths.
+// How long segment `i` is, or 0 where there is none.
+#[inline]
 #[tactic(auto, using(crate::proofs::Segments::held_segments))]
-pub(crate) fn totals_held(alloc: Global, segments: &[Vec<u8>]) -> Result<Vec<usize>, AllocError>
-    requires { length (flat_bytes (contents segments.now)) < 2 ^ 64 }
-    ensures totals { IfOk result (λ v. v.items ≡ totals_of (lengths_of (contents segments.now))) }
-    ensures none { length segments.now ≡ 0 → IsOk result }
+fn held_len_at(segments: &[Vec<u8>], i: usize) -> usize
+    ensures { result ≡ length (slice_index_or (contents segments.now) i []) }
 {
-    let mut totals = Vec::with_capacity(alloc, segments.len())?;
+    if i < segments.len() {
+        segments[i].len()
+    } else {
+        0
+    }
+}
+
+// The running totals of their lengths. Up to `FEW` of them take no memory.
+#[inline]
+pub(crate) fn totals_held(alloc: Global, segments: &[Vec<u8>]) -> Result<Running, AllocError>
+    requires { length (flat_bytes (contents segments.now)) < 2 ^ 64 }
+    ensures totals { IfOk result (λ r. r.items ≡ totals_of (lengths_of (contents segments.now))) }
+    ensures few { length segments.now ≤ 4 → IsOk result }
+{
+    if segments.len() > FEW {
+        return many_totals_held(alloc, segments);
+    }
+    Ok(Running::of_few(
+        alloc,
+        held_len_at(segments, 0),
+        held_len_at(segments, 1),
+        held_len_at(segments, 2),
+        held_len_at(segments, 3),
+        segments.len(),
+    ))
+}
+
+// The same of any number of segments.
+#[inline(never)]
+#[tactic(auto, using(crate::proofs::Segments::held_segments))]
+fn many_totals_held(alloc: Global, segments: &[Vec<u8>]) -> Result<Running, AllocError>
+    requires { length (flat_bytes (contents segments.now)) < 2 ^ 64 }
+    ensures { IfOk result (λ r. r.items ≡ totals_of (lengths_of (contents segments.now))) }
+{
+    let mut totals = Running::with_capacity(alloc, segments.len())?;
     let mut total: usize = 0;
     for segment in segments {
         total += segment.len();

@@ -13,6 +13,7 @@ use crate::cut::{cut_off, end_totals, totals_past};
 use crate::error::{Error, Result};
 use crate::place::place_of;
 use crate::record::LARGEST_RECORD;
+use crate::running::Running;
 use crate::scatter::{put_from, put_obj, room_of, totals_held};
 use crate::transfer::read_into;
 use std::alloc::Global;
@@ -34,7 +35,7 @@ use vfs_wire::ByteValued;
 #[derive(Drop)]
 pub struct Writer {
     segments: Vec<Vec<u8>>,
-    totals: Vec<usize>,
+    totals: Running,
     at: usize,
     end: usize,
     held_at: usize,
@@ -58,8 +59,9 @@ impl Writer {
     /// over.
     ///
     /// `Error::DescriptorChainOverflow` where their lengths sum past `usize::MAX`, and
-    /// `Error::OutOfMemory` where memory is refused, which can't be where there are no segments.
-    /// A refusal drops the segments.
+    /// `Error::OutOfMemory` where memory is refused. Up to four segments take none. A refusal drops
+    /// the segments.
+    #[inline]
     pub fn new(alloc: Global, segments: Vec<Vec<u8>>) -> Result<Writer>
         ensures ok { IfOk result (λ w. w ≡ unwritten (contents segments.items)) }
         ensures too_long { 2 ^ 64 ≤ length (flat_bytes (contents segments.items)) →
@@ -67,6 +69,8 @@ impl Writer {
         ensures fits { length (flat_bytes (contents segments.items)) < 2 ^ 64 →
             IfErr result (λ e. e ≡ Error.OutOfMemory) }
         ensures none { segments.items ≡ [] → IsOk result }
+        ensures few { length segments.items ≤ 4 →
+            length (flat_bytes (contents segments.items)) < 2 ^ 64 → IsOk result }
     {
         let Some(end) = room_of(&segments) else {
             return Err(Error::DescriptorChainOverflow);

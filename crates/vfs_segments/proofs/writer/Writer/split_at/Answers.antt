@@ -1,4 +1,4 @@
-use Rattle.std.proofs.Common.{arith, ap, sym, ◌≡◌, ◌∙◌, ◌+◌, ◌-◌, ◌<◌, ◌≤◌, refl, ⊎_elim, length, length-drop, length-take, take, drop, map, ℕ, [], ◌∷◌, ◌++◌}
+use Rattle.std.proofs.Common.{arith, ap, sym, ◌≡◌, ◌∙◌, ◌+◌, ◌-◌, ◌<◌, ◌≤◌, refl, ⊎_elim, length, length-drop, length-take, take, drop, map, [], ◌∷◌, ◌++◌}
 use Rattle.std.proofs.lemmas.Bool.{cases_lt}
 use Rattle.vfs_segments.specs.Lengths.{lengths_before}
 use Rattle.vfs_segments.specs.Totals.{totals_of}
@@ -20,7 +20,7 @@ end_totals-requires c = λ some.
     let w = c.self.inside in
     let p = rw c.deref.ensures.value at c.place_of-first.ensures in
     let listed = IsListed w.segments.items c.place_of-first.result.0 c.place_of-first.result.1 some p.inside in
-    omega (arith, listed, w.totals.ok.0, length-totals w c.self.invariant)
+    omega (arith, listed, length-totals w c.self.invariant)
 
 pub invariant_of-rest : goal.invariant_of-rest
 invariant_of-rest c =

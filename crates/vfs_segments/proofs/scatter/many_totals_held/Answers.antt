@@ -1,10 +1,10 @@
-use Rattle.std.proofs.Common.{arith, ◌≡◌, ◌∙◌, ◌+◌, ◌++◌, ◌∷◌, ap, sym, List, [], ℕ, get_or, length, map, take}
+use Rattle.std.proofs.Common.{arith, ◌≡◌, ◌∙◌, ◌+◌, ◌++◌, ◌∷◌, ap, sym, [], ℕ, get_or, length, map, take}
 use Rattle.std.specs.declared.vec.Vec.{Vec}
 use Rattle.std.specs.declared.alloc.Global.{Global}
 use Rattle.vfs_segments.specs.Totals.{totals_of}
 use Rattle.vfs_segments.proofs.Segments.{held_flat, length-held_flat-take_more}
 use Rattle.vfs_segments.proofs.Totals.{totals_of-more}
-use Rattle.vfs_segments.proofs.scatter.totals_held.Goals as goal
+use Rattle.vfs_segments.proofs.scatter.many_totals_held.Goals as goal
 
 pub loop-segment-preserved : goal.loop-segment-preserved
 loop-segment-preserved c =

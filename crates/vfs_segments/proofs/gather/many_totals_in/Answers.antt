@@ -1,9 +1,9 @@
-use Rattle.std.proofs.Common.{arith, ◌≡◌, ◌∙◌, ◌+◌, ◌++◌, ◌∷◌, ap, sym, List, [], ℕ, get_or, length, map, take}
+use Rattle.std.proofs.Common.{arith, ◌∙◌, ◌+◌, ◌++◌, ◌∷◌, ap, sym, List, [], ℕ, get_or, length, map, take}
 use Rattle.std.specs.Borrow.{Bor}
 use Rattle.vfs_segments.specs.Totals.{totals_of}
 use Rattle.vfs_segments.proofs.Segments.{length-flat-take_more}
 use Rattle.vfs_segments.proofs.Totals.{totals_of-more}
-use Rattle.vfs_segments.proofs.gather.totals_in.Goals as goal
+use Rattle.vfs_segments.proofs.gather.many_totals_in.Goals as goal
 
 pub loop-segment-preserved : goal.loop-segment-preserved
 loop-segment-preserved c =
