@@ -2,17 +2,19 @@
 //! `EntryOut` in front of them for READDIRPLUS.
 
 ghost use Rattle.std.specs.Prelude.{◌≡◌, ◌<◌, ◌^◌, length, Option};
+ghost use Rattle.std.specs.Prelude.{Some};
+ghost use Rattle.vfs_files.specs.Answers.{FitsEntry};
 ghost use Rattle.vfs_files.specs.Items.{item};
-ghost use Rattle.vfs_listings.specs.Records.{dirent_len, record_len, dirent_bytes, entry_bytes};
+ghost use Rattle.vfs_listings.specs.Records.{dirent_len, dirent_of, record_len, dirent_bytes};
 ghost use Rattle.vfs_listings.specs.Records.{record_bytes, FitsOption};
 ghost use Rattle.vfs_listings.specs.Records.{PutsBeginning, verdict, Adds};
 
 use std::io;
-use std::io::Write;
 use vfs_files::{DirEntry, Entry};
 use vfs_flags::{Errno, Fault};
 use vfs_segments::Writer;
 use vfs_wire::{ByteValued, Dirent, EntryOut};
+use vfs_wire_more::Direntplus;
 
 /// How long the record of an entry with this name is, without an `EntryOut`.
 fn dirent_len(name: &[u8]) -> usize
@@ -32,32 +34,38 @@ fn record_len(dir_entry: DirEntry<'_>, entry: &Option<Entry>) -> usize
     }
 }
 
-/// Puts the `EntryOut` of an entry, where there is one.
-fn put_entry(w: &mut Writer, entry: Option<Entry>) -> io::Result<()>
-    ensures puts { PutsBeginning w.old (entry_bytes entry) result w.new }
-    ensures fits { FitsOption entry }
+/// The `Dirent` of an entry whose name has this many bytes.
+fn dirent_of(dir_entry: DirEntry<'_>) -> Dirent
+    requires { length dir_entry.name.bytes.now < 2 ^ 32 }
+    ensures { result ≡ dirent_of (item dir_entry.entry) }
 {
-    match entry {
-        Some(entry) => w.write_obj(EntryOut::from(entry)),
-        None => Ok(()),
+    Dirent {
+        ino: dir_entry.ino,
+        off: dir_entry.offset,
+        namelen: dir_entry.name.to_bytes().len() as u32,
+        type_: dir_entry.type_,
     }
 }
 
-/// Puts the `Dirent` of an entry, its name and the zeros behind it.
+/// Puts a record without an `EntryOut`.
 fn put_dirent(w: &mut Writer, dir_entry: DirEntry<'_>) -> io::Result<()>
     requires { length dir_entry.name.bytes.now < 2 ^ 32 }
     ensures { PutsBeginning w.old (dirent_bytes (item dir_entry.entry)) result w.new }
 {
-    let name = dir_entry.name.to_bytes();
-    let padding = dirent_len(name) - (Dirent::SIZE + name.len());
-    w.write_obj(Dirent {
-        ino: dir_entry.ino,
-        off: dir_entry.offset,
-        namelen: name.len() as u32,
-        type_: dir_entry.type_,
-    })?;
-    w.write_all(name)?;
-    w.write_all(&[0u8; 8][..padding])
+    w.write_padded(dirent_of(dir_entry), dir_entry.name.to_bytes())
+}
+
+/// Puts a record with an `EntryOut`.
+fn put_direntplus(w: &mut Writer, dir_entry: DirEntry<'_>, entry: Entry) -> io::Result<()>
+    requires { length dir_entry.name.bytes.now < 2 ^ 32 }
+    ensures puts { PutsBeginning w.old (record_bytes (Some entry) (item dir_entry.entry)) result w.new }
+    ensures fits { FitsEntry entry }
+{
+    let record = Direntplus {
+        entry_out: EntryOut::from(entry),
+        dirent: dirent_of(dir_entry),
+    };
+    w.write_padded(record, dir_entry.name.to_bytes())
 }
 
 /// Puts a record.
@@ -66,8 +74,10 @@ fn put_record(w: &mut Writer, dir_entry: DirEntry<'_>, entry: Option<Entry>) -> 
     ensures puts { PutsBeginning w.old (record_bytes entry (item dir_entry.entry)) result w.new }
     ensures fits { FitsOption entry }
 {
-    put_entry(w, entry)?;
-    put_dirent(w, dir_entry)
+    match entry {
+        Some(entry) => put_direntplus(w, dir_entry, entry),
+        None => put_dirent(w, dir_entry),
+    }
 }
 
 /// Adds the record of a directory's entry to a reply, where it has at most `max` bytes: a `Dirent`,

@@ -4,6 +4,8 @@ pub mod Halves
 pub mod Totals
 pub mod Places
 pub mod Puts
+pub mod Padding
+pub mod Beginnings
 pub mod Found
 pub mod Writers
 pub mod Cuts

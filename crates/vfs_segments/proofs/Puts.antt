@@ -145,3 +145,15 @@ put_whole xs i k at bs d new h e whole put =
       ap concat now ∙ one_written ys i k at bs listed place whole,
       ap lengths_of now ∙ same_lengths ys i (with_bytes_at k bs s) (length-with_bytes_at k bs s whole) listed,
     )
+
+-- bytes that lie in one segment of a writer lie in all of them
+pub one_fits : (xs : List (Vec ℕ Global)) (i k at n : ℕ) → i < length xs →
+    length (held_flat (take i xs)) + k ≡ at → k + n ≤ length (get_or (contents xs) i []) →
+    at + n ≤ length (held_flat xs)
+one_fits xs i k at n h e fits =
+    let items = λ (v : Vec ℕ Global). v.items in
+    let ys = contents xs in
+    let listed : i < length ys = omega (arith, length-map xs items) in
+    let place : length (concat (take i ys)) + k ≡ at = ap (λ l. length (concat l) + k) (take-map items i xs) ∙ e in
+    let more = ap (λ l. length (concat l)) (drop_more ys i [] listed) in
+    omega (arith, place, fits, more, length-append (get_or ys i []) (concat (drop (i + 1) ys)), ap length (concat-split ys i), length-append (concat (take i ys)) (concat (drop i ys)))

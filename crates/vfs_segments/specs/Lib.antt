@@ -3,6 +3,7 @@ pub mod SegmentLaws
 pub mod Lengths
 pub mod Totals
 pub mod Unread
+pub mod Padded
 pub mod Written
 pub mod Transfer
 pub mod TransferLaws

@@ -78,7 +78,7 @@ fn many_totals_in(alloc: Global, segments: &[&[u8]]) -> Result<Running, AllocErr
 }
 
 // Writes the bytes over as many that stand from place `at` on.
-fn put_at(buf: &mut [u8], at: usize, bytes: &[u8])
+pub(crate) fn put_at(buf: &mut [u8], at: usize, bytes: &[u8])
     requires { at + length bytes.now ≤ length buf.old }
     ensures { buf.new ≡ with_bytes_at at bytes.now buf.old }
 {

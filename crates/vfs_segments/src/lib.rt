@@ -13,6 +13,7 @@
 //! segment by segment, and stops there. Bytes that lie whole in one segment are moved at once.
 #![tactic(auto)]
 
+mod beside;
 mod cut;
 mod descriptor_type;
 mod error;

@@ -1,14 +1,16 @@
 //! Writes the bytes of a reply into segments.
 
-ghost use Rattle.std.specs.Prelude.{◌≡◌, ◌+◌, ◌^◌, ◌<◌, ◌≤◌, ◌↔◌, ℕ, List, [], length, take, min, IfOk, IfErr, IsErr, IsOk, OnOk, OnErr};
+ghost use Rattle.std.specs.Prelude.{◌≡◌, ◌+◌, ◌^◌, ◌<◌, ◌≤◌, ◌↔◌, ◌++◌, ℕ, List, [], length, replicate, take, min, IfOk, IfErr, IsErr, IsOk, OnOk, OnErr};
 ghost use Rattle.std.specs.IoError.{error_kind};
 ghost use Rattle.std.specs.Io.{WritesAtMost};
 ghost use Rattle.std.specs.Io.KnownBytes.{Appends, Keeps, WriteAppends};
+ghost use Rattle.vfs_segments.specs.Padded.{padded_len, padding};
 ghost use Rattle.vfs_segments.specs.Segments.{contents, flat_bytes, lengths_of};
 ghost use Rattle.vfs_segments.specs.Transfer.{moved_bytes, taken_in};
 ghost use Rattle.vfs_segments.specs.Written.{unwritten, wrote, first_room, rest_room, held_over, held_filled, whole};
 ghost use Rattle.vfs_wire.specs.Fields.{Fit, bytes_of};
 
+use crate::beside::{padded_len, put_beside};
 use crate::cut::{cut_off, end_totals, totals_past};
 use crate::error::{Error, Result};
 use crate::place::place_of;
@@ -213,6 +215,48 @@ impl Writer {
         let n = self.available_bytes();
         self.put_next(&buf[..n]);
         Err(io::Error::from(ErrorKind::WriteZero))
+    }
+
+    /// Writes a record, the bytes behind it, and zeros behind these, until all of them are a multiple
+    /// of 8 bytes.
+    ///
+    /// Where fewer are left the error's kind is `WriteZero`, and the beginning of all fills them.
+    pub fn write_padded<T: ByteValued + Drop>(&mut self, x: T, bytes: &[u8]) -> io::Result<()>
+        ensures variant { IsOk result ↔
+            (padded_len (T.SIZE + length bytes.now) ≤ length self.old.left) }
+        ensures wrote { self.new ≡ wrote self.old (take (length self.old.left)
+            (bytes_of T.table x ++ (bytes.now ++ padding (T.SIZE + length bytes.now)))) }
+        ensures full { IfErr result (λ fault. error_kind fault ≡ ErrorKind.WriteZero) }
+        ensures in_width { Fit T.table.widths (T.table.fields x) }
+        ensures in_range { T.in_range x }
+    {
+        let len = padded_len::<T>(bytes);
+        if put_beside(&mut self.segments, &self.totals, self.at, len, &x, bytes) {
+            self.at += len;
+            return Ok(());
+        }
+        self.write_apart(x, bytes, len - (T::SIZE + bytes.len()))
+    }
+
+    // Writes a record, the bytes and so many zeros, one after another.
+    #[inline(never)]
+    fn write_apart<T: ByteValued + Drop>(
+        &mut self,
+        x: T,
+        bytes: &[u8],
+        zeros: usize,
+    ) -> io::Result<()>
+        requires { zeros ≤ 8 }
+        ensures variant { IsOk result ↔ (T.SIZE + length bytes.now + zeros ≤ length self.old.left) }
+        ensures wrote { self.new ≡ wrote self.old (take (length self.old.left)
+            (bytes_of T.table x ++ (bytes.now ++ replicate zeros 0))) }
+        ensures full { IfErr result (λ fault. error_kind fault ≡ ErrorKind.WriteZero) }
+        ensures in_width { Fit T.table.widths (T.table.fields x) }
+        ensures in_range { T.in_range x }
+    {
+        self.write_obj(x)?;
+        self.write_all(bytes)?;
+        self.write_all(&[0u8; 8][..zeros])
     }
 
     /// Lends a file the next bytes of the room, `count` of them or all that are left, to be read

@@ -1,12 +1,13 @@
-use Rattle.std.proofs.Common.{refl}
-use Rattle.vfs_files.specs.Items.{item}
-use Rattle.vfs_listings.specs.Records.{entry_bytes, dirent_bytes}
-use Rattle.vfs_listings.proofs.Putting.{puts_then}
 use Rattle.vfs_listings.proofs.record.put_record.Goals as goal
 
-pub returns-clause-puts : goal.returns-clause-puts
-returns-clause-puts c =
-    puts_then c.args.w.now c.put_entry.new.w c.put_dirent.new.w (entry_bytes c.args.entry)
-    (dirent_bytes (item c.args.dir_entry))
-    c.put_entry.result c.put_dirent.result c.put_entry.ensures.puts (rw c.in_ok-put_entry.was refl)
-    c.put_dirent.ensures
+pub returns-in-Some-clause-fits : goal.returns-in-Some-clause-fits
+returns-in-Some-clause-fits c = rw c.in-Some.is c.put_direntplus.ensures.fits
+
+pub returns-in-Some-clause-puts : goal.returns-in-Some-clause-puts
+returns-in-Some-clause-puts c = rw c.in-Some.is c.put_direntplus.ensures.puts
+
+pub returns-in-None-clause-puts : goal.returns-in-None-clause-puts
+returns-in-None-clause-puts c = rw c.in-None.is c.put_dirent.ensures
+
+pub returns-in-None-clause-fits : goal.returns-in-None-clause-fits
+returns-in-None-clause-fits c = rw c.in-None.is tt

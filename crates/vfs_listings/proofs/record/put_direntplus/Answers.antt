@@ -1,0 +1,17 @@
+use Rattle.std.proofs.Common.{◌≡◌, ◌∙◌, ◌+◌, ◌++◌, Some, arith, ap, length, sym}
+use Rattle.vfs_files.specs.Items.{item}
+use Rattle.vfs_segments.specs.Padded.{padded_len, padding}
+use Rattle.vfs_listings.specs.Records.{record_bytes}
+use Rattle.vfs_listings.specs.RecordLaws.{length-record_bytes}
+use Rattle.vfs_listings.proofs.Putting.{puts_by, direntplus_parts}
+use Rattle.vfs_listings.proofs.record.put_direntplus.Goals as goal
+
+pub returns-clause-puts : goal.returns-clause-puts
+returns-clause-puts c =
+    let i = item c.args.dir_entry in
+    let name = c.to_bytes.ensures in
+    let parts = direntplus_parts c.args.entry i c.to_bytes.result.now name in
+    let put = rw (c.from.ensures, c.dirent_of.ensures, parts) at c.write_padded.ensures.wrote in
+    let long = length-record_bytes (Some c.args.entry) i in
+    puts_by c.args.w.now c.write_padded.new.self (record_bytes (Some c.args.entry) i) _ c.write_padded.result put
+    c.write_padded.ensures.variant (long ∙ omega (arith, ap length name))
