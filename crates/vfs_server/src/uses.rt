@@ -1,10 +1,11 @@
 //! Small callers of the server, as examples. What each ensures follows from the contracts of what
 //! it calls, and from nothing else.
 
-ghost use Rattle.std.specs.Prelude.{◌≡◌, ◌≢◌, ◌≤◌, ◌++◌, [], length, take, drop, Err, Some, IfSome, OnSome};
+ghost use Rattle.std.specs.Prelude.{◌≡◌, ◌≢◌, ◌≤◌, ◌-◌, ◌++◌, [], true, length, take, drop, Err, Some, IfSome, OnSome};
 ghost use Rattle.vfs_flags.specs.Opcode.{opcode_of};
 ghost use Rattle.vfs_flags.specs.declared.opcode.Opcode.{Opcode};
 ghost use Rattle.vfs_segments.specs.Segments.{contents, flat_bytes};
+ghost use Rattle.vfs_segments.specs.Unread.{are_together};
 ghost use Rattle.vfs_segments.specs.Written.{whole};
 ghost use Rattle.vfs_files.specs.declared.migration.MigrateError.TheVariants.{Unsupported};
 ghost use Rattle.vfs_messages.specs.Laws.{header_of};
@@ -146,6 +147,21 @@ pub fn getattr_lacks_no_memory<F: FileSystem>(
     ensures { result ≢ Err OutOfMemory }
 {
     laws::memory_is_wanted_for_whole_tails();
+    server.handle_message(alloc, r, w)
+}
+
+/// Hands over a LOOKUP whose name lies in one segment: whatever its bytes and the room, it is never
+/// told that memory is wanted.
+pub fn lookup_in_one_segment<F: FileSystem>(
+    alloc: Global,
+    server: &mut Server<F>,
+    r: Reader<'_>,
+    w: &mut Writer,
+) -> Result<usize>
+    requires opcode { opcode_of (header_of r.left).opcode ≡ Some Opcode.Lookup }
+    requires together { are_together r 40 ((header_of r.left).len - 40) ≡ true }
+    ensures { result ≢ Err OutOfMemory }
+{
     server.handle_message(alloc, r, w)
 }
 
