@@ -55,7 +55,7 @@ impl<'a> Reader<'a> {
     ///
     /// `Error::DescriptorChainOverflow` where their lengths sum past `usize::MAX`, and
     /// `Error::OutOfMemory` where memory is refused. Up to four segments take none.
-    #[inline]
+    #[inline(always)]
     pub fn new(alloc: Global, segments: &'a [&'a [u8]]) -> Result<Reader<'a>>
         ensures ok { IfOk result (IsUnread (flat_bytes (segments_of segments.now))) }
         ensures too_long { 2 ^ 64 ≤ length (flat_bytes (segments_of segments.now)) →

@@ -53,27 +53,28 @@ impl Running {
         })
     }
 
-    // The totals of the first `count` of four lengths, in place.
+    // The totals of the first `count` of four lengths, in place, or where the count is past `FEW`
+    // those in memory.
     #[inline]
-    pub(crate) fn of_few(
-        alloc: Global,
+    pub(crate) fn new(
         first: usize,
         second: usize,
         third: usize,
         fourth: usize,
         count: usize,
+        many: Vec<usize>,
     ) -> Running
-        requires few { count ≤ 4 }
-        requires fits { first + second + third + fourth < 2 ^ 64 }
-        ensures { result.items ≡
+        requires { first + second + third + fourth < 2 ^ 64 }
+        ensures few { count ≤ 4 → result.items ≡
             take count (totals_of (first ∷ second ∷ third ∷ fourth ∷ [])) }
+        ensures many { 4 < count → result.items ≡ many.items }
     {
         let two = first + second;
         let three = two + third;
         Running {
             few: [first, two, three, three + fourth],
             count,
-            many: Vec::new(alloc),
+            many,
         }
     }
 

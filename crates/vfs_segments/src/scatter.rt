@@ -47,27 +47,29 @@ pub(crate) fn totals_held(alloc: Global, segments: &[Vec<u8>]) -> Result<Running
     ensures totals { IfOk result (λ r. r.items ≡ totals_of (lengths_of (contents segments.now))) }
     ensures few { length segments.now ≤ 4 → IsOk result }
 {
-    if segments.len() > FEW {
-        return many_totals_held(alloc, segments);
-    }
-    Ok(Running::of_few(
-        alloc,
+    let many = if segments.len() > FEW {
+        many_totals_held(alloc, segments)?
+    } else {
+        Vec::new(alloc)
+    };
+    Ok(Running::new(
         held_len_at(segments, 0),
         held_len_at(segments, 1),
         held_len_at(segments, 2),
         held_len_at(segments, 3),
         segments.len(),
+        many,
     ))
 }
 
-// The same of any number of segments.
+// The same in memory.
 #[inline(never)]
 #[tactic(auto, using(crate::proofs::Segments::held_segments))]
-fn many_totals_held(alloc: Global, segments: &[Vec<u8>]) -> Result<Running, AllocError>
+fn many_totals_held(alloc: Global, segments: &[Vec<u8>]) -> Result<Vec<usize>, AllocError>
     requires { length (flat_bytes (contents segments.now)) < 2 ^ 64 }
-    ensures { IfOk result (λ r. r.items ≡ totals_of (lengths_of (contents segments.now))) }
+    ensures { IfOk result (λ v. v.items ≡ totals_of (lengths_of (contents segments.now))) }
 {
-    let mut totals = Running::with_capacity(alloc, segments.len())?;
+    let mut totals = Vec::with_capacity(alloc, segments.len())?;
     let mut total: usize = 0;
     for segment in segments {
         total += segment.len();

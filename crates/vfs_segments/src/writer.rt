@@ -63,7 +63,7 @@ impl Writer {
     /// `Error::DescriptorChainOverflow` where their lengths sum past `usize::MAX`, and
     /// `Error::OutOfMemory` where memory is refused. Up to four segments take none. A refusal drops
     /// the segments.
-    #[inline]
+    #[inline(always)]
     pub fn new(alloc: Global, segments: Vec<Vec<u8>>) -> Result<Writer>
         ensures ok { IfOk result (λ w. w ≡ unwritten (contents segments.items)) }
         ensures too_long { 2 ^ 64 ≤ length (flat_bytes (contents segments.items)) →
