@@ -6,8 +6,14 @@ use Rattle.vfs_files.specs.Calls.{Call, Lookup, Forget, Readdir, directory_answe
 use Rattle.vfs_files.specs.Items.{Item}
 use Rattle.vfs_files.specs.Runs.{Happening, IsRun, events_of}
 use Rattle.vfs_files.specs.declared.entry.Context.{Context}
+use Rattle.vfs_files.specs.declared.entry.Entry.{Entry}
 use Rattle.vfs_listings.specs.Records.{Verdict, Fits, Full, Fails, verdict, Adds}
 use Rattle.vfs_listings.specs.Listing.{Got, node_got, IsDotEntry, is_dot, judged, line_len, cut_of, IsListing, IsDirectory}
+
+-- what its lookup gives an item
+abbrev pub got_of : Result Entry (Option ℕ) → Got
+got_of (Ok entry) = Ok (Some entry)
+got_of (Err fault) = Err fault
 
 -- the record of an item that got this was added; where it got a fault, this is the answer, and
 -- nothing was put

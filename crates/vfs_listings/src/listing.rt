@@ -1,14 +1,16 @@
 //! The reading of a directory: each entry is taken, looked up for READDIRPLUS, and its record put,
 //! up to the first that isn't written.
 
-ghost use Rattle.std.specs.Prelude.{◌≡◌, ◌≤◌, Ok, IfOk};
+ghost use Rattle.std.specs.Prelude.{◌≡◌, ◌≤◌, length, true, Some, Ok, IfOk};
 ghost use Rattle.vfs_files.specs.Entries.{context_of, entry_out_of};
 ghost use Rattle.vfs_files.specs.Items.{item};
-ghost use Rattle.vfs_listings.specs.Listing.{is_dot, dot_out, node_got, told};
-ghost use Rattle.vfs_listings.specs.Reading.{LooksUp, GivesBackNode, AddsLine, ReadsItems};
+ghost use Rattle.vfs_listings.specs.Listing.{is_dot, dot_out, judged, told};
+ghost use Rattle.vfs_listings.specs.Reading.{got_of, AddsGot, AddsLine, GivesBack, GivesBackNode};
+ghost use Rattle.vfs_listings.specs.Reading.{ReadsItems};
+ghost use Rattle.vfs_listings.specs.Records.{verdict};
 ghost use Rattle.vfs_listings.specs.Reading.{ReadsDirectory};
 
-use crate::record::add_dirent;
+use crate::record::{add_plain, add_plus};
 use std::time::Duration;
 use vfs_files::{Context, DirEntry, DirectoryIterator, Entry, FileSystem, Number};
 use vfs_flags::Fault;
@@ -39,51 +41,83 @@ fn dot_entry(dir_entry: DirEntry<'_>) -> Entry
     }
 }
 
-/// What an entry of a directory gets: where `plus`, an `Entry`, which but for `.` and `..` is
-/// looked up.
-fn entry_of<F: FileSystem>(
+/// Gives back one lookup of a node.
+fn give_back<F: FileSystem>(fs: &mut F, header: &InHeader, node: u64)
+    ensures { GivesBackNode F.allows (context_of header.now) (Some node) fs.old fs.new }
+{
+    fs.forget(Context::from(*header), F::Inode::from_number(node), 1)
+}
+
+/// Adds the record of a directory's entry with what it got, and gives that back where the record
+/// isn't written.
+fn add_got<F: FileSystem>(
     fs: &mut F,
     header: &InHeader,
-    plus: bool,
+    w: &mut Writer,
+    max: usize,
     dir_entry: DirEntry<'_>,
-) -> Result<Option<Entry>, Fault>
-    ensures { LooksUp F.allows (context_of header.now) plus (is_dot (item dir_entry.entry).name)
-        header.now.nodeid (item dir_entry.entry) fs.old result fs.new }
+    entry: &Entry,
+) -> Result<usize, Fault>
+    ensures adds { AddsGot max (length w.old.left) (Ok (Some entry.now)) (item dir_entry.entry)
+        w.old result w.new }
+    ensures gives_back { GivesBack F.allows (context_of header.now)
+        (verdict max (length w.old.left) (Some entry.now) (item dir_entry.entry))
+        (Ok (Some entry.now)) fs.old fs.new }
 {
-    if !plus {
-        return Ok(None);
+    let added = add_plus(w, max, dir_entry, entry);
+    match added {
+        Ok(len) if len > 0 => Ok(len),
+        _ => {
+            give_back(fs, header, entry.inode);
+            added
+        }
     }
+}
+
+/// Adds the record of a directory's entry with what its `lookup` answered; a fault of that is the
+/// answer.
+fn add_found<F: FileSystem>(
+    fs: &mut F,
+    header: &InHeader,
+    w: &mut Writer,
+    max: usize,
+    dir_entry: DirEntry<'_>,
+    found: &Result<Entry, Fault>,
+) -> Result<usize, Fault>
+    ensures adds { AddsGot max (length w.old.left) (got_of found.now) (item dir_entry.entry)
+        w.old result w.new }
+    ensures gives_back { GivesBack F.allows (context_of header.now)
+        (judged max (length w.old.left) (got_of found.now) (item dir_entry.entry))
+        (got_of found.now) fs.old fs.new }
+{
+    match found {
+        Ok(entry) => add_got(fs, header, w, max, dir_entry, entry),
+        Err(fault) => Err(*fault),
+    }
+}
+
+/// Adds the record of a directory's entry with an `Entry`, which but for `.` and `..` is looked up.
+fn add_with_entry<F: FileSystem>(
+    fs: &mut F,
+    header: &InHeader,
+    w: &mut Writer,
+    max: usize,
+    dir_entry: DirEntry<'_>,
+) -> Result<usize, Fault>
+    ensures { AddsLine F.allows (context_of header.now) true header.now.nodeid max
+        (item dir_entry.entry) fs.old w.old result fs.new w.new }
+{
     if is_dot(dir_entry.name.to_bytes()) {
-        return Ok(Some(dot_entry(dir_entry)));
+        let entry = dot_entry(dir_entry);
+        return add_got(fs, header, w, max, dir_entry, &entry);
     }
     let parent = F::Inode::from_number(header.nodeid);
-    match fs.lookup(Context::from(*header), parent, dir_entry.name) {
-        Ok(entry) => Ok(Some(entry)),
-        Err(fault) => Err(fault),
-    }
+    let found = fs.lookup(Context::from(*header), parent, dir_entry.name);
+    add_found(fs, header, w, max, dir_entry, &found)
 }
 
-/// The node of an entry.
-fn node_of(entry: &Option<Entry>) -> Option<u64>
-    ensures { result ≡ node_got (Ok entry.now) }
-{
-    match entry {
-        Some(entry) => Some(entry.inode),
-        None => None,
-    }
-}
-
-/// Gives back one lookup of a node, where there is one.
-fn give_back<F: FileSystem>(fs: &mut F, header: &InHeader, node: Option<u64>)
-    ensures { GivesBackNode F.allows (context_of header.now) node fs.old fs.new }
-{
-    match node {
-        Some(node) => fs.forget(Context::from(*header), F::Inode::from_number(node), 1),
-        None => {}
-    }
-}
-
-/// Adds the record of a directory's entry, and gives back what it got where it isn't written.
+/// Adds the record of a directory's entry, where `plus` with an `Entry`, and gives back what it got
+/// where it isn't written.
 fn add_line<F: FileSystem>(
     fs: &mut F,
     header: &InHeader,
@@ -95,15 +129,10 @@ fn add_line<F: FileSystem>(
     ensures { AddsLine F.allows (context_of header.now) plus header.now.nodeid max
         (item dir_entry.entry) fs.old w.old result fs.new w.new }
 {
-    let entry = entry_of(fs, header, plus, dir_entry)?;
-    let node = node_of(&entry);
-    let added = add_dirent(w, max, dir_entry, entry);
-    match added {
-        Ok(len) if len > 0 => Ok(len),
-        _ => {
-            give_back(fs, header, node);
-            added
-        }
+    if plus {
+        add_with_entry(fs, header, w, max, dir_entry)
+    } else {
+        add_plain(w, max, dir_entry)
     }
 }
 

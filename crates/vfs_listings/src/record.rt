@@ -1,12 +1,12 @@
 //! Records of a directory's entries: a `Dirent`, the name, and zeros to a multiple of 8, with an
 //! `EntryOut` in front of them for READDIRPLUS.
 
-ghost use Rattle.std.specs.Prelude.{◌≡◌, ◌<◌, ◌^◌, length, Option};
-ghost use Rattle.std.specs.Prelude.{Some};
+ghost use Rattle.std.specs.Prelude.{◌≡◌, ◌<◌, ◌^◌, length, Some, None};
 ghost use Rattle.vfs_files.specs.Answers.{FitsEntry};
+ghost use Rattle.vfs_files.specs.Entries.{entry_out_of};
 ghost use Rattle.vfs_files.specs.Items.{item};
-ghost use Rattle.vfs_listings.specs.Records.{dirent_len, dirent_of, record_len, dirent_bytes};
-ghost use Rattle.vfs_listings.specs.Records.{record_bytes, FitsOption};
+ghost use Rattle.vfs_listings.specs.Records.{dirent_len, dirent_of, dirent_bytes};
+ghost use Rattle.vfs_listings.specs.Records.{record_bytes};
 ghost use Rattle.vfs_listings.specs.Records.{PutsBeginning, verdict, Adds};
 
 use std::io;
@@ -21,17 +21,6 @@ fn dirent_len(name: &[u8]) -> usize
     ensures { result ≡ dirent_len (length name.now) }
 {
     (Dirent::SIZE + name.len()).next_multiple_of(8)
-}
-
-/// How long a record is.
-fn record_len(dir_entry: DirEntry<'_>, entry: &Option<Entry>) -> usize
-    ensures { result ≡ record_len entry.now (item dir_entry.entry) }
-{
-    let len = dirent_len(dir_entry.name.to_bytes());
-    match entry {
-        Some(_) => EntryOut::SIZE + len,
-        None => len,
-    }
 }
 
 /// The `Dirent` of an entry whose name has this many bytes.
@@ -55,28 +44,75 @@ fn put_dirent(w: &mut Writer, dir_entry: DirEntry<'_>) -> io::Result<()>
     w.write_padded(dirent_of(dir_entry), dir_entry.name.to_bytes())
 }
 
+/// What a reply carries of an entry.
+fn entry_out(entry: &Entry) -> EntryOut
+    ensures { result ≡ entry_out_of entry.now }
+{
+    EntryOut {
+        nodeid: entry.inode,
+        generation: entry.generation,
+        entry_valid: entry.entry_timeout.as_secs(),
+        attr_valid: entry.attr_timeout.as_secs(),
+        entry_valid_nsec: entry.entry_timeout.subsec_nanos(),
+        attr_valid_nsec: entry.attr_timeout.subsec_nanos(),
+        attr: entry.attr,
+    }
+}
+
 /// Puts a record with an `EntryOut`.
-fn put_direntplus(w: &mut Writer, dir_entry: DirEntry<'_>, entry: Entry) -> io::Result<()>
+fn put_direntplus(w: &mut Writer, dir_entry: DirEntry<'_>, entry: &Entry) -> io::Result<()>
     requires { length dir_entry.name.bytes.now < 2 ^ 32 }
-    ensures puts { PutsBeginning w.old (record_bytes (Some entry) (item dir_entry.entry)) result w.new }
-    ensures fits { FitsEntry entry }
+    ensures puts { PutsBeginning w.old
+        (record_bytes (Some entry.now) (item dir_entry.entry)) result w.new }
+    ensures fits { FitsEntry entry.now }
 {
     let record = Direntplus {
-        entry_out: EntryOut::from(entry),
+        entry_out: entry_out(entry),
         dirent: dirent_of(dir_entry),
     };
     w.write_padded(record, dir_entry.name.to_bytes())
 }
 
-/// Puts a record.
-fn put_record(w: &mut Writer, dir_entry: DirEntry<'_>, entry: Option<Entry>) -> io::Result<()>
-    requires { length dir_entry.name.bytes.now < 2 ^ 32 }
-    ensures puts { PutsBeginning w.old (record_bytes entry (item dir_entry.entry)) result w.new }
-    ensures fits { FitsOption entry }
+/// Adds a record without an `EntryOut`.
+pub(crate) fn add_plain(w: &mut Writer, max: usize, dir_entry: DirEntry<'_>) -> Result<usize, Fault>
+    ensures { Adds (verdict max (length w.old.left) None (item dir_entry.entry)) None
+        (item dir_entry.entry) w.old result w.new }
 {
-    match entry {
-        Some(entry) => put_direntplus(w, dir_entry, entry),
-        None => put_dirent(w, dir_entry),
+    let name = dir_entry.name.to_bytes();
+    if name.len() > u32::MAX as usize {
+        return Err(Some(Errno::EOVERFLOW));
+    }
+    let len = dirent_len(name);
+    if len > max {
+        return Ok(0);
+    }
+    match put_dirent(w, dir_entry) {
+        Ok(()) => Ok(len),
+        Err(_) => Err(None),
+    }
+}
+
+/// Adds a record with an `EntryOut`.
+pub(crate) fn add_plus(
+    w: &mut Writer,
+    max: usize,
+    dir_entry: DirEntry<'_>,
+    entry: &Entry,
+) -> Result<usize, Fault>
+    ensures { Adds (verdict max (length w.old.left) (Some entry.now) (item dir_entry.entry))
+        (Some entry.now) (item dir_entry.entry) w.old result w.new }
+{
+    let name = dir_entry.name.to_bytes();
+    if name.len() > u32::MAX as usize {
+        return Err(Some(Errno::EOVERFLOW));
+    }
+    let plus_len = EntryOut::SIZE + dirent_len(name);
+    if plus_len > max {
+        return Ok(0);
+    }
+    match put_direntplus(w, dir_entry, entry) {
+        Ok(()) => Ok(plus_len),
+        Err(_) => Err(None),
     }
 }
 
@@ -98,15 +134,8 @@ pub fn add_dirent(
     ensures { Adds (verdict max (length w.old.left) entry (item dir_entry.entry)) entry
         (item dir_entry.entry) w.old result w.new }
 {
-    if dir_entry.name.to_bytes().len() > u32::MAX as usize {
-        return Err(Some(Errno::EOVERFLOW));
-    }
-    let len = record_len(dir_entry, &entry);
-    if len > max {
-        return Ok(0);
-    }
-    match put_record(w, dir_entry, entry) {
-        Ok(()) => Ok(len),
-        Err(_) => Err(None),
+    match entry {
+        Some(entry) => add_plus(w, max, dir_entry, &entry),
+        None => add_plain(w, max, dir_entry),
     }
 }

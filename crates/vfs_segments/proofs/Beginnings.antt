@@ -1,95 +1,60 @@
 -- Writes one after another, of which each puts as much as there is room for.
-use Rattle.std.proofs.Common.{◌≡◌, ◌≤◌, ◌<◌, ◌+◌, ◌-◌, ℕ, List, ◌++◌, Result, Ok, Err, IsOk, length, take, refl, ap, sym, ◌∙◌, arith, append_assoc, length-append, length-drop}
-use Rattle.std.specs.Prelude.{IsErr, ◌↔◌}
+use Rattle.std.proofs.Common.{◌≡◌, ◌≤◌, ◌<◌, ◌+◌, ◌-◌, ℕ, Bool, true, false, List, ◌++◌, Result, Ok, Err, IsOk, length, take, ap, refl, sym, ◌∙◌, arith, append_assoc, length-append, length-drop}
+use Rattle.std.specs.Prelude.{◌↔◌, is_ok, is_err}
 use Rattle.std.proofs.Math.Nat.{lt_of_not-le}
 use Rattle.std.proofs.Math.Seq.{take-append-add}
 use Rattle.std.proofs.lemmas.List.{take_all, take-append-le, drop-drop}
 use Rattle.vfs_segments.specs.Written.{Written, wrote}
 
+-- a write that is Ok where its n bytes fit failed
+pub failed : {E : Type 0} (r : Result (Unit {0}) E) (n room : ℕ) (b : Bool) → IsOk r ↔ (n ≤ room) →
+    b ≡ is_err r → b ≡ true → room < n
+failed (Ok x) n room b h e t = absurd cc
+failed (Err x) n room b h e t = lt_of_not-le (λ le. let ok = h.1 le in cc)
+
+-- it did not
+pub went : {E : Type 0} (r : Result (Unit {0}) E) (n room : ℕ) (b : Bool) → IsOk r ↔ (n ≤ room) →
+    b ≡ is_err r → b ≡ false → n ≤ room
+went (Ok x) n room b h e f = h.0 refl
+went (Err x) n room b h e f = absurd cc
+
+-- the same, told by `is_ok`
+pub not_whole : {E : Type 0} (r : Result (Unit {0}) E) (n room : ℕ) (b : Bool) → IsOk r ↔ (n ≤ room) →
+    b ≡ is_ok r → b ≡ false → room < n
+not_whole (Ok x) n room b h e f = absurd cc
+not_whole (Err x) n room b h e f = lt_of_not-le (λ le. let ok = h.1 le in cc)
+
+pub is_whole : {E : Type 0} (r : Result (Unit {0}) E) (n room : ℕ) (b : Bool) → IsOk r ↔ (n ≤ room) →
+    b ≡ is_ok r → b ≡ true → n ≤ room
+is_whole (Ok x) n room b h e t = h.0 refl
+is_whole (Err x) n room b h e t = absurd cc
+
 -- two writes are one
 pub wrote-wrote : (w : Written) (x y : List ℕ) → wrote (wrote w x) y ≡ wrote w (x ++ y)
 wrote-wrote w x y = rw (append_assoc w.passed x y, length-append x y, drop-drop (length y) (length x) w.left) refl
 
--- as much of these bytes was put as there is room for, and the answer is Ok where that is all
-pub record Puts {E : Type 0} (old : Written) (bytes : List ℕ) (result : Result (Unit {0}) E) (new : Written) : Type 0 where
-  pub puts : new ≡ wrote old (take (length old.left) bytes)
-  pub whole : IsOk result ↔ (length bytes ≤ length old.left)
+-- the beginning of a part that doesn't fit is that of all
+pub cut_off : (old new : Written) (a b : List ℕ) → new ≡ wrote old (take (length old.left) a) →
+    length old.left ≤ length a → new ≡ wrote old (take (length old.left) (a ++ b))
+cut_off old new a b e h = e ∙ ap (wrote old) (sym (take-append-le (length old.left) a b h))
 
--- a write that is told by the length of what it puts
-pub puts_by : {E : Type 0} (old new : Written) (bytes : List ℕ) (n : ℕ) (result : Result (Unit {0}) E) →
-    new ≡ wrote old (take (length old.left) bytes) → IsOk result ↔ (n ≤ length old.left) →
-    length bytes ≡ n → Puts old bytes result new
-puts_by old new bytes n result puts whole long = record {
-  puts = puts;
-  whole = (λ h. let k = whole.0 h in omega (arith, k, long), λ h. whole.1 (omega (arith, h, long)));
-}
+-- a part that fits leaves the other room
+pub room_left : (old mid : Written) (a : List ℕ) → mid ≡ wrote old (take (length old.left) a) →
+    length a ≤ length old.left → length mid.left ≡ length old.left - length a
+room_left old mid a e h =
+    ap (λ (w : Written). length w.left) (e ∙ ap (wrote old) (take_all (length old.left) a h))
+    ∙ length-drop (length a) old.left
 
--- nothing is put of a part behind one that was cut
-pub puts_failed : {E : Type 0} (old new : Written) (a b : List ℕ) (first second : Result (Unit {0}) E) (e : E) →
-    Puts old a first new → first ≡ Err e → IsErr second → Puts old (a ++ b) second new
-puts_failed old new a b first (Ok x) e p is failed = cc
-puts_failed old new a b first (Err x) e p is failed =
-    let cut : length old.left < length a =
-    lt_of_not-le (λ h. let ok = rw is at (p.whole.1 h) in cc) in
-    record {
-      puts = p.puts ∙ ap (wrote old) (sym (take-append-le (length old.left) a b (omega arith)));
-      whole = (λ h. cc, λ h. absurd (omega (arith, h, length-append a b)));
-    }
-
--- two parts, of which the first was put whole
-pub puts_then : {E : Type 0} (old mid new : Written) (a b : List ℕ) (first second : Result (Unit {0}) E) →
-    Puts old a first mid → IsOk first → Puts mid b second new → Puts old (a ++ b) second new
-puts_then old mid new a b first second p ok q =
-    let within : length a ≤ length old.left = p.whole.0 ok in
-    let at : mid ≡ wrote old a = p.puts ∙ ap (wrote old) (take_all (length old.left) a within) in
-    let room : length mid.left ≡ length old.left - length a =
-    ap (λ (w : Written). length w.left) at ∙ length-drop (length a) old.left in
+-- a part behind one that fits
+pub both : (old mid new : Written) (a b : List ℕ) → mid ≡ wrote old (take (length old.left) a) →
+    length a ≤ length old.left → new ≡ wrote mid (take (length mid.left) b) →
+    new ≡ wrote old (take (length old.left) (a ++ b))
+both old mid new a b e h f =
+    let at : mid ≡ wrote old a = e ∙ ap (wrote old) (take_all (length old.left) a h) in
+    let room = room_left old mid a e h in
     let sum : length a + (length old.left - length a) ≡ length old.left = omega arith in
     let cut : a ++ take (length mid.left) b ≡ take (length old.left) (a ++ b) =
     ap (λ (k : ℕ). a ++ take k b) room ∙ sym (take-append-add a b (length old.left - length a))
     ∙ ap (λ (k : ℕ). take k (a ++ b)) sum in
-    record {
-      puts = q.puts ∙ ap (λ (w : Written). wrote w (take (length mid.left) b)) at
-          ∙ wrote-wrote old a (take (length mid.left) b) ∙ ap (wrote old) cut;
-      whole = (
-        λ h. let k = q.whole.0 h in omega (arith, k, room, within, length-append a b),
-        λ h. q.whole.1 (let l = length-append a b in omega (arith, h, l, room, within)),
-      );
-    }
-
--- told by the length of what is put
-pub by_length : {E : Type 0} (old new : Written) (bytes : List ℕ) (n : ℕ) (result : Result (Unit {0}) E) →
-    Puts old bytes result new → length bytes ≡ n → IsOk result ↔ (n ≤ length old.left)
-by_length old new bytes n result p long = (
-  λ h. let k = p.whole.0 h in omega (arith, k, long),
-  λ h. p.whole.1 (omega (arith, h, long)),
-)
-
--- a record of n bytes, bytes behind it, and zeros behind those
-module _ {E : Type 0} (old mid : Written) (x bytes zeros : List ℕ) (n : ℕ) (first : Result (Unit {0}) E)
-    (record_put : mid ≡ wrote old (take (length old.left) x)) (record_whole : IsOk first ↔ (n ≤ length old.left))
-    (size : length x ≡ n) where
-  record_puts : Puts old x first mid
-  record_puts = puts_by old mid x n first record_put record_whole size
-
-  -- the record was cut
-  pub record_cut : (result : Result (Unit {0}) E) (e : E) → first ≡ Err e → IsErr result → Puts old (x ++ (bytes ++ zeros)) result mid
-  record_cut result e is failed = puts_failed old mid x (bytes ++ zeros) first result e record_puts is failed
-
-  module _ (ok : IsOk first) (new : Written) (second : Result (Unit {0}) E)
-      (bytes_put : new ≡ wrote mid (take (length mid.left) bytes)) (bytes_whole : IsOk second ↔ (length bytes ≤ length mid.left)) where
-    bytes_puts : Puts old (x ++ bytes) second new
-    bytes_puts = puts_then old mid new x bytes first second record_puts ok (record { puts = bytes_put; whole = bytes_whole })
-
-    -- the bytes were cut
-    pub bytes_cut : (result : Result (Unit {0}) E) (e : E) → second ≡ Err e → IsErr result → Puts old (x ++ (bytes ++ zeros)) result new
-    bytes_cut result e is failed =
-        rw (← append_assoc x bytes zeros) (puts_failed old new (x ++ bytes) zeros second result e bytes_puts is failed)
-
-    -- the zeros were put, as many as there is room for
-    pub all_put : IsOk second → (last : Written) (result : Result (Unit {0}) E) →
-        last ≡ wrote new (take (length new.left) zeros) → IsOk result ↔ (length zeros ≤ length new.left) →
-        Puts old (x ++ (bytes ++ zeros)) result last
-    all_put done last result put whole =
-        rw (← append_assoc x bytes zeros)
-        (puts_then old new last (x ++ bytes) zeros second result bytes_puts done (record { puts = put; whole = whole }))
+    f ∙ ap (λ (w : Written). wrote w (take (length mid.left) b)) at
+    ∙ wrote-wrote old a (take (length mid.left) b) ∙ ap (wrote old) cut

@@ -56,7 +56,13 @@ fn spell<T: ByteValued>(out: &mut [u8], x: &T, bytes: &[u8])
 }
 
 // The same over `len` bytes that stand from place `at` on.
-fn put_spelled_whole<T: ByteValued>(segment: &mut Vec<u8>, at: usize, len: usize, x: &T, bytes: &[u8])
+fn put_spelled_whole<T: ByteValued>(
+    segment: &mut Vec<u8>,
+    at: usize,
+    len: usize,
+    x: &T,
+    bytes: &[u8],
+)
     requires whole { len ≡ padded_len (T.SIZE + length bytes.now) }
     requires fits { at + len ≤ vec_len segment.old }
     ensures wrote { segment.new.items ≡ with_bytes_at at

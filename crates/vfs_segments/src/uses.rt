@@ -284,6 +284,18 @@ pub fn kind_of_a_long_record(writer: &mut Writer, number: u32) -> Option<ErrorKi
     }
 }
 
+/// A number of four bytes and two bytes behind it take eight bytes of the room, of which the last two
+/// are zeros, whatever stood there.
+pub fn number_and_two_bytes(writer: &mut Writer, number: u32, bytes: &[u8])
+    requires two { length bytes.now ≡ 2 }
+    requires room { 8 ≤ length writer.old.left }
+    ensures wrote { writer.new.passed ≡ writer.old.passed ++
+        (bytes_of (lone_number 4) number ++ (bytes.now ++ 0 ∷ 0 ∷ [])) }
+    ensures left { writer.new.left ≡ drop 8 writer.old.left }
+{
+    writer.write_padded(number, bytes).unwrap();
+}
+
 /// Zeros are read from a file into the next three of five bytes. The two behind them stay.
 pub fn three_zeros_from_a_file(writer: &mut Writer) -> usize
     requires { length writer.old.left ≡ 5 }

@@ -1,6 +1,6 @@
 //! Writes the bytes of a reply into segments.
 
-ghost use Rattle.std.specs.Prelude.{◌≡◌, ◌+◌, ◌^◌, ◌<◌, ◌≤◌, ◌↔◌, ◌++◌, ℕ, List, [], length, replicate, take, min, IfOk, IfErr, IsErr, IsOk, OnOk, OnErr};
+ghost use Rattle.std.specs.Prelude.{◌≡◌, ◌+◌, ◌^◌, ◌<◌, ◌≤◌, ◌↔◌, ◌++◌, ℕ, List, [], true, false, length, replicate, take, min, IfOk, IfErr, IsErr, IsOk, OnOk, OnErr};
 ghost use Rattle.std.specs.IoError.{error_kind};
 ghost use Rattle.std.specs.Io.{WritesAtMost};
 ghost use Rattle.std.specs.Io.KnownBytes.{Appends, Keeps, WriteAppends};
@@ -192,7 +192,8 @@ impl Writer {
         ensures in_range { T.in_range x }
     {
         if T::SIZE > self.available_bytes() {
-            return self.write_cut(x);
+            self.write_cut(x);
+            return Err(io::Error::from(ErrorKind::WriteZero));
         }
         put_obj(&mut self.segments, &self.totals, self.at, x);
         self.at += T::SIZE;
@@ -201,12 +202,10 @@ impl Writer {
 
     // Fills the room that is left with the beginning of a record, which has more bytes.
     #[cold]
-    fn write_cut<T: ByteValued + Drop>(&mut self, x: T) -> io::Result<()>
+    fn write_cut<T: ByteValued + Drop>(&mut self, x: T)
         requires { length self.old.left < T.SIZE }
-        ensures refused { IsErr result }
         ensures wrote { self.new ≡
             wrote self.old (take (length self.old.left) (bytes_of T.table x)) }
-        ensures full { IfErr result (λ fault. error_kind fault ≡ ErrorKind.WriteZero) }
         ensures in_width { Fit T.table.widths (T.table.fields x) }
         ensures in_range { T.in_range x }
     {
@@ -214,7 +213,6 @@ impl Writer {
         x.put(&mut buf[..T::SIZE]);
         let n = self.available_bytes();
         self.put_next(&buf[..n]);
-        Err(io::Error::from(ErrorKind::WriteZero))
     }
 
     /// Writes a record, the bytes behind it, and zeros behind these, until all of them are a multiple
@@ -235,28 +233,32 @@ impl Writer {
             self.at += len;
             return Ok(());
         }
-        self.write_apart(x, bytes, len - (T::SIZE + bytes.len()))
+        if self.write_apart(x, bytes, len - (T::SIZE + bytes.len())) {
+            return Ok(());
+        }
+        Err(io::Error::from(ErrorKind::WriteZero))
     }
 
-    // Writes a record, the bytes and so many zeros, one after another.
+    // Writes a record, the bytes and so many zeros, one after another. Answers whether all fit.
     #[inline(never)]
-    fn write_apart<T: ByteValued + Drop>(
-        &mut self,
-        x: T,
-        bytes: &[u8],
-        zeros: usize,
-    ) -> io::Result<()>
+    fn write_apart<T: ByteValued + Drop>(&mut self, x: T, bytes: &[u8], zeros: usize) -> bool
         requires { zeros ≤ 8 }
-        ensures variant { IsOk result ↔ (T.SIZE + length bytes.now + zeros ≤ length self.old.left) }
+        ensures whole { result ≡ true →
+            T.SIZE + length bytes.now + zeros ≤ length self.old.left }
+        ensures cut { result ≡ false →
+            length self.old.left < T.SIZE + length bytes.now + zeros }
         ensures wrote { self.new ≡ wrote self.old (take (length self.old.left)
             (bytes_of T.table x ++ (bytes.now ++ replicate zeros 0))) }
-        ensures full { IfErr result (λ fault. error_kind fault ≡ ErrorKind.WriteZero) }
         ensures in_width { Fit T.table.widths (T.table.fields x) }
         ensures in_range { T.in_range x }
     {
-        self.write_obj(x)?;
-        self.write_all(bytes)?;
-        self.write_all(&[0u8; 8][..zeros])
+        if self.write_obj(x).is_err() {
+            return false;
+        }
+        if self.write_all(bytes).is_err() {
+            return false;
+        }
+        self.write_all(&[0u8; 8][..zeros]).is_ok()
     }
 
     /// Lends a file the next bytes of the room, `count` of them or all that are left, to be read

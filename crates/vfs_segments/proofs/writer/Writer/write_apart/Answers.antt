@@ -1,60 +1,79 @@
-use Rattle.std.proofs.Common.{◌≡◌, ◌+◌, ◌≤◌, ◌∙◌, ℕ, List, ◌++◌, arith, ap, length, length-append, refl, replicate, sym, take}
-use Rattle.std.proofs.lemmas.List.{length-replicate, take-replicate}
-use Rattle.vfs_segments.proofs.Beginnings.{by_length, record_cut, bytes_cut, all_put}
-use Rattle.vfs_segments.specs.Written.{Written, wrote}
+use Rattle.std.proofs.Common.{◌≡◌, ◌+◌, ◌≤◌, ◌<◌, ◌∙◌, ◌++◌, ℕ, arith, ap, append_assoc, length, length-append, length-take, replicate, sym, take}
+use Rattle.std.proofs.lemmas.List.{take-replicate}
+use Rattle.vfs_segments.proofs.Beginnings.{failed, went, is_whole, not_whole, cut_off, room_left, both}
+use Rattle.vfs_segments.specs.Written.{wrote}
 use Rattle.vfs_wire.specs.Fields.{bytes_of}
 use Rattle.vfs_wire.specs.FieldLaws.{length-bytes_of}
 use Rattle.vfs_segments.proofs.writer.Writer.write_apart.Goals as goal
 
--- how many bytes are to be put
-all_of : (x bytes : List ℕ) (n zeros : ℕ) → length x ≡ n → length (x ++ (bytes ++ replicate zeros 0)) ≡ n + length bytes + zeros
-all_of x bytes n zeros e =
-    omega (arith, e, length-append x (bytes ++ replicate zeros 0), length-append bytes (replicate zeros 0), length-replicate {A = ℕ} zeros 0)
+pub returns-then-is_err-clause-wrote : goal.returns-then-is_err-clause-wrote
+returns-then-is_err-clause-wrote g c =
+    let x = bytes_of g.T.ByteValued.table c.args.x in
+    let size = length-bytes_of g.T.ByteValued.table c.args.x c.write_obj.ensures.in_width ∙ g.met.T.ByteValued.size_is in
+    let short = failed c.write_obj.result g.T.ByteValued.SIZE _ _ c.write_obj.ensures.variant c.is_err.ensures.value c.if-is_err.true in
+    cut_off c.args.self.now c.write_obj.new.self x (c.args.bytes.now ++ replicate c.args.zeros 0) c.write_obj.ensures.wrote (omega (arith, size, short))
 
-pub returns-in_err-write_obj-clause-wrote : goal.returns-in_err-write_obj-clause-wrote
-returns-in_err-write_obj-clause-wrote g c =
-    let t = g.T.ByteValued.table in
-    let size = length-bytes_of t c.args.x c.write_obj.ensures.in_width ∙ g.met.T.ByteValued.size_is in
-    let p = record_cut c.args.self.now c.write_obj.new.self (bytes_of t c.args.x) c.args.bytes.now (replicate c.args.zeros 0) g.T.ByteValued.SIZE c.write_obj.result c.write_obj.ensures.wrote c.write_obj.ensures.variant size
-    c.from_residual.result c.in_err-write_obj.field-0.0 c.in_err-write_obj.was c.from_residual.ensures.0 in
-    p.puts
+pub returns-then-is_err-2-clause-cut : goal.returns-then-is_err-2-clause-cut
+returns-then-is_err-2-clause-cut g c = λ same.
+    let x = bytes_of g.T.ByteValued.table c.args.x in
+    let size = length-bytes_of g.T.ByteValued.table c.args.x c.write_obj.ensures.in_width ∙ g.met.T.ByteValued.size_is in
+    let fits = went c.write_obj.result g.T.ByteValued.SIZE _ _ c.write_obj.ensures.variant c.is_err.ensures.value c.if-is_err.false in
+    let left = room_left c.args.self.now c.write_obj.new.self x c.write_obj.ensures.wrote (omega (arith, size, fits)) in
+    let short = failed c.write_all.result (length c.args.bytes.now) _ _ c.write_all.ensures.variant c.is_err-2.ensures.value c.if-is_err-2.true in
+    omega (arith, size, fits, left, short)
 
-pub returns-in_err-write_all-clause-variant : goal.returns-in_err-write_all-clause-variant
-returns-in_err-write_all-clause-variant g c =
-    let t = g.T.ByteValued.table in
-    let size = length-bytes_of t c.args.x c.write_obj.ensures.in_width ∙ g.met.T.ByteValued.size_is in
-    let p = bytes_cut c.args.self.now c.write_obj.new.self (bytes_of t c.args.x) c.args.bytes.now (replicate c.args.zeros 0) g.T.ByteValued.SIZE c.write_obj.result c.write_obj.ensures.wrote c.write_obj.ensures.variant size
-    (rw c.in_ok-write_obj.was refl) c.write_all.new.self c.write_all.result c.write_all.ensures.wrote c.write_all.ensures.variant
-    c.from_residual-in_err-write_all.result c.in_err-write_all.field-0.0 c.in_err-write_all.was c.from_residual-in_err-write_all.ensures.0 in
-    by_length c.args.self.now c.write_all.new.self _ (g.T.ByteValued.SIZE + length c.args.bytes.now + c.args.zeros) c.from_residual-in_err-write_all.result p
-    (all_of (bytes_of t c.args.x) c.args.bytes.now g.T.ByteValued.SIZE c.args.zeros size)
+pub returns-then-is_err-2-clause-wrote : goal.returns-then-is_err-2-clause-wrote
+returns-then-is_err-2-clause-wrote g c =
+    let x = bytes_of g.T.ByteValued.table c.args.x in
+    let bytes = c.args.bytes.now in
+    let zeros = replicate {A = ℕ} c.args.zeros 0 in
+    let w = c.args.self.now in
+    let size = length-bytes_of g.T.ByteValued.table c.args.x c.write_obj.ensures.in_width ∙ g.met.T.ByteValued.size_is in
+    let fits : length x ≤ length w.left = omega (arith, size, went c.write_obj.result g.T.ByteValued.SIZE _ _ c.write_obj.ensures.variant c.is_err.ensures.value c.if-is_err.false) in
+    let left = room_left w c.write_obj.new.self x c.write_obj.ensures.wrote fits in
+    let short = failed c.write_all.result (length bytes) _ _ c.write_all.ensures.variant c.is_err-2.ensures.value c.if-is_err-2.true in
+    let two = both w c.write_obj.new.self c.write_all.new.self x bytes c.write_obj.ensures.wrote fits c.write_all.ensures.wrote in
+    cut_off w c.write_all.new.self (x ++ bytes) zeros two (omega (arith, fits, left, short, length-append x bytes))
+    ∙ ap (λ l. wrote w (take (length w.left) l)) (append_assoc x bytes zeros)
 
-pub returns-in_err-write_all-clause-wrote : goal.returns-in_err-write_all-clause-wrote
-returns-in_err-write_all-clause-wrote g c =
-    let t = g.T.ByteValued.table in
-    let size = length-bytes_of t c.args.x c.write_obj.ensures.in_width ∙ g.met.T.ByteValued.size_is in
-    let p = bytes_cut c.args.self.now c.write_obj.new.self (bytes_of t c.args.x) c.args.bytes.now (replicate c.args.zeros 0) g.T.ByteValued.SIZE c.write_obj.result c.write_obj.ensures.wrote c.write_obj.ensures.variant size
-    (rw c.in_ok-write_obj.was refl) c.write_all.new.self c.write_all.result c.write_all.ensures.wrote c.write_all.ensures.variant
-    c.from_residual-in_err-write_all.result c.in_err-write_all.field-0.0 c.in_err-write_all.was c.from_residual-in_err-write_all.ensures.0 in
-    p.puts
+pub returns-clause-whole : goal.returns-clause-whole
+returns-clause-whole g c = λ same.
+    let x = bytes_of g.T.ByteValued.table c.args.x in
+    let bytes = c.args.bytes.now in
+    let w = c.args.self.now in
+    let size = length-bytes_of g.T.ByteValued.table c.args.x c.write_obj.ensures.in_width ∙ g.met.T.ByteValued.size_is in
+    let fits : length x ≤ length w.left = omega (arith, size, went c.write_obj.result g.T.ByteValued.SIZE _ _ c.write_obj.ensures.variant c.is_err.ensures.value c.if-is_err.false) in
+    let left = room_left w c.write_obj.new.self x c.write_obj.ensures.wrote fits in
+    let more = went c.write_all.result (length bytes) _ _ c.write_all.ensures.variant c.is_err-2.ensures.value c.if-is_err-2.false in
+    let two = both w c.write_obj.new.self c.write_all.new.self x bytes c.write_obj.ensures.wrote fits c.write_all.ensures.wrote in
+    let rest = room_left w c.write_all.new.self (x ++ bytes) two (omega (arith, fits, left, more, length-append x bytes)) in
+    let last = is_whole c.write_all-2.result _ _ _ c.write_all-2.ensures.variant c.is_ok.ensures.value same in
+    omega (arith, size, fits, left, more, rest, last, length-append x bytes, length-take c.args.zeros (replicate {A = ℕ} 8 0))
 
-pub returns-clause-variant : goal.returns-clause-variant
-returns-clause-variant g c =
-    let t = g.T.ByteValued.table in
-    let zeros = take-replicate {X = ℕ} c.args.zeros 8 0 c.requires in
-    let size = length-bytes_of t c.args.x c.write_obj.ensures.in_width ∙ g.met.T.ByteValued.size_is in
-    let p = all_put c.args.self.now c.write_obj.new.self (bytes_of t c.args.x) c.args.bytes.now (replicate c.args.zeros 0) g.T.ByteValued.SIZE c.write_obj.result c.write_obj.ensures.wrote c.write_obj.ensures.variant size
-    (rw c.in_ok-write_obj.was refl) c.write_all.new.self c.write_all.result c.write_all.ensures.wrote c.write_all.ensures.variant
-    (rw c.in_ok-write_all.was refl) c.write_all-2.new.self c.write_all-2.result (rw zeros at c.write_all-2.ensures.wrote) (rw zeros at c.write_all-2.ensures.variant) in
-    by_length c.args.self.now c.write_all-2.new.self _ (g.T.ByteValued.SIZE + length c.args.bytes.now + c.args.zeros) c.write_all-2.result p
-    (all_of (bytes_of t c.args.x) c.args.bytes.now g.T.ByteValued.SIZE c.args.zeros size)
+pub returns-clause-cut : goal.returns-clause-cut
+returns-clause-cut g c = λ same.
+    let x = bytes_of g.T.ByteValued.table c.args.x in
+    let bytes = c.args.bytes.now in
+    let w = c.args.self.now in
+    let size = length-bytes_of g.T.ByteValued.table c.args.x c.write_obj.ensures.in_width ∙ g.met.T.ByteValued.size_is in
+    let fits : length x ≤ length w.left = omega (arith, size, went c.write_obj.result g.T.ByteValued.SIZE _ _ c.write_obj.ensures.variant c.is_err.ensures.value c.if-is_err.false) in
+    let left = room_left w c.write_obj.new.self x c.write_obj.ensures.wrote fits in
+    let more = went c.write_all.result (length bytes) _ _ c.write_all.ensures.variant c.is_err-2.ensures.value c.if-is_err-2.false in
+    let two = both w c.write_obj.new.self c.write_all.new.self x bytes c.write_obj.ensures.wrote fits c.write_all.ensures.wrote in
+    let rest = room_left w c.write_all.new.self (x ++ bytes) two (omega (arith, fits, left, more, length-append x bytes)) in
+    let last = not_whole c.write_all-2.result _ _ _ c.write_all-2.ensures.variant c.is_ok.ensures.value same in
+    omega (arith, size, fits, left, more, rest, last, length-append x bytes, length-take c.args.zeros (replicate {A = ℕ} 8 0))
 
 pub returns-clause-wrote : goal.returns-clause-wrote
 returns-clause-wrote g c =
-    let t = g.T.ByteValued.table in
+    let x = bytes_of g.T.ByteValued.table c.args.x in
+    let bytes = c.args.bytes.now in
+    let w = c.args.self.now in
     let zeros = take-replicate {X = ℕ} c.args.zeros 8 0 c.requires in
-    let size = length-bytes_of t c.args.x c.write_obj.ensures.in_width ∙ g.met.T.ByteValued.size_is in
-    let p = all_put c.args.self.now c.write_obj.new.self (bytes_of t c.args.x) c.args.bytes.now (replicate c.args.zeros 0) g.T.ByteValued.SIZE c.write_obj.result c.write_obj.ensures.wrote c.write_obj.ensures.variant size
-    (rw c.in_ok-write_obj.was refl) c.write_all.new.self c.write_all.result c.write_all.ensures.wrote c.write_all.ensures.variant
-    (rw c.in_ok-write_all.was refl) c.write_all-2.new.self c.write_all-2.result (rw zeros at c.write_all-2.ensures.wrote) (rw zeros at c.write_all-2.ensures.variant) in
-    p.puts
+    let size = length-bytes_of g.T.ByteValued.table c.args.x c.write_obj.ensures.in_width ∙ g.met.T.ByteValued.size_is in
+    let fits : length x ≤ length w.left = omega (arith, size, went c.write_obj.result g.T.ByteValued.SIZE _ _ c.write_obj.ensures.variant c.is_err.ensures.value c.if-is_err.false) in
+    let left = room_left w c.write_obj.new.self x c.write_obj.ensures.wrote fits in
+    let more = went c.write_all.result (length bytes) _ _ c.write_all.ensures.variant c.is_err-2.ensures.value c.if-is_err-2.false in
+    let two = both w c.write_obj.new.self c.write_all.new.self x bytes c.write_obj.ensures.wrote fits c.write_all.ensures.wrote in
+    both w c.write_all.new.self c.write_all-2.new.self (x ++ bytes) (replicate c.args.zeros 0) two (omega (arith, fits, left, more, length-append x bytes)) (rw zeros at c.write_all-2.ensures.wrote)
+    ∙ ap (λ l. wrote w (take (length w.left) l)) (append_assoc x bytes (replicate c.args.zeros 0))

@@ -1,0 +1,23 @@
+use Rattle.std.proofs.Common.{◌∙◌, ◌+◌, Some, ap, arith, length, refl}
+use Rattle.vfs_files.specs.Items.{item}
+use Rattle.vfs_listings.specs.Records.{dirent_len}
+use Rattle.vfs_listings.proofs.Putting.{adds_whole, adds_cut}
+use Rattle.vfs_listings.proofs.record.add_plus.Goals as goal
+
+pub returns-in-Ok : goal.returns-in-Ok
+returns-in-Ok c =
+    let name = ap length c.to_bytes-name.ensures in
+    let len = ap (λ k. 128 + k) (c.dirent_len-plus_len.ensures ∙ ap dirent_len name) in
+    adds_whole c.args.max (Some c.args.entry.now) (item c.args.dir_entry) c.args.w.now
+    c.put_direntplus.new.w _ c.put_direntplus.result len
+    (omega (arith, name)) (omega arith) c.put_direntplus.ensures.puts (rw c.in-Ok.is refl)
+    c.put_direntplus.ensures.fits
+
+pub returns-in-Err : goal.returns-in-Err
+returns-in-Err c =
+    let name = ap length c.to_bytes-name.ensures in
+    let len = ap (λ k. 128 + k) (c.dirent_len-plus_len.ensures ∙ ap dirent_len name) in
+    adds_cut c.args.max (Some c.args.entry.now) (item c.args.dir_entry) c.args.w.now
+    c.put_direntplus.new.w (128 + c.dirent_len-plus_len.result) c.put_direntplus.result
+    c.in-Err.field-0 len
+    (omega (arith, name)) (omega arith) c.put_direntplus.ensures.puts c.in-Err.is
