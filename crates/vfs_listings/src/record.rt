@@ -92,7 +92,9 @@ pub(crate) fn add_plain(w: &mut Writer, max: usize, dir_entry: DirEntry<'_>) -> 
     }
 }
 
-/// Adds a record with an `EntryOut`.
+/// Adds a record with an `EntryOut`. Where it is inlined, an entry that was made just before goes to
+/// the room without being put together in memory first.
+#[inline(always)]
 pub(crate) fn add_plus(
     w: &mut Writer,
     max: usize,

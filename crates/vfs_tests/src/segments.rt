@@ -340,6 +340,8 @@ enum WriteCall {
     Byte(u8),
     /// `write_obj` of a number of four bytes.
     Word(u32),
+    /// `write_padded` of a number of four bytes and these bytes.
+    Padded(u32, &'static [u8]),
     /// `flush`.
     Flush,
     /// `hold` of so many bytes. That it is past the room is answered as invalid input here.
@@ -384,6 +386,10 @@ fn write_by(writer: &mut Writer, call: WriteCall) -> Answer {
         WriteCall::All(bytes) => all_of(bytes.len(), writer.write_all(bytes)),
         WriteCall::Byte(x) => all_of(1, writer.write_obj(x)),
         WriteCall::Word(x) => all_of(4, writer.write_obj(x)),
+        WriteCall::Padded(x, bytes) => all_of(
+            (4 + bytes.len()).next_multiple_of(8),
+            writer.write_padded(x, bytes),
+        ),
         WriteCall::Flush => all_of(0, writer.flush()),
         WriteCall::Hold(n) => hold(writer, n),
         WriteCall::Fill(bytes) => fill(writer, bytes),
@@ -418,7 +424,7 @@ fn has_segments(writer: Writer, want: &[&[u8]]) -> bool {
 }
 
 /// The lengths of a writer's segments, its calls, and its segments afterwards.
-const WRITES: [(&[usize], &[WriteRow], &[&[u8]]); 10] = [
+const WRITES: [(&[usize], &[WriteRow], &[&[u8]]); 11] = [
     (
         &[8, 16, 18, 64],
         &[
@@ -463,6 +469,28 @@ const WRITES: [(&[usize], &[WriteRow], &[&[u8]]); 10] = [
             (0, 3, 0),
         )],
         &[&[1], &[2, 3]],
+    ),
+    (
+        &[8, 3, 13, 4],
+        &[
+            (
+                WriteCall::Padded(0x0403_0201, &[5, 6, 7]),
+                Ok(8),
+                (20, 8, 0),
+            ),
+            (WriteCall::Padded(0x0403_0201, &[5]), Ok(8), (12, 16, 0)),
+            (
+                WriteCall::Padded(0x0403_0201, &[5; 9]),
+                Err(ErrorKind::WriteZero),
+                (0, 28, 0),
+            ),
+        ],
+        &[
+            &[1, 2, 3, 4, 5, 6, 7, 0],
+            &[1, 2, 3],
+            &[4, 5, 0, 0, 0, 1, 2, 3, 4, 5, 5, 5, 5],
+            &[5, 5, 5, 5],
+        ],
     ),
     (
         &[16, 16, 16],
