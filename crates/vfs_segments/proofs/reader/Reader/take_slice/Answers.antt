@@ -1,4 +1,4 @@
-use Rattle.std.proofs.Common.{arith, ap, ◌≡◌, ◌∙◌, ◌+◌, ◌≤◌, sym}
+use Rattle.std.proofs.Common.{arith, ap, ◌≡◌, ◌∙◌, ◌+◌, ◌≤◌, sym, rules}
 use Rattle.vfs_segments.specs.Lengths.{lie_together}
 use Rattle.vfs_segments.specs.Segments.{lengths_of, segments_of}
 use Rattle.vfs_segments.proofs.Places.{length-left, moved_on, together_is}
@@ -30,3 +30,6 @@ returns-clause-moved c =
     let left = length-left r c.self.invariant c.args.self.now c.self.view_is in
     let h : r.at + c.args.n ≤ r.end = omega (arith, left, c.available_bytes.ensures.left, c.self.invariant.before_end) in
     moved_on r c.self.invariant c.args.self.now c.self.view_is c.args.n h
+
+pub returns-in_default-clause-none : goal.returns-in_default-clause-none
+returns-in_default-clause-none c = search rules

@@ -1,4 +1,4 @@
-use Rattle.std.proofs.Common.{arith, ap, sym, ◌≡◌, ◌∙◌, ◌+◌, ◌-◌, ◌<◌, ◌≤◌, refl, ⊎_elim, length, length-drop, length-take, take, drop, map, [], ◌∷◌, ◌++◌}
+use Rattle.std.proofs.Common.{arith, ap, sym, ◌≡◌, ◌∙◌, ◌+◌, ◌-◌, ◌<◌, ◌≤◌, refl, ⊎_elim, length, length-drop, length-take, take, drop, map, [], ◌∷◌, ◌++◌, rules}
 use Rattle.std.proofs.lemmas.Bool.{cases_lt}
 use Rattle.vfs_segments.specs.Lengths.{lengths_before}
 use Rattle.vfs_segments.specs.Totals.{totals_of}
@@ -72,3 +72,6 @@ returns-clause-kept c =
     keeps w v n c.in_ok-segments.ensures.front refl refl refl
     (omega (arith, c.self.invariant.all, c.self.invariant.within)) c.in_ok-segments.ensures.front_lengths
     ∙ ap (λ (u : Written). first_room u n) c.self.view_is
+
+pub returns-then-n-available_bytes-clause-err : goal.returns-then-n-available_bytes-clause-err
+returns-then-n-available_bytes-clause-err c = search rules
