@@ -60,6 +60,7 @@ fn entry_out(entry: &Entry) -> EntryOut
 }
 
 /// Puts a record with an `EntryOut`.
+#[inline(always)]
 fn put_direntplus(w: &mut Writer, dir_entry: DirEntry<'_>, entry: &Entry) -> io::Result<()>
     requires { length dir_entry.name.bytes.now < 2 ^ 32 }
     ensures puts { PutsBeginning w.old

@@ -219,6 +219,7 @@ impl Writer {
     /// of 8 bytes.
     ///
     /// Where fewer are left the error's kind is `WriteZero`, and the beginning of all fills them.
+    #[inline(always)]
     pub fn write_padded<T: ByteValued + Drop>(&mut self, x: T, bytes: &[u8]) -> io::Result<()>
         ensures variant { IsOk result ↔
             (padded_len (T.SIZE + length bytes.now) ≤ length self.old.left) }
