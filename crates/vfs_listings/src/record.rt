@@ -5,8 +5,7 @@ ghost use Rattle.std.specs.Prelude.{◌≡◌, ◌<◌, ◌^◌, length, Some, N
 ghost use Rattle.vfs_files.specs.Answers.{FitsEntry};
 ghost use Rattle.vfs_files.specs.Entries.{entry_out_of};
 ghost use Rattle.vfs_files.specs.Items.{item};
-ghost use Rattle.vfs_listings.specs.Records.{dirent_len, dirent_of, dirent_bytes};
-ghost use Rattle.vfs_listings.specs.Records.{record_bytes};
+ghost use Rattle.vfs_listings.specs.Records.{dirent_len, dirent_of, dirent_bytes, record_bytes};
 ghost use Rattle.vfs_listings.specs.Records.{PutsBeginning, verdict, Adds};
 
 use std::io;
@@ -23,7 +22,7 @@ fn dirent_len(name: &[u8]) -> usize
     (Dirent::SIZE + name.len()).next_multiple_of(8)
 }
 
-/// The `Dirent` of an entry whose name has this many bytes.
+/// The `Dirent` of an entry.
 fn dirent_of(dir_entry: DirEntry<'_>) -> Dirent
     requires { length dir_entry.name.bytes.now < 2 ^ 32 }
     ensures { result ≡ dirent_of (item dir_entry.entry) }
@@ -93,8 +92,8 @@ pub(crate) fn add_plain(w: &mut Writer, max: usize, dir_entry: DirEntry<'_>) -> 
     }
 }
 
-/// Adds a record with an `EntryOut`. Where it is inlined, an entry that was made just before goes to
-/// the room without being put together in memory first.
+/// Adds a record with an `EntryOut`. It is inlined, so that an entry that was made just before goes
+/// into the room without being put together in memory first.
 #[inline(always)]
 pub(crate) fn add_plus(
     w: &mut Writer,
