@@ -18,8 +18,8 @@ abbrev pub pieces_behind : {R : Type 0} → Layout R → (pieces : List ℕ) →
 pieces_behind (Without r) pieces = pieces
 pieces_behind (Record t) pieces = lengths_from (size_of t) pieces
 
--- a tail behind a record of `size` bytes is cut between two segments, where the bytes from it on lie
--- in pieces of these lengths
+-- a tail behind a record of `size` bytes is cut between two segments, where the bytes from it on
+-- lie in pieces of these lengths
 abbrev pub TailIsCut : InHeader → (size : ℕ) → (pieces : List ℕ) → Type 0
 TailIsCut h size pieces = IsFalse (lie_together 0 (h.len - (size_of in_header + size)) pieces)
 

@@ -11,7 +11,9 @@ abbrev pub unread_of : Inside → Unread
 unread_of r = record {
   left = take (r.end - r.at) (drop r.at (flat_bytes (segments_of r.segments.now)));
   taken = r.at - r.start;
-  pieces = lengths_before (r.end - r.at) (lengths_from r.at (lengths_of (segments_of r.segments.now)));
+  pieces =
+      lengths_before (r.end - r.at)
+      (lengths_from r.at (lengths_of (segments_of r.segments.now)));
 }
 
 -- the places of a reader are in order and lie in its segments, whose running totals it has

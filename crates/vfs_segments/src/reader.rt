@@ -27,8 +27,8 @@ use vfs_wire::ByteValued;
 /// Reads bytes from segments, wherever they are cut. It lends the segments, and takes each byte
 /// once.
 ///
-/// Contracts see the flat bytes that are left, how many were taken, and the lengths of the pieces of
-/// segments in which those left lie.
+/// Contracts see the flat bytes that are left, how many were taken, and the lengths of the pieces
+/// of segments in which those left lie.
 #[derive(Drop)]
 pub struct Reader<'a> {
     segments: &'a [&'a [u8]],

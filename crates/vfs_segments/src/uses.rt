@@ -140,8 +140,8 @@ pub fn read_by_a_clone(reader: &Reader<'_>, buf: &mut [u8]) -> Result<usize>
     Ok(reader.available_bytes())
 }
 
-/// Which bytes of segments of three and four bytes lie together: those of each segment, and none over
-/// the cut or past the end.
+/// Which bytes of segments of three and four bytes lie together: those of each segment, and none
+/// over the cut or past the end.
 pub fn together_in_two_segments(
     alloc: Global,
     first: &[u8],

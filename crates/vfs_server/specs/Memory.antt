@@ -15,7 +15,7 @@ use Rattle.vfs_messages.specs.Parts.{TailIsCut, pieces_behind}
 use Rattle.vfs_messages.specs.Records.{size_of}
 use Rattle.vfs_messages.specs.declared.limits.Limits.{Limits}
 
--- ---- as a client's transport sees it
+-- ---- as a transport sees it
 
 -- of a request that a reader has left: the tail behind a record of this layout is all there, and
 -- lies in one segment
@@ -38,7 +38,8 @@ WantsNone h u (Pairs layout above count call) = ⊥
 WantsNone h u _ = Unit {0}
 
 -- the same by the opcode; a number that is none is answered without memory
-abbrev pub WantsNoneBehind : Limits → (options room : ℕ) → Option Opcode → InHeader → Unread → Type 0
+abbrev pub WantsNoneBehind : Limits → (options room : ℕ) → Option Opcode → InHeader → Unread
+    → Type 0
 WantsNoneBehind limits options room None h u = Unit {0}
 WantsNoneBehind limits options room (Some opcode) h u =
     WantsNone h u (form_of limits options room h opcode)
