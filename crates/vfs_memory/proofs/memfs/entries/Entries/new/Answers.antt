@@ -1,3 +1,4 @@
+use Rattle.std.proofs.Common.{rules}
 use Rattle.vfs_memory.specs.MemFs.{root_items}
 use Rattle.vfs_memory.proofs.RootItems.{items_more, items_whole}
 use Rattle.vfs_memory.proofs.memfs.entries.Entries.new.Goals as goal
@@ -12,3 +13,6 @@ pub returns : goal.returns
 returns c =
     items_whole c.args.files.now c.loop-place.entries.items c.args.offset c.loop-place.place
     c.loop-place-test.false c.loop-place.invariant
+
+pub loop-place-init : goal.loop-place-init
+loop-place-init c = search rules
