@@ -9,8 +9,10 @@
 //! a view of just the next bytes, of `vfs_views`, and moves a beginning of them.
 //!
 //! Both keep the running totals of their segments' lengths, for which `new`, `split_at` and `clone`
-//! take memory where they are more than four. A call finds the segment of its place by one search of them, moves each byte once,
-//! segment by segment, and stops there. Bytes that lie whole in one segment are moved at once.
+//! take memory where they are more than four. A call finds the segment of its place by one search
+//! of them, moves each byte once, segment by segment, and stops there. Bytes that lie whole in one
+//! segment are moved at once. `Writer::write_padded` searches three times, where what it writes does
+//! not lie whole in one.
 #![tactic(auto)]
 
 mod beside;

@@ -284,8 +284,8 @@ pub fn kind_of_a_long_record(writer: &mut Writer, number: u32) -> Option<ErrorKi
     }
 }
 
-/// A number of four bytes and two bytes behind it take eight bytes of the room, of which the last two
-/// are zeros, whatever stood there.
+/// A number of four bytes and two bytes behind it take eight bytes of the room, of which the last
+/// two are zeros, whatever stood there.
 pub fn number_and_two_bytes(writer: &mut Writer, number: u32, bytes: &[u8])
     requires two { length bytes.now ≡ 2 }
     requires room { 8 ≤ length writer.old.left }

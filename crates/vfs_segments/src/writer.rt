@@ -215,8 +215,8 @@ impl Writer {
         self.put_next(&buf[..n]);
     }
 
-    /// Writes a record, the bytes behind it, and zeros behind these, until all of them are a multiple
-    /// of 8 bytes.
+    /// Writes a record, the bytes behind it, and zeros behind these, until all of them are a
+    /// multiple of 8 bytes.
     ///
     /// Where fewer are left the error's kind is `WriteZero`, and the beginning of all fills them.
     #[inline(always)]

@@ -142,9 +142,9 @@ impl<F: FileSystem> Server<F> {
     /// another part, has no end, `InvalidXattrSize` where the value of an extended attribute is not
     /// as long as its record says, the errors of [`get_extensions`](vfs_messages::get_extensions),
     /// `InvalidCString` where a last name or text has no end or another byte behind it,
-    /// `OutOfMemory` where there is no memory for a list that is whole, a tail that is whole and cut
-    /// between two segments, or a context among extensions. After any error
-    /// but `EncodeMessage` no call was made, nothing was written, and the options are the old ones.
+    /// `OutOfMemory` where there is no memory for a list that is whole, a tail that is whole and
+    /// cut between two segments, or a context among extensions. After any error but `EncodeMessage`
+    /// no call was made, nothing was written, and the options are the old ones.
     /// After `EncodeMessage` the room holds the beginning of a reply that was too long for it; or
     /// the request was a READ, READDIR or READDIRPLUS and the room too small for a header: then too
     /// no call was made and nothing was written.
