@@ -11,7 +11,7 @@ use std::alloc::Global;
 use std::marker::Model;
 use std::time::Duration;
 use vfs_files::{CStr, CString, Entry};
-use vfs_flags::{Errno, Fault, ROOT_ID};
+use vfs_flags::{Errno, Fault, GuestGid, GuestUid, ROOT_ID};
 use vfs_wire::Attr;
 
 /// How long a client may rely on an answer.
@@ -149,13 +149,24 @@ fn not_found() -> Fault
 fn make_attr(node: u64, mode: u32, nlink: u32, size: u64) -> Attr
     ensures { result ≡ attr_of node mode nlink size }
 {
+    // Each field is written once: zeros that others are written over cost a wait.
     Attr {
         ino: node,
         size,
+        blocks: 0,
+        atime: 0,
+        mtime: 0,
+        ctime: 0,
+        atimensec: 0,
+        mtimensec: 0,
+        ctimensec: 0,
         mode,
         nlink,
+        uid: GuestUid::from(0),
+        gid: GuestGid::from(0),
+        rdev: 0,
         blksize: BLOCK_SIZE,
-        ..Attr::default()
+        flags: 0,
     }
 }
 

@@ -33,9 +33,13 @@ pub fn read_record<T: ByteValued>(reader: &mut Reader<'_>) -> Result<T>
     ensures pieces { OnOk result
         (reader.new.pieces ≡ lengths_from (size_of T.table) reader.old.pieces) }
 {
+    // Tested here first, so that no `io::Error` is made to be dropped.
+    if T::SIZE > reader.available_bytes() {
+        return Err(Error::DecodeMessage);
+    }
     match reader.read_obj() {
         Ok(record) => Ok(record),
-        Err(_) => Err(Error::DecodeMessage),
+        Err(_) => unreachable!(),
     }
 }
 

@@ -80,13 +80,13 @@ fn serve<F: FileSystem>(alloc: Global, server: &mut Server<F>, job: &mut Job<'_>
     let mut writer = Writer::new(alloc, room).ok()?;
     let outcome = server.handle_message(alloc, reader, &mut writer);
     job.room = writer.into_segments();
-    match outcome {
+    match &outcome {
         Ok(len) => {
             job.code = 0;
-            job.len = len;
+            job.len = *len;
         }
         Err(error) => {
-            job.code = code_of(&error);
+            job.code = code_of(error);
             job.len = 0;
         }
     }
