@@ -29,20 +29,15 @@ pub fn counts_of_a_new_reader(alloc: Global, first: &[u8], second: &[u8]) -> Res
     Ok((reader.available_bytes(), reader.bytes_read()))
 }
 
-/// A reader of two segments gives the bytes of the first and then those of the second.
-pub fn read_over_two_segments(
-    alloc: Global,
-    first: &[u8],
-    second: &[u8],
-    buf: &mut [u8],
-) -> Result<()>
+/// A reader of two segments, which wants no memory, gives the bytes of the first and then those of
+/// the second.
+pub fn read_over_two_segments(alloc: Global, first: &[u8], second: &[u8], buf: &mut [u8])
     requires { length buf.old ≡ length first.now + length second.now }
-    ensures { OnOk result (buf.new ≡ first.now ++ second.now) }
+    ensures { buf.new ≡ first.now ++ second.now }
 {
     let segments = [first, second];
-    let mut reader = Reader::new(alloc, &segments)?;
+    let mut reader = Reader::new(alloc, &segments).unwrap();
     reader.read_exact(buf).unwrap();
-    Ok(())
 }
 
 /// A read into six bytes where four are left moves these four. The rest of the buffer stays.
@@ -225,6 +220,16 @@ pub fn writer_of_no_room(alloc: Global) -> Writer
     ensures lengths { result.lengths ≡ [] }
 {
     Writer::new(alloc, Vec::new(alloc)).unwrap()
+}
+
+/// A writer over four segments, whose bytes can be counted, wants no memory.
+pub fn writer_over_four_segments(alloc: Global, segments: Vec<Vec<u8>>) -> Writer
+    requires four { length segments.items ≡ 4 }
+    requires counted { length (flat_bytes (contents segments.items)) < 2 ^ 64 }
+    ensures left { result.left ≡ flat_bytes (contents segments.items) }
+    ensures passed { result.passed ≡ [] }
+{
+    Writer::new(alloc, segments).unwrap()
 }
 
 /// A write of four bytes where three fit writes the first three.
