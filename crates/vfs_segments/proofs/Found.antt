@@ -1,5 +1,5 @@
 -- The bytes from a place on, seen from the segment in which it lies.
-use Rattle.std.proofs.Common.{◌≡◌, ℕ, ◌+◌, ◌<◌, ◌≤◌, List, [], ◌++◌, length, take, drop, map, get_or, ap, ◌∙◌, arith, length-append, length-drop}
+use Rattle.std.proofs.Common.{◌≡◌, ℕ, ◌+◌, ◌<◌, ◌≤◌, List, [], length, take, drop, map, get_or, ap, ◌∙◌, arith, length-append, length-drop}
 use Rattle.std.proofs.lemmas.List.{drop-append-le, drop-map, drop_more, length-map, take-append-le, take-map}
 use Rattle.std.specs.List.{concat}
 use Rattle.vfs_segments.proofs.Puts.{drop-append_past}

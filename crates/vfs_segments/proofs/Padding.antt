@@ -1,5 +1,5 @@
 -- Bytes with zeros behind them, up to a multiple of 8.
-use Rattle.std.proofs.Common.{◌≡◌, ℕ, ◌+◌, ◌-◌, ◌<◌, ◌≤◌, List, [], ◌++◌, length, take, drop, replicate, ap, ◌∙◌, sym, refl, arith, append-nil, length-append, length-drop, length-take, ⊎_elim}
+use Rattle.std.proofs.Common.{◌≡◌, ℕ, ◌+◌, ◌-◌, ◌<◌, ◌≤◌, List, [], ◌++◌, length, take, drop, replicate, ap, ◌∙◌, refl, arith, append-nil, length-append, length-take, ⊎_elim}
 use Rattle.std.proofs.lemmas.Bool.{cases_lt}
 use Rattle.std.proofs.lemmas.List.{drop-drop, drop-replicate, drop_all, length-replicate, nil_from_length, take_at}
 use Rattle.vfs_segments.specs.Padded.{padded_len, padding}

@@ -1,8 +1,8 @@
 -- The lengths of segments that are cut at two places, and the bytes that lie in one of them.
-use Rattle.std.proofs.Common.{◌≡◌, ℕ, ◌+◌, ◌-◌, ◌<◌, ◌≤◌, List, [], ◌∷◌, ◌++◌, zero, suc, true, false, nat_lt, ◌==◌, length, take, drop, map, get_or, ap, ◌∙◌, sym, refl, arith, ⊎_elim, length-append}
+use Rattle.std.proofs.Common.{◌≡◌, ℕ, ◌+◌, ◌-◌, ◌<◌, ◌≤◌, List, [], ◌∷◌, ◌++◌, zero, suc, true, false, nat_lt, length, take, drop, map, get_or, ap, ◌∙◌, sym, refl, arith, ⊎_elim, length-append}
 use Rattle.std.proofs.lemmas.Bool.{cases_lt}
 use Rattle.std.proofs.lemmas.Bool.Decides.{nat_tests}
-use Rattle.std.proofs.lemmas.List.{drop_more, length-map}
+use Rattle.std.proofs.lemmas.List.{drop_more}
 use Rattle.std.specs.List.{concat}
 use Rattle.std.specs.Prelude.{sum, nat_le}
 use Rattle.vfs_segments.specs.Lengths.{lengths_before, lengths_from, lie_together}

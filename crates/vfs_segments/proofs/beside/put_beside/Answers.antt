@@ -1,4 +1,4 @@
-use Rattle.std.proofs.Common.{arith, ap, ◌≡◌, ◌<◌, ◌+◌, ◌-◌, ◌≤◌, ◌++◌, List, [], length, get_or, ℕ}
+use Rattle.std.proofs.Common.{arith, ap, ◌<◌, ◌+◌, ◌-◌, ◌≤◌, ◌++◌, List, [], length, get_or, ℕ}
 use Rattle.std.proofs.lemmas.List.{get_or-map}
 use Rattle.std.specs.declared.vec.Vec.{Vec}
 use Rattle.std.specs.declared.alloc.Global.{Global}

@@ -1,4 +1,4 @@
-use Rattle.std.proofs.Common.{arith, ap, ◌≡◌, ◌∙◌, drop, length, take}
+use Rattle.std.proofs.Common.{arith, ◌≡◌, ◌∙◌, drop, take}
 use Rattle.std.proofs.lemmas.Grind.{common_steps}
 use Rattle.vfs_wire.specs.Fields.{value_of}
 use Rattle.vfs_wire.specs.FieldLaws.{value_of-take}

@@ -1,10 +1,9 @@
-use Rattle.std.proofs.Common.{arith, ap, sym, ◌∙◌, ◌≡◌, ◌+◌, ◌-◌, ◌<◌, ◌≤◌, List, [], ℕ, length, take, drop, get_or}
+use Rattle.std.proofs.Common.{arith, ap, sym, ◌∙◌, ◌≡◌, ◌+◌, ◌-◌, ◌≤◌, List, [], ℕ, length, take, drop, get_or}
 use Rattle.std.specs.Borrow.{Bor}
 use Rattle.std.specs.Prelude.{sum}
-use Rattle.std.proofs.lemmas.Bool.Decides.{nat_tests}
 use Rattle.std.proofs.lemmas.List.{get_or-map}
 use Rattle.vfs_segments.proofs.Found.{from_place, fits_from, in_segment}
-use Rattle.vfs_segments.proofs.Spans.{tail_is, is_listed}
+use Rattle.vfs_segments.proofs.Spans.{tail_is}
 use Rattle.vfs_wire.specs.Fields.{value_of}
 use Rattle.vfs_wire.specs.FieldLaws.{value_of-take}
 use Rattle.vfs_segments.proofs.Segments.{flat}

@@ -1,5 +1,4 @@
-use Rattle.std.proofs.Common.{◌≡◌, ℕ, ◌+◌, ◌-◌, ◌/◌, ◌^◌, ◌<◌, ◌≤◌, length, slice_index, arith, below_more, ap, ◌∙◌, sym, inl, inr, ⊎_elim}
-use Rattle.std.proofs.lemmas.Bool.{cases_lt}
+use Rattle.std.proofs.Common.{◌+◌, ◌-◌, ◌/◌, ◌≤◌, slice_index, arith, ◌∙◌}
 use Rattle.vfs_segments.proofs.Halves.{halved}
 use Rattle.vfs_segments.proofs.laws.find_segment.Goals as goal
 

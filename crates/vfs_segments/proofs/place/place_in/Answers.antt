@@ -1,4 +1,4 @@
-use Rattle.std.proofs.Common.{arith, ap, sym, ◌∙◌, ◌≡◌, ◌<◌, List, [], ℕ, length, get_or}
+use Rattle.std.proofs.Common.{arith, ap, ◌∙◌, ◌<◌, List, [], ℕ, length}
 use Rattle.std.specs.Borrow.{Bor}
 use Rattle.std.proofs.lemmas.List.{get_or-map}
 use Rattle.vfs_segments.proofs.Totals.{never_falls, placed}

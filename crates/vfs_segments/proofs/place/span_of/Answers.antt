@@ -1,9 +1,8 @@
-use Rattle.std.proofs.Common.{arith, ◌≡◌, ◌+◌, ◌-◌, ◌<◌, ◌≤◌, [], length, take, drop, get_or, List, ℕ}
-use Rattle.std.specs.List.{concat}
+use Rattle.std.proofs.Common.{arith, ℕ}
 use Rattle.std.specs.declared.vec.Vec.{Vec}
 use Rattle.std.specs.declared.alloc.Global.{Global}
 use Rattle.vfs_segments.specs.Segments.{contents}
-use Rattle.vfs_segments.proofs.Spans.{IsFound, tail_is, is_listed, last_in, found_is, span_is, place_is}
+use Rattle.vfs_segments.proofs.Spans.{tail_is, is_listed, last_in, found_is, span_is, place_is}
 use Rattle.vfs_segments.proofs.place.span_of.Goals as goal
 
 pub walk_of-more-requires : goal.walk_of-more-requires

@@ -1,4 +1,4 @@
-use Rattle.std.proofs.Common.{arith, ap, ◌<◌, ◌^◌, [], ◌∷◌, length}
+use Rattle.std.proofs.Common.{arith, ◌<◌, ◌^◌, [], ◌∷◌, length}
 use Rattle.vfs_segments.proofs.Totals.{never_falls}
 use Rattle.vfs_segments.proofs.uses.place_among_four_segments.Goals as goal
 

@@ -1,4 +1,4 @@
-use Rattle.std.proofs.Common.{arith, ap, sym, ◌≡◌, ◌+◌, ◌-◌, ◌∙◌, ◌≤◌, refl, length, take, drop, length-take, length-drop}
+use Rattle.std.proofs.Common.{arith, ap, sym, ◌≡◌, ◌+◌, ◌-◌, ◌∙◌, ◌≤◌, refl, length, drop, length-take}
 use Rattle.std.specs.Prelude.{sum}
 use Rattle.vfs_wire.specs.Fields.{numbers, value_of}
 use Rattle.vfs_wire.specs.FieldLaws.{value_of-take}

@@ -1,4 +1,4 @@
-use Rattle.std.proofs.Common.{arith, ap, sym, ◌∙◌, ◌≡◌, ◌-◌, ◌+◌, ◌≤◌, min, length, take, drop, length-take, length-drop}
+use Rattle.std.proofs.Common.{arith, ap, sym, ◌∙◌, ◌≡◌, ◌-◌, ◌+◌, ◌≤◌, min, length, take, drop}
 use Rattle.std.proofs.lemmas.List.{take-take}
 use Rattle.vfs_segments.specs.Unread.{Unread}
 use Rattle.vfs_segments.proofs.Segments.{flat}

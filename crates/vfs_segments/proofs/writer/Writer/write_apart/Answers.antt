@@ -1,4 +1,4 @@
-use Rattle.std.proofs.Common.{◌≡◌, ◌+◌, ◌≤◌, ◌<◌, ◌∙◌, ◌++◌, ℕ, arith, ap, append_assoc, length, length-append, length-take, replicate, sym, take}
+use Rattle.std.proofs.Common.{◌≤◌, ◌∙◌, ◌++◌, ℕ, arith, ap, append_assoc, length, length-append, length-take, replicate, take}
 use Rattle.std.proofs.lemmas.List.{take-replicate}
 use Rattle.vfs_segments.proofs.Beginnings.{failed, went, is_whole, not_whole, cut_off, room_left, both}
 use Rattle.vfs_segments.specs.Written.{wrote}

@@ -1,4 +1,4 @@
-use Rattle.std.proofs.Common.{arith, ap, sym, ◌∙◌, ◌+◌, ◌≡◌, ◌-◌, ◌≤◌, ◌++◌, refl, length, length-drop, take, take_all}
+use Rattle.std.proofs.Common.{arith, ap, sym, ◌∙◌, ◌+◌, ◌≡◌, ◌++◌, refl, length, length-drop, take, take_all}
 use Rattle.std.proofs.lemmas.List.{with_items_is}
 use Rattle.std.specs.List.{concat}
 use Rattle.std.specs.Vec.{with_items}
