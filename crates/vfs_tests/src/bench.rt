@@ -1,6 +1,6 @@
 //! Each call once through a recorder, and what a script answers.
 
-use crate::message::{ScriptServer, handle, reply_by_script, server_over};
+use crate::message::{Outcome, ScriptServer, handle, reply_by_script, script_server, server_over};
 use bitflags::Flags;
 use std::alloc::{AllocError, Global};
 use std::test::Fail;
@@ -240,8 +240,11 @@ fn note_of(row: &Row, (kind, value): (NoteKind, u64)) -> Note {
 }
 
 /// Whether this is the last note, and no call was missed.
-fn is_last<F: FileSystem>(recorder: &Recorder<F>, note: &Note) -> bool {
-    recorder.notes().last() == Some(note) && !recorder.missed()
+fn is_last<F>(recorder: &Recorder<F>, note: &Note) -> bool {
+    match recorder.notes().last() {
+        Some(last) => last == note && !recorder.missed(),
+        None => false,
+    }
 }
 
 /// Whether a script answers a row so, and its call is noted.
@@ -263,24 +266,29 @@ fn wrongly_answered(alloc: Global, server: &mut ScriptServer) -> Result<Option<u
 #[test]
 fn a_recorder_notes_each_call_that_a_script_answers(rt: HostRuntime) -> Result<(), Fail> {
     let script = script_of_answers(rt.alloc())?;
-    let mut server = server_over(rt.alloc(), script, ROWS.len())?;
-    assert_eq!(rt; wrongly_answered(rt.alloc(), &mut server)?, None);
+    let mut server = script_server(rt.alloc(), script, ROWS.len())?;
+    assert!(rt; wrongly_answered(rt.alloc(), &mut server)?.is_none());
     Ok(())
 }
 
 /// A server over a file system that serves nothing, with a note of each call.
 type UnservedServer = Server<Recorder<Unserved>>;
 
-/// Whether the call of a row is noted where nothing is served.
-fn is_noted_unserved(alloc: Global, server: &mut UnservedServer, row: &Row) -> Result<bool, Fail> {
-    handle(alloc, server, (row.0, row.1, row.2), &[160], 0)?;
-    Ok(is_last(server.fs(), &note_of(row, row.6)))
+/// Hands such a server the message of a row.
+fn handle_unserved(alloc: Global, server: &mut UnservedServer, row: &Row) -> Result<Outcome, Fail> {
+    handle(alloc, server, (row.0, row.1, row.2), &[160], 0)
+}
+
+/// Whether the call of a row is the last note of such a server.
+fn is_noted_unserved(server: &UnservedServer, row: &Row) -> bool {
+    is_last(server.fs(), &note_of(row, row.6))
 }
 
 /// The opcode of the first message whose note is another where nothing is served.
 fn wrongly_noted(alloc: Global, server: &mut UnservedServer) -> Result<Option<u8>, Fail> {
     for row in &ROWS {
-        if !is_noted_unserved(alloc, server, row)? {
+        handle_unserved(alloc, server, row)?;
+        if !is_noted_unserved(server, row) {
             return Ok(Some(row.0));
         }
     }
@@ -290,7 +298,7 @@ fn wrongly_noted(alloc: Global, server: &mut UnservedServer) -> Result<Option<u8
 #[test]
 fn a_recorder_notes_each_call_that_is_not_served(rt: HostRuntime) -> Result<(), Fail> {
     let mut server = server_over(rt.alloc(), Unserved {}, ROWS.len())?;
-    assert_eq!(rt; wrongly_noted(rt.alloc(), &mut server)?, None);
+    assert!(rt; wrongly_noted(rt.alloc(), &mut server)?.is_none());
     Ok(())
 }
 
@@ -303,7 +311,7 @@ fn is_noted(recorder: &mut Recorder<Script>, noted: usize, missed: bool) -> bool
 fn a_call_without_a_place_is_missed_and_answered(rt: HostRuntime) -> Result<(), Fail> {
     let mut script = Script::new();
     script.done = Ok(());
-    let mut recorder = server_over(rt.alloc(), script, 2)?.into_fs();
+    let mut recorder = script_server(rt.alloc(), script, 2)?.into_fs();
     for (noted, missed) in [(1, false), (2, false), (2, true), (2, true)] {
         assert!(rt; is_noted(&mut recorder, noted, missed));
     }
@@ -312,14 +320,14 @@ fn a_call_without_a_place_is_missed_and_answered(rt: HostRuntime) -> Result<(), 
 }
 
 /// READDIR of 240 bytes, behind its header: ten records of 24, and an eleventh that doesn't fit.
-const READDIR: [u8; 40] = *b"\0\0\0\0\0\0\0\0\0\0\0\0\0\0\0\0\xf0\0\0\0\
+static READDIR: [u8; 40] = *b"\0\0\0\0\0\0\0\0\0\0\0\0\0\0\0\0\xf0\0\0\0\
     \0\0\0\0\0\0\0\0\0\0\0\0\0\0\0\0\0\0\0\0";
 
 /// A server over a directory without end.
 fn server_without_end(alloc: Global) -> Result<ScriptServer, AllocError> {
     let mut script = Script::new();
     script.directory = nameless(alloc, 1);
-    server_over(alloc, script, 1)
+    script_server(alloc, script, 1)
 }
 
 /// How often an entry of a script's directory was asked for.
@@ -330,11 +338,15 @@ fn takings(script: &Script) -> Option<u64> {
     }
 }
 
+/// How long the reply to it is, and how often an entry was asked for.
+fn taken(alloc: Global, server: &mut ScriptServer) -> Result<(usize, Option<u64>), Fail> {
+    let reply = reply_by_script(alloc, server, (28, 1, &READDIR), 256)?;
+    Ok((reply.len(), takings(server.fs().inner())))
+}
+
 #[test]
 fn takings_from_a_directory_without_end_are_counted(rt: HostRuntime) -> Result<(), Fail> {
     let mut server = server_without_end(rt.alloc())?;
-    let reply = reply_by_script(rt.alloc(), &mut server, (28, 1, &READDIR), 256)?;
-    assert_eq!(rt; reply.len(), 256);
-    assert_eq!(rt; takings(server.fs().inner()), Some(11));
+    assert!(rt; taken(rt.alloc(), &mut server)? == (256, Some(11)));
     Ok(())
 }

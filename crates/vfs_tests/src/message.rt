@@ -1,6 +1,7 @@
-//! Requests and replies as bytes.
+//! Requests and replies as bytes, the servers that tests hand them to, and the texts of errors.
 
 use std::alloc::{AllocError, Global};
+use std::fmt::Display;
 use std::test::Fail;
 use vfs_bench::{Recorder, Script};
 use vfs_server::descriptor_utils::{Reader, Writer};
@@ -13,10 +14,9 @@ pub type Outcome = (usize, Vec<u8>);
 
 /// A request with this opcode and node, and these bytes behind its header. Its `len` counts all of
 /// them, its `unique` is 9, and all else in the header is 0.
-fn request(alloc: Global, opcode: u8, node: u8, behind: &[u8]) -> Result<Vec<u8>, Fail> {
-    let len = u32::try_from(40 + behind.len())?;
+fn request(alloc: Global, opcode: u8, node: u8, behind: &[u8]) -> Result<Vec<u8>, AllocError> {
     let mut header = [0; 40];
-    header[..4].copy_from_slice(&len.to_le_bytes());
+    header[..8].copy_from_slice(&(40 + behind.len()).to_le_bytes());
     header[4] = opcode;
     header[8] = 9;
     header[16] = node;
@@ -56,6 +56,12 @@ pub fn joined(alloc: Global, segments: &[Vec<u8>]) -> Result<Vec<u8>, AllocError
     Ok(all)
 }
 
+/// Whether an error has this text.
+pub fn has_text<E: Display>(alloc: Global, error: &E, text: &str) -> Result<bool, AllocError> {
+    let shown = format!(in alloc; "{error}")?;
+    Ok(shown.as_str() == text)
+}
+
 /// A message: its opcode, its node, and the bytes behind its header.
 pub type Message<'a> = (u8, u8, &'a [u8]);
 
@@ -88,10 +94,27 @@ fn handle_request<F: FileSystem>(
     Ok((len, joined(alloc, &writer.into_segments())?))
 }
 
+/// A server over a recorder of `n` places.
+pub fn server_over<F: Drop>(
+    alloc: Global,
+    inner: F,
+    n: usize,
+) -> Result<Server<Recorder<F>>, AllocError> {
+    match Recorder::new(alloc, inner, n) {
+        Ok(recorder) => Ok(Server::new(recorder, 4096)),
+        Err(_) => Err(AllocError),
+    }
+}
+
 /// A server over a script, with a note of each call.
 pub type ScriptServer = Server<Recorder<Script>>;
 
-/// `handle` of such a server, which all tests share.
+/// A server over a script, with places for `n` notes.
+pub fn script_server(alloc: Global, script: Script, n: usize) -> Result<ScriptServer, AllocError> {
+    server_over(alloc, script, n)
+}
+
+/// `handle` of such a server. It is a function of its own, so that it is proved once for all tests.
 pub fn handle_by_script(
     alloc: Global,
     server: &mut ScriptServer,
@@ -112,16 +135,4 @@ pub fn reply_by_script(
     let (len, mut room) = handle_by_script(alloc, server, message, &[room], 0)?;
     room.truncate(len);
     Ok(room)
-}
-
-/// A server over a recorder of `n` places.
-pub fn server_over<F: FileSystem + Drop>(
-    alloc: Global,
-    inner: F,
-    n: usize,
-) -> Result<Server<Recorder<F>>, AllocError> {
-    match Recorder::new(alloc, inner, n) {
-        Ok(recorder) => Ok(Server::new(recorder, 4096)),
-        Err(_) => Err(AllocError),
-    }
 }

@@ -1,7 +1,7 @@
 //! Readers and writers over segments of all kinds: what each call answers, and what is left and
 //! passed after it.
 
-use crate::message::{are, filled};
+use crate::message::{are, filled, has_text};
 use std::alloc::{AllocError, Global};
 use std::io;
 use std::io::{ErrorKind, Read, Write};
@@ -204,7 +204,7 @@ fn answers_so(reader: &mut Reader<'_>, rows: &[ReadRow]) -> Result<bool, Error> 
 }
 
 /// The lengths of a reader's segments, and its calls.
-static READS: &[(&[usize], &[ReadRow])] = &[
+static READS: [(&[usize], &[ReadRow]); 21] = [
     (
         &[8, 16, 18, 64],
         &[
@@ -349,18 +349,19 @@ static READS: &[(&[usize], &[ReadRow])] = &[
 fn is_read(
     alloc: Global,
     bytes: &[u8],
-    (lengths, calls): (&[usize], &[ReadRow]),
+    lengths: &[usize],
+    calls: &[ReadRow],
 ) -> Result<bool, Error> {
     let segments = cut(alloc, bytes, lengths)?;
     let mut reader = Reader::new(alloc, &segments)?;
     answers_so(&mut reader, calls)
 }
 
-/// The number of the first reader of these bytes that doesn't answer so.
-fn wrong_reads(alloc: Global, bytes: &[u8]) -> Result<Option<usize>, Error> {
-    for (i, row) in READS.iter().enumerate() {
-        if !is_read(alloc, bytes, *row)? {
-            return Ok(Some(i));
+/// The segments of the first reader of these bytes that doesn't answer so.
+fn wrong_reads(alloc: Global, bytes: &[u8]) -> Result<Option<&'static [usize]>, Error> {
+    for (lengths, calls) in &READS {
+        if !is_read(alloc, bytes, lengths, calls)? {
+            return Ok(Some(lengths));
         }
     }
     Ok(None)
@@ -369,7 +370,7 @@ fn wrong_reads(alloc: Global, bytes: &[u8]) -> Result<Option<usize>, Error> {
 #[test]
 fn readers_answer_and_count(rt: HostRuntime) -> Result<(), Fail> {
     let bytes = numbers(rt.alloc(), 512)?;
-    assert_eq!(rt; wrong_reads(rt.alloc(), &bytes)?, None);
+    assert!(rt; wrong_reads(rt.alloc(), &bytes)?.is_none());
     Ok(())
 }
 
@@ -476,7 +477,7 @@ type WriteTest = (
     &'static [&'static [u8]],
 );
 
-static WRITES: &[WriteTest] = &[
+static WRITES: [WriteTest; 11] = [
     (
         &[8, 16, 18, 64],
         &[
@@ -592,17 +593,17 @@ pub fn writer_over(alloc: Global, lengths: &[usize]) -> Result<Writer, Error> {
 }
 
 /// Whether a writer answers so, and has these segments afterwards.
-fn is_written(alloc: Global, (lengths, calls, segments): WriteTest) -> Result<bool, Error> {
-    let mut writer = writer_over(alloc, lengths)?;
-    let answers = does_so(&mut writer, calls);
-    Ok(has_segments(writer, segments) && answers)
+fn is_written(alloc: Global, row: &WriteTest) -> Result<bool, Error> {
+    let mut writer = writer_over(alloc, row.0)?;
+    let answers = does_so(&mut writer, row.1);
+    Ok(has_segments(writer, row.2) && answers)
 }
 
-/// The number of the first writer that doesn't answer so.
-fn wrong_writes(alloc: Global) -> Result<Option<usize>, Error> {
-    for (i, row) in WRITES.iter().enumerate() {
-        if !is_written(alloc, *row)? {
-            return Ok(Some(i));
+/// The segments of the first writer that doesn't answer so.
+fn wrong_writes(alloc: Global) -> Result<Option<&'static [usize]>, Error> {
+    for row in &WRITES {
+        if !is_written(alloc, row)? {
+            return Ok(Some(row.0));
         }
     }
     Ok(None)
@@ -610,7 +611,7 @@ fn wrong_writes(alloc: Global) -> Result<Option<usize>, Error> {
 
 #[test]
 fn writers_answer_and_count(rt: HostRuntime) -> Result<(), Fail> {
-    assert_eq!(rt; wrong_writes(rt.alloc())?, None);
+    assert!(rt; wrong_writes(rt.alloc())?.is_none());
     Ok(())
 }
 
@@ -786,7 +787,7 @@ fn descriptors_are_readable_or_writable(rt: HostRuntime) {
 }
 
 /// The errors and their texts.
-const TEXTS: [(Error, &str); 4] = [
+static TEXTS: [(Error, &str); 4] = [
     (
         Error::DescriptorChainOverflow,
         "the lengths of the segments sum past the largest count",
@@ -801,8 +802,8 @@ const TEXTS: [(Error, &str); 4] = [
 
 #[test]
 fn each_error_has_a_text(rt: HostRuntime) -> Result<(), Fail> {
-    for (error, text) in TEXTS {
-        assert_eq!(rt; format!(in rt.alloc(); "{error}")?.as_str(), text);
+    for (error, text) in &TEXTS {
+        assert!(rt; has_text(rt.alloc(), error, text)?, "at {text}");
     }
     Ok(())
 }

@@ -2,7 +2,7 @@
 //! at file systems of the tests' own; and texts.
 
 use crate::message::{
-    ScriptServer, filled, handle_by_script, joined, reply_by_script, server_over,
+    ScriptServer, filled, handle_by_script, has_text, joined, reply_by_script, script_server,
 };
 use bitflags::Flags;
 use std::alloc::{AllocError, Global};
@@ -17,7 +17,7 @@ use vfs_server::{Error, reply_error, reply_ok};
 fn server(alloc: Global, wants: FsOptions) -> Result<ScriptServer, AllocError> {
     let mut script = Script::new();
     script.options = Ok(wants);
-    server_over(alloc, script, 4)
+    script_server(alloc, script, 4)
 }
 
 /// The bytes behind the header of a BATCH_FORGET of so many pairs: its record, and then the pairs,
@@ -55,7 +55,7 @@ fn a_payload_of_pairs_is_forgotten(rt: HostRuntime) -> Result<(), Fail> {
 }
 
 /// A room of 34 bytes, of which 16 were held, with a reply that says that a call is unknown.
-const BEHIND_HELD: [u8; 34] = *b"\xaa\xaa\xaa\xaa\xaa\xaa\xaa\xaa\xaa\xaa\xaa\xaa\xaa\xaa\xaa\xaa\
+static BEHIND_HELD: [u8; 34] = *b"\xaa\xaa\xaa\xaa\xaa\xaa\xaa\xaa\xaa\xaa\xaa\xaa\xaa\xaa\xaa\xaa\
     \x10\0\0\0\xda\xff\xff\xff\x09\0\0\0\0\0\0\0\xaa\xaa";
 
 /// Whether a call that is unknown is replied so.
@@ -72,13 +72,13 @@ fn a_reply_goes_behind_held_bytes(rt: HostRuntime) -> Result<(), Fail> {
 }
 
 /// INIT of version 7.38 that offers every option in both words of flags, behind its header.
-const INIT: [u8; 64] = *b"\x07\0\0\0\x26\0\0\0\0\0\x02\0\
+static INIT: [u8; 64] = *b"\x07\0\0\0\x26\0\0\0\0\0\x02\0\
     \xff\xff\xff\xff\xff\xff\xff\xff\
     \0\0\0\0\0\0\0\0\0\0\0\0\0\0\0\0\0\0\0\0\0\0\
     \0\0\0\0\0\0\0\0\0\0\0\0\0\0\0\0\0\0\0\0\0\0";
 
 /// The notes of INIT and of the end of a session.
-const BEGUN_AND_ENDED: [Note; 2] = [
+static BEGUN_AND_ENDED: [Note; 2] = [
     Note {
         call: 26,
         node: 0,
@@ -113,7 +113,7 @@ fn options_are_agreed_on_and_given_up(rt: HostRuntime) -> Result<(), Fail> {
     // As many as the file system wants of those that are offered.
     let wants = FsOptions::from_bits_truncate(1 << 17 | 1 << 28);
     let mut server = server(rt.alloc(), wants)?;
-    assert_eq!(rt; agreed(rt.alloc(), &mut server)?, (80, 0x104_5846_9829));
+    assert!(rt; agreed(rt.alloc(), &mut server)? == (80, 0x104_5846_9829));
     assert!(rt; are_given_up(&mut server));
     Ok(())
 }
@@ -130,21 +130,21 @@ fn put_two(writer: &mut Writer) -> Result<(usize, usize), Error> {
 }
 
 /// The bytes of both, and of what is left of their room.
-const TWO_REPLIES: [u8; 44] = *b"\x1b\0\0\0\0\0\0\0\x09\0\0\0\0\0\0\0\x03\0\0\0\0\0\0\0abc\
+static TWO_REPLIES: [u8; 44] = *b"\x1b\0\0\0\0\0\0\0\x09\0\0\0\0\0\0\0\x03\0\0\0\0\0\0\0abc\
     \x10\0\0\0\xda\xff\xff\xff\x08\0\0\0\0\0\0\0\xaa";
 
 #[test]
 fn a_reply_is_put_into_any_writer(rt: HostRuntime) -> Result<(), Fail> {
     let alloc = rt.alloc();
     let mut writer = Writer::new(alloc, filled(alloc, &[44], 0xaa)?)?;
-    assert_eq!(rt; put_two(&mut writer)?, (27, 16));
+    assert!(rt; put_two(&mut writer)? == (27, 16));
     let room = joined(alloc, &writer.into_segments())?;
-    assert_eq!(rt; room.as_slice(), TWO_REPLIES.as_slice());
+    assert!(rt; room.as_slice() == TWO_REPLIES.as_slice());
     Ok(())
 }
 
 /// The errors and their texts.
-const TEXTS: [(Error, &str); 10] = [
+static TEXTS: [(Error, &str); 10] = [
     (
         Error::DecodeMessage,
         "the request is cut short, or says what has no meaning",
@@ -177,8 +177,8 @@ const TEXTS: [(Error, &str); 10] = [
 
 #[test]
 fn each_error_has_a_text(rt: HostRuntime) -> Result<(), Fail> {
-    for (error, text) in TEXTS {
-        assert_eq!(rt; format!(in rt.alloc(); "{error}")?.as_str(), text);
+    for (error, text) in &TEXTS {
+        assert!(rt; has_text(rt.alloc(), error, text)?, "at {text}");
     }
     Ok(())
 }
