@@ -1,6 +1,6 @@
 //! Each call once through a recorder, and what a script answers.
 
-use crate::message::{handle, request};
+use crate::message::{Outcome, ScriptServer, handle, reply_by_script, script_server, server_over};
 use bitflags::Flags;
 use std::alloc::{AllocError, Global};
 use std::test::Fail;
@@ -50,7 +50,7 @@ type Row = (
 
 /// A message for each call.
 #[rattlefmt::skip]
-const ROWS: [Row; 44] = [
+static ROWS: [Row; 44] = [
     // INIT
     (26, 0, b"\x07\0\0\0\x26\0\0\0\0\0\0\0\0\0\0\0", 0,
         b"\x50\0\0\0\0\0\0\0\x09\0\0\0\0\0\0\0\x07\0\0\0\x26\0\0\0\0\0\0\0\0\0\0\0\xff\xff\
@@ -228,18 +228,6 @@ fn script_of_answers(alloc: Global) -> Result<Script, AllocError> {
     Ok(script)
 }
 
-/// A server over a recorder of `n` places.
-fn server_over<F: FileSystem + Drop>(
-    alloc: Global,
-    inner: F,
-    n: usize,
-) -> Result<Server<Recorder<F>>, AllocError> {
-    match Recorder::new(alloc, inner, n) {
-        Ok(recorder) => Ok(Server::new(recorder, 4096)),
-        Err(_) => Err(AllocError),
-    }
-}
-
 /// The note of a call, of this kind and value.
 fn note_of(row: &Row, (kind, value): (NoteKind, u64)) -> Note {
     Note {
@@ -251,27 +239,24 @@ fn note_of(row: &Row, (kind, value): (NoteKind, u64)) -> Note {
     }
 }
 
-/// The reply to the message of a row, whose note is to be this one, and no call missed.
-fn reply_to<F: FileSystem>(
-    alloc: Global,
-    server: &mut Server<Recorder<F>>,
-    row: &Row,
-    note: &Note,
-) -> Result<Vec<u8>, Fail> {
-    let request = request(alloc, row.0, row.1, row.2)?;
-    let (len, mut room) = handle(alloc, server, &request, 160)?;
-    if server.fs().notes().last() != Some(note) || server.fs().missed() {
-        return Err("another call is noted".into());
+/// Whether this is the last note, and no call was missed.
+fn is_last<F>(recorder: &Recorder<F>, note: &Note) -> bool {
+    match recorder.notes().last() {
+        Some(last) => last == note && !recorder.missed(),
+        None => false,
     }
-    room.truncate(len);
-    Ok(room)
+}
+
+/// Whether a script answers a row so, and its call is noted.
+fn is_answered(alloc: Global, server: &mut ScriptServer, row: &Row) -> Result<bool, Fail> {
+    let reply = reply_by_script(alloc, server, (row.0, row.1, row.2), 160)?;
+    Ok(reply.as_slice() == row.4 && is_last(server.fs(), &note_of(row, row.5)))
 }
 
 /// The opcode of the first message that a script answers otherwise, or whose note is another.
-fn wrongly_answered(alloc: Global) -> Result<Option<u8>, Fail> {
-    let mut server = server_over(alloc, script_of_answers(alloc)?, ROWS.len())?;
+fn wrongly_answered(alloc: Global, server: &mut ScriptServer) -> Result<Option<u8>, Fail> {
     for row in &ROWS {
-        if reply_to(alloc, &mut server, row, &note_of(row, row.5))?.as_slice() != row.4 {
+        if !is_answered(alloc, server, row)? {
             return Ok(Some(row.0));
         }
     }
@@ -280,16 +265,40 @@ fn wrongly_answered(alloc: Global) -> Result<Option<u8>, Fail> {
 
 #[test]
 fn a_recorder_notes_each_call_that_a_script_answers(rt: HostRuntime) -> Result<(), Fail> {
-    assert_eq!(rt; wrongly_answered(rt.alloc())?, None);
+    let script = script_of_answers(rt.alloc())?;
+    let mut server = script_server(rt.alloc(), script, ROWS.len())?;
+    assert!(rt; wrongly_answered(rt.alloc(), &mut server)?.is_none());
     Ok(())
+}
+
+/// A server over a file system that serves nothing, with a note of each call.
+type UnservedServer = Server<Recorder<Unserved>>;
+
+/// Hands such a server the message of a row.
+fn handle_unserved(alloc: Global, server: &mut UnservedServer, row: &Row) -> Result<Outcome, Fail> {
+    handle(alloc, server, (row.0, row.1, row.2), &[160], 0)
+}
+
+/// Whether the call of a row is the last note of such a server.
+fn is_noted_unserved(server: &UnservedServer, row: &Row) -> bool {
+    is_last(server.fs(), &note_of(row, row.6))
+}
+
+/// The opcode of the first message whose note is another where nothing is served.
+fn wrongly_noted(alloc: Global, server: &mut UnservedServer) -> Result<Option<u8>, Fail> {
+    for row in &ROWS {
+        handle_unserved(alloc, server, row)?;
+        if !is_noted_unserved(server, row) {
+            return Ok(Some(row.0));
+        }
+    }
+    Ok(None)
 }
 
 #[test]
 fn a_recorder_notes_each_call_that_is_not_served(rt: HostRuntime) -> Result<(), Fail> {
     let mut server = server_over(rt.alloc(), Unserved {}, ROWS.len())?;
-    for row in &ROWS {
-        reply_to(rt.alloc(), &mut server, row, &note_of(row, row.6))?;
-    }
+    assert!(rt; wrongly_noted(rt.alloc(), &mut server)?.is_none());
     Ok(())
 }
 
@@ -302,7 +311,7 @@ fn is_noted(recorder: &mut Recorder<Script>, noted: usize, missed: bool) -> bool
 fn a_call_without_a_place_is_missed_and_answered(rt: HostRuntime) -> Result<(), Fail> {
     let mut script = Script::new();
     script.done = Ok(());
-    let mut recorder = server_over(rt.alloc(), script, 2)?.into_fs();
+    let mut recorder = script_server(rt.alloc(), script, 2)?.into_fs();
     for (noted, missed) in [(1, false), (2, false), (2, true), (2, true)] {
         assert!(rt; is_noted(&mut recorder, noted, missed));
     }
@@ -311,23 +320,33 @@ fn a_call_without_a_place_is_missed_and_answered(rt: HostRuntime) -> Result<(), 
 }
 
 /// READDIR of 240 bytes, behind its header: ten records of 24, and an eleventh that doesn't fit.
-const READDIR: [u8; 40] = *b"\0\0\0\0\0\0\0\0\0\0\0\0\0\0\0\0\xf0\0\0\0\
+static READDIR: [u8; 40] = *b"\0\0\0\0\0\0\0\0\0\0\0\0\0\0\0\0\xf0\0\0\0\
     \0\0\0\0\0\0\0\0\0\0\0\0\0\0\0\0\0\0\0\0";
 
-/// How long the reply to it is where the directory has no end, and how often an entry was asked for.
-fn taken(alloc: Global) -> Result<(usize, u64), Fail> {
+/// A server over a directory without end.
+fn server_without_end(alloc: Global) -> Result<ScriptServer, AllocError> {
     let mut script = Script::new();
     script.directory = nameless(alloc, 1);
-    let mut server = Server::new(script, 4096);
-    let (len, _) = handle(alloc, &mut server, &request(alloc, 28, 1, &READDIR)?, 256)?;
-    match &server.fs().directory {
-        Ok(directory) => Ok((len, directory.takings())),
-        Err(_) => Err("no directory".into()),
+    script_server(alloc, script, 1)
+}
+
+/// How often an entry of a script's directory was asked for.
+fn takings(script: &Script) -> Option<u64> {
+    match &script.directory {
+        Ok(directory) => Some(directory.takings()),
+        Err(_) => None,
     }
+}
+
+/// How long the reply to it is, and how often an entry was asked for.
+fn taken(alloc: Global, server: &mut ScriptServer) -> Result<(usize, Option<u64>), Fail> {
+    let reply = reply_by_script(alloc, server, (28, 1, &READDIR), 256)?;
+    Ok((reply.len(), takings(server.fs().inner())))
 }
 
 #[test]
 fn takings_from_a_directory_without_end_are_counted(rt: HostRuntime) -> Result<(), Fail> {
-    assert_eq!(rt; taken(rt.alloc())?, (256, 11));
+    let mut server = server_without_end(rt.alloc())?;
+    assert!(rt; taken(rt.alloc(), &mut server)? == (256, Some(11)));
     Ok(())
 }

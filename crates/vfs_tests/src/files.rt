@@ -8,7 +8,7 @@ use vfs_flags::{Errno, Fault, FsOptions, GuestGid, GuestUid, OpenOptions};
 use vfs_wire::{Attr, EntryOut, InHeader, Statvfs64};
 
 /// Bytes, and the name that they are.
-const NAMES: [(&[u8], Option<&[u8]>); 12] = [
+static NAMES: [(&[u8], Option<&[u8]>); 12] = [
     (b"\0", Some(b"")),
     (b"a\0", Some(b"a")),
     (b"hello\0", Some(b"hello")),
@@ -34,8 +34,8 @@ fn is_name(bytes: &[u8], text: Option<&[u8]>) -> bool {
 
 /// The first bytes that are another name.
 fn wrong_name() -> Option<&'static [u8]> {
-    for (bytes, text) in NAMES {
-        if !is_name(bytes, text) {
+    for (bytes, text) in &NAMES {
+        if !is_name(bytes, *text) {
             return Some(bytes);
         }
     }
@@ -56,9 +56,9 @@ fn are_equal(one: &[u8], other: &[u8]) -> Option<bool> {
 
 #[test]
 fn names_are_equal_where_their_bytes_are(rt: HostRuntime) {
-    assert_eq!(rt; are_equal(&[b'a', b'b', 0], &[b'a', b'b', 0]), Some(true));
-    assert_eq!(rt; are_equal(b"ab\0", b"ac\0"), Some(false));
-    assert_eq!(rt; are_equal(b"ab\0", b"abc\0"), Some(false));
+    assert!(rt; are_equal(&[b'a', b'b', 0], &[b'a', b'b', 0]) == Some(true));
+    assert!(rt; are_equal(b"ab\0", b"ac\0") == Some(false));
+    assert!(rt; are_equal(b"ab\0", b"abc\0") == Some(false));
 }
 
 #[test]
@@ -69,7 +69,7 @@ fn a_number_comes_back(rt: HostRuntime) {
 }
 
 /// A process number of a header, and that of its caller.
-const PIDS: [(u32, i32); 5] = [
+static PIDS: [(u32, i32); 5] = [
     (0, 0),
     (1234, 1234),
     (0x7fff_ffff, i32::MAX),
@@ -77,28 +77,21 @@ const PIDS: [(u32, i32); 5] = [
     (0xffff_ffff, -1),
 ];
 
-/// The caller of a header with this process number.
-fn caller_of(pid: u32) -> Context {
-    Context::from(InHeader {
+/// Whether the caller of a header with this process number is that of the header.
+fn is_caller(pid: u32, signed: i32) -> bool {
+    let caller = Context::from(InHeader {
         uid: GuestUid::from(1000),
         gid: GuestGid::from(100),
         pid,
         ..InHeader::default()
-    })
+    });
+    caller.uid.into_inner() == 1000 && caller.gid.into_inner() == 100 && caller.pid == signed
 }
 
 #[test]
 fn the_caller_is_that_of_the_header(rt: HostRuntime) {
-    for (pid, signed) in PIDS {
-        let context = caller_of(pid);
-        assert_eq!(rt;
-            (
-                context.uid.into_inner(),
-                context.gid.into_inner(),
-                context.pid
-            ),
-            (1000, 100, signed)
-        );
+    for (pid, signed) in &PIDS {
+        assert!(rt; is_caller(*pid, *signed));
     }
 }
 
@@ -131,7 +124,7 @@ fn an_entry_has_whole_seconds_and_nanoseconds(rt: HostRuntime) {
         attr_timeout: Duration::from_millis(1_500),
         entry_timeout: Duration::from_nanos(86_400_000_000_001),
     });
-    assert_eq!(rt; numbers, [5, 7, 86_400, 1, 1, 500_000_000, 50, 4096]);
+    assert!(rt; numbers == [5, 7, 86_400, 1, 1, 500_000_000, 50, 4096]);
 }
 
 #[test]
@@ -143,7 +136,7 @@ fn the_longest_timeout_is_whole(rt: HostRuntime) {
         attr_timeout: Duration::ZERO,
         entry_timeout: Duration::MAX,
     });
-    assert_eq!(rt; numbers, [0, 0, u64::MAX, 999_999_999, 0, 0, 0, 0]);
+    assert!(rt; numbers == [0, 0, u64::MAX, 999_999_999, 0, 0, 0, 0]);
 }
 
 /// The caller that these tests name.
@@ -206,25 +199,30 @@ fn own_name(alloc: Global, bytes: &[u8]) -> Result<CString, Fault> {
 }
 
 /// Names that are put into memory of their own, and their texts.
-const OWN_NAMES: [(&[u8], &[u8]); 3] = [
+static OWN_NAMES: [(&[u8], &[u8]); 3] = [
     (b"\0", b""),
     (b"security.selinux\0", b"security.selinux"),
     (b"\xff\x01\0", b"\xff\x01"),
 ];
 
-/// The number of the first row whose copy is another name.
-fn wrong_own_name(alloc: Global) -> Result<Option<usize>, Fault> {
-    for (i, (bytes, text)) in OWN_NAMES.iter().enumerate() {
-        if own_name(alloc, bytes)?.as_c_str().to_bytes() != *text {
-            return Ok(Some(i));
+/// Whether a name of its own has this text.
+fn is_own_name(alloc: Global, bytes: &[u8], text: &[u8]) -> Result<bool, Fault> {
+    Ok(own_name(alloc, bytes)?.as_c_str().to_bytes() == text)
+}
+
+/// Whether each row's copy is the same name.
+fn are_own_names(alloc: Global) -> Result<bool, Fault> {
+    for (bytes, text) in &OWN_NAMES {
+        if !is_own_name(alloc, bytes, text)? {
+            return Ok(false);
         }
     }
-    Ok(None)
+    Ok(true)
 }
 
 #[test]
 fn a_name_in_memory_of_its_own_is_the_same(rt: HostRuntime) -> Result<(), Fail> {
-    assert_eq!(rt; wrong_own_name(rt.alloc())?, None);
+    assert!(rt; are_own_names(rt.alloc())?);
     Ok(())
 }
 

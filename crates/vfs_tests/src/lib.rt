@@ -11,8 +11,6 @@ mod files;
 #[cfg(test)]
 mod flags;
 #[cfg(test)]
-mod lent;
-#[cfg(test)]
 mod lines;
 #[cfg(test)]
 mod message;
@@ -26,8 +24,6 @@ mod segments;
 mod server;
 #[cfg(test)]
 mod session;
-#[cfg(test)]
-mod totals;
 #[cfg(test)]
 mod transfers;
 #[cfg(test)]

@@ -1,12 +1,12 @@
 //! Lines that are read and refused, and the texts of errors.
 
-use crate::message::are;
+use crate::message::{are, has_text};
 use std::alloc::Global;
 use std::test::Fail;
 use vfs_lines::{RunError, parse_line};
 
 /// A line, the rooms that it asks for, and the segments of its request.
-const ACCEPTED: [(&str, &[usize], &[&[u8]]); 6] = [
+static ACCEPTED: [(&str, &[usize], &[&[u8]]); 6] = [
     ("16 00", &[16], &[&[0]]),
     ("0 ", &[0], &[&[]]),
     (
@@ -20,7 +20,7 @@ const ACCEPTED: [(&str, &[usize], &[&[u8]]); 6] = [
 ];
 
 /// What is no line.
-const REFUSED: [&str; 22] = [
+static REFUSED: [&str; 22] = [
     "",
     " ",
     "16",
@@ -55,7 +55,7 @@ fn is_line(alloc: Global, text: &str, rooms: &[usize], segments: &[&[u8]]) -> Re
 
 /// The first line of another form.
 fn wrong_line(alloc: Global) -> Result<Option<&'static str>, Fail> {
-    for (text, rooms, segments) in ACCEPTED {
+    for (text, rooms, segments) in &ACCEPTED {
         if !is_line(alloc, text, rooms, segments)? {
             return Ok(Some(text));
         }
@@ -65,7 +65,7 @@ fn wrong_line(alloc: Global) -> Result<Option<&'static str>, Fail> {
 
 /// The first line that is read and should be refused.
 fn wrongly_read(alloc: Global) -> Result<Option<&'static str>, Fail> {
-    for text in REFUSED {
+    for text in &REFUSED {
         if parse_line(alloc, text.as_bytes())?.is_some() {
             return Ok(Some(text));
         }
@@ -75,13 +75,13 @@ fn wrongly_read(alloc: Global) -> Result<Option<&'static str>, Fail> {
 
 #[test]
 fn lines_are_read_by_their_form(rt: HostRuntime) -> Result<(), Fail> {
-    assert_eq!(rt; wrong_line(rt.alloc())?, None);
-    assert_eq!(rt; wrongly_read(rt.alloc())?, None);
+    assert!(rt; wrong_line(rt.alloc())?.is_none());
+    assert!(rt; wrongly_read(rt.alloc())?.is_none());
     Ok(())
 }
 
 /// Each end of a run that has a text, and the text.
-const TEXTS: [(RunError, &str); 3] = [
+static TEXTS: [(RunError, &str); 3] = [
     (RunError::BadLine(6), "bad line 6"),
     (RunError::Io, "i/o error"),
     (RunError::OutOfMemory, "out of memory"),
@@ -89,8 +89,8 @@ const TEXTS: [(RunError, &str); 3] = [
 
 #[test]
 fn each_end_of_a_run_has_a_text(rt: HostRuntime) -> Result<(), Fail> {
-    for (error, text) in TEXTS {
-        assert_eq!(rt; format!(in rt.alloc(); "{error}")?.as_str(), text);
+    for (error, text) in &TEXTS {
+        assert!(rt; has_text(rt.alloc(), error, text)?, "at {text}");
     }
     Ok(())
 }

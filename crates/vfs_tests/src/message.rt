@@ -1,7 +1,9 @@
-//! Requests and replies as bytes.
+//! Requests and replies as bytes, the servers that tests hand them to, and the texts of errors.
 
 use std::alloc::{AllocError, Global};
+use std::fmt::Display;
 use std::test::Fail;
+use vfs_bench::{Recorder, Script};
 use vfs_server::descriptor_utils::{Reader, Writer};
 use vfs_server::filesystem::FileSystem;
 use vfs_server::server::Server;
@@ -12,10 +14,9 @@ pub type Outcome = (usize, Vec<u8>);
 
 /// A request with this opcode and node, and these bytes behind its header. Its `len` counts all of
 /// them, its `unique` is 9, and all else in the header is 0.
-pub fn request(alloc: Global, opcode: u8, node: u8, behind: &[u8]) -> Result<Vec<u8>, Fail> {
-    let len = u32::try_from(40 + behind.len())?;
+fn request(alloc: Global, opcode: u8, node: u8, behind: &[u8]) -> Result<Vec<u8>, AllocError> {
     let mut header = [0; 40];
-    header[..4].copy_from_slice(&len.to_le_bytes());
+    header[..8].copy_from_slice(&(40 + behind.len()).to_le_bytes());
     header[4] = opcode;
     header[8] = 9;
     header[16] = node;
@@ -35,12 +36,15 @@ pub fn filled(alloc: Global, lengths: &[usize], byte: u8) -> Result<Vec<Vec<u8>>
 
 /// Whether segments have these bytes.
 pub fn are(segments: &[Vec<u8>], want: &[&[u8]]) -> bool {
-    for (segment, bytes) in segments.iter().zip(want) {
-        if segment.as_slice() != *bytes {
+    if segments.len() != want.len() {
+        return false;
+    }
+    for i in 0..want.len() {
+        if segments[i].as_slice() != want[i] {
             return false;
         }
     }
-    segments.len() == want.len()
+    true
 }
 
 /// The bytes of segments, one after another.
@@ -52,9 +56,30 @@ pub fn joined(alloc: Global, segments: &[Vec<u8>]) -> Result<Vec<u8>, AllocError
     Ok(all)
 }
 
-/// Hands a server a request with a room of segments of these lengths, without a zero in them, of
+/// Whether an error has this text.
+pub fn has_text<E: Display>(alloc: Global, error: &E, text: &str) -> Result<bool, AllocError> {
+    let shown = format!(in alloc; "{error}")?;
+    Ok(shown.as_str() == text)
+}
+
+/// A message: its opcode, its node, and the bytes behind its header.
+pub type Message<'a> = (u8, u8, &'a [u8]);
+
+/// Hands a server a message with a room of segments of these lengths, without a zero in them, of
 /// which the first `held` bytes are held.
-pub fn handle_held<F: FileSystem>(
+pub fn handle<F: FileSystem>(
+    alloc: Global,
+    server: &mut Server<F>,
+    (opcode, node, behind): Message<'_>,
+    room: &[usize],
+    held: usize,
+) -> Result<Outcome, Fail> {
+    let request = request(alloc, opcode, node, behind)?;
+    handle_request(alloc, server, &request, room, held)
+}
+
+/// The same of a request.
+fn handle_request<F: FileSystem>(
     alloc: Global,
     server: &mut Server<F>,
     request: &[u8],
@@ -69,12 +94,45 @@ pub fn handle_held<F: FileSystem>(
     Ok((len, joined(alloc, &writer.into_segments())?))
 }
 
-/// Hands a server a request with a room of so many bytes in one piece.
-pub fn handle<F: FileSystem>(
+/// A server over a recorder of `n` places.
+pub fn server_over<F: Drop>(
     alloc: Global,
-    server: &mut Server<F>,
-    request: &[u8],
-    room: usize,
+    inner: F,
+    n: usize,
+) -> Result<Server<Recorder<F>>, AllocError> {
+    match Recorder::new(alloc, inner, n) {
+        Ok(recorder) => Ok(Server::new(recorder, 4096)),
+        Err(_) => Err(AllocError),
+    }
+}
+
+/// A server over a script, with a note of each call.
+pub type ScriptServer = Server<Recorder<Script>>;
+
+/// A server over a script, with places for `n` notes.
+pub fn script_server(alloc: Global, script: Script, n: usize) -> Result<ScriptServer, AllocError> {
+    server_over(alloc, script, n)
+}
+
+/// `handle` of such a server. It is a function of its own, so that it is proved once for all tests.
+pub fn handle_by_script(
+    alloc: Global,
+    server: &mut ScriptServer,
+    message: Message<'_>,
+    room: &[usize],
+    held: usize,
 ) -> Result<Outcome, Fail> {
-    handle_held(alloc, server, request, &[room], 0)
+    handle(alloc, server, message, room, held)
+}
+
+/// The reply of such a server to a message with a room of so many bytes in one piece.
+pub fn reply_by_script(
+    alloc: Global,
+    server: &mut ScriptServer,
+    message: Message<'_>,
+    room: usize,
+) -> Result<Vec<u8>, Fail> {
+    let (len, mut room) = handle_by_script(alloc, server, message, &[room], 0)?;
+    room.truncate(len);
+    Ok(room)
 }

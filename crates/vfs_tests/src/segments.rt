@@ -1,7 +1,7 @@
 //! Readers and writers over segments of all kinds: what each call answers, and what is left and
 //! passed after it.
 
-use crate::message::{are, filled};
+use crate::message::{are, filled, has_text};
 use std::alloc::{AllocError, Global};
 use std::io;
 use std::io::{ErrorKind, Read, Write};
@@ -67,61 +67,50 @@ enum ReadCall {
     Byte,
     /// `read_obj::<u32>`.
     Word,
+    /// `together` of so many bytes from this place on. That they are not is answered as not found.
+    Together(usize, usize),
+    /// `take_slice` of so many bytes. That they are not lent is answered as not found.
+    Lent(usize),
+    /// `clone`, of which all is read then, into so many bytes.
+    Clone(usize),
+    /// `split_at` so many bytes on: how much the rest has. Further calls are of the first part.
+    /// That it is past the end is answered as invalid input here.
+    First(usize),
+    /// The same: how much the first part has. Further calls are of the rest.
+    Rest(usize),
 }
 
-/// `read` into `n` bytes, which are to be those from the place `from` on.
-fn read(alloc: Global, reader: &mut Reader<'_>, from: usize, n: usize) -> Result<Answer, Fail> {
-    let mut buf = vec![in alloc; 0u8; n]?;
-    let count = reader.read(&mut buf)?;
-    if !has_numbers(&buf, from, count) {
-        return Err("other bytes were read".into());
-    }
-    Ok(Ok(count))
+/// The first `n` bytes of a buffer, or all of it, which are 0 now.
+fn cleared(buf: &mut [u8], n: usize) -> &mut [u8] {
+    let n = n.min(buf.len());
+    let part = &mut buf[..n];
+    part.fill(0);
+    part
 }
 
-/// `read_exact` of `n` bytes, which are to be those from the place `from` on.
-fn read_exact(
-    alloc: Global,
-    reader: &mut Reader<'_>,
-    from: usize,
-    n: usize,
-) -> Result<Answer, Fail> {
-    let mut buf = vec![in alloc; 0u8; n]?;
-    if let Err(e) = reader.read_exact(&mut buf) {
-        return Ok(Err(e.kind()));
+/// That so many bytes were read into a buffer of zeros. They are to be those from the place `from`
+/// on.
+fn told(buf: &[u8], from: usize, count: usize) -> Answer {
+    if has_numbers(buf, from, count) {
+        Ok(count)
+    } else {
+        Err(ErrorKind::InvalidData)
     }
-    if !has_numbers(&buf, from, n) {
-        return Err("other bytes were read".into());
-    }
-    Ok(Ok(n))
 }
 
-/// What a record answers that is to be these bytes.
-fn record<const N: usize>(bytes: [u8; N], from: usize) -> Result<Answer, Fail> {
-    if !has_numbers(&bytes, from, N) {
-        return Err("another record was read".into());
+/// What `read` into a buffer answers.
+fn read(reader: &mut Reader<'_>, from: usize, buf: &mut [u8]) -> Answer {
+    match reader.read(buf) {
+        Ok(count) => told(buf, from, count),
+        Err(e) => Err(e.kind()),
     }
-    Ok(Ok(N))
 }
 
-/// What a reader answers to a call. What it reads is to be the bytes from the place `from` on.
-fn read_by(
-    alloc: Global,
-    reader: &mut Reader<'_>,
-    from: usize,
-    call: ReadCall,
-) -> Result<Answer, Fail> {
-    match call {
-        ReadCall::UpTo(n) => read(alloc, reader, from, n),
-        ReadCall::All(n) => read_exact(alloc, reader, from, n),
-        ReadCall::Byte => match reader.read_obj::<u8>() {
-            Ok(x) => record(x.to_le_bytes(), from),
-            Err(e) => Ok(Err(e.kind())),
-        },
-        ReadCall::Word => match reader.read_obj::<u32>() {
-            Ok(x) => record(x.to_le_bytes(), from),
-            Err(e) => Ok(Err(e.kind())),
-        },
+/// What `read_exact` of a buffer answers.
+fn read_exact(reader: &mut Reader<'_>, from: usize, buf: &mut [u8]) -> Answer {
+    match reader.read_exact(buf) {
+        Ok(()) => told(buf, from, buf.len()),
+        Err(e) => Err(e.kind()),
     }
 }
 
@@ -130,22 +119,92 @@ fn read_state(reader: &Reader<'_>) -> (usize, usize) {
     (reader.available_bytes(), reader.bytes_read())
 }
 
+/// What stands for an error of `split_at` or `hold` with the number `n`.
+fn kind_of(error: Error, n: usize) -> ErrorKind {
+    match error {
+        Error::OutOfMemory => ErrorKind::OutOfMemory,
+        Error::SplitOutOfBounds(m) if m == n => ErrorKind::InvalidInput,
+        _ => ErrorKind::Other,
+    }
+}
+
+/// What the clone of a reader answers that is to have its counts, and to be read to its end.
+fn read_clone(reader: &Reader<'_>, from: usize, buf: &mut [u8]) -> Answer {
+    let (left, taken) = read_state(reader);
+    let mut clone = match reader.clone() {
+        Ok(clone) => clone,
+        Err(error) => return Err(kind_of(error, 0)),
+    };
+    let begins = read_state(&clone) == (left, taken);
+    let answer = read(&mut clone, from, buf);
+    if begins && read_state(&clone) == (0, taken.saturating_add(left)) {
+        answer
+    } else {
+        Err(ErrorKind::InvalidData)
+    }
+}
+
+/// What is left of the part of a split reader that no further call is of.
+fn read_split(reader: &mut Reader<'_>, at: usize, goes_on_with_rest: bool) -> Answer {
+    match reader.split_at(at) {
+        Ok(rest) if goes_on_with_rest => {
+            let left = reader.available_bytes();
+            *reader = rest;
+            Ok(left)
+        }
+        Ok(rest) => Ok(rest.available_bytes()),
+        Err(error) => Err(kind_of(error, at)),
+    }
+}
+
+/// What a reader answers to a call. What it reads is to be the bytes from the place `from` on.
+fn read_by(reader: &mut Reader<'_>, from: usize, call: ReadCall, buf: &mut [u8]) -> Answer {
+    match call {
+        ReadCall::UpTo(n) => read(reader, from, cleared(buf, n)),
+        ReadCall::All(n) => read_exact(reader, from, cleared(buf, n)),
+        ReadCall::Byte => match reader.read_obj::<u8>() {
+            Ok(x) => told(&x.to_le_bytes(), from, 1),
+            Err(e) => Err(e.kind()),
+        },
+        ReadCall::Word => match reader.read_obj::<u32>() {
+            Ok(x) => told(&x.to_le_bytes(), from, 4),
+            Err(e) => Err(e.kind()),
+        },
+        ReadCall::Together(at, n) if reader.together(at, n) => Ok(n),
+        ReadCall::Together(..) => Err(ErrorKind::NotFound),
+        ReadCall::Lent(n) => match reader.take_slice(n) {
+            Some(bytes) => told(bytes, from, bytes.len()),
+            None => Err(ErrorKind::NotFound),
+        },
+        ReadCall::Clone(n) => read_clone(reader, from, cleared(buf, n)),
+        ReadCall::First(at) => read_split(reader, at, false),
+        ReadCall::Rest(at) => read_split(reader, at, true),
+    }
+}
+
 /// What a reader is asked, what it answers, and what is left and was read afterwards.
 type ReadRow = (ReadCall, Answer, (usize, usize));
 
 /// Whether a reader answers so, whose first byte is the one at the place 0.
-fn answers_so(alloc: Global, reader: &mut Reader<'_>, rows: &[ReadRow]) -> Result<bool, Fail> {
+fn answers_so(reader: &mut Reader<'_>, rows: &[ReadRow]) -> Result<bool, Error> {
+    let mut buf = [0; 1024];
+    let mut begin: usize = 0;
     for (call, answer, state) in rows {
-        let from = reader.bytes_read();
-        if read_by(alloc, reader, from, *call)? != *answer || read_state(reader) != *state {
-            return Ok(false);
+        let from = begin.saturating_add(reader.bytes_read());
+        if let ReadCall::Rest(at) = call {
+            begin = from.saturating_add(*at);
+        }
+        match read_by(reader, from, *call, &mut buf) {
+            Err(ErrorKind::OutOfMemory) => return Err(Error::OutOfMemory),
+            given if given != *answer || read_state(reader) != *state => return Ok(false),
+            _ => {}
         }
     }
     Ok(true)
 }
 
 /// The lengths of a reader's segments, and its calls.
-const READS: [(&[usize], &[ReadRow]); 8] = [
+static READS: [(&[usize], &[ReadRow]); 21] = [
     (
         &[8, 16, 18, 64],
         &[
@@ -180,14 +239,128 @@ const READS: [(&[usize], &[ReadRow]); 8] = [
             (ReadCall::UpTo(3), Ok(3), (1, 3)),
         ],
     ),
+    // Splits at the cuts and between them, of which each part is read.
+    (
+        &[16, 16, 96],
+        &[
+            (ReadCall::First(0), Ok(128), (0, 0)),
+            (ReadCall::UpTo(200), Ok(0), (0, 0)),
+        ],
+    ),
+    (
+        &[16, 16, 96],
+        &[
+            (ReadCall::Rest(0), Ok(0), (128, 0)),
+            (ReadCall::UpTo(200), Ok(128), (0, 128)),
+        ],
+    ),
+    (
+        &[16, 16, 96],
+        &[
+            (ReadCall::First(24), Ok(104), (24, 0)),
+            (ReadCall::UpTo(200), Ok(24), (0, 24)),
+        ],
+    ),
+    (
+        &[16, 16, 96],
+        &[
+            (ReadCall::Rest(24), Ok(24), (104, 0)),
+            (ReadCall::UpTo(200), Ok(104), (0, 104)),
+        ],
+    ),
+    (
+        &[16, 16, 96],
+        &[
+            (ReadCall::First(32), Ok(96), (32, 0)),
+            (ReadCall::UpTo(200), Ok(32), (0, 32)),
+        ],
+    ),
+    (
+        &[16, 16, 96],
+        &[
+            (ReadCall::Rest(32), Ok(32), (96, 0)),
+            (ReadCall::UpTo(200), Ok(96), (0, 96)),
+        ],
+    ),
+    (
+        &[16, 16, 96],
+        &[
+            (ReadCall::First(128), Ok(0), (128, 0)),
+            (ReadCall::UpTo(200), Ok(128), (0, 128)),
+        ],
+    ),
+    (
+        &[16, 16, 96],
+        &[
+            (ReadCall::Rest(128), Ok(128), (0, 0)),
+            (ReadCall::UpTo(200), Ok(0), (0, 0)),
+        ],
+    ),
+    (
+        &[3, 5],
+        &[
+            (ReadCall::UpTo(2), Ok(2), (6, 2)),
+            (ReadCall::First(3), Ok(3), (3, 2)),
+            (ReadCall::UpTo(200), Ok(3), (0, 5)),
+        ],
+    ),
+    (
+        &[3, 5],
+        &[
+            (ReadCall::UpTo(2), Ok(2), (6, 2)),
+            (ReadCall::Rest(3), Ok(3), (3, 0)),
+            (ReadCall::UpTo(200), Ok(3), (0, 3)),
+        ],
+    ),
+    // A split past the end, and then one at it.
+    (
+        &[16, 16, 96],
+        &[
+            (ReadCall::First(256), Err(ErrorKind::InvalidInput), (128, 0)),
+            (ReadCall::First(128), Ok(0), (128, 0)),
+            (ReadCall::UpTo(200), Ok(128), (0, 128)),
+        ],
+    ),
+    // A clone goes on from where the reader stands, which it leaves as it is.
+    (
+        &[0, 2, 0, 2],
+        &[
+            (ReadCall::UpTo(3), Ok(3), (1, 3)),
+            (ReadCall::Clone(200), Ok(1), (1, 3)),
+        ],
+    ),
+    // Bytes of one segment lie together and are lent, and those over a cut are not.
+    (
+        &[3, 4],
+        &[
+            (ReadCall::Together(0, 3), Ok(3), (7, 0)),
+            (ReadCall::Together(2, 2), Err(ErrorKind::NotFound), (7, 0)),
+            (ReadCall::Together(3, 4), Ok(4), (7, 0)),
+            (ReadCall::Together(5, 3), Err(ErrorKind::NotFound), (7, 0)),
+            (ReadCall::Together(7, 0), Ok(0), (7, 0)),
+            (ReadCall::Lent(4), Err(ErrorKind::NotFound), (7, 0)),
+            (ReadCall::Lent(3), Ok(3), (4, 3)),
+            (ReadCall::Lent(4), Ok(4), (0, 7)),
+        ],
+    ),
 ];
 
-/// The segments of the first reader that doesn't answer so.
-fn wrong_reads(alloc: Global) -> Result<Option<&'static [usize]>, Fail> {
-    let bytes = numbers(alloc, 512)?;
-    for (lengths, calls) in READS {
-        let segments = cut(alloc, &bytes, lengths)?;
-        if !answers_so(alloc, &mut Reader::new(alloc, &segments)?, calls)? {
+/// Whether a reader of the first of these bytes, in segments of these lengths, answers so.
+fn is_read(
+    alloc: Global,
+    bytes: &[u8],
+    lengths: &[usize],
+    calls: &[ReadRow],
+) -> Result<bool, Error> {
+    let segments = cut(alloc, bytes, lengths)?;
+    let mut reader = Reader::new(alloc, &segments)?;
+    answers_so(&mut reader, calls)
+}
+
+/// The segments of the first reader of these bytes that doesn't answer so.
+fn wrong_reads(alloc: Global, bytes: &[u8]) -> Result<Option<&'static [usize]>, Error> {
+    for (lengths, calls) in &READS {
+        if !is_read(alloc, bytes, lengths, calls)? {
             return Ok(Some(lengths));
         }
     }
@@ -196,138 +369,13 @@ fn wrong_reads(alloc: Global) -> Result<Option<&'static [usize]>, Fail> {
 
 #[test]
 fn readers_answer_and_count(rt: HostRuntime) -> Result<(), Fail> {
-    assert!(rt; wrong_reads(rt.alloc())?.is_none());
-    Ok(())
-}
-
-/// Whether `n` bytes, and no more, are read into `size` bytes. They are to be those from the place
-/// `from` on.
-fn reads(
-    alloc: Global,
-    reader: &mut Reader<'_>,
-    from: usize,
-    size: usize,
-    n: usize,
-) -> Result<bool, Fail> {
-    Ok(read(alloc, reader, from, size)? == Ok(n))
-}
-
-/// Whether `n` bytes are left of a reader, those from the place `from` on. They are read.
-fn has_left(alloc: Global, reader: &mut Reader<'_>, from: usize, n: usize) -> Result<bool, Fail> {
-    Ok(reader.available_bytes() == n && reads(alloc, reader, from, 200, n)?)
-}
-
-/// The lengths of a reader's segments, how many bytes are read of it, where it is split then, and
-/// what is left of both parts.
-const READER_SPLITS: [(&[usize], usize, usize, (usize, usize)); 5] = [
-    (&[16, 16, 96], 0, 0, (0, 128)),
-    (&[16, 16, 96], 0, 24, (24, 104)),
-    (&[16, 16, 96], 0, 32, (32, 96)),
-    (&[16, 16, 96], 0, 128, (128, 0)),
-    (&[3, 5], 2, 3, (3, 3)),
-];
-
-/// Whether a reader that is split `at` bytes on keeps its count and so many bytes, and the rest
-/// begins its count anew and has so many. Both are read.
-fn is_split(
-    alloc: Global,
-    reader: &mut Reader<'_>,
-    at: usize,
-    (first, second): (usize, usize),
-) -> Result<bool, Fail> {
-    let from = reader.bytes_read();
-    let mut rest = reader.split_at(at)?;
-    let counts = (reader.bytes_read(), rest.bytes_read());
-    let keeps = has_left(alloc, reader, from, first)?;
-    let leaves = has_left(alloc, &mut rest, from.saturating_add(at), second)?;
-    Ok(counts == (from, 0) && keeps && leaves && rest.bytes_read() == second)
-}
-
-/// The place of the first split of a reader that doesn't leave so much.
-fn wrong_reader_split(alloc: Global) -> Result<Option<usize>, Fail> {
-    let bytes = numbers(alloc, 128)?;
-    for (lengths, before, at, left) in READER_SPLITS {
-        let segments = cut(alloc, &bytes, lengths)?;
-        let mut reader = Reader::new(alloc, &segments)?;
-        let begins = reads(alloc, &mut reader, 0, before, before)?;
-        let is_split = is_split(alloc, &mut reader, at, left)?;
-        if !begins || !is_split {
-            return Ok(Some(at));
-        }
-    }
-    Ok(None)
-}
-
-#[test]
-fn a_reader_is_split_at_the_cuts_and_between_them(rt: HostRuntime) -> Result<(), Fail> {
-    assert_eq!(rt; wrong_reader_split(rt.alloc())?, None);
-    Ok(())
-}
-
-/// Whether a reader is not split past its end, and can be split at it then.
-fn is_refused_past_its_end(alloc: Global) -> Result<bool, Fail> {
-    let bytes = numbers(alloc, 128)?;
-    let segments = cut(alloc, &bytes, &[16, 16, 96])?;
-    let mut reader = Reader::new(alloc, &segments)?;
-    Ok(
-        reader.split_at(256).err() == Some(Error::SplitOutOfBounds(256))
-            && read_state(&reader) == (128, 0)
-            && is_split(alloc, &mut reader, 128, (128, 0))?,
-    )
-}
-
-#[test]
-fn a_reader_is_not_split_past_its_end(rt: HostRuntime) -> Result<(), Fail> {
-    assert!(rt; is_refused_past_its_end(rt.alloc())?);
-    Ok(())
-}
-
-/// Whether a clone of a reader has its counts, and leaves them as they are when the last byte is
-/// read, which is at the place `from`.
-fn is_cloned(alloc: Global, reader: &Reader<'_>, from: usize) -> Result<bool, Fail> {
-    let state = read_state(reader);
-    let mut clone = reader.clone()?;
-    Ok(
-        read_state(&clone) == state
-            && has_left(alloc, &mut clone, from, 1)?
-            && read_state(&clone) == (0, from.saturating_add(1))
-            && read_state(reader) == state,
-    )
-}
-
-/// Whether a reader is cloned between its empty segments.
-fn is_cloned_past_empty_segments(alloc: Global) -> Result<bool, Fail> {
-    let bytes = numbers(alloc, 4)?;
-    let segments = cut(alloc, &bytes, &[0, 2, 0, 2])?;
-    let mut reader = Reader::new(alloc, &segments)?;
-    Ok(
-        reads(alloc, &mut reader, 0, 3, 3)?
-            && read_state(&reader) == (1, 3)
-            && is_cloned(alloc, &reader, 3)?,
-    )
-}
-
-#[test]
-fn a_clone_goes_on_from_where_the_reader_stands(rt: HostRuntime) -> Result<(), Fail> {
-    assert!(rt; is_cloned_past_empty_segments(rt.alloc())?);
+    let bytes = numbers(rt.alloc(), 512)?;
+    assert!(rt; wrong_reads(rt.alloc(), &bytes)?.is_none());
     Ok(())
 }
 
 /// The bytes of 0x12345678, each a segment.
 const WORD: [&[u8]; 4] = [&[0x78], &[0x56], &[0x34], &[0x12]];
-
-/// A number of four bytes that is read over segments of one byte, and the counts afterwards.
-fn word_read(alloc: Global) -> Result<(u32, (usize, usize)), Fail> {
-    let mut reader = Reader::new(alloc, &WORD)?;
-    let word = reader.read_obj::<u32>()?;
-    Ok((word, read_state(&reader)))
-}
-
-#[test]
-fn a_record_is_read_over_segments_of_one_byte(rt: HostRuntime) -> Result<(), Fail> {
-    assert_eq!(rt; word_read(rt.alloc())?, (0x1234_5678, (0, 4)));
-    Ok(())
-}
 
 /// A call of a writer.
 #[derive(Clone, Copy)]
@@ -362,8 +410,7 @@ fn all_of(n: usize, answer: io::Result<()>) -> Answer {
 fn hold(writer: &mut Writer, n: usize) -> Answer {
     match writer.hold(n) {
         Ok(()) => Ok(n),
-        Err(Error::SplitOutOfBounds(m)) if m == n => Err(ErrorKind::InvalidInput),
-        Err(_) => Err(ErrorKind::Other),
+        Err(error) => Err(kind_of(error, n)),
     }
 }
 
@@ -424,7 +471,13 @@ fn has_segments(writer: Writer, want: &[&[u8]]) -> bool {
 }
 
 /// The lengths of a writer's segments, its calls, and its segments afterwards.
-const WRITES: [(&[usize], &[WriteRow], &[&[u8]]); 11] = [
+type WriteTest = (
+    &'static [usize],
+    &'static [WriteRow],
+    &'static [&'static [u8]],
+);
+
+static WRITES: [WriteTest; 11] = [
     (
         &[8, 16, 18, 64],
         &[
@@ -535,16 +588,22 @@ const WRITES: [(&[usize], &[WriteRow], &[&[u8]]); 11] = [
 ];
 
 /// A writer over zeros in segments of these lengths.
-pub fn writer_over(alloc: Global, lengths: &[usize]) -> Result<Writer, Fail> {
-    Ok(Writer::new(alloc, filled(alloc, lengths, 0)?)?)
+pub fn writer_over(alloc: Global, lengths: &[usize]) -> Result<Writer, Error> {
+    Writer::new(alloc, filled(alloc, lengths, 0)?)
+}
+
+/// Whether a writer answers so, and has these segments afterwards.
+fn is_written(alloc: Global, row: &WriteTest) -> Result<bool, Error> {
+    let mut writer = writer_over(alloc, row.0)?;
+    let answers = does_so(&mut writer, row.1);
+    Ok(has_segments(writer, row.2) && answers)
 }
 
 /// The segments of the first writer that doesn't answer so.
-fn wrong_writes(alloc: Global) -> Result<Option<&'static [usize]>, Fail> {
-    for (lengths, calls, segments) in WRITES {
-        let mut writer = writer_over(alloc, lengths)?;
-        if !does_so(&mut writer, calls) || !has_segments(writer, segments) {
-            return Ok(Some(lengths));
+fn wrong_writes(alloc: Global) -> Result<Option<&'static [usize]>, Error> {
+    for row in &WRITES {
+        if !is_written(alloc, row)? {
+            return Ok(Some(row.0));
         }
     }
     Ok(None)
@@ -558,16 +617,12 @@ fn writers_answer_and_count(rt: HostRuntime) -> Result<(), Fail> {
 
 /// The rest of a writer that is split. Where memory is refused, as `rt try --test --fail-alloc N`
 /// does, nothing changes, and it is split again.
-fn split(writer: &mut Writer, at: usize) -> Result<Writer, Fail> {
+fn split(writer: &mut Writer, at: usize) -> Result<Writer, Error> {
     let state = write_state(writer);
     match writer.split_at(at) {
-        Err(Error::OutOfMemory) => {
-            if write_state(writer) != state {
-                return Err("a refused split changes the writer".into());
-            }
-            Ok(writer.split_at(at)?)
-        }
-        answer => Ok(answer?),
+        Err(Error::OutOfMemory) if write_state(writer) == state => writer.split_at(at),
+        Err(Error::OutOfMemory) => Err(Error::IoError),
+        answer => answer,
     }
 }
 
@@ -583,7 +638,7 @@ const WRITER_SPLITS: [(usize, usize, usize); 4] = [
 fn is_writer_split(
     writer: &mut Writer,
     (at, first, second): (usize, usize, usize),
-) -> Result<bool, Fail> {
+) -> Result<bool, Error> {
     let refused = writer.split_at(256).err() == Some(Error::SplitOutOfBounds(256));
     let state = write_state(writer);
     let rest = split(writer, at)?;
@@ -624,7 +679,7 @@ const REST: [WriteRow; 2] = [
 ];
 
 /// Whether the calls of a writer and of its rest answer so, and fill their segments.
-fn fills_both_parts(alloc: Global) -> Result<bool, Fail> {
+fn fills_both_parts(alloc: Global) -> Result<bool, Error> {
     let mut writer = writer_over(alloc, &[2, 0, 4, 1])?;
     if !does_so(&mut writer, &BEFORE) {
         return Ok(false);
@@ -663,8 +718,9 @@ fn thousand_lengths(alloc: Global) -> Result<Vec<usize>, AllocError> {
 fn thousand_written(
     alloc: Global,
     bytes: &[u8],
+    lengths: &[usize],
 ) -> Result<(Vec<Vec<u8>>, (usize, usize, usize)), Fail> {
-    let mut writer = writer_over(alloc, &thousand_lengths(alloc)?)?;
+    let mut writer = writer_over(alloc, lengths)?;
     writer.write_all(bytes)?;
     let rest = writer.split_at(200)?;
     let (first, second) = (writer.available_bytes(), rest.available_bytes());
@@ -681,39 +737,46 @@ fn slices_of(alloc: Global, segments: &[Vec<u8>]) -> Result<Vec<&[u8]>, AllocErr
     Ok(slices)
 }
 
-/// Whether a clone of a reader of these segments reads all bytes.
-fn clone_reads_all(alloc: Global, segments: &[&[u8]]) -> Result<bool, Fail> {
-    let mut clone = Reader::new(alloc, segments)?.clone()?;
-    Ok(read_exact(alloc, &mut clone, 0, LARGEST_WRITE)? == Ok(LARGEST_WRITE))
+/// Whether a clone of a reader reads all bytes into a buffer of as many.
+fn clone_reads_all(reader: &Reader<'_>, buf: &mut [u8]) -> Result<bool, Error> {
+    let mut clone = reader.clone()?;
+    Ok(read_exact(&mut clone, 0, buf) == Ok(LARGEST_WRITE))
 }
 
-/// Whether a reader of these segments that is split inside one of them reads all bytes.
-fn parts_read_all(alloc: Global, segments: &[&[u8]]) -> Result<bool, Fail> {
-    let mut reader = Reader::new(alloc, segments)?;
+/// Whether a reader that is split inside a segment reads all bytes into a buffer of as many.
+fn parts_read_all(reader: &mut Reader<'_>, buf: &mut [u8]) -> Result<bool, Error> {
     let mut rest = reader.split_at(MIDDLE)?;
     let behind = LARGEST_WRITE - MIDDLE;
     Ok(
-        reads(alloc, &mut reader, 0, LARGEST_WRITE, MIDDLE)?
-            && read_exact(alloc, &mut rest, MIDDLE, behind)? == Ok(behind),
+        read(reader, 0, cleared(buf, LARGEST_WRITE)) == Ok(MIDDLE)
+            && read_exact(&mut rest, MIDDLE, cleared(buf, behind)) == Ok(behind),
     )
 }
 
+/// Whether a reader of these segments, its clone, and its parts read all bytes.
+fn all_read_all(alloc: Global, segments: &[&[u8]], buf: &mut [u8]) -> Result<bool, Error> {
+    let mut reader = Reader::new(alloc, segments)?;
+    Ok(clone_reads_all(&reader, buf)? && parts_read_all(&mut reader, buf)?)
+}
+
+/// Whether these segments are as many as said and all bytes are read of them, into a buffer of as
+/// many.
+fn are_read(alloc: Global, segments: &[Vec<u8>], buf: &mut [u8]) -> Result<bool, Error> {
+    let slices = slices_of(alloc, segments)?;
+    Ok(slices.len() == 946 && all_read_all(alloc, &slices, buf)?)
+}
+
 /// Whether a thousand segments are written and read.
-fn moves_a_thousand_segments(alloc: Global) -> Result<bool, Fail> {
-    let bytes = numbers(alloc, LARGEST_WRITE)?;
-    let (written, counts) = thousand_written(alloc, &bytes)?;
-    let slices = slices_of(alloc, &written)?;
-    Ok(
-        counts == (200, 264, 55)
-            && slices.len() == 946
-            && clone_reads_all(alloc, &slices)?
-            && parts_read_all(alloc, &slices)?,
-    )
+fn moves_a_thousand_segments(alloc: Global, lengths: &[usize]) -> Result<bool, Fail> {
+    let mut bytes = numbers(alloc, LARGEST_WRITE)?;
+    let (written, counts) = thousand_written(alloc, &bytes, lengths)?;
+    Ok(counts == (200, 264, 55) && are_read(alloc, &written, &mut bytes)?)
 }
 
 #[test]
 fn a_thousand_segments_are_written_split_cloned_and_read(rt: HostRuntime) -> Result<(), Fail> {
-    assert!(rt; moves_a_thousand_segments(rt.alloc())?);
+    let lengths = thousand_lengths(rt.alloc())?;
+    assert!(rt; moves_a_thousand_segments(rt.alloc(), &lengths)?);
     Ok(())
 }
 
@@ -724,7 +787,7 @@ fn descriptors_are_readable_or_writable(rt: HostRuntime) {
 }
 
 /// The errors and their texts.
-const TEXTS: [(Error, &str); 4] = [
+static TEXTS: [(Error, &str); 4] = [
     (
         Error::DescriptorChainOverflow,
         "the lengths of the segments sum past the largest count",
@@ -739,8 +802,8 @@ const TEXTS: [(Error, &str); 4] = [
 
 #[test]
 fn each_error_has_a_text(rt: HostRuntime) -> Result<(), Fail> {
-    for (error, text) in TEXTS {
-        assert_eq!(rt; format!(in rt.alloc(); "{error}")?.as_str(), text);
+    for (error, text) in &TEXTS {
+        assert!(rt; has_text(rt.alloc(), error, text)?, "at {text}");
     }
     Ok(())
 }

@@ -1,33 +1,34 @@
 //! What no clause says: that a full payload is served where there is memory; each public call once,
 //! at file systems of the tests' own; and texts.
 
-use crate::message::{filled, handle, handle_held, joined, request};
+use crate::message::{
+    ScriptServer, filled, handle_by_script, has_text, joined, reply_by_script, script_server,
+};
 use bitflags::Flags;
-use std::alloc::Global;
+use std::alloc::{AllocError, Global};
 use std::test::Fail;
-use vfs_bench::{Note, NoteKind, Recorder, Script};
-use vfs_files::Unserved;
+use vfs_bench::{Note, NoteKind, Script};
 use vfs_server::descriptor_utils::Writer;
 use vfs_server::filesystem::FsOptions;
-use vfs_server::fuse::{Errno, Fault, GetxattrOut};
-use vfs_server::server::Server;
+use vfs_server::fuse::{Errno, GetxattrOut};
 use vfs_server::{Error, reply_error, reply_ok};
 
 /// A server over a file system that wants these options, with a note of each call.
-fn server(alloc: Global, wants: FsOptions) -> Result<Server<Recorder<Script>>, Fault> {
+fn server(alloc: Global, wants: FsOptions) -> Result<ScriptServer, AllocError> {
     let mut script = Script::new();
     script.options = Ok(wants);
-    Ok(Server::new(Recorder::new(alloc, script, 4)?, 4096))
+    script_server(alloc, script, 4)
 }
 
-/// BATCH_FORGET of so many pairs: its record, and then the pairs, each one lookup of node 7.
-fn batch(alloc: Global, count: u32) -> Result<Vec<u8>, Fail> {
+/// The bytes behind the header of a BATCH_FORGET of so many pairs: its record, and then the pairs,
+/// each one lookup of node 7.
+fn batch(alloc: Global, count: u32) -> Result<Vec<u8>, AllocError> {
     let mut record = Vec::from_slice(alloc, &count.to_le_bytes())?;
     record.extend_from_slice(&[0; 4])?;
     for _ in 0..count {
         record.extend_from_slice(b"\x07\0\0\0\0\0\0\0\x01\0\0\0\0\0\0\0")?;
     }
-    request(alloc, 42, 0, &record)
+    Ok(record)
 }
 
 /// The note of a BATCH_FORGET of as many pairs as a payload has place for.
@@ -39,42 +40,45 @@ const FORGOTTEN: Note = Note {
     value: 0,
 };
 
-/// Whether a full payload is forgotten by one call.
-fn forgets_a_payload(alloc: Global) -> Result<bool, Fail> {
-    let mut server = server(alloc, FsOptions::empty())?;
-    let (replied, _) = handle(alloc, &mut server, &batch(alloc, 65_536)?, 16)?;
-    Ok(replied == 0 && server.fs().notes() == [FORGOTTEN].as_slice())
+/// Whether these pairs, as many as a payload has place for, are forgotten by one call.
+fn forgets(alloc: Global, server: &mut ScriptServer, pairs: &[u8]) -> Result<bool, Fail> {
+    let reply = reply_by_script(alloc, server, (42, 0, pairs), 16)?;
+    Ok(reply.is_empty() && server.fs().notes() == [FORGOTTEN].as_slice())
 }
 
 #[test]
 fn a_payload_of_pairs_is_forgotten(rt: HostRuntime) -> Result<(), Fail> {
-    assert!(rt; forgets_a_payload(rt.alloc())?);
+    let pairs = batch(rt.alloc(), 65_536)?;
+    let mut server = server(rt.alloc(), FsOptions::empty())?;
+    assert!(rt; forgets(rt.alloc(), &mut server, &pairs)?);
     Ok(())
+}
+
+/// A room of 34 bytes, of which 16 were held, with a reply that says that a call is unknown.
+static BEHIND_HELD: [u8; 34] = *b"\xaa\xaa\xaa\xaa\xaa\xaa\xaa\xaa\xaa\xaa\xaa\xaa\xaa\xaa\xaa\xaa\
+    \x10\0\0\0\xda\xff\xff\xff\x09\0\0\0\0\0\0\0\xaa\xaa";
+
+/// Whether a call that is unknown is replied so.
+fn replies_behind_held(alloc: Global, server: &mut ScriptServer) -> Result<bool, Fail> {
+    let (replied, room) = handle_by_script(alloc, server, (7, 1, &[0; 16]), &[17, 17], 16)?;
+    Ok(replied == 16 && room.as_slice() == BEHIND_HELD.as_slice())
 }
 
 #[test]
 fn a_reply_goes_behind_held_bytes(rt: HostRuntime) -> Result<(), Fail> {
-    let alloc = rt.alloc();
-    let request = request(alloc, 7, 1, &[0; 16])?;
-    let mut server = Server::new(Unserved {}, 4096);
-    let (replied, left) = handle_held(alloc, &mut server, &request, &[17, 17], 16)?;
-    assert_eq!(rt; replied, 16);
-    let room = b"\xaa\xaa\xaa\xaa\xaa\xaa\xaa\xaa\xaa\xaa\xaa\xaa\xaa\xaa\xaa\xaa\
-        \x10\0\0\0\xda\xff\xff\xff\x09\0\0\0\0\0\0\0\xaa\xaa";
-    assert_eq!(rt; left.as_slice(), room.as_slice());
+    let mut server = server(rt.alloc(), FsOptions::empty())?;
+    assert!(rt; replies_behind_held(rt.alloc(), &mut server)?);
     Ok(())
 }
 
-/// INIT of version 7.38 that offers every option in both words of flags.
-fn init(alloc: Global) -> Result<Vec<u8>, Fail> {
-    let mut records = Vec::from_slice(alloc, b"\x07\0\0\0\x26\0\0\0\0\0\x02\0")?;
-    records.extend_from_slice(&[0xff; 8])?;
-    records.extend_from_slice(&[0; 44])?;
-    request(alloc, 26, 0, &records)
-}
+/// INIT of version 7.38 that offers every option in both words of flags, behind its header.
+static INIT: [u8; 64] = *b"\x07\0\0\0\x26\0\0\0\0\0\x02\0\
+    \xff\xff\xff\xff\xff\xff\xff\xff\
+    \0\0\0\0\0\0\0\0\0\0\0\0\0\0\0\0\0\0\0\0\0\0\
+    \0\0\0\0\0\0\0\0\0\0\0\0\0\0\0\0\0\0\0\0\0\0";
 
 /// The notes of INIT and of the end of a session.
-const BEGUN_AND_ENDED: [Note; 2] = [
+static BEGUN_AND_ENDED: [Note; 2] = [
     Note {
         call: 26,
         node: 0,
@@ -92,28 +96,25 @@ const BEGUN_AND_ENDED: [Note; 2] = [
 ];
 
 /// How long the reply to an INIT is, and which options are agreed on then.
-fn agreed(alloc: Global, server: &mut Server<Recorder<Script>>) -> Result<(usize, u64), Fail> {
-    let (replied, _) = handle(alloc, server, &init(alloc)?, 80)?;
-    Ok((replied, server.options().bits()))
+fn agreed(alloc: Global, server: &mut ScriptServer) -> Result<(usize, u64), Fail> {
+    let reply = reply_by_script(alloc, server, (26, 0, &INIT), 80)?;
+    Ok((reply.len(), server.options().bits()))
 }
 
-/// Whether options are agreed on, as many as the file system wants of those that are offered, and
-/// given up at the end.
-fn are_agreed_and_given_up(alloc: Global) -> Result<bool, Fail> {
-    let mut server = server(alloc, FsOptions::from_bits_truncate(1 << 17 | 1 << 28))?;
-    let begun = agreed(alloc, &mut server)?;
-    let ended = server.destroy();
-    Ok(
-        begun == (80, 0x104_5846_9829)
-            && ended == 0
-            && server.options().bits() == 0
-            && server.into_fs().notes() == BEGUN_AND_ENDED.as_slice(),
-    )
+/// Whether the options are given up at the end.
+fn are_given_up(server: &mut ScriptServer) -> bool {
+    server.destroy() == 0
+        && server.options().bits() == 0
+        && server.fs().notes() == BEGUN_AND_ENDED.as_slice()
 }
 
 #[test]
 fn options_are_agreed_on_and_given_up(rt: HostRuntime) -> Result<(), Fail> {
-    assert!(rt; are_agreed_and_given_up(rt.alloc())?);
+    // As many as the file system wants of those that are offered.
+    let wants = FsOptions::from_bits_truncate(1 << 17 | 1 << 28);
+    let mut server = server(rt.alloc(), wants)?;
+    assert!(rt; agreed(rt.alloc(), &mut server)? == (80, 0x104_5846_9829));
+    assert!(rt; are_given_up(&mut server));
     Ok(())
 }
 
@@ -129,21 +130,21 @@ fn put_two(writer: &mut Writer) -> Result<(usize, usize), Error> {
 }
 
 /// The bytes of both, and of what is left of their room.
-const TWO_REPLIES: [u8; 44] = *b"\x1b\0\0\0\0\0\0\0\x09\0\0\0\0\0\0\0\x03\0\0\0\0\0\0\0abc\
+static TWO_REPLIES: [u8; 44] = *b"\x1b\0\0\0\0\0\0\0\x09\0\0\0\0\0\0\0\x03\0\0\0\0\0\0\0abc\
     \x10\0\0\0\xda\xff\xff\xff\x08\0\0\0\0\0\0\0\xaa";
 
 #[test]
 fn a_reply_is_put_into_any_writer(rt: HostRuntime) -> Result<(), Fail> {
     let alloc = rt.alloc();
     let mut writer = Writer::new(alloc, filled(alloc, &[44], 0xaa)?)?;
-    assert_eq!(rt; put_two(&mut writer)?, (27, 16));
+    assert!(rt; put_two(&mut writer)? == (27, 16));
     let room = joined(alloc, &writer.into_segments())?;
-    assert_eq!(rt; room.as_slice(), TWO_REPLIES.as_slice());
+    assert!(rt; room.as_slice() == TWO_REPLIES.as_slice());
     Ok(())
 }
 
 /// The errors and their texts.
-const TEXTS: [(Error, &str); 10] = [
+static TEXTS: [(Error, &str); 10] = [
     (
         Error::DecodeMessage,
         "the request is cut short, or says what has no meaning",
@@ -176,8 +177,8 @@ const TEXTS: [(Error, &str); 10] = [
 
 #[test]
 fn each_error_has_a_text(rt: HostRuntime) -> Result<(), Fail> {
-    for (error, text) in TEXTS {
-        assert_eq!(rt; format!(in rt.alloc(); "{error}")?.as_str(), text);
+    for (error, text) in &TEXTS {
+        assert!(rt; has_text(rt.alloc(), error, text)?, "at {text}");
     }
     Ok(())
 }

@@ -1,5 +1,6 @@
 //! Sessions over files in memory: how a run ends, and the books with the calls that were made.
 
+use crate::message::server_over;
 use std::alloc::{AllocError, Global};
 use std::io;
 use std::io::{ErrorKind, Read};
@@ -18,17 +19,20 @@ const FORGOTTEN: &str = "ok 0\n";
 
 /// What stands behind a FORGET in an input, what is answered to it, how the run ends, and the
 /// program's status then.
-const ENDS: [(&str, &str, Result<(), RunError>, u8); 4] = [
+static ENDS: [(&str, &str, Result<(), RunError>, u8); 4] = [
     ("", "", Ok(()), 0),
     ("16\n", "bad line 2\n", Err(RunError::BadLine(2)), 2),
     ("16", "bad line 2\n", Err(RunError::BadLine(2)), 2),
     ("\n16 00\n", "bad line 2\n", Err(RunError::BadLine(2)), 2),
 ];
 
-/// New files in memory.
-fn files(alloc: Global) -> Result<MemFs, AllocError> {
+/// A server over new files in memory, with a note of each of up to eight calls.
+type FilesServer = Server<Recorder<MemFs>>;
+
+/// Such a server.
+fn files_server(alloc: Global) -> Result<FilesServer, AllocError> {
     match MemFs::new(alloc) {
-        Ok(files) => Ok(files),
+        Ok(files) => server_over(alloc, files, 8),
         Err(_) => Err(AllocError),
     }
 }
@@ -39,7 +43,7 @@ fn ended<R: Read, W: io::Write>(
     input: &mut R,
     output: &mut W,
 ) -> Result<Result<(), RunError>, AllocError> {
-    let mut server = Server::new(files(alloc)?, 4096);
+    let mut server = files_server(alloc)?;
     Ok(run(alloc, &mut server, input, output))
 }
 
@@ -53,12 +57,12 @@ fn ran(alloc: Global, last: &str) -> Result<(Result<(), RunError>, Vec<u8>), All
 
 #[test]
 fn a_session_is_answered_up_to_its_bad_line(rt: HostRuntime) -> Result<(), Fail> {
-    for (last, answer, end, status) in ENDS {
+    for (last, answer, end, status) in &ENDS {
         let (ended, written) = ran(rt.alloc(), last)?;
         let wanted = format!(in rt.alloc(); "{FORGOTTEN}{answer}")?;
         assert!(rt;
-            ended == end
-                && exit_status(&ended) == status
+            ended == *end
+                && exit_status(&ended) == *status
                 && written.as_slice() == wanted.as_bytes(),
             "at {last:?}"
         );
@@ -106,7 +110,7 @@ fn a_fault_of_input_or_output_ends_the_run(rt: HostRuntime) -> Result<(), Fail> 
 /// A session in which of node 2 three entries are answered, one delivered, one lost, one forget
 /// accepted and two sent: LOOKUP of `a`, the same without room for its reply, FORGET, READDIRPLUS
 /// with room for two of three records, and a BATCH_FORGET that is cut short.
-const LINES: [&str; 5] = [
+static LINES: [&str; 5] = [
     "144 2a0000000100000003000000000000000100000000000000000000000000000000000000000000006100",
     "100 2a0000000100000004000000000000000100000000000000000000000000000000000000000000006100",
     "0 300000000200000005000000000000000200000000000000000000000000000000000000000000000100000000000000",
@@ -124,7 +128,7 @@ const ANSWERS: &str = concat!(
 );
 
 /// What the notes say of the calls that it makes: call, node, count, kind and value.
-const CALLS: [(u32, u64, u64, NoteKind, u64); 6] = [
+static CALLS: [(u32, u64, u64, NoteKind, u64); 6] = [
     (1, 1, 0, NoteKind::Ok, 2),
     (1, 1, 0, NoteKind::Ok, 2),
     (2, 2, 1, NoteKind::Nothing, 0),
@@ -135,18 +139,22 @@ const CALLS: [(u32, u64, u64, NoteKind, u64); 6] = [
 
 /// Whether these are the notes of those calls.
 fn are_noted(notes: &[Note]) -> bool {
-    for (note, call) in notes.iter().zip(&CALLS) {
-        if (note.call, note.node, note.count, note.kind, note.value) != *call {
+    if notes.len() != CALLS.len() {
+        return false;
+    }
+    for i in 0..CALLS.len() {
+        let note = &notes[i];
+        if (note.call, note.node, note.count, note.kind, note.value) != CALLS[i] {
             return false;
         }
     }
-    notes.len() == CALLS.len()
+    true
 }
 
 /// The requests of the lines.
 fn requests(alloc: Global) -> Result<Vec<Line>, RunError> {
     let mut requests = Vec::new(alloc);
-    for line in LINES {
+    for line in &LINES {
         if let Some(request) = parse_line(alloc, line.as_bytes())? {
             requests.push(request)?;
         }
@@ -154,36 +162,38 @@ fn requests(alloc: Global) -> Result<Vec<Line>, RunError> {
     Ok(requests)
 }
 
-/// Files in memory, of which up to eight calls are noted.
-fn recorded_files(alloc: Global) -> Result<Recorder<MemFs>, AllocError> {
-    match Recorder::new(alloc, files(alloc)?, 8) {
-        Ok(recorder) => Ok(recorder),
-        Err(_) => Err(AllocError),
-    }
+/// The answers of such a server to these requests.
+fn answers_of(
+    alloc: Global,
+    server: &mut FilesServer,
+    requests: &[Line],
+) -> Result<String, RunError> {
+    answers_to(alloc, server, requests)
 }
 
-/// The answers to these requests, and the calls that were made then.
-fn answered(alloc: Global, requests: &[Line]) -> Result<(String, Vec<Note>), Fail> {
-    let mut server = Server::new(recorded_files(alloc)?, 4096);
-    let answers = answers_to(alloc, &mut server, requests)?;
-    let recorder = server.fs();
-    if recorder.missed() {
-        return Err("a call was missed".into());
-    }
-    Ok((answers, Vec::from_slice(alloc, recorder.notes())?))
+/// Whether the requests of the lines have their answers, and make those calls.
+fn is_answered(alloc: Global, server: &mut FilesServer) -> Result<bool, RunError> {
+    let requests = requests(alloc)?;
+    let answers = answers_of(alloc, server, &requests)?;
+    Ok(answers.as_str() == ANSWERS && are_noted(server.fs().notes()) && !server.fs().missed())
 }
 
 #[test]
 fn the_books_of_a_session_balance(rt: HostRuntime) -> Result<(), Fail> {
-    let (answers, calls) = answered(rt.alloc(), &requests(rt.alloc())?)?;
-    assert_eq!(rt; answers.as_str(), ANSWERS);
-    assert!(rt; are_noted(&calls));
+    let mut server = files_server(rt.alloc())?;
+    assert!(rt; is_answered(rt.alloc(), &mut server)?);
     Ok(())
+}
+
+/// Whether no request has no answer, and makes no call.
+fn answers_nothing(alloc: Global, server: &mut FilesServer) -> Result<bool, RunError> {
+    let answers = answers_of(alloc, server, &[])?;
+    Ok(answers.is_empty() && server.fs().notes().is_empty() && !server.fs().missed())
 }
 
 #[test]
 fn a_session_of_no_requests_makes_no_call(rt: HostRuntime) -> Result<(), Fail> {
-    let (answers, calls) = answered(rt.alloc(), &[])?;
-    assert!(rt; answers.is_empty() && calls.is_empty());
+    let mut server = files_server(rt.alloc())?;
+    assert!(rt; answers_nothing(rt.alloc(), &mut server)?);
     Ok(())
 }

@@ -125,7 +125,7 @@ fn wrong_transfer(alloc: Global) -> Result<Option<usize>, Fail> {
 
 #[test]
 fn files_are_lent_the_next_bytes_until_all_is_moved(rt: HostRuntime) -> Result<(), Fail> {
-    assert_eq!(rt; wrong_transfer(rt.alloc())?, None);
+    assert!(rt; wrong_transfer(rt.alloc())?.is_none());
     Ok(())
 }
 

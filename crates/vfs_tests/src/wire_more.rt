@@ -11,7 +11,7 @@ use vfs_wire::{
 use vfs_wire_more::*;
 
 /// The size of each record, and what it is to be.
-const SIZES: [(usize, usize); 66] = [
+static SIZES: [(usize, usize); 66] = [
     (AccessIn::SIZE, 8),
     (Attr::SIZE, 88),
     (AttrOut::SIZE, 104),
@@ -80,11 +80,11 @@ const SIZES: [(usize, usize); 66] = [
     (WriteOut::SIZE, 8),
 ];
 
-/// The number of the first row of another size.
+/// The first size that a record hasn't.
 fn wrong_size() -> Option<usize> {
-    for (i, (size, want)) in SIZES.iter().enumerate() {
+    for (size, want) in &SIZES {
         if size != want {
-            return Some(i);
+            return Some(*want);
         }
     }
     None
@@ -92,7 +92,7 @@ fn wrong_size() -> Option<usize> {
 
 #[test]
 fn sizes_of_all_records(rt: HostRuntime) {
-    assert_eq!(rt; wrong_size(), None);
+    assert!(rt; wrong_size().is_none());
 }
 
 #[test]
