@@ -1,3 +1,4 @@
+use Rattle.std.proofs.Common.{rules}
 -- A known opcode within the limit asks as its line of the table says, and wants memory so.
 use Rattle.std.proofs.Common.{◌≡◌, false, nat_lt, arith, sym, Some}
 use Rattle.std.proofs.lemmas.Bool.Decides.{nat_tests}
@@ -11,3 +12,6 @@ returns-in-Ok g c =
     let known : opcode_of h.opcode ≡ Some c.in-Ok.opcode = sym c.in-Ok.ensures.0 in
     let below : nat_lt (max_len c.args.self.now.limits) h.len ≡ false = grind (arith, nat_tests, c.max_len.ensures) in
     rw (below, known) c.dispatch.ensures
+
+pub returns-then-header-max_len : goal.returns-then-header-max_len
+returns-then-header-max_len c = search rules
