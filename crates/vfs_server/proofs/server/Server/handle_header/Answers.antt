@@ -1,6 +1,5 @@
-use Rattle.std.proofs.Common.{rules}
 -- A known opcode within the limit asks as its line of the table says, and wants memory so.
-use Rattle.std.proofs.Common.{◌≡◌, false, nat_lt, arith, sym, Some}
+use Rattle.std.proofs.Common.{◌≡◌, false, nat_lt, arith, rules, sym, Some}
 use Rattle.std.proofs.lemmas.Bool.Decides.{nat_tests}
 use Rattle.vfs_flags.specs.Opcode.{opcode_of}
 use Rattle.vfs_messages.specs.Limits.{max_len}
