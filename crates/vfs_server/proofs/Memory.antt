@@ -1,6 +1,6 @@
 -- Of bytes that lie in one segment no tail is cut.
-use Rattle.std.proofs.Common.{◌≡◌, ◌∙◌, ℕ, ◌+◌, ◌-◌, ◌&&◌, Bool, true, false, List, Option, Some, None, ap, sym, arith, inl, inr}
-use Rattle.std.specs.Prelude.{IsTrue, IsFalse, nat_le}
+use Rattle.std.proofs.Common.{◌≡◌, ◌∙◌, ℕ, ◌+◌, ◌-◌, ◌&&◌, Bool, true, false, List, Option, Some, None, ap, arith, inl, inr}
+use Rattle.std.specs.Prelude.{IsTrue, IsFalse}
 use Rattle.vfs_flags.specs.Flags.{security_ctx}
 use Rattle.vfs_flags.specs.declared.opcode.Opcode.{Opcode}
 use Rattle.vfs_wire.specs.Headers.{in_header}
@@ -8,7 +8,7 @@ use Rattle.vfs_wire.specs.declared.headers.InHeader.{InHeader}
 use Rattle.vfs_segments.specs.Lengths.{lengths_from, lie_together}
 use Rattle.vfs_segments.specs.Unread.{Unread}
 use Rattle.vfs_messages.specs.Ask.{form_of}
-use Rattle.vfs_messages.specs.Extensions.{MayHoldContext, has_option}
+use Rattle.vfs_messages.specs.Extensions.{has_option}
 use Rattle.vfs_messages.specs.Forms.{Layout, Without, Record, layout_size, Form, NoTail, NameTail, TwoNames, NameAndValue, NameAndExtensions, LinkAndExtensions, Pairs, WithRest, IntoRoom, Directories, Versions, Silent, NotServed}
 use Rattle.vfs_messages.specs.Parts.{TailIsCut, pieces_behind}
 use Rattle.vfs_messages.specs.Records.{size_of}

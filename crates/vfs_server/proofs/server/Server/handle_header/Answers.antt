@@ -1,5 +1,5 @@
 -- A known opcode within the limit asks as its line of the table says, and wants memory so.
-use Rattle.std.proofs.Common.{◌≡◌, false, nat_lt, arith, sym, Some}
+use Rattle.std.proofs.Common.{◌≡◌, false, nat_lt, arith, rules, sym, Some}
 use Rattle.std.proofs.lemmas.Bool.Decides.{nat_tests}
 use Rattle.vfs_flags.specs.Opcode.{opcode_of}
 use Rattle.vfs_messages.specs.Limits.{max_len}
@@ -11,3 +11,6 @@ returns-in-Ok g c =
     let known : opcode_of h.opcode ≡ Some c.in-Ok.opcode = sym c.in-Ok.ensures.0 in
     let below : nat_lt (max_len c.args.self.now.limits) h.len ≡ false = grind (arith, nat_tests, c.max_len.ensures) in
     rw (below, known) c.dispatch.ensures
+
+pub returns-then-header-max_len : goal.returns-then-header-max_len
+returns-then-header-max_len c = search rules
