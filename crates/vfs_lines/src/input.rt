@@ -44,12 +44,19 @@ fn answer_all<F: FileSystem>(
     let lines = lines_of(alloc, text)?;
     let (requests, bad) = read_requests(alloc, &lines)?;
     answers.push_str(answers_to(alloc, server, &requests)?.as_str())?;
+    if let Some(number) = bad {
+        answers.push_str(format!(in alloc; "bad line {number}\n")?.as_str())?;
+    }
+    end(bad)
+}
+
+// How a session ends whose first bad line has this number, where there is one.
+fn end(bad: Option<usize>) -> Result<(), RunError>
+    ensures { result ≡ ending bad }
+{
     match bad {
         None => Ok(()),
-        Some(number) => {
-            answers.push_str(format!(in alloc; "bad line {number}\n")?.as_str())?;
-            Err(RunError::BadLine(number))
-        }
+        Some(number) => Err(RunError::BadLine(number)),
     }
 }
 

@@ -8,8 +8,8 @@ use crate::answer::answer_line;
 use crate::error::RunError;
 use crate::line::Line;
 use std::alloc::{AllocError, Global};
-use std::io;
 use std::io::ErrorKind;
+use std::{io, slice};
 use vfs_files::FileSystem;
 use vfs_segments::{Reader, Writer};
 use vfs_server::server::Server;
@@ -54,7 +54,7 @@ pub fn answer_to<F: FileSystem>(
 ) -> Result<String, RunError>
     ensures memory { IfErr result (λ e. e ≡ RunError.OutOfMemory) }
 {
-    let slices = slices_of(alloc, &request.segments)?;
+    let slices = all_slices(alloc, slice::from_ref(request))?;
     let Ok(reader) = Reader::new(alloc, &slices) else {
         return Err(RunError::OutOfMemory);
     };
@@ -141,19 +141,14 @@ fn answer_lines(
     ensures memory { IfErr result (λ e. e ≡ RunError.OutOfMemory) }
 {
     let mut answers = String::new(alloc);
-    for (outcome, writer) in outcomes.iter().zip(writers) {
+    let mut writers = writers.into_iter();
+    for outcome in outcomes {
+        let Some(writer) = writers.next() else {
+            break;
+        };
         answers.push_str(answer_line(alloc, outcome, &writer.into_segments())?.as_str())?;
     }
     Ok(answers)
-}
-
-// The segments of a request as slices.
-fn slices_of(alloc: Global, segments: &[Vec<u8>]) -> Result<Vec<&[u8]>, AllocError> {
-    let mut slices = Vec::new(alloc);
-    for segment in segments {
-        slices.push(segment.as_slice())?;
-    }
-    Ok(slices)
 }
 
 // Rooms of these lengths, with zeros in them.

@@ -1,5 +1,5 @@
 use Rattle.std.proofs.Common.{rules}
-use Rattle.vfs_lines.proofs.input.answer_all.Goals as goal
+use Rattle.vfs_files.proofs.defaults.no_migration.Goals as goal
 
 pub returns : goal.returns
 returns c = search rules
