@@ -617,6 +617,7 @@ fn writers_answer_and_count(rt: HostRuntime) -> Result<(), Fail> {
 
 /// The rest of a writer that is split. Where memory is refused, as `rt try --test --fail-alloc N`
 /// does, nothing changes, and it is split again.
+/// That the writer changed is answered as an `IoError`, which `split_at` never answers.
 fn split(writer: &mut Writer, at: usize) -> Result<Writer, Error> {
     let state = write_state(writer);
     match writer.split_at(at) {
