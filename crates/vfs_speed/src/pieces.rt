@@ -11,30 +11,49 @@ pub const ROOM_HEAD: usize = 16;
 /// The bytes in pieces, none of them empty: 0 all in one, 1 the first `head` and the others, 2
 /// 4,096 each, 3 64 each.
 pub fn cut<'a>(alloc: Global, bytes: &'a [u8], head: usize, cutting: u32) -> Option<Vec<&'a [u8]>> {
+    let (first, each) = match cutting {
+        1 => (head, usize::MAX),
+        2 => (4096, 4096),
+        3 => (64, 64),
+        _ => (usize::MAX, usize::MAX),
+    };
+    pieces_of(alloc, bytes, first, each)
+}
+
+/// The bytes in pieces, none of them empty: the first one of `first` bytes, the others of `each`,
+/// as far as there are so many. Neither is 0.
+pub fn pieces_of<'a>(
+    alloc: Global,
+    bytes: &'a [u8],
+    first: usize,
+    each: usize,
+) -> Option<Vec<&'a [u8]>> {
     let mut pieces = Vec::new(alloc);
+    let mut size = first;
     let mut rest = bytes;
-    if cutting == 1 && bytes.len() > head {
-        let (first, others) = bytes.split_at_checked(head)?;
-        pieces.push(first).ok()?;
+    for _ in 0..bytes.len() {
+        if rest.is_empty() {
+            break;
+        }
+        let (piece, others) = rest.split_at_checked(size.min(rest.len()))?;
+        pieces.push(piece).ok()?;
+        size = each;
         rest = others;
     }
-    let size = match cutting {
-        2 => 4096,
-        3 => 64,
-        _ => usize::MAX,
-    };
-    for piece in rest.chunks(size) {
-        pieces.push(piece).ok()?;
-    }
     Some(pieces)
+}
+
+/// A copy of each piece.
+pub fn copies(alloc: Global, pieces: &[&[u8]]) -> Option<Vec<Vec<u8>>> {
+    let mut all = Vec::new(alloc);
+    for piece in pieces {
+        all.push(Vec::from_slice(alloc, piece).ok()?).ok()?;
+    }
+    Some(all)
 }
 
 /// A room of so many zeros in pieces.
 pub fn room(alloc: Global, len: usize, cutting: u32) -> Option<Vec<Vec<u8>>> {
     let zeros = vec![in alloc; 0u8; len].ok()?;
-    let mut pieces = Vec::new(alloc);
-    for piece in &cut(alloc, &zeros, ROOM_HEAD, cutting)? {
-        pieces.push(Vec::from_slice(alloc, piece).ok()?).ok()?;
-    }
-    Some(pieces)
+    copies(alloc, &cut(alloc, &zeros, ROOM_HEAD, cutting)?)
 }

@@ -1,5 +1,6 @@
 //! Many small reads or writes over many pieces, by a reader or a writer alone.
 
+use crate::pieces::{copies, pieces_of};
 use std::alloc::Global;
 use std::mem;
 use vfs_segments::{Reader, Writer};
@@ -11,11 +12,8 @@ const CALL: usize = 16;
 // So many bytes in pieces of `piece` each.
 fn pieces(alloc: Global, len: usize, piece: usize) -> Option<Vec<Vec<u8>>> {
     let bytes = vec![in alloc; 7u8; len].ok()?;
-    let mut all = Vec::new(alloc);
-    for part in bytes.chunks(piece.max(1)) {
-        all.push(Vec::from_slice(alloc, part).ok()?).ok()?;
-    }
-    Some(all)
+    let each = piece.max(1);
+    copies(alloc, &pieces_of(alloc, &bytes, each, each)?)
 }
 
 // The pieces, lent.

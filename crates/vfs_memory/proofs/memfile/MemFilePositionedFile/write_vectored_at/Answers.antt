@@ -1,4 +1,5 @@
 use Rattle.std.proofs.Common.{◌≡◌, ◌-◌, ◌<◌, length, min, take, ℕ, ◌+◌, List, arith, ap, ◌∙◌, sym, length-take}
+use Rattle.std.proofs.lemmas.Grind.{common_steps}
 use Rattle.std.proofs.lemmas.List.{take_min}
 use Rattle.std.specs.List.{concat}
 use Rattle.vfs_views.specs.Segments.{with_bytes_at}
@@ -60,3 +61,6 @@ returns-clause-gives c =
           ∙ sym (written_some old fits off some)
           ∙ ap (λ s. written s off fits) c.self.view_is,
     )
+
+pub returns-in_err-lengthen-clause-gives : goal.returns-in_err-lengthen-clause-gives
+returns-in_err-lengthen-clause-gives c = grind (arith, common_steps)
