@@ -141,11 +141,7 @@ fn answer_lines(
     ensures memory { IfErr result (λ e. e ≡ RunError.OutOfMemory) }
 {
     let mut answers = String::new(alloc);
-    let mut writers = writers.into_iter();
-    for outcome in outcomes {
-        let Some(writer) = writers.next() else {
-            break;
-        };
+    for (outcome, writer) in outcomes.iter().zip(writers) {
         answers.push_str(answer_line(alloc, outcome, &writer.into_segments())?.as_str())?;
     }
     Ok(answers)
