@@ -14,10 +14,11 @@ crate=$here/crates/${1:-vfs_tests}
 log=$(mktemp)
 trap 'rm -f "$log"' EXIT
 
-# The errors that the failed tests of the last run ended with, but want of memory.
+# The failed tests of the last run that ended with another error than want of memory, of which ENOMEM
+# is one form.
 wrong_ends() {
     awk '/^test .* FAILED$/ { name = $2; told = 0; next }
-         /^    error: (AllocError|OutOfMemory)$/ { told = 1; next }
+         /^    error: (AllocError|OutOfMemory|Some\(Errno\(12\)\))$/ { told = 1; next }
          /^    the test exited/ { if (name != "" && !told) print name; name = "" }' "$log"
 }
 
