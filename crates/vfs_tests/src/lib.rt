@@ -19,6 +19,8 @@ mod messages;
 #[cfg(test)]
 mod migration;
 #[cfg(test)]
+mod readers;
+#[cfg(test)]
 mod segments;
 #[cfg(test)]
 mod server;
