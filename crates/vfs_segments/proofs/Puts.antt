@@ -157,3 +157,10 @@ one_fits xs i k at n h e fits =
     let place : length (concat (take i ys)) + k ≡ at = ap (λ l. length (concat l) + k) (take-map items i xs) ∙ e in
     let more = ap (λ l. length (concat l)) (drop_more ys i [] listed) in
     omega (arith, place, fits, more, length-append (get_or ys i []) (concat (drop (i + 1) ys)), ap length (concat-split ys i), length-append (concat (take i ys)) (concat (drop i ys)))
+
+-- bytes that are no more than those behind a place in their segment lie whole in it
+pub lies_whole : (xs : List (Vec ℕ Global)) (i k n : ℕ) (d : Vec ℕ Global) → i < length xs →
+    k < length (get_or (contents xs) i []) → n ≤ (get_or xs i d).len - k →
+    k + n ≤ length (get_or (contents xs) i [])
+lies_whole xs i k n d h e f =
+    omega (arith, (get_or xs i d).ok.0, ap length (get_or-map (λ (v : Vec ℕ Global). v.items) xs i d [] h))

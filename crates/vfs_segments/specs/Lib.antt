@@ -5,6 +5,7 @@ pub mod Totals
 pub mod Unread
 pub mod Padded
 pub mod Written
+pub mod WrittenLaws
 pub mod Transfer
 pub mod TransferLaws
 pub mod Running

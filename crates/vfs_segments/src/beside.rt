@@ -30,7 +30,7 @@ fn clear_end(out: &mut [u8])
 }
 
 // Writes a record over the first bytes.
-fn put_front<T: ByteValued>(out: &mut [u8], x: &T)
+pub(crate) fn put_front<T: ByteValued>(out: &mut [u8], x: &T)
     requires { T.SIZE ≤ length out.old }
     ensures wrote { out.new ≡ bytes_of T.table x.now ++ drop T.SIZE out.old }
     ensures size { length (bytes_of T.table x.now) ≡ T.SIZE }

@@ -30,7 +30,7 @@ pub(crate) fn total_of(segments: &[&[u8]]) -> Option<usize>
 // How long segment `i` is, or 0 where there is none.
 #[inline]
 #[tactic(auto, using(crate::proofs::Segments::segments))]
-fn len_at(segments: &[&[u8]], i: usize) -> usize
+pub(crate) fn len_at(segments: &[&[u8]], i: usize) -> usize
     ensures { result ≡ length (slice_index_or (segments_of segments.now) i []) }
 {
     if i < segments.len() {
@@ -128,7 +128,7 @@ pub(crate) fn copy_from(segments: &[&[u8]], totals: &[usize], at: usize, buf: &m
 }
 
 // The record whose bytes follow `skip` bytes of the segments, wherever they are cut.
-#[inline(never)]
+#[inline(always)]
 fn gathered<T: ByteValued>(segments: &[&[u8]], skip: usize) -> T
     requires { skip + T.SIZE ≤ length (flat_bytes (segments_of segments.now)) }
     ensures value { result ≡ value_of T.table (drop skip (flat_bytes (segments_of segments.now))) }
@@ -142,6 +142,7 @@ fn gathered<T: ByteValued>(segments: &[&[u8]], skip: usize) -> T
 
 // The record whose bytes stand from place `at` on. Where one segment has all of them it is read
 // right there.
+#[inline(always)]
 pub(crate) fn record_at<T: ByteValued>(segments: &[&[u8]], totals: &[usize], at: usize) -> T
     requires totals { totals.now ≡ totals_of (lengths_of (segments_of segments.now)) }
     requires fits { at + T.SIZE ≤ length (flat_bytes (segments_of segments.now)) }

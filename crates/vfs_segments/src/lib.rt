@@ -10,9 +10,9 @@
 //!
 //! Both keep the running totals of their segments' lengths, for which `new`, `split_at` and `clone`
 //! take memory where they are more than four. A call finds the segment of its place by one search
-//! of them, moves each byte once, segment by segment, and stops there. Bytes that lie whole in one
-//! segment are moved at once. `Writer::write_padded` searches three times, where what it writes does
-//! not lie whole in one.
+//! of them, or by none where that is the first one, moves each byte once, segment by segment, and
+//! stops there. Bytes that lie whole in one segment are moved at once. Where what they write does not
+//! lie whole in one, `Writer::write_pair` searches twice and `Writer::write_padded` three times.
 #![tactic(auto)]
 
 mod beside;
@@ -22,6 +22,7 @@ mod error;
 mod gather;
 pub mod laws;
 mod lend;
+mod pair;
 mod place;
 mod reader;
 mod record;

@@ -5,12 +5,32 @@ ghost use Rattle.vfs_segments.specs.Segments.{contents, flat_bytes, lengths_of, 
 ghost use Rattle.vfs_segments.specs.Totals.{totals_of};
 ghost use Rattle.vfs_views.specs.Views.{IsSpan, room_of};
 
+use crate::gather::len_at;
 use crate::laws::{Counted, find_segment};
+use crate::scatter::held_len_at;
 use vfs_views::Span;
 
 // The segment in which a place lies, and how far in, of segments that are read. A place between two
-// segments lies in the second, and the place past all bytes behind the last one.
+// segments lies in the second, and the place past all bytes behind the last one. In the first one,
+// in which most requests lie whole, it is found without a search.
+#[inline(always)]
 pub(crate) fn place_in(segments: &[&[u8]], totals: &[usize], at: usize) -> (usize, usize)
+    requires totals { totals.now ≡ totals_of (lengths_of (segments_of segments.now)) }
+    requires fits { at ≤ length (flat_bytes (segments_of segments.now)) }
+    ensures within { result.0 ≤ length segments.now }
+    ensures place { length (flat_bytes (segments_of (take result.0 segments.now))) + result.1 ≡ at }
+    ensures inside { result.0 < length segments.now →
+        result.1 < length (slice_index_or (segments_of segments.now) result.0 []) }
+{
+    if at < len_at(segments, 0) {
+        return (0, at);
+    }
+    search_in(segments, totals, at)
+}
+
+// The same by a search.
+#[inline(never)]
+fn search_in(segments: &[&[u8]], totals: &[usize], at: usize) -> (usize, usize)
     requires totals { totals.now ≡ totals_of (lengths_of (segments_of segments.now)) }
     requires fits { at ≤ length (flat_bytes (segments_of segments.now)) }
     ensures within { result.0 ≤ length segments.now }
@@ -66,7 +86,25 @@ pub(crate) fn span_in(segments: &[&[u8]], totals: &[usize], at: usize, n: usize)
 }
 
 // The segment in which a place lies, and how far in, of segments that are written.
+#[inline(always)]
 pub(crate) fn place_of(segments: &[Vec<u8>], totals: &[usize], at: usize) -> (usize, usize)
+    requires totals { totals.now ≡ totals_of (lengths_of (contents segments.now)) }
+    requires fits { at ≤ length (flat_bytes (contents segments.now)) }
+    ensures within { result.0 ≤ length segments.now }
+    ensures place { length (flat_bytes (contents (take result.0 segments.now))) + result.1 ≡ at }
+    ensures inside { result.1 ≤ length (slice_index_or (contents segments.now) result.0 []) }
+    ensures before_end { result.0 < length segments.now →
+        result.1 < length (slice_index_or (contents segments.now) result.0 []) }
+{
+    if at < held_len_at(segments, 0) {
+        return (0, at);
+    }
+    search_of(segments, totals, at)
+}
+
+// The same by a search.
+#[inline(never)]
+fn search_of(segments: &[Vec<u8>], totals: &[usize], at: usize) -> (usize, usize)
     requires totals { totals.now ≡ totals_of (lengths_of (contents segments.now)) }
     requires fits { at ≤ length (flat_bytes (contents segments.now)) }
     ensures within { result.0 ≤ length segments.now }

@@ -1,6 +1,6 @@
 //! Reads the bytes of a request from segments.
 
-ghost use Rattle.std.specs.Prelude.{◌≡◌, ◌+◌, ◌^◌, ◌<◌, ◌≤◌, ◌++◌, ◌↔◌, ℕ, List, [], length, take, drop, min, is_some, IfSome, IfNone, OnSome, IfOk, IfErr, IsOk, OnOk, OnErr, MatchResult};
+ghost use Rattle.std.specs.Prelude.{◌≡◌, ◌+◌, ◌^◌, ◌<◌, ◌≤◌, ◌++◌, ◌↔◌, ℕ, List, [], length, take, drop, min, is_some, IfSome, IfNone, OnSome, nat_le, IfOk, IfErr, IsOk, OnOk, OnErr, MatchResult};
 ghost use Rattle.std.specs.IoError.{error_kind};
 ghost use Rattle.std.specs.Io.{ReadsAtMost};
 ghost use Rattle.std.specs.Io.KnownBytes.{Consumes, ReadConsumes};
@@ -188,6 +188,24 @@ impl<'a> Reader<'a> {
         io::Error::from(ErrorKind::UnexpectedEof)
     }
 
+    /// Takes a record, where as many bytes are left as it has. Otherwise nothing changes.
+    #[inline(always)]
+    pub fn take_obj<T: ByteValued>(&mut self) -> Option<T>
+        ensures variant { is_some result ≡ nat_le T.SIZE (length self.old.left) }
+        ensures value { IfSome result (λ x. x ≡ value_of T.table self.old.left) }
+        ensures in_width { IfSome result (λ x. Fit T.table.widths (T.table.fields x)) }
+        ensures in_range { IfSome result (λ x. T.in_range x) }
+        ensures moved { OnSome result (self.new ≡ advanced self.old T.SIZE) }
+        ensures none { IfNone result (self.new ≡ self.old) }
+    {
+        if T::SIZE > self.available_bytes() {
+            return None;
+        }
+        let record = record_at(self.segments, &self.totals, self.at);
+        self.at += T::SIZE;
+        Some(record)
+    }
+
     /// Takes a record, as many bytes as it has.
     ///
     /// Where fewer are left the error's kind is `UnexpectedEof`, and all of them are taken.
@@ -204,12 +222,10 @@ impl<'a> Reader<'a> {
         ensures eof { IfErr result (λ fault. error_kind fault ≡ ErrorKind.UnexpectedEof) }
         ensures at_end { OnErr result (self.new ≡ advanced self.old (length self.old.left)) }
     {
-        if T::SIZE > self.available_bytes() {
-            return Err(self.too_few());
+        match self.take_obj() {
+            Some(record) => Ok(record),
+            None => Err(self.too_few()),
         }
-        let record = record_at(self.segments, &self.totals, self.at);
-        self.at += T::SIZE;
-        Ok(record)
     }
 
     /// Lends a file the next bytes, `count` of them or all that are left, to be written into it

@@ -30,7 +30,7 @@ pub(crate) fn room_of(segments: &[Vec<u8>]) -> Option<usize>
 // How long segment `i` is, or 0 where there is none.
 #[inline]
 #[tactic(auto, using(crate::proofs::Segments::held_segments))]
-fn held_len_at(segments: &[Vec<u8>], i: usize) -> usize
+pub(crate) fn held_len_at(segments: &[Vec<u8>], i: usize) -> usize
     ensures { result ≡ length (slice_index_or (contents segments.now) i []) }
 {
     if i < segments.len() {
@@ -147,7 +147,7 @@ pub(crate) fn put_from(segments: &mut [Vec<u8>], totals: &[usize], at: usize, by
 
 // Spells a record over as many bytes that follow `skip` bytes of segment `first`, wherever they are
 // cut.
-#[inline(never)]
+#[inline(always)]
 fn put_spelled<T: ByteValued + Drop>(segments: &mut [Vec<u8>], first: usize, skip: usize, x: T)
     requires listed { first ≤ length segments.old }
     requires fits { skip + T.SIZE ≤ length (flat_bytes (contents (drop first segments.old))) }
@@ -166,6 +166,7 @@ fn put_spelled<T: ByteValued + Drop>(segments: &mut [Vec<u8>], first: usize, ski
 
 // Writes a record over as many bytes that stand from place `at` on. Where one segment has all of
 // them it is spelled right there.
+#[inline(always)]
 pub(crate) fn put_obj<T: ByteValued + Drop>(
     segments: &mut [Vec<u8>],
     totals: &[usize],

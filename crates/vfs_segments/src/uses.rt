@@ -101,6 +101,24 @@ pub fn number_of_four_bytes(reader: &mut Reader<'_>) -> u32
     reader.read_obj().unwrap()
 }
 
+/// A number of four bytes is taken, where they are left.
+pub fn taken_number(reader: &mut Reader<'_>) -> Option<u32>
+    requires { 4 ≤ length reader.old.left }
+    ensures value { result ≡ Some (value_of (lone_number 4) reader.old.left) }
+    ensures left { reader.new.left ≡ drop 4 reader.old.left }
+{
+    reader.take_obj()
+}
+
+/// Where three bytes are left no number of four is taken, and the reader is as it was.
+pub fn number_of_too_few_bytes(reader: &mut Reader<'_>) -> Option<u32>
+    requires { length reader.old.left ≡ 3 }
+    ensures none { result ≡ None }
+    ensures same { reader.new ≡ reader.old }
+{
+    reader.take_obj()
+}
+
 /// A reader that has eight bytes left is cut after three: it keeps these and its count, and the
 /// rest begins anew. Only memory can be wanting, and then the reader is as it was.
 pub fn split_after_three_bytes<'a>(reader: &mut Reader<'a>) -> Result<Reader<'a>>
@@ -284,6 +302,30 @@ pub fn kind_of_a_long_record(writer: &mut Writer, number: u32) -> Option<ErrorKi
         writer.old.passed ++ take 2 (bytes_of (lone_number 4) number) }
 {
     match writer.write_obj(number) {
+        Ok(()) => None,
+        Err(e) => Some(e.kind()),
+    }
+}
+
+/// A number of four bytes and one of two behind it take six bytes of the room.
+pub fn two_numbers(writer: &mut Writer, first: u32, second: u16)
+    requires { 6 ≤ length writer.old.left }
+    ensures wrote { writer.new.passed ≡ writer.old.passed ++
+        (bytes_of (lone_number 4) first ++ bytes_of (lone_number 2) second) }
+    ensures left { writer.new.left ≡ drop 6 writer.old.left }
+{
+    writer.write_pair(first, second).unwrap();
+}
+
+/// Where there is room for five of the six bytes, the error's kind is `WriteZero`, and these are
+/// written.
+pub fn kind_of_a_long_pair(writer: &mut Writer, first: u32, second: u16) -> Option<ErrorKind>
+    requires { length writer.old.left ≡ 5 }
+    ensures kind { result ≡ Some ErrorKind.WriteZero }
+    ensures wrote { writer.new.passed ≡ writer.old.passed ++
+        take 5 (bytes_of (lone_number 4) first ++ bytes_of (lone_number 2) second) }
+{
+    match writer.write_pair(first, second) {
         Ok(()) => None,
         Err(e) => Some(e.kind()),
     }

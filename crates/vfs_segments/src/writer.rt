@@ -13,6 +13,7 @@ ghost use Rattle.vfs_wire.specs.Fields.{Fit, bytes_of};
 use crate::beside::{padded_len, put_beside};
 use crate::cut::{cut_off, end_totals, totals_past};
 use crate::error::{Error, Result};
+use crate::pair::put_pair;
 use crate::place::place_of;
 use crate::record::LARGEST_RECORD;
 use crate::running::Running;
@@ -183,6 +184,7 @@ impl Writer {
     /// Writes a record, as many bytes as it has.
     ///
     /// Where fewer are left the error's kind is `WriteZero`, and the record's beginning fills them.
+    #[inline(always)]
     pub fn write_obj<T: ByteValued + Drop>(&mut self, x: T) -> io::Result<()>
         ensures variant { IsOk result ↔ (T.SIZE ≤ length self.old.left) }
         ensures wrote { self.new ≡
@@ -260,6 +262,54 @@ impl Writer {
             return false;
         }
         self.write_all(&[0u8; 8][..zeros]).is_ok()
+    }
+
+    /// Writes two records, the second behind the first.
+    ///
+    /// Where fewer are left the error's kind is `WriteZero`, and the beginning of both fills them.
+    #[inline(always)]
+    pub fn write_pair<T: ByteValued + Drop, U: ByteValued + Drop>(
+        &mut self,
+        first: T,
+        second: U,
+    ) -> io::Result<()>
+        ensures variant { IsOk result ↔ (T.SIZE + U.SIZE ≤ length self.old.left) }
+        ensures wrote { self.new ≡ wrote self.old (take (length self.old.left)
+            (bytes_of T.table first ++ bytes_of U.table second)) }
+        ensures full { IfErr result (λ fault. error_kind fault ≡ ErrorKind.WriteZero) }
+        ensures in_width { Fit T.table.widths (T.table.fields first) }
+        ensures in_range { T.in_range first }
+        ensures second_in_width { Fit U.table.widths (U.table.fields second) }
+        ensures second_in_range { U.in_range second }
+    {
+        if put_pair(&mut self.segments, &self.totals, self.at, &first, &second) {
+            self.at += T::SIZE + U::SIZE;
+            return Ok(());
+        }
+        if self.write_both(first, second) {
+            return Ok(());
+        }
+        Err(io::Error::from(ErrorKind::WriteZero))
+    }
+
+    // Writes the records, one after the other. Answers whether both fit.
+    #[inline(always)]
+    fn write_both<T: ByteValued + Drop, U: ByteValued + Drop>(
+        &mut self,
+        first: T,
+        second: U,
+    ) -> bool
+        ensures whole { result ≡ true → T.SIZE + U.SIZE ≤ length self.old.left }
+        ensures cut { result ≡ false → length self.old.left < T.SIZE + U.SIZE }
+        ensures wrote { self.new ≡ wrote self.old (take (length self.old.left)
+            (bytes_of T.table first ++ bytes_of U.table second)) }
+        ensures in_width { Fit T.table.widths (T.table.fields first) }
+        ensures in_range { T.in_range first }
+        ensures second_in_width { Fit U.table.widths (U.table.fields second) }
+        ensures second_in_range { U.in_range second }
+    {
+        let fits = self.write_obj(first).is_ok();
+        self.write_obj(second).is_ok() && fits
     }
 
     /// Lends a file the next bytes of the room, `count` of them or all that are left, to be read

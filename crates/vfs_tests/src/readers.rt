@@ -62,6 +62,8 @@ enum ReadCall {
     Byte,
     /// `read_obj::<u32>`.
     Word,
+    /// `take_obj::<u32>`. That it is not whole is answered as not found.
+    Whole,
     /// `together` of so many bytes from this place on. That they are not is answered as not found.
     Together(usize, usize),
     /// `take_slice` of so many bytes. That they are not lent is answered as not found.
@@ -165,6 +167,10 @@ fn read_by(reader: &mut Reader<'_>, from: usize, call: ReadCall, buf: &mut [u8])
             Ok(x) => told(&x.to_le_bytes(), from, 4),
             Err(e) => Err(e.kind()),
         },
+        ReadCall::Whole => match reader.take_obj::<u32>() {
+            Some(x) => told(&x.to_le_bytes(), from, 4),
+            None => Err(ErrorKind::NotFound),
+        },
         ReadCall::Together(at, n) if reader.together(at, n) => Ok(n),
         ReadCall::Together(..) => Err(ErrorKind::NotFound),
         ReadCall::Lent(n) => match reader.take_slice(n) {
@@ -199,7 +205,7 @@ fn answers_so(reader: &mut Reader<'_>, rows: &[ReadRow]) -> Result<bool, Error> 
 }
 
 /// The lengths of a reader's segments, and its calls.
-static READS: [(&[usize], &[ReadRow]); 21] = [
+static READS: [(&[usize], &[ReadRow]); 22] = [
     (
         &[8, 16, 18, 64],
         &[
@@ -226,6 +232,14 @@ static READS: [(&[usize], &[ReadRow]); 21] = [
         &[(ReadCall::Word, Err(ErrorKind::UnexpectedEof), (0, 3))],
     ),
     (&[1, 1, 1, 1], &[(ReadCall::Word, Ok(4), (0, 4))]),
+    (
+        &[6, 3, 2],
+        &[
+            (ReadCall::Whole, Ok(4), (7, 4)),
+            (ReadCall::Whole, Ok(4), (3, 8)),
+            (ReadCall::Whole, Err(ErrorKind::NotFound), (3, 8)),
+        ],
+    ),
     (&[16, 16, 16], &[(ReadCall::UpTo(64), Ok(48), (0, 48))]),
     (
         &[0, 2, 0, 2],

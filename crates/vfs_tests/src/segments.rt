@@ -26,6 +26,8 @@ enum WriteCall {
     Byte(u8),
     /// `write_obj` of a number of four bytes.
     Word(u32),
+    /// `write_pair` of a number of four bytes and one of one byte.
+    Pair(u32, u8),
     /// `write_padded` of a number of four bytes and these bytes.
     Padded(u32, &'static [u8]),
     /// `flush`.
@@ -71,6 +73,7 @@ fn write_by(writer: &mut Writer, call: WriteCall) -> Answer {
         WriteCall::All(bytes) => all_of(bytes.len(), writer.write_all(bytes)),
         WriteCall::Byte(x) => all_of(1, writer.write_obj(x)),
         WriteCall::Word(x) => all_of(4, writer.write_obj(x)),
+        WriteCall::Pair(x, y) => all_of(5, writer.write_pair(x, y)),
         WriteCall::Padded(x, bytes) => all_of(
             (4 + bytes.len()).next_multiple_of(8),
             writer.write_padded(x, bytes),
@@ -115,7 +118,7 @@ type WriteTest = (
     &'static [&'static [u8]],
 );
 
-static WRITES: [WriteTest; 11] = [
+static WRITES: [WriteTest; 12] = [
     (
         &[8, 16, 18, 64],
         &[
@@ -160,6 +163,19 @@ static WRITES: [WriteTest; 11] = [
             (0, 3, 0),
         )],
         &[&[1], &[2, 3]],
+    ),
+    (
+        &[6, 3, 2],
+        &[
+            (WriteCall::Pair(0x0403_0201, 5), Ok(5), (6, 5, 0)),
+            (WriteCall::Pair(0x0403_0201, 5), Ok(5), (1, 10, 0)),
+            (
+                WriteCall::Pair(0x0403_0201, 5),
+                Err(ErrorKind::WriteZero),
+                (0, 11, 0),
+            ),
+        ],
+        &[&[1, 2, 3, 4, 5, 1], &[2, 3, 4], &[5, 1]],
     ),
     (
         &[8, 3, 13, 4],

@@ -1,18 +1,10 @@
-use Rattle.std.proofs.Common.{arith, ap, ◌<◌, ◌+◌, ◌-◌, ◌≤◌, ◌++◌, List, [], length, get_or, ℕ}
-use Rattle.std.proofs.lemmas.List.{get_or-map}
-use Rattle.std.specs.declared.vec.Vec.{Vec}
-use Rattle.std.specs.declared.alloc.Global.{Global}
+use Rattle.std.proofs.Common.{arith, ◌+◌, ◌≤◌, ◌++◌, [], length, get_or}
 use Rattle.vfs_segments.specs.Padded.{padding}
 use Rattle.vfs_segments.specs.Segments.{contents}
 use Rattle.vfs_segments.proofs.Padding.{length-padded}
-use Rattle.vfs_segments.proofs.Puts.{put_whole, one_fits}
+use Rattle.vfs_segments.proofs.Puts.{put_whole, one_fits, lies_whole}
 use Rattle.vfs_wire.specs.Fields.{bytes_of}
 use Rattle.vfs_segments.proofs.beside.put_beside.Goals as goal
-
--- the bytes lie whole in their segment
-whole : (xs : List (Vec ℕ Global)) (i k n : ℕ) (d : Vec ℕ Global) → i < length xs → k < length (get_or (contents xs) i []) →
-    n ≤ (get_or xs i d).len - k → k + n ≤ length (get_or (contents xs) i [])
-whole xs i k n d h e f = omega (arith, (get_or xs i d).ok.0, ap length (get_or-map (λ (v : Vec ℕ Global). v.items) xs i d [] h))
 
 pub returns-then-len-skip-clause-wrote : goal.returns-then-len-skip-clause-wrote
 returns-then-len-skip-clause-wrote g c = λ put.
@@ -26,7 +18,7 @@ returns-then-len-skip-clause-wrote g c = λ put.
     let h = c.if-first-segments.true in
     let long = length-padded row bytes n c.put_spelled_whole.ensures.size in
     let fits : p.result.1 + length bs ≤ length (get_or (contents xs) i []) =
-    whole xs i p.result.1 (length bs) c.index-segments-first.result h (p.ensures.before_end h) (omega (arith, long, c.requires.whole, c.if-len-skip.true)) in
+    lies_whole xs i p.result.1 (length bs) c.index-segments-first.result h (p.ensures.before_end h) (omega (arith, long, c.requires.whole, c.if-len-skip.true)) in
     (put_whole xs i p.result.1 c.args.at bs c.index-segments-first-then-len-skip.result c.put_spelled_whole.new.segment h p.ensures.place fits c.put_spelled_whole.ensures.wrote).0
 
 pub returns-then-len-skip-clause-lengths : goal.returns-then-len-skip-clause-lengths
@@ -41,7 +33,7 @@ returns-then-len-skip-clause-lengths g c =
     let h = c.if-first-segments.true in
     let long = length-padded row bytes n c.put_spelled_whole.ensures.size in
     let fits : p.result.1 + length bs ≤ length (get_or (contents xs) i []) =
-    whole xs i p.result.1 (length bs) c.index-segments-first.result h (p.ensures.before_end h) (omega (arith, long, c.requires.whole, c.if-len-skip.true)) in
+    lies_whole xs i p.result.1 (length bs) c.index-segments-first.result h (p.ensures.before_end h) (omega (arith, long, c.requires.whole, c.if-len-skip.true)) in
     (put_whole xs i p.result.1 c.args.at bs c.index-segments-first-then-len-skip.result c.put_spelled_whole.new.segment h p.ensures.place fits c.put_spelled_whole.ensures.wrote).1
 
 pub returns-then-len-skip-clause-fits : goal.returns-then-len-skip-clause-fits
@@ -50,4 +42,4 @@ returns-then-len-skip-clause-fits g c = λ put.
     let p = c.place_of-first in
     let h = c.if-first-segments.true in
     one_fits xs p.result.0 p.result.1 c.args.at c.args.len h p.ensures.place
-    (whole xs p.result.0 p.result.1 c.args.len c.index-segments-first.result h (p.ensures.before_end h) (omega (arith, c.if-len-skip.true)))
+    (lies_whole xs p.result.0 p.result.1 c.args.len c.index-segments-first.result h (p.ensures.before_end h) (omega (arith, c.if-len-skip.true)))

@@ -1,7 +1,8 @@
 use Rattle.std.proofs.Common.{◌≤◌, ◌∙◌, ◌++◌, ℕ, arith, ap, append_assoc, length, length-append, length-take, replicate, take}
 use Rattle.std.proofs.lemmas.List.{take-replicate}
-use Rattle.vfs_segments.proofs.Beginnings.{failed, went, is_whole, not_whole, cut_off, room_left, both}
+use Rattle.vfs_segments.proofs.Beginnings.{failed, went, is_whole, not_whole, cut_off}
 use Rattle.vfs_segments.specs.Written.{wrote}
+use Rattle.vfs_segments.specs.WrittenLaws.{room_behind, wrote_both}
 use Rattle.vfs_wire.specs.Fields.{bytes_of}
 use Rattle.vfs_wire.specs.FieldLaws.{length-bytes_of}
 use Rattle.vfs_segments.proofs.writer.Writer.write_apart.Goals as goal
@@ -18,7 +19,7 @@ returns-then-is_err-2-clause-cut g c = λ same.
     let x = bytes_of g.T.ByteValued.table c.args.x in
     let size = length-bytes_of g.T.ByteValued.table c.args.x c.write_obj.ensures.in_width ∙ g.met.T.ByteValued.size_is in
     let fits = went c.write_obj.result g.T.ByteValued.SIZE _ _ c.write_obj.ensures.variant c.is_err.ensures.value c.if-is_err.false in
-    let left = room_left c.args.self.now c.write_obj.new.self x c.write_obj.ensures.wrote (omega (arith, size, fits)) in
+    let left = room_behind c.args.self.now c.write_obj.new.self x c.write_obj.ensures.wrote in
     let short = failed c.write_all.result (length c.args.bytes.now) _ _ c.write_all.ensures.variant c.is_err-2.ensures.value c.if-is_err-2.true in
     omega (arith, size, fits, left, short)
 
@@ -30,9 +31,9 @@ returns-then-is_err-2-clause-wrote g c =
     let w = c.args.self.now in
     let size = length-bytes_of g.T.ByteValued.table c.args.x c.write_obj.ensures.in_width ∙ g.met.T.ByteValued.size_is in
     let fits : length x ≤ length w.left = omega (arith, size, went c.write_obj.result g.T.ByteValued.SIZE _ _ c.write_obj.ensures.variant c.is_err.ensures.value c.if-is_err.false) in
-    let left = room_left w c.write_obj.new.self x c.write_obj.ensures.wrote fits in
+    let left = room_behind w c.write_obj.new.self x c.write_obj.ensures.wrote in
     let short = failed c.write_all.result (length bytes) _ _ c.write_all.ensures.variant c.is_err-2.ensures.value c.if-is_err-2.true in
-    let two = both w c.write_obj.new.self c.write_all.new.self x bytes c.write_obj.ensures.wrote fits c.write_all.ensures.wrote in
+    let two = wrote_both w c.write_obj.new.self c.write_all.new.self x bytes c.write_obj.ensures.wrote c.write_all.ensures.wrote in
     cut_off w c.write_all.new.self (x ++ bytes) zeros two (omega (arith, fits, left, short, length-append x bytes))
     ∙ ap (λ l. wrote w (take (length w.left) l)) (append_assoc x bytes zeros)
 
@@ -43,10 +44,10 @@ returns-clause-whole g c = λ same.
     let w = c.args.self.now in
     let size = length-bytes_of g.T.ByteValued.table c.args.x c.write_obj.ensures.in_width ∙ g.met.T.ByteValued.size_is in
     let fits : length x ≤ length w.left = omega (arith, size, went c.write_obj.result g.T.ByteValued.SIZE _ _ c.write_obj.ensures.variant c.is_err.ensures.value c.if-is_err.false) in
-    let left = room_left w c.write_obj.new.self x c.write_obj.ensures.wrote fits in
+    let left = room_behind w c.write_obj.new.self x c.write_obj.ensures.wrote in
     let more = went c.write_all.result (length bytes) _ _ c.write_all.ensures.variant c.is_err-2.ensures.value c.if-is_err-2.false in
-    let two = both w c.write_obj.new.self c.write_all.new.self x bytes c.write_obj.ensures.wrote fits c.write_all.ensures.wrote in
-    let rest = room_left w c.write_all.new.self (x ++ bytes) two (omega (arith, fits, left, more, length-append x bytes)) in
+    let two = wrote_both w c.write_obj.new.self c.write_all.new.self x bytes c.write_obj.ensures.wrote c.write_all.ensures.wrote in
+    let rest = room_behind w c.write_all.new.self (x ++ bytes) two in
     let last = is_whole c.write_all-2.result _ _ _ c.write_all-2.ensures.variant c.is_ok.ensures.value same in
     omega (arith, size, fits, left, more, rest, last, length-append x bytes, length-take c.args.zeros (replicate {A = ℕ} 8 0))
 
@@ -57,10 +58,10 @@ returns-clause-cut g c = λ same.
     let w = c.args.self.now in
     let size = length-bytes_of g.T.ByteValued.table c.args.x c.write_obj.ensures.in_width ∙ g.met.T.ByteValued.size_is in
     let fits : length x ≤ length w.left = omega (arith, size, went c.write_obj.result g.T.ByteValued.SIZE _ _ c.write_obj.ensures.variant c.is_err.ensures.value c.if-is_err.false) in
-    let left = room_left w c.write_obj.new.self x c.write_obj.ensures.wrote fits in
+    let left = room_behind w c.write_obj.new.self x c.write_obj.ensures.wrote in
     let more = went c.write_all.result (length bytes) _ _ c.write_all.ensures.variant c.is_err-2.ensures.value c.if-is_err-2.false in
-    let two = both w c.write_obj.new.self c.write_all.new.self x bytes c.write_obj.ensures.wrote fits c.write_all.ensures.wrote in
-    let rest = room_left w c.write_all.new.self (x ++ bytes) two (omega (arith, fits, left, more, length-append x bytes)) in
+    let two = wrote_both w c.write_obj.new.self c.write_all.new.self x bytes c.write_obj.ensures.wrote c.write_all.ensures.wrote in
+    let rest = room_behind w c.write_all.new.self (x ++ bytes) two in
     let last = not_whole c.write_all-2.result _ _ _ c.write_all-2.ensures.variant c.is_ok.ensures.value same in
     omega (arith, size, fits, left, more, rest, last, length-append x bytes, length-take c.args.zeros (replicate {A = ℕ} 8 0))
 
@@ -72,8 +73,8 @@ returns-clause-wrote g c =
     let zeros = take-replicate {X = ℕ} c.args.zeros 8 0 c.requires in
     let size = length-bytes_of g.T.ByteValued.table c.args.x c.write_obj.ensures.in_width ∙ g.met.T.ByteValued.size_is in
     let fits : length x ≤ length w.left = omega (arith, size, went c.write_obj.result g.T.ByteValued.SIZE _ _ c.write_obj.ensures.variant c.is_err.ensures.value c.if-is_err.false) in
-    let left = room_left w c.write_obj.new.self x c.write_obj.ensures.wrote fits in
+    let left = room_behind w c.write_obj.new.self x c.write_obj.ensures.wrote in
     let more = went c.write_all.result (length bytes) _ _ c.write_all.ensures.variant c.is_err-2.ensures.value c.if-is_err-2.false in
-    let two = both w c.write_obj.new.self c.write_all.new.self x bytes c.write_obj.ensures.wrote fits c.write_all.ensures.wrote in
-    both w c.write_all.new.self c.write_all-2.new.self (x ++ bytes) (replicate c.args.zeros 0) two (omega (arith, fits, left, more, length-append x bytes)) (rw zeros at c.write_all-2.ensures.wrote)
+    let two = wrote_both w c.write_obj.new.self c.write_all.new.self x bytes c.write_obj.ensures.wrote c.write_all.ensures.wrote in
+    wrote_both w c.write_all.new.self c.write_all-2.new.self (x ++ bytes) (replicate c.args.zeros 0) two (rw zeros at c.write_all-2.ensures.wrote)
     ∙ ap (λ l. wrote w (take (length w.left) l)) (append_assoc x bytes (replicate c.args.zeros 0))

@@ -3,7 +3,7 @@ use Rattle.std.specs.declared.vec.Vec.{Vec}
 use Rattle.std.specs.declared.alloc.Global.{Global}
 use Rattle.std.proofs.lemmas.List.{get_or-map}
 use Rattle.vfs_segments.proofs.Totals.{never_falls, placed}
-use Rattle.vfs_segments.proofs.place.place_of.Goals as goal
+use Rattle.vfs_segments.proofs.place.search_of.Goals as goal
 
 pub find_segment-first-requires-clause-ordered : goal.find_segment-first-requires-clause-ordered
 find_segment-first-requires-clause-ordered c = rw (c.new.ensures.totals ∙ c.requires.totals) (never_falls _)

@@ -2,7 +2,7 @@ use Rattle.std.proofs.Common.{arith, ap, ◌∙◌, ◌<◌, List, [], ℕ, leng
 use Rattle.std.specs.Borrow.{Bor}
 use Rattle.std.proofs.lemmas.List.{get_or-map}
 use Rattle.vfs_segments.proofs.Totals.{never_falls, placed}
-use Rattle.vfs_segments.proofs.place.place_in.Goals as goal
+use Rattle.vfs_segments.proofs.place.search_in.Goals as goal
 
 pub find_segment-first-requires-clause-ordered : goal.find_segment-first-requires-clause-ordered
 find_segment-first-requires-clause-ordered c = rw (c.new.ensures.totals ∙ c.requires.totals) (never_falls _)

@@ -1,11 +1,11 @@
-use Rattle.std.proofs.Common.{arith, ap, sym, ◌≡◌, ◌+◌, ◌-◌, ◌∙◌, ◌≤◌, refl, length, drop, length-take}
+use Rattle.std.proofs.Common.{arith, ap, sym, ◌+◌, ◌-◌, ◌∙◌, ◌≤◌, length, drop, length-take}
 use Rattle.std.specs.Prelude.{sum}
-use Rattle.vfs_wire.specs.Fields.{numbers, value_of}
+use Rattle.vfs_wire.specs.Fields.{value_of}
 use Rattle.vfs_wire.specs.FieldLaws.{value_of-take}
-use Rattle.vfs_segments.specs.Unread.{Unread, advanced}
+use Rattle.vfs_segments.specs.Unread.{Unread}
 use Rattle.vfs_segments.proofs.Places.{length-left, moved_on}
 use Rattle.vfs_segments.proofs.Segments.{flat}
-use Rattle.vfs_segments.proofs.reader.Reader.read_obj.Goals as goal
+use Rattle.vfs_segments.proofs.reader.Reader.take_obj.Goals as goal
 
 pub returns-clause-value : goal.returns-clause-value
 returns-clause-value g c =
@@ -23,21 +23,3 @@ returns-clause-moved g c =
     let left = length-left r c.self.invariant c.args.self.now c.self.view_is in
     let h : r.at + n ≤ r.end = omega (arith, c.SIZE.ensures, c.available_bytes.ensures.left, left, c.self.invariant.before_end) in
     rw size (moved_on r c.self.invariant c.args.self.now c.self.view_is n h)
-
-pub returns-clause-answers : goal.returns-clause-answers
-returns-clause-answers g c =
-    let t = g.T.ByteValued.table in
-    let n = g.T.ByteValued.SIZE in
-    let u = c.args.self.now in
-    let size : n ≡ sum t.widths = omega (arith, g.met.T.ByteValued.size_is) in
-    let at = returns-clause-moved g c ∙ ap (advanced u) size in
-    let fits : n ≤ length u.left = omega (arith, c.SIZE.ensures, c.available_bytes.ensures.left) in (
-      numbers t.widths u.left,
-      (
-        returns-clause-value g c,
-        record {
-          enough = λ h. (refl, record { left = ap (λ (v : Unread). v.left) at; taken = ap (λ (v : Unread). v.taken) at });
-          short = λ h. absurd (omega (arith, size, fits));
-        },
-      ),
-    )
