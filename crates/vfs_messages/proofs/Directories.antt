@@ -1,15 +1,13 @@
 -- What holds of every turn that reads a directory.
-use Rattle.std.proofs.Common.{◌≡◌, ◌≤◌, ◌+◌, ◌/◌, ℕ, List, [], ◌∷◌, length, Option, Result, Ok, Err, refl, ap, sym, ◌∙◌, inl, inr, arith, subst}
-use Rattle.std.specs.List.{All}
-use Rattle.vfs_files.specs.Calls.{Readdir, Data, read_answer}
-use Rattle.vfs_files.specs.Runs.{Event, Opened}
-use Rattle.vfs_listings.specs.Laws.{takings, least_record, GoesOn, IsWhole}
-use Rattle.vfs_listings.specs.Listing.{IsListing, IsUnopened, IsOpened}
+use Rattle.std.proofs.Common.{◌≡◌, ℕ, List, length, Option, Result, Ok, Err, sym, ◌∙◌, inl, inr, arith, subst}
+use Rattle.vfs_files.specs.Calls.{read_answer}
+use Rattle.vfs_listings.specs.Laws.{IsWhole}
+use Rattle.vfs_listings.specs.Listing.{IsListing}
 use Rattle.vfs_listings.specs.ListingLaws.{listing_whole, takings_bounded}
 use Rattle.vfs_messages.specs.Ask.{ask}
 use Rattle.vfs_messages.specs.Forms.{Listing, Lists}
-use Rattle.vfs_messages.specs.Laws.{listing_reply, StopsForACause, CameWhole, ComesWhole, TakesFew}
-use Rattle.vfs_messages.specs.Reply.{Echo, body_reply, reply_of, said_open, say_bytes}
+use Rattle.vfs_messages.specs.Laws.{listing_reply, StopsForACause, ComesWhole, TakesFew}
+use Rattle.vfs_messages.specs.Reply.{Echo, said_open, say_bytes}
 use Rattle.vfs_messages.specs.Room.{IsReplied, IsPutOpen}
 use Rattle.vfs_messages.specs.Turn.{Turn, Follows, IsRead, IsTurn, turn_tells}
 use Rattle.vfs_messages.specs.declared.limits.Limits.{Limits}

@@ -1,8 +1,9 @@
 -- Parts of a reply that are put one after another into a room.
-use Rattle.std.proofs.Common.{◌≡◌, ◌≤◌, ◌+◌, ◌-◌, ◌<◌, ℕ, zero, suc, Bool, true, false, List, [], ◌∷◌, ◌++◌, length, take, drop, nat_le, if◌then◌else◌, Option, Some, None, IfSome, Result, Ok, Err, refl, ap, sym, ◌∙◌, arith, ◌-ℤ◌, pos, append_assoc, append-nil, length-append, length-take, length-drop}
-use Rattle.std.proofs.lemmas.List.{take_all, drop_all, drop-drop}
+use Rattle.std.proofs.Common.{◌≡◌, ◌≤◌, ◌+◌, ◌<◌, ℕ, Bool, true, false, List, [], ◌++◌, length, take, drop, nat_le, if◌then◌else◌, Option, Some, None, IfSome, Result, Ok, Err, refl, ap, ◌∙◌, arith, ◌-ℤ◌, pos, append_assoc, append-nil, length-append, length-take, length-drop}
+use Rattle.std.proofs.lemmas.List.{take_all, drop_all, nil_from_length}
 use Rattle.std.proofs.lemmas.Bool.Decides.{nat_tests}
 use Rattle.vfs_segments.specs.Written.{Written, wrote}
+use Rattle.vfs_segments.specs.WrittenLaws.{wrote_both}
 use Rattle.vfs_messages.specs.Records.{bytes_of_option, size_of_option}
 use Rattle.vfs_messages.specs.Room.{put_outcome, put_room, Leaves, Replies}
 use Rattle.vfs_wire.specs.Fields.{Table, Fit, bytes_of}
@@ -12,26 +13,6 @@ use Rattle.vfs_wire.specs.declared.headers.OutHeader.{OutHeader}
 use Rattle.vfs_messages.specs.Reply.{Bytes, body_reply, fault_reply, fault_number}
 use Rattle.vfs_messages.specs.declared.error.Error.{Error}
 use Rattle.vfs_messages.specs.declared.error.Error.TheVariants.{EncodeMessage}
-
--- the beginning of two lists, by where the first ends
-pub take-append : (n : ℕ) (a b : List ℕ) → take n (a ++ b) ≡ take n a ++ take (n - length a) b
-take-append zero [] b = refl
-take-append (suc n) [] b = let e : suc n - 0 ≡ suc n = omega arith in rw e refl
-take-append zero (x ∷ a) b = let e : 0 - length (x ∷ a) ≡ 0 = omega arith in rw e refl
-take-append (suc n) (x ∷ a) b =
-    let e : suc n - suc (length a) ≡ n - length a = omega arith in
-    rw e (ap (λ (l : List ℕ). x ∷ l) (take-append n a b))
-
--- two writes are one
-wrote-wrote : (w : Written) (x y : List ℕ) → wrote (wrote w x) y ≡ wrote w (x ++ y)
-wrote-wrote w x y = rw (append_assoc w.passed x y, length-append x y, drop-drop (length y) (length x) w.left) refl
-
--- as much of two parts as there is room for, written one after the other
-pub wrote_both : (old mid new : Written) (a b : List ℕ) → mid ≡ wrote old (take (length old.left) a) → new ≡ wrote mid (take (length mid.left) b) → new ≡ wrote old (take (length old.left) (a ++ b))
-wrote_both old mid new a b m n =
-    let room : length mid.left ≡ length old.left - length a = omega (arith, ap (λ (w : Written). length w.left) m, length-drop (length (take (length old.left) a)) old.left, length-take (length old.left) a) in
-    n ∙ ap (λ (k : ℕ). wrote mid (take k b)) room ∙ ap (λ (w : Written). wrote w (take (length old.left - length a) b)) m ∙ wrote-wrote old (take (length old.left) a) (take (length old.left - length a) b)
-    ∙ ap (wrote old) (sym (take-append (length old.left) a b))
 
 -- the bytes of a writer into which as much of a reply was written as there is room for
 written_room : (old : Written) (reply : List ℕ) (fits : Bool) → nat_le (length reply) (length old.left) ≡ fits → Leaves old (put_room reply old.left) (wrote old (take (length old.left) reply))
@@ -70,12 +51,11 @@ pub put_outcome-lengths : (reply room : List ℕ) (n m : ℕ) → n ≡ length r
     → (if nat_le n m then Ok n else Err EncodeMessage) ≡ put_outcome reply room
 put_outcome-lengths reply room n m e f = rw (e, f) refl
 
--- as much of three parts as there is room for, written one after another
-pub wrote_three : (old first second new : Written) (a b c : List ℕ) → first ≡ wrote old (take (length old.left) a)
-    → second ≡ wrote first (take (length first.left) b) → new ≡ wrote second (take (length second.left) c)
-    → new ≡ wrote old (take (length old.left) (a ++ (b ++ c)))
-wrote_three old first second new a b c f s n =
-    wrote_both old second new (a ++ b) c (wrote_both old first second a b f s) n
+-- as much of three parts as there is room for, of which two were written as one
+pub wrote_three : (old mid new : Written) (a b c : List ℕ) → mid ≡ wrote old (take (length old.left) (a ++ b))
+    → new ≡ wrote mid (take (length mid.left) c) → new ≡ wrote old (take (length old.left) (a ++ (b ++ c)))
+wrote_three old mid new a b c m n =
+    wrote_both old mid new (a ++ b) c m n
     ∙ ap (λ (l : List ℕ). wrote old (take (length old.left) l)) (append_assoc a b c)
 
 -- the bytes of a record that may be there, by its size
@@ -105,3 +85,9 @@ pub put_room-full : (reply room : List ℕ) → length room < length reply → p
 put_room-full reply room h =
     let test : nat_le (length reply) (length room) ≡ false = grind (arith, nat_tests) in
     rw test refl
+
+-- no byte
+pub wrote_none : (w : Written) (body : List ℕ) → length body ≡ 0 → w ≡ wrote w (take (length w.left) body)
+wrote_none w body e =
+    let none : take (length w.left) body ≡ [] = nil_from_length _ (omega (arith, e, length-take (length w.left) body)) in
+    rw none (rw (append-nil w.passed) refl)

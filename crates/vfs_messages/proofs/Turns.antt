@@ -13,7 +13,7 @@ use Rattle.vfs_wire.specs.Headers.{in_header, out_header}
 use Rattle.vfs_wire.specs.Init.{init_out}
 use Rattle.vfs_wire.specs.declared.headers.InHeader.{InHeader}
 use Rattle.vfs_wire.specs.declared.headers.OutHeader.{OutHeader}
-use Rattle.vfs_files.specs.Calls.{Call, Init, Destroy, Readdir, Answer, Failed, Options, Data, kind_of, read_answer}
+use Rattle.vfs_files.specs.Calls.{Call, Init, Destroy, Readdir, Answer, Options, Data, kind_of, read_answer}
 use Rattle.vfs_files.specs.Runs.{Event, Called}
 use Rattle.vfs_messages.specs.Limits.{max_len}
 use Rattle.vfs_messages.specs.Records.{size_of}

@@ -42,14 +42,29 @@ fn put_header(header: OutHeader, w: &mut Writer)
     let _ = w.write_obj(header);
 }
 
-/// Puts a record, as much of it as there is room for, where there is one.
-fn put_part<T: ByteValued + Drop>(out: Option<T>, w: &mut Writer)
-    ensures wrote { w.new ≡ wrote w.old (take (length w.old.left) (bytes_of_option T.table out)) }
+/// Puts a header and a record behind it, where there is one, as much of them as there is room for.
+#[inline(always)]
+fn put_parts<T: ByteValued + Drop>(header: OutHeader, out: Option<T>, w: &mut Writer)
+    ensures wrote { w.new ≡ wrote w.old (take (length w.old.left)
+        (bytes_of out_header header ++ bytes_of_option T.table out)) }
     ensures in_width { IfSome out (λ x. Fit T.table.widths (T.table.fields x)) }
 {
-    if let Some(out) = out {
-        let _ = w.write_obj(out);
+    match out {
+        Some(out) => {
+            let _ = w.write_pair(header, out);
+        }
+        None => put_header(header, w),
     }
+}
+
+/// Puts bytes, as many as there is room for.
+fn put_body(body: &[u8], w: &mut Writer)
+    ensures { w.new ≡ wrote w.old (take (length w.old.left) body.now) }
+{
+    if body.is_empty() {
+        return;
+    }
+    let _ = w.write_all(body);
 }
 
 /// The bytes that a record has, where there is one.
@@ -74,7 +89,10 @@ fn outcome_of(len: usize, room: usize) -> Result<usize>
     }
 }
 
-/// Replies a record, where there is one, and bytes behind it.
+/// Replies a record, where there is one, and bytes behind it. It is inlined, as `reply_record` and
+/// `reply_entry` are, so that the fields of a record go into the room without being put together in
+/// memory first.
+#[inline(always)]
 fn reply_parts<T: ByteValued + Drop>(
     out: Option<T>,
     body: &[u8],
@@ -93,9 +111,8 @@ fn reply_parts<T: ByteValued + Drop>(
         error: 0,
         unique,
     };
-    put_header(header, w);
-    put_part(out, w);
-    let _ = w.write_all(body);
+    put_parts(header, out, w);
+    put_body(body, w);
     outcome_of(len, room)
 }
 
@@ -121,6 +138,7 @@ pub fn reply_ok<T: ByteValued + Drop>(
 }
 
 /// Replies a record.
+#[inline(always)]
 pub fn reply_record<T: ByteValued + Drop>(out: T, unique: u64, w: &mut Writer) -> Result<usize>
     ensures replied { Replies (Bytes (body_reply (bytes_of T.table out) unique))
         w.old result w.new }
@@ -309,6 +327,7 @@ pub fn reply_fault_alone(fault: Fault, unique: u64, w: &mut Writer) -> Result<us
 }
 
 /// Replies an entry, as LOOKUP does.
+#[inline(always)]
 pub fn reply_entry(
     answer: std::result::Result<Entry, Fault>,
     unique: u64,

@@ -27,19 +27,16 @@ use vfs_segments::Reader;
 use vfs_wire::{ByteValued, ForgetOne, InHeader, SetxattrIn, SetxattrInCompat};
 
 /// The next record of a request. `DecodeMessage` where it isn't whole.
+#[inline(always)]
 pub fn read_record<T: ByteValued>(reader: &mut Reader<'_>) -> Result<T>
     ensures value { record_of T.table reader.old.left ≡ result }
     ensures moved { OnOk result (reader.new.left ≡ drop (size_of T.table) reader.old.left) }
     ensures pieces { OnOk result
         (reader.new.pieces ≡ lengths_from (size_of T.table) reader.old.pieces) }
 {
-    // Tested here first, so that no `io::Error` is made to be dropped.
-    if T::SIZE > reader.available_bytes() {
-        return Err(Error::DecodeMessage);
-    }
-    match reader.read_obj() {
-        Ok(record) => Ok(record),
-        Err(_) => unreachable!(),
+    match reader.take_obj() {
+        Some(record) => Ok(record),
+        None => Err(Error::DecodeMessage),
     }
 }
 
@@ -542,6 +539,37 @@ pub fn further_flags(flags: u32) -> SetxattrFlags
     SetxattrFlags::from_bits_truncate(flags)
 }
 
+/// The pair of a node and a count that a record is.
+fn pair_of<I: Number>(one: &ForgetOne) -> (I, u64)
+    ensures node { I.value result.0 ≡ one.now.nodeid }
+    ensures nlookup { result.1 ≡ one.now.nlookup }
+{
+    (I::from_number(one.nodeid), one.nlookup)
+}
+
+/// The pairs that the bytes begin with, so many.
+fn pairs_in_bytes<I: Number>(alloc: Global, count: u32, bytes: &[u8]) -> Result<Vec<(I, u64)>>
+    requires { count * size_of forget_one ≤ length bytes.now }
+    ensures pairs { IfOk result
+        (λ v. map (λ p. (I.value p.0, p.1)) v.items ≡ pairs_of count bytes.now) }
+    ensures err { IfErr result (λ e. e ≡ Error.OutOfMemory) }
+{
+    let mut pairs = match Vec::with_capacity(alloc, count as usize) {
+        Ok(pairs) => pairs,
+        Err(_) => return Err(Error::OutOfMemory),
+    };
+    let mut rest = bytes;
+    for i in 0..count {
+        let one = ForgetOne::take(&rest[..ForgetOne::SIZE]);
+        match pairs.push(pair_of::<I>(&one)) {
+            Ok(()) => {}
+            Err(_) => return Err(Error::OutOfMemory),
+        }
+        rest = &rest[ForgetOne::SIZE..];
+    }
+    Ok(pairs)
+}
+
 /// The next `count` pairs, which the reader has.
 fn copy_pairs<I: Number>(
     alloc: Global,
@@ -558,19 +586,19 @@ fn copy_pairs<I: Number>(
         Err(_) => return Err(Error::OutOfMemory),
     };
     for i in 0..count {
-        match reader.read_obj::<ForgetOne>() {
-            Ok(one) => match pairs.push((I::from_number(one.nodeid), one.nlookup)) {
+        match reader.take_obj::<ForgetOne>() {
+            Some(one) => match pairs.push(pair_of::<I>(&one)) {
                 Ok(()) => {}
                 Err(_) => return Err(Error::OutOfMemory),
             },
-            Err(_) => unreachable!(),
+            None => unreachable!(),
         }
     }
     Ok(pairs)
 }
 
 /// So many pairs of a node and a count (`struct fuse_forget_one`). Each is read once, into one
-/// vector.
+/// vector: right from the segment, where all lie in one.
 ///
 /// `DecodeMessage` where bytes are missing, then `OutOfMemory` where there is no memory for them.
 pub fn read_pairs<I: Number>(
@@ -583,7 +611,10 @@ pub fn read_pairs<I: Number>(
     if reader.available_bytes() < count as usize * ForgetOne::SIZE {
         return Err(Error::DecodeMessage);
     }
-    copy_pairs(alloc, count, reader)
+    match reader.take_slice(count as usize * ForgetOne::SIZE) {
+        Some(bytes) => pairs_in_bytes(alloc, count, bytes),
+        None => copy_pairs(alloc, count, reader),
+    }
 }
 
 /// Whether a word of flags has one of these flags.

@@ -14,14 +14,14 @@ returns-clause-replied g c short =
     let body = c.args.body.now in
     let unique = c.args.unique in
     let size : c.part_size.result ≡ length part =
-    c.part_size.ensures.size ∙ sym (length-bytes_of_option g.T.ByteValued.table c.args.out c.put_part.ensures.in_width) in
+    c.part_size.ensures.size ∙ sym (length-bytes_of_option g.T.ByteValued.table c.args.out c.put_parts.ensures.in_width) in
     let all : 16 + c.part_size.result + length body ≡ 16 + length (part ++ body) = omega (arith, size, length-append part body) in
     let len : (16 + c.part_size.result + length body) % 2 ^ 32 ≡ 16 + length (part ++ body) = omega (arith, all, short) in
     let same =
-    ap (λ (n : ℕ). wrote old (take (length old.left) (bytes_of out_header (record { len = n; error = pos 0; unique = unique })))) len in
+    ap (λ (n : ℕ). wrote old (take (length old.left) (bytes_of out_header (record { len = n; error = pos 0; unique = unique }) ++ part))) len in
     let written =
-    wrote_three old c.put_header.new.w c.put_part.new.w c.write_all.new.self _ part body
-    (c.put_header.ensures ∙ same) c.put_part.ensures.wrote c.write_all.ensures.wrote in
-    replied old c.write_all.new.self (body_reply (part ++ body) unique) _ written
+    wrote_three old c.put_parts.new.w c.put_body.new.w _ part body
+    (c.put_parts.ensures.wrote ∙ same) c.put_body.ensures in
+    replied old c.put_body.new.w (body_reply (part ++ body) unique) _ written
     (c.outcome_of.ensures
     ∙ put_outcome-lengths _ _ _ _ (all ∙ sym (length-body_reply (part ++ body) unique)) c.available_bytes-room.ensures)

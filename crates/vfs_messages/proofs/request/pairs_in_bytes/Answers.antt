@@ -1,0 +1,20 @@
+use Rattle.std.proofs.Common.{◌≡◌, ◌∙◌, ◌+◌, ◌-◌, ◌≤◌, ℕ, ap, arith, length, length-drop, drop, take}
+use Rattle.std.proofs.lemmas.List.{take_all}
+use Rattle.vfs_wire.specs.Entries.{forget_one}
+use Rattle.vfs_wire.specs.FieldLaws.{value_of-take}
+use Rattle.vfs_messages.specs.Forms.{pairs_of}
+use Rattle.vfs_messages.proofs.Pairs.{copied_one}
+use Rattle.vfs_messages.proofs.request.pairs_in_bytes.Goals as goal
+
+pub loop-i-preserved : goal.loop-i-preserved
+loop-i-preserved g c =
+    let left = c.loop-i.rest.now in
+    let one = c.take-one.result in
+    let x = c.pair_of.result in
+    let test = c.loop-i-test.true in
+    let room : 16 ≤ length left = omega (arith, test, c.loop-i.invariant.room) in
+    let pair : ◌≡◌ {A = ℕ × ℕ} (g.I.Number.value x.0, x.1) (one.nodeid, one.nlookup) =
+    ap (λ (n : ℕ). (n, x.1)) c.pair_of.ensures.node ∙ ap (λ (n : ℕ). (one.nodeid, n)) c.pair_of.ensures.nlookup in
+    let moved : take (length left - 16) (drop 16 left) ≡ drop 16 left = take_all (length left - 16) (drop 16 left) (omega (arith, length-drop 16 left)) in
+    copied_one (λ p. (g.I.Number.value p.0, p.1)) c.loop-i.pairs.items c.push.new.self.items x one (pairs_of c.args.count c.args.bytes.now) (c.args.count - c.loop-i.i) (c.args.count - (c.loop-i.i + 1)) left _
+    c.in-Ok-push.ensures.items pair (c.take-one.ensures.read ∙ value_of-take forget_one 16 left (omega arith)) moved (omega (arith, test)) c.loop-i.invariant
