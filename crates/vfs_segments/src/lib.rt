@@ -11,8 +11,8 @@
 //! Both keep the running totals of their segments' lengths, for which `new`, `split_at` and `clone`
 //! take memory where they are more than four. A call finds the segment of its place by one search
 //! of them, or by none where that is the first one, moves each byte once, segment by segment, and
-//! stops there. Bytes that lie whole in one segment are moved at once. Where what they write does not
-//! lie whole in one, `Writer::write_pair` searches twice and `Writer::write_padded` three times.
+//! stops there. Bytes that lie whole in one segment are moved at once. Where what they write lies
+//! in several, `Writer::write_pair` searches twice and `Writer::write_padded` three times.
 #![tactic(auto)]
 
 mod beside;
