@@ -12,7 +12,7 @@
 //! take memory where they are more than four. A call finds the segment of its place by one search
 //! of them, or by none where that is the first one, moves each byte once, segment by segment, and
 //! stops there. Bytes that lie whole in one segment are moved at once. Where what they write lies
-//! in several, `Writer::write_pair` searches twice and `Writer::write_padded` three times.
+//! in several, `Writer::write_pair` and `Writer::write_padded` search once more for each part.
 #![tactic(auto)]
 
 mod beside;

@@ -11,8 +11,8 @@ use crate::scatter::held_len_at;
 use vfs_views::Span;
 
 // The segment in which a place lies, and how far in, of segments that are read. A place between two
-// segments lies in the second, and the place past all bytes behind the last one. In the first one,
-// in which most requests lie whole, it is found without a search.
+// segments lies in the second, and the place past all bytes behind the last one. One in the first
+// segment, as the header of each request has it, is found without a search.
 #[inline(always)]
 pub(crate) fn place_in(segments: &[&[u8]], totals: &[usize], at: usize) -> (usize, usize)
     requires totals { totals.now ≡ totals_of (lengths_of (segments_of segments.now)) }
@@ -85,7 +85,8 @@ pub(crate) fn span_in(segments: &[&[u8]], totals: &[usize], at: usize, n: usize)
     }
 }
 
-// The segment in which a place lies, and how far in, of segments that are written.
+// The segment in which a place lies, and how far in, of segments that are written. In the first one
+// it is found without a search.
 #[inline(always)]
 pub(crate) fn place_of(segments: &[Vec<u8>], totals: &[usize], at: usize) -> (usize, usize)
     requires totals { totals.now ≡ totals_of (lengths_of (contents segments.now)) }
