@@ -1,12 +1,12 @@
 -- The words of the laws: records in a row, how many items are taken, and when a directory is whole.
 use Rattle.std.specs.Prelude.{◌≡◌, ◌<◌, ⊤, ◌+◌, ◌^◌, ◌⊎◌, ℕ, Bool, true, false, List, [], ◌∷◌, ◌++◌, length, Option, Some, unwrap_or, Result, Ok}
-use Rattle.std.specs.List.{flat_map}
+use Rattle.std.specs.List.{All, flat_map}
 use Rattle.vfs_files.specs.Calls.{Failed, FitsEntry}
 use Rattle.vfs_files.specs.Items.{Item}
 use Rattle.vfs_files.specs.Runs.{Event, Called, Opened, Taken}
 use Rattle.vfs_files.specs.declared.entry.Context.{Context}
 use Rattle.vfs_files.specs.declared.entry.Entry.{Entry}
-use Rattle.vfs_listings.specs.Listing.{Line, End, At, line_events, stop_events, line_len, line_bytes, node_got}
+use Rattle.vfs_listings.specs.Listing.{Line, End, At, IsGot, line_events, stop_events, line_len, line_bytes, node_got}
 use Rattle.vfs_listings.specs.Records.{record_bytes}
 
 -- the items that were taken, in order, and none where the iterator answered its end
@@ -44,7 +44,8 @@ abbrev pub EndsWhole : (plus : Bool) (ctx : Context) (parent : ℕ) → List Eve
 EndsWhole plus ctx parent events lines =
     events ≡ flat_map (line_events ctx parent plus) lines ++ stop_events ctx parent plus End
 
--- the reading ended with an item whose record, put behind these bytes, would pass `size`
+-- the reading ended with an item that got what it should, and whose record, put behind these bytes,
+-- would pass `size`
 pub record EndsFull
     (plus : Bool) (ctx : Context) (parent size : ℕ)
     (events : List Event) (lines : List Line) (body : List ℕ) : Type 0 where
@@ -52,14 +53,17 @@ pub record EndsFull
   pub events_are :
       events
       ≡ flat_map (line_events ctx parent plus) lines ++ stop_events ctx parent plus (At last)
+  pub got : IsGot plus last
   pub passes : size < length body + line_len last
 
--- A directory that is whole: the body is the records of all items taken, in order, but of a last
--- one whose record would pass `size`; where there is no such one, the iterator answered its end.
+-- A directory that is whole: the body is the records of all items taken, in order, each with what
+-- the item should get, but of a last one whose record would pass `size`; where there is no such one,
+-- the iterator answered its end.
 pub record IsWhole
     (plus : Bool) (ctx : Context) (parent size : ℕ)
     (events : List Event) (body : List ℕ) (result : Result ℕ (Option ℕ)) : Type 0 where
   pub lines : List Line
+  pub got : All (IsGot plus) lines
   pub body_is : body ≡ flat_map line_bytes lines
   pub answer_is : result ≡ Ok (length body)
   pub ends :

@@ -3,7 +3,7 @@ use Rattle.std.proofs.Common.{◌≡◌, ◌≤◌, ◌<◌, ◌≢◌, ◌+◌,
 use Rattle.std.proofs.lemmas.Bool.{ltb-true, ltb-false}
 use Rattle.std.proofs.lemmas.Bool.Decides.{nat_tests}
 use Rattle.std.proofs.lemmas.List.{length-map}
-use Rattle.std.proofs.lemmas.List.Elements.{All-head, All-tail, All-same}
+use Rattle.std.proofs.lemmas.List.Elements.{All-nil, All-cons, All-head, All-tail, All-same}
 use Rattle.std.proofs.lemmas.List.Sums.{sum_by-cons}
 use Rattle.std.specs.List.{All, flat_map}
 use Rattle.vfs_files.specs.Calls.{Lookup, Failed}
@@ -14,7 +14,7 @@ use Rattle.vfs_files.specs.declared.entry.Entry.{Entry}
 use Rattle.vfs_listings.specs.Laws.{takings, least_record, GoesOn, IsWhole}
 use Rattle.vfs_listings.specs.Records.{Verdict, Fits, Full, Fails, verdict, record_len}
 use Rattle.vfs_listings.specs.RecordLaws.{length-record_bytes}
-use Rattle.vfs_listings.specs.Listing.{Got, Line, Stop, End, At, Gets, is_dot, lookup_of, lookups, line_events, given_back, stop_events, Stops, judged, fate, len_of, bytes_got, line_len, line_bytes, AreWritten, answer_at, answer_of, IsListing}
+use Rattle.vfs_listings.specs.Listing.{Got, Line, Stop, End, At, Gets, is_dot, lookup_of, lookups, line_events, given_back, stop_events, Stops, judged, fate, len_of, bytes_got, line_len, line_bytes, AreWritten, answer_at, answer_of, IsListing, IsGot}
 
 -- ---- one record
 
@@ -264,6 +264,13 @@ stop_full plus ctx parent max room i (Err fault) g h roomy wrong =
     (All-tail GoesOn (Taken (Some i)) (lookups ctx parent plus (is_dot i.name)
     (record { item = i; got = Err fault }) ++ []) h))
 
+-- lines that were written have what their items get
+got_of_written : (plus : Bool) (size room written : ℕ) (ls : List Line)
+    → AreWritten plus size room written ls → All (IsGot plus) ls
+got_of_written plus size room written [] w = All-nil (IsGot plus)
+got_of_written plus size room written (l ∷ ls) w = All-cons (IsGot plus) l ls w.1
+    (got_of_written plus size room (written + line_len l) ls w.3)
+
 module _ (plus : Bool) (ctx : Context) (parent size room : ℕ) (events : List Event) (body : List ℕ)
     (result : Result ℕ (Option ℕ)) where
   whole_by : (lines : List Line) (stop : Stop) → AreWritten plus size room 0 lines
@@ -277,6 +284,7 @@ module _ (plus : Bool) (ctx : Context) (parent size room : ℕ) (events : List E
       let long = ap length body_is ∙ length-lines plus size room 0 lines written in
       record {
         lines = lines;
+        got = got_of_written plus size room 0 lines written;
         body_is = body_is;
         answer_is = answer_is
             ∙ ap Ok (sym long);
@@ -293,11 +301,13 @@ module _ (plus : Bool) (ctx : Context) (parent size room : ℕ) (events : List E
       (omega arith) stops.1 in
       record {
         lines = lines;
+        got = got_of_written plus size room 0 lines written;
         body_is = body_is;
         answer_is = answer_is ∙ ap (λ v. answer_at plus total v) full.0 ∙ ap Ok (sym long);
         ends = inr (record {
           last = l;
           events_are = events_are;
+          got = stops.0;
           passes =
               omega (arith, full.1, long, within);
         });
