@@ -95,7 +95,7 @@ module _ (n : ℕ) (t : Turn) where
       (said_back (is_open (kind_of c)) echo.unique s t.room t.outcome t.room_after f.3)
   ask_books some limits options (Lists echo l) after fits f =
       directory_books n some t l.plus l.ctx l.parent l.handle l.size l.offset l.room echo.unique f.0 f.1 fits f.2
-      (fault_fits limits echo after Data (read_answer f.1 f.0) f.3) f.4
+      (fault_fits limits echo after (Data l.size) (read_answer f.1 f.0) f.3) f.4
   ask_books some limits options (Copies rest) after fits (inl f) = ask_books some limits options rest after fits f
   ask_books some limits options (Copies rest) after fits (inr f) = refused_books n t OutOfMemory f.0 f.1.0
 

@@ -146,8 +146,8 @@ pub data Kind : Type 0 where
   Told : Kind
   -- that it was done, which is not replied
   Untold : Kind
-  -- bytes that were put into the reply
-  Data : Kind
+  -- bytes that were put into the reply, at most so many
+  Data : (size : ℕ) → Kind
   -- options
   Agreements : Kind
   -- an entry
@@ -220,7 +220,7 @@ IsAnswer Quiet _ = ⊥
 IsAnswer _ (Failed fault) = IsFault fault
 IsAnswer Told Done = Unit {0}
 IsAnswer Untold Done = Unit {0}
-IsAnswer Data (Put bytes) = FitsText bytes
+IsAnswer (Data size) (Put bytes) = (length bytes ≤ size) × FitsText bytes
 IsAnswer Agreements (Options want) = want < 2 ^ 64
 IsAnswer Entries (Found entry) = FitsEntry entry
 IsAnswer TimedAttributes (Attributes attributes timeout) = FitsAttributes attributes timeout

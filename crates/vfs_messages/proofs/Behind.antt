@@ -53,6 +53,6 @@ data_replied old mid new bytes (Err fault) unique size h counts e =
     (sym (length-fault_reply fault unique))
 
 -- data and a fault are the answers of READ
-pub data_kind : (answer : Result ℕ (Option ℕ)) (bytes : List ℕ) (size : ℕ) → Counts answer bytes size → IfErr answer IsFault → IsAnswer Data (read_answer answer bytes)
-data_kind (Ok count) bytes size counts f = counts.2
+pub data_kind : (answer : Result ℕ (Option ℕ)) (bytes : List ℕ) (size : ℕ) → Counts answer bytes size → IfErr answer IsFault → IsAnswer (Data size) (read_answer answer bytes)
+data_kind (Ok count) bytes size counts f = (omega (arith, counts.0, counts.1), counts.2)
 data_kind (Err fault) bytes size counts f = f

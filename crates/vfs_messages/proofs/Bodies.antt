@@ -47,10 +47,10 @@ init_is_short limits max_readahead options (Failed fault) = tt
 init_is_short limits max_readahead options (Options want) = init_out_is_short (init_out_of limits max_readahead options)
 init_is_short limits max_readahead options _ = tt
 
-bytes_are_short : (answer : Answer) → IsAnswer Data answer → IsShort (say_bytes answer)
-bytes_are_short (Failed fault) a = tt
-bytes_are_short (Put bytes) a = a
-bytes_are_short _ a = tt
+bytes_are_short : (size : ℕ) (answer : Answer) → IsAnswer (Data size) answer → IsShort (say_bytes answer)
+bytes_are_short size (Failed fault) a = tt
+bytes_are_short size (Put bytes) a = a.1
+bytes_are_short size _ a = tt
 
 entry_is_short : (answer : Answer) → IsAnswer Entries answer → IsShort (say_entry answer)
 entry_is_short (Failed fault) a = tt
@@ -122,7 +122,7 @@ pub answers_are_short : (limits : Limits) (echo : Echo) (options : ℕ) (kind : 
 answers_are_short limits echo options Quiet answer a = quiet_is_short answer
 answers_are_short limits echo options Told answer a = done_is_short answer
 answers_are_short limits echo options Untold answer a = fault_is_short answer
-answers_are_short limits echo options Data answer a = bytes_are_short answer a
+answers_are_short limits echo options (Data size) answer a = bytes_are_short size answer a
 answers_are_short limits echo options Agreements answer a = init_is_short limits echo.max_readahead options answer
 answers_are_short limits echo options Entries answer a = entry_is_short answer a
 answers_are_short limits echo options TimedAttributes answer a = attr_is_short answer a

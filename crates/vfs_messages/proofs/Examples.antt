@@ -567,11 +567,11 @@ unfolding number little
 reply_of_bytes_written = refl
 
 -- READ's data `he`, and a READ that failed: the room behind the reply is open
-reply_of_data : reply_of usual (echo 9) 0 Data (Put (0x68 ∷ 0x65 ∷ [])) ≡ OpenBehind (((four 18 ++ zeros 4) ++ eight 9) ++ (0x68 ∷ 0x65 ∷ []))
+reply_of_data : reply_of usual (echo 9) 0 (Data 2) (Put (0x68 ∷ 0x65 ∷ [])) ≡ OpenBehind (((four 18 ++ zeros 4) ++ eight 9) ++ (0x68 ∷ 0x65 ∷ []))
 unfolding number little
 reply_of_data = refl
 
-reply_of_no_data : reply_of usual (echo 9) 0 Data (Failed (Some 2)) ≡ OpenBehind ((four 16 ++ (0xfe ∷ 0xff ∷ 0xff ∷ 0xff ∷ [])) ++ eight 9)
+reply_of_no_data : reply_of usual (echo 9) 0 (Data 2) (Failed (Some 2)) ≡ OpenBehind ((four 16 ++ (0xfe ∷ 0xff ∷ 0xff ∷ 0xff ∷ [])) ++ eight 9)
 unfolding number little
 reply_of_no_data = refl
 

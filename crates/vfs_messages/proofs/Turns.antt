@@ -70,7 +70,7 @@ ended_so Never room outcome left e h o n = absurd h
 nothing_follows : (limits : Limits) (options : ℕ) (a : Ask) (t : Turn) (after : ℕ) (e : Error) → Follows (turn_tells t) limits options a after → t.outcome ≡ Err e → e ≢ EncodeMessage → (t.events ≡ []) × (t.room_after ≡ t.room) × (after ≡ options)
 nothing_follows limits options (Ends reply) t after e f o n = (f.0, ended_so reply t.room t.outcome t.room_after e f.1 o n, f.2)
 nothing_follows limits options (Asks echo call) t after e f o n = absurd (n (answer_error (is_open (kind_of call)) echo.unique (say limits echo after (kind_of call) f.0) t.room t.outcome t.room_after e f.3 o))
-nothing_follows limits options (Lists echo l) t after e f o n = absurd (n (answer_error true echo.unique (say limits echo after Data (read_answer f.1 f.0)) t.room t.outcome t.room_after e f.4 o))
+nothing_follows limits options (Lists echo l) t after e f o n = absurd (n (answer_error true echo.unique (say limits echo after (Data l.size) (read_answer f.1 f.0)) t.room t.outcome t.room_after e f.4 o))
 nothing_follows limits options (Copies rest) t after e (inl f) o n = nothing_follows limits options rest t after e f o n
 nothing_follows limits options (Copies rest) t after e (inr f) o n = (f.0, f.1.1, f.2)
 
@@ -106,7 +106,7 @@ answers limits options after t e o =
       version = λ f. encode (bytes_error (body_reply (bytes_of init_out version_out) u) t.room t.outcome t.room_after e f.1 o);
       nothing = λ f. absurd (let a = sym f.1.0 ∙ o in cc);
       asks = λ echo c same f. encode (answer_error (is_open (kind_of c)) echo.unique (say limits echo after (kind_of c) f.0) t.room t.outcome t.room_after e f.3 o);
-      lists = λ echo l same f. encode (answer_error true echo.unique (say limits echo after Data (read_answer f.1 f.0)) t.room t.outcome t.room_after e f.4 o);
+      lists = λ echo l same f. encode (answer_error true echo.unique (say limits echo after (Data l.size) (read_answer f.1 f.0)) t.room t.outcome t.room_after e f.4 o);
     })
     (λ a p f. elim f as (λ x. MayAnswer e) [ inl g ↦ p g | inr g ↦ of_error OutOfMemory e t.outcome g.1.0 o tt ])
     limits options (length t.room) t.request refl
@@ -134,7 +134,7 @@ module _ (limits : Limits) (options after : ℕ) (t : Turn) (lacks : t.outcome �
     version = λ f. absurd (let a = bytes_error (body_reply (bytes_of init_out version_out) unique) t.room t.outcome t.room_after OutOfMemory f.1 lacks in cc);
     nothing = λ f. absurd (let a = sym f.1.0 ∙ lacks in cc);
     asks = λ echo c same f. absurd (let a = answer_error (is_open (kind_of c)) echo.unique (say limits echo after (kind_of c) f.0) t.room t.outcome t.room_after OutOfMemory f.3 lacks in cc);
-    lists = λ echo l same f. absurd (let a = answer_error true echo.unique (say limits echo after Data (read_answer f.1 f.0)) t.room t.outcome t.room_after OutOfMemory f.4 lacks in cc);
+    lists = λ echo l same f. absurd (let a = answer_error true echo.unique (say limits echo after (Data l.size) (read_answer f.1 f.0)) t.room t.outcome t.room_after OutOfMemory f.4 lacks in cc);
   }
 
   is_ok : {A : Type 0} (r : Result A Error) (x : A) → r ≡ Ok x → IsOk r
@@ -226,7 +226,7 @@ enough_memory limits options after t f o =
       version = λ f. absurd (let a = bytes_error (body_reply (bytes_of init_out version_out) u) t.room t.outcome t.room_after OutOfMemory f.1 o in cc);
       nothing = λ f. absurd (let a = sym f.1.0 ∙ o in cc);
       asks = λ echo c same f. absurd (let a = answer_error (is_open (kind_of c)) echo.unique (say limits echo after (kind_of c) f.0) t.room t.outcome t.room_after OutOfMemory f.3 o in cc);
-      lists = λ echo l same f. absurd (let a = answer_error true echo.unique (say limits echo after Data (read_answer f.1 f.0)) t.room t.outcome t.room_after OutOfMemory f.4 o in cc);
+      lists = λ echo l same f. absurd (let a = answer_error true echo.unique (say limits echo after (Data l.size) (read_answer f.1 f.0)) t.room t.outcome t.room_after OutOfMemory f.4 o in cc);
     })
     (λ a p f. elim f as (λ x. MayRefuse OutOfMemory) [ inl g ↦ p g | inr g ↦ absurd g.0 ])
     limits options (length t.room) t.request refl f
@@ -335,8 +335,8 @@ begins limits options after n t f o some =
           (answer_begins (is_open (kind_of c)) echo.unique (say limits echo after (kind_of c) f.0) t.room t.outcome t.room_after n
           (answers_are_short limits echo after (kind_of c) f.0 f.2) f.3 o some);
       lists = λ echo l same f. subst (λ (v : ℕ). BeginsWithHeader n v t.room_after) same
-          (answer_begins true echo.unique (say limits echo after Data (read_answer f.1 f.0)) t.room t.outcome t.room_after n
-          (answers_are_short limits echo after Data (read_answer f.1 f.0) f.3) f.4 o some);
+          (answer_begins true echo.unique (say limits echo after (Data l.size) (read_answer f.1 f.0)) t.room t.outcome t.room_after n
+          (answers_are_short limits echo after (Data l.size) (read_answer f.1 f.0) f.3) f.4 o some);
     })
     (λ a p f. elim f as (λ x. BeginsWithHeader n u t.room_after) [ inl g ↦ p g | inr g ↦ absurd (let a = sym g.1.0 ∙ o in cc) ])
     limits options (length t.room) t.request refl f

@@ -264,7 +264,7 @@ abbrev pub say : Limits → Echo → (options : ℕ) → Kind → Answer → Say
 say limits echo options Quiet answer = say_quiet answer
 say limits echo options Told answer = say_done answer
 say limits echo options Untold answer = say_fault answer
-say limits echo options Data answer = say_bytes answer
+say limits echo options (Data size) answer = say_bytes answer
 say limits echo options Agreements answer = say_init limits echo.max_readahead options answer
 say limits echo options Entries answer = say_entry answer
 say limits echo options TimedAttributes answer = say_attr answer
@@ -280,7 +280,7 @@ say limits echo options Faults answer = say_fault_alone answer
 
 -- the kinds behind whose replies the room is open
 abbrev pub is_open : Kind → Bool
-is_open Data = true
+is_open (Data size) = true
 is_open _ = false
 
 -- The reply to a call of this kind with this answer, where these are the options after it.

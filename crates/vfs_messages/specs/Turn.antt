@@ -38,8 +38,8 @@ Follows w limits options (Asks echo call) after =
     × (after ≡ options_after call answer options)
 Follows w limits options (Lists echo listing) after =
     (records : List ℕ) × (answer : Result ℕ (Option ℕ)) × w.listed listing records answer
-    × IsAnswer Data (read_answer answer records)
-    × w.replied (reply_of limits echo after Data (read_answer answer records))
+    × IsAnswer (Data listing.size) (read_answer answer records)
+    × w.replied (reply_of limits echo after (Data listing.size) (read_answer answer records))
     × (after ≡ options)
 Follows w limits options (Copies rest) after =
     Follows w limits options rest after

@@ -280,7 +280,7 @@ pub fn reply_data(
         PutsBehindHeader old bytes w.old → Counts answer bytes size →
         Replies (said_open unique (say_bytes (read_answer answer bytes))) old result w.new }
     ensures kind { (bytes : List ℕ) (size : ℕ) → Counts answer bytes size →
-        IsAnswer Data (read_answer answer bytes) }
+        IsAnswer (Data size) (read_answer answer bytes) }
 {
     match answer {
         Ok(count) => reply_readdir(count, unique, w),

@@ -80,7 +80,7 @@ module _ {S I : Type 0} (allows : S → Call → Handed I → S → Type 0) (giv
       let c = came (reply_of old.limits echo new.options (kind_of call) h.0) writer writer_after outcome h.3 in
       record { run = (Calls call h.0, new.fs) ∷ []; room_after = c.room_after; is_run = (h.1, refl); leaves = c.leaves; follows = (h.0, refl, h.2, c.says, h.4); no_hold = c.no_hold }
   follow wanted (Lists echo l) h =
-      let c = came (reply_of old.limits echo new.options Data (read_answer h.1 h.0)) writer writer_after outcome h.4 in
+      let c = came (reply_of old.limits echo new.options (Data l.size) (read_answer h.1 h.0)) writer writer_after outcome h.4 in
       record { run = h.2.run; room_after = c.room_after; is_run = h.2.is_run; leaves = c.leaves; follows = (h.0, h.1, h.2.is_read, h.3, c.says, h.5); no_hold = c.no_hold }
   follow wanted (Copies rest) (inl h) =
       let f = follow wanted rest h in
