@@ -1,0 +1,187 @@
+#!/usr/bin/env bash
+# Holds README.md, NOTICE.md and docs/*.md against the repository, as far as a script can.
+#
+# Usage: tools/documents.sh
+# It prints each fault with its file and line, and ends with their count. Status 0: there is none.
+#
+#   links               the file is there, and so is the heading behind a `#`
+#   `NAME` (`FILE:N`)   the definition of NAME begins in line N of the file
+#   files and folders   are there; a part of a path, as `Ask.antt`, in the folder or crate that was
+#                       named last in the same line, else in the crates of the heading above
+#   names of code       stand in the sources. DIFFERENCES.md also has those of the Rust
+#   tables of edits     functions and clauses are of the heading's crates; so are the edits, or of a
+#                       crate that is named beside them; and no edit of the repository is left out
+#   blocks              one of Rust stands, as it is, in the file that the comment above it names,
+#                       <!-- FILE -->; of another block with such a comment each line does
+#   commands            a path that begins an indented line is a file that can be run
+#   the toolchain       its line is that of `rt version`
+set -eu
+cd "$(dirname "$0")/.."
+
+kit=$(rt version) exec python3 - <<'PYTHON'
+import glob, os, re, sys
+
+DOCUMENTS = ["README.md", "NOTICE.md", *sorted(glob.glob("docs/*.md"))]
+# Where no crate is named in PROTOCOL.md, it is this one, as that page says.
+CRATES = {"docs/PROTOCOL.md": ["vfs_messages"]}
+CODE = re.compile(r"`([^`]+)`")
+PLACE = re.compile(r"`([^`]+)` \(`([^`]+):(\d+)`\)")
+ENDING = re.compile(r"\.(rt|antt|edit|md|sh|rs|c|txt|svg|tsv)$")
+# virtiofsd's files, and the kernel's header.
+OUTSIDE = re.compile(r"(src/)?(fuse|descriptor_utils|filesystem|server)\.rs|fuse\.h")
+KEYWORDS = "fn|trait|struct|enum|const|mod|impl|abbrev pub|record|data"
+DEFINITION = re.compile(rf"\b(?:{KEYWORDS}) (?=(\w+))")
+CLAUSE = re.compile(r"\b(?:ensures|requires|ghost) (?=(\w+))")
+
+
+def read(path):
+    with open(path, encoding="utf-8") as file:
+        return file.read()
+
+
+paths = set()
+for folder, folders, files in os.walk("."):
+    folders[:] = [name for name in folders if name not in (".git", "out")]
+    paths |= {os.path.normpath(os.path.join(folder, name)) for name in folders + files}
+sources = {path: read(path) for path in paths if re.search(r"\.(rt|antt|sh|rs|c)$", path)}
+CRATE_NAMES = set(os.listdir("crates"))
+words = {word for text in [*paths, *sources.values()] for word in re.findall(r"\w+", text)}
+definitions = {path: set(DEFINITION.findall(text)) for path, text in sources.items()}
+clauses = {path: set(CLAUSE.findall(text)) for path, text in sources.items()}
+# Definitions and laws, which a row of any crate may name.
+stated = {name for path, found in definitions.items() if re.search(r"/specs/|laws\.rt$", path)
+          for name in found}
+edits = {(path.split("/")[1], path.split("/")[3][:-5]) for path in paths if path.endswith(".edit")}
+named_edits = set()
+faults = []
+
+
+def anchors(document):
+    headings = re.findall(r"^#+ (.*)", read(document), re.M)
+    return {re.sub(r"[^\w\- ]", "", heading.lower()).replace(" ", "-") for heading in headings}
+
+
+def check_link(fault, document, target):
+    path, _, anchor = target.partition("#")
+    path = os.path.normpath(os.path.join(os.path.dirname(document), path)) if path else document
+    if path not in paths:
+        fault(f"there is no file {path}")
+    elif anchor and anchor not in anchors(path):
+        fault(f"{path} has no heading for #{anchor}")
+
+
+def check_place(fault, name, path, number):
+    """Whether the definition of a name begins in this line."""
+    name = name.split("::")[-1]
+    begins = re.compile(rf" *(pub )?({KEYWORDS}) {name}\b")
+    lines = sources.get(path, "").split("\n")
+    places = [at for at, line in enumerate(lines, 1) if begins.match(line)]
+    if number not in places:
+        fault(f"{name} does not begin at {path}:{number}, but at {places or 'no line'}")
+
+
+def check_path(fault, document, path, beside):
+    """Answers in which folders a part of a path is looked for behind this one."""
+    pattern = re.sub(r"\b(CRATE|NAME)\b", "*", path).rstrip("/")
+    for full in (pattern, f"crates/{pattern}", os.path.join(os.path.dirname(document), pattern)):
+        if glob.glob(full):
+            return [os.path.dirname(full) + "/"] if "/" in path and "*" not in full else beside
+    found = [full for full in paths if full.endswith("/" + pattern)]
+    if not any(full.startswith(folder) for full in found for folder in beside):
+        fault(f"there is no {path} in {' or '.join(beside) or 'any folder'}")
+    return beside
+
+
+def check_row(fault, crates, functions, guards):
+    """A row of a table of edits, for these crates: its second and its third column."""
+    here = " and ".join(crates)
+    own = {path for path in sources if path.startswith("crates/") and path.split("/")[1] in crates}
+    files = own
+    for code in re.findall(r"`([^`]+)`|;", functions):
+        owner, _, name = code.rpartition("::")
+        if not code:
+            files = own
+        elif re.search(r"\W", name):
+            own_words = {word for path in own for word in re.findall(r"\w+", sources[path])}
+            known = own_words.issuperset(re.findall(r"\w+", code))
+        elif owner:
+            # Clauses behind it are those of the files that have the function.
+            files = {path for path in own if re.search(rf"\b{owner}\b", path + sources[path])
+                     and (name in definitions[path] or path.endswith(f"/{name}.rt"))} or own
+            known = files is not own
+        else:
+            known = name in stated or any(name in clauses[p] | definitions[p] for p in files)
+        if code and not known and code not in CRATE_NAMES:
+            fault(f"{here}: no {code} here")
+    named = CODE.findall(guards)
+    for code in named:
+        found = {(crate, code) for crate in [*crates, *named]} & edits
+        named_edits.update(found)
+        function = any(code.rpartition("::")[2] in definitions[path] for path in own)
+        if not found and not function and code not in CRATE_NAMES:
+            fault(f"{here}: no edit {code} here")
+
+
+def check_line(fault, document, crates, line):
+    cells = [cell.strip() for cell in line.strip().strip("|").split("|")]
+    if document == "docs/PROOFS.md" and crates and len(cells) == 3:
+        check_row(fault, crates, cells[1], cells[2])
+    for target in re.findall(r"\]\(([^)\s:]+)\)", line):
+        check_link(fault, document, target)
+    for name, path, number in PLACE.findall(line):
+        check_place(fault, name, path, int(number))
+    beside = [f"crates/{crate}/" for crate in crates] or [""]
+    for code in CODE.findall(line):
+        path = re.sub(r":\d+$", "", code)
+        if code in CRATE_NAMES:
+            beside = [f"crates/{code}/"]
+        elif re.fullmatch(r"[\w./*-]+", path) and ("/" in path or ENDING.search(path)):
+            if not OUTSIDE.fullmatch(path):
+                beside = check_path(fault, document, path, beside)
+        elif re.fullmatch(r"[A-Za-z_]\w*(::\w+)*", code) and document != "docs/DIFFERENCES.md":
+            for word in code.split("::"):
+                if word not in words:
+                    fault(f"no source has the name {word}")
+        elif code.startswith("rattle-kit") and code != os.environ["kit"]:
+            fault(f"the line of rt version is {os.environ['kit']}")
+
+
+def check_block(fault, language, comment, block):
+    path = (re.fullmatch(r"<!-- (\S+) -->", comment) or [None, None])[1]
+    if path and path not in paths:
+        fault(f"there is no file {path}")
+    elif path and language == "rust" and block not in read(path):
+        fault(f"{path} has no such piece of code")
+    elif path:
+        for line in set(block.splitlines()) - set(read(path).splitlines()):
+            fault(f"{path} has no line {line}")
+    elif language:
+        fault("no comment <!-- FILE --> above this block says where it stands")
+
+
+for document in DOCUMENTS:
+    crates, comment, block = CRATES.get(document, []), "", None
+    for number, line in enumerate(read(document).splitlines(), 1):
+        fault = lambda text, at=f"{document}:{number}": faults.append(f"{at}: {text}")
+        if line.startswith("```") and block is None:
+            block, opened, language = "", fault, line[3:]
+        elif line.startswith("```"):
+            check_block(opened, language, comment, block)
+            block = None
+        elif block is not None:
+            block += line + "\n"
+        elif line.startswith("    "):
+            command = line.split()[0]
+            if "/" in command and not os.access(command, os.X_OK):
+                fault(f"{command} is no file that can be run")
+        else:
+            if line.startswith("#"):
+                crates = re.findall(r"\bvfs_\w+", line) or CRATES.get(document, [])
+            check_line(fault, document, crates, line)
+            comment = line
+for crate, edit in sorted(edits - named_edits):
+    faults.append(f"docs/PROOFS.md: no row names the edit {edit} of {crate}")
+
+print("\n".join([*faults, f"{len(DOCUMENTS)} documents, {len(faults)} faults"]))
+sys.exit(1 if faults else 0)
+PYTHON
