@@ -6,6 +6,7 @@
 #
 #   links               the file is there, and so is the heading behind a `#`
 #   `NAME` (`FILE:N`)   the definition of NAME begins in line N of the file
+#   `NAME`, `FILE`      the file defines NAME; several names may stand before it
 #   files and folders   are there; a part of a path, as `Ask.antt`, in the folder or crate that was
 #                       named last in the same line, else in the crates of the heading above
 #   names of code       stand in the sources. DIFFERENCES.md also has those of the Rust
@@ -25,6 +26,7 @@ DOCUMENTS = ["README.md", "NOTICE.md", *sorted(glob.glob("docs/*.md"))]
 # Where no crate is named in PROTOCOL.md, it is this one, as that page says.
 CRATES = {"docs/PROTOCOL.md": ["vfs_messages"]}
 CODE = re.compile(r"`([^`]+)`")
+NAMED = re.compile(r"((?:`[\w:]+`, )+)`([\w./]+\.(?:rt|antt))`")
 PLACE = re.compile(r"`([^`]+)` \(`([^`]+):(\d+)`\)")
 ENDING = re.compile(r"\.(rt|antt|edit|md|sh|rs|c|txt|svg|tsv)$")
 # virtiofsd's files, and the kernel's header.
@@ -111,7 +113,7 @@ def check_row(fault, crates, functions, guards):
             known = files is not own
         else:
             known = name in stated or any(name in clauses[p] | definitions[p] for p in files)
-        if code and not known and code not in CRATE_NAMES:
+        if code and not known and code not in CRATE_NAMES and not ENDING.search(code):
             fault(f"{here}: no {code} here")
     named = CODE.findall(guards)
     for code in named:
@@ -128,6 +130,11 @@ def check_line(fault, document, crates, line):
         check_row(fault, crates, cells[1], cells[2])
     for target in re.findall(r"\]\(([^)\s:]+)\)", line):
         check_link(fault, document, target)
+    for listed, path in NAMED.findall(line):
+        texts = [text for full, text in sources.items() if f"/{full}".endswith(f"/{path}")]
+        for name in re.findall(r"(\w+)`", listed):
+            if not any(re.search(rf"^ *([\w()]+ )*{name}\b", text, re.M) for text in texts):
+                fault(f"{path} defines no {name}")
     for name, path, number in PLACE.findall(line):
         check_place(fault, name, path, int(number))
     beside = [f"crates/{crate}/" for crate in crates] or [""]
@@ -172,7 +179,7 @@ for document in DOCUMENTS:
             block += line + "\n"
         elif line.startswith("    "):
             command = line.split()[0]
-            if "/" in command and not os.access(command, os.X_OK):
+            if re.match(r"[\w.]+/", command) and not os.access(command, os.X_OK):
                 fault(f"{command} is no file that can be run")
         else:
             if line.startswith("#"):
