@@ -1,6 +1,6 @@
 //! Numbers of the protocol by name: calls of this crate, each with a fact that its contracts give.
 
-ghost use Rattle.std.specs.Prelude.{◌≡◌, ◌↔◌, [], ◌∷◌, pos, ◌-ℤ◌, Some, None, IsTrue};
+ghost use Rattle.std.specs.Prelude.{◌≡◌, ◌↔◌, [], ◌∷◌, pos, ◌-ℤ◌, ◌<ℤ◌, Some, None, IsTrue};
 ghost use Rattle.vfs_flags.specs.Errors.{eperm, enoent, eio, ebadf, enomem, eacces, eexist, exdev, enotdir, eisdir, einval, enospc, erofs, erange, enosys, enotempty, enodata, eproto, eoverflow, eopnotsupp};
 ghost use Rattle.vfs_flags.specs.Flags.{fs_options_bits, init_ext, setxattr_ext, security_ctx, create_supp_group, supported_fs_options};
 
@@ -90,9 +90,10 @@ pub fn no_error() -> Option<Errno>
     Errno::new(0)
 }
 
-/// The number of an error, as the header of a reply carries it.
+/// The number of an error, as the header of a reply carries it: below 0.
 pub fn negated(e: Errno) -> i32
-    ensures { result ≡ pos 0 -ℤ pos e }
+    ensures value { result ≡ pos 0 -ℤ pos e }
+    ensures below { result <ℤ pos 0 }
 {
     -e.get()
 }

@@ -1,6 +1,6 @@
 //! Flag sets compared, hashed, joined and cut to what is known: by their bits.
 
-ghost use Rattle.std.specs.Prelude.{◌≡◌, ◌<◌, ◌==◌, ◌↔◌, IsTrue, bit_and, bit_or, fold};
+ghost use Rattle.std.specs.Prelude.{◌≡◌, ◌<◌, ◌==◌, ◌↔◌, ◌++◌, IsTrue, bit_and, bit_or, fold};
 ghost use Rattle.std.specs.Ordering.{nat_cmp};
 ghost use Rattle.std.specs.Hash as fed;
 ghost use Rattle.std.specs.Hash.DefaultHasher as sip;
@@ -27,6 +27,31 @@ pub fn hash_of_options(a: FsOptions) -> u64
 {
     let mut state = DefaultHasher::new();
     a.hash(&mut state);
+    state.finish()
+}
+
+/// The hash of one set of each other kind, which are hashed one after another.
+pub fn hash_of_others(
+    valid: SetattrValid,
+    opened: OpenOptions,
+    ioctl: IoctlFlags,
+    setxattr: SetxattrFlags,
+    notice: NotifyInvalEntryOutFlags,
+    mapping: SetupmappingFlags,
+) -> u64
+    ensures { result ≡ sip.finish (fold sip.write sip.initial
+        (fed.u32 (setattr_valid_bits valid) ++ fed.u32 (open_options_bits opened)
+        ++ fed.u32 (ioctl_flags_bits ioctl) ++ fed.u32 (setxattr_flags_bits setxattr)
+        ++ fed.u32 (notify_inval_entry_out_flags_bits notice)
+        ++ fed.u64 (setupmapping_flags_bits mapping))) }
+{
+    let mut state = DefaultHasher::new();
+    valid.hash(&mut state);
+    opened.hash(&mut state);
+    ioctl.hash(&mut state);
+    setxattr.hash(&mut state);
+    notice.hash(&mut state);
+    mapping.hash(&mut state);
     state.finish()
 }
 
@@ -95,6 +120,23 @@ pub fn lower_setattr_valid(a: SetattrValid, b: SetattrValid) -> bool
     a < b
 }
 
+/// The order of two sets of attributes that a SETATTR changes.
+pub fn order_of_setattr_valid(a: SetattrValid, b: SetattrValid) -> Ordering
+    ensures { result ≡ nat_cmp (setattr_valid_bits a) (setattr_valid_bits b) }
+{
+    a.cmp(&b)
+}
+
+/// The union of two sets of attributes that a SETATTR changes, and their intersection.
+pub fn joined_setattr_valid(a: SetattrValid, b: SetattrValid) -> (SetattrValid, SetattrValid)
+    ensures either { setattr_valid_bits result.0
+        ≡ bit_or (setattr_valid_bits a) (setattr_valid_bits b) }
+    ensures both { setattr_valid_bits result.1
+        ≡ bit_and (setattr_valid_bits a) (setattr_valid_bits b) }
+{
+    (a | b, a & b)
+}
+
 /// The attributes that a SETATTR changes among these bits.
 #[tactic(auto, unfolding(bitflags::proofs::OnLiterals::bitflags_on_literals))]
 pub fn setattr_valid_among(bits: u32) -> SetattrValid
@@ -115,6 +157,23 @@ pub fn lower_open_options(a: OpenOptions, b: OpenOptions) -> bool
     ensures { IsTrue result ↔ (open_options_bits a < open_options_bits b) }
 {
     a < b
+}
+
+/// The order of two sets of properties of an open file.
+pub fn order_of_open_options(a: OpenOptions, b: OpenOptions) -> Ordering
+    ensures { result ≡ nat_cmp (open_options_bits a) (open_options_bits b) }
+{
+    a.cmp(&b)
+}
+
+/// The union of two sets of properties of an open file, and their intersection.
+pub fn joined_open_options(a: OpenOptions, b: OpenOptions) -> (OpenOptions, OpenOptions)
+    ensures either { open_options_bits result.0
+        ≡ bit_or (open_options_bits a) (open_options_bits b) }
+    ensures both { open_options_bits result.1
+        ≡ bit_and (open_options_bits a) (open_options_bits b) }
+{
+    (a | b, a & b)
 }
 
 /// The properties of an open file among these bits.
@@ -139,6 +198,23 @@ pub fn lower_ioctl_flags(a: IoctlFlags, b: IoctlFlags) -> bool
     a < b
 }
 
+/// The order of two sets of flags of an IOCTL.
+pub fn order_of_ioctl_flags(a: IoctlFlags, b: IoctlFlags) -> Ordering
+    ensures { result ≡ nat_cmp (ioctl_flags_bits a) (ioctl_flags_bits b) }
+{
+    a.cmp(&b)
+}
+
+/// The union of two sets of flags of an IOCTL, and their intersection.
+pub fn joined_ioctl_flags(a: IoctlFlags, b: IoctlFlags) -> (IoctlFlags, IoctlFlags)
+    ensures either { ioctl_flags_bits result.0
+        ≡ bit_or (ioctl_flags_bits a) (ioctl_flags_bits b) }
+    ensures both { ioctl_flags_bits result.1
+        ≡ bit_and (ioctl_flags_bits a) (ioctl_flags_bits b) }
+{
+    (a | b, a & b)
+}
+
 /// The flags of an IOCTL among these bits.
 #[tactic(auto, unfolding(bitflags::proofs::OnLiterals::bitflags_on_literals))]
 pub fn ioctl_flags_among(bits: u32) -> IoctlFlags
@@ -159,6 +235,23 @@ pub fn lower_setxattr_flags(a: SetxattrFlags, b: SetxattrFlags) -> bool
     ensures { IsTrue result ↔ (setxattr_flags_bits a < setxattr_flags_bits b) }
 {
     a < b
+}
+
+/// The order of two sets of further flags of a SETXATTR.
+pub fn order_of_setxattr_flags(a: SetxattrFlags, b: SetxattrFlags) -> Ordering
+    ensures { result ≡ nat_cmp (setxattr_flags_bits a) (setxattr_flags_bits b) }
+{
+    a.cmp(&b)
+}
+
+/// The union of two sets of further flags of a SETXATTR, and their intersection.
+pub fn joined_setxattr_flags(a: SetxattrFlags, b: SetxattrFlags) -> (SetxattrFlags, SetxattrFlags)
+    ensures either { setxattr_flags_bits result.0
+        ≡ bit_or (setxattr_flags_bits a) (setxattr_flags_bits b) }
+    ensures both { setxattr_flags_bits result.1
+        ≡ bit_and (setxattr_flags_bits a) (setxattr_flags_bits b) }
+{
+    (a | b, a & b)
 }
 
 /// The further flags of a SETXATTR among these bits.
@@ -191,6 +284,29 @@ pub fn lower_notify_inval_entry_out_flags(
     a < b
 }
 
+/// The order of two sets of flags of the notice that a name is out of date.
+pub fn order_of_notify_inval_entry_out_flags(
+    a: NotifyInvalEntryOutFlags,
+    b: NotifyInvalEntryOutFlags,
+) -> Ordering
+    ensures { result ≡ nat_cmp (notify_inval_entry_out_flags_bits a) (notify_inval_entry_out_flags_bits b) }
+{
+    a.cmp(&b)
+}
+
+/// The union of two sets of flags of the notice that a name is out of date, and their intersection.
+pub fn joined_notify_inval_entry_out_flags(
+    a: NotifyInvalEntryOutFlags,
+    b: NotifyInvalEntryOutFlags,
+) -> (NotifyInvalEntryOutFlags, NotifyInvalEntryOutFlags)
+    ensures either { notify_inval_entry_out_flags_bits result.0
+        ≡ bit_or (notify_inval_entry_out_flags_bits a) (notify_inval_entry_out_flags_bits b) }
+    ensures both { notify_inval_entry_out_flags_bits result.1
+        ≡ bit_and (notify_inval_entry_out_flags_bits a) (notify_inval_entry_out_flags_bits b) }
+{
+    (a | b, a & b)
+}
+
 /// The flags of the notice that a name is out of date among these bits.
 #[tactic(auto, unfolding(bitflags::proofs::OnLiterals::bitflags_on_literals))]
 pub fn notify_inval_entry_out_flags_among(bits: u32) -> NotifyInvalEntryOutFlags
@@ -212,6 +328,26 @@ pub fn lower_setupmapping_flags(a: SetupmappingFlags, b: SetupmappingFlags) -> b
     ensures { IsTrue result ↔ (setupmapping_flags_bits a < setupmapping_flags_bits b) }
 {
     a < b
+}
+
+/// The order of two sets of rights of a mapping.
+pub fn order_of_setupmapping_flags(a: SetupmappingFlags, b: SetupmappingFlags) -> Ordering
+    ensures { result ≡ nat_cmp (setupmapping_flags_bits a) (setupmapping_flags_bits b) }
+{
+    a.cmp(&b)
+}
+
+/// The union of two sets of rights of a mapping, and their intersection.
+pub fn joined_setupmapping_flags(
+    a: SetupmappingFlags,
+    b: SetupmappingFlags,
+) -> (SetupmappingFlags, SetupmappingFlags)
+    ensures either { setupmapping_flags_bits result.0
+        ≡ bit_or (setupmapping_flags_bits a) (setupmapping_flags_bits b) }
+    ensures both { setupmapping_flags_bits result.1
+        ≡ bit_and (setupmapping_flags_bits a) (setupmapping_flags_bits b) }
+{
+    (a | b, a & b)
 }
 
 /// The rights of a mapping among these bits.
