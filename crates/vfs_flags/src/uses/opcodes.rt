@@ -1,6 +1,6 @@
 //! Numbers of requests and of extensions, and what they stand for.
 
-ghost use Rattle.std.specs.Prelude.{◌≡◌, ◌≤◌, [], ◌∷◌, IsErr, Ok, Some};
+ghost use Rattle.std.specs.Prelude.{◌≡◌, [], ◌∷◌, IsErr, Ok};
 ghost use Rattle.vfs_flags.specs.Opcode.{number_of};
 
 use crate::{ExtType, NotifyOpcode, Opcode};
@@ -59,18 +59,6 @@ pub fn number(opcode: Opcode) -> u32
     ensures { result ≡ number_of opcode }
 {
     opcode as u32
-}
-
-/// A number from 20 to 51 is that of a request, whose number it is.
-pub fn number_again(n: u32) -> Option<u32>
-    requires from { 20 ≤ n }
-    requires to { n ≤ 51 }
-    ensures { result ≡ Some n }
-{
-    match Opcode::try_from(n) {
-        Ok(opcode) => Some(number(opcode)),
-        Err(()) => None,
-    }
 }
 
 /// The numbers of the notifications, and the end of their list.
