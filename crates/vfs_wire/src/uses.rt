@@ -1,15 +1,19 @@
 //! Calls of this crate, each with a fact that its contracts give.
 
-ghost use Rattle.std.specs.Prelude.{◌≡◌, [], ◌∷◌, ◌++◌, replicate, pos, negsuc, length, Ok, Err, Some};
+ghost use Rattle.std.specs.Prelude.{◌≡◌, ◌+◌, ◌≤◌, [], ◌∷◌, ◌++◌, replicate, pos, negsuc, length, Ok, Err, Some};
+ghost use Rattle.vfs_wire.specs.Fields.{bytes_of, value_of};
+ghost use Rattle.vfs_wire.specs.Headers.{out_header};
 ghost use Rattle.vfs_wire.specs.Stat.{attr_of};
 
+use crate::parts::part_at;
 use crate::{
-    Attr, ByteValued, ForgetIn, InHeader, Kstatfs, OutHeader, Stat64, Statvfs64, put_after_take,
-    take_after_put,
+    Attr, ByteValued, ForgetIn, InHeader, Kstatfs, OutHeader, Stat64, Statvfs64, bytes_have_size,
+    put_after_take, take_after_put,
 };
 use vfs_flags::{Errno, Fault, GuestGid, GuestUid};
 
 pub mod defaults;
+pub mod layouts;
 
 /// The bytes of a reply that refuses the request 9 with ENOSYS: the error is negated.
 #[tactic(auto, unfolding(crate::specs::Fields::little))]
@@ -60,6 +64,18 @@ pub fn bytes_again(bytes: &[u8], again: &mut [u8])
 {
     put_after_take::<InHeader>();
     InHeader::take(bytes).put(again);
+}
+
+/// The header of a reply that stands among other bytes: it has sixteen bytes, which are read as it
+/// again.
+pub fn reply_header_at(bytes: &[u8], at: usize) -> OutHeader
+    requires { at + 16 ≤ length bytes.now }
+    ensures size { length (bytes_of out_header result) ≡ 16 }
+    ensures again { value_of out_header (bytes_of out_header result) ≡ result }
+{
+    take_after_put::<OutHeader>();
+    bytes_have_size::<OutHeader>();
+    part_at(bytes, at)
 }
 
 /// The attributes of a file of the host, whose users and groups the guest numbers as the host does.
@@ -134,6 +150,17 @@ pub fn unmapped_user(st: Stat64) -> Result<Attr, Fault>
         st,
         |_| Err(Some(Errno::ERANGE)),
         |_| Err(Some(Errno::EPERM)),
+    )
+}
+
+/// A fault of the map of groups is the answer where the map of users gave a user.
+pub fn unmapped_group(st: Stat64) -> Result<Attr, Fault>
+    ensures { result ≡ Err (Some 34) }
+{
+    Attr::try_from_stat64(
+        st,
+        |_| Ok(GuestUid::default()),
+        |_| Err(Some(Errno::ERANGE)),
     )
 }
 

@@ -6,6 +6,7 @@ use crate::{IoctlOut, NotifyInvalInodeOut};
 use vfs_wire::ByteValued;
 
 pub mod defaults;
+pub mod layouts;
 
 /// What these bytes of a notification say: the attributes of node 1 alone are out of date, for its
 /// place is below 0.
