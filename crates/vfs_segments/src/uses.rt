@@ -1,12 +1,13 @@
 //! Examples of readers and writers. Each function makes a few calls and says what comes of them,
 //! proved by the calls' public contracts alone.
 
-ghost use Rattle.std.specs.Prelude.{◌≡◌, ◌+◌, ◌^◌, ◌<◌, ◌≤◌, ◌++◌, [], ◌∷◌, None, true, false, length, take, drop, IfOk, IfErr, MatchOption, OnOk, OnErr};
-ghost use Rattle.vfs_segments.specs.Answers.{AreAnswers, Available, Taken, Read, Count, Moved};
+ghost use Rattle.std.specs.Prelude.{◌≡◌, ◌+◌, ◌^◌, ◌<◌, ◌≤◌, ◌++◌, List, [], ◌∷◌, None, true, false, length, take, drop, IfOk, IfErr, MatchOption, OnOk, OnErr};
+ghost use Rattle.vfs_segments.specs.Answers.{Question, Answer, Answers, AreAnswers, Available, Taken, Read, ReadExact, ReadObj, Count, Moved, Filled, Fields, TooFew};
 ghost use Rattle.vfs_segments.specs.Segments.{contents, flat_bytes, lengths_of};
+ghost use Rattle.vfs_segments.specs.Unread.{Unread, IsUnread};
 ghost use Rattle.vfs_wire.specs.Fields.{bytes_of, lone_number, value_of};
 
-use crate::laws::{Counted, find_segment};
+use crate::laws::{Counted, Totals, equal_bytes_answer_alike, find_segment};
 use crate::{Error, Reader, Result, Writer};
 use std::alloc::Global;
 use std::io::{ErrorKind, Read, Write};
@@ -142,11 +143,12 @@ pub fn refused_split(reader: &mut Reader<'_>) -> Option<Error>
     reader.split_at(9).err()
 }
 
-/// What a clone reads the reader still has.
+/// What a clone reads the reader still has. Only memory can be wanting.
 pub fn read_by_a_clone(reader: &Reader<'_>, buf: &mut [u8]) -> Result<usize>
     requires { length buf.old ≤ length reader.now.left }
     ensures bytes { OnOk result (buf.new ≡ take (length buf.old) reader.now.left) }
     ensures left { IfOk result (λ n. n ≡ length reader.now.left) }
+    ensures err { IfErr result (λ e. e ≡ Error.OutOfMemory) }
 {
     let mut clone = reader.clone()?;
     clone.read_exact(buf).unwrap();
@@ -210,6 +212,51 @@ pub fn three_answers(reader: &mut Reader<'_>, buf: &mut [u8]) -> io::Result<(usi
     Ok((left, moved, taken))
 }
 
+/// Readers of three bytes, which are cut after the first or after the second, answer every list of
+/// calls alike, and then have the same bytes left.
+pub fn two_cuttings_of_three_bytes()
+    ensures { (u t v w : Unread) (questions : List Question) (answers others : List Answer) →
+        IsUnread (flat_bytes ((1 ∷ []) ∷ (2 ∷ 3 ∷ []) ∷ [])) u →
+        IsUnread (flat_bytes ((1 ∷ 2 ∷ []) ∷ (3 ∷ []) ∷ [])) t →
+        AreAnswers u questions answers v → AreAnswers t questions others w →
+        (answers ≡ others) × (v.left ≡ w.left) }
+{
+    equal_bytes_answer_alike();
+}
+
+/// A reader that is asked for its counts has answers.
+pub fn counts_have_answers()
+    ensures { (u : Unread) →
+        (answers : List Answer) × ((v : Unread) × AreAnswers u (Available ∷ Taken ∷ []) answers v) }
+{
+    equal_bytes_answer_alike();
+}
+
+/// Whether a buffer is filled, and what that answers in the words of the law.
+pub fn answer_of_a_filled_buffer(reader: &mut Reader<'_>, buf: &mut [u8]) -> bool
+    ensures filled { result ≡ true →
+        Answers reader.old (ReadExact (length buf.old)) (Filled buf.new) reader.new }
+    ensures too_few { result ≡ false →
+        Answers reader.old (ReadExact (length buf.old)) TooFew reader.new }
+{
+    match reader.read_exact(buf) {
+        Ok(()) => true,
+        Err(_) => false,
+    }
+}
+
+/// A number of two bytes, where they are left, and what that answers in the words of the law.
+pub fn answer_of_a_number(reader: &mut Reader<'_>) -> Option<u16>
+    ensures { MatchOption result
+        (Answers reader.old (ReadObj (2 ∷ [])) TooFew reader.new)
+        (λ x. Answers reader.old (ReadObj (2 ∷ [])) (Fields (x ∷ [])) reader.new) }
+{
+    match reader.read_obj() {
+        Ok(x) => Some(x),
+        Err(_) => None,
+    }
+}
+
 /// Of a reader that has five bytes left the next three are written to a journal, and two are left.
 /// Only memory for the journal can be wanting, and then both are as they were.
 pub fn three_bytes_to_a_journal(
@@ -261,7 +308,8 @@ pub fn write_of_what_fits(writer: &mut Writer, bytes: &[u8]) -> io::Result<usize
     writer.write(bytes)
 }
 
-/// Of a room of twenty bytes sixteen are held and two written: two are left.
+/// Of a room of twenty bytes sixteen are held and two written: two are left. A flush changes
+/// nothing of it.
 pub fn counts_after_a_hold(writer: &mut Writer, bytes: &[u8]) -> (usize, usize, usize)
     requires passed { writer.old.passed ≡ [] }
     requires room { length writer.old.left ≡ 20 }
@@ -272,6 +320,7 @@ pub fn counts_after_a_hold(writer: &mut Writer, bytes: &[u8]) -> (usize, usize, 
 {
     writer.hold(16).unwrap();
     writer.write_all(bytes).unwrap();
+    writer.flush().unwrap();
     (
         writer.held(),
         writer.bytes_written(),
@@ -434,18 +483,19 @@ pub fn segments_with_what_was_written(
     Ok(writer.into_segments())
 }
 
-/// Where a place lies among segments of 8, 16, 18 and 64 bytes, found by their running totals, and
-/// how many looks that took.
-pub fn place_among_four_segments(at: usize) -> (usize, u32)
+/// Where a place lies among segments of 8, 16, 18 and 64 bytes, found by their running totals, how
+/// many looks that took, and how many totals there are still.
+pub fn place_among_four_segments(at: usize) -> (usize, u32, usize)
     ensures begin { at ≡ 0 → result.0 ≡ 0 }
     ensures second { at ≡ 8 → result.0 ≡ 1 }
     ensures last { at ≡ 64 → result.0 ≡ 3 }
     ensures end { at ≡ 106 → result.0 ≡ 4 }
     ensures looks { result.1 ≤ 3 }
+    ensures totals { result.2 ≡ 4 }
 {
     let mut totals = Counted::new(&[8, 24, 42, 106]);
     let segment = find_segment(&mut totals, at);
-    (segment, totals.looks())
+    (segment, totals.looks(), totals.count())
 }
 
 /// An empty segment is passed over: the place behind the first of segments of 8, 0 and 16 bytes lies

@@ -289,7 +289,8 @@ pub fn order_of_notify_inval_entry_out_flags(
     a: NotifyInvalEntryOutFlags,
     b: NotifyInvalEntryOutFlags,
 ) -> Ordering
-    ensures { result ≡ nat_cmp (notify_inval_entry_out_flags_bits a) (notify_inval_entry_out_flags_bits b) }
+    ensures { result ≡
+        nat_cmp (notify_inval_entry_out_flags_bits a) (notify_inval_entry_out_flags_bits b) }
 {
     a.cmp(&b)
 }
