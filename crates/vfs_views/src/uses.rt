@@ -1,7 +1,7 @@
 //! Two small files, and views that are lent to them. What each function ensures follows from public
 //! contracts alone.
 
-ghost use Rattle.std.specs.Prelude.{◌≡◌, ◌+◌, ◌<◌, ◌≤◌, ◌++◌, ℕ, List, [], length, take, drop, IfOk, IfErr, MatchResult, OnOk, OnErr, Ok, Some, replicate};
+ghost use Rattle.std.specs.Prelude.{◌≡◌, ◌+◌, ◌-◌, ◌<◌, ◌≤◌, ◌++◌, ℕ, List, [], length, take, drop, IfOk, IfErr, MatchResult, OnOk, OnErr, Ok, Some, replicate, slice_index_or};
 ghost use Rattle.std.specs.List.{concat};
 ghost use Rattle.vfs_views.specs.Segments.{contents, flat_bytes, lengths_of, with_bytes_at};
 ghost use Rattle.vfs_views.specs.Views.{IsSpan, pieces_of, room_of};
@@ -73,6 +73,22 @@ impl PositionedFile for Zeros {
         }
         Ok(view.total())
     }
+}
+
+/// The last piece of what is lent to be read. There always is one.
+pub fn last_piece<'s>(view: &Slices<'s>) -> &'s [u8]
+    ensures { result.now ≡ slice_index_or view.now (length view.now - 1) [] }
+{
+    view.get(view.count() - 1)
+}
+
+/// How many bytes the last piece of the room that is lent has. There always is one.
+pub fn last_room(view: &mut SlicesMut<'_>) -> usize
+    ensures { result ≡
+        length (slice_index_or view.old.pieces (length view.old.pieces - 1) []) }
+{
+    let last = view.count() - 1;
+    view.get_mut(last).len()
 }
 
 /// Of two segments of two bytes the middle two bytes are written to the journal: the last of the
