@@ -37,9 +37,16 @@ fn wrong_error() -> Option<i32> {
     None
 }
 
+/// The numbers of no error, from 0 down.
+const NO_ERRORS: [i32; 3] = [0, -1, i32::MIN];
+
 #[test]
 fn error_numbers(rt: HostRuntime) {
     assert!(rt; wrong_error().is_none());
+    for n in NO_ERRORS {
+        assert!(rt; Errno::new(n).is_none(), "at {n}");
+    }
+    assert!(rt; matches!(Errno::new(i32::MAX), Some(e) if e.get() == i32::MAX));
 }
 
 /// An id of each kind that is made of a number, as a number again.

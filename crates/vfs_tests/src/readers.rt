@@ -205,14 +205,21 @@ fn answers_so(reader: &mut Reader<'_>, rows: &[ReadRow]) -> Result<bool, Error> 
 }
 
 /// The lengths of a reader's segments, and its calls.
-static READS: [(&[usize], &[ReadRow]); 22] = [
+static READS: [(&[usize], &[ReadRow]); 23] = [
     (
         &[8, 16, 18, 64],
         &[
             (ReadCall::UpTo(0), Ok(0), (106, 0)),
-            (ReadCall::UpTo(64), Ok(64), (42, 64)),
+            (ReadCall::All(64), Ok(64), (42, 64)),
             (ReadCall::UpTo(64), Ok(42), (0, 106)),
             (ReadCall::UpTo(64), Ok(0), (0, 106)),
+        ],
+    ),
+    (
+        &[8, 16, 18, 64],
+        &[
+            (ReadCall::UpTo(64), Ok(64), (42, 64)),
+            (ReadCall::All(64), Err(ErrorKind::UnexpectedEof), (0, 106)),
         ],
     ),
     (

@@ -118,13 +118,25 @@ type WriteTest = (
     &'static [&'static [u8]],
 );
 
-static WRITES: [WriteTest; 12] = [
+static WRITES: [WriteTest; 13] = [
     (
         &[8, 16, 18, 64],
         &[
             (WriteCall::UpTo(&[]), Ok(0), (106, 0, 0)),
-            (WriteCall::UpTo(&[7; 64]), Ok(64), (42, 64, 0)),
+            (WriteCall::All(&[7; 64]), Ok(64), (42, 64, 0)),
             (WriteCall::UpTo(&[7; 64]), Ok(42), (0, 106, 0)),
+        ],
+        &[&[7; 8], &[7; 16], &[7; 18], &[7; 64]],
+    ),
+    (
+        &[8, 16, 18, 64],
+        &[
+            (WriteCall::UpTo(&[7; 64]), Ok(64), (42, 64, 0)),
+            (
+                WriteCall::All(&[7; 64]),
+                Err(ErrorKind::WriteZero),
+                (0, 106, 0),
+            ),
         ],
         &[&[7; 8], &[7; 16], &[7; 18], &[7; 64]],
     ),
@@ -390,6 +402,24 @@ fn slices_of(alloc: Global, segments: &[Vec<u8>]) -> Result<Vec<&[u8]>, AllocErr
         slices.push(segment.as_slice())?;
     }
     Ok(slices)
+}
+
+/// What is read of four segments of one byte that a number was written over.
+fn number_again(alloc: Global, x: u32) -> Result<Option<u32>, Error> {
+    let mut writer = writer_over(alloc, &[1, 1, 1, 1])?;
+    if writer.write_obj(x).is_err() {
+        return Ok(None);
+    }
+    let segments = writer.into_segments();
+    let slices = slices_of(alloc, &segments)?;
+    let mut reader = Reader::new(alloc, &slices)?;
+    Ok(reader.read_obj().ok())
+}
+
+#[test]
+fn a_number_over_four_segments_comes_back(rt: HostRuntime) -> Result<(), Fail> {
+    assert!(rt; number_again(rt.alloc(), 0x1234_5678)? == Some(0x1234_5678));
+    Ok(())
 }
 
 /// Whether a clone of a reader reads all bytes into a buffer of as many.

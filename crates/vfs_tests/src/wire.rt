@@ -62,6 +62,23 @@ fn a_reply_header_with_a_negated_error(rt: HostRuntime) {
 }
 
 #[test]
+fn the_first_record_of_init(rt: HostRuntime) {
+    let record = InitInCompat {
+        major: 7,
+        minor: 38,
+        max_readahead: 131_072,
+        flags: 0xffff_ffff,
+    };
+    let want = [
+        7, 0, 0, 0, 0x26, 0, 0, 0, 0, 0, 2, 0, 0xff, 0xff, 0xff, 0xff,
+    ];
+    assert!(rt; is_written_as(&record, &want));
+    let read = InitInCompat::take(&want);
+    assert!(rt; (read.major, read.minor) == (7, 38));
+    assert!(rt; (read.max_readahead, read.flags) == (131_072, 0xffff_ffff));
+}
+
+#[test]
 fn an_init_reply(rt: HostRuntime) {
     let reply = InitOut {
         major: 7,
@@ -83,6 +100,18 @@ fn an_init_reply(rt: HostRuntime) {
         0, 5, 0, 0, 0, 6, 0, 0, 0, 7, 0, 0, 0,
     ];
     assert!(rt; is_written_as(&reply, &want));
+}
+
+#[test]
+fn a_pair_of_what_is_forgotten(rt: HostRuntime) {
+    let pair = ForgetOne {
+        nodeid: 1,
+        nlookup: 2,
+    };
+    let want = [1, 0, 0, 0, 0, 0, 0, 0, 2, 0, 0, 0, 0, 0, 0, 0];
+    assert!(rt; is_written_as(&pair, &want));
+    let read = ForgetOne::take(&want);
+    assert!(rt; (read.nodeid, read.nlookup) == (1, 2));
 }
 
 fn odd_attributes() -> Attr {
