@@ -1,3 +1,4 @@
 pub mod Putting
 pub mod Filling
 pub mod SmallCallers
+pub mod WholeCallers
