@@ -7,6 +7,7 @@ pub mod Asking
 pub mod Bodies
 pub mod Turns
 pub mod Directories
+pub mod DirectoryCallers
 pub mod Examples
 mod Blocks
 mod BlockLaws

@@ -11,3 +11,4 @@ pub mod Laws
 pub mod Uses
 pub mod Extensions
 pub mod ExtensionLaws
+pub mod DirectoryUses

@@ -25,6 +25,8 @@ use vfs_flags::{Errno, FsOptions};
 use vfs_segments::{Reader, Writer};
 use vfs_wire::{GetattrIn, InHeader};
 
+pub mod directories;
+
 /// Says to request 9 that it is not served. Sixteen bytes are put into the room; those behind
 /// them, and those that the writer had passed, are as they were.
 pub fn say_not_served(w: &mut Writer) -> Result<usize>
