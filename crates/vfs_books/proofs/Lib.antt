@@ -6,4 +6,5 @@ mod Replying
 mod Listings
 mod OneTurn
 mod InOrder
+mod SmallCallers
 mod Examples

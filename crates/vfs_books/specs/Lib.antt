@@ -2,3 +2,4 @@ pub mod Books
 pub mod Turns
 pub mod TurnLaws
 pub mod Laws
+pub mod Uses

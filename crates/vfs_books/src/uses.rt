@@ -1,18 +1,21 @@
 //! Small callers of the laws, as examples. What each ensures follows from the law that it calls,
 //! and from nothing else.
 
-ghost use Rattle.std.specs.Prelude.{◌≡◌, ◌≢◌, ◌+◌, ℕ, List, [], ◌∷◌, Ok, sum_by};
-ghost use Rattle.vfs_books.specs.Books.{answered, sent, delivered, lost, accepted};
-ghost use Rattle.vfs_books.specs.Laws.{GivesBackWithin};
+ghost use Rattle.std.specs.Prelude.{◌≡◌, ◌≢◌, ◌≤◌, ◌+◌, ◌++◌, ℕ, List, [], ◌∷◌, Some, Ok, sum_by};
+ghost use Rattle.vfs_books.specs.Books.{answered, sent, delivered, lost, accepted, opcode_in};
+ghost use Rattle.vfs_books.specs.Laws.{GivesBackWithin, NeverBelow};
 ghost use Rattle.vfs_books.specs.Turns.{AreTurns, events_in};
-ghost use Rattle.vfs_files.specs.Calls.{Lookup, Forget, Found, Done};
+ghost use Rattle.vfs_books.specs.Uses.{reply_of_node_5, batch_of_two};
+ghost use Rattle.vfs_files.specs.Calls.{Lookup, Forget, Destroy, Answer, Found, Done};
 ghost use Rattle.vfs_files.specs.Runs.{Event, Called};
 ghost use Rattle.vfs_files.specs.declared.entry.Context.{Context};
 ghost use Rattle.vfs_files.specs.declared.entry.Entry.{Entry};
+ghost use Rattle.vfs_flags.specs.declared.opcode.Opcode.{Opcode};
 ghost use Rattle.vfs_messages.specs.Turn.{Turn, IsTurn};
 ghost use Rattle.vfs_messages.specs.declared.limits.Limits.{Limits};
 
 use crate::laws::{each_turn_balances, turns_keep_books};
+use vfs_messages::laws::destroy_leaves_no_options;
 
 /// A LOOKUP whose entry of node 5 is answered in 144 bytes delivers node 5 once.
 pub fn a_whole_reply_delivers_its_entry()
@@ -22,6 +25,52 @@ pub fn a_whole_reply_delivers_its_entry()
         t.outcome ≡ Ok 144 → delivered 5 t ≡ 1 }
 {
     each_turn_balances();
+}
+
+/// A reply of 144 bytes to a SYMLINK, MKNOD, MKDIR or LINK that has an entry of node 5 was answered
+/// by the file system: it counted the node.
+pub fn a_replied_entry_was_answered()
+    ensures symlink { (limits : Limits) (options after : ℕ) (t : Turn) (behind : List ℕ) →
+        IsTurn limits options t after → opcode_in t.request ≡ Some Opcode.Symlink → t.outcome ≡ Ok 144 →
+        t.room_after ≡ reply_of_node_5 ++ behind → 1 ≤ answered 5 t.events }
+    ensures mknod { (limits : Limits) (options after : ℕ) (t : Turn) (behind : List ℕ) →
+        IsTurn limits options t after → opcode_in t.request ≡ Some Opcode.Mknod → t.outcome ≡ Ok 144 →
+        t.room_after ≡ reply_of_node_5 ++ behind → 1 ≤ answered 5 t.events }
+    ensures mkdir { (limits : Limits) (options after : ℕ) (t : Turn) (behind : List ℕ) →
+        IsTurn limits options t after → opcode_in t.request ≡ Some Opcode.Mkdir → t.outcome ≡ Ok 144 →
+        t.room_after ≡ reply_of_node_5 ++ behind → 1 ≤ answered 5 t.events }
+    ensures link { (limits : Limits) (options after : ℕ) (t : Turn) (behind : List ℕ) →
+        IsTurn limits options t after → opcode_in t.request ≡ Some Opcode.Link → t.outcome ≡ Ok 144 →
+        t.room_after ≡ reply_of_node_5 ++ behind → 1 ≤ answered 5 t.events }
+{
+    each_turn_balances();
+}
+
+/// A LOOKUP whose entry of node 5 was replied, and then a BATCH_FORGET of node 5 by 1 and of node 7 by
+/// 3: as many of node 7 are sent as the bytes say, beyond what is answered meanwhile; and no count of
+/// node 5 falls below zero, in the middle of a request too.
+pub fn what_was_replied_is_given_back()
+    ensures sent { (limits : Limits) (options after : ℕ) (gave : Turn) →
+        IsTurn limits options gave after → gave.request ≡ batch_of_two → gave.outcome ≡ Ok 0 →
+        sent 7 gave.events ≡ answered 7 gave.events + 3 }
+    ensures never_below { (limits : Limits) (options after : ℕ) (looked gave : Turn) (ctx : Context)
+        (parent : ℕ) (name : List ℕ) (entry : Entry) →
+        AreTurns limits options (looked ∷ gave ∷ []) after →
+        looked.events ≡ Called (Lookup ctx parent name) (Found entry) ∷ [] → entry.inode ≡ 5 →
+        looked.outcome ≡ Ok 144 → gave.request ≡ batch_of_two → gave.outcome ≡ Ok 0 →
+        NeverBelow 5 (events_in (looked ∷ gave ∷ [])) }
+{
+    each_turn_balances();
+    turns_keep_books();
+}
+
+/// A session of a DESTROY alone leaves no options.
+pub fn a_session_of_a_destroy()
+    ensures { (limits : Limits) (options after : ℕ) (t : Turn) (answer : Answer) →
+        AreTurns limits options (t ∷ []) after → t.events ≡ Called Destroy answer ∷ [] →
+        after ≡ 0 }
+{
+    destroy_leaves_no_options();
 }
 
 /// A client that has given back all that was delivered to it or lost leaves the file system
