@@ -69,7 +69,7 @@ module _ (n : ℕ) (t : Turn) where
     one_sent forgets e = ap (sent n) called ∙ zero-add _ ∙ ap (counts n) e
 
     -- what is said of the answer
-    said_books : (unique : ℕ) (s : Saying) → NodesFit (answered_nodes c answer) (has_entry (kind_of c)) s → FaultFits s → ForgetsFit (forgets_of c) s
+    said_books : (unique : ℕ) (s : Saying) → NodesFit (answered_nodes c answer) (has_entry c) s → FaultFits s → ForgetsFit (forgets_of c) s
         → SaidBack unique s t.outcome t.room_after → Balances n t
     said_books unique (Fault fault) nodes small forgets back =
         let none : delivered_nodes (opcode_in t.request) (fault_reply fault unique) ≡ [] = delivered_nodes-fault (opcode_in t.request) fault unique small.0 small.1 in
@@ -77,10 +77,10 @@ module _ (n : ℕ) (t : Turn) where
         (one_answered [] nodes ∙ ap (times n) (sym none)) (one_sent [] forgets)
     said_books unique (Body body) nodes small forgets back =
         let reply = body_reply body unique in
-        let decoded : delivered_nodes (opcode_in t.request) reply ≡ node_first (has_entry (kind_of c)) body =
-        delivered_nodes-body (opcode_in t.request) body unique ∙ fits.nodes reply ∙ first_behind (has_entry (kind_of c)) body unique in
+        let decoded : delivered_nodes (opcode_in t.request) reply ≡ node_first (has_entry c) body =
+        delivered_nodes-body (opcode_in t.request) body unique ∙ fits.nodes reply ∙ first_behind (has_entry c) body unique in
         reply_books n t reply back (omega (arith, length-body_reply body unique))
-        (one_answered (node_first (has_entry (kind_of c)) body) nodes ∙ ap (times n) (sym decoded)) (one_sent [] forgets)
+        (one_answered (node_first (has_entry c) body) nodes ∙ ap (times n) (sym decoded)) (one_sent [] forgets)
     said_books unique Unsaid nodes small forgets back = done_books n t back (one_answered [] nodes) (one_sent _ fits.forgets)
     said_books unique Wrong nodes small forgets back = absurd back
 

@@ -7,15 +7,19 @@ use Rattle.vfs_wire.specs.Files.{open_out}
 use Rattle.vfs_files.specs.declared.entry.Entry.{Entry}
 use Rattle.vfs_files.specs.Entries.{entry_out_of}
 use Rattle.vfs_files.specs.Answers.{Kind, Quiet, Entries, Creations, Answer, Done, Failed, Found, Created, IsAnswer, IsFault, FitsEntry}
-use Rattle.vfs_files.specs.Calls.{Call, Lookup, Forget, BatchForget, Destroy, kind_of}
+use Rattle.vfs_files.specs.Calls.{Call, Lookup, Symlink, Mknod, Mkdir, Link, Create, Forget, BatchForget, Destroy, kind_of}
 use Rattle.vfs_messages.specs.Reply.{Echo, Saying, Fault, Body, Unsaid, Wrong, say, say_quiet, fault_number, open_out_of}
 use Rattle.vfs_messages.specs.declared.limits.Limits.{Limits}
 use Rattle.vfs_books.specs.Books.{node_of, answered_nodes, forgets_of}
 
--- the kinds whose answers have an entry
-abbrev pub has_entry : Kind → Bool
-has_entry Entries = true
-has_entry Creations = true
+-- whether the answer of a call has an entry
+abbrev pub has_entry : Call → Bool
+has_entry (Lookup _ _ _) = true
+has_entry (Symlink _ _ _ _ _) = true
+has_entry (Mknod _ _ _ _ _ _ _) = true
+has_entry (Mkdir _ _ _ _ _ _) = true
+has_entry (Link _ _ _ _) = true
+has_entry (Create _ _ _ _ _ _ _ _) = true
 has_entry _ = false
 
 -- the node that a body begins with, where it begins with an entry
@@ -23,16 +27,32 @@ abbrev pub node_first : Bool → (body : List ℕ) → List ℕ
 node_first true body = number 8 body ∷ []
 node_first false body = []
 
--- the nodes of an answer, by the kind of its call
-nodes_by : Kind → Answer → List ℕ
-nodes_by Entries answer = node_of answer
-nodes_by Creations answer = node_of answer
-nodes_by _ answer = []
+-- the nodes of an answer, where it has an entry
+entry_nodes : (entry : Bool) → Answer → List ℕ
+entry_nodes true answer = node_of answer
+entry_nodes false answer = []
 
-answered_nodes-by : (call : Call) (answer : Answer) → answered_nodes call answer ≡ nodes_by (kind_of call) answer
-unfolding nodes_by
+answered_nodes-by : (call : Call) (answer : Answer)
+    → answered_nodes call answer ≡ entry_nodes (has_entry call) answer
+unfolding entry_nodes
 answered_nodes-by (Lookup _ _ _) answer = refl
 answered_nodes-by _ answer = refl
+
+-- the kinds whose answers have an entry
+HasEntry : Kind → Type 0
+HasEntry Entries = Unit {0}
+HasEntry Creations = Unit {0}
+HasEntry _ = ⊥
+
+entry_kind : (call : Call) → has_entry call ≡ true → HasEntry (kind_of call)
+unfolding HasEntry
+entry_kind (Lookup _ _ _) e = tt
+entry_kind (Symlink _ _ _ _ _) e = tt
+entry_kind (Mknod _ _ _ _ _ _ _) e = tt
+entry_kind (Mkdir _ _ _ _ _ _) e = tt
+entry_kind (Link _ _ _ _) e = tt
+entry_kind (Create _ _ _ _ _ _ _ _) e = tt
+entry_kind _ e = cc
 
 -- these are the nodes of an answer, of which this is said
 abbrev pub NodesFit : (nodes : List ℕ) → (entry : Bool) → Saying → Type 0
@@ -47,19 +67,44 @@ entry_first-then : (e : Entry) (rest : List ℕ) → FitsEntry e → number 8 (b
 unfolding little
 entry_first-then e rest fits = number-little 8 e.inode _ fits.0
 
-nodes_by_kind : (limits : Limits) (echo : Echo) (options : ℕ) (kind : Kind) (answer : Answer) → IsAnswer kind answer
-    → NodesFit (nodes_by kind answer) (has_entry kind) (say limits echo options kind answer)
-unfolding nodes_by
-nodes_by_kind limits echo options Entries (Found e) fits = ap (λ (k : ℕ). k ∷ []) (sym (entry_first e fits))
-nodes_by_kind limits echo options Creations (Created e handle opened) fits = ap (λ (k : ℕ). k ∷ []) (sym (entry_first-then e (bytes_of open_out (open_out_of handle opened)) fits.0))
-nodes_by_kind limits echo options Entries (Created e handle opened) fits = absurd fits
-nodes_by_kind limits echo options Creations (Found e) fits = absurd fits
-nodes_by_kind limits echo options _ (Failed fault) fits = refl
-nodes_by_kind limits echo options _ _ fits = refl
+entry_fits : (limits : Limits) (echo : Echo) (options : ℕ) (kind : Kind) (answer : Answer)
+    → HasEntry kind → IsAnswer kind answer
+    → NodesFit (node_of answer) true (say limits echo options kind answer)
+unfolding HasEntry
+entry_fits limits echo options Entries (Found e) has fits =
+    ap (λ (k : ℕ). k ∷ []) (sym (entry_first e fits))
+entry_fits limits echo options Creations (Created e handle opened) has fits =
+    ap (λ (k : ℕ). k ∷ [])
+    (sym (entry_first-then e (bytes_of open_out (open_out_of handle opened)) fits.0))
+entry_fits limits echo options Entries (Created e handle opened) has fits = absurd fits
+entry_fits limits echo options Creations (Found e) has fits = absurd fits
+entry_fits limits echo options Entries _ has fits = refl
+entry_fits limits echo options Creations _ has fits = refl
+entry_fits limits echo options _ answer has fits = absurd has
 
-pub nodes_fit : (limits : Limits) (echo : Echo) (options : ℕ) (call : Call) (answer : Answer) → IsAnswer (kind_of call) answer
-    → NodesFit (answered_nodes call answer) (has_entry (kind_of call)) (say limits echo options (kind_of call) answer)
-nodes_fit limits echo options call answer fits = rw (answered_nodes-by call answer) (nodes_by_kind limits echo options (kind_of call) answer fits)
+-- where there is no entry, nothing that is said has a node
+no_entry_fits : (s : Saying) → NodesFit [] false s
+no_entry_fits (Fault fault) = refl
+no_entry_fits (Body body) = refl
+no_entry_fits Unsaid = refl
+no_entry_fits Wrong = refl
+
+nodes_by_kind : (limits : Limits) (echo : Echo) (options : ℕ) (entry : Bool) (kind : Kind)
+    (answer : Answer) → (entry ≡ true → HasEntry kind) → IsAnswer kind answer
+    → NodesFit (entry_nodes entry answer) entry (say limits echo options kind answer)
+unfolding entry_nodes
+nodes_by_kind limits echo options true kind answer has fits =
+    entry_fits limits echo options kind answer (has refl) fits
+nodes_by_kind limits echo options false kind answer has fits =
+    no_entry_fits (say limits echo options kind answer)
+
+pub nodes_fit : (limits : Limits) (echo : Echo) (options : ℕ) (call : Call) (answer : Answer)
+    → IsAnswer (kind_of call) answer
+    → NodesFit (answered_nodes call answer) (has_entry call)
+    (say limits echo options (kind_of call) answer)
+nodes_fit limits echo options call answer fits =
+    rw (answered_nodes-by call answer)
+    (nodes_by_kind limits echo options (has_entry call) (kind_of call) answer (entry_kind call) fits)
 
 -- a fault that is said has a number that a header can say
 abbrev pub FaultFits : Saying → Type 0

@@ -15,7 +15,7 @@ use Rattle.vfs_wire.specs.declared.entries.BatchForgetIn.{BatchForgetIn}
 use Rattle.vfs_wire.specs.declared.entries.ForgetIn.{ForgetIn}
 use Rattle.vfs_wire.specs.declared.headers.InHeader.{InHeader}
 use Rattle.vfs_wire.specs.declared.init.InitInCompat.{InitInCompat}
-use Rattle.vfs_files.specs.Calls.{Call, kind_of}
+use Rattle.vfs_files.specs.Calls.{Call}
 use Rattle.vfs_files.specs.Calls as call
 use Rattle.vfs_files.specs.Extensions.{ExtensionValues}
 use Rattle.vfs_messages.specs.Ask.{form_of, ask_number, ask_header, ask}
@@ -126,7 +126,7 @@ module _ (P : Ask → Type 0) (h : InHeader) (rest : List ℕ) where
 
 -- a call answers the nodes that a reply to this opcode has, and gives back what the request says
 pub record CallFits (opcode : Option Opcode) (request : List ℕ) (c : Call) : Type 0 where
-  pub nodes : (reply : List ℕ) → nodes_behind opcode reply ≡ (if has_entry (kind_of c) then u64_at 16 reply ∷ [] else [])
+  pub nodes : (reply : List ℕ) → nodes_behind opcode reply ≡ (if has_entry c then u64_at 16 reply ∷ [] else [])
   pub forgets : forgets_of c ≡ forgets_in opcode request
 
 -- what comes back without a call delivers no node, and is nothing only where nothing is given back
