@@ -1,21 +1,26 @@
 -- What small callers cite of directories: the lines of literal events, what they put, and what is
 -- answered.
-use Rattle.std.proofs.Common.{◌≡◌, ◌<◌, ◌+◌, ◌-◌, ◌^◌, ◌⊎◌, ℕ, List, [], ◌∷◌, ◌++◌, Bool, true, false, Option, Some, None, Result, Ok, Err, length, refl, sym, ap, subst, ◌∙◌, inl, inr, arith, append_assoc, append-nil, length-append, sum_by}
+use Rattle.std.proofs.Common.{◌≡◌, ◌<◌, ◌≤◌, ◌+◌, ◌-◌, ◌^◌, ◌⊎◌, ℕ, List, [], ◌∷◌, ◌++◌, Bool, true, false, Option, Some, None, Result, Ok, Err, length, refl, sym, ap, subst, ◌∙◌, inl, inr, arith, append_assoc, append-nil, length-append, sum_by, nat_lt, take, length-take}
 use Rattle.std.proofs.lemmas.List.Elements.{All-nil, All-cons, All-head, All-tail}
+use Rattle.std.proofs.lemmas.Bool.Decides.{nat_tests}
+use Rattle.std.proofs.lemmas.List.{drop_all}
 use Rattle.std.specs.List.{All, flat_map}
+use Rattle.vfs_segments.specs.Written.{Written, wrote}
 use Rattle.vfs_wire.specs.Fields.{little, bytes_of}
 use Rattle.vfs_wire.specs.Entries.{entry_out}
 use Rattle.vfs_wire.specs.declared.entries.EntryOut.{EntryOut}
-use Rattle.vfs_files.specs.Calls.{Readdir, Lookup, Forget, Failed, Found, Done}
+use Rattle.vfs_files.specs.Calls.{Readdir, Lookup, Forget, Failed, Found, Done, Call, Handed}
 use Rattle.vfs_files.specs.Entries.{entry_out_of}
 use Rattle.vfs_files.specs.Items.{Item}
-use Rattle.vfs_files.specs.Runs.{Event, Called, Taken}
+use Rattle.vfs_files.specs.Runs.{Event, Called, Taken, events_of}
 use Rattle.vfs_files.specs.declared.entry.Context.{Context}
 use Rattle.vfs_files.specs.declared.entry.Entry.{Entry}
 use Rattle.vfs_listings.specs.Laws.{GoesOn, EndsWhole, EndsFull, IsWhole}
-use Rattle.vfs_listings.specs.Listing.{Got, Line, Stop, End, At, Gets, IsGot, IsDotEntry, is_dot, dot_out, lookups, lookup_of, line_events, stop_events, given_back, line_bytes, line_len, bytes_got, len_of, judged, fate, told, answer_at, answer_of, AreWritten, Stops, IsListing, IsDirectory}
+use Rattle.vfs_listings.specs.Listing.{Got, Line, Stop, End, At, Gets, IsGot, IsDotEntry, is_dot, dot_out, lookups, lookup_of, line_events, stop_events, given_back, line_bytes, line_len, bytes_got, len_of, judged, fate, told, answer_at, answer_of, AreWritten, Stops, IsListing, IsDirectory, cut_by, cut_of}
+use Rattle.vfs_listings.specs.ListingLaws.{fits_within}
+use Rattle.vfs_listings.specs.Reading.{ReadsItems}
 use Rattle.vfs_listings.specs.RecordLaws.{length-record_bytes}
-use Rattle.vfs_listings.specs.Records.{Fits, dirent_bytes, record_bytes, record_len}
+use Rattle.vfs_listings.specs.Records.{Fits, dirent_bytes, record_bytes, record_len, Verdict, Fails, verdict}
 use Rattle.vfs_listings.specs.Uses.{file_a, root_dot, record_of_a, record_of_dot, entry_of_dot}
 
 -- ---- records
@@ -53,7 +58,7 @@ module _ (ctx : Context) (parent : ℕ) (i : Item) where
 
 pub one_file : (ctx : Context) (parent size : ℕ) (body : List ℕ) (result : Result ℕ (Option ℕ))
     → IsWhole false ctx parent size (Taken (Some file_a) ∷ Taken None ∷ []) body result
-    → (body ≡ record_of_a) × (result ≡ Ok 32)
+    → (body ≡ record_of_a) × (result ≡ Ok 32) × (32 ≤ size)
 one_file ctx parent size body result h =
     let lines : flat_map line_bytes h.lines ≡ record_bytes None file_a =
     elim h.ends [
@@ -61,7 +66,8 @@ one_file ctx parent size body result h =
       | inr full ↦ absurd (not_full ctx parent file_a h.lines full.last full.got full.events_are)
     ] in
     let is : body ≡ record_of_a = h.body_is ∙ lines ∙ record_of_a_is in
-    (is, h.answer_is ∙ ap (λ (b : List ℕ). Ok (length b)) is)
+    let long : length body ≡ 32 = ap length is in
+    (is, h.answer_is ∙ ap Ok long, omega (arith, long, h.within))
 
 pub one_file_goes_on : All GoesOn (Taken (Some file_a) ∷ Taken None ∷ [])
 one_file_goes_on =
@@ -315,3 +321,58 @@ pub first_lookup_fails : (ctx : Context) (parent size room : ℕ) (body : List �
 first_lookup_fails ctx parent size room body result h =
     let f = first_by ctx parent size room h.lines h.stop h.written h.stops h.events_are in
     (h.body_is ∙ f.0, h.answer_is ∙ f.1)
+
+-- ---- a room that is too small
+
+-- a record of 32 bytes that may be put, and for which there are 31
+cut_verdict : (max room : ℕ) (i : Item) → length i.name ≡ 1 → 32 ≤ max → room ≡ 31 → verdict max room None i ≡ Fails None
+cut_verdict max room i one below short =
+    let len : record_len None i ≡ 32 = omega (arith, one) in
+    let a : nat_lt (2 ^ 32 - 1) (length i.name) ≡ false = grind (arith, nat_tests) in
+    let b : nat_lt max (record_len None i) ≡ false = grind (arith, nat_tests) in
+    let c : nat_lt room (record_len None i) ≡ true = grind (arith, nat_tests) in
+    rw (a, b, c) refl
+
+module _ (ctx : Context) (parent size room : ℕ) (short : room ≡ 31) (asked : 32 ≤ size) where
+  cut_at : (lines : List Line) (s : Stop) → AreWritten false size room 0 lines → Stops false size room (sum_by line_len lines) s
+      → Taken (Some file_a) ∷ [] ≡ flat_map (line_events ctx parent false) lines ++ stop_events ctx parent false s
+      → (flat_map line_bytes lines ++ cut_of size room (sum_by line_len lines) s ≡ take 31 (record_bytes None file_a))
+      × (answer_of false size room (sum_by line_len lines) s ≡ Err None)
+  cut_at [] End w stops e = cc
+  cut_at [] (At last) w stops e =
+      let item : last.item ≡ file_a = cc in
+      let all : room - 0 ≡ 31 = omega (arith, short) in
+      let is : fate size room 0 last ≡ Fails None =
+      ap (λ (g : Got). judged (size - 0) (room - 0) g last.item) stops.0
+      ∙ ap (λ (i : Item). verdict (size - 0) (room - 0) None i) item
+      ∙ cut_verdict (size - 0) (room - 0) file_a refl (omega (arith, asked)) all in
+      let bytes : line_bytes last ≡ record_bytes None file_a =
+      ap (λ (g : Got). bytes_got g last.item) stops.0 ∙ ap (record_bytes None) item in (
+        ap (λ (v : Verdict). cut_by v (room - 0) (line_bytes last)) is ∙ ap (take (room - 0)) bytes
+            ∙ ap (λ (n : ℕ). take n (record_bytes None file_a)) all,
+        ap (answer_at false 0) is,
+      )
+  cut_at (l ∷ ls) s w stops e =
+      let item : l.item ≡ file_a = cc in
+      let fits = fits_within (size - 0) (room - 0) l.got l.item w.0 in
+      let long : len_of l.got l.item ≡ 32 = ap (λ (g : Got). len_of g l.item) w.1 ∙ ap (record_len None) item in
+      absurd (omega (arith, fits.1, long, short))
+
+-- the room is full of the record's beginning
+pub room_is_filled : {S I : Type 0} (allows : S → Call → Handed I → S → Type 0) (gives : I → Option Item → I → Type 0)
+    (ctx : Context) (parent size : ℕ) (it : I) (old new : S) (room left : Written) (result : Result ℕ (Option ℕ))
+    → (h : ReadsItems allows gives ctx false parent size it old room result new left)
+    → events_of h.run ≡ Taken (Some file_a) ∷ [] → length room.left ≡ 31 → 32 ≤ size
+    → (result ≡ Err None) × (left.left ≡ [])
+room_is_filled allows gives ctx parent size it old new room left result h are short asked =
+    let l = h.listing in
+    let cut = cut_at ctx parent size (length room.left) short asked l.lines l.stop l.written l.stops (sym are ∙ l.events_are) in
+    let put = h.puts.wrote
+    ∙ ap (λ (b : List ℕ). wrote room (b ++ cut_of size (length room.left) (sum_by line_len l.lines) l.stop)) l.body_is
+    ∙ ap (wrote room) cut.0 in
+    let some = length-take 31 (record_bytes None file_a) in
+    let long = length-record_bytes None file_a in (
+      l.answer_is ∙ cut.1,
+      ap (λ (w : Written). w.left) put
+          ∙ drop_all (length (take 31 (record_bytes None file_a))) room.left (omega (arith, some, long, short)),
+    )

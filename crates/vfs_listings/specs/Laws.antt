@@ -1,5 +1,5 @@
 -- The words of the laws: records in a row, how many items are taken, and when a directory is whole.
-use Rattle.std.specs.Prelude.{◌≡◌, ◌<◌, ⊤, ◌+◌, ◌^◌, ◌⊎◌, ℕ, Bool, true, false, List, [], ◌∷◌, ◌++◌, length, Option, Some, unwrap_or, Result, Ok}
+use Rattle.std.specs.Prelude.{◌≡◌, ◌≤◌, ◌<◌, ⊤, ◌+◌, ◌^◌, ◌⊎◌, ℕ, Bool, true, false, List, [], ◌∷◌, ◌++◌, length, Option, Some, unwrap_or, Result, Ok}
 use Rattle.std.specs.List.{All, flat_map}
 use Rattle.vfs_files.specs.Calls.{Failed, FitsEntry}
 use Rattle.vfs_files.specs.Items.{Item}
@@ -58,7 +58,7 @@ pub record EndsFull
 
 -- A directory that is whole: the body is the records of all items taken, in order, each with what
 -- the item should get, but of a last one whose record would pass `size`; where there is no such one,
--- the iterator answered its end.
+-- the iterator answered its end. The body itself doesn't pass `size`.
 pub record IsWhole
     (plus : Bool) (ctx : Context) (parent size : ℕ)
     (events : List Event) (body : List ℕ) (result : Result ℕ (Option ℕ)) : Type 0 where
@@ -66,5 +66,6 @@ pub record IsWhole
   pub got : All (IsGot plus) lines
   pub body_is : body ≡ flat_map line_bytes lines
   pub answer_is : result ≡ Ok (length body)
+  pub within : length body ≤ size
   pub ends :
       EndsWhole plus ctx parent events lines ⊎ EndsFull plus ctx parent size events lines body

@@ -282,12 +282,14 @@ module _ (plus : Bool) (ctx : Context) (parent size room : ℕ) (events : List E
       → IsWhole plus ctx parent size events body result
   whole_by lines End written stops events_are body_is answer_is roomy goes =
       let long = ap length body_is ∙ length-lines plus size room 0 lines written in
+      let within = lines_within plus size room 0 lines written (omega arith) in
       record {
         lines = lines;
         got = got_of_written plus size room 0 lines written;
         body_is = body_is;
         answer_is = answer_is
             ∙ ap Ok (sym long);
+        within = omega (arith, long, within);
         ends = inl events_are;
       }
   whole_by lines (At l) written stops events_are body_is answer_is roomy goes =
@@ -304,6 +306,7 @@ module _ (plus : Bool) (ctx : Context) (parent size room : ℕ) (events : List E
         got = got_of_written plus size room 0 lines written;
         body_is = body_is;
         answer_is = answer_is ∙ ap (λ v. answer_at plus total v) full.0 ∙ ap Ok (sym long);
+        within = omega (arith, long, within);
         ends = inr (record {
           last = l;
           events_are = events_are;

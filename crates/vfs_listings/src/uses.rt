@@ -4,16 +4,17 @@
 ghost use Rattle.std.specs.Prelude.{◌≡◌, ◌≤◌, ◌<◌, ◌++◌, ℕ, length, Bool, true, false, List, []};
 ghost use Rattle.std.specs.Prelude.{◌∷◌, Option, Some, Ok, Err, IfOk, codes};
 ghost use Rattle.std.specs.Prelude.{Result as Outcome, None as Nothing};
-ghost use Rattle.vfs_segments.specs.Written.{wrote};
+ghost use Rattle.vfs_segments.specs.Written.{Written, wrote};
 ghost use Rattle.vfs_files.specs.Answers.{FitsEntry};
 ghost use Rattle.vfs_files.specs.Calls.{not_served, Readdir, Lookup, Forget, Failed, Found, Done};
 ghost use Rattle.vfs_files.specs.Names.{name_text};
-ghost use Rattle.vfs_files.specs.Runs.{Event, Called, Taken};
+ghost use Rattle.vfs_files.specs.Runs.{Event, Called, Taken, events_of};
 ghost use Rattle.vfs_files.specs.declared.entry.Context.{Context};
 ghost use Rattle.vfs_files.specs.declared.entry.Entry.{Entry};
 ghost use Rattle.vfs_listings.specs.Laws.{takings};
 ghost use Rattle.vfs_listings.specs.Listing.{IsListing, IsDirectory};
 ghost use Rattle.vfs_listings.specs.Nodes.{nodes_in};
+ghost use Rattle.vfs_listings.specs.Reading.{ReadsItems};
 ghost use Rattle.vfs_listings.specs.Records.{record_bytes};
 ghost use Rattle.vfs_listings.specs.Uses.{record_of_dot, record_of_a, entry_of_dot, root_dot, file_a};
 
@@ -100,12 +101,13 @@ pub fn endless_directory_is_left()
 }
 
 /// A READDIR of a directory whose one item is the file `a`, where there is room for as much as was
-/// asked for: the body is the 32 bytes of its record, and that is how many are answered.
+/// asked for: the body is the 32 bytes of its record, that is how many are answered, and no fewer
+/// were asked for.
 pub fn a_directory_of_one_file()
     ensures { (ctx : Context) (parent size room : ℕ) (body : List ℕ)
         (result : Outcome ℕ (Option ℕ)) →
         IsListing false ctx parent size room (Taken (Some file_a) ∷ Taken Nothing ∷ []) body result →
-        size ≤ room → (body ≡ record_of_a) × (result ≡ Ok 32) }
+        size ≤ room → (body ≡ record_of_a) × (result ≡ Ok 32) × (32 ≤ size) }
 {
     directories_are_whole();
 }
@@ -165,3 +167,13 @@ pub fn nodes_of_two_records()
 {
     nodes_are_found();
 }
+
+/// Where READDIR takes the file `a`, may put the 32 bytes of its record, and there is room for 31:
+/// the answer is a fault without a number, and the beginning of the record fills the room.
+pub fn a_room_that_is_too_small<F: FileSystem>()
+    ensures { (ctx : Context) (parent size : ℕ) (it : F.DirIter) (old new : F)
+        (room left : Written) (result : Outcome ℕ (Option ℕ)) →
+        (h : ReadsItems F.allows F.DirIter.gives ctx false parent size it old room result new left) →
+        events_of h.run ≡ Taken (Some file_a) ∷ [] → length room.left ≡ 31 → 32 ≤ size →
+        (result ≡ Err Nothing) × (left.left ≡ []) }
+{}
