@@ -6,7 +6,7 @@ use Rattle.vfs_wire.specs.Attributes.{attr}
 use Rattle.vfs_files.specs.declared.entry.Context.{Context}
 use Rattle.vfs_files.specs.declared.entry.Entry.{Entry}
 use Rattle.vfs_files.specs.Extensions.{ExtensionValues}
-use Rattle.vfs_files.specs.Calls.{Answer, Found, Created, Done, Failed, Text}
+use Rattle.vfs_files.specs.Calls.{Found, Created, Done, Text}
 use Rattle.vfs_files.specs.Calls as call
 use Rattle.vfs_files.specs.Items.{Item}
 use Rattle.vfs_files.specs.Runs.{Event, Called, Opened, Taken}

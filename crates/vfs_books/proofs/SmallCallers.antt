@@ -1,12 +1,12 @@
 -- What small callers cite of the books: the sums of literal bytes and events.
-use Rattle.std.proofs.Common.{◌≡◌, ◌≤◌, ◌+◌, ℕ, zero, suc, List, [], ◌∷◌, ◌++◌, Option, Some, Result, Ok, take, sum_by, refl, ap, sym, ◌∙◌, arith, zero-add}
+use Rattle.std.proofs.Common.{◌≡◌, ◌≤◌, ◌+◌, ℕ, zero, suc, List, [], ◌∷◌, ◌++◌, Option, Some, Result, Ok, take, refl, ap, ◌∙◌, arith}
 use Rattle.std.proofs.lemmas.List.{take_all}
 use Rattle.std.proofs.lemmas.List.Sums.{sum_by-cons}
 use Rattle.vfs_flags.specs.Opcode.{opcode_of}
 use Rattle.vfs_flags.specs.declared.opcode.Opcode.{Opcode}
 use Rattle.vfs_wire.specs.Fields.{number}
 use Rattle.vfs_files.specs.Calls.{Call, Found}
-use Rattle.vfs_files.specs.Runs.{Event, Called}
+use Rattle.vfs_files.specs.Runs.{Called}
 use Rattle.vfs_files.specs.declared.entry.Entry.{Entry}
 use Rattle.vfs_listings.specs.Nodes.{u64_at}
 use Rattle.vfs_messages.specs.Turn.{Turn}

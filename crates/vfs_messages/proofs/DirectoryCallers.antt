@@ -1,13 +1,13 @@
 -- What small callers cite of directories: what their requests ask, and what came back of them.
-use Rattle.std.proofs.Common.{◌≡◌, ◌≤◌, ◌+◌, ◌/◌, ℕ, Bool, true, false, List, [], ◌∷◌, Option, Some, None, Result, Ok, Err, length, take, refl, ap, ◌∙◌, arith, subst}
+use Rattle.std.proofs.Common.{◌≡◌, ◌≤◌, ◌+◌, ◌/◌, ℕ, Bool, true, false, List, [], ◌∷◌, Option, Some, None, Result, Ok, length, take, refl, ap, ◌∙◌, arith, subst}
 use Rattle.vfs_flags.specs.Opcode.{opcode_of}
 use Rattle.vfs_wire.specs.Fields.{little, number}
-use Rattle.vfs_files.specs.Calls.{Call, Readdir, Lookup, Answer, Failed}
+use Rattle.vfs_files.specs.Calls.{Call, Readdir, Answer, Failed}
 use Rattle.vfs_files.specs.Items.{Item}
 use Rattle.vfs_files.specs.Runs.{Event, Called, Opened, Taken}
 use Rattle.vfs_listings.specs.Laws.{takings, IsWhole}
 use Rattle.vfs_listings.specs.Listing.{IsDirectory}
-use Rattle.vfs_listings.specs.Uses.{file_a, record_of_a}
+use Rattle.vfs_listings.specs.Uses.{file_a}
 use Rattle.vfs_listings.proofs.WholeCallers.{one_file, refused_is}
 use Rattle.vfs_messages.specs.Ask.{ask}
 use Rattle.vfs_messages.specs.DirectoryUses.{nobody, usual, directory_request, reply_of_one_file, refused_reply}

@@ -1,8 +1,4 @@
-use Rattle.std.proofs.Common.{◌≡◌, ◌∙◌, ◌+◌, ◌++◌, ap, length, sym}
 use Rattle.vfs_files.specs.Items.{item}
-use Rattle.vfs_wire.specs.Fields.{bytes_of}
-use Rattle.vfs_wire.specs.Listings.{dirent}
-use Rattle.vfs_segments.specs.Padded.{padding}
 use Rattle.vfs_listings.specs.Records.{dirent_bytes}
 use Rattle.vfs_listings.specs.RecordLaws.{length-dirent_bytes}
 use Rattle.vfs_listings.proofs.Putting.{puts_by, dirent_parts}

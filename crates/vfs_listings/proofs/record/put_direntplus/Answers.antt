@@ -1,6 +1,5 @@
-use Rattle.std.proofs.Common.{◌≡◌, ◌∙◌, ◌+◌, ◌++◌, Some, arith, ap, length, sym}
+use Rattle.std.proofs.Common.{◌∙◌, Some, arith, ap, length}
 use Rattle.vfs_files.specs.Items.{item}
-use Rattle.vfs_segments.specs.Padded.{padded_len, padding}
 use Rattle.vfs_listings.specs.Records.{record_bytes}
 use Rattle.vfs_listings.specs.RecordLaws.{length-record_bytes}
 use Rattle.vfs_listings.proofs.Putting.{puts_by, direntplus_parts}
