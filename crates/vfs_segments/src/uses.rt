@@ -2,7 +2,7 @@
 //! proved by the calls' public contracts alone.
 
 ghost use Rattle.std.specs.Prelude.{◌≡◌, ◌+◌, ◌^◌, ◌<◌, ◌≤◌, ◌++◌, List, [], ◌∷◌, None, true, false, length, take, drop, IfOk, IfErr, MatchOption, OnOk, OnErr};
-ghost use Rattle.vfs_segments.specs.Answers.{Question, Answer, Answers, AreAnswers, Available, Taken, Read, ReadExact, ReadObj, Count, Moved, Filled, Fields, TooFew};
+ghost use Rattle.vfs_segments.specs.Answers.{Question, Answer, AreAnswers, Available, Taken, Read, Count, Moved};
 ghost use Rattle.vfs_segments.specs.Segments.{contents, flat_bytes, lengths_of};
 ghost use Rattle.vfs_segments.specs.Unread.{Unread, IsUnread};
 ghost use Rattle.vfs_wire.specs.Fields.{bytes_of, lone_number, value_of};
@@ -230,31 +230,6 @@ pub fn counts_have_answers()
         (answers : List Answer) × ((v : Unread) × AreAnswers u (Available ∷ Taken ∷ []) answers v) }
 {
     equal_bytes_answer_alike();
-}
-
-/// Whether a buffer is filled, and what that answers in the words of the law.
-pub fn answer_of_a_filled_buffer(reader: &mut Reader<'_>, buf: &mut [u8]) -> bool
-    ensures filled { result ≡ true →
-        Answers reader.old (ReadExact (length buf.old)) (Filled buf.new) reader.new }
-    ensures too_few { result ≡ false →
-        Answers reader.old (ReadExact (length buf.old)) TooFew reader.new }
-{
-    match reader.read_exact(buf) {
-        Ok(()) => true,
-        Err(_) => false,
-    }
-}
-
-/// A number of two bytes, where they are left, and what that answers in the words of the law.
-pub fn answer_of_a_number(reader: &mut Reader<'_>) -> Option<u16>
-    ensures { MatchOption result
-        (Answers reader.old (ReadObj (2 ∷ [])) TooFew reader.new)
-        (λ x. Answers reader.old (ReadObj (2 ∷ [])) (Fields (x ∷ [])) reader.new) }
-{
-    match reader.read_obj() {
-        Ok(x) => Some(x),
-        Err(_) => None,
-    }
 }
 
 /// Of a reader that has five bytes left the next three are written to a journal, and two are left.
