@@ -72,6 +72,26 @@ module _ {F : Type 0}
       (n_is, omega (arith, n_is, transfer_within old bytes (Ok n) new t))
   transfer_tells old bytes (Err fault) new t = tt
 
+  goes_below :
+      (moved : ℕ) (old : F) (row : List (List ℕ × F)) (new : F) → off + moved < 2 ^ 64
+      → Goes calls count left off moved old row new → off + moved + count_moved row < 2 ^ 64
+  goes_below moved old [] new below g = omega arith
+  goes_below moved old (c ∷ cs) new below g =
+      let rest = goes_below (moved + length c.0) c.1 cs new (omega (arith, g.1)) g.2 in
+      let sum : count_moved (c ∷ cs) ≡ length c.0 + count_moved cs =
+      sum_by-cons (λ (x : List ℕ × F). length x.0) c cs in
+      omega (arith, rest, sum)
+
+  -- where it answers a number, the position behind what was moved is below 2 ^ 64
+  pub transfer_below :
+      (old : F) (bytes : List ℕ) (result : Result ℕ (Option ℕ)) (new : F) → off < 2 ^ 64
+      → Transfers calls count left off old bytes result new
+      → IfOk result (λ n. off + n < 2 ^ 64)
+  transfer_below old bytes (Ok n) new low t =
+      let k = told (count_moved t.row) n t.ending (sym t.answered) in
+      omega (arith, goes_below 0 old t.row t.middle (omega arith) t.goes, k.0)
+  transfer_below old bytes (Err fault) new low t = tt
+
   row_of_nothing :
       (old : F) (row : List (List ℕ × F)) (new : F) → min count left ≡ 0
       → Goes calls count left off 0 old row new → (row ≡ []) × (new ≡ old)

@@ -55,7 +55,7 @@ impl FileSystem for Unserved {
     ghost allows = { λ old call handed new. handed ≡ Plain (default_answer call) };
 
     fn lookup(&mut self, ctx: Context, parent: u64, name: CStr<'_>) -> Result<Entry, Fault> {
-        defaults::no_such_call::<Entry>()
+        defaults::lookup()
     }
 
     fn forget(&mut self, ctx: Context, inode: u64, count: u64) {
@@ -70,7 +70,7 @@ impl FileSystem for Unserved {
     ) -> Result<(Attr, Duration), Fault>
         ensures { attr_answer result ≡ default_answer (Getattr ctx inode handle) }
     {
-        defaults::no_such_call::<(Attr, Duration)>()
+        defaults::getattr()
     }
 
     fn setattr(
@@ -84,11 +84,11 @@ impl FileSystem for Unserved {
         ensures { attr_answer result ≡
             default_answer (Setattr ctx inode attr handle (setattr_valid_bits valid)) }
     {
-        defaults::no_such_call::<(Attr, Duration)>()
+        defaults::setattr()
     }
 
     fn readlink(&mut self, ctx: Context, inode: u64) -> Result<Vec<u8>, Fault> {
-        defaults::no_such_call::<Vec<u8>>()
+        defaults::readlink()
     }
 
     fn symlink(
@@ -99,7 +99,7 @@ impl FileSystem for Unserved {
         name: CStr<'_>,
         ext: Extensions,
     ) -> Result<Entry, Fault> {
-        defaults::no_such_call::<Entry>()
+        defaults::symlink()
     }
 
     fn mknod(
@@ -112,7 +112,7 @@ impl FileSystem for Unserved {
         umask: u32,
         ext: Extensions,
     ) -> Result<Entry, Fault> {
-        defaults::no_such_call::<Entry>()
+        defaults::mknod()
     }
 
     fn mkdir(
@@ -124,15 +124,15 @@ impl FileSystem for Unserved {
         umask: u32,
         ext: Extensions,
     ) -> Result<Entry, Fault> {
-        defaults::no_such_call::<Entry>()
+        defaults::mkdir()
     }
 
     fn unlink(&mut self, ctx: Context, parent: u64, name: CStr<'_>) -> Result<(), Fault> {
-        defaults::no_such_call::<()>()
+        defaults::unlink()
     }
 
     fn rmdir(&mut self, ctx: Context, parent: u64, name: CStr<'_>) -> Result<(), Fault> {
-        defaults::no_such_call::<()>()
+        defaults::rmdir()
     }
 
     fn rename(
@@ -144,7 +144,7 @@ impl FileSystem for Unserved {
         newname: CStr<'_>,
         flags: u32,
     ) -> Result<(), Fault> {
-        defaults::no_such_call::<()>()
+        defaults::rename()
     }
 
     fn link(
@@ -154,7 +154,7 @@ impl FileSystem for Unserved {
         newparent: u64,
         newname: CStr<'_>,
     ) -> Result<Entry, Fault> {
-        defaults::no_such_call::<Entry>()
+        defaults::link()
     }
 
     fn open(
@@ -178,7 +178,7 @@ impl FileSystem for Unserved {
         lock_owner: Option<u64>,
         flags: u32,
     ) -> Result<usize, Fault> {
-        defaults::no_such_call::<usize>()
+        defaults::read()
     }
 
     fn write<R: ZeroCopyReader>(
@@ -194,7 +194,7 @@ impl FileSystem for Unserved {
         kill_priv: bool,
         flags: u32,
     ) -> Result<u32, Fault> {
-        defaults::no_such_call::<u32>()
+        defaults::write()
     }
 
     fn statfs(&mut self, ctx: Context, inode: u64) -> Result<Statvfs64, Fault> {
@@ -211,7 +211,7 @@ impl FileSystem for Unserved {
         flock_release: bool,
         lock_owner: Option<u64>,
     ) -> Result<(), Fault> {
-        defaults::no_such_call::<()>()
+        defaults::release()
     }
 
     fn fsync(
@@ -221,7 +221,7 @@ impl FileSystem for Unserved {
         datasync: bool,
         handle: u64,
     ) -> Result<(), Fault> {
-        defaults::no_such_call::<()>()
+        defaults::fsync()
     }
 
     fn setxattr(
@@ -233,7 +233,7 @@ impl FileSystem for Unserved {
         flags: u32,
         extra: SetxattrFlags,
     ) -> Result<(), Fault> {
-        defaults::no_such_call::<()>()
+        defaults::setxattr()
     }
 
     fn getxattr(
@@ -243,15 +243,15 @@ impl FileSystem for Unserved {
         name: CStr<'_>,
         size: u32,
     ) -> Result<GetxattrReply, Fault> {
-        defaults::no_such_call::<GetxattrReply>()
+        defaults::getxattr()
     }
 
     fn listxattr(&mut self, ctx: Context, inode: u64, size: u32) -> Result<ListxattrReply, Fault> {
-        defaults::no_such_call::<ListxattrReply>()
+        defaults::listxattr()
     }
 
     fn removexattr(&mut self, ctx: Context, inode: u64, name: CStr<'_>) -> Result<(), Fault> {
-        defaults::no_such_call::<()>()
+        defaults::removexattr()
     }
 
     fn flush(
@@ -261,7 +261,7 @@ impl FileSystem for Unserved {
         handle: u64,
         lock_owner: u64,
     ) -> Result<(), Fault> {
-        defaults::no_such_call::<()>()
+        defaults::flush()
     }
 
     fn init(&mut self, capable: FsOptions) -> Result<FsOptions, Fault> {
@@ -285,7 +285,7 @@ impl FileSystem for Unserved {
         size: u32,
         offset: u64,
     ) -> Result<NoEntries, Fault> {
-        defaults::no_such_call::<NoEntries>()
+        defaults::readdir::<NoEntries>()
     }
 
     fn releasedir(
@@ -295,7 +295,7 @@ impl FileSystem for Unserved {
         flags: u32,
         handle: u64,
     ) -> Result<(), Fault> {
-        defaults::no_such_call::<()>()
+        defaults::releasedir()
     }
 
     fn fsyncdir(
@@ -305,23 +305,23 @@ impl FileSystem for Unserved {
         datasync: bool,
         handle: u64,
     ) -> Result<(), Fault> {
-        defaults::no_such_call::<()>()
+        defaults::fsyncdir()
     }
 
     fn getlk(&mut self) -> Result<(), Fault> {
-        defaults::no_such_call::<()>()
+        defaults::getlk()
     }
 
     fn setlk(&mut self) -> Result<(), Fault> {
-        defaults::no_such_call::<()>()
+        defaults::setlk()
     }
 
     fn setlkw(&mut self) -> Result<(), Fault> {
-        defaults::no_such_call::<()>()
+        defaults::setlkw()
     }
 
     fn access(&mut self, ctx: Context, inode: u64, mask: u32) -> Result<(), Fault> {
-        defaults::no_such_call::<()>()
+        defaults::access()
     }
 
     fn create(
@@ -335,11 +335,11 @@ impl FileSystem for Unserved {
         umask: u32,
         ext: Extensions,
     ) -> Result<(Entry, Option<u64>, OpenOptions), Fault> {
-        defaults::no_such_call::<(Entry, Option<u64>, OpenOptions)>()
+        defaults::create::<u64>()
     }
 
     fn bmap(&mut self) -> Result<(), Fault> {
-        defaults::no_such_call::<()>()
+        defaults::bmap()
     }
 
     fn destroy(&mut self) {
@@ -347,15 +347,15 @@ impl FileSystem for Unserved {
     }
 
     fn ioctl(&mut self) -> Result<(), Fault> {
-        defaults::no_such_call::<()>()
+        defaults::ioctl()
     }
 
     fn poll(&mut self) -> Result<(), Fault> {
-        defaults::no_such_call::<()>()
+        defaults::poll()
     }
 
     fn notify_reply(&mut self) -> Result<(), Fault> {
-        defaults::no_such_call::<()>()
+        defaults::notify_reply()
     }
 
     fn batch_forget(&mut self, ctx: Context, requests: Vec<(u64, u64)>)
@@ -373,7 +373,7 @@ impl FileSystem for Unserved {
         offset: u64,
         length: u64,
     ) -> Result<(), Fault> {
-        defaults::no_such_call::<()>()
+        defaults::fallocate()
     }
 
     fn lseek(
@@ -384,7 +384,7 @@ impl FileSystem for Unserved {
         offset: u64,
         whence: u32,
     ) -> Result<u64, Fault> {
-        defaults::no_such_call::<u64>()
+        defaults::lseek()
     }
 
     fn copyfilerange(
@@ -399,11 +399,11 @@ impl FileSystem for Unserved {
         len: u64,
         flags: u64,
     ) -> Result<u32, Fault> {
-        defaults::no_such_call::<u32>()
+        defaults::copyfilerange()
     }
 
     fn syncfs(&mut self, ctx: Context, inode: u64) -> Result<(), Fault> {
-        defaults::no_such_call::<()>()
+        defaults::syncfs()
     }
 
     fn tmpfile(&mut self) -> Fault {
@@ -423,10 +423,10 @@ impl SerializableFileSystem for Unserved {
     }
 
     fn serialize<W: io::Write>(&mut self, w: &mut W) -> Result<(), MigrateError> {
-        defaults::no_migration()
+        defaults::serialize()
     }
 
     fn deserialize_and_apply<R: io::Read>(&mut self, r: &mut R) -> Result<(), MigrateError> {
-        defaults::no_migration()
+        defaults::deserialize_and_apply()
     }
 }

@@ -1,6 +1,6 @@
 //! Small callers, each with what follows for it from the public contracts alone.
 
-ghost use Rattle.std.specs.Prelude.{◌≡◌, ◌≤◌, pos, negsuc, IsTrue, IfOk, IfErr, Some};
+ghost use Rattle.std.specs.Prelude.{◌≡◌, ◌≤◌, ◌+◌, ◌++◌, pos, negsuc, IsTrue, IfOk, IfErr, Some};
 ghost use Rattle.std.specs.Prelude.{Err, map, option_map, ℕ, List};
 ghost use Rattle.vfs_files.specs.Extensions.{context_values};
 ghost use Rattle.vfs_files.specs.Calls.{Unlink, not_served};
@@ -9,8 +9,8 @@ ghost use Rattle.vfs_files.specs.Names.{name_text};
 ghost use Rattle.vfs_files.specs.Runs.{ForgetsEach};
 
 use crate::{
-    CStr, CString, Context, Entry, Extensions, FileSystem, GetxattrReply, ListxattrReply, Number,
-    SecContext, Unserved, ZeroCopyWriter, defaults,
+    CStr, CString, Context, Entry, Extensions, FileSystem, GetxattrReply, ListxattrReply,
+    MigrateError, Number, SecContext, SerializableFileSystem, Unserved, ZeroCopyWriter, defaults,
 };
 use bitflags::Flags;
 use std::alloc::Global;
@@ -257,4 +257,53 @@ pub fn read_through<P: PositionedFile, W: ZeroCopyWriter>(
 {
     let count = size.min(u32::MAX - 16) as usize;
     w.read_from_file_at(f, count, offset)
+}
+
+/// A READ of any file system, whatever room it has: as many bytes are told as were put, no more
+/// than were asked for, and no more than a reply can count.
+pub fn bytes_of_a_read<F: FileSystem, W: ZeroCopyWriter>(
+    fs: &mut F,
+    ctx: Context,
+    w: &mut W,
+    size: u32,
+) -> Result<usize, Fault>
+    ensures asked { IfOk result (λ n. n ≤ size) }
+    ensures counted { IfOk result (λ n. n ≤ 4_294_967_279) }
+    ensures put { IfOk result (λ n. W.room w.new + n ≡ W.room w.old) }
+{
+    let inode = F::Inode::from_number(9);
+    let handle = F::Handle::from_number(5);
+    fs.read(ctx, inode, handle, w, size, 0, None, 0)
+}
+
+/// Bytes are moved up to position 2^64 - 2 alone: from the one behind it a transfer moves none, or
+/// fails.
+pub fn from_the_last_position<P: PositionedFile, W: ZeroCopyWriter>(
+    f: &mut P,
+    w: &mut W,
+    count: usize,
+) -> Result<usize, Fault>
+    ensures { IfOk result (λ n. n ≡ 0) }
+{
+    w.read_from_file_at(f, count, u64::MAX)
+}
+
+/// A state that is written stands behind what the vector had.
+pub fn saved_behind<F: SerializableFileSystem>(
+    fs: &mut F,
+    out: &mut Vec<u8>,
+) -> Result<(), MigrateError>
+    ensures { IfOk result (λ _. (bytes : List ℕ) × (out.new.items ≡ out.old.items ++ bytes)) }
+{
+    fs.serialize(out)
+}
+
+/// A state that is read is a beginning of the bytes that were there.
+pub fn restored_from<F: SerializableFileSystem>(
+    fs: &mut F,
+    saved: &mut &[u8],
+) -> Result<(), MigrateError>
+    ensures { IfOk result (λ _. (bytes : List ℕ) × (saved.old.now ≡ bytes ++ saved.new.now)) }
+{
+    fs.deserialize_and_apply(saved)
 }
