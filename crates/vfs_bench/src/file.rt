@@ -44,7 +44,7 @@ impl ScriptFile {
 impl PositionedFile for ScriptFile {
     ghost use Rattle.vfs_bench.specs.Scripts.{ReadsScript, WritesScript};
 
-    ghost write_gives = { λ old bytes off flags answer new. WritesScript old bytes answer new };
+    ghost write_gives = { WritesScript };
 
     ghost read_gives = { ReadsScript };
 

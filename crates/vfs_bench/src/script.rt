@@ -1,13 +1,13 @@
 //! A file system that answers what its maker says.
 
-ghost use Rattle.std.specs.Prelude.{◌≡◌, ℕ, List, None, Ok, Err, IfOk, IfErr};
+ghost use Rattle.std.specs.Prelude.{◌≡◌, ℕ, List, None, Some, Ok, Err, IfOk};
 ghost use Rattle.vfs_flags.specs.Flags.{setattr_valid_bits};
 ghost use Rattle.vfs_files.specs.Calls.{Getattr, Setattr, BatchForget, Options, Plain, Done};
 ghost use Rattle.vfs_files.specs.Calls.{not_served, default_opening, default_statistics};
 ghost use Rattle.vfs_files.specs.Calls.{init_answer, attr_answer, opened_answer, text_answer};
 ghost use Rattle.vfs_files.specs.Calls.{getxattr_answer, listxattr_answer};
-ghost use Rattle.vfs_files.specs.Answers.{FitsText, KeepsTextShort};
-ghost use Rattle.vfs_bench.specs.Scripts.{stays};
+ghost use Rattle.vfs_files.specs.Answers.{Text, FitsText, KeepsTextShort, written_answer};
+ghost use Rattle.vfs_bench.specs.Scripts.{Plays, MayTell, WritesFile};
 
 use crate::directory::{ScriptDirectory, ScriptEntries};
 use crate::file::ScriptFile;
@@ -91,18 +91,18 @@ impl Script {
     {
         Script {
             options: defaults::init(),
-            entry: defaults::no_such_call::<Entry>(),
-            attributes: defaults::no_such_call::<(Attr, Duration)>(),
+            entry: defaults::lookup(),
+            attributes: defaults::getattr(),
             opening: defaults::open::<u64>(),
-            creation: defaults::no_such_call::<(Entry, Option<u64>, OpenOptions)>(),
+            creation: defaults::create::<u64>(),
             statistics: defaults::statfs(),
-            text: defaults::no_such_call::<Vec<u8>>(),
-            value: defaults::no_such_call::<GetxattrReply>(),
-            names: defaults::no_such_call::<ListxattrReply>(),
-            offset: defaults::no_such_call::<u64>(),
+            text: defaults::readlink(),
+            value: defaults::getxattr(),
+            names: defaults::listxattr(),
+            offset: defaults::lseek(),
             file: None,
-            directory: defaults::no_such_call::<ScriptDirectory>(),
-            written: defaults::no_such_call::<u32>(),
+            directory: defaults::readdir::<ScriptDirectory>(),
+            written: defaults::copyfilerange(),
             done: defaults::no_such_call::<()>(),
             tmpfile: defaults::tmpfile(),
         }
@@ -150,13 +150,16 @@ const LONGEST_TEXT: usize = (1 << 32) - 17;
 /// The same bytes, in memory of their own: ENOMEM where there is none, and ERANGE where they are
 /// too many for a reply.
 fn same_bytes(bytes: &Vec<u8>) -> Result<Vec<u8>, Fault>
-    ensures same { IfOk result (λ copy. copy.items ≡ bytes.now.items) }
+    ensures told { MayTell (Text bytes.now.items) (Plain (text_answer result)) }
     ensures short { IfOk result (λ copy. FitsText copy.items) }
 {
     if bytes.len() > LONGEST_TEXT {
         return Err(Some(Errno::ERANGE));
     }
-    bytes.clone().map_err(|_| Some(Errno::ENOMEM))
+    match bytes.clone() {
+        Ok(copy) => Ok(copy),
+        Err(_) => Err(Some(Errno::ENOMEM)),
+    }
 }
 
 /// How many bytes `read` puts at most: with those of their header they can be counted in a reply.
@@ -169,7 +172,10 @@ fn write_file<R: ZeroCopyReader>(
     size: u32,
     offset: u64,
 ) -> Result<u32, Fault>
-    ensures { (bytes : List ℕ) × R.takes r.old bytes r.new }
+    ensures { (bytes : List ℕ) × R.takes r.old bytes r.new
+        × WritesFile (Some file.old) (R.left r.old) size offset
+        (Plain (written_answer result))
+        (Some file.new) }
 {
     match r.write_to_file_at(file, size as usize, offset, None) {
         Ok(count) => Ok(count as u32),
@@ -179,9 +185,8 @@ fn write_file<R: ZeroCopyReader>(
 
 /// The same text as `same_bytes` gives it, or the fault.
 fn same_text(text: &Result<Vec<u8>, Fault>) -> Result<Vec<u8>, Fault>
+    ensures told { MayTell (text_answer text.now) (Plain (text_answer result)) }
     ensures short { KeepsTextShort (text_answer result) }
-    ensures fault { IfErr text.now (λ fault. result ≡ Err fault) }
-    ensures same { IfOk text.now (λ bytes. IfOk result (λ copy. copy.items ≡ bytes.items)) }
 {
     match text {
         Ok(bytes) => same_bytes(bytes),
@@ -191,8 +196,8 @@ fn same_text(text: &Result<Vec<u8>, Fault>) -> Result<Vec<u8>, Fault>
 
 /// The same value as `same_bytes` gives it, the same length, or the fault.
 fn same_value(value: &Result<GetxattrReply, Fault>) -> Result<GetxattrReply, Fault>
+    ensures told { MayTell (getxattr_answer value.now) (Plain (getxattr_answer result)) }
     ensures short { KeepsTextShort (getxattr_answer result) }
-    ensures fault { IfErr value.now (λ fault. result ≡ Err fault) }
 {
     match value {
         Ok(GetxattrReply::Value(bytes)) => Ok(GetxattrReply::Value(same_bytes(bytes)?)),
@@ -203,8 +208,8 @@ fn same_value(value: &Result<GetxattrReply, Fault>) -> Result<GetxattrReply, Fau
 
 /// The same names as `same_bytes` gives them, the same length, or the fault.
 fn same_names(names: &Result<ListxattrReply, Fault>) -> Result<ListxattrReply, Fault>
+    ensures told { MayTell (listxattr_answer names.now) (Plain (listxattr_answer result)) }
     ensures short { KeepsTextShort (listxattr_answer result) }
-    ensures fault { IfErr names.now (λ fault. result ≡ Err fault) }
 {
     match names {
         Ok(ListxattrReply::Names(bytes)) => Ok(ListxattrReply::Names(same_bytes(bytes)?)),
@@ -220,7 +225,7 @@ impl FileSystem for Script {
 
     type DirIter = ScriptEntries;
 
-    ghost allows = { stays };
+    ghost allows = { Plays };
 
     fn lookup(&mut self, ctx: Context, parent: u64, name: CStr<'_>) -> Result<Entry, Fault> {
         same_entry_answer(&self.entry)
@@ -236,7 +241,7 @@ impl FileSystem for Script {
         inode: u64,
         handle: Option<u64>,
     ) -> Result<(Attr, Duration), Fault>
-        ensures { stays self.old
+        ensures { Plays self.old
             (Getattr ctx inode handle)
             (Plain (attr_answer result))
             self.new }
@@ -252,7 +257,7 @@ impl FileSystem for Script {
         handle: Option<u64>,
         valid: SetattrValid,
     ) -> Result<(Attr, Duration), Fault>
-        ensures { stays self.old
+        ensures { Plays self.old
             (Setattr ctx inode attr handle
             (setattr_valid_bits valid))
             (Plain (attr_answer result))
@@ -354,7 +359,7 @@ impl FileSystem for Script {
     ) -> Result<usize, Fault> {
         match &mut self.file {
             Some(file) => w.read_from_file_at(file, size.min(MOST_PUT) as usize, offset),
-            None => defaults::no_such_call::<usize>(),
+            None => defaults::read(),
         }
     }
 
@@ -373,7 +378,7 @@ impl FileSystem for Script {
     ) -> Result<u32, Fault> {
         match &mut self.file {
             Some(file) => write_file(file, r, size, offset),
-            None => defaults::no_such_call::<u32>(),
+            None => defaults::write(),
         }
     }
 
@@ -542,7 +547,7 @@ impl FileSystem for Script {
     }
 
     fn batch_forget(&mut self, ctx: Context, requests: Vec<(u64, u64)>)
-        ensures { stays self.old
+        ensures { Plays self.old
             (BatchForget ctx requests.items)
             (Plain Done)
             self.new }

@@ -1,16 +1,19 @@
 //! Recorders and scripts at work: calls of this crate, each with a fact that its contracts give.
 
-ghost use Rattle.std.specs.Prelude.{◌≡◌, ◌≤◌, ◌<◌, ◌++◌, [], ◌∷◌, true, false, length, IfOk, IsOk};
-ghost use Rattle.std.specs.Prelude.{None, vec_len};
+ghost use Rattle.std.specs.Prelude.{◌≡◌, ◌≤◌, ◌<◌, ◌++◌, [], ◌∷◌, true, false, length, map, vec_len};
+ghost use Rattle.std.specs.Prelude.{Some, None, Ok, Err, IfSome, IfOk, IfErr, IsOk};
 ghost use Rattle.vfs_files.specs.Answers.{entry_answer};
-ghost use Rattle.vfs_files.specs.Calls.{no_such_call, not_served};
+ghost use Rattle.vfs_files.specs.Calls.{no_such_call, not_served, no_memory};
 ghost use Rattle.vfs_bench.specs.Directories.{GivesNext, Reading};
+ghost use Rattle.vfs_bench.specs.Notes.{told};
 ghost use Rattle.vfs_bench.specs.declared.note.NoteKind.TheVariants.{Nothing, Fault as Failed};
 
-use crate::{Recorder, Script, ScriptDirectory, ScriptEntries, ScriptItem};
+use crate::laws::notes_are_the_calls;
+use crate::{Recorder, Script, ScriptDirectory, ScriptEntries, ScriptFile, ScriptItem};
 use std::alloc::Global;
-use vfs_files::{CStr, Context, Entry, FileSystem, Unserved};
-use vfs_flags::Fault;
+use vfs_files::uses::forget_each;
+use vfs_files::{CStr, Context, Entry, FileSystem, Unserved, ZeroCopyReader, ZeroCopyWriter};
+use vfs_flags::{Errno, Fault};
 
 /// Looks a name up in node 9 of a file system that serves nothing: one note more says so.
 pub fn lookup_is_noted(
@@ -60,8 +63,8 @@ pub fn forget_is_noted(recorder: &mut Recorder<Unserved>, ctx: Context)
     recorder.forget(ctx, 9, 3);
 }
 
-/// A recorder with one place, after one call.
-pub fn first_of_one(alloc: Global) -> Result<Recorder<Unserved>, Fault>
+/// A recorder with one place, after two calls: it has the note of the first, and missed the second.
+pub fn first_of_two(alloc: Global) -> Result<Recorder<Unserved>, Fault>
     ensures notes { IfOk result (λ recorder. recorder.notes ≡ record {
       call = 31;
       node = 0;
@@ -69,11 +72,26 @@ pub fn first_of_one(alloc: Global) -> Result<Recorder<Unserved>, Fault>
       kind = Failed;
       value = 38;
     } ∷ []) }
-    ensures not_missed { IfOk result (λ recorder. recorder.missed ≡ false) }
+    ensures missed { IfOk result (λ recorder. recorder.missed ≡ true) }
 {
     let mut recorder = Recorder::new(alloc, Unserved {}, 1)?;
     let _ = recorder.getlk();
+    let _ = recorder.setlk();
     Ok(recorder)
+}
+
+/// Takes lookups of many nodes back, one by one: where none is missed there is a note for each, in
+/// order.
+pub fn forgets_are_noted(
+    recorder: &mut Recorder<Unserved>,
+    ctx: &Context,
+    requests: Vec<(u64, u64)>,
+)
+    ensures { recorder.new.missed ≡ false →
+        recorder.new.notes ≡ recorder.old.notes ++ map (λ p. told 2 p.0 p.1) requests.items }
+{
+    notes_are_the_calls::<Unserved>();
+    forget_each(recorder, ctx, requests);
 }
 
 /// A file system that says of each call that it was done, where it says no more than that.
@@ -84,6 +102,104 @@ pub fn all_done() -> Script
     let mut script = Script::new();
     script.done = Ok(());
     script
+}
+
+/// A script answers what its maker set, and keeps it: `lookup` that the name isn't there, and
+/// `unlink` behind it that it was done.
+pub fn what_was_set(
+    script: &mut Script,
+    ctx: &Context,
+    name: CStr<'_>,
+) -> (Result<Entry, Fault>, Result<(), Fault>)
+    ensures lookup { result.0 ≡ Err (Some 2) }
+    ensures unlink { result.1 ≡ Ok tt }
+{
+    script.entry = Err(Some(Errno::ENOENT));
+    script.done = Ok(());
+    let found = script.lookup(*ctx, 1, name);
+    let done = script.unlink(*ctx, 1, name);
+    (found, done)
+}
+
+/// The text of a link that was set is answered: where there is no memory for a copy that is ENOMEM,
+/// and where it is too long for a reply ERANGE.
+pub fn text_that_was_set(script: &mut Script, ctx: Context, text: Vec<u8>) -> Result<Vec<u8>, Fault>
+    ensures same { IfOk result (λ copy. copy.items ≡ text.items) }
+    ensures short { vec_len text < 4_294_967_280 → IfErr result (λ fault. fault ≡ no_memory) }
+    ensures long { 4_294_967_280 ≤ vec_len text → result ≡ Err (Some 34) }
+{
+    script.text = Ok(text);
+    script.readlink(ctx, 1)
+}
+
+/// The directory that was set is read from its first item on: where there is no memory for that it
+/// is ENOMEM.
+pub fn directory_that_was_set(
+    script: &mut Script,
+    ctx: Context,
+    directory: ScriptDirectory,
+) -> Result<ScriptEntries, Fault>
+    ensures begun { IfOk result (λ entries. entries ≡ directory) }
+    ensures memory { IfErr result (λ fault. fault ≡ no_memory) }
+{
+    script.directory = Ok(directory);
+    script.readdir(ctx, 1, 0, 4096, 0)
+}
+
+/// Where no file was set neither READ nor WRITE is served.
+pub fn without_a_file<W: ZeroCopyWriter, R: ZeroCopyReader>(
+    script: &mut Script,
+    ctx: &Context,
+    w: &mut W,
+    r: &mut R,
+) -> (Result<usize, Fault>, Result<u32, Fault>)
+    ensures read { result.0 ≡ Err not_served }
+    ensures written { result.1 ≡ Err not_served }
+{
+    script.file = None;
+    let read = script.read(*ctx, 1, 0, w, 4096, 0, None, 0);
+    let written = script.write(*ctx, 1, 0, r, 4096, 0, None, false, false, 0);
+    (read, written)
+}
+
+/// READ of one byte of a file of sevens puts a seven.
+pub fn one_byte_of_a_file<W: ZeroCopyWriter>(
+    script: &mut Script,
+    ctx: Context,
+    w: &mut W,
+) -> Result<usize, Fault>
+    requires { 0 < W.room w.old }
+    ensures answer { result ≡ Ok 1 }
+    ensures put { W.puts w.old (7 ∷ []) w.new }
+{
+    script.file = Some(ScriptFile {
+        most: 1,
+        fails_at: None,
+        fault: None,
+        byte: 7,
+        calls: 0,
+    });
+    script.read(ctx, 1, 0, w, 1, 0, None, 0)
+}
+
+/// WRITE to a file that takes no byte: 0 is answered, and the file was called once.
+pub fn file_that_takes_no_byte<R: ZeroCopyReader>(
+    script: &mut Script,
+    ctx: Context,
+    r: &mut R,
+) -> Result<u32, Fault>
+    requires { 0 < length (R.left r.old) }
+    ensures answer { result ≡ Ok 0 }
+    ensures called { IfSome script.new.file (λ file. file.calls ≡ 1) }
+{
+    script.file = Some(ScriptFile {
+        most: 0,
+        fails_at: None,
+        fault: None,
+        byte: 0,
+        calls: 0,
+    });
+    script.write(ctx, 1, 0, r, 4096, 0, None, false, false, 0)
 }
 
 /// A reading of a directory that has items and no end: it never gives the end.
