@@ -4,7 +4,7 @@ ghost use Rattle.std.specs.Prelude.{◌≡◌, ℕ, List, Some};
 ghost use Rattle.vfs_files.specs.Names.{IsName, name_of};
 ghost use Rattle.vfs_files.specs.Answers.{IsAnswer};
 ghost use Rattle.vfs_files.specs.Calls.{Call, kind_of, default_answer};
-ghost use Rattle.vfs_files.specs.Runs.{RunsJoin, EventsJoin};
+ghost use Rattle.vfs_files.specs.Runs.{RunsJoin, EventsJoin, RunsGoOn};
 
 use crate::filesystem::FileSystem;
 
@@ -16,6 +16,15 @@ use crate::filesystem::FileSystem;
 pub fn runs_join<F: FileSystem>()
     ensures runs { RunsJoin F.allows F.DirIter.gives }
     ensures events { EventsJoin F F.DirIter }
+{}
+
+/// A run goes on from state to state, and its takings from iterator to iterator.
+///
+/// Over an opening, a taking, a call and a taking: each call is allowed in the state that the call
+/// before it left, the first taking is one of the iterator that was opened, the second one of what
+/// the first left, and neither changes the state.
+pub fn runs_go_on<F: FileSystem>()
+    ensures { RunsGoOn F.allows F.DirIter.gives }
 {}
 
 /// A byte list is a name where its last byte is 0 and no other is, and its text is the rest.
