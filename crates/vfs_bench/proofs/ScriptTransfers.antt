@@ -28,8 +28,8 @@ module _ (room : ℕ) (some_room : 0 < room) where
       (ending : Ending) (new : ScriptFile) → length part ≡ 1
       → Goes (reads_of ReadsScript) 1 room 0 (0 + length part) old row middle
       → Ends (reads_of ReadsScript) 1 room 0 (length part + count_moved row) middle ending new
-      → (row ≡ []) × (ending ≡ Done)
-  then_nothing part [] old middle Done new one g e = (refl, refl)
+      → (row ≡ []) × (ending ≡ Done) × (new ≡ old)
+  then_nothing part [] old middle Done new one g e = (refl, refl, e.1 ∙ g)
   then_nothing part [] old middle Stuck new one g e = let some = e.0 in absurd (omega arith)
   then_nothing part [] old middle (Broken fault) new one g e =
       let some = e.0 in absurd (omega arith)
@@ -42,7 +42,9 @@ module _ (room : ℕ) (some_room : 0 < room) where
       (row : List (List ℕ × ScriptFile)) (middle : ScriptFile) (ending : Ending) (new : ScriptFile)
       → Goes (reads_of ReadsScript) 1 room 0 0 (moving 1 7) row middle
       → Ends (reads_of ReadsScript) 1 room 0 (count_moved row) middle ending new
-      → (outcome (count_moved row) ending ≡ Ok 1) × (bytes_moved row ++ last_bytes ending ≡ 7 ∷ [])
+      → (outcome (count_moved row) ending ≡ Ok 1)
+      × (bytes_moved row ++ last_bytes ending ≡ 7 ∷ [])
+      × (new ≡ called (moving 1 7))
   reads_seven [] middle Done new g e = absurd (omega (arith, e.0))
   reads_seven [] middle Stuck new g e =
       absurd (omega (arith, number_is _ _ (rw g at e).1.answered))
@@ -56,21 +58,22 @@ module _ (room : ℕ) (some_room : 0 < room) where
       let sum : count_moved ((part, old) ∷ cs) ≡ length part + count_moved cs =
       sum_by-cons (λ (x : List ℕ × ScriptFile). length x.0) (part, old) cs in
       let nothing = then_nothing part cs old middle ending new one g.2 (rw sum at e) in
-      rw (nothing.0, nothing.1) (ap Ok (omega (arith, one)), ap (λ l. l ++ [] ++ []) seven)
+      rw (nothing.0, nothing.1)
+      (ap Ok (omega (arith, one)), ap (λ l. l ++ [] ++ []) seven, nothing.2 ∙ call.counted)
 
   -- READ of one byte of the file of sevens
   pub seven_is_read :
       (result : Result ℕ (Option ℕ)) (bytes : List ℕ) (new : Option ScriptFile)
       → Counts result bytes 1
       → ReadsFile (Some (moving 1 7)) room 1 0 (Plain (read_answer result bytes)) new
-      → (result ≡ Ok 1) × (bytes ≡ 7 ∷ [])
+      → (result ≡ Ok 1) × (bytes ≡ 7 ∷ []) × (new ≡ Some (called (moving 1 7)))
   seven_is_read (Ok n) bytes new counts r =
       let t = r.5 in
       let moved = reads_seven t.row t.middle t.ending r.2 t.goes t.ends in
       let handed = rw (t.answered ∙ moved.0) at r.3 in
       let put : bytes ≡ r.0 = cc in
       let seven : bytes ≡ 7 ∷ [] = put ∙ t.bytes_are ∙ moved.1 in
-      (ap Ok (counts.0 ∙ ap length seven), seven)
+      (ap Ok (counts.0 ∙ ap length seven), seven, r.4 ∙ ap Some moved.2)
   seven_is_read (Err fault) bytes new counts r =
       let t = r.5 in
       let moved = reads_seven t.row t.middle t.ending r.2 t.goes t.ends in

@@ -1,5 +1,5 @@
 -- What the tests' file system may do.
-use Rattle.std.specs.Prelude.{◌≡◌, ◌==◌, ◌≤◌, ◌<◌, ◌+◌, ◌-◌, ◌^◌, ◌⊎◌, ℕ, List, length, min, replicate, Option, Some, None, Result, Ok, Err, Bool, false, if◌then◌else◌}
+use Rattle.std.specs.Prelude.{◌≡◌, ◌==◌, ◌≤◌, ◌<◌, ◌+◌, ◌-◌, ◌^◌, ◌⊎◌, ℕ, List, length, min, replicate, Option, Some, None, Result, Ok, Err, Bool, true, false, if◌then◌else◌}
 use Rattle.vfs_views.specs.declared.file.WritevFlags.{WritevFlags}
 use Rattle.vfs_files.specs.Answers.{Answer, Done, Failed, Text, Handed, Plain, Iterator}
 use Rattle.vfs_files.specs.Answers.{init_answer, entry_answer, attr_answer, done_answer, opened_answer, created_answer, statistics_answer, text_answer, getxattr_answer, listxattr_answer, offset_answer, written_answer, read_answer}
@@ -74,14 +74,27 @@ said script _ = done_answer script.done
 abbrev pub too_long : Option ℕ
 too_long = Some 34
 
--- what may be handed back where this was set: just that. But a text is copied: where there is no
--- memory for it that is ENOMEM, and of one that is too long for a reply ERANGE
-abbrev pub MayTell : Answer → Handed Reading → Type 0
-MayTell (Text bytes) handed =
+-- whether a call answers a text, which is copied
+abbrev pub tells_text : Call → Bool
+tells_text (Readlink _ _) = true
+tells_text (Getxattr _ _ _ _) = true
+tells_text (Listxattr _ _ _) = true
+tells_text _ = false
+
+-- what may be handed back where this text was set: just that, or ENOMEM where there is no memory
+-- for a copy; and of one that is too long for a reply ERANGE. A fault or a length is handed back
+abbrev pub MayCopy : Answer → Handed Reading → Type 0
+MayCopy (Text bytes) handed =
     (length bytes < 2 ^ 32 - 16
     → (handed ≡ Plain (Text bytes)) ⊎ (handed ≡ Plain (Failed no_memory)))
     × (2 ^ 32 - 16 ≤ length bytes → handed ≡ Plain (Failed too_long))
-MayTell set handed = handed ≡ Plain set
+MayCopy set handed = handed ≡ Plain set
+
+-- what may be handed back where this was set: just that, or, where the first argument says that
+-- texts are copied, a copy
+abbrev pub MayTell : Bool → Answer → Handed Reading → Type 0
+MayTell false set handed = handed ≡ Plain set
+MayTell true set handed = MayCopy set handed
 
 -- what may be handed back where this directory or fault was set: a reading of it from the first
 -- item on, or ENOMEM where there is no memory for one; or the fault
@@ -113,12 +126,6 @@ WritesFile (Some file) bytes size offset handed new =
 -- each call answers what the script's maker set, and the script stays as it was, but for its file,
 -- of which the calls are counted
 abbrev pub Plays : Script → Call → Handed Reading → Script → Type 0
-Plays old (Readlink ctx inode) handed new =
-    MayTell (said old (Readlink ctx inode)) handed × (new ≡ old)
-Plays old (Getxattr ctx inode name size) handed new =
-    MayTell (said old (Getxattr ctx inode name size)) handed × (new ≡ old)
-Plays old (Listxattr ctx inode size) handed new =
-    MayTell (said old (Listxattr ctx inode size)) handed × (new ≡ old)
 Plays old (Readdir _ _ _ _ _) handed new = MayOpen old.directory handed × (new ≡ old)
 Plays old (Read _ _ _ room size offset _ _) handed new =
     ReadsFile old.file room size offset handed new.file
@@ -126,4 +133,4 @@ Plays old (Read _ _ _ room size offset _ _) handed new =
 Plays old (Write _ _ _ bytes size offset _ _ _ _) handed new =
     WritesFile old.file bytes size offset handed new.file
     × (new ≡ record old { file = new.file })
-Plays old call handed new = (handed ≡ Plain (said old call)) × (new ≡ old)
+Plays old call handed new = MayTell (tells_text call) (said old call) handed × (new ≡ old)

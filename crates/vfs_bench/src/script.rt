@@ -7,7 +7,7 @@ ghost use Rattle.vfs_files.specs.Calls.{not_served, default_opening, default_sta
 ghost use Rattle.vfs_files.specs.Calls.{init_answer, attr_answer, opened_answer, text_answer};
 ghost use Rattle.vfs_files.specs.Calls.{getxattr_answer, listxattr_answer};
 ghost use Rattle.vfs_files.specs.Answers.{Text, FitsText, KeepsTextShort, written_answer};
-ghost use Rattle.vfs_bench.specs.Scripts.{Plays, MayTell, WritesFile};
+ghost use Rattle.vfs_bench.specs.Scripts.{Plays, MayCopy, WritesFile};
 
 use crate::directory::{ScriptDirectory, ScriptEntries};
 use crate::file::ScriptFile;
@@ -150,7 +150,7 @@ const LONGEST_TEXT: usize = (1 << 32) - 17;
 /// The same bytes, in memory of their own: ENOMEM where there is none, and ERANGE where they are
 /// too many for a reply.
 fn same_bytes(bytes: &Vec<u8>) -> Result<Vec<u8>, Fault>
-    ensures told { MayTell (Text bytes.now.items) (Plain (text_answer result)) }
+    ensures told { MayCopy (Text bytes.now.items) (Plain (text_answer result)) }
     ensures short { IfOk result (λ copy. FitsText copy.items) }
 {
     if bytes.len() > LONGEST_TEXT {
@@ -185,7 +185,7 @@ fn write_file<R: ZeroCopyReader>(
 
 /// The same text as `same_bytes` gives it, or the fault.
 fn same_text(text: &Result<Vec<u8>, Fault>) -> Result<Vec<u8>, Fault>
-    ensures told { MayTell (text_answer text.now) (Plain (text_answer result)) }
+    ensures told { MayCopy (text_answer text.now) (Plain (text_answer result)) }
     ensures short { KeepsTextShort (text_answer result) }
 {
     match text {
@@ -196,7 +196,7 @@ fn same_text(text: &Result<Vec<u8>, Fault>) -> Result<Vec<u8>, Fault>
 
 /// The same value as `same_bytes` gives it, the same length, or the fault.
 fn same_value(value: &Result<GetxattrReply, Fault>) -> Result<GetxattrReply, Fault>
-    ensures told { MayTell (getxattr_answer value.now) (Plain (getxattr_answer result)) }
+    ensures told { MayCopy (getxattr_answer value.now) (Plain (getxattr_answer result)) }
     ensures short { KeepsTextShort (getxattr_answer result) }
 {
     match value {
@@ -208,7 +208,7 @@ fn same_value(value: &Result<GetxattrReply, Fault>) -> Result<GetxattrReply, Fau
 
 /// The same names as `same_bytes` gives them, the same length, or the fault.
 fn same_names(names: &Result<ListxattrReply, Fault>) -> Result<ListxattrReply, Fault>
-    ensures told { MayTell (listxattr_answer names.now) (Plain (listxattr_answer result)) }
+    ensures told { MayCopy (listxattr_answer names.now) (Plain (listxattr_answer result)) }
     ensures short { KeepsTextShort (listxattr_answer result) }
 {
     match names {

@@ -1,7 +1,7 @@
 //! Recorders and scripts at work: calls of this crate, each with a fact that its contracts give.
 
 ghost use Rattle.std.specs.Prelude.{◌≡◌, ◌≤◌, ◌<◌, ◌++◌, [], ◌∷◌, true, false, length, map, vec_len};
-ghost use Rattle.std.specs.Prelude.{Some, None, Ok, Err, IfSome, IfOk, IfErr, IsOk};
+ghost use Rattle.std.specs.Prelude.{Some, None, Ok, Err, IfSome, IfOk, IfErr, IsOk, IsSome};
 ghost use Rattle.vfs_files.specs.Answers.{entry_answer};
 ghost use Rattle.vfs_files.specs.Calls.{no_such_call, not_served, no_memory};
 ghost use Rattle.vfs_bench.specs.Directories.{GivesNext, Reading};
@@ -12,7 +12,10 @@ use crate::laws::notes_are_the_calls;
 use crate::{Recorder, Script, ScriptDirectory, ScriptEntries, ScriptFile, ScriptItem};
 use std::alloc::Global;
 use vfs_files::uses::forget_each;
-use vfs_files::{CStr, Context, Entry, FileSystem, Unserved, ZeroCopyReader, ZeroCopyWriter};
+use vfs_files::{
+    CStr, Context, DirectoryIterator, Entry, FileSystem, GetxattrReply, Unserved, ZeroCopyReader,
+    ZeroCopyWriter,
+};
 use vfs_flags::{Errno, Fault};
 
 /// Looks a name up in node 9 of a file system that serves nothing: one note more says so.
@@ -104,21 +107,33 @@ pub fn all_done() -> Script
     script
 }
 
-/// A script answers what its maker set, and keeps it: `lookup` that the name isn't there, and
-/// `unlink` behind it that it was done.
+/// A script answers what its maker set, and keeps it: `lookup` that the name isn't there, then
+/// `getxattr` that a value has 9 bytes, `readdir` that it is no directory, and `unlink` that it was
+/// done.
 pub fn what_was_set(
     script: &mut Script,
     ctx: &Context,
     name: CStr<'_>,
-) -> (Result<Entry, Fault>, Result<(), Fault>)
+) -> (
+    Result<Entry, Fault>,
+    Result<GetxattrReply, Fault>,
+    Result<ScriptEntries, Fault>,
+    Result<(), Fault>,
+)
     ensures lookup { result.0 ≡ Err (Some 2) }
-    ensures unlink { result.1 ≡ Ok tt }
+    ensures getxattr { result.1 ≡ Ok (GetxattrReply.Count 9) }
+    ensures readdir { result.2 ≡ Err (Some 20) }
+    ensures unlink { result.3 ≡ Ok tt }
 {
     script.entry = Err(Some(Errno::ENOENT));
+    script.value = Ok(GetxattrReply::Count(9));
+    script.directory = Err(Some(Errno::ENOTDIR));
     script.done = Ok(());
     let found = script.lookup(*ctx, 1, name);
+    let value = script.getxattr(*ctx, 1, name, 0);
+    let entries = script.readdir(*ctx, 1, 0, 4096, 0);
     let done = script.unlink(*ctx, 1, name);
-    (found, done)
+    (found, value, entries, done)
 }
 
 /// The text of a link that was set is answered: where there is no memory for a copy that is ENOMEM,
@@ -141,6 +156,7 @@ pub fn directory_that_was_set(
 ) -> Result<ScriptEntries, Fault>
     ensures begun { IfOk result (λ entries. entries ≡ directory) }
     ensures memory { IfErr result (λ fault. fault ≡ no_memory) }
+    ensures kept { script.new.directory ≡ Ok directory }
 {
     script.directory = Ok(directory);
     script.readdir(ctx, 1, 0, 4096, 0)
@@ -155,6 +171,7 @@ pub fn without_a_file<W: ZeroCopyWriter, R: ZeroCopyReader>(
 ) -> (Result<usize, Fault>, Result<u32, Fault>)
     ensures read { result.0 ≡ Err not_served }
     ensures written { result.1 ≡ Err not_served }
+    ensures file { script.new.file ≡ None }
 {
     script.file = None;
     let read = script.read(*ctx, 1, 0, w, 4096, 0, None, 0);
@@ -162,7 +179,7 @@ pub fn without_a_file<W: ZeroCopyWriter, R: ZeroCopyReader>(
     (read, written)
 }
 
-/// READ of one byte of a file of sevens puts a seven.
+/// READ of one byte of a file of sevens puts a seven, and calls the file once.
 pub fn one_byte_of_a_file<W: ZeroCopyWriter>(
     script: &mut Script,
     ctx: Context,
@@ -171,6 +188,8 @@ pub fn one_byte_of_a_file<W: ZeroCopyWriter>(
     requires { 0 < W.room w.old }
     ensures answer { result ≡ Ok 1 }
     ensures put { W.puts w.old (7 ∷ []) w.new }
+    ensures called { IfSome script.new.file (λ file. file.calls ≡ 1) }
+    ensures kept { script.new.done ≡ script.old.done }
 {
     script.file = Some(ScriptFile {
         most: 1,
@@ -191,6 +210,7 @@ pub fn file_that_takes_no_byte<R: ZeroCopyReader>(
     requires { 0 < length (R.left r.old) }
     ensures answer { result ≡ Ok 0 }
     ensures called { IfSome script.new.file (λ file. file.calls ≡ 1) }
+    ensures kept { script.new.done ≡ script.old.done }
 {
     script.file = Some(ScriptFile {
         most: 0,
@@ -208,6 +228,25 @@ pub fn reading_without_end(alloc: Global, items: Vec<ScriptItem>) -> Result<Scri
     ensures { IfOk result (λ entries. (new : Reading) → ¬ (GivesNext entries None new)) }
 {
     ScriptDirectory::endless(alloc, items)?.entries()
+}
+
+/// A reading that has one item left and ends behind it: gives that item, then the end, and then the
+/// end again.
+pub fn one_item_and_the_end(entries: &mut ScriptEntries) -> (Option<u64>, bool, bool)
+    requires last { length entries.old.left ≡ 1 }
+    requires ends { entries.old.again ≡ [] }
+    ensures item { IfSome result.0 (λ ino. map (λ item. item.ino) entries.old.left ≡ ino ∷ []) }
+    ensures some { IsSome result.0 }
+    ensures ended { result.1 ≡ true }
+    ensures again { result.2 ≡ true }
+{
+    let first = match entries.next() {
+        Some(entry) => Some(entry.ino),
+        None => None,
+    };
+    let ended = entries.next().is_none();
+    let again = entries.next().is_none();
+    (first, ended, again)
 }
 
 /// How many calls a recorder noted, where it missed none.

@@ -52,20 +52,6 @@ module _ {S I : Type 0}
       → IsRun it first before middle → IsRun None middle after last
       → IsRun it first (before ++ after) last
 
-  -- a run goes on from state to state and from iterator to iterator: over an opening, a taking, a
-  -- call and a taking each is allowed or given where the one before it left off
-  abbrev pub RunsGoOn : Type 0
-  RunsGoOn =
-      (old opened first called second new : S) (opening call : Call) (answer : Answer)
-      (it a b c d : I) (item next : Option Item)
-      → IsRun None old
-      ((Opens opening it, opened) ∷ (Takes a item b, first)
-      ∷ (Calls call answer, called) ∷ (Takes c next d, second) ∷ [])
-      new
-      → allows old opening (Iterator it) opened × gives it item b
-      × allows opened call (Plain answer) called × gives b next d
-      × (new ≡ called)
-
 -- the events of a run, without states and iterators
 abbrev pub events_of : {S I : Type 0} → List (Happening I × S) → List Event
 events_of [] = []

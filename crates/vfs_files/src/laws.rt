@@ -1,10 +1,11 @@
 //! What holds of names and of every file system by their definitions.
 
-ghost use Rattle.std.specs.Prelude.{◌≡◌, ℕ, List, Some};
+ghost use Rattle.std.specs.Prelude.{◌≡◌, ℕ, List, [], ◌∷◌, Option, Some, None};
 ghost use Rattle.vfs_files.specs.Names.{IsName, name_of};
 ghost use Rattle.vfs_files.specs.Answers.{IsAnswer};
-ghost use Rattle.vfs_files.specs.Calls.{Call, kind_of, default_answer};
-ghost use Rattle.vfs_files.specs.Runs.{RunsJoin, EventsJoin, RunsGoOn};
+ghost use Rattle.vfs_files.specs.Calls.{Call, Answer, Plain, Iterator, kind_of, default_answer};
+ghost use Rattle.vfs_files.specs.Items.{Item};
+ghost use Rattle.vfs_files.specs.Runs.{IsRun, Calls, Opens, Takes, RunsJoin, EventsJoin};
 
 use crate::filesystem::FileSystem;
 
@@ -24,7 +25,15 @@ pub fn runs_join<F: FileSystem>()
 /// before it left, the first taking is one of the iterator that was opened, the second one of what
 /// the first left, and neither changes the state.
 pub fn runs_go_on<F: FileSystem>()
-    ensures { RunsGoOn F.allows F.DirIter.gives }
+    ensures { (old opened first called second new : F) (opening call : Call) (answer : Answer)
+        (it a b c d : F.DirIter) (item next : Option Item) →
+        IsRun F.allows F.DirIter.gives None old
+        ((Opens opening it, opened) ∷ (Takes a item b, first) ∷ (Calls call answer, called)
+        ∷ (Takes c next d, second) ∷ [])
+        new →
+        F.allows old opening (Iterator it) opened × F.DirIter.gives it item b
+        × F.allows opened call (Plain answer) called × F.DirIter.gives b next d
+        × (new ≡ called) }
 {}
 
 /// A byte list is a name where its last byte is 0 and no other is, and its text is the rest.

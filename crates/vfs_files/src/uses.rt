@@ -8,6 +8,7 @@ ghost use Rattle.vfs_files.specs.Answers.{Plain, done_answer, Counts};
 ghost use Rattle.vfs_files.specs.Names.{name_text};
 ghost use Rattle.vfs_files.specs.Runs.{ForgetsEach};
 
+use crate::laws::runs_join;
 use crate::{
     CStr, CString, Context, Entry, Extensions, FileSystem, GetxattrReply, ListxattrReply,
     MigrateError, Number, SecContext, SerializableFileSystem, Unserved, ZeroCopyWriter, defaults,
@@ -193,6 +194,24 @@ pub fn forget_each<F: FileSystem>(fs: &mut F, ctx: &Context, requests: Vec<(F::I
     for (inode, count) in requests {
         fs.forget(*ctx, inode, count);
     }
+}
+
+/// Forgets the nodes of one list and then those of another, which is to forget those of both.
+pub fn forget_two_lists<F: FileSystem>(
+    fs: &mut F,
+    ctx: &Context,
+    first: Vec<(F::Inode, u64)>,
+    second: Vec<(F::Inode, u64)>,
+)
+    ensures { ForgetsEach F.allows F.DirIter.gives ctx.now
+        (map (λ p. (F.Inode.value p.0, p.1)) first.items
+        ++ map (λ p. (F.Inode.value p.0, p.1)) second.items)
+        fs.old
+        fs.new }
+{
+    runs_join::<F>();
+    forget_each(fs, ctx, first);
+    forget_each(fs, ctx, second);
 }
 
 /// The text of a link has at most 4,294,967,279 bytes, whatever the file system.

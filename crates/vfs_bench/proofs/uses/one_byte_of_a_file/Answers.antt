@@ -1,3 +1,4 @@
+use Rattle.std.proofs.Common.{refl}
 use Rattle.vfs_bench.proofs.ScriptTransfers.{seven_is_read}
 use Rattle.vfs_bench.proofs.uses.one_byte_of_a_file.Goals as goal
 
@@ -10,3 +11,8 @@ pub returns-clause-put : goal.returns-clause-put
 returns-clause-put g c =
     let read = c.read.ensures in
     rw (seven_is_read _ c.requires _ read.0 _ read.2 read.3.0).1 at read.1
+
+pub returns-clause-called : goal.returns-clause-called
+returns-clause-called g c =
+    let read = c.read.ensures in
+    rw (seven_is_read _ c.requires _ read.0 _ read.2 read.3.0).2 refl
