@@ -136,11 +136,11 @@ impl FileSystem for NullFs {
     ) -> Result<(Attr, Duration), Fault>
         ensures { ⊤ }
     {
-        defaults::no_such_call::<(Attr, Duration)>()
+        defaults::setattr()
     }
 
     fn readlink(&mut self, ctx: Context, inode: u64) -> Result<Vec<u8>, Fault> {
-        defaults::no_such_call::<Vec<u8>>()
+        defaults::readlink()
     }
 
     fn symlink(
@@ -151,7 +151,7 @@ impl FileSystem for NullFs {
         name: CStr<'_>,
         ext: Extensions,
     ) -> Result<Entry, Fault> {
-        defaults::no_such_call::<Entry>()
+        defaults::symlink()
     }
 
     fn mknod(
@@ -164,7 +164,7 @@ impl FileSystem for NullFs {
         umask: u32,
         ext: Extensions,
     ) -> Result<Entry, Fault> {
-        defaults::no_such_call::<Entry>()
+        defaults::mknod()
     }
 
     fn mkdir(
@@ -184,11 +184,11 @@ impl FileSystem for NullFs {
     }
 
     fn unlink(&mut self, ctx: Context, parent: u64, name: CStr<'_>) -> Result<(), Fault> {
-        defaults::no_such_call::<()>()
+        defaults::unlink()
     }
 
     fn rmdir(&mut self, ctx: Context, parent: u64, name: CStr<'_>) -> Result<(), Fault> {
-        defaults::no_such_call::<()>()
+        defaults::rmdir()
     }
 
     fn rename(
@@ -200,7 +200,7 @@ impl FileSystem for NullFs {
         newname: CStr<'_>,
         flags: u32,
     ) -> Result<(), Fault> {
-        defaults::no_such_call::<()>()
+        defaults::rename()
     }
 
     fn link(
@@ -210,7 +210,7 @@ impl FileSystem for NullFs {
         newparent: u64,
         newname: CStr<'_>,
     ) -> Result<Entry, Fault> {
-        defaults::no_such_call::<Entry>()
+        defaults::link()
     }
 
     fn open(
@@ -270,7 +270,7 @@ impl FileSystem for NullFs {
         flock_release: bool,
         lock_owner: Option<u64>,
     ) -> Result<(), Fault> {
-        defaults::no_such_call::<()>()
+        defaults::release()
     }
 
     fn fsync(
@@ -280,7 +280,7 @@ impl FileSystem for NullFs {
         datasync: bool,
         handle: u64,
     ) -> Result<(), Fault> {
-        defaults::no_such_call::<()>()
+        defaults::fsync()
     }
 
     fn setxattr(
@@ -302,15 +302,15 @@ impl FileSystem for NullFs {
         name: CStr<'_>,
         size: u32,
     ) -> Result<GetxattrReply, Fault> {
-        defaults::no_such_call::<GetxattrReply>()
+        defaults::getxattr()
     }
 
     fn listxattr(&mut self, ctx: Context, inode: u64, size: u32) -> Result<ListxattrReply, Fault> {
-        defaults::no_such_call::<ListxattrReply>()
+        defaults::listxattr()
     }
 
     fn removexattr(&mut self, ctx: Context, inode: u64, name: CStr<'_>) -> Result<(), Fault> {
-        defaults::no_such_call::<()>()
+        defaults::removexattr()
     }
 
     fn flush(
@@ -320,7 +320,7 @@ impl FileSystem for NullFs {
         handle: u64,
         lock_owner: u64,
     ) -> Result<(), Fault> {
-        defaults::no_such_call::<()>()
+        defaults::flush()
     }
 
     fn init(&mut self, capable: FsOptions) -> Result<FsOptions, Fault> {
@@ -357,7 +357,7 @@ impl FileSystem for NullFs {
         flags: u32,
         handle: u64,
     ) -> Result<(), Fault> {
-        defaults::no_such_call::<()>()
+        defaults::releasedir()
     }
 
     fn fsyncdir(
@@ -367,23 +367,23 @@ impl FileSystem for NullFs {
         datasync: bool,
         handle: u64,
     ) -> Result<(), Fault> {
-        defaults::no_such_call::<()>()
+        defaults::fsyncdir()
     }
 
     fn getlk(&mut self) -> Result<(), Fault> {
-        defaults::no_such_call::<()>()
+        defaults::getlk()
     }
 
     fn setlk(&mut self) -> Result<(), Fault> {
-        defaults::no_such_call::<()>()
+        defaults::setlk()
     }
 
     fn setlkw(&mut self) -> Result<(), Fault> {
-        defaults::no_such_call::<()>()
+        defaults::setlkw()
     }
 
     fn access(&mut self, ctx: Context, inode: u64, mask: u32) -> Result<(), Fault> {
-        defaults::no_such_call::<()>()
+        defaults::access()
     }
 
     fn create(
@@ -397,11 +397,11 @@ impl FileSystem for NullFs {
         umask: u32,
         ext: Extensions,
     ) -> Result<(Entry, Option<u64>, OpenOptions), Fault> {
-        defaults::no_such_call::<(Entry, Option<u64>, OpenOptions)>()
+        defaults::create::<u64>()
     }
 
     fn bmap(&mut self) -> Result<(), Fault> {
-        defaults::no_such_call::<()>()
+        defaults::bmap()
     }
 
     fn destroy(&mut self) {
@@ -409,15 +409,15 @@ impl FileSystem for NullFs {
     }
 
     fn ioctl(&mut self) -> Result<(), Fault> {
-        defaults::no_such_call::<()>()
+        defaults::ioctl()
     }
 
     fn poll(&mut self) -> Result<(), Fault> {
-        defaults::no_such_call::<()>()
+        defaults::poll()
     }
 
     fn notify_reply(&mut self) -> Result<(), Fault> {
-        defaults::no_such_call::<()>()
+        defaults::notify_reply()
     }
 
     fn batch_forget(&mut self, ctx: Context, requests: Vec<(u64, u64)>)
@@ -433,7 +433,7 @@ impl FileSystem for NullFs {
         offset: u64,
         length: u64,
     ) -> Result<(), Fault> {
-        defaults::no_such_call::<()>()
+        defaults::fallocate()
     }
 
     fn lseek(
@@ -444,7 +444,7 @@ impl FileSystem for NullFs {
         offset: u64,
         whence: u32,
     ) -> Result<u64, Fault> {
-        defaults::no_such_call::<u64>()
+        defaults::lseek()
     }
 
     fn copyfilerange(
@@ -459,11 +459,11 @@ impl FileSystem for NullFs {
         len: u64,
         flags: u64,
     ) -> Result<u32, Fault> {
-        defaults::no_such_call::<u32>()
+        defaults::copyfilerange()
     }
 
     fn syncfs(&mut self, ctx: Context, inode: u64) -> Result<(), Fault> {
-        defaults::no_such_call::<()>()
+        defaults::syncfs()
     }
 
     fn tmpfile(&mut self) -> Fault {

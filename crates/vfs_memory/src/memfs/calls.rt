@@ -75,11 +75,11 @@ impl FileSystem for MemFs {
         ensures answer { attr_answer result ≡ no_such_call }
         ensures same { self.new ≡ self.old }
     {
-        defaults::no_such_call::<(Attr, Duration)>()
+        defaults::setattr()
     }
 
     fn readlink(&mut self, _ctx: Context, _inode: u64) -> Result<Vec<u8>, Fault> {
-        defaults::no_such_call::<Vec<u8>>()
+        defaults::readlink()
     }
 
     fn symlink(
@@ -90,7 +90,7 @@ impl FileSystem for MemFs {
         _name: CStr<'_>,
         _ext: Extensions,
     ) -> Result<Entry, Fault> {
-        defaults::no_such_call::<Entry>()
+        defaults::symlink()
     }
 
     fn mknod(
@@ -103,7 +103,7 @@ impl FileSystem for MemFs {
         _umask: u32,
         _ext: Extensions,
     ) -> Result<Entry, Fault> {
-        defaults::no_such_call::<Entry>()
+        defaults::mknod()
     }
 
     fn mkdir(
@@ -115,7 +115,7 @@ impl FileSystem for MemFs {
         _umask: u32,
         _ext: Extensions,
     ) -> Result<Entry, Fault> {
-        defaults::no_such_call::<Entry>()
+        defaults::mkdir()
     }
 
     fn unlink(&mut self, _ctx: Context, parent: u64, name: CStr<'_>) -> Result<(), Fault> {
@@ -130,7 +130,7 @@ impl FileSystem for MemFs {
     }
 
     fn rmdir(&mut self, _ctx: Context, _parent: u64, _name: CStr<'_>) -> Result<(), Fault> {
-        defaults::no_such_call::<()>()
+        defaults::rmdir()
     }
 
     fn rename(
@@ -142,7 +142,7 @@ impl FileSystem for MemFs {
         _newname: CStr<'_>,
         _flags: u32,
     ) -> Result<(), Fault> {
-        defaults::no_such_call::<()>()
+        defaults::rename()
     }
 
     fn link(
@@ -152,7 +152,7 @@ impl FileSystem for MemFs {
         _newparent: u64,
         _newname: CStr<'_>,
     ) -> Result<Entry, Fault> {
-        defaults::no_such_call::<Entry>()
+        defaults::link()
     }
 
     fn open(
@@ -217,7 +217,7 @@ impl FileSystem for MemFs {
         _flock_release: bool,
         _lock_owner: Option<u64>,
     ) -> Result<(), Fault> {
-        defaults::no_such_call::<()>()
+        defaults::release()
     }
 
     fn fsync(
@@ -227,7 +227,7 @@ impl FileSystem for MemFs {
         _datasync: bool,
         _handle: u64,
     ) -> Result<(), Fault> {
-        defaults::no_such_call::<()>()
+        defaults::fsync()
     }
 
     fn setxattr(
@@ -239,7 +239,7 @@ impl FileSystem for MemFs {
         _flags: u32,
         _extra: SetxattrFlags,
     ) -> Result<(), Fault> {
-        defaults::no_such_call::<()>()
+        defaults::setxattr()
     }
 
     fn getxattr(
@@ -249,7 +249,7 @@ impl FileSystem for MemFs {
         _name: CStr<'_>,
         _size: u32,
     ) -> Result<GetxattrReply, Fault> {
-        defaults::no_such_call::<GetxattrReply>()
+        defaults::getxattr()
     }
 
     fn listxattr(
@@ -258,11 +258,11 @@ impl FileSystem for MemFs {
         _inode: u64,
         _size: u32,
     ) -> Result<ListxattrReply, Fault> {
-        defaults::no_such_call::<ListxattrReply>()
+        defaults::listxattr()
     }
 
     fn removexattr(&mut self, _ctx: Context, _inode: u64, _name: CStr<'_>) -> Result<(), Fault> {
-        defaults::no_such_call::<()>()
+        defaults::removexattr()
     }
 
     fn flush(
@@ -272,7 +272,7 @@ impl FileSystem for MemFs {
         _handle: u64,
         _lock_owner: u64,
     ) -> Result<(), Fault> {
-        defaults::no_such_call::<()>()
+        defaults::flush()
     }
 
     fn init(&mut self, _capable: FsOptions) -> Result<FsOptions, Fault> {
@@ -309,7 +309,7 @@ impl FileSystem for MemFs {
         _flags: u32,
         _handle: u64,
     ) -> Result<(), Fault> {
-        defaults::no_such_call::<()>()
+        defaults::releasedir()
     }
 
     fn fsyncdir(
@@ -319,23 +319,23 @@ impl FileSystem for MemFs {
         _datasync: bool,
         _handle: u64,
     ) -> Result<(), Fault> {
-        defaults::no_such_call::<()>()
+        defaults::fsyncdir()
     }
 
     fn getlk(&mut self) -> Result<(), Fault> {
-        defaults::no_such_call::<()>()
+        defaults::getlk()
     }
 
     fn setlk(&mut self) -> Result<(), Fault> {
-        defaults::no_such_call::<()>()
+        defaults::setlk()
     }
 
     fn setlkw(&mut self) -> Result<(), Fault> {
-        defaults::no_such_call::<()>()
+        defaults::setlkw()
     }
 
     fn access(&mut self, _ctx: Context, _inode: u64, _mask: u32) -> Result<(), Fault> {
-        defaults::no_such_call::<()>()
+        defaults::access()
     }
 
     fn create(
@@ -362,7 +362,7 @@ impl FileSystem for MemFs {
     }
 
     fn bmap(&mut self) -> Result<(), Fault> {
-        defaults::no_such_call::<()>()
+        defaults::bmap()
     }
 
     fn destroy(&mut self) {
@@ -370,15 +370,15 @@ impl FileSystem for MemFs {
     }
 
     fn ioctl(&mut self) -> Result<(), Fault> {
-        defaults::no_such_call::<()>()
+        defaults::ioctl()
     }
 
     fn poll(&mut self) -> Result<(), Fault> {
-        defaults::no_such_call::<()>()
+        defaults::poll()
     }
 
     fn notify_reply(&mut self) -> Result<(), Fault> {
-        defaults::no_such_call::<()>()
+        defaults::notify_reply()
     }
 
     // No lookups are counted, as for `forget`.
@@ -395,7 +395,7 @@ impl FileSystem for MemFs {
         _offset: u64,
         _length: u64,
     ) -> Result<(), Fault> {
-        defaults::no_such_call::<()>()
+        defaults::fallocate()
     }
 
     fn lseek(
@@ -406,7 +406,7 @@ impl FileSystem for MemFs {
         _offset: u64,
         _whence: u32,
     ) -> Result<u64, Fault> {
-        defaults::no_such_call::<u64>()
+        defaults::lseek()
     }
 
     fn copyfilerange(
@@ -421,11 +421,11 @@ impl FileSystem for MemFs {
         _len: u64,
         _flags: u64,
     ) -> Result<u32, Fault> {
-        defaults::no_such_call::<u32>()
+        defaults::copyfilerange()
     }
 
     fn syncfs(&mut self, _ctx: Context, _inode: u64) -> Result<(), Fault> {
-        defaults::no_such_call::<()>()
+        defaults::syncfs()
     }
 
     fn tmpfile(&mut self) -> Fault {
