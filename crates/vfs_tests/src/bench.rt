@@ -186,8 +186,9 @@ fn entry_of(inode: u64) -> Entry {
     }
 }
 
-/// A directory without end, whose items are this one and have no name.
-fn nameless(alloc: Global, ino: u64) -> Result<ScriptDirectory, Fault> {
+/// A directory of one item, which has this node and no name: it ends behind it, or gives it again
+/// and again.
+fn nameless(alloc: Global, ino: u64, endless: bool) -> Result<ScriptDirectory, Fault> {
     let mut items = Vec::new(alloc);
     if let Some(name) = CStr::from_bytes_with_nul(b"\0") {
         let item = ScriptItem {
@@ -198,7 +199,11 @@ fn nameless(alloc: Global, ino: u64) -> Result<ScriptDirectory, Fault> {
         };
         items.push(item).map_err(|_| Some(Errno::ENOMEM))?;
     }
-    ScriptDirectory::endless(alloc, items)
+    if endless {
+        ScriptDirectory::endless(alloc, items)
+    } else {
+        ScriptDirectory::new(alloc, items)
+    }
 }
 
 /// A script that answers something else than the default to each call but INIT. Its file moves two
@@ -221,7 +226,7 @@ fn script_of_answers(alloc: Global) -> Result<Script, AllocError> {
         byte: b'f',
         calls: 0,
     });
-    script.directory = nameless(alloc, 500);
+    script.directory = nameless(alloc, 500, true);
     script.written = Ok(100);
     script.done = Err(None);
     script.tmpfile = Errno::new(11);
@@ -319,14 +324,14 @@ fn a_call_without_a_place_is_missed_and_answered(rt: HostRuntime) -> Result<(), 
     Ok(())
 }
 
-/// READDIR of 240 bytes, behind its header: ten records of 24, and an eleventh that doesn't fit.
+/// A READDIR of 240 bytes, behind its header: they hold ten records of 24.
 static READDIR: [u8; 40] = *b"\0\0\0\0\0\0\0\0\0\0\0\0\0\0\0\0\xf0\0\0\0\
     \0\0\0\0\0\0\0\0\0\0\0\0\0\0\0\0\0\0\0\0";
 
-/// A server over a directory without end.
-fn server_without_end(alloc: Global) -> Result<ScriptServer, AllocError> {
+/// A server over a directory of one item, or of one without end.
+fn server_of_directory(alloc: Global, endless: bool) -> Result<ScriptServer, AllocError> {
     let mut script = Script::new();
-    script.directory = nameless(alloc, 1);
+    script.directory = nameless(alloc, 1, endless);
     script_server(alloc, script, 1)
 }
 
@@ -339,14 +344,21 @@ fn takings(script: &Script) -> Option<u64> {
 }
 
 /// How long the reply to it is, and how often an entry was asked for.
-fn taken(alloc: Global, server: &mut ScriptServer) -> Result<(usize, Option<u64>), Fail> {
-    let reply = reply_by_script(alloc, server, (28, 1, &READDIR), 256)?;
+fn taken(alloc: Global, endless: bool) -> Result<(usize, Option<u64>), Fail> {
+    let mut server = server_of_directory(alloc, endless)?;
+    let reply = reply_by_script(alloc, &mut server, (28, 1, &READDIR), 256)?;
     Ok((reply.len(), takings(server.fs().inner())))
 }
 
+/// Whether the directory has no end, how long the reply is, and how often an entry is asked for:
+/// once more than ten records, for one that doesn't fit, and once more than one record, for the
+/// end.
+static TAKINGS: [(bool, usize, u64); 2] = [(true, 256, 11), (false, 40, 2)];
+
 #[test]
-fn takings_from_a_directory_without_end_are_counted(rt: HostRuntime) -> Result<(), Fail> {
-    let mut server = server_without_end(rt.alloc())?;
-    assert!(rt; taken(rt.alloc(), &mut server)? == (256, Some(11)));
+fn takings_from_a_directory_are_counted(rt: HostRuntime) -> Result<(), Fail> {
+    for (endless, length, count) in &TAKINGS {
+        assert!(rt; taken(rt.alloc(), *endless)? == (*length, Some(*count)));
+    }
     Ok(())
 }
