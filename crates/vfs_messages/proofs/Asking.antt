@@ -1,5 +1,6 @@
 -- Every case of what a request may ask, by its form.
-use Rattle.std.proofs.Common.{◌≡◌, ◌+◌, ◌-◌, ◌*◌, ◌==◌, ℕ, Bool, true, false, bit_and, List, length, take, drop, nat_lt, if◌then◌else◌, Option, Some, None, Result, Ok, Err, refl}
+use Rattle.std.proofs.Common.{◌≡◌, ◌<◌, ◌+◌, ◌-◌, ◌*◌, ◌==◌, ℕ, Bool, true, false, bit_and, List, length, take, drop, nat_lt, if◌then◌else◌, Option, Some, None, Result, Ok, Err, refl, arith}
+use Rattle.std.proofs.lemmas.Bool.Decides.{nat_tests}
 use Rattle.vfs_flags.specs.Errors.{enomem, enosys, eproto}
 use Rattle.vfs_flags.specs.Flags.{init_ext}
 use Rattle.vfs_flags.specs.Opcode.{opcode_of}
@@ -19,14 +20,26 @@ use Rattle.vfs_messages.specs.Ask.{form_of, ask_number, ask_header, ask}
 use Rattle.vfs_messages.specs.Forms.{second_or_refusal, both_or_refusal, sized_or_refusal}
 use Rattle.vfs_messages.specs.Forms.{Listing, Ask, Ends, Asks, Lists, Copies, refused, silent, within, refused_or, tail_of, name_or_refusal, pairs_of, pairs_in, second_flags, flags2_in, ask_version, Layout, Without, Record, layout_record, Form, NoTail, NameTail, TwoNames, NameAndValue, NameAndExtensions, LinkAndExtensions, Pairs, WithRest, IntoRoom, Directories, Versions, Silent, NotServed, room_behind_header, ask_form}
 use Rattle.vfs_messages.specs.Forms.{extended_in, link_in_tail}
-use Rattle.vfs_messages.specs.Laws.{unique_of}
+use Rattle.vfs_messages.specs.Laws.{header_of, unique_of, opcode_in}
 use Rattle.vfs_messages.specs.Reply.{Bytes, Echo, fault_reply, body_reply, version_out}
 use Rattle.vfs_messages.specs.declared.limits.Limits.{Limits}
 use Rattle.vfs_messages.specs.declared.error.Error.{Error}
 use Rattle.vfs_messages.specs.declared.error.Error.TheVariants.{DecodeMessage, EncodeMessage, MissingParameter, InvalidXattrSize, InvalidCString, InvalidHeaderLength}
 use Rattle.vfs_messages.proofs.Refusing.{MayRefuse, either, IsRefused, of_extended, of_link}
 
--- what is to be shown of P in each case that a request may ask, but for copies
+-- a request of this form carries data, and its room is too small for the header of their reply
+abbrev pub IsCramped : Form → Type 0
+IsCramped (IntoRoom layout room call) = room < size_of out_header
+IsCramped (Directories layout above room listing) = room < size_of out_header
+IsCramped _ = ⊥
+
+-- the same by the opcode
+abbrev pub IsCrampedBy : Limits → (options room : ℕ) → Option Opcode → InHeader → Type 0
+IsCrampedBy limits options room None h = ⊥
+IsCrampedBy limits options room (Some opcode) h = IsCramped (form_of limits options room h opcode)
+
+-- what is to be shown of P in each case that a request may ask, but for copies, and for a room that
+-- is too small for a header
 pub record EachCase (P : Ask → Type 0) (unique : ℕ) : Type 0 where
   pub refusal : (e : Error) → MayRefuse e → P (refused e)
   pub fault : (f : Option ℕ) → P (Ends (Bytes (fault_reply f unique)))
@@ -72,9 +85,15 @@ module _ (P : Ask → Type 0) (unique : ℕ) (each : EachCase P unique) where
   pairs_cases count bytes next p =
       test_cases (nat_lt (length bytes) (count * size_of forget_one)) DecodeMessage (pairs_of count bytes) next tt p
 
-  pub room_cases : (room : ℕ) (next : ℕ → Ask) → ((room_for_data : ℕ) → P (next room_for_data)) → P (refused_or (room_behind_header room) next)
-  room_cases room next p =
-      test_cases (nat_lt room (size_of out_header)) EncodeMessage _ next tt (λ room_for_data is. p room_for_data)
+  room_test : (b : Bool) (room n : ℕ) (next : ℕ → Ask) → nat_lt room (size_of out_header) ≡ b
+      → (room < size_of out_header → P (refused EncodeMessage)) → P (next n) → P (refused_or (if b then Err EncodeMessage else Ok n) next)
+  room_test true room n next test cramped p = cramped (grind (arith, nat_tests))
+  room_test false room n next test cramped p = p
+
+  pub room_cases : (room : ℕ) (next : ℕ → Ask) → (room < size_of out_header → P (refused EncodeMessage))
+      → ((room_for_data : ℕ) → P (next room_for_data)) → P (refused_or (room_behind_header room) next)
+  room_cases room next cramped p =
+      room_test (nat_lt room (size_of out_header)) room (room - size_of out_header) next refl cramped (p (room - size_of out_header))
 
   pub within_cases : (above : Bool) (h : InHeader) (next : Ask) → h.unique ≡ unique
       → (above ≡ false → P next) → P (within above h next)
@@ -127,48 +146,51 @@ module _ (P : Ask → Type 0) (unique : ℕ) (each : EachCase P unique) where
 
   module _ (copies : (a : Ask) → P a → P (Copies a)) where
     -- P holds of what a request of each form asks
-    form_cases : (h : InHeader) (rest : List ℕ) (form : Form) → h.unique ≡ unique → P (ask_form h rest form)
-    form_cases h rest (NoTail l above call) e =
+    form_cases : (h : InHeader) (rest : List ℕ) (form : Form) → h.unique ≡ unique → (IsCramped form → P (refused EncodeMessage))
+        → P (ask_form h rest form)
+    form_cases h rest (NoTail l above call) e cramped =
         layout_cases l rest _ (λ r is. within_cases (above r) h _ e (λ no. each.asks _ _ e))
-    form_cases h rest (NameTail l above call) e =
+    form_cases h rest (NameTail l above call) e cramped =
         layout_cases l rest _ (λ r is. tail_cases h _ _ _ (λ tail whole.
         copies _ (within_cases (above r) h _ e (λ no. name_cases (name_of tail) _ (λ name. each.asks _ _ e)))))
-    form_cases h rest (TwoNames l call) e =
+    form_cases h rest (TwoNames l call) e cramped =
         layout_cases l rest _ (λ r is. tail_cases h _ _ _ (λ tail whole.
         copies _ (names_cases (first_name tail) _ (λ names. each.asks _ _ e))))
-    form_cases h rest (NameAndValue l size call) e =
+    form_cases h rest (NameAndValue l size call) e cramped =
         layout_cases l rest _ (λ r is. tail_cases h _ _ _ (λ tail whole.
         copies _ (sized_cases (size r) (first_name tail) _ (λ part. each.asks _ _ e))))
-    form_cases h rest (NameAndExtensions l options call) e =
+    form_cases h rest (NameAndExtensions l options call) e cramped =
         layout_cases l rest _ (λ r is. tail_cases h _ _ _ (λ tail whole.
         copies _ (refused_cases (extended_in options tail) _ (of_extended options tail) (λ part. each.asks _ _ e))))
-    form_cases h rest (LinkAndExtensions l options call) e =
+    form_cases h rest (LinkAndExtensions l options call) e cramped =
         layout_cases l rest _ (λ r is. tail_cases h _ _ _ (λ tail whole.
         copies _ (refused_cases (link_in_tail options tail) _ (of_link options tail) (λ part. each.asks _ _ e))))
-    form_cases h rest (Pairs l above count call) e =
+    form_cases h rest (Pairs l above count call) e cramped =
         layout_cases l rest _ (λ r is. within_cases (above r) h _ e (λ no.
         pairs_cases (count r) _ _ (λ pairs whole. copies _ (each.asks _ _ e))))
-    form_cases h rest (WithRest l call) e = layout_cases l rest _ (λ r is. each.asks _ _ e)
-    form_cases h rest (IntoRoom l room call) e = layout_cases l rest _ (λ r is. room_cases room _ (λ room_for_data. each.asks _ _ e))
-    form_cases h rest (Directories l above room listing) e =
+    form_cases h rest (WithRest l call) e cramped = layout_cases l rest _ (λ r is. each.asks _ _ e)
+    form_cases h rest (IntoRoom l room call) e cramped = layout_cases l rest _ (λ r is. room_cases room _ cramped (λ room_for_data. each.asks _ _ e))
+    form_cases h rest (Directories l above room listing) e cramped =
         layout_cases l rest _ (λ r is. within_cases (above r) h _ e (λ no.
-        room_cases room _ (λ room_for_records. each.lists _ _ e)))
-    form_cases h rest Versions e = versions_cases h rest e
-    form_cases h rest Silent e = each.nothing
-    form_cases h rest NotServed e = rw e (each.fault (Some enosys))
+        room_cases room _ cramped (λ room_for_records. each.lists _ _ e)))
+    form_cases h rest Versions e cramped = versions_cases h rest e
+    form_cases h rest Silent e cramped = each.nothing
+    form_cases h rest NotServed e cramped = rw e (each.fault (Some enosys))
 
     number_cases : (limits : Limits) (options room : ℕ) (opcode : Option Opcode) (h : InHeader) (rest : List ℕ)
-        → h.unique ≡ unique → P (ask_number limits options room opcode h rest)
-    number_cases limits options room None h rest e = rw e (each.fault (Some enosys))
-    number_cases limits options room (Some opcode) h rest e = form_cases h rest (form_of limits options room h opcode) e
+        → h.unique ≡ unique → (IsCrampedBy limits options room opcode h → P (refused EncodeMessage))
+        → P (ask_number limits options room opcode h rest)
+    number_cases limits options room None h rest e cramped = rw e (each.fault (Some enosys))
+    number_cases limits options room (Some opcode) h rest e cramped = form_cases h rest (form_of limits options room h opcode) e cramped
 
     -- P holds of what any bytes ask
     pub ask_cases : (limits : Limits) (options room : ℕ) (bytes : List ℕ) → unique_of bytes ≡ unique
+        → (IsCrampedBy limits options room (opcode_in bytes) (header_of bytes) → P (refused EncodeMessage))
         → P (ask limits options room bytes)
-    ask_cases limits options room bytes e =
+    ask_cases limits options room bytes e cramped =
         let h = value_of in_header bytes in
         let rest = drop (size_of in_header) bytes in
         either (λ r. P (refused_or r (λ h. ask_header limits options room h rest))) (nat_lt (length bytes) (size_of in_header))
         (Err DecodeMessage) (Ok h) (each.refusal DecodeMessage tt)
         (within_cases (nat_lt (max_len limits) h.len) h _ e (λ no.
-        number_cases limits options room (opcode_of h.opcode) h rest e))
+        number_cases limits options room (opcode_of h.opcode) h rest e cramped))

@@ -8,6 +8,9 @@ pub mod Bodies
 pub mod Turns
 pub mod Directories
 pub mod DirectoryCallers
+pub mod Cutting
+pub mod Sizes
+pub mod Lacking
 pub mod Examples
 mod Blocks
 mod BlockLaws

@@ -15,9 +15,11 @@ use Rattle.vfs_messages.specs.Extensions.{error_or, value_behind, name_and_value
 use Rattle.vfs_messages.specs.Forms.{behind_name, extended_or_refusal, extended_in, link_or_refusal, link_in_tail}
 use Rattle.vfs_messages.specs.Records.{size_of, record_of}
 use Rattle.vfs_messages.specs.declared.error.Error.{Error}
-use Rattle.vfs_messages.specs.declared.error.Error.TheVariants.{DecodeMessage, FlushMessage, InvalidCString2, OutOfMemory}
+use Rattle.vfs_messages.specs.declared.error.Error.TheVariants.{DecodeMessage, EncodeMessage, FlushMessage, InvalidCString2, OutOfMemory}
 
+-- the errors by which a request is refused, whatever the room
 abbrev pub MayRefuse : Error → Type 0
+MayRefuse EncodeMessage = ⊥
 MayRefuse FlushMessage = ⊥
 MayRefuse InvalidCString2 = ⊥
 MayRefuse OutOfMemory = ⊥

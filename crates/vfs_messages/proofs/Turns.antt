@@ -13,12 +13,12 @@ use Rattle.vfs_wire.specs.Headers.{in_header, out_header}
 use Rattle.vfs_wire.specs.Init.{init_out}
 use Rattle.vfs_wire.specs.declared.headers.InHeader.{InHeader}
 use Rattle.vfs_wire.specs.declared.headers.OutHeader.{OutHeader}
-use Rattle.vfs_files.specs.Calls.{Call, Init, Destroy, Readdir, Answer, Options, Data, kind_of, read_answer}
+use Rattle.vfs_files.specs.Calls.{Call, Init, Destroy, Readdir, Answer, Failed, Options, Data, Iterators, kind_of, read_answer, IsAnswer, IsFault}
 use Rattle.vfs_files.specs.Runs.{Event, Called}
 use Rattle.vfs_messages.specs.Limits.{max_len}
 use Rattle.vfs_messages.specs.Records.{size_of}
 use Rattle.vfs_messages.specs.Ask.{form_of, ask, ask_number}
-use Rattle.vfs_messages.specs.Forms.{Listing, Ask, Ends, Asks, Lists, Copies, Form, NoTail, NameTail, TwoNames, NameAndValue, NameAndExtensions, LinkAndExtensions, Pairs, WithRest, IntoRoom, Directories, Versions, Silent, NotServed, Layout, refused_or, layout_record, layout_size, tail_of, behind, TailIsWhole, ask_form, MayLackMemory}
+use Rattle.vfs_messages.specs.Forms.{Listing, Ask, Ends, Asks, Lists, Copies, refused, Form, NoTail, NameTail, TwoNames, NameAndValue, NameAndExtensions, LinkAndExtensions, Pairs, WithRest, IntoRoom, Directories, Versions, Silent, NotServed, Layout, refused_or, layout_record, layout_size, tail_of, behind, TailIsWhole, ask_form, MayLackMemory}
 use Rattle.vfs_messages.specs.Laws.{unique_of, BeginsWithHeader, AreAgreed, WantsMemory, MayLackBehind}
 use Rattle.vfs_messages.specs.Options.{agreed, options_after}
 use Rattle.vfs_messages.specs.Reply.{Reply, echo_of, Refusal, NoReply, Bytes, OpenBehind, Never, Saying, Fault, Body, Unsaid, Wrong, said, said_open, said_by, is_open, say, fault_reply, fault_number, body_reply, version_out}
@@ -109,7 +109,7 @@ answers limits options after t e o =
       lists = λ echo l same f. encode (answer_error true echo.unique (say limits echo after (Data l.size) (read_answer f.1 f.0)) t.room t.outcome t.room_after e f.4 o);
     })
     (λ a p f. elim f as (λ x. MayAnswer e) [ inl g ↦ p g | inr g ↦ of_error OutOfMemory e t.outcome g.1.0 o tt ])
-    limits options (length t.room) t.request refl
+    limits options (length t.room) t.request refl (λ small f. encode (let a = sym f.1.0 ∙ o in cc))
 
 pub never_flush : (limits : Limits) (options after : ℕ) (t : Turn) → IsTurn limits options t after → t.outcome ≢ Err FlushMessage
 unfolding MayAnswer
@@ -136,6 +136,11 @@ module _ (limits : Limits) (options after : ℕ) (t : Turn) (lacks : t.outcome �
     asks = λ echo c same f. absurd (let a = answer_error (is_open (kind_of c)) echo.unique (say limits echo after (kind_of c) f.0) t.room t.outcome t.room_after OutOfMemory f.3 lacks in cc);
     lists = λ echo l same f. absurd (let a = answer_error true echo.unique (say limits echo after (Data l.size) (read_answer f.1 f.0)) t.room t.outcome t.room_after OutOfMemory f.4 lacks in cc);
   }
+
+  -- nor where the room is too small for a header
+  cramped : {small : Type 0} (Q : Type 0) → small → Gives Q (refused EncodeMessage)
+  unfolding Gives
+  cramped Q small f = absurd (let a = sym f.1.0 ∙ lacks in cc)
 
   is_ok : {A : Type 0} (r : Result A Error) (x : A) → r ≡ Ok x → IsOk r
   is_ok r x e = subst IsOk (sym e) refl
@@ -182,13 +187,13 @@ module _ (limits : Limits) (options after : ℕ) (t : Turn) (lacks : t.outcome �
       let Q = MayLackMemory h rest (IntoRoom l room call) in
       let all = each Q h.unique in
       layout_cases (Gives Q) h.unique all l rest _ (λ r is.
-      room_cases (Gives Q) h.unique all room _ (λ room_for_data. all.asks _ _ refl))
+      room_cases (Gives Q) h.unique all room _ (cramped Q) (λ room_for_data. all.asks _ _ refl))
   memory_form h rest (Directories l above room listing) =
       let Q = MayLackMemory h rest (Directories l above room listing) in
       let all = each Q h.unique in
       layout_cases (Gives Q) h.unique all l rest _ (λ r is.
       within_cases (Gives Q) h.unique all (above r) h _ refl (λ no.
-      room_cases (Gives Q) h.unique all room _ (λ room_for_records. all.lists (echo_of h) (listing r room_for_records) refl)))
+      room_cases (Gives Q) h.unique all room _ (cramped Q) (λ room_for_records. all.lists (echo_of h) (listing r room_for_records) refl)))
   memory_form h rest Versions =
       versions_cases (Gives (MayLackMemory h rest Versions)) h.unique (each (MayLackMemory h rest Versions) h.unique) h rest refl
   memory_form h rest Silent = (each (MayLackMemory h rest Silent) h.unique).nothing
@@ -229,7 +234,7 @@ enough_memory limits options after t f o =
       lists = λ echo l same f. absurd (let a = answer_error true echo.unique (say limits echo after (Data l.size) (read_answer f.1 f.0)) t.room t.outcome t.room_after OutOfMemory f.4 o in cc);
     })
     (λ a p f. elim f as (λ x. MayRefuse OutOfMemory) [ inl g ↦ p g | inr g ↦ absurd g.0 ])
-    limits options (length t.room) t.request refl f
+    limits options (length t.room) t.request refl (λ small f. absurd (let a = sym f.1.0 ∙ o in cc)) f
 
 -- ---- replies
 
@@ -339,7 +344,7 @@ begins limits options after n t f o some =
           (answers_are_short limits echo after (Data l.size) (read_answer f.1 f.0) f.3) f.4 o some);
     })
     (λ a p f. elim f as (λ x. BeginsWithHeader n u t.room_after) [ inl g ↦ p g | inr g ↦ absurd (let a = sym g.1.0 ∙ o in cc) ])
-    limits options (length t.room) t.request refl f
+    limits options (length t.room) t.request refl (λ small f. absurd (let a = sym f.1.0 ∙ o in cc)) f
 
 -- ---- options
 
@@ -379,3 +384,58 @@ agrees limits options after offered want t f e =
 
 pub destroyed : (limits : Limits) (options after : ℕ) (answer : Answer) (t : Turn) → IsTurn limits options t after → t.events ≡ Called Destroy answer ∷ [] → after ≡ 0
 destroyed limits options after answer t f e = after_call limits options (ask limits options (length t.room) t.request) t after Destroy answer f e
+
+-- a call that is no accepted INIT and no DESTROY keeps the options
+call_keeps : (call : Call) (answer : Answer) (options : ℕ) → ((offered want : ℕ) → call ≡ Init offered → answer ≢ Options want) → call ≢ Destroy → options_after call answer options ≡ options
+call_keeps (Init offered) (Options want) options no_init no_destroy = absurd (no_init offered want refl refl)
+call_keeps (Init offered) _ options no_init no_destroy = refl
+call_keeps Destroy answer options no_init no_destroy = absurd (no_destroy refl)
+call_keeps _ answer options no_init no_destroy = refl
+
+-- what is asked keeps the options, but for an accepted INIT and a DESTROY
+keeps : (limits : Limits) (options : ℕ) (a : Ask) (t : Turn) (after : ℕ) → Follows (turn_tells t) limits options a after
+    → ((offered want : ℕ) → t.events ≢ Called (Init offered) (Options want) ∷ []) → ((answer : Answer) → t.events ≢ Called Destroy answer ∷ [])
+    → after ≡ options
+keeps limits options (Ends reply) t after f no_init no_destroy = f.2
+keeps limits options (Asks echo call) t after f no_init no_destroy =
+    f.4 ∙ call_keeps call f.0 options
+    (λ offered want is answered. no_init offered want (let e = f.1 in cc))
+    (λ is. no_destroy f.0 (let e = f.1 in cc))
+keeps limits options (Lists echo l) t after f no_init no_destroy = f.5
+keeps limits options (Copies rest) t after (inl f) no_init no_destroy = keeps limits options rest t after f no_init no_destroy
+keeps limits options (Copies rest) t after (inr f) no_init no_destroy = f.2
+
+pub kept : (limits : Limits) (options after : ℕ) (t : Turn) → IsTurn limits options t after
+    → ((offered want : ℕ) → t.events ≢ Called (Init offered) (Options want) ∷ []) → ((answer : Answer) → t.events ≢ Called Destroy answer ∷ [])
+    → after ≡ options
+kept limits options after t f no_init no_destroy = keeps limits options (ask limits options (length t.room) t.request) t after f no_init no_destroy
+
+-- ---- answers
+
+-- a directory of which nothing happened but a call was answered by a fault
+listed_kind : (l : Listing) (events : List Event) (records : List ℕ) (result : Result ℕ (Option ℕ)) (call : Call) (answer : Answer)
+    → IsRead l events records result → events ≡ Called call answer ∷ [] → IsAnswer (Data l.size) (read_answer result records) → IsAnswer (kind_of call) answer
+listed_kind l events records result call answer (inl u) e a =
+    let x = sym u.events_are ∙ e in
+    let same : Readdir l.ctx l.parent l.handle l.size l.offset ≡ call = cc in
+    let answered : Failed u.fault ≡ answer = cc in
+    let fault : IsFault u.fault = subst (λ r. IsAnswer (Data l.size) (read_answer r records)) u.answer_is a in
+    subst (λ c. IsAnswer (kind_of c) answer) same (subst (λ x. IsAnswer Iterators x) answered fault)
+listed_kind l events records result call answer (inr o) e a = absurd (let x = sym o.events_are ∙ e in cc)
+
+-- the one call of a turn was answered by an answer of its kind
+called_kind : (limits : Limits) (options : ℕ) (a : Ask) (t : Turn) (after : ℕ) (call : Call) (answer : Answer) → Follows (turn_tells t) limits options a after
+    → t.events ≡ Called call answer ∷ [] → IsAnswer (kind_of call) answer
+called_kind limits options (Ends reply) t after call answer f e = absurd (let a = sym f.0 ∙ e in cc)
+called_kind limits options (Asks echo c) t after call answer f e =
+    let a = sym f.1 ∙ e in
+    let same : c ≡ call = cc in
+    let answered : f.0 ≡ answer = cc in
+    subst (λ x. IsAnswer (kind_of x) answer) same (subst (λ x. IsAnswer (kind_of c) x) answered f.2)
+called_kind limits options (Lists echo l) t after call answer f e = listed_kind l t.events f.0 f.1 call answer f.2 e f.3
+called_kind limits options (Copies rest) t after call answer (inl f) e = called_kind limits options rest t after call answer f e
+called_kind limits options (Copies rest) t after call answer (inr f) e = absurd (let a = sym f.0 ∙ e in cc)
+
+pub of_its_kind : (limits : Limits) (options after : ℕ) (call : Call) (answer : Answer) (t : Turn) → IsTurn limits options t after
+    → t.events ≡ Called call answer ∷ [] → IsAnswer (kind_of call) answer
+of_its_kind limits options after call answer t f e = called_kind limits options (ask limits options (length t.room) t.request) t after call answer f e

@@ -1,24 +1,28 @@
 -- What follows of every turn.
-use Rattle.std.specs.Prelude.{◌≡◌, ◌≤◌, ◌<◌, ◌+◌, ◌/◌, ◌^◌, ℕ, ℤ, List, ◌∷◌, length, take, drop, Option, Some, None, Result, Ok, Err}
+use Rattle.std.specs.Prelude.{◌≡◌, ◌≤◌, ◌<◌, ◌+◌, ◌/◌, ◌^◌, ℕ, ℤ, List, [], ◌∷◌, length, take, drop, Option, Some, None, Result, Ok, Err}
 use Rattle.std.specs.Int.{bit_at}
 use Rattle.std.specs.List.{All}
 use Rattle.vfs_flags.specs.Flags.{supported_fs_options}
 use Rattle.vfs_flags.specs.Opcode.{opcode_of}
 use Rattle.vfs_flags.specs.declared.opcode.Opcode.{Opcode}
+use Rattle.vfs_flags.specs.declared.opcode.Opcode.TheVariants as opcode
+use Rattle.vfs_wire.specs.Entries.{batch_forget_in}
 use Rattle.vfs_wire.specs.Fields.{bytes_of, value_of}
+use Rattle.vfs_wire.specs.Files.{read_in}
 use Rattle.vfs_wire.specs.Headers.{in_header, out_header}
 use Rattle.vfs_wire.specs.declared.headers.InHeader.{InHeader}
 use Rattle.vfs_messages.specs.Ask.{form_of}
-use Rattle.vfs_files.specs.Calls.{Readdir}
-use Rattle.vfs_files.specs.Runs.{Event, Opened}
+use Rattle.vfs_files.specs.Calls.{Call, Readdir, Answer}
+use Rattle.vfs_files.specs.Runs.{Event, Called, Opened}
 use Rattle.vfs_listings.specs.Laws.{takings, least_record, GoesOn, IsWhole}
 use Rattle.vfs_messages.specs.Forms.{Listing, MayLackMemory}
 use Rattle.vfs_messages.specs.Limits.{max_len}
 use Rattle.vfs_messages.specs.Records.{size_of}
-use Rattle.vfs_messages.specs.Reply.{fault_reply, body_reply}
+use Rattle.vfs_messages.specs.Reply.{Reply, Bytes, fault_reply, body_reply}
 use Rattle.vfs_messages.specs.Room.{IsPutOpen}
-use Rattle.vfs_messages.specs.Turn.{Turn, IsRead}
+use Rattle.vfs_messages.specs.Turn.{Witness, Turn, IsRead, IsTurn, turn_tells}
 use Rattle.vfs_messages.specs.declared.limits.Limits.{Limits}
+use Rattle.vfs_messages.specs.declared.limits.TheConstants.{DEFAULT_MAX_BUFFER}
 
 -- the header that a request begins with
 abbrev pub header_of : (request : List ℕ) → InHeader
@@ -57,6 +61,77 @@ pub record WantsMemory (limits : Limits) (options room : ℕ) (request : List �
   pub form :
       MayLackBehind limits options room (opcode_of (header_of request).opcode) (header_of request)
       (drop (size_of in_header) request)
+
+-- ---- sizes
+
+-- the limits of a server of which nothing is said but the size of a page
+abbrev pub default_limits : (page_size : ℕ) → Limits
+default_limits page_size = record { page_size = page_size; max_buffer = DEFAULT_MAX_BUFFER }
+
+-- what stands behind the header of a request
+abbrev pub behind_header : (request : List ℕ) → List ℕ
+behind_header request = drop (size_of in_header) request
+
+-- how many pairs a BATCH_FORGET says that it has
+abbrev pub count_of_pairs : (request : List ℕ) → ℕ
+count_of_pairs request = (value_of batch_forget_in (behind_header request)).count
+
+-- READ, READDIR and READDIRPLUS, whose replies carry data
+abbrev pub CarriesData : Option Opcode → Type 0
+CarriesData (Some opcode.Read) = Unit {0}
+CarriesData (Some opcode.Readdir) = Unit {0}
+CarriesData (Some opcode.Readdirplus) = Unit {0}
+CarriesData _ = ⊥
+
+-- the opcode that the header of a request says
+abbrev pub opcode_in : (request : List ℕ) → Option Opcode
+opcode_in request = opcode_of (header_of request).opcode
+
+-- how many bytes of data such a request asks for: the `size` of its record
+abbrev pub size_asked : (request : List ℕ) → ℕ
+size_asked request = (value_of read_in (behind_header request)).size
+
+-- ---- replies that don't fit
+
+-- these bytes are longer than the room, which holds as many of them as it has place for
+pub record IsCutOff (reply room room_after : List ℕ) : Type 0 where
+  pub longer : length room < length reply
+  pub holds : room_after ≡ take (length room) reply
+
+-- what comes back is bytes, and so many of them
+abbrev pub CutsOff : Reply → (room room_after : List ℕ) → Type 0
+CutsOff (Bytes reply) room room_after = IsCutOff reply room room_after
+CutsOff _ room room_after = ⊥
+
+-- what a turn tells whose reply was cut off
+abbrev pub cut_turn_tells : Turn → Witness
+cut_turn_tells t = record (turn_tells t) {
+  replied = λ reply. CutsOff reply t.room t.room_after;
+}
+
+-- a request for data was met by a room that is too small for the header of its reply: no call was
+-- made, and nothing has changed
+pub record LacksRoomForHeader (options after : ℕ) (t : Turn) : Type 0 where
+  pub carries : CarriesData (opcode_in t.request)
+  pub small : length t.room < size_of out_header
+  pub no_call : t.events ≡ []
+  pub same_room : t.room_after ≡ t.room
+  pub same_options : after ≡ options
+
+-- ---- answers
+
+-- a turn whose one call was answered by this, and whose reply fit
+pub record IsAnswered (limits : Limits) (options : ℕ) (answer : Answer) (t : Turn) (after : ℕ)
+    : Type 0 where
+  pub turn : IsTurn limits options t after
+  pub call : Call
+  pub called : t.events ≡ Called call answer ∷ []
+  pub len : ℕ
+  pub fits : t.outcome ≡ Ok len
+
+-- what stands behind the header of a reply
+abbrev pub body_in : (room_after : List ℕ) → List ℕ
+body_in room_after = drop (size_of out_header) room_after
 
 -- ---- directories
 

@@ -1,17 +1,57 @@
 //! What holds of every turn of a request, as laws: each function does nothing, and its clause says
 //! what was proved.
 
-ghost use Rattle.std.specs.Prelude.{◌≡◌, ◌≢◌, ◌<◌, ℕ, length, List, [], ◌∷◌, Ok, Err};
-ghost use Rattle.vfs_files.specs.Calls.{Init, Destroy, Answer, Options};
+ghost use Rattle.std.specs.Prelude.{◌≡◌, ◌≢◌, ◌<◌, ◌≤◌, ◌+◌, ◌⊎◌, ℕ, length, drop, List, [], ◌∷◌, Ok, Err, Some};
+ghost use Rattle.std.specs.declared.time.Duration.{Duration};
+ghost use Rattle.vfs_flags.specs.declared.opcode.Opcode.{Opcode};
+ghost use Rattle.vfs_wire.specs.Entries.{forget_one};
+ghost use Rattle.vfs_files.specs.Calls.{Call, Init, Destroy, BatchForget, Answer, Options, kind_of, IsAnswer};
+ghost use Rattle.vfs_files.specs.Entries.{context_of};
 ghost use Rattle.vfs_files.specs.Runs.{Called};
-ghost use Rattle.vfs_messages.specs.Turn.{Turn, IsTurn, IsTurnWithMemory};
+ghost use Rattle.vfs_messages.specs.Turn.{Turn, IsTurn, IsTurnWithMemory, Follows};
 ghost use Rattle.vfs_messages.specs.declared.limits.Limits.{Limits};
-ghost use Rattle.vfs_messages.specs.Ask.{ask};
-ghost use Rattle.vfs_messages.specs.Forms.{Listing, Lists};
-ghost use Rattle.vfs_messages.specs.Laws.{unique_of, BeginsWithHeader, AreAgreed, WantsMemory};
+ghost use Rattle.vfs_messages.specs.Ask.{ask, ask_number};
+ghost use Rattle.vfs_messages.specs.Forms.{Listing, Lists, Asks, Copies, faulted, refused_or, pairs_in};
+ghost use Rattle.vfs_messages.specs.Laws.{header_of, unique_of, BeginsWithHeader, AreAgreed, WantsMemory};
+ghost use Rattle.vfs_messages.specs.Laws.{default_limits, behind_header, opcode_in, count_of_pairs};
+ghost use Rattle.vfs_messages.specs.Laws.{CarriesData, size_asked, cut_turn_tells, LacksRoomForHeader};
 ghost use Rattle.vfs_messages.specs.Laws.{StopsForACause, ComesWhole, TakesFew};
-ghost use Rattle.vfs_messages.specs.Reply.{Echo};
+ghost use Rattle.vfs_messages.specs.Limits.{max_len};
+ghost use Rattle.vfs_messages.specs.Reply.{Echo, echo_of, init_out_of};
 ghost use Rattle.vfs_messages.specs.declared.error.Error.{Error};
+
+use crate::limits::DEFAULT_MAX_BUFFER;
+
+/// The limits of a server of which nothing is said but the size of a page, in numbers: payloads of
+/// 1,048,576 bytes, which INIT's reply says as `max_write`, and requests whose `len` is at most
+/// 1,052,672. A greater `len` is answered ENOMEM, 12, and with it the rest isn't looked at. A
+/// BATCH_FORGET has at most 65,536 pairs; of more it is answered ENOMEM, whether they are there or
+/// not.
+pub fn limits_have_their_numbers()
+    ensures buffer { DEFAULT_MAX_BUFFER ≡ 1_048_576 }
+    ensures largest_len { (page_size : ℕ) → max_len (default_limits page_size) ≡ 1_052_672 }
+    ensures max_write { (page_size max_readahead options : ℕ) →
+        (init_out_of (default_limits page_size) max_readahead options).max_write ≡ 1_048_576 }
+    ensures len_within { (page_size options room : ℕ) (request : List ℕ) → 40 ≤ length request →
+        (header_of request).len ≤ 1_052_672 →
+        ask (default_limits page_size) options room request
+        ≡ ask_number (default_limits page_size) options room (opcode_in request)
+        (header_of request) (behind_header request) }
+    ensures len_above { (page_size options room : ℕ) (request : List ℕ) → 40 ≤ length request →
+        1_052_672 < (header_of request).len →
+        ask (default_limits page_size) options room request ≡ faulted 12 (header_of request) }
+    ensures pairs_within { (page_size options room : ℕ) (request : List ℕ) →
+        48 ≤ length request → (header_of request).len ≤ 1_052_672 →
+        opcode_in request ≡ Some Opcode.BatchForget → count_of_pairs request ≤ 65_536 →
+        ask (default_limits page_size) options room request
+        ≡ refused_or (pairs_in (count_of_pairs request) (drop 48 request)) (λ pairs.
+        Copies (Asks (echo_of (header_of request))
+        (BatchForget (context_of (header_of request)) pairs))) }
+    ensures pairs_above { (page_size options room : ℕ) (request : List ℕ) →
+        48 ≤ length request → (header_of request).len ≤ 1_052_672 →
+        opcode_in request ≡ Some Opcode.BatchForget → 65_536 < count_of_pairs request →
+        ask (default_limits page_size) options room request ≡ faulted 12 (header_of request) }
+{}
 
 /// After every error but `EncodeMessage` no call was made, the room is as it was, and the options
 /// are the old ones.
@@ -19,6 +59,25 @@ pub fn refusals_change_nothing()
     ensures { (limits : Limits) (options after : ℕ) (t : Turn) (e : Error) →
         IsTurn limits options t after → t.outcome ≡ Err e → e ≢ Error.EncodeMessage →
         (t.events ≡ []) × (t.room_after ≡ t.room) × (after ≡ options) }
+{}
+
+/// After `EncodeMessage` the room holds as much as it has place for of the reply that the grammar
+/// gives for the request and the answer, which is longer. Of a READ, READDIR or READDIRPLUS that
+/// has no room for the sixteen bytes of a header no call was made, the room is as it was, and the
+/// options are the old ones.
+pub fn unfit_replies_are_cut_off()
+    ensures { (limits : Limits) (options after : ℕ) (t : Turn) → IsTurn limits options t after →
+        t.outcome ≡ Err Error.EncodeMessage →
+        Follows (cut_turn_tells t) limits options
+        (ask limits options (length t.room) t.request) after
+        ⊎ LacksRoomForHeader options after t }
+{}
+
+/// A READ, READDIR or READDIRPLUS is answered by at most so many bytes as it asks for, and the
+/// sixteen of a header.
+pub fn data_are_no_more_than_asked()
+    ensures { (limits : Limits) (options after n : ℕ) (t : Turn) → IsTurn limits options t after →
+        CarriesData (opcode_in t.request) → t.outcome ≡ Ok n → n ≤ 16 + size_asked t.request }
 {}
 
 /// `FlushMessage` and `InvalidCString2` are never answered.
@@ -61,6 +120,21 @@ pub fn options_are_agreed()
 pub fn destroy_leaves_no_options()
     ensures { (limits : Limits) (options after : ℕ) (answer : Answer) (t : Turn) →
         IsTurn limits options t after → t.events ≡ Called Destroy answer ∷ [] → after ≡ 0 }
+{}
+
+/// Every other request leaves the options as they were.
+pub fn other_requests_keep_the_options()
+    ensures { (limits : Limits) (options after : ℕ) (t : Turn) → IsTurn limits options t after →
+        ((offered want : ℕ) → t.events ≢ Called (Init offered) (Options want) ∷ []) →
+        ((answer : Answer) → t.events ≢ Called Destroy answer ∷ []) → after ≡ options }
+{}
+
+/// A call that is all that happened at a request was answered by an answer of its kind, whose
+/// numbers are in the widths that a reply has for them.
+pub fn answers_are_of_their_kind()
+    ensures { (limits : Limits) (options after : ℕ) (call : Call) (answer : Answer) (t : Turn) →
+        IsTurn limits options t after → t.events ≡ Called call answer ∷ [] →
+        IsAnswer (kind_of call) answer }
 {}
 
 /// Of every turn that reads a directory:

@@ -1,22 +1,38 @@
 //! Small callers of this crate, as examples. What each ensures follows from the contracts of what
 //! it calls, and from nothing else.
 
-ghost use Rattle.std.specs.Prelude.{◌≡◌, ◌<◌, ◌≤◌, ◌^◌, ◌++◌, ℕ, List, length, drop, Ok, Err, Some};
-ghost use Rattle.std.specs.Prelude.{None, MatchResult, codes};
-ghost use Rattle.vfs_files.specs.Extensions.{extension_values_of};
+ghost use Rattle.std.specs.Prelude.{◌≡◌, ◌≢◌, ◌<◌, ◌≤◌, ◌+◌, ◌*◌, ◌-◌, ◌^◌, ◌++◌, [], ◌∷◌, ℕ, List, length, take, drop};
+ghost use Rattle.std.specs.Prelude.{Option, Ok, Err, Some, None, MatchResult, codes};
+ghost use Rattle.std.specs.Int.{bit_at};
+ghost use Rattle.std.specs.declared.time.Duration.{Duration};
+ghost use Rattle.vfs_files.specs.Calls.{Call, Lookup, Getattr, Open, Statfs, Write, Access, Getxattr, Init, Create, Lseek};
+ghost use Rattle.vfs_files.specs.Calls.{Failed, Options, Found, Attributes, Opened, Created, Statistics, Count, Offset, Written};
+ghost use Rattle.vfs_files.specs.Extensions.{ExtensionValues, extension_values_of};
+ghost use Rattle.vfs_files.specs.Runs.{Event, Called};
+ghost use Rattle.vfs_files.specs.Runs as event;
+ghost use Rattle.vfs_files.specs.declared.entry.Context.{Context};
+ghost use Rattle.vfs_files.specs.declared.entry.Entry.{Entry};
 ghost use Rattle.vfs_flags.specs.Opcode.{opcode_of};
 ghost use Rattle.vfs_flags.specs.declared.opcode.Opcode.{Opcode};
+ghost use Rattle.vfs_wire.specs.Fields.{little};
+ghost use Rattle.vfs_wire.specs.declared.attributes.Attr.{Attr};
+ghost use Rattle.vfs_wire.specs.declared.stat.Statvfs64.{Statvfs64};
 ghost use Rattle.vfs_segments.specs.Segments.{with_bytes_at};
 ghost use Rattle.vfs_segments.specs.Written.{whole};
-ghost use Rattle.vfs_messages.specs.Laws.{header_of, WantsMemory};
+ghost use Rattle.vfs_messages.specs.Laws.{header_of, unique_of, opcode_in, count_of_pairs, default_limits, WantsMemory};
+ghost use Rattle.vfs_messages.specs.Limits.{max_len};
 ghost use Rattle.vfs_messages.specs.Turn.{Turn, IsTurn};
 ghost use Rattle.vfs_messages.specs.Uses.{not_served_reply, ten_of_done_reply};
+ghost use Rattle.vfs_messages.specs.Uses.{lookup_of_a, request_for_data, node_5, node_5_reply};
 ghost use Rattle.vfs_messages.specs.declared.error.Error.{Error};
 ghost use Rattle.vfs_messages.specs.declared.limits.Limits.{Limits};
 
 use crate::error::Result;
 use crate::extensions::get_extensions;
-use crate::laws::replies_begin_with_their_header;
+use crate::laws::{
+    answers_are_of_their_kind, data_are_no_more_than_asked, options_are_agreed,
+    replies_begin_with_their_header, unfit_replies_are_cut_off,
+};
 use crate::reply::{reply_error, reply_failed, reply_ok};
 use crate::request::{Tail, read_record, read_tail};
 use std::alloc::Global;
@@ -86,6 +102,103 @@ pub fn getattr_wants_no_memory()
         opcode_of (header_of request).opcode ≡ Some Opcode.Getattr →
         ¬ (WantsMemory limits options room request) }
 {}
+
+/// Memory is wanted only for what is whole and within the limits: never for a request that is
+/// shorter than a header, or whose `len` is above the limit, or that is shorter than its `len`
+/// says, as a LOOKUP whose name lacks a byte; nor for a BATCH_FORGET that lacks some of its pairs,
+/// or whose pairs are above the limit.
+pub fn broken_requests_want_no_memory()
+    ensures short { (limits : Limits) (options room : ℕ) (request : List ℕ) →
+        length request < 40 → ¬ (WantsMemory limits options room request) }
+    ensures above { (limits : Limits) (options room : ℕ) (request : List ℕ) →
+        max_len limits < (header_of request).len → ¬ (WantsMemory limits options room request) }
+    ensures cut { (limits : Limits) (options room : ℕ) (request : List ℕ) →
+        opcode_in request ≢ Some Opcode.BatchForget → length request < (header_of request).len →
+        ¬ (WantsMemory limits options room request) }
+    ensures few_pairs { (limits : Limits) (options room : ℕ) (request : List ℕ) →
+        opcode_in request ≡ Some Opcode.BatchForget →
+        length request < 48 + 16 * count_of_pairs request →
+        ¬ (WantsMemory limits options room request) }
+    ensures many_pairs { (limits : Limits) (options room : ℕ) (request : List ℕ) →
+        opcode_in request ≡ Some Opcode.BatchForget →
+        limits.max_buffer < 16 * count_of_pairs request →
+        ¬ (WantsMemory limits options room request) }
+{}
+
+/// The four bytes at the front of a reply are the answer, and its last eight of a header are the
+/// request's `unique`.
+pub fn front_of_a_reply()
+    ensures len { (limits : Limits) (options after n : ℕ) (t : Turn) →
+        IsTurn limits options t after → t.outcome ≡ Ok n → 0 < n →
+        take 4 t.room_after ≡ little 4 n }
+    ensures unique { (limits : Limits) (options after n : ℕ) (t : Turn) →
+        IsTurn limits options t after → t.outcome ≡ Ok n → 0 < n →
+        take 8 (drop 8 t.room_after) ≡ little 8 (unique_of t.request) }
+{
+    replies_begin_with_their_header();
+}
+
+/// A READ of three bytes is answered by at most nineteen, a READDIR of 96 by at most 112, and a
+/// READDIRPLUS of 200 by at most 216: the data, and sixteen bytes of a header.
+pub fn lengths_of_data()
+    ensures read { (limits : Limits) (options after n : ℕ) (t : Turn) →
+        IsTurn limits options t after → t.request ≡ request_for_data 15 3 → t.outcome ≡ Ok n →
+        n ≤ 19 }
+    ensures readdir { (limits : Limits) (options after n : ℕ) (t : Turn) →
+        IsTurn limits options t after → t.request ≡ request_for_data 28 96 → t.outcome ≡ Ok n →
+        n ≤ 112 }
+    ensures readdirplus { (limits : Limits) (options after n : ℕ) (t : Turn) →
+        IsTurn limits options t after → t.request ≡ request_for_data 44 200 → t.outcome ≡ Ok n →
+        n ≤ 216 }
+{
+    data_are_no_more_than_asked();
+}
+
+/// After `EncodeMessage`: the room of a LOOKUP that was answered by the entry of node 5 holds the
+/// beginning of these 144 bytes, as a room of a hundred bytes the first hundred. With eight bytes
+/// of room a READ made no call, and changed nothing; with twenty it isn't so refused.
+pub fn rooms_that_are_too_small()
+    ensures lookup { (options after : ℕ) (call : Call) (t : Turn) →
+        IsTurn (default_limits 4096) options t after → t.request ≡ lookup_of_a →
+        t.events ≡ Called call (Found node_5) ∷ [] → t.outcome ≡ Err Error.EncodeMessage →
+        t.room_after ≡ take (length t.room) node_5_reply }
+    ensures read { (options after : ℕ) (t : Turn) →
+        IsTurn (default_limits 4096) options t after → t.request ≡ request_for_data 15 3 →
+        length t.room ≡ 8 → t.outcome ≡ Err Error.EncodeMessage →
+        (t.events ≡ []) × (t.room_after ≡ t.room) × (after ≡ options) }
+    ensures enough { (options after : ℕ) (t : Turn) →
+        IsTurn (default_limits 4096) options t after → t.request ≡ request_for_data 15 3 →
+        length t.room ≡ 20 → t.outcome ≢ Err Error.EncodeMessage }
+{
+    unfit_replies_are_cut_off();
+}
+
+/// Of options that a client offers, those that the server supports by itself are agreed on, as bit
+/// 40 is, though the file system wants none; and where none is offered none is agreed on, whatever
+/// it wants.
+pub fn options_by_themselves()
+    ensures supported { (limits : Limits) (options after offered : ℕ) (t : Turn) →
+        IsTurn limits options t after → bit_at offered 40 ≡ 1 →
+        t.events ≡ Called (Init offered) (Options 0) ∷ [] → bit_at after 40 ≡ 1 }
+    ensures unoffered { (limits : Limits) (options after want : ℕ) (t : Turn) →
+        IsTurn limits options t after → t.events ≡ Called (Init 0) (Options want) ∷ [] →
+        bit_at after 40 ≡ 0 }
+{
+    options_are_agreed();
+}
+
+/// Numbers that calls answered are in the widths that replies have for them.
+pub fn widths_of_answers()
+    ensures fault { (limits : Limits) (options after number : ℕ) (ctx : Context) (inode mask : ℕ)
+        (t : Turn) → IsTurn limits options t after →
+        t.events ≡ Called (Access ctx inode mask) (Failed (Some number)) ∷ [] →
+        (0 < number) × (number < 2 ^ 31) }
+    ensures wanted { (limits : Limits) (options after offered want : ℕ) (t : Turn) →
+        IsTurn limits options t after → t.events ≡ Called (Init offered) (Options want) ∷ [] →
+        want < 2 ^ 64 }
+{
+    answers_are_of_their_kind();
+}
 
 /// The largest answer is one that the `len` of a reply's header can say.
 pub fn lengths_fit_their_field()

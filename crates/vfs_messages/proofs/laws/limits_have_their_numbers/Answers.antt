@@ -1,0 +1,14 @@
+use Rattle.vfs_messages.proofs.Sizes.{len_within, len_above, pairs_within, pairs_above}
+use Rattle.vfs_messages.proofs.laws.limits_have_their_numbers.Goals as goal
+
+pub returns-clause-len_within : goal.returns-clause-len_within
+returns-clause-len_within c = λ page_size options room request long small. len_within page_size options room request long small
+
+pub returns-clause-len_above : goal.returns-clause-len_above
+returns-clause-len_above c = λ page_size options room request long large. len_above page_size options room request long large
+
+pub returns-clause-pairs_within : goal.returns-clause-pairs_within
+returns-clause-pairs_within c = λ page_size options room request long small is few. pairs_within page_size options room request long small is few
+
+pub returns-clause-pairs_above : goal.returns-clause-pairs_above
+returns-clause-pairs_above c = λ page_size options room request long small is many. pairs_above page_size options room request long small is many
