@@ -11,6 +11,8 @@ pub mod DirectoryCallers
 pub mod Cutting
 pub mod Sizes
 pub mod Lacking
+pub mod Said
+pub mod Staying
 pub mod Examples
 mod Blocks
 mod BlockLaws

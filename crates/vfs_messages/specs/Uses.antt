@@ -1,8 +1,9 @@
 -- Requests and replies as bytes, written out: what the small callers of this crate hand over, and
 -- what they find in their rooms.
-use Rattle.std.specs.Prelude.{ℕ, List, [], ◌∷◌, ◌++◌, replicate}
+use Rattle.std.specs.Prelude.{ℕ, List, [], ◌∷◌, ◌++◌, replicate, Some}
 use Rattle.vfs_wire.specs.Fields.{value_of}
 use Rattle.vfs_wire.specs.Attributes.{attr}
+use Rattle.vfs_files.specs.Extensions.{ExtensionValues}
 use Rattle.vfs_files.specs.declared.entry.Entry.{Entry}
 
 -- the reply to request 9 that says ENOSYS: 16 bytes, and the error number 38 negated
@@ -44,3 +45,13 @@ node_5 = record {
 -- the reply to request 9 that says it: 144 bytes
 abbrev pub node_5_reply : List ℕ
 node_5_reply = (0x90 ∷ zeros 7) ++ ((9 ∷ zeros 7) ++ ((5 ∷ zeros 7) ++ zeros 120))
+
+-- a context named `s`, whose value is `v`, and the group 1000
+abbrev pub context_and_group : ExtensionValues
+context_and_group = record { context = Some (0x73 ∷ [], 0x76 ∷ []); group = Some 1000 }
+
+-- the blocks of both: of 19 bytes and of type 1, and of 16 bytes and of type 32
+abbrev pub context_and_group_blocks : List ℕ
+context_and_group_blocks =
+    (((19 ∷ zeros 3) ++ (1 ∷ zeros 3)) ++ ((1 ∷ zeros 7) ++ (0x73 ∷ 0 ∷ 0x76 ∷ [])))
+    ++ (((16 ∷ zeros 3) ++ (32 ∷ zeros 3)) ++ ((1 ∷ zeros 3) ++ (0xe8 ∷ 3 ∷ 0 ∷ 0 ∷ [])))

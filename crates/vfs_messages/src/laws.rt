@@ -1,10 +1,24 @@
 //! What holds of every turn of a request, as laws: each function does nothing, and its clause says
 //! what was proved.
 
-ghost use Rattle.std.specs.Prelude.{◌≡◌, ◌≢◌, ◌<◌, ◌≤◌, ◌+◌, ◌⊎◌, ℕ, length, drop, List, [], ◌∷◌, Ok, Err, Some};
+ghost use Rattle.std.specs.Prelude.{◌≡◌, ◌≢◌, ◌<◌, ◌≤◌, ◌+◌, ◌⊎◌, ℕ, length, take, drop, List, [], ◌∷◌, Option, Ok, Err, Some};
 ghost use Rattle.std.specs.declared.time.Duration.{Duration};
 ghost use Rattle.vfs_flags.specs.declared.opcode.Opcode.{Opcode};
-ghost use Rattle.vfs_wire.specs.Entries.{forget_one};
+ghost use Rattle.vfs_wire.specs.Attributes.{attr_out};
+ghost use Rattle.vfs_wire.specs.Entries.{entry_out};
+ghost use Rattle.vfs_wire.specs.Fields.{value_of};
+ghost use Rattle.vfs_wire.specs.Files.{open_out, write_out};
+ghost use Rattle.vfs_wire.specs.Listings.{kstatfs};
+ghost use Rattle.vfs_wire.specs.Ranges.{lseek_out};
+ghost use Rattle.vfs_wire.specs.Stat.{kstatfs_of};
+ghost use Rattle.vfs_wire.specs.Xattrs.{getxattr_out};
+ghost use Rattle.vfs_wire.specs.declared.attributes.Attr.{Attr};
+ghost use Rattle.vfs_wire.specs.declared.stat.Statvfs64.{Statvfs64};
+ghost use Rattle.vfs_files.specs.Calls.{Found, Attributes, Opened, Created, Statistics, Count, Offset, Written, Text, Put};
+ghost use Rattle.vfs_files.specs.Entries.{entry_out_of};
+ghost use Rattle.vfs_files.specs.declared.entry.Entry.{Entry};
+ghost use Rattle.vfs_messages.specs.Laws.{IsAnswered, body_in};
+ghost use Rattle.vfs_messages.specs.Reply.{attr_out_of, open_out_of};
 ghost use Rattle.vfs_files.specs.Calls.{Call, Init, Destroy, BatchForget, Answer, Options, kind_of, IsAnswer};
 ghost use Rattle.vfs_files.specs.Entries.{context_of};
 ghost use Rattle.vfs_files.specs.Runs.{Called};
@@ -80,6 +94,15 @@ pub fn data_are_no_more_than_asked()
         CarriesData (opcode_in t.request) → t.outcome ≡ Ok n → n ≤ 16 + size_asked t.request }
 {}
 
+/// A room is as long as it was, whatever came of the request; and where the answer is 0, each of
+/// its bytes is as it was.
+pub fn rooms_stay()
+    ensures length { (limits : Limits) (options after : ℕ) (t : Turn) →
+        IsTurn limits options t after → length t.room_after ≡ length t.room }
+    ensures silent { (limits : Limits) (options after : ℕ) (t : Turn) →
+        IsTurn limits options t after → t.outcome ≡ Ok 0 → t.room_after ≡ t.room }
+{}
+
 /// `FlushMessage` and `InvalidCString2` are never answered.
 pub fn two_errors_are_never_answered()
     ensures { (limits : Limits) (options after : ℕ) (t : Turn) → IsTurn limits options t after →
@@ -135,6 +158,43 @@ pub fn answers_are_of_their_kind()
     ensures { (limits : Limits) (options after : ℕ) (call : Call) (answer : Answer) (t : Turn) →
         IsTurn limits options t after → t.events ≡ Called call answer ∷ [] →
         IsAnswer (kind_of call) answer }
+{}
+
+/// What stands behind the header of a reply that fits is what the one call of the request answered:
+/// its numbers, where the tables of the records have them, or its bytes.
+pub fn replies_say_what_was_answered()
+    ensures entry { (limits : Limits) (options after : ℕ) (t : Turn) (entry : Entry) →
+        IsAnswered limits options (Found entry) t after →
+        value_of entry_out (body_in t.room_after) ≡ entry_out_of entry }
+    ensures attributes { (limits : Limits) (options after : ℕ) (t : Turn) (attributes : Attr)
+        (timeout : Duration) → IsAnswered limits options (Attributes attributes timeout) t after →
+        value_of attr_out (body_in t.room_after) ≡ attr_out_of attributes timeout }
+    ensures opening { (limits : Limits) (options after : ℕ) (t : Turn) (handle : Option ℕ)
+        (how : ℕ) → IsAnswered limits options (Opened handle how) t after →
+        value_of open_out (body_in t.room_after) ≡ open_out_of handle how }
+    ensures creation { (limits : Limits) (options after : ℕ) (t : Turn) (entry : Entry)
+        (handle : Option ℕ) (how : ℕ) →
+        IsAnswered limits options (Created entry handle how) t after →
+        (value_of entry_out (body_in t.room_after) ≡ entry_out_of entry)
+        × (value_of open_out (drop 128 (body_in t.room_after)) ≡ open_out_of handle how) }
+    ensures statistics { (limits : Limits) (options after : ℕ) (t : Turn)
+        (statistics : Statvfs64) → IsAnswered limits options (Statistics statistics) t after →
+        value_of kstatfs (body_in t.room_after) ≡ kstatfs_of statistics }
+    ensures count { (limits : Limits) (options after : ℕ) (t : Turn) (size : ℕ) →
+        IsAnswered limits options (Count size) t after →
+        (value_of getxattr_out (body_in t.room_after)).size ≡ size }
+    ensures offset { (limits : Limits) (options after : ℕ) (t : Turn) (offset : ℕ) →
+        IsAnswered limits options (Offset offset) t after →
+        (value_of lseek_out (body_in t.room_after)).offset ≡ offset }
+    ensures written { (limits : Limits) (options after : ℕ) (t : Turn) (count : ℕ) →
+        IsAnswered limits options (Written count) t after →
+        (value_of write_out (body_in t.room_after)).size ≡ count }
+    ensures text { (limits : Limits) (options after : ℕ) (t : Turn) (bytes : List ℕ) →
+        IsAnswered limits options (Text bytes) t after →
+        take (length bytes) (body_in t.room_after) ≡ bytes }
+    ensures put { (limits : Limits) (options after : ℕ) (t : Turn) (bytes : List ℕ) →
+        IsAnswered limits options (Put bytes) t after →
+        take (length bytes) (body_in t.room_after) ≡ bytes }
 {}
 
 /// Of every turn that reads a directory:

@@ -23,12 +23,16 @@ ghost use Rattle.vfs_messages.specs.Laws.{header_of, unique_of, opcode_in, count
 ghost use Rattle.vfs_messages.specs.Limits.{max_len};
 ghost use Rattle.vfs_messages.specs.Turn.{Turn, IsTurn};
 ghost use Rattle.vfs_messages.specs.Uses.{not_served_reply, ten_of_done_reply};
+ghost use Rattle.vfs_messages.specs.ExtensionLaws.{blocks_of};
+ghost use Rattle.vfs_messages.specs.Extensions.{extensions_after};
 ghost use Rattle.vfs_messages.specs.Uses.{lookup_of_a, request_for_data, node_5, node_5_reply};
+ghost use Rattle.vfs_messages.specs.Uses.{context_and_group, context_and_group_blocks};
 ghost use Rattle.vfs_messages.specs.declared.error.Error.{Error};
 ghost use Rattle.vfs_messages.specs.declared.limits.Limits.{Limits};
 
 use crate::error::Result;
-use crate::extensions::get_extensions;
+use crate::extension_laws::written_extensions_are_found;
+use crate::extensions::{get_extensions, parse_security_context};
 use crate::laws::{
     answers_are_of_their_kind, data_are_no_more_than_asked, options_are_agreed,
     replies_begin_with_their_header, unfit_replies_are_cut_off,
@@ -36,7 +40,7 @@ use crate::laws::{
 use crate::reply::{reply_error, reply_failed, reply_ok};
 use crate::request::{Tail, read_record, read_tail};
 use std::alloc::Global;
-use vfs_files::Extensions;
+use vfs_files::{Extensions, SecContext};
 use vfs_flags::{Errno, FsOptions};
 use vfs_segments::{Reader, Writer};
 use vfs_wire::{GetattrIn, InHeader};
@@ -44,11 +48,13 @@ use vfs_wire::{GetattrIn, InHeader};
 pub mod directories;
 
 /// Says to request 9 that it is not served. Sixteen bytes are put into the room; those behind
-/// them, and those that the writer had passed, are as they were.
+/// them, and those that the writer had passed, are as they were, and so are the lengths of its
+/// segments.
 pub fn say_not_served(w: &mut Writer) -> Result<usize>
     requires { 16 ≤ length w.old.left }
     ensures outcome { result ≡ Ok 16 }
     ensures bytes { whole w.new ≡ w.old.passed ++ (not_served_reply ++ drop 16 w.old.left) }
+    ensures segments { w.new.lengths ≡ w.old.lengths }
 {
     reply_failed(Some(Errno::ENOSYS), 9, w)
 }
@@ -161,7 +167,7 @@ pub fn rooms_that_are_too_small()
     ensures lookup { (options after : ℕ) (call : Call) (t : Turn) →
         IsTurn (default_limits 4096) options t after → t.request ≡ lookup_of_a →
         t.events ≡ Called call (Found node_5) ∷ [] → t.outcome ≡ Err Error.EncodeMessage →
-        t.room_after ≡ take (length t.room) node_5_reply }
+        (length t.room < 144) × (t.room_after ≡ take (length t.room) node_5_reply) }
     ensures read { (options after : ℕ) (t : Turn) →
         IsTurn (default_limits 4096) options t after → t.request ≡ request_for_data 15 3 →
         length t.room ≡ 8 → t.outcome ≡ Err Error.EncodeMessage →
@@ -229,4 +235,28 @@ pub fn context_behind_a_name(alloc: Global) -> Result<Extensions>
 {
     let tail = b"d\0\x13\0\0\0\x01\0\0\0\x01\0\0\0\0\0\0\0s\0v";
     get_extensions(alloc, FsOptions::SECURITY_CTX, 2, tail)
+}
+
+/// Two contexts are refused, whatever they are, and a context whose value has no byte: for neither
+/// memory is wanted.
+pub fn contexts_that_are_refused(
+    alloc: Global,
+    body: &[u8],
+) -> (Result<Option<SecContext>>, Result<Option<SecContext>>)
+    ensures two { result.0 ≡ Err Error.DecodeMessage }
+    ensures no_value { result.1 ≡ Err Error.DecodeMessage }
+{
+    let two = parse_security_context(alloc, 2, body);
+    let no_value = parse_security_context(alloc, 1, b"\0\0\0\0\0\0\0\0s\0");
+    (two, no_value)
+}
+
+/// A context named `s`, whose value is `v`, and the group 1000, as they are written, and that they
+/// are found so behind the name `d`.
+pub fn extensions_as_written()
+    ensures bytes { blocks_of context_and_group ≡ context_and_group_blocks }
+    ensures found { extensions_after 0x500000000 2 ((0x64 ∷ 0 ∷ []) ++ context_and_group_blocks)
+        ≡ Ok context_and_group }
+{
+    written_extensions_are_found();
 }

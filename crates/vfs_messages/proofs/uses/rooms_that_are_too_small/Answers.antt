@@ -1,4 +1,4 @@
-use Rattle.std.proofs.Common.{◌≡◌, ℕ, List, [], ◌∷◌, length, take, None, ap, sym, subst, ◌∙◌, inl, inr, refl, arith}
+use Rattle.std.proofs.Common.{◌≡◌, ◌<◌, ℕ, List, [], ◌∷◌, length, take, None, ap, sym, subst, ◌∙◌, inl, inr, refl, arith}
 use Rattle.vfs_flags.specs.Opcode.{opcode_of}
 use Rattle.vfs_wire.specs.Fields.{number, little}
 use Rattle.vfs_files.specs.Calls.{Call, Lookup, Read, Answer, Found}
@@ -33,19 +33,19 @@ found_so = refl
 
 looked_up : (options : ℕ) (after : ℕ) (call : Call) (t : Turn) → t.events ≡ Called call (Found node_5) ∷ []
     → Follows (cut_turn_tells t) (default_limits 4096) options (Copies (Asks echo (Lookup nobody 1 (0x61 ∷ [])))) after
-    → t.room_after ≡ take (length t.room) node_5_reply
+    → (length t.room < 144) × (t.room_after ≡ take (length t.room) node_5_reply)
 looked_up options after call t e (inl f) =
     let a = sym f.1 ∙ e in
     let same : f.0 ≡ Found node_5 = cc in
     let cut : CutsOff (said 9 (say_entry (Found node_5))) t.room t.room_after = subst (λ (x : Answer). CutsOff (said 9 (say_entry x)) t.room t.room_after) same f.3 in
     let found : CutsOff (Bytes node_5_reply) t.room t.room_after = subst (λ (reply : Reply). CutsOff reply t.room t.room_after) found_so cut in
-    found.holds
+    (found.longer, found.holds)
 looked_up options after call t e (inr f) = absurd f.1
 
 pub returns-clause-lookup : goal.returns-clause-lookup
 unfolding number opcode_of
 returns-clause-lookup c = λ options after call t turn is e o.
-    elim (c.unfit_replies_are_cut_off.ensures (default_limits 4096) options after t turn o) as (λ x. t.room_after ≡ take (length t.room) node_5_reply) [
+    elim (c.unfit_replies_are_cut_off.ensures (default_limits 4096) options after t turn o) as (λ x. (length t.room < 144) × (t.room_after ≡ take (length t.room) node_5_reply)) [
       | inl f ↦ looked_up options after call t e (subst (λ (r : List ℕ). Follows (cut_turn_tells t) (default_limits 4096) options (ask (default_limits 4096) options (length t.room) r) after) is f)
       | inr lacks ↦ absurd (subst (λ (r : List ℕ). CarriesData (opcode_in r)) is lacks.carries)
     ]
