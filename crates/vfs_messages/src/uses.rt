@@ -5,18 +5,18 @@ ghost use Rattle.std.specs.Prelude.{◌≡◌, ◌≢◌, ◌<◌, ◌≤◌, �
 ghost use Rattle.std.specs.Prelude.{Option, Ok, Err, Some, None, MatchResult, codes};
 ghost use Rattle.std.specs.Int.{bit_at};
 ghost use Rattle.std.specs.declared.time.Duration.{Duration};
-ghost use Rattle.vfs_files.specs.Calls.{Call, Lookup, Getattr, Open, Statfs, Write, Access, Getxattr, Init, Create, Lseek};
-ghost use Rattle.vfs_files.specs.Calls.{Failed, Options, Found, Attributes, Opened, Created, Statistics, Count, Offset, Written};
-ghost use Rattle.vfs_files.specs.Extensions.{ExtensionValues, extension_values_of};
-ghost use Rattle.vfs_files.specs.Runs.{Event, Called};
-ghost use Rattle.vfs_files.specs.Runs as event;
+ghost use Rattle.vfs_files.specs.Calls.{Call, Lookup, Getattr, Access, Init, Failed, Options, Found, Attributes};
+ghost use Rattle.vfs_files.specs.Extensions.{extension_values_of};
+ghost use Rattle.vfs_files.specs.Runs.{Called};
 ghost use Rattle.vfs_files.specs.declared.entry.Context.{Context};
 ghost use Rattle.vfs_files.specs.declared.entry.Entry.{Entry};
 ghost use Rattle.vfs_flags.specs.Opcode.{opcode_of};
 ghost use Rattle.vfs_flags.specs.declared.opcode.Opcode.{Opcode};
-ghost use Rattle.vfs_wire.specs.Fields.{little};
+ghost use Rattle.vfs_wire.specs.Attributes.{attr_out};
+ghost use Rattle.vfs_wire.specs.Entries.{entry_out};
+ghost use Rattle.vfs_wire.specs.Fields.{little, value_of};
+ghost use Rattle.vfs_files.specs.Entries.{whole_seconds};
 ghost use Rattle.vfs_wire.specs.declared.attributes.Attr.{Attr};
-ghost use Rattle.vfs_wire.specs.declared.stat.Statvfs64.{Statvfs64};
 ghost use Rattle.vfs_segments.specs.Segments.{with_bytes_at};
 ghost use Rattle.vfs_segments.specs.Written.{whole};
 ghost use Rattle.vfs_messages.specs.Laws.{header_of, unique_of, opcode_in, count_of_pairs, default_limits, WantsMemory};
@@ -32,16 +32,16 @@ ghost use Rattle.vfs_messages.specs.declared.limits.Limits.{Limits};
 
 use crate::error::Result;
 use crate::extension_laws::written_extensions_are_found;
-use crate::extensions::{get_extensions, parse_security_context};
+use crate::extensions::{get_extensions, parse_security_context, parse_sup_groups};
 use crate::laws::{
     answers_are_of_their_kind, data_are_no_more_than_asked, options_are_agreed,
-    replies_begin_with_their_header, unfit_replies_are_cut_off,
+    replies_begin_with_their_header, replies_say_what_was_answered, unfit_replies_are_cut_off,
 };
 use crate::reply::{reply_error, reply_failed, reply_ok};
 use crate::request::{Tail, read_record, read_tail};
 use std::alloc::Global;
 use vfs_files::{Extensions, SecContext};
-use vfs_flags::{Errno, FsOptions};
+use vfs_flags::{Errno, FsOptions, GuestGid};
 use vfs_segments::{Reader, Writer};
 use vfs_wire::{GetattrIn, InHeader};
 
@@ -193,6 +193,24 @@ pub fn options_by_themselves()
     options_are_agreed();
 }
 
+/// A GETATTR that was answered by attributes: the reply of 120 bytes has the file's size and the
+/// whole seconds that the attributes hold, and a LOOKUP's of 144 the node.
+pub fn numbers_in_replies()
+    ensures getattr { (limits : Limits) (options after inode : ℕ) (ctx : Context)
+        (handle : Option ℕ) (attributes : Attr) (timeout : Duration) (t : Turn) →
+        IsTurn limits options t after →
+        t.events ≡ Called (Getattr ctx inode handle) (Attributes attributes timeout) ∷ [] →
+        t.outcome ≡ Ok 120 →
+        ((value_of attr_out (drop 16 t.room_after)).attr.size ≡ attributes.size)
+        × ((value_of attr_out (drop 16 t.room_after)).attr_valid ≡ whole_seconds timeout) }
+    ensures lookup { (limits : Limits) (options after parent : ℕ) (ctx : Context) (name : List ℕ)
+        (entry : Entry) (t : Turn) → IsTurn limits options t after →
+        t.events ≡ Called (Lookup ctx parent name) (Found entry) ∷ [] → t.outcome ≡ Ok 144 →
+        (value_of entry_out (drop 16 t.room_after)).nodeid ≡ entry.inode }
+{
+    replies_say_what_was_answered();
+}
+
 /// Numbers that calls answered are in the widths that replies have for them.
 pub fn widths_of_answers()
     ensures fault { (limits : Limits) (options after number : ℕ) (ctx : Context) (inode mask : ℕ)
@@ -259,4 +277,11 @@ pub fn extensions_as_written()
         ≡ Ok context_and_group }
 {
     written_extensions_are_found();
+}
+
+/// The body of an extension of one group, 1000.
+pub fn group_of_a_body() -> Result<GuestGid>
+    ensures { result ≡ Ok 1000 }
+{
+    parse_sup_groups(b"\x01\0\0\0\xe8\x03\0\0")
 }
