@@ -1,13 +1,14 @@
 -- What the bytes of a reply that fits say is what was answered.
-use Rattle.std.proofs.Common.{◌≡◌, ◌<◌, ℕ, Bool, true, false, List, [], ◌∷◌, ◌++◌, length, take, drop, nat_le, if◌then◌else◌, Option, Result, Ok, Err, refl, ap, sym, ◌∙◌, subst, inl, inr, append_assoc, pos, ◌+◌, lit<}
-use Rattle.std.proofs.lemmas.List.{take_at, drop_at, take-append-drop}
+use Rattle.std.proofs.Common.{◌≡◌, ◌<◌, ℕ, Bool, true, false, List, [], ◌∷◌, ◌++◌, length, take, drop, nat_le, if◌then◌else◌, Option, Result, Ok, Err, refl, ap, sym, ◌∙◌, subst, inl, inr, append_assoc, pos, ◌+◌, ◌^◌, lit<, zero, suc, slice_index, arith}
+use Rattle.std.proofs.lemmas.List.{take_at, drop_at, drop-drop, take-append-drop}
 use Rattle.std.specs.declared.time.Duration.{Duration}
-use Rattle.vfs_wire.specs.Fields.{Table, Fit, bytes_of, value_of}
-use Rattle.vfs_wire.specs.FieldLaws.{length-bytes_of, value_of-bytes_of-then}
+use Rattle.vfs_wire.specs.Fields.{Table, Fit, little, number, row, numbers_at, bytes_of, value_of}
+use Rattle.vfs_wire.specs.FieldLaws.{length-little, number-little, length-bytes_of, value_of-bytes_of-then}
 use Rattle.vfs_wire.specs.Attributes.{attr_out}
 use Rattle.vfs_wire.specs.Entries.{entry_out}
 use Rattle.vfs_wire.specs.Files.{open_out, write_out}
 use Rattle.vfs_wire.specs.Headers.{out_header}
+use Rattle.vfs_wire.specs.Init.{init_out}
 use Rattle.vfs_wire.specs.Listings.{kstatfs}
 use Rattle.vfs_wire.specs.Ranges.{lseek_out}
 use Rattle.vfs_wire.specs.Stat.{kstatfs_of}
@@ -18,8 +19,8 @@ use Rattle.vfs_wire.specs.declared.headers.OutHeader.{OutHeader}
 use Rattle.vfs_wire.specs.declared.ranges.LseekOut.{LseekOut}
 use Rattle.vfs_wire.specs.declared.stat.Statvfs64.{Statvfs64}
 use Rattle.vfs_wire.specs.declared.xattrs.GetxattrOut.{GetxattrOut}
-use Rattle.vfs_files.specs.Answers.{Kind, Data, Entries, TimedAttributes, Openings, Creations, Capacities, Texts, TextsOrCounts, Offsets, Writes, IsAnswer}
-use Rattle.vfs_files.specs.Answers.{Answer, Failed, Found, Put, Attributes, Opened, Created, Statistics, Text, Count, Offset, Written, read_answer}
+use Rattle.vfs_files.specs.Answers.{Kind, Agreements, Data, Entries, TimedAttributes, Openings, Creations, Capacities, Texts, TextsOrCounts, Offsets, Writes, IsAnswer}
+use Rattle.vfs_files.specs.Answers.{Answer, Failed, Options, Found, Put, Attributes, Opened, Created, Statistics, Text, Count, Offset, Written, read_answer}
 use Rattle.vfs_files.specs.Calls.{Call, Readdir, kind_of}
 use Rattle.vfs_files.specs.Entries.{entry_out_of}
 use Rattle.vfs_files.specs.Runs.{Event, Called}
@@ -27,7 +28,7 @@ use Rattle.vfs_files.specs.declared.entry.Entry.{Entry}
 use Rattle.vfs_messages.specs.Ask.{ask}
 use Rattle.vfs_messages.specs.Forms.{Listing, Ask, Ends, Asks, Lists, Copies}
 use Rattle.vfs_messages.specs.Laws.{IsAnswered, body_in}
-use Rattle.vfs_messages.specs.Reply.{Echo, Bytes, OpenBehind, Saying, Fault, Body, Unsaid, Wrong, said, said_open, said_by, is_open, say, body_reply, attr_out_of, open_out_of, getxattr_out_of, write_out_of}
+use Rattle.vfs_messages.specs.Reply.{Echo, Bytes, OpenBehind, Saying, Fault, Body, Unsaid, Wrong, said, said_open, said_by, is_open, say, body_reply, init_out_of, attr_out_of, open_out_of, getxattr_out_of, write_out_of}
 use Rattle.vfs_messages.specs.Room.{IsReplied}
 use Rattle.vfs_messages.specs.Turn.{Turn, Follows, IsRead, turn_tells}
 use Rattle.vfs_messages.specs.declared.limits.Limits.{Limits}
@@ -121,6 +122,19 @@ decoded : {R : Type 0} (table : Table R) (x : R) (room_after : List ℕ) (unique
 decoded table x room_after unique fit again b =
     ap (value_of table) (behind (bytes_of table x) room_after unique b) ∙ value_of-bytes_of-then table x b.rest fit again
 
+-- the k-th number of a row is read from its place, where it is in its width
+number_in_row : (k i : ℕ) (ws xs bytes rest : List ℕ) → drop i bytes ≡ row ws xs ++ rest → length xs ≡ length ws → k < length ws
+    → slice_index xs k < 256 ^ slice_index ws k → slice_index (numbers_at i ws bytes) k ≡ slice_index xs k
+number_in_row k i [] xs bytes rest e l h fit = absurd (omega arith)
+number_in_row k i (w ∷ ws) [] bytes rest e l h fit = absurd (omega arith)
+number_in_row zero i (w ∷ ws) (x ∷ xs) bytes rest e l h fit =
+    ap (number w) (e ∙ append_assoc (little w x) (row ws xs) rest) ∙ number-little w x (row ws xs ++ rest) fit
+number_in_row (suc k) i (w ∷ ws) (x ∷ xs) bytes rest e l h fit =
+    let parts : drop i bytes ≡ little w x ++ (row ws xs ++ rest) = e ∙ append_assoc (little w x) (row ws xs) rest in
+    let others : drop (i + w) bytes ≡ row ws xs ++ rest =
+    sym (drop-drop w i bytes) ∙ ap (drop w) parts ∙ drop_at (little w x) (row ws xs ++ rest) w (length-little w x) in
+    number_in_row k (i + w) ws xs bytes rest others (omega arith) (omega arith) fit
+
 module _ (limits : Limits) (echo : Echo) (after : ℕ) (room_after : List ℕ) where
   SaidBy : Kind → Answer → Type 0
   SaidBy kind answer = SaidIn echo.unique (say limits echo after kind answer) room_after
@@ -195,7 +209,22 @@ module _ (limits : Limits) (echo : Echo) (after : ℕ) (room_after : List ℕ) w
   data_by (Data size) bytes a b = bytes_by bytes b
   data_by _ bytes a b = absurd a
 
+  max_write_by : (kind : Kind) (want : ℕ) → IsAnswer kind (Options want) → SaidBy kind (Options want) → limits.max_buffer < 256 ^ 4
+      → (value_of init_out (body_in room_after)).max_write ≡ limits.max_buffer
+  unfolding SaidIn SaidBy
+  max_write_by Agreements want a b small =
+      let out = init_out_of limits echo.max_readahead after in
+      number_in_row 6 0 init_out.widths (init_out.fields out) (body_in room_after) b.rest (behind (bytes_of init_out out) room_after echo.unique b) refl (lit< tt) small
+  max_write_by _ want a b small = absurd a
+
 module _ (limits : Limits) (options after : ℕ) (t : Turn) where
+  pub max_write_said : (want : ℕ) → IsAnswered limits options (Options want) t after → limits.max_buffer < 256 ^ 4
+      → (value_of init_out (body_in t.room_after)).max_write ≡ limits.max_buffer
+  unfolding SaidBy
+  max_write_said want a small =
+      let s = answered_says limits options (Options want) t after a in
+      max_write_by limits s.echo after t.room_after s.kind want s.of_kind s.said_in small
+
   pub entry_said : (entry : Entry) → IsAnswered limits options (Found entry) t after → value_of entry_out (body_in t.room_after) ≡ entry_out_of entry
   unfolding SaidBy
   entry_said entry a = let s = answered_says limits options (Found entry) t after a in entry_by limits s.echo after t.room_after s.kind entry s.of_kind s.said_in

@@ -8,6 +8,7 @@ ghost use Rattle.vfs_wire.specs.Attributes.{attr_out};
 ghost use Rattle.vfs_wire.specs.Entries.{entry_out};
 ghost use Rattle.vfs_wire.specs.Fields.{value_of};
 ghost use Rattle.vfs_wire.specs.Files.{open_out, write_out};
+ghost use Rattle.vfs_wire.specs.Init.{init_out};
 ghost use Rattle.vfs_wire.specs.Listings.{kstatfs};
 ghost use Rattle.vfs_wire.specs.Ranges.{lseek_out};
 ghost use Rattle.vfs_wire.specs.Stat.{kstatfs_of};
@@ -31,7 +32,7 @@ ghost use Rattle.vfs_messages.specs.Laws.{default_limits, behind_header, opcode_
 ghost use Rattle.vfs_messages.specs.Laws.{CarriesData, size_asked, cut_turn_tells, LacksRoomForHeader};
 ghost use Rattle.vfs_messages.specs.Laws.{StopsForACause, ComesWhole, TakesFew};
 ghost use Rattle.vfs_messages.specs.Limits.{max_len};
-ghost use Rattle.vfs_messages.specs.Reply.{Echo, echo_of, init_out_of};
+ghost use Rattle.vfs_messages.specs.Reply.{Echo, echo_of};
 ghost use Rattle.vfs_messages.specs.declared.error.Error.{Error};
 
 use crate::limits::DEFAULT_MAX_BUFFER;
@@ -44,8 +45,9 @@ use crate::limits::DEFAULT_MAX_BUFFER;
 pub fn limits_have_their_numbers()
     ensures buffer { DEFAULT_MAX_BUFFER ≡ 1_048_576 }
     ensures largest_len { (page_size : ℕ) → max_len (default_limits page_size) ≡ 1_052_672 }
-    ensures max_write { (page_size max_readahead options : ℕ) →
-        (init_out_of (default_limits page_size) max_readahead options).max_write ≡ 1_048_576 }
+    ensures max_write { (page_size options after want : ℕ) (t : Turn) →
+        IsAnswered (default_limits page_size) options (Options want) t after →
+        (value_of init_out (body_in t.room_after)).max_write ≡ 1_048_576 }
     ensures len_within { (page_size options room : ℕ) (request : List ℕ) → 40 ≤ length request →
         (header_of request).len ≤ 1_052_672 →
         ask (default_limits page_size) options room request

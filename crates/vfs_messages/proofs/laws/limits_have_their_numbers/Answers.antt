@@ -1,5 +1,11 @@
+use Rattle.std.proofs.Common.{lit<}
+use Rattle.vfs_messages.specs.Laws.{default_limits}
+use Rattle.vfs_messages.proofs.Said.{max_write_said}
 use Rattle.vfs_messages.proofs.Sizes.{len_within, len_above, pairs_within, pairs_above}
 use Rattle.vfs_messages.proofs.laws.limits_have_their_numbers.Goals as goal
+
+pub returns-clause-max_write : goal.returns-clause-max_write
+returns-clause-max_write c = λ page_size options after want t answered. max_write_said (default_limits page_size) options after t want answered (lit< tt)
 
 pub returns-clause-len_within : goal.returns-clause-len_within
 returns-clause-len_within c = λ page_size options room request long small. len_within page_size options room request long small
