@@ -21,14 +21,14 @@ use Rattle.vfs_wire.specs.declared.stat.Statvfs64.{Statvfs64}
 use Rattle.vfs_wire.specs.declared.xattrs.GetxattrOut.{GetxattrOut}
 use Rattle.vfs_files.specs.Answers.{Kind, Agreements, Data, Entries, TimedAttributes, Openings, Creations, Capacities, Texts, TextsOrCounts, Offsets, Writes, IsAnswer}
 use Rattle.vfs_files.specs.Answers.{Answer, Failed, Options, Found, Put, Attributes, Opened, Created, Statistics, Text, Count, Offset, Written, read_answer}
-use Rattle.vfs_files.specs.Calls.{Call, Readdir, kind_of}
+use Rattle.vfs_files.specs.Calls.{Call, kind_of}
 use Rattle.vfs_files.specs.Entries.{entry_out_of}
 use Rattle.vfs_files.specs.Runs.{Event, Called}
 use Rattle.vfs_files.specs.declared.entry.Entry.{Entry}
 use Rattle.vfs_messages.specs.Ask.{ask}
 use Rattle.vfs_messages.specs.Forms.{Listing, Ask, Ends, Asks, Lists, Copies}
 use Rattle.vfs_messages.specs.Laws.{IsAnswered, body_in}
-use Rattle.vfs_messages.specs.Reply.{Echo, Bytes, OpenBehind, Saying, Fault, Body, Unsaid, Wrong, said, said_open, said_by, is_open, say, body_reply, init_out_of, attr_out_of, open_out_of, getxattr_out_of, write_out_of}
+use Rattle.vfs_messages.specs.Reply.{Echo, Saying, Body, said, said_open, said_by, is_open, say, body_reply, init_out_of, attr_out_of, open_out_of, getxattr_out_of, write_out_of}
 use Rattle.vfs_messages.specs.Room.{IsReplied}
 use Rattle.vfs_messages.specs.Turn.{Turn, Follows, IsRead, turn_tells}
 use Rattle.vfs_messages.specs.declared.limits.Limits.{Limits}

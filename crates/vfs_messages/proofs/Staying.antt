@@ -1,5 +1,5 @@
 -- What stays of a room.
-use Rattle.std.proofs.Common.{◌≡◌, ◌≤◌, ◌<◌, ◌+◌, ℕ, Bool, true, false, List, ◌++◌, length, take, drop, nat_le, if◌then◌else◌, Option, Some, Result, Ok, Err, refl, ap, sym, ◌∙◌, subst, inl, inr, arith, length-append, length-drop, length-take}
+use Rattle.std.proofs.Common.{◌≡◌, ◌≤◌, ◌<◌, ℕ, Bool, true, false, List, ◌++◌, length, take, drop, nat_le, if◌then◌else◌, Option, Result, Ok, Err, refl, ap, sym, ◌∙◌, inl, inr, arith, length-append, length-drop, length-take}
 use Rattle.std.proofs.lemmas.Bool.Decides.{nat_tests}
 use Rattle.vfs_wire.specs.Fields.{bytes_of}
 use Rattle.vfs_wire.specs.Init.{init_out}

@@ -1,4 +1,4 @@
-use Rattle.std.proofs.Common.{◌≡◌, ◌≢◌, ◌<◌, ℕ, zero, suc, [], ◌∷◌, length, slice_index, refl, arith, lit<}
+use Rattle.std.proofs.Common.{◌≢◌, ◌<◌, ℕ, zero, suc, [], ◌∷◌, slice_index, refl, arith, lit<}
 use Rattle.vfs_wire.specs.Fields.{little}
 use Rattle.vfs_messages.specs.ExtensionLaws.{FitExtensions}
 use Rattle.vfs_messages.specs.Uses.{context_and_group}
