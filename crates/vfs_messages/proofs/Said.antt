@@ -1,7 +1,9 @@
 -- What the bytes of a reply that fits say is what was answered.
-use Rattle.std.proofs.Common.{◌≡◌, ◌<◌, ℕ, Bool, true, false, List, [], ◌∷◌, ◌++◌, length, take, drop, nat_le, if◌then◌else◌, Option, Result, Ok, Err, refl, ap, sym, ◌∙◌, subst, inl, inr, append_assoc, pos, ◌+◌, ◌^◌, lit<, zero, suc, slice_index, arith}
+use Rattle.std.proofs.Common.{◌≡◌, ◌<◌, ℕ, Bool, true, false, List, [], ◌∷◌, ◌++◌, length, take, drop, nat_le, if◌then◌else◌, Option, Result, Ok, Err, refl, ap, sym, ◌∙◌, subst, inl, inr, append_assoc, pos, ◌+◌, ◌*◌, ◌/◌, ◌%◌, ◌^◌, bit_or, lit<, zero, suc, slice_index, arith}
 use Rattle.std.proofs.lemmas.List.{take_at, drop_at, drop-drop, take-append-drop}
+use Rattle.std.proofs.lemmas.Nat.{and_le_r, or_lt}
 use Rattle.std.specs.declared.time.Duration.{Duration}
+use Rattle.vfs_flags.specs.Flags.{supported_fs_options}
 use Rattle.vfs_wire.specs.Fields.{Table, Fit, little, number, row, numbers_at, bytes_of, value_of}
 use Rattle.vfs_wire.specs.FieldLaws.{length-little, number-little, length-bytes_of, value_of-bytes_of-then}
 use Rattle.vfs_wire.specs.Attributes.{attr_out}
@@ -21,13 +23,14 @@ use Rattle.vfs_wire.specs.declared.stat.Statvfs64.{Statvfs64}
 use Rattle.vfs_wire.specs.declared.xattrs.GetxattrOut.{GetxattrOut}
 use Rattle.vfs_files.specs.Answers.{Kind, Agreements, Data, Entries, TimedAttributes, Openings, Creations, Capacities, Texts, TextsOrCounts, Offsets, Writes, IsAnswer}
 use Rattle.vfs_files.specs.Answers.{Answer, Failed, Options, Found, Put, Attributes, Opened, Created, Statistics, Text, Count, Offset, Written, read_answer}
-use Rattle.vfs_files.specs.Calls.{Call, kind_of}
+use Rattle.vfs_files.specs.Calls.{Call, Init, kind_of}
 use Rattle.vfs_files.specs.Entries.{entry_out_of}
 use Rattle.vfs_files.specs.Runs.{Event, Called}
 use Rattle.vfs_files.specs.declared.entry.Entry.{Entry}
 use Rattle.vfs_messages.specs.Ask.{ask}
 use Rattle.vfs_messages.specs.Forms.{Listing, Ask, Ends, Asks, Lists, Copies}
 use Rattle.vfs_messages.specs.Laws.{IsAnswered, body_in}
+use Rattle.vfs_messages.specs.Options.{agreed, options_after}
 use Rattle.vfs_messages.specs.Reply.{Echo, Saying, Body, said, said_open, said_by, is_open, say, body_reply, init_out_of, attr_out_of, open_out_of, getxattr_out_of, write_out_of}
 use Rattle.vfs_messages.specs.Room.{IsReplied}
 use Rattle.vfs_messages.specs.Turn.{Turn, Follows, IsRead, turn_tells}
@@ -35,6 +38,7 @@ use Rattle.vfs_messages.specs.declared.limits.Limits.{Limits}
 use Rattle.vfs_messages.specs.declared.error.Error.{Error}
 use Rattle.vfs_messages.specs.declared.error.Error.TheVariants.{EncodeMessage}
 use Rattle.vfs_messages.proofs.Rooms.{length-header}
+use Rattle.vfs_messages.proofs.Turns.{after_call, of_its_kind}
 
 -- bytes that stand at the beginning of a room
 record Begins (reply room_after : List ℕ) : Type 0 where
@@ -217,7 +221,39 @@ module _ (limits : Limits) (echo : Echo) (after : ℕ) (room_after : List ℕ) w
       number_in_row 6 0 init_out.widths (init_out.fields out) (body_in room_after) b.rest (behind (bytes_of init_out out) room_after echo.unique b) refl (lit< tt) small
   max_write_by _ want a b small = absurd a
 
+  -- the two words of flags in INIT's reply are the options together
+  flags_by : (kind : Kind) (want : ℕ) → IsAnswer kind (Options want) → SaidBy kind (Options want) → after < 2 ^ 64
+      → (value_of init_out (body_in room_after)).flags + 2 ^ 32 * (value_of init_out (body_in room_after)).flags2 ≡ after
+  unfolding SaidIn SaidBy
+  flags_by Agreements want a b small =
+      let out = init_out_of limits echo.max_readahead after in
+      let begins = behind (bytes_of init_out out) room_after echo.unique b in
+      let low : (value_of init_out (body_in room_after)).flags ≡ after % 2 ^ 32 =
+      number_in_row 3 0 init_out.widths (init_out.fields out) (body_in room_after) b.rest begins refl (lit< tt) (omega arith) in
+      let high : (value_of init_out (body_in room_after)).flags2 ≡ after / 2 ^ 32 =
+      number_in_row 10 0 init_out.widths (init_out.fields out) (body_in room_after) b.rest begins refl (lit< tt) (omega arith) in
+      omega (arith, low, high)
+  flags_by _ want a b small = absurd a
+
+agreed_small : (offered want : ℕ) → want < 2 ^ 64 → agreed offered want < 2 ^ 64
+agreed_small offered want h =
+    omega (arith, and_le_r offered (bit_or want supported_fs_options), or_lt 64 want supported_fs_options h (lit< tt))
+
+-- only INIT is answered by options
+options_small : (call : Call) (want options : ℕ) → IsAnswer (kind_of call) (Options want) → options_after call (Options want) options < 2 ^ 64
+options_small (Init offered) want options a = agreed_small offered want a
+options_small _ want options a = absurd a
+
 module _ (limits : Limits) (options after : ℕ) (t : Turn) where
+  pub flags_said : (want : ℕ) → IsAnswered limits options (Options want) t after
+      → (value_of init_out (body_in t.room_after)).flags + 2 ^ 32 * (value_of init_out (body_in t.room_after)).flags2 ≡ after
+  unfolding SaidBy
+  flags_said want a =
+      let is = after_call limits options (ask limits options (length t.room) t.request) t after a.call (Options want) a.turn a.called in
+      let small = options_small a.call want options (of_its_kind limits options after a.call (Options want) t a.turn a.called) in
+      let s = answered_says limits options (Options want) t after a in
+      flags_by limits s.echo after t.room_after s.kind want s.of_kind s.said_in (omega (arith, is, small))
+
   pub max_write_said : (want : ℕ) → IsAnswered limits options (Options want) t after → limits.max_buffer < 256 ^ 4
       → (value_of init_out (body_in t.room_after)).max_write ≡ limits.max_buffer
   unfolding SaidBy

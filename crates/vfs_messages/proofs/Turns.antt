@@ -367,7 +367,7 @@ listed_alone l events records result call answer options (inl u) e =
 listed_alone l events records result call answer options (inr o) e = absurd (let a = sym o.events_are ∙ e in cc)
 
 -- the options after the one call of a turn
-after_call : (limits : Limits) (options : ℕ) (a : Ask) (t : Turn) (after : ℕ) (call : Call) (answer : Answer) → Follows (turn_tells t) limits options a after → t.events ≡ Called call answer ∷ [] → after ≡ options_after call answer options
+pub after_call : (limits : Limits) (options : ℕ) (a : Ask) (t : Turn) (after : ℕ) (call : Call) (answer : Answer) → Follows (turn_tells t) limits options a after → t.events ≡ Called call answer ∷ [] → after ≡ options_after call answer options
 after_call limits options (Ends reply) t after call answer f e = absurd (let a = sym f.0 ∙ e in cc)
 after_call limits options (Asks echo c) t after call answer f e =
     let a = sym f.1 ∙ e in

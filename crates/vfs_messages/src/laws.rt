@@ -1,7 +1,7 @@
 //! What holds of every turn of a request, as laws: each function does nothing, and its clause says
 //! what was proved.
 
-ghost use Rattle.std.specs.Prelude.{◌≡◌, ◌≢◌, ◌<◌, ◌≤◌, ◌+◌, ◌⊎◌, ℕ, length, take, drop, List, [], ◌∷◌, Option, Ok, Err, Some};
+ghost use Rattle.std.specs.Prelude.{◌≡◌, ◌≢◌, ◌<◌, ◌≤◌, ◌+◌, ◌*◌, ◌^◌, ◌⊎◌, ℕ, length, take, drop, List, [], ◌∷◌, Option, Ok, Err, Some};
 ghost use Rattle.std.specs.declared.time.Duration.{Duration};
 ghost use Rattle.vfs_flags.specs.declared.opcode.Opcode.{Opcode};
 ghost use Rattle.vfs_wire.specs.Attributes.{attr_out};
@@ -139,6 +139,15 @@ pub fn options_are_agreed()
     ensures { (limits : Limits) (options after offered want : ℕ) (t : Turn) →
         IsTurn limits options t after → t.events ≡ Called (Init offered) (Options want) ∷ [] →
         AreAgreed offered after }
+{}
+
+/// The options after an INIT that the file system accepts are those that its reply tells, where it
+/// fits: in its two words of flags together.
+pub fn agreed_options_are_told()
+    ensures { (limits : Limits) (options after want : ℕ) (t : Turn) →
+        IsAnswered limits options (Options want) t after →
+        (value_of init_out (body_in t.room_after)).flags
+        + 2 ^ 32 * (value_of init_out (body_in t.room_after)).flags2 ≡ after }
 {}
 
 /// After a DESTROY no options are agreed.
