@@ -1,30 +1,30 @@
 //! Small callers of this crate, as examples. What each ensures follows from the contracts of what
 //! it calls, and from nothing else.
 
-ghost use Rattle.std.specs.Prelude.{◌≡◌, ◌≢◌, ◌<◌, ◌≤◌, ◌+◌, ◌*◌, ◌-◌, ◌^◌, ◌++◌, [], ◌∷◌, ℕ, List, length, take, drop};
+ghost use Rattle.std.specs.Prelude.{◌≡◌, ◌≢◌, ◌<◌, ◌≤◌, ◌+◌, ◌*◌, ◌^◌, ◌++◌, [], ◌∷◌, ℕ, List, length, take, drop};
 ghost use Rattle.std.specs.Prelude.{Option, Ok, Err, Some, None, MatchResult, codes};
 ghost use Rattle.std.specs.Int.{bit_at};
 ghost use Rattle.std.specs.declared.time.Duration.{Duration};
-ghost use Rattle.vfs_files.specs.Calls.{Call, Lookup, Getattr, Access, Init, Failed, Options, Found, Attributes};
-ghost use Rattle.vfs_files.specs.Extensions.{extension_values_of};
-ghost use Rattle.vfs_files.specs.Runs.{Called};
-ghost use Rattle.vfs_files.specs.declared.entry.Context.{Context};
-ghost use Rattle.vfs_files.specs.declared.entry.Entry.{Entry};
 ghost use Rattle.vfs_flags.specs.Opcode.{opcode_of};
 ghost use Rattle.vfs_flags.specs.declared.opcode.Opcode.{Opcode};
 ghost use Rattle.vfs_wire.specs.Attributes.{attr_out};
 ghost use Rattle.vfs_wire.specs.Entries.{entry_out};
 ghost use Rattle.vfs_wire.specs.Fields.{little, value_of};
-ghost use Rattle.vfs_files.specs.Entries.{whole_seconds};
 ghost use Rattle.vfs_wire.specs.declared.attributes.Attr.{Attr};
 ghost use Rattle.vfs_segments.specs.Segments.{with_bytes_at};
 ghost use Rattle.vfs_segments.specs.Written.{whole};
+ghost use Rattle.vfs_files.specs.Calls.{Call, Lookup, Getattr, Access, Init, Failed, Options, Found, Attributes};
+ghost use Rattle.vfs_files.specs.Entries.{whole_seconds};
+ghost use Rattle.vfs_files.specs.Extensions.{extension_values_of};
+ghost use Rattle.vfs_files.specs.Runs.{Called};
+ghost use Rattle.vfs_files.specs.declared.entry.Context.{Context};
+ghost use Rattle.vfs_files.specs.declared.entry.Entry.{Entry};
+ghost use Rattle.vfs_messages.specs.ExtensionLaws.{blocks_of};
+ghost use Rattle.vfs_messages.specs.Extensions.{extensions_after};
 ghost use Rattle.vfs_messages.specs.Laws.{header_of, unique_of, opcode_in, count_of_pairs, default_limits, WantsMemory};
 ghost use Rattle.vfs_messages.specs.Limits.{max_len};
 ghost use Rattle.vfs_messages.specs.Turn.{Turn, IsTurn};
 ghost use Rattle.vfs_messages.specs.Uses.{not_served_reply, ten_of_done_reply};
-ghost use Rattle.vfs_messages.specs.ExtensionLaws.{blocks_of};
-ghost use Rattle.vfs_messages.specs.Extensions.{extensions_after};
 ghost use Rattle.vfs_messages.specs.Uses.{lookup_of_a, request_for_data, node_5, node_5_reply};
 ghost use Rattle.vfs_messages.specs.Uses.{context_and_group, context_and_group_blocks};
 ghost use Rattle.vfs_messages.specs.declared.error.Error.{Error};
