@@ -15,7 +15,7 @@ use Rattle.vfs_files.specs.Entries.{context_of}
 use Rattle.vfs_files.specs.declared.entry.Context.{Context}
 use Rattle.vfs_messages.specs.Ask.{ask, ask_number, lists_too_much, listing_of}
 use Rattle.vfs_messages.specs.Forms.{Ask, Asks, Lists, Copies, faulted, refused, refused_or, within, pairs_in, Record, Directories, ask_form}
-use Rattle.vfs_messages.specs.Laws.{header_of, opcode_in, behind_header, count_of_pairs, default_limits, CarriesData, size_asked}
+use Rattle.vfs_messages.specs.Laws.{header_of, opcode_in, behind_header, count_of_pairs, CarriesData, size_asked}
 use Rattle.vfs_messages.specs.Limits.{max_len}
 use Rattle.vfs_messages.specs.Reply.{Echo, echo_of, fault_reply, body_reply, said_open, say_bytes}
 use Rattle.vfs_messages.specs.Room.{IsReplied}
@@ -40,53 +40,53 @@ above_is : (test : Bool) (h : InHeader) (next : Ask) → test ≡ true → withi
 above_is true h next e = refl
 above_is false h next e = absurd cc
 
-module _ (page_size options room : ℕ) (request : List ℕ) where
+module _ (limits : Limits) (default : limits.max_buffer ≡ 1048576) (options room : ℕ) (request : List ℕ) where
   -- what a request asks whose header is whole
   by_header : 40 ≤ length request
-      → ask (default_limits page_size) options room request
-      ≡ within (nat_lt (max_len (default_limits page_size)) (header_of request).len) (header_of request)
-      (ask_number (default_limits page_size) options room (opcode_in request) (header_of request) (behind_header request))
+      → ask limits options room request
+      ≡ within (nat_lt (max_len limits) (header_of request).len) (header_of request)
+      (ask_number limits options room (opcode_in request) (header_of request) (behind_header request))
   by_header long = record_whole (nat_lt (length request) 40) (header_of request) _ (grind (arith, nat_tests))
 
   pub len_within : 40 ≤ length request → (header_of request).len ≤ 1052672
-      → ask (default_limits page_size) options room request
-      ≡ ask_number (default_limits page_size) options room (opcode_in request) (header_of request) (behind_header request)
+      → ask limits options room request
+      ≡ ask_number limits options room (opcode_in request) (header_of request) (behind_header request)
   len_within long small =
-      by_header long ∙ within_is (nat_lt 1052672 (header_of request).len) (header_of request) _ (grind (arith, nat_tests))
+      by_header long ∙ within_is (nat_lt (max_len limits) (header_of request).len) (header_of request) _ (grind (arith, nat_tests))
 
   pub len_above : 40 ≤ length request → 1052672 < (header_of request).len
-      → ask (default_limits page_size) options room request ≡ faulted 12 (header_of request)
+      → ask limits options room request ≡ faulted 12 (header_of request)
   len_above long large =
-      by_header long ∙ above_is (nat_lt 1052672 (header_of request).len) (header_of request) _ (grind (arith, nat_tests))
+      by_header long ∙ above_is (nat_lt (max_len limits) (header_of request).len) (header_of request) _ (grind (arith, nat_tests))
 
   -- what a BATCH_FORGET asks whose record is whole
   by_count : 48 ≤ length request → (header_of request).len ≤ 1052672 → opcode_in request ≡ Some BatchForget
-      → ask (default_limits page_size) options room request
-      ≡ within (nat_lt 1048576 (count_of_pairs request * 16)) (header_of request)
+      → ask limits options room request
+      ≡ within (nat_lt limits.max_buffer (count_of_pairs request * 16)) (header_of request)
       (refused_or (pairs_in (count_of_pairs request) (drop 8 (behind_header request))) (λ pairs.
       Copies (Asks (echo_of (header_of request)) (call.BatchForget (context_of (header_of request)) pairs))))
   by_count long small is =
       len_within (omega arith) small
-      ∙ ap (λ (o : Option Opcode). ask_number (default_limits page_size) options room o (header_of request) (behind_header request)) is
+      ∙ ap (λ (o : Option Opcode). ask_number limits options room o (header_of request) (behind_header request)) is
       ∙ record_whole (nat_lt (length (behind_header request)) 8) (value_of batch_forget_in (behind_header request)) _
       (let size = length-drop 40 request in grind (arith, nat_tests))
 
   pub pairs_within : 48 ≤ length request → (header_of request).len ≤ 1052672 → opcode_in request ≡ Some BatchForget → count_of_pairs request ≤ 65536
-      → ask (default_limits page_size) options room request
+      → ask limits options room request
       ≡ refused_or (pairs_in (count_of_pairs request) (drop 48 request)) (λ pairs.
       Copies (Asks (echo_of (header_of request)) (call.BatchForget (context_of (header_of request)) pairs)))
   pairs_within long small is few =
       by_count long small is
-      ∙ within_is (nat_lt 1048576 (count_of_pairs request * 16)) (header_of request) _ (grind (arith, nat_tests))
+      ∙ within_is (nat_lt limits.max_buffer (count_of_pairs request * 16)) (header_of request) _ (grind (arith, nat_tests))
       ∙ ap (λ (bytes : List ℕ).
       refused_or (pairs_in (count_of_pairs request) bytes) (λ pairs.
       Copies (Asks (echo_of (header_of request)) (call.BatchForget (context_of (header_of request)) pairs)))) (drop-drop 8 40 request)
 
   pub pairs_above : 48 ≤ length request → (header_of request).len ≤ 1052672 → opcode_in request ≡ Some BatchForget → 65536 < count_of_pairs request
-      → ask (default_limits page_size) options room request ≡ faulted 12 (header_of request)
+      → ask limits options room request ≡ faulted 12 (header_of request)
   pairs_above long small is many =
       by_count long small is
-      ∙ above_is (nat_lt 1048576 (count_of_pairs request * 16)) (header_of request) _ (grind (arith, nat_tests))
+      ∙ above_is (nat_lt limits.max_buffer (count_of_pairs request * 16)) (header_of request) _ (grind (arith, nat_tests))
 
 -- ---- data
 
