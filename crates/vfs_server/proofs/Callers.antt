@@ -1,5 +1,5 @@
 -- What a step says of one request that is written out.
-use Rattle.std.proofs.Common.{◌≡◌, ◌≤◌, ℕ, Bool, false, List, [], ◌∷◌, ◌++◌, length, drop, nat_lt, Option, None, Result, Ok, Err, ap, sym, ◌∙◌, arith, subst}
+use Rattle.std.proofs.Common.{◌≡◌, ◌≤◌, ℕ, Bool, false, List, [], ◌∷◌, ◌++◌, length, drop, nat_lt, Option, Some, None, Result, Ok, Err, ap, ◌∙◌, arith, subst, refl, append-nil}
 use Rattle.std.proofs.lemmas.Bool.Decides.{nat_tests}
 use Rattle.std.proofs.lemmas.List.{drop_all}
 use Rattle.vfs_flags.specs.Errors.{enosys}
@@ -11,21 +11,45 @@ use Rattle.vfs_files.specs.Items.{Item}
 use Rattle.vfs_files.specs.Answers.{Answer, Handed, Plain, Capacities}
 use Rattle.vfs_files.specs.Calls.{Call, Statfs, default_answer}
 use Rattle.vfs_files.specs.Entries.{context_of}
-use Rattle.vfs_files.specs.Runs.{Called, Happening, Calls, Opens, Takes, IsRun, events_of}
+use Rattle.vfs_files.specs.Runs.{Event, Called, Opened, Taken, Happening, Calls, Opens, Takes, IsRun, events_of}
 use Rattle.vfs_messages.specs.Ask.{ask}
 use Rattle.vfs_messages.specs.Forms.{Ask, Asks, within, faulted, refused}
 use Rattle.vfs_messages.specs.Limits.{max_len}
-use Rattle.vfs_messages.specs.Reply.{echo_of, reply_of}
-use Rattle.vfs_messages.specs.Room.{IsReplied}
-use Rattle.vfs_messages.specs.Turn.{Turn, Follows, turn_tells}
+use Rattle.vfs_messages.specs.Reply.{Echo, echo_of, reply_of}
+use Rattle.vfs_messages.specs.Room.{IsReplied, IsPut}
+use Rattle.vfs_messages.specs.Turn.{Turn, Follows, IsTurn, turn_tells}
 use Rattle.vfs_messages.specs.Uses.{not_served_reply}
 use Rattle.vfs_messages.specs.declared.limits.Limits.{Limits}
 use Rattle.vfs_messages.specs.declared.error.Error.{Error}
 use Rattle.vfs_messages.specs.declared.error.Error.TheVariants.{EncodeMessage}
 use Rattle.vfs_messages.proofs.Rooms.{put_outcome-fits, put_room-fits}
-use Rattle.vfs_server.specs.Step.{ServerState, IsStep}
+use Rattle.vfs_server.specs.Step.{ServerState, IsStep, turn_over}
 use Rattle.vfs_server.specs.Uses.{statfs_reply}
 use Rattle.vfs_server.specs.declared.uses.TheConstants.{READ, STATFS, UNKNOWN}
+
+-- each call of these events has its default answer
+abbrev pub AreDefault : List Event → Type 0
+AreDefault [] = Unit {0}
+AreDefault (Called call answer ∷ events) = (answer ≡ default_answer call) × AreDefault events
+AreDefault (Opened call ∷ events) = AreDefault events
+AreDefault (Taken item ∷ events) = AreDefault events
+
+-- what is seen of a turn whose reply takes all of its room
+pub record Seen (t : Turn) (size : ℕ) (reply : List ℕ) (left after : ℕ) : Type 0 where
+  pub outcome_is : t.outcome ≡ Ok size
+  pub room_is : t.room_after ≡ reply
+  pub options : after ≡ left
+
+pub seen_put : (t : Turn) (size : ℕ) (reply : List ℕ) (options after : ℕ) → IsPut reply t.room t.outcome t.room_after → length t.room ≡ size → length reply ≡ size → after ≡ options
+    → Seen t size reply options after
+seen_put t size reply options after p room full o =
+    let fits : length reply ≤ length t.room = omega (arith, room, full) in
+    let none : drop (length reply) t.room ≡ [] = drop_all (length reply) t.room (omega (arith, room, full)) in
+    record {
+      outcome_is = rw full at (p.says ∙ put_outcome-fits reply t.room fits);
+      room_is = p.leaves ∙ (put_room-fits reply t.room fits ∙ (ap (λ (l : List ℕ). reply ++ l) none ∙ append-nil reply));
+      options = o;
+    }
 
 -- a `len` of 40 is within every limit
 len_40_is_within : (limits : Limits) → nat_lt (max_len limits) 40 ≡ false
@@ -43,12 +67,18 @@ module _ {S I : Type 0} (allows : S → Call → Handed I → S → Type 0) (giv
   IsRun-no_events old new [] r e = r
   IsRun-no_events old new (h ∷ hs) r e = absurd cc
 
+  -- a server is as it was, where each of its three parts is
+  same_server : (old new : ServerState S) → new.fs ≡ old.fs → new.options ≡ old.options → new.limits ≡ old.limits → new ≡ old
+  same_server old new f o l =
+      ap (λ (s : S). let server : ServerState S = record { options = new.options; limits = new.limits; fs = s } in server) f
+      ∙ ap (λ (n : ℕ). let server : ServerState S = record { options = n; limits = new.limits; fs = old.fs } in server) o
+      ∙ ap (λ (k : Limits). let server : ServerState S = record { options = old.options; limits = k; fs = old.fs } in server) l
+
   -- what is seen of the request of an unknown opcode
   pub record NotServed (old : ServerState S) (writer : Written) (outcome : Result ℕ Error) (writer_after : Written) (new : ServerState S) : Type 0 where
     pub outcome_is : outcome ≡ Ok 16
     pub bytes : whole writer_after ≡ writer.passed ++ (not_served_reply ++ drop 16 writer.left)
-    pub state : new.fs ≡ old.fs
-    pub options : new.options ≡ old.options
+    pub state : new ≡ old
 
   pub step-unknown : (old : ServerState S) (writer : Written) (outcome : Result ℕ Error) (writer_after : Written) (new : ServerState S) → IsStep allows gives old UNKNOWN writer outcome writer_after new → 16 ≤ length writer.left
       → NotServed old writer outcome writer_after new
@@ -60,8 +90,7 @@ module _ {S I : Type 0} (allows : S → Call → Handed I → S → Type 0) (giv
       record {
         outcome_is = f.1.says ∙ put_outcome-fits not_served_reply writer.left room;
         bytes = s.leaves.kept ∙ ap (λ (l : List ℕ). writer.passed ++ l) (f.1.leaves ∙ put_room-fits not_served_reply writer.left room);
-        state = IsRun-no_events old.fs new.fs s.run s.is_run f.0;
-        options = f.2;
+        state = same_server old new (IsRun-no_events old.fs new.fs s.run s.is_run f.0) f.2 s.same_limits;
       }
 
 -- what the request asks
@@ -100,28 +129,32 @@ ask-statfs limits options room =
     ap (λ (above : Bool). within above (value_of in_header STATFS) (Asks (echo_of (value_of in_header STATFS)) (Statfs (context_of (value_of in_header STATFS)) 1)))
     (len_40_is_within limits)
 
+pub turn-statfs : (limits : Limits) (options : ℕ) (t : Turn) (after : ℕ) → IsTurn limits options t after → t.request ≡ STATFS → length t.room ≡ 96 → AreDefault t.events
+    → Seen t 96 statfs_reply options after
+unfolding little number
+turn-statfs limits options t after s request room default =
+    let echo : Echo = echo_of (value_of in_header STATFS) in
+    let call : Call = Statfs (context_of (value_of in_header STATFS)) 1 in
+    let P : Ask → Type 0 = λ a. Follows (turn_tells t) limits options a after in
+    let asks : ask limits options (length t.room) t.request ≡ Asks echo call =
+    ap (λ (b : List ℕ). ask limits options (length t.room) b) request ∙ ask-statfs limits options (length t.room) in
+    let f = subst P asks s in
+    let answer : f.0 ≡ default_answer call = (subst AreDefault f.1 default).0 in
+    let Q : Answer → Type 0 = λ a. IsReplied (reply_of limits echo after Capacities a) t.room t.outcome t.room_after in
+    seen_put t 96 statfs_reply options after (subst Q answer f.3) room refl f.4
+
 module _ {S I : Type 0} (allows : S → Call → Handed I → S → Type 0) (gives : I → Option Item → I → Type 0) (default : (s t : S) (c : Call) (a : Answer) → allows s c (Plain a) t → a ≡ default_answer c) where
-  -- the one call of a run has its default answer
-  IsRun-one_call : (old new : S) (run : List (Happening I × S)) (c : Call) (a : Answer) → IsRun allows gives None old run new → events_of run ≡ Called c a ∷ [] → a ≡ default_answer c
-  IsRun-one_call old new [] c a r e = absurd cc
-  IsRun-one_call old new ((Calls d b, t) ∷ hs) c a r e =
-      let same : d ≡ c = cc in
-      let answer : b ≡ a = cc in
-      sym answer ∙ default old t d b r.0 ∙ ap default_answer same
-  IsRun-one_call old new ((Opens d i, t) ∷ hs) c a r e = absurd cc
-  IsRun-one_call old new ((Takes i o j, t) ∷ hs) c a r e = absurd cc
+  -- each call of a run has its default answer
+  pub run_is_default : (it : Option I) (old new : S) (run : List (Happening I × S)) → IsRun allows gives it old run new → AreDefault (events_of run)
+  run_is_default it old new [] r = tt
+  run_is_default it old new ((Calls c a, t) ∷ hs) r = (default old t c a r.0, run_is_default it t new hs r.1)
+  run_is_default it old new ((Opens c i, t) ∷ hs) r = run_is_default (Some i) t new hs r.1
+  run_is_default it old new ((Takes i o j, t) ∷ hs) r = run_is_default (Some j) t new hs r.1
 
   -- what is seen of STATFS, of a file system whose answers are the defaults, in a room of 96 bytes
   pub step-statfs : (old : ServerState S) (writer : Written) (outcome : Result ℕ Error) (writer_after : Written) (new : ServerState S) → IsStep allows gives old STATFS writer outcome writer_after new → writer.passed ≡ [] → length writer.left ≡ 96
       → whole writer_after ≡ statfs_reply
-  unfolding little number
   step-statfs old writer outcome writer_after new s passed room =
-      let t : Turn = record { request = STATFS; room = writer.left; events = events_of s.run; outcome = outcome; room_after = s.room_after } in
-      let P : Ask → Type 0 = λ a. Follows (turn_tells t) old.limits old.options a new.options in
-      let f = subst P (ask-statfs old.limits old.options (length writer.left)) s.turn in
-      let answer = IsRun-one_call old.fs new.fs s.run _ f.0 s.is_run f.1 in
-      let Q : Answer → Type 0 = λ a. IsReplied (reply_of old.limits (echo_of (value_of in_header STATFS)) new.options Capacities a) writer.left outcome s.room_after in
-      let replied = subst Q answer f.3 in
-      let behind : drop 96 writer.left ≡ [] = drop_all 96 writer.left (omega (arith, room)) in
-      s.leaves.kept ∙ ap (λ (l : List ℕ). l ++ s.room_after) passed ∙ replied.leaves ∙ put_room-fits statfs_reply writer.left (omega (arith, room))
-      ∙ ap (λ (l : List ℕ). statfs_reply ++ l) behind
+      let t : Turn = turn_over STATFS writer s.run outcome s.room_after in
+      let seen = turn-statfs old.limits old.options t new.options s.turn refl room (run_is_default None old.fs new.fs s.run s.is_run) in
+      s.leaves.kept ∙ (ap (λ (l : List ℕ). l ++ s.room_after) passed ∙ seen.room_is)

@@ -1,55 +1,78 @@
 -- A session that grows by one step.
-use Rattle.std.proofs.Common.{◌≡◌, ℕ, List, [], ◌∷◌, ◌++◌, Option, None, Result, map, refl, ap, sym, ◌∙◌, append_assoc, subst, get_or, get_or-drop, take, drop, length, ◌+◌, ◌<◌, arith, add-zero, length-append}
+use Rattle.std.proofs.Common.{◌≡◌, ◌≢◌, ℕ, List, [], ◌∷◌, ◌++◌, Option, None, Result, Err, map, refl, ap, sym, ◌∙◌, append_assoc, subst, get_or, get_or-drop, take, drop, length, ◌+◌, ◌<◌, arith, add-zero, length-append}
 use Rattle.std.proofs.Math.ListN.{set}
 use Rattle.std.proofs.lemmas.List.{take_more, take_more_set, drop-drop, drop-set-lt}
+use Rattle.vfs_segments.specs.Unread.{Unread}
 use Rattle.vfs_segments.specs.Written.{Written}
 use Rattle.vfs_files.specs.Items.{Item}
 use Rattle.vfs_files.specs.Calls.{Call, Handed}
 use Rattle.vfs_files.specs.Runs.{events_of, RunsJoin, EventsJoin}
-use Rattle.vfs_messages.specs.Room.{Leaves}
-use Rattle.vfs_messages.specs.Turn.{Turn, IsTurn}
+use Rattle.vfs_messages.specs.Turn.{Turn}
 use Rattle.vfs_messages.specs.declared.limits.Limits.{Limits}
 use Rattle.vfs_messages.specs.declared.error.Error.{Error}
-use Rattle.vfs_server.specs.Step.{ServerState, IsStep}
+use Rattle.vfs_messages.specs.declared.error.Error.TheVariants.{OutOfMemory}
+use Rattle.vfs_server.specs.Memory.{WantsNoMemory}
+use Rattle.vfs_server.specs.Step.{ServerState, IsStep, turn_over}
 use Rattle.vfs_books.specs.Laws.{KeepsBooks}
 use Rattle.vfs_books.specs.Turns.{AreTurns}
-use Rattle.vfs_books.specs.TurnLaws.{AreTurns-push, events_in-push}
-use Rattle.vfs_server.specs.Session.{AllLeave, IsSession}
+use Rattle.vfs_books.specs.TurnLaws.{events_in-push}
+use Rattle.vfs_server.specs.Session.{IsServed, AreServed, IsSession}
 
 map_push : {A B : Type 0} (f : A → B) (xs : List A) (x : A) → map f (xs ++ x ∷ []) ≡ map f xs ++ f x ∷ []
 map_push f [] x = refl
 map_push f (y ∷ xs) x = ap (λ ys. f y ∷ ys) (map_push f xs x)
 
-leave_push : (os : List Written) (ts : List Turn) (ns : List Written) (o : Written) (t : Turn) (n : Written) → AllLeave os ts ns → t.room ≡ o.left → Leaves o t.room_after n → AllLeave (os ++ o ∷ []) (ts ++ t ∷ []) (ns ++ n ∷ [])
-leave_push [] [] [] o t n h r k = ((r, k), tt)
-leave_push (a ∷ os) (b ∷ ts) (c ∷ ns) o t n h r k = (h.0, leave_push os ts ns o t n h.1 r k)
-leave_push [] [] (c ∷ ns) o t n h r k = absurd h
-leave_push [] (b ∷ ts) ns o t n h r k = absurd h
-leave_push (a ∷ os) [] ns o t n h r k = absurd h
-leave_push (a ∷ os) (b ∷ ts) [] o t n h r k = absurd h
+module _ (limits : Limits) where
+  -- requests in order go on by one more
+  served_push : (options : ℕ) (rs : List Unread) (ws : List Written) (ts : List Turn) (ns : List Written) (mid : ℕ) (r : Unread) (w : Written) (t : Turn) (n : Written) (after : ℕ)
+      → AreServed limits options rs ws ts ns mid → IsServed limits mid r w t n after
+      → AreServed limits options (rs ++ r ∷ []) (ws ++ w ∷ []) (ts ++ t ∷ []) (ns ++ n ∷ []) after
+  served_push options [] [] [] [] mid r w t n after are one = (after, subst (λ (o : ℕ). IsServed limits o r w t n after) are one, refl)
+  served_push options (a ∷ rs) (b ∷ ws) (c ∷ ts) (d ∷ ns) mid r w t n after are one = (are.0, are.1, served_push are.0 rs ws ts ns mid r w t n after are.2 one)
+  served_push options [] [] [] (d ∷ ns) mid r w t n after are one = absurd are
+  served_push options [] [] (c ∷ ts) ns mid r w t n after are one = absurd are
+  served_push options [] (b ∷ ws) ts ns mid r w t n after are one = absurd are
+  served_push options (a ∷ rs) [] ts ns mid r w t n after are one = absurd are
+  served_push options (a ∷ rs) (b ∷ ws) [] ns mid r w t n after are one = absurd are
+  served_push options (a ∷ rs) (b ∷ ws) (c ∷ ts) [] mid r w t n after are one = absurd are
+
+  -- the turns of requests in order are turns in order
+  turns_of_served : (options : ℕ) (rs : List Unread) (ws : List Written) (ts : List Turn) (ns : List Written) (after : ℕ)
+      → AreServed limits options rs ws ts ns after → AreTurns limits options ts after
+  turns_of_served options [] [] [] [] after are = are
+  turns_of_served options (a ∷ rs) (b ∷ ws) (c ∷ ts) (d ∷ ns) after are = (are.0, are.1.turn, turns_of_served are.0 rs ws ts ns after are.2)
+  turns_of_served options [] [] [] (d ∷ ns) after are = absurd are
+  turns_of_served options [] [] (c ∷ ts) ns after are = absurd are
+  turns_of_served options [] (b ∷ ws) ts ns after are = absurd are
+  turns_of_served options (a ∷ rs) [] ts ns after are = absurd are
+  turns_of_served options (a ∷ rs) (b ∷ ws) [] ns after are = absurd are
+  turns_of_served options (a ∷ rs) (b ∷ ws) (c ∷ ts) [] after are = absurd are
 
 module _ {S I : Type 0} (allows : S → Call → Handed I → S → Type 0) (gives : I → Option Item → I → Type 0) (join : RunsJoin allows gives) (events_join : EventsJoin S I) (keep : (limits : Limits) (options after : ℕ) (turns : List Turn) → AreTurns limits options turns after → KeepsBooks turns) (old : ServerState S) where
   -- nothing was asked yet
   pub session_none : IsSession allows gives old [] [] [] [] old
-  session_none = record { turns = []; run = []; is_run = refl; events = refl; in_order = refl; asked = refl; answered = refl; leave = tt; books = keep old.limits old.options old.options [] refl; same_limits = refl }
+  session_none = record { turns = []; run = []; is_run = refl; events = refl; served = refl; answered = refl; books = keep old.limits old.options old.options [] refl; same_limits = refl }
 
-  -- a session goes on by one step
-  pub session_push : (requests : List (List ℕ)) (writers : List Written) (outcomes : List (Result ℕ Error)) (afters : List Written) (mid : ServerState S) (request : List ℕ) (writer : Written) (outcome : Result ℕ Error) (after : Written) (new : ServerState S)
-      → IsSession allows gives old requests writers outcomes afters mid → IsStep allows gives mid request writer outcome after new
-      → IsSession allows gives old (requests ++ request ∷ []) (writers ++ writer ∷ []) (outcomes ++ outcome ∷ []) (afters ++ after ∷ []) new
-  session_push requests writers outcomes afters mid request writer outcome after new s k =
-      let t : Turn = record { request = request; room = writer.left; events = events_of k.run; outcome = outcome; room_after = k.room_after } in
-      let more = AreTurns-push old.limits old.options s.turns mid.options t new.options s.in_order (subst (λ (p : Limits). IsTurn p mid.options t new.options) s.same_limits k.turn) in
+  -- a session goes on by one step, which wants no more memory than it may, and leaves no hold
+  pub session_push : (readers : List Unread) (writers : List Written) (outcomes : List (Result ℕ Error)) (afters : List Written) (mid : ServerState S) (reader : Unread) (writer : Written) (outcome : Result ℕ Error) (after : Written) (new : ServerState S)
+      → IsSession allows gives old readers writers outcomes afters mid
+      → IsStep allows gives mid reader.left writer outcome after new
+      → (WantsNoMemory mid.limits mid.options (length writer.left) reader → outcome ≢ Err OutOfMemory) → after.held ≡ 0
+      → IsSession allows gives old (readers ++ reader ∷ []) (writers ++ writer ∷ []) (outcomes ++ outcome ∷ []) (afters ++ after ∷ []) new
+  session_push readers writers outcomes afters mid reader writer outcome after new s k memory held =
+      let t : Turn = turn_over reader.left writer k.run outcome k.room_after in
+      let one : IsServed mid.limits mid.options reader writer t after new.options =
+      record { request = refl; room = refl; turn = k.turn; memory = memory; leaves = k.leaves; hold_given_up = held } in
+      let more = served_push old.limits old.options readers writers s.turns afters mid.options reader writer t after new.options s.served
+      (subst (λ (p : Limits). IsServed p mid.options reader writer t after new.options) s.same_limits one) in
       record {
         turns = s.turns ++ t ∷ [];
         run = s.run ++ k.run;
         is_run = join None old.fs mid.fs new.fs s.run k.run s.is_run k.is_run;
         events = events_join s.run k.run ∙ (ap (λ es. es ++ events_of k.run) s.events ∙ sym (events_in-push s.turns t));
-        in_order = more;
-        asked = map_push (λ (t : Turn). t.request) s.turns t ∙ ap (λ xs. xs ++ request ∷ []) s.asked;
+        served = more;
         answered = map_push (λ (t : Turn). t.outcome) s.turns t ∙ ap (λ xs. xs ++ outcome ∷ []) s.answered;
-        leave = leave_push writers s.turns afters writer t after s.leave refl k.leaves;
-        books = keep old.limits old.options new.options (s.turns ++ t ∷ []) more;
+        books = keep old.limits old.options new.options (s.turns ++ t ∷ []) (turns_of_served old.limits old.options (readers ++ reader ∷ []) (writers ++ writer ∷ []) (s.turns ++ t ∷ []) (afters ++ after ∷ []) new.options more);
         same_limits = k.same_limits ∙ s.same_limits;
       }
 
@@ -66,15 +89,16 @@ same_after xs ys i x e =
 
 module _ {S I : Type 0} (allows : S → Call → Handed I → S → Type 0) (gives : I → Option Item → I → Type 0) (join : RunsJoin allows gives) (events_join : EventsJoin S I) (keep : (limits : Limits) (options after : ℕ) (turns : List Turn) → AreTurns limits options turns after → KeepsBooks turns) (old : ServerState S) where
   -- a session goes on by the step at the next place of the lists
-  pub session_more : {R : Type 0} (bytes_of : R → List ℕ) (readers : List R) (reader : R) (writers before : List Written) (outcomes : List (Result ℕ Error)) (i : ℕ) (mid : ServerState S) (d : Written) (outcome : Result ℕ Error) (after : Written) (new : ServerState S)
+  pub session_more : (readers : List Unread) (reader : Unread) (writers before : List Written) (outcomes : List (Result ℕ Error)) (i : ℕ) (mid : ServerState S) (d : Written) (outcome : Result ℕ Error) (after : Written) (new : ServerState S)
       → i < length writers → i < length before → i < length outcomes → drop i writers ≡ drop i before
-      → IsSession allows gives old (map bytes_of readers) (take i before) (take i outcomes) (take i writers) mid
-      → IsStep allows gives mid (bytes_of reader) (get_or writers i d) outcome after new
-      → IsSession allows gives old (map bytes_of (readers ++ reader ∷ [])) (take (i + 1) before) (take (i + 1) (set outcomes i outcome)) (take (i + 1) (set writers i after)) new
-  session_more bytes_of readers reader writers before outcomes i mid d outcome after new a b c e s k =
+      → IsSession allows gives old readers (take i before) (take i outcomes) (take i writers) mid
+      → IsStep allows gives mid reader.left (get_or writers i d) outcome after new
+      → (WantsNoMemory mid.limits mid.options (length (get_or writers i d).left) reader → outcome ≢ Err OutOfMemory) → after.held ≡ 0
+      → IsSession allows gives old (readers ++ reader ∷ []) (take (i + 1) before) (take (i + 1) (set outcomes i outcome)) (take (i + 1) (set writers i after)) new
+  session_more readers reader writers before outcomes i mid d outcome after new a b c e s k memory held =
       let same : get_or before i d ≡ get_or writers i d = sym (same_at writers before i d e) in
-      rw (map_push bytes_of readers reader, take_more before i d b, take_more_set outcomes i outcome c, take_more_set writers i after a, same)
-      (session_push allows gives join events_join keep old (map bytes_of readers) (take i before) (take i outcomes) (take i writers) mid (bytes_of reader) (get_or writers i d) outcome after new s k)
+      rw (take_more before i d b, take_more_set outcomes i outcome c, take_more_set writers i after a, same)
+      (session_push allows gives join events_join keep old readers (take i before) (take i outcomes) (take i writers) mid reader (get_or writers i d) outcome after new s k memory held)
 
 -- an item goes from the front of what is left to the end of what was taken
 pub passed_on : {X : Type 0} (xs ys zs all : List X) (x : X) → ys ≡ x ∷ zs → xs ++ ys ≡ all → (xs ++ x ∷ []) ++ zs ≡ all

@@ -1,37 +1,57 @@
 -- Requests in order, over one run of the file system.
-use Rattle.std.specs.Prelude.{◌≡◌, ℕ, List, [], ◌∷◌, Option, None, Result, map}
+use Rattle.std.specs.Prelude.{◌≡◌, ◌≢◌, length, ℕ, List, [], ◌∷◌, Option, None, Result, Err, map}
+use Rattle.vfs_segments.specs.Unread.{Unread}
 use Rattle.vfs_segments.specs.Written.{Written}
 use Rattle.vfs_files.specs.Items.{Item}
 use Rattle.vfs_files.specs.Calls.{Call, Handed}
 use Rattle.vfs_files.specs.Runs.{Happening, IsRun, events_of}
 use Rattle.vfs_messages.specs.Room.{Leaves}
-use Rattle.vfs_messages.specs.Turn.{Turn}
+use Rattle.vfs_messages.specs.Turn.{Turn, IsTurn}
+use Rattle.vfs_messages.specs.declared.limits.Limits.{Limits}
 use Rattle.vfs_messages.specs.declared.error.Error.{Error}
+use Rattle.vfs_messages.specs.declared.error.Error.TheVariants.{OutOfMemory}
 use Rattle.vfs_books.specs.Laws.{KeepsBooks}
-use Rattle.vfs_books.specs.Turns.{AreTurns, events_in}
+use Rattle.vfs_books.specs.Turns.{events_in}
+use Rattle.vfs_server.specs.Memory.{WantsNoMemory}
 use Rattle.vfs_server.specs.Step.{ServerState}
 
--- each writer gives its turn the room, and is left as the turn says
-abbrev pub AllLeave : List Written → List Turn → List Written → Type 0
-AllLeave [] [] [] = Unit {0}
-AllLeave (old ∷ olds) (t ∷ turns) (new ∷ news) =
-    ((t.room ≡ old.left) × Leaves old t.room_after new) × AllLeave olds turns news
-AllLeave _ _ _ = ⊥
+-- A request was served, by this turn, with these options before it and after it: the turn is of the
+-- bytes that its reader has left and of the room that its writer has left. A request that wants no
+-- memory isn't refused for want of it. The writer is left as the turn says, and holds nothing.
+pub record IsServed (limits : Limits) (options : ℕ) (reader : Unread) (writer : Written) (t : Turn)
+    (writer_after : Written) (after : ℕ) : Type 0 where
+  pub request : t.request ≡ reader.left
+  pub room : t.room ≡ writer.left
+  pub turn : IsTurn limits options t after
+  pub memory :
+      WantsNoMemory limits options (length writer.left) reader → t.outcome ≢ Err OutOfMemory
+  pub leaves : Leaves writer t.room_after writer_after
+  pub hold_given_up : writer_after.held ≡ 0
+
+-- Requests were served in order, from these options to those: each with the options that the one
+-- before it left. The k-th has the k-th reader, writer and turn, and the k-th writer afterwards.
+abbrev pub AreServed : Limits → (options : ℕ) → List Unread → List Written → List Turn
+    → (writers_after : List Written) → (after : ℕ) → Type 0
+AreServed limits options [] [] [] [] after = after ≡ options
+AreServed limits options (reader ∷ readers) (writer ∷ writers) (t ∷ turns) (new ∷ news) after =
+    (mid : ℕ)
+    × IsServed limits options reader writer t new mid
+    × AreServed limits mid readers writers turns news after
+AreServed limits options _ _ _ _ after = ⊥
 
 -- A session: a run of the file system from its state before to that after, whose events are those
--- of turns in order. The turns are of these requests, and have these outcomes; each writer has its
--- turn's room; and the books of every node but 0 are kept over them.
+-- of turns in order. By these turns the requests were served in order, and they have these
+-- outcomes; the books of every node but 0 are kept over them; and the limits stay.
 pub record IsSession {S I : Type 0} (allows : S → Call → Handed I → S → Type 0)
-    (gives : I → Option Item → I → Type 0) (old : ServerState S) (requests : List (List ℕ))
+    (gives : I → Option Item → I → Type 0) (old : ServerState S) (readers : List Unread)
     (writers : List Written) (outcomes : List (Result ℕ Error)) (writers_after : List Written)
     (new : ServerState S) : Type 0 where
   pub turns : List Turn
   pub run : List (Happening I × S)
   pub is_run : IsRun allows gives None old.fs run new.fs
   pub events : events_of run ≡ events_in turns
-  pub in_order : AreTurns old.limits old.options turns new.options
-  pub asked : map (λ t. t.request) turns ≡ requests
+  pub served :
+      AreServed old.limits old.options readers writers turns writers_after new.options
   pub answered : map (λ t. t.outcome) turns ≡ outcomes
-  pub leave : AllLeave writers turns writers_after
   pub books : KeepsBooks turns
   pub same_limits : new.limits ≡ old.limits

@@ -1,4 +1,5 @@
-//! The protocol: its records, flag sets, opcodes, ids, error numbers and constants.
+//! The protocol: its records, flag sets, opcodes, ids, error numbers and constants; and the laws of
+//! records as bytes.
 
 pub use vfs_flags::ATTR_DAX;
 pub use vfs_flags::ATTR_SUBMOUNT;
@@ -88,6 +89,9 @@ pub use vfs_wire::Statvfs64;
 pub use vfs_wire::SuppGroups;
 pub use vfs_wire::WriteIn;
 pub use vfs_wire::WriteOut;
+pub use vfs_wire::bytes_have_size;
+pub use vfs_wire::put_after_take;
+pub use vfs_wire::take_after_put;
 pub use vfs_wire_more::BmapIn;
 pub use vfs_wire_more::BmapOut;
 pub use vfs_wire_more::Direntplus;

@@ -3,7 +3,8 @@
 //!
 //! The lower crates stand again below the modules that are named after virtiofsd's files: `fuse`
 //! has the records and numbers of the protocol, `descriptor_utils` readers and writers,
-//! `filesystem` the trait and its types.
+//! `filesystem` the trait and its types. `server` has the server, and the parts of requests and
+//! replies that a caller may need beside it.
 #![tactic(auto)]
 
 pub mod descriptor_utils;
@@ -12,8 +13,4 @@ pub mod fuse;
 pub mod server;
 pub mod uses;
 
-pub use vfs_listings::add_dirent;
-pub use vfs_messages::{
-    Error, Limits, Result, extension_laws, get_extensions, laws, parse_security_context,
-    parse_sup_groups, reply_error, reply_ok, reply_readdir,
-};
+pub use vfs_messages::{Error, Result, extension_laws, laws};

@@ -12,7 +12,7 @@ mod others;
 mod session;
 mod xattrs;
 
-ghost use Rattle.std.specs.Prelude.{◌≡◌, ◌≢◌, ◌≤◌, length, map, vec_len, Err};
+ghost use Rattle.std.specs.Prelude.{◌≡◌, ◌≢◌, ◌≤◌, length, vec_len, Err};
 ghost use Rattle.vfs_flags.specs.Flags.{fs_options_bits};
 ghost use Rattle.vfs_flags.specs.Opcode.{opcode_of};
 ghost use Rattle.vfs_segments.specs.Written.{held_over};
@@ -31,8 +31,12 @@ use vfs_books::laws::turns_keep_books;
 use vfs_files::FileSystem;
 use vfs_files::laws::runs_join;
 use vfs_flags::{Errno, FsOptions, Opcode};
+pub use vfs_listings::add_dirent;
 use vfs_messages::laws::{directories_are_read, memory_is_wanted_for_copies};
 use vfs_messages::{DEFAULT_MAX_BUFFER, Limits, Result, read_record, reply_failed};
+pub use vfs_messages::{
+    get_extensions, parse_security_context, parse_sup_groups, reply_error, reply_ok, reply_readdir,
+};
 use vfs_segments::laws::together_behind_a_place;
 use vfs_segments::{Reader, Writer};
 pub use vfs_transfers::{ZcReader, ZcWriter};
@@ -175,7 +179,9 @@ impl<F: FileSystem> Server<F> {
 
     /// Handles requests in order, each by [`handle_message`](Server::handle_message): the k-th from
     /// the k-th reader, with the k-th writer, and its outcome goes to the k-th place of `outcomes`.
-    /// An outcome of one request never ends the list. It takes no memory of its own.
+    /// An outcome of one request never ends the list. It takes no memory of its own. A request that
+    /// wants no memory, under the options before it, isn't refused for want of it, and no writer
+    /// holds anything afterwards.
     ///
     /// For each node number but 0 the books balance over the session: entries answered and forgets
     /// accepted are entries delivered, entries lost and forgets sent.
@@ -189,8 +195,7 @@ impl<F: FileSystem> Server<F> {
         requires writers { length writers.old ≡ vec_len readers }
         requires outcomes { length outcomes.old ≡ vec_len readers }
         ensures session { IsSession F.allows F.DirIter.gives
-            self.old (map (λ r. r.left) readers.entry.items) writers.old
-            outcomes.new writers.new self.new }
+            self.old readers.entry.items writers.old outcomes.new writers.new self.new }
     {
         runs_join::<F>();
         turns_keep_books();

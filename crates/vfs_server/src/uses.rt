@@ -1,7 +1,9 @@
 //! Small callers of the server, as examples. What each ensures follows from the contracts of what
 //! it calls, and from nothing else.
 
-ghost use Rattle.std.specs.Prelude.{◌≡◌, ◌≢◌, ◌≤◌, ◌-◌, ◌++◌, [], true, length, take, drop, Err, Some, IfSome, OnSome};
+pub mod session;
+
+ghost use Rattle.std.specs.Prelude.{◌≡◌, ◌≢◌, ◌≤◌, ◌-◌, ◌++◌, [], true, length, take, drop, Err, Some, None, IfSome, OnSome};
 ghost use Rattle.vfs_flags.specs.Opcode.{opcode_of};
 ghost use Rattle.vfs_flags.specs.declared.opcode.Opcode.{Opcode};
 ghost use Rattle.vfs_segments.specs.Segments.{contents, flat_bytes};
@@ -11,13 +13,13 @@ ghost use Rattle.vfs_files.specs.declared.migration.MigrateError.TheVariants.{Un
 ghost use Rattle.vfs_messages.specs.Laws.{header_of};
 ghost use Rattle.vfs_messages.specs.Uses.{not_served_reply};
 ghost use Rattle.vfs_messages.specs.declared.error.Error.TheVariants.{EncodeMessage, OutOfMemory};
-ghost use Rattle.vfs_server.specs.Uses.{statfs_reply};
+ghost use Rattle.vfs_server.specs.Uses.{statfs_reply, ReadsOneRecord};
 
 use crate::server::Server;
 use std::alloc::Global;
 use std::io;
 use vfs_files::{FileSystem, MigrateError, SerializableFileSystem, Unserved};
-use vfs_messages::{Result, laws};
+use vfs_messages::Result;
 use vfs_segments::{Reader, Writer};
 
 /// Request 9, STATFS of node 1: a header alone, of 40 bytes.
@@ -70,7 +72,7 @@ const UNKNOWN: [u8; 40] = [
 
 /// Hands over a request of an unknown opcode. The sixteen bytes that say ENOSYS stand at the
 /// front of the room, and all other bytes are as they were; nothing is held; the file system
-/// wasn't called, and the options stay. `None` where there is no memory for the reader.
+/// wasn't called, and the server is as it was. `None` where there is no memory for the reader.
 pub fn unknown_opcode<F: FileSystem>(
     alloc: Global,
     server: &mut Server<F>,
@@ -81,8 +83,7 @@ pub fn unknown_opcode<F: FileSystem>(
     ensures bytes { OnSome result
         (whole w.new ≡ w.old.passed ++ (not_served_reply ++ drop 16 w.old.left)) }
     ensures held { OnSome result (w.new.held ≡ 0) }
-    ensures state { OnSome result (server.new.fs ≡ server.old.fs) }
-    ensures options { OnSome result (server.new.options ≡ server.old.options) }
+    ensures state { OnSome result (server.new ≡ server.old) }
 {
     let segments = [UNKNOWN.as_slice()];
     let Ok(reader) = Reader::new(alloc, &segments) else {
@@ -135,6 +136,23 @@ pub fn read_into_eight_bytes<F: FileSystem>(
     Some(server.handle_message(alloc, reader, w))
 }
 
+/// Hands over any request: what the writer had passed stays, its room is as long as before, in
+/// segments of the same lengths, and nothing is held; and the limits of the server stay.
+pub fn any_request<F: FileSystem>(
+    alloc: Global,
+    server: &mut Server<F>,
+    r: Reader<'_>,
+    w: &mut Writer,
+) -> Result<usize>
+    ensures passed { take (length w.old.passed) (whole w.new) ≡ w.old.passed }
+    ensures room { length (whole w.new) ≡ length (whole w.old) }
+    ensures segments { w.new.lengths ≡ w.old.lengths }
+    ensures held { w.new.held ≡ 0 }
+    ensures limits { server.new.limits ≡ server.old.limits }
+{
+    server.handle_message(alloc, r, w)
+}
+
 /// Hands over a GETATTR, which has no tail: whatever its bytes, the room and the cutting, it is
 /// never told that memory is wanted.
 pub fn getattr_lacks_no_memory<F: FileSystem>(
@@ -146,7 +164,19 @@ pub fn getattr_lacks_no_memory<F: FileSystem>(
     requires { opcode_of (header_of r.left).opcode ≡ Some Opcode.Getattr }
     ensures { result ≢ Err OutOfMemory }
 {
-    laws::memory_is_wanted_for_whole_tails();
+    server.handle_message(alloc, r, w)
+}
+
+/// Hands over a request of an unknown opcode: it is never told that memory is wanted.
+pub fn unknown_opcode_lacks_no_memory<F: FileSystem>(
+    alloc: Global,
+    server: &mut Server<F>,
+    r: Reader<'_>,
+    w: &mut Writer,
+) -> Result<usize>
+    requires { opcode_of (header_of r.left).opcode ≡ None }
+    ensures { result ≢ Err OutOfMemory }
+{
     server.handle_message(alloc, r, w)
 }
 
@@ -163,6 +193,96 @@ pub fn lookup_in_one_segment<F: FileSystem>(
     ensures { result ≢ Err OutOfMemory }
 {
     server.handle_message(alloc, r, w)
+}
+
+/// The same of a RENAME whose two names lie in one segment.
+pub fn rename_in_one_segment<F: FileSystem>(
+    alloc: Global,
+    server: &mut Server<F>,
+    r: Reader<'_>,
+    w: &mut Writer,
+) -> Result<usize>
+    requires opcode { opcode_of (header_of r.left).opcode ≡ Some Opcode.Rename }
+    requires together { are_together r 48 ((header_of r.left).len - 48) ≡ true }
+    ensures { result ≢ Err OutOfMemory }
+{
+    server.handle_message(alloc, r, w)
+}
+
+/// The same of a SETXATTR whose name and value lie in one segment, where no options are agreed.
+pub fn setxattr_in_one_segment<F: FileSystem>(
+    alloc: Global,
+    server: &mut Server<F>,
+    r: Reader<'_>,
+    w: &mut Writer,
+) -> Result<usize>
+    requires opcode { opcode_of (header_of r.left).opcode ≡ Some Opcode.Setxattr }
+    requires options { server.old.options ≡ 0 }
+    requires together { are_together r 48 ((header_of r.left).len - 48) ≡ true }
+    ensures { result ≢ Err OutOfMemory }
+{
+    server.handle_message(alloc, r, w)
+}
+
+/// The same of a MKDIR whose name lies in one segment, where no options are agreed: no context can
+/// stand behind it.
+pub fn mkdir_in_one_segment<F: FileSystem>(
+    alloc: Global,
+    server: &mut Server<F>,
+    r: Reader<'_>,
+    w: &mut Writer,
+) -> Result<usize>
+    requires opcode { opcode_of (header_of r.left).opcode ≡ Some Opcode.Mkdir }
+    requires options { server.old.options ≡ 0 }
+    requires together { are_together r 48 ((header_of r.left).len - 48) ≡ true }
+    ensures { result ≢ Err OutOfMemory }
+{
+    server.handle_message(alloc, r, w)
+}
+
+/// The same of a SYMLINK whose name and text lie in one segment.
+pub fn symlink_in_one_segment<F: FileSystem>(
+    alloc: Global,
+    server: &mut Server<F>,
+    r: Reader<'_>,
+    w: &mut Writer,
+) -> Result<usize>
+    requires opcode { opcode_of (header_of r.left).opcode ≡ Some Opcode.Symlink }
+    requires options { server.old.options ≡ 0 }
+    requires together { are_together r 40 ((header_of r.left).len - 40) ≡ true }
+    ensures { result ≢ Err OutOfMemory }
+{
+    server.handle_message(alloc, r, w)
+}
+
+/// Request 9, READDIR of node 1 by handle 0, from offset 0 on, with 24 bytes for records: a header
+/// and a record, of 80 bytes.
+const READDIR: [u8; 80] = [
+    80, 0, 0, 0, 28, 0, 0, 0, 9, 0, 0, 0, 0, 0, 0, 0, 1, 0, 0, 0, 0, 0, 0, 0, 0, 0, 0, 0, 0, 0, 0,
+    0, 0, 0, 0, 0, 0, 0, 0, 0, 0, 0, 0, 0, 0, 0, 0, 0, 0, 0, 0, 0, 0, 0, 0, 0, 24, 0, 0, 0, 0, 0,
+    0, 0, 0, 0, 0, 0, 0, 0, 0, 0, 0, 0, 0, 0, 0, 0, 0, 0,
+];
+
+/// Hands over a READDIR with room for its reply's header and for 24 bytes of records: at most two
+/// items are taken; where the file system says that node 1 is no directory, that is the reply; and
+/// where the directory ends at once, the reply has no record. `None` where there is no memory for
+/// the reader.
+pub fn read_one_record<F: FileSystem>(
+    alloc: Global,
+    server: &mut Server<F>,
+    w: &mut Writer,
+) -> Option<Result<usize>>
+    requires limit { 24 ≤ server.old.limits.max_buffer }
+    requires passed { w.old.passed ≡ [] }
+    requires room { length w.old.left ≡ 40 }
+    ensures { IfSome result (λ outcome.
+        ReadsOneRecord F.allows F.DirIter.gives server.old.fs outcome (whole w.new) server.new.fs) }
+{
+    let segments = [READDIR.as_slice()];
+    let Ok(reader) = Reader::new(alloc, &segments) else {
+        return None;
+    };
+    Some(server.handle_message(alloc, reader, w))
 }
 
 /// Asks a server over a file system that serves nothing for its state: there is none to carry over.

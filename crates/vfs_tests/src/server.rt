@@ -10,8 +10,9 @@ use std::test::Fail;
 use vfs_bench::{Note, NoteKind, Script};
 use vfs_server::descriptor_utils::Writer;
 use vfs_server::filesystem::FsOptions;
+use vfs_server::Error;
 use vfs_server::fuse::{Errno, GetxattrOut};
-use vfs_server::{Error, reply_error, reply_ok};
+use vfs_server::server::{reply_error, reply_ok};
 
 /// A server over a file system that wants these options, with a note of each call.
 fn server(alloc: Global, wants: FsOptions) -> Result<ScriptServer, AllocError> {
@@ -54,20 +55,45 @@ fn a_payload_of_pairs_is_forgotten(rt: HostRuntime) -> Result<(), Fail> {
     Ok(())
 }
 
-/// A room of 34 bytes, of which 16 were held, with a reply that says that a call is unknown.
-static BEHIND_HELD: [u8; 34] = *b"\xaa\xaa\xaa\xaa\xaa\xaa\xaa\xaa\xaa\xaa\xaa\xaa\xaa\xaa\xaa\xaa\
-    \x10\0\0\0\xda\xff\xff\xff\x09\0\0\0\0\0\0\0\xaa\xaa";
+/// A request: its node and the bytes behind its header; the lengths of its room's segments; and the
+/// bytes of the room afterwards.
+type BehindHeld<'a> = ((u8, &'a [u8]), &'a [usize], &'a [u8]);
 
-/// Whether a call that is unknown is replied so.
-fn replies_behind_held(alloc: Global, server: &mut ScriptServer) -> Result<bool, Fail> {
-    let (replied, room) = handle_by_script(alloc, server, (7, 1, &[0; 16]), &[17, 17], 16)?;
-    Ok(replied == 16 && room.as_slice() == BEHIND_HELD.as_slice())
+/// Requests of opcode 7, which is none, by a caller that holds the first 16 bytes of the room for
+/// itself: they stay, and the reply that says ENOSYS stands behind them.
+static BEHIND_HELD: [BehindHeld<'static>; 2] = [
+    (
+        (0, b""),
+        &[32],
+        b"\xaa\xaa\xaa\xaa\xaa\xaa\xaa\xaa\xaa\xaa\xaa\xaa\xaa\xaa\xaa\xaa\
+            \x10\0\0\0\xda\xff\xff\xff\x09\0\0\0\0\0\0\0",
+    ),
+    (
+        (1, &[0; 16]),
+        &[17, 17],
+        b"\xaa\xaa\xaa\xaa\xaa\xaa\xaa\xaa\xaa\xaa\xaa\xaa\xaa\xaa\xaa\xaa\
+            \x10\0\0\0\xda\xff\xff\xff\x09\0\0\0\0\0\0\0\xaa\xaa",
+    ),
+];
+
+/// Whether a request of an unknown opcode is replied so behind 16 held bytes.
+fn replies_behind_held(
+    alloc: Global,
+    server: &mut ScriptServer,
+    (node, behind): (u8, &[u8]),
+    room: &[usize],
+    after: &[u8],
+) -> Result<bool, Fail> {
+    let (replied, room) = handle_by_script(alloc, server, (7, node, behind), room, 16)?;
+    Ok(replied == 16 && room.as_slice() == after)
 }
 
 #[test]
 fn a_reply_goes_behind_held_bytes(rt: HostRuntime) -> Result<(), Fail> {
-    let mut server = server(rt.alloc(), FsOptions::empty())?;
-    assert!(rt; replies_behind_held(rt.alloc(), &mut server)?);
+    for (request, room, after) in &BEHIND_HELD {
+        let mut server = server(rt.alloc(), FsOptions::empty())?;
+        assert!(rt; replies_behind_held(rt.alloc(), &mut server, *request, room, after)?);
+    }
     Ok(())
 }
 

@@ -29,12 +29,3 @@ returns-clause-state g c =
     c.handle_message.new.w c.handle_message.new.self (rw same at c.handle_message.ensures.step) c.requires in
     let is : c.ok.result ≡ Some 16 = c.ok.ensures.value ∙ ap result_ok seen.outcome_is in
     rw is seen.state
-
-pub returns-clause-options : goal.returns-clause-options
-returns-clause-options g c =
-    let same = c.in-Ok.ensures.ok.0 ∙ ap (λ (l : List ℕ). l ++ []) c.as_slice.ensures in
-    let seen =
-    step-unknown g.F.FileSystem.allows g.F.DirIter.DirectoryIterator.gives c.args.server.now c.args.w.now c.handle_message.result
-    c.handle_message.new.w c.handle_message.new.self (rw same at c.handle_message.ensures.step) c.requires in
-    let is : c.ok.result ≡ Some 16 = c.ok.ensures.value ∙ ap result_ok seen.outcome_is in
-    rw is seen.options

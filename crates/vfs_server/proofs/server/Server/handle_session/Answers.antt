@@ -21,7 +21,7 @@ loop-reader-preserved g c =
       count = grind (arith, common_steps);
       parts = parts;
       rest = same_after c.loop-reader.writers before c.loop-reader.at c.handle_message.new.w i.rest;
-      session = session_more g.F.FileSystem.allows g.F.DirIter.DirectoryIterator.gives c.runs_join.ensures.runs c.runs_join.ensures.events c.turns_keep_books.ensures c.args.self.now (λ r. r.left) c.loop-reader.yielded c.in-Some.reader c.loop-reader.writers before c.loop-reader.outcomes c.loop-reader.at c.loop-reader.self c.index-writers-at.result c.handle_message.result c.handle_message.new.w c.handle_message.new.self a b o i.rest i.session c.handle_message.ensures.step;
+      session = session_more g.F.FileSystem.allows g.F.DirIter.DirectoryIterator.gives c.runs_join.ensures.runs c.runs_join.ensures.events c.turns_keep_books.ensures c.args.self.now c.loop-reader.yielded c.in-Some.reader c.loop-reader.writers before c.loop-reader.outcomes c.loop-reader.at c.loop-reader.self c.index-writers-at.result c.handle_message.result c.handle_message.new.w c.handle_message.new.self a b o i.rest i.session c.handle_message.ensures.step c.handle_message.ensures.memory c.handle_message.ensures.hold_given_up;
     }
 
 pub returns : goal.returns
