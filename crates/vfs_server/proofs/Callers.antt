@@ -1,11 +1,14 @@
 -- What a step says of one request that is written out.
-use Rattle.std.proofs.Common.{◌≡◌, ◌≤◌, ℕ, Bool, false, List, [], ◌∷◌, ◌++◌, length, drop, nat_lt, Option, Some, None, Result, Ok, Err, ap, ◌∙◌, arith, subst, refl, append-nil}
+use Rattle.std.proofs.Common.{◌≡◌, ◌≤◌, ℕ, Bool, false, List, [], ◌∷◌, ◌++◌, length, drop, nat_lt, Option, Some, None, Result, Ok, Err, ap, ◌∙◌, arith, subst, refl, append-nil, inl, inr}
 use Rattle.std.proofs.lemmas.Bool.Decides.{nat_tests}
 use Rattle.std.proofs.lemmas.List.{drop_all}
 use Rattle.vfs_flags.specs.Errors.{enosys}
 use Rattle.vfs_flags.specs.Opcode.{opcode_of}
 use Rattle.vfs_wire.specs.Fields.{little, number, value_of}
 use Rattle.vfs_wire.specs.Headers.{in_header}
+use Rattle.vfs_flags.specs.declared.opcode.Opcode.{Opcode}
+use Rattle.vfs_wire.specs.declared.headers.InHeader.{InHeader}
+use Rattle.vfs_segments.specs.Unread.{Unread}
 use Rattle.vfs_segments.specs.Written.{Written, whole}
 use Rattle.vfs_files.specs.Items.{Item}
 use Rattle.vfs_files.specs.Answers.{Answer, Handed, Plain, Capacities}
@@ -24,7 +27,8 @@ use Rattle.vfs_messages.specs.declared.error.Error.{Error}
 use Rattle.vfs_messages.specs.declared.error.Error.TheVariants.{EncodeMessage}
 use Rattle.vfs_messages.proofs.Rooms.{put_outcome-fits, put_room-fits}
 use Rattle.vfs_server.specs.Step.{ServerState, IsStep, turn_over}
-use Rattle.vfs_server.specs.Uses.{statfs_reply}
+use Rattle.vfs_server.specs.Memory.{WantsNoneBehind}
+use Rattle.vfs_server.specs.Uses.{statfs_reply, IsWithoutTail}
 use Rattle.vfs_server.specs.declared.uses.TheConstants.{READ, STATFS, UNKNOWN}
 
 -- each call of these events has its default answer
@@ -158,3 +162,14 @@ module _ {S I : Type 0} (allows : S → Call → Handed I → S → Type 0) (giv
       let t : Turn = turn_over STATFS writer s.run outcome s.room_after in
       let seen = turn-statfs old.limits old.options t new.options s.turn refl room (run_is_default None old.fs new.fs s.run s.is_run) in
       s.leaves.kept ∙ (ap (λ (l : List ℕ). l ++ s.room_after) passed ∙ seen.room_is)
+
+-- a request without a tail and without pairs wants no memory
+pub without_tail : (limits : Limits) (options room : ℕ) (opcode : Option Opcode) (h : InHeader) (u : Unread) → IsWithoutTail opcode → WantsNoneBehind limits options room opcode h u
+without_tail limits options room opcode h u (inl e) = rw e tt
+without_tail limits options room opcode h u (inr (inl e)) = rw e tt
+without_tail limits options room opcode h u (inr (inr (inl e))) = rw e tt
+without_tail limits options room opcode h u (inr (inr (inr (inl e)))) = rw e tt
+without_tail limits options room opcode h u (inr (inr (inr (inr (inl e))))) = rw e tt
+without_tail limits options room opcode h u (inr (inr (inr (inr (inr (inl e)))))) = rw e tt
+without_tail limits options room opcode h u (inr (inr (inr (inr (inr (inr (inl e))))))) = rw e tt
+without_tail limits options room opcode h u (inr (inr (inr (inr (inr (inr (inr e))))))) = rw e tt

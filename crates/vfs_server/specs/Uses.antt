@@ -1,6 +1,9 @@
 -- What small callers of the server hand over and find: requests and replies as bytes, written out,
 -- and the rooms of a session.
-use Rattle.std.specs.Prelude.{◌≡◌, ◌≤◌, ◌+◌, ℕ, pos, List, [], ◌∷◌, ◌++◌, length, replicate, take, Option, Some, None, Result, Ok}
+use Rattle.std.specs.Prelude.{◌≡◌, ◌≤◌, ◌+◌, ◌⊎◌, ℕ, pos, List, [], ◌∷◌, ◌++◌, length, replicate, take, Option, Some, None, Result, Ok}
+use Rattle.vfs_flags.specs.declared.opcode.Opcode.{Opcode}
+use Rattle.vfs_flags.specs.declared.opcode.Opcode.TheVariants.{Getattr, Read, Write, Init, Interrupt, SetupMapping}
+use Rattle.vfs_flags.specs.declared.opcode.Opcode.TheVariants as opcode
 use Rattle.vfs_segments.specs.Unread.{Unread}
 use Rattle.vfs_segments.specs.Written.{Written}
 use Rattle.vfs_files.specs.Items.{Item}
@@ -73,6 +76,17 @@ pub record SendsThreeBack {S I : Type 0} (allows : S → Call → Handed I → S
   pub is_run : IsRun allows gives None old run new
   pub three_more : answered 5 (events_of run) + 3 ≡ sent 5 (events_of run)
   pub never_below : NeverBelow 6 (events_of run)
+
+-- of an unknown opcode, or of one whose requests have no tail and no pairs, one for each such form
+abbrev pub IsWithoutTail : Option Opcode → Type 0
+IsWithoutTail o =
+    (o ≡ None)
+    ⊎ ((o ≡ Some Getattr)
+    ⊎ ((o ≡ Some Read)
+    ⊎ ((o ≡ Some Write)
+    ⊎ ((o ≡ Some opcode.Readdir)
+    ⊎ ((o ≡ Some Init)
+    ⊎ ((o ≡ Some Interrupt) ⊎ (o ≡ Some SetupMapping)))))))
 
 -- READDIR's call: of node 1 by handle 0, from offset 0 on, with 24 bytes for records
 abbrev pub small_readdir : Call

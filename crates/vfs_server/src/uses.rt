@@ -3,7 +3,7 @@
 
 pub mod session;
 
-ghost use Rattle.std.specs.Prelude.{◌≡◌, ◌≢◌, ◌≤◌, ◌-◌, ◌++◌, [], true, length, take, drop, Err, Some, None, IfSome, OnSome};
+ghost use Rattle.std.specs.Prelude.{◌≡◌, ◌≢◌, ◌≤◌, ◌-◌, ◌++◌, [], true, length, take, drop, Err, Some, IfSome, OnSome};
 ghost use Rattle.vfs_flags.specs.Opcode.{opcode_of};
 ghost use Rattle.vfs_flags.specs.declared.opcode.Opcode.{Opcode};
 ghost use Rattle.vfs_segments.specs.Segments.{contents, flat_bytes};
@@ -13,7 +13,7 @@ ghost use Rattle.vfs_files.specs.declared.migration.MigrateError.TheVariants.{Un
 ghost use Rattle.vfs_messages.specs.Laws.{header_of};
 ghost use Rattle.vfs_messages.specs.Uses.{not_served_reply};
 ghost use Rattle.vfs_messages.specs.declared.error.Error.TheVariants.{EncodeMessage, OutOfMemory};
-ghost use Rattle.vfs_server.specs.Uses.{statfs_reply, ReadsOneRecord};
+ghost use Rattle.vfs_server.specs.Uses.{statfs_reply, IsWithoutTail, ReadsOneRecord};
 
 use crate::server::Server;
 use std::alloc::Global;
@@ -153,28 +153,16 @@ pub fn any_request<F: FileSystem>(
     server.handle_message(alloc, r, w)
 }
 
-/// Hands over a GETATTR, which has no tail: whatever its bytes, the room and the cutting, it is
-/// never told that memory is wanted.
-pub fn getattr_lacks_no_memory<F: FileSystem>(
+/// Hands over a request without a tail and without pairs: of an unknown opcode, a GETATTR, a READ, a
+/// WRITE, a READDIR, an INIT, an INTERRUPT or a SETUPMAPPING. Whatever its bytes, the room and the
+/// cutting, it is never told that memory is wanted.
+pub fn without_tail_lacks_no_memory<F: FileSystem>(
     alloc: Global,
     server: &mut Server<F>,
     r: Reader<'_>,
     w: &mut Writer,
 ) -> Result<usize>
-    requires { opcode_of (header_of r.left).opcode ≡ Some Opcode.Getattr }
-    ensures { result ≢ Err OutOfMemory }
-{
-    server.handle_message(alloc, r, w)
-}
-
-/// Hands over a request of an unknown opcode: it is never told that memory is wanted.
-pub fn unknown_opcode_lacks_no_memory<F: FileSystem>(
-    alloc: Global,
-    server: &mut Server<F>,
-    r: Reader<'_>,
-    w: &mut Writer,
-) -> Result<usize>
-    requires { opcode_of (header_of r.left).opcode ≡ None }
+    requires { IsWithoutTail (opcode_of (header_of r.left).opcode) }
     ensures { result ≢ Err OutOfMemory }
 {
     server.handle_message(alloc, r, w)

@@ -1,13 +1,11 @@
 //! Small callers of sessions, as examples.
 
-ghost use Rattle.std.specs.Prelude.{◌≡◌, [], ◌∷◌, length, map, Ok, IfSome, OnSome};
-ghost use Rattle.vfs_segments.specs.Lengths.{lengths_from};
+ghost use Rattle.std.specs.Prelude.{◌≡◌, [], ◌∷◌, length, map, Ok, OnSome};
 ghost use Rattle.vfs_segments.specs.Written.{whole};
 ghost use Rattle.vfs_server.specs.Uses.{init_request, init_reply, lookup_request, lookup_reply, statfs_request, statfs_reply, in_one_segment, AreRooms, SendsThreeBack};
 
 use crate::server::Server;
 use std::alloc::Global;
-use std::slice;
 use vfs_files::{FileSystem, Unserved};
 use vfs_messages::Result;
 use vfs_segments::{Reader, Writer};
@@ -45,14 +43,6 @@ const FORGET: [u8; 48] = [
     0, 0, 0, 0, 0, 0, 0, 0, 0, 3, 0, 0, 0, 0, 0, 0, 0,
 ];
 
-/// A reader of a request that lies in one segment. `None` where there is no memory.
-fn reader_of<'a>(alloc: Global, request: &'a &'a [u8]) -> Option<Reader<'a>>
-    ensures left { IfSome result (λ r. r.left ≡ request.now.now) }
-    ensures pieces { IfSome result (λ r. r.pieces ≡ lengths_from 0 (length request.now.now ∷ [])) }
-{
-    Reader::new(alloc, slice::from_ref(request)).ok()
-}
-
 /// Hands over a session of one FORGET, of node 5 by 3, to any server. It is answered 0, and by the
 /// books of the session the file system was sent three more forgets of node 5 than it answered
 /// entries of it; and of node 6, of which nothing was given back, it was never sent more than that.
@@ -69,8 +59,10 @@ pub fn forget_three<F: FileSystem>(
     ensures books { OnSome result
         (SendsThreeBack F.allows F.DirIter.gives server.old.fs server.new.fs) }
 {
-    let forget = FORGET.as_slice();
-    let reader = reader_of(alloc, &forget)?;
+    let segments = [FORGET.as_slice()];
+    let Ok(reader) = Reader::new(alloc, &segments) else {
+        return None;
+    };
     let Ok(readers) = vec![in alloc; reader] else {
         return None;
     };
