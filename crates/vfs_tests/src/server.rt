@@ -8,9 +8,9 @@ use bitflags::Flags;
 use std::alloc::{AllocError, Global};
 use std::test::Fail;
 use vfs_bench::{Note, NoteKind, Script};
+use vfs_server::Error;
 use vfs_server::descriptor_utils::Writer;
 use vfs_server::filesystem::FsOptions;
-use vfs_server::Error;
 use vfs_server::fuse::{Errno, GetxattrOut};
 use vfs_server::server::{reply_error, reply_ok};
 
