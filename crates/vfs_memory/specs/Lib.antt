@@ -1,2 +1,3 @@
 pub mod MemFile
 pub mod MemFs
+pub mod Uses

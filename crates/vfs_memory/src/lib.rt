@@ -4,6 +4,7 @@
 
 mod memfile;
 mod memfs;
+pub mod uses;
 
 pub use memfile::MemFile;
 pub use memfs::MemFs;
