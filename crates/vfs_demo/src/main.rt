@@ -20,36 +20,11 @@
 //! - 41 to 43: GETLK and TMPFILE, which are not served, and INTERRUPT, which has no reply.
 #![tactic(auto)]
 
-ghost use Rattle.std.specs.Prelude.{IfSome};
-ghost use Rattle.vfs_lines.specs.Lines.{lines_in, EndsAs};
-
-use std::alloc::Global;
-use std::io;
 use std::process::ExitCode;
-use vfs_lines::{RunError, exit_status, report};
-use vfs_memory::MemFs;
-use vfs_server::server::Server;
-
-/// The page size of the server, in bytes.
-const PAGE_SIZE: u32 = 4096;
+use vfs_lines::{exit_status, report, run};
 
 fn main(rt: HostRuntime) -> ExitCode {
     let outcome = run(rt.alloc(), &mut rt.stdin(), &mut rt.stdout());
     let _ = report(&rt, &outcome);
     ExitCode::from(exit_status(&outcome))
-}
-
-/// Answers the lines of `input` by a server over a new [`MemFs`], with no options agreed, as
-/// [`vfs_lines::run`] does.
-pub fn run<R: io::Read, W: io::Write>(
-    alloc: Global,
-    input: &mut R,
-    output: &mut W,
-) -> Result<(), RunError>
-    ensures { IfSome (R.remaining input.old) (λ text. EndsAs (lines_in text) result) }
-{
-    match MemFs::new(alloc) {
-        Ok(fs) => vfs_lines::run(alloc, &mut Server::new(fs, PAGE_SIZE), input, output),
-        Err(_) => Err(RunError::OutOfMemory),
-    }
 }

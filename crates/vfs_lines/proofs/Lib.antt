@@ -1,2 +1,3 @@
 pub mod ValueLemmas
 mod LineLemmas
+mod RunLemmas

@@ -8,7 +8,26 @@ use crate::session::{answers_to, read_all, write_all};
 use std::alloc::Global;
 use std::io;
 use vfs_files::FileSystem;
+use vfs_memory::MemFs;
 use vfs_server::server::Server;
+
+/// The page size of the program's server, in bytes.
+const PAGE_SIZE: u32 = 4096;
+
+/// Answers the lines of `input` by a server over a new [`MemFs`], with no options agreed, as
+/// [`run_with`] does: what the program `vfs_demo` does with its standard input and output.
+pub fn run<R: io::Read, W: io::Write>(
+    alloc: Global,
+    input: &mut R,
+    output: &mut W,
+) -> Result<(), RunError>
+    ensures { IfSome (R.remaining input.old) (λ text. EndsAs (lines_in text) result) }
+{
+    match MemFs::new(alloc) {
+        Ok(fs) => run_with(alloc, &mut Server::new(fs, PAGE_SIZE), input, output),
+        Err(_) => Err(RunError::OutOfMemory),
+    }
+}
 
 /// Reads all of `input`, answers the lines before the first bad one, and then writes the answers to
 /// `output`, a line each, as [`answers_to`] gives them.
@@ -16,7 +35,7 @@ use vfs_server::server::Server;
 /// The lines are one session of the server. For a bad line `bad line N` is written after the
 /// answers of those before it, and [`RunError::BadLine`] answered. An input without a byte has no
 /// line. How much was written before another error is open.
-pub fn run<F: FileSystem, R: io::Read, W: io::Write>(
+pub fn run_with<F: FileSystem, R: io::Read, W: io::Write>(
     alloc: Global,
     server: &mut Server<F>,
     input: &mut R,

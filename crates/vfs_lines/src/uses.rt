@@ -1,11 +1,13 @@
 //! What callers know of lines by the contracts alone, as examples.
 
-ghost use Rattle.std.specs.Prelude.{◌≡◌, [], ◌∷◌, Some, None, IfOk};
+ghost use Rattle.std.specs.Prelude.{◌≡◌, [], ◌∷◌, ℕ, Some, None, IfOk, MatchResult};
 ghost use Rattle.vfs_lines.specs.Lines.{request_option};
 
 use crate::error::{RunError, exit_status};
+use crate::input::run;
 use crate::line::{Line, parse_line};
 use std::alloc::Global;
+use std::io;
 
 /// Two rooms of 1 and 20 bytes, and a request of two segments, the second without a byte.
 #[tactic(auto, unfolding(hex::specs::Hex::decode_pairs))]
@@ -35,4 +37,17 @@ pub fn a_bad_line_has_its_status(number: usize) -> u8
     ensures { result ≡ 2 }
 {
     exit_status(&Err(RunError::BadLine(number)))
+}
+
+/// A run over three lines, of which the second and the third are bad: it doesn't end well, and the
+/// only line that it may name is the second.
+pub fn a_run_names_the_first_bad_line<W: io::Write>(
+    alloc: Global,
+    output: &mut W,
+) -> Result<(), RunError>
+    ensures { MatchResult result
+        (λ done. ⊥)
+        (λ e. (number : ℕ) → e ≡ RunError.BadLine number → number ≡ 2) }
+{
+    run(alloc, &mut b"0 \n16\n17".as_slice(), output)
 }

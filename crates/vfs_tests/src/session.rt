@@ -17,13 +17,61 @@ const FORGET: &str =
 /// The answer to it.
 const FORGOTTEN: &str = "ok 0\n";
 
-/// What stands behind a FORGET in an input, what is answered to it, how the run ends, and the
-/// program's status then.
-static ENDS: [(&str, &str, Result<(), RunError>, u8); 4] = [
-    ("", "", Ok(()), 0),
-    ("16\n", "bad line 2\n", Err(RunError::BadLine(2)), 2),
-    ("16", "bad line 2\n", Err(RunError::BadLine(2)), 2),
-    ("\n16 00\n", "bad line 2\n", Err(RunError::BadLine(2)), 2),
+/// How a client begins: INIT, the attributes of the root, the file `a` found and another not, and
+/// FORGET.
+const BEGINNING: &str = concat!(
+    "80 380000001a000000010000000000000000000000000000000000000000000000000000000000000007000000260000000000020000000000\n",
+    "100+20 3800000003000000020000000000000001000000000000000000000000000000000000000000000000000000000000000000000000000000\n",
+    "144 2a00000001000000030000000000000001000000000000000000000000000000000000000000000061+00\n",
+    "16 2a0000000100000004000000000000000100000000000000000000000000000000000000000000006200\n",
+    "0 300000000200000005000000000000000200000000000000000000000000000000000000000000000100000000000000\n",
+);
+
+/// The answers to these.
+const BEGUN: &str = concat!(
+    "ok 80 5000000000000000010000000000000007000000260000000000020000000000fffffdbf0000100001000000000100000000000000000000000000000000000000000000000000000000000000000000\n",
+    "ok 120 7800000000000000020000000000000001000000000000000000000000000000010000000000000000000000000000000000000000000000000000000000000000000000000000000000000000000000000000000000000000000000ed410000020000000000000000000000000000000010000000000000\n",
+    "ok 144 9000000000000000030000000000000002000000000000000000000000000000010000000000000001000000000000000000000000000000020000000000000005000000000000000000000000000000000000000000000000000000000000000000000000000000000000000000000000000000a4810000010000000000000000000000000000000010000000000000\n",
+    "ok 16 10000000feffffff0400000000000000\n",
+    "ok 0\n",
+);
+
+/// The first lines of an input and the answers to them, what stands behind them and what is
+/// answered to it, how the run ends, and the program's status then.
+static ENDS: [(&str, &str, &str, &str, Result<(), RunError>, u8); 5] = [
+    (FORGET, FORGOTTEN, "", "", Ok(()), 0),
+    (
+        FORGET,
+        FORGOTTEN,
+        "16\n",
+        "bad line 2\n",
+        Err(RunError::BadLine(2)),
+        2,
+    ),
+    (
+        FORGET,
+        FORGOTTEN,
+        "16",
+        "bad line 2\n",
+        Err(RunError::BadLine(2)),
+        2,
+    ),
+    (
+        FORGET,
+        FORGOTTEN,
+        "\n16 00\n",
+        "bad line 2\n",
+        Err(RunError::BadLine(2)),
+        2,
+    ),
+    (
+        BEGINNING,
+        BEGUN,
+        "16\n",
+        "bad line 6\n",
+        Err(RunError::BadLine(6)),
+        2,
+    ),
 ];
 
 /// A server over new files in memory, with a note of each of up to eight calls.
@@ -37,29 +85,23 @@ fn files_server(alloc: Global) -> Result<FilesServer, AllocError> {
     }
 }
 
-/// How a run over new files in memory ends.
-fn ended<R: Read, W: io::Write>(
+/// How a run of these lines and a last one ends, and what it writes.
+fn ran(
     alloc: Global,
-    input: &mut R,
-    output: &mut W,
-) -> Result<Result<(), RunError>, AllocError> {
-    let mut server = files_server(alloc)?;
-    Ok(run(alloc, &mut server, input, output))
-}
-
-/// How a run of a FORGET and these lines ends, and what it writes.
-fn ran(alloc: Global, last: &str) -> Result<(Result<(), RunError>, Vec<u8>), AllocError> {
-    let input = format!(in alloc; "{FORGET}{last}")?;
+    first: &str,
+    last: &str,
+) -> Result<(Result<(), RunError>, Vec<u8>), AllocError> {
+    let input = format!(in alloc; "{first}{last}")?;
     let mut output = Vec::new(alloc);
-    let end = ended(alloc, &mut input.as_bytes(), &mut output)?;
+    let end = run(alloc, &mut input.as_bytes(), &mut output);
     Ok((end, output))
 }
 
 #[test]
 fn a_session_is_answered_up_to_its_bad_line(rt: HostRuntime) -> Result<(), Fail> {
-    for (last, answer, end, status) in &ENDS {
-        let (ended, written) = ran(rt.alloc(), last)?;
-        let wanted = format!(in rt.alloc(); "{FORGOTTEN}{answer}")?;
+    for (first, answers, last, answer, end, status) in &ENDS {
+        let (ended, written) = ran(rt.alloc(), first, last)?;
+        let wanted = format!(in rt.alloc(); "{answers}{answer}")?;
         assert!(rt;
             ended == *end
                 && exit_status(&ended) == *status
@@ -84,22 +126,21 @@ impl Read for FailingInput<'_> {
 }
 
 /// Whether a run ends by a fault of an input that fails behind these bytes.
-fn ends_by_input(alloc: Global, bytes: &[u8]) -> Result<bool, AllocError> {
-    let end = ended(alloc, &mut FailingInput(bytes), &mut Vec::new(alloc))?;
-    Ok(end == Err(RunError::Io))
+fn ends_by_input(alloc: Global, bytes: &[u8]) -> bool {
+    run(alloc, &mut FailingInput(bytes), &mut Vec::new(alloc)) == Err(RunError::Io)
 }
 
 /// Whether a run ends by a fault of an output that has room for so many bytes.
 fn ends_by_output(alloc: Global, room: usize) -> Result<bool, AllocError> {
     let mut room = vec![in alloc; 0u8; room]?;
-    let end = ended(alloc, &mut FORGET.as_bytes(), &mut room.as_mut_slice())?;
+    let end = run(alloc, &mut FORGET.as_bytes(), &mut room.as_mut_slice());
     Ok(end == Err(RunError::Io))
 }
 
 #[test]
 fn a_fault_of_input_or_output_ends_the_run(rt: HostRuntime) -> Result<(), Fail> {
     for bytes in [b"".as_slice(), b"0".as_slice(), FORGET.as_bytes()] {
-        assert!(rt; ends_by_input(rt.alloc(), bytes)?);
+        assert!(rt; ends_by_input(rt.alloc(), bytes));
     }
     for room in [0, 1, 4] {
         assert!(rt; ends_by_output(rt.alloc(), room)?, "a room of {room}");
@@ -109,13 +150,15 @@ fn a_fault_of_input_or_output_ends_the_run(rt: HostRuntime) -> Result<(), Fail> 
 
 /// A session in which of node 2 three entries are answered, one delivered, one lost, one forget
 /// accepted and two sent: LOOKUP of `a`, the same without room for its reply, FORGET, READDIRPLUS
-/// with room for two of three records, and a BATCH_FORGET that is cut short.
-static LINES: [&str; 5] = [
+/// with room for two of three records, a BATCH_FORGET that is cut short, and READDIRPLUS with a
+/// size of 319 in a room of 335, where `..`, which doesn't fit, is given back as node 0.
+static LINES: [&str; 6] = [
     "144 2a0000000100000003000000000000000100000000000000000000000000000000000000000000006100",
     "100 2a0000000100000004000000000000000100000000000000000000000000000000000000000000006100",
     "0 300000000200000005000000000000000200000000000000000000000000000000000000000000000100000000000000",
     "495 500000002c000000060000000000000001000000000000000000000000000000000000000000000000000000000000000000000000000000df0100000000000000000000000000000000000000000000",
     "0 400000002a0000000700000000000000000000000000000000000000000000000000000000000000020000000000000002000000000000000100000000000000",
+    "335 500000002c0000000800000000000000010000000000000000000000000000000000000000000000000000000000000000000000000000003f0100000000000000000000000000000000000000000000",
 ];
 
 /// Its answers.
@@ -125,16 +168,19 @@ const ANSWERS: &str = concat!(
     "ok 0\n",
     "ok 336 5001000000000000060000000000000000000000000000000000000000000000000000000000000000000000000000000000000000000000010000000000000000000000000000000000000000000000000000000000000000000000000000000000000000000000000000000000000000000000004000000000000000000000000000000000000000000000000000000100000000000000010000000000000001000000040000002e0000000000000000000000000000000000000000000000000000000000000000000000000000000000000000000000010000000000000000000000000000000000000000000000000000000000000000000000000000000000000000000000000000000000000000000000004000000000000000000000000000000000000000000000000000000100000000000000020000000000000002000000040000002e2e000000000000\n",
     "err DecodeMessage\n",
+    "ok 176 b000000000000000080000000000000000000000000000000000000000000000000000000000000000000000000000000000000000000000010000000000000000000000000000000000000000000000000000000000000000000000000000000000000000000000000000000000000000000000004000000000000000000000000000000000000000000000000000000100000000000000010000000000000001000000040000002e00000000000000\n",
 );
 
 /// What the notes say of the calls that it makes: call, node, count, kind and value.
-static CALLS: [(u32, u64, u64, NoteKind, u64); 6] = [
+static CALLS: [(u32, u64, u64, NoteKind, u64); 8] = [
     (1, 1, 0, NoteKind::Ok, 2),
     (1, 1, 0, NoteKind::Ok, 2),
     (2, 2, 1, NoteKind::Nothing, 0),
     (28, 1, 0, NoteKind::Ok, 0),
     (1, 1, 0, NoteKind::Ok, 2),
     (2, 2, 1, NoteKind::Nothing, 0),
+    (28, 1, 0, NoteKind::Ok, 0),
+    (2, 0, 1, NoteKind::Nothing, 0),
 ];
 
 /// Whether these are the notes of those calls.
