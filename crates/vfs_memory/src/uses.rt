@@ -1,7 +1,7 @@
 //! Files in memory at work: calls, each with what follows for it from the contracts alone.
 
 ghost use Rattle.std.specs.Prelude.{◌≡◌, ◌++◌, [], ◌∷◌, List, codes, option_map};
-ghost use Rattle.std.specs.Prelude.{MatchResult, IsTrue, false, Some, None, Ok, Err};
+ghost use Rattle.std.specs.Prelude.{IfOk, MatchResult, IsTrue, false, Some, None, Ok, Err};
 ghost use Rattle.std.specs.Duration.{as_nanos};
 ghost use Rattle.vfs_flags.specs.Flags.{open_options_bits};
 ghost use Rattle.vfs_files.specs.Answers.{Plain, Iterator, Done, Options, attr_answer, init_answer};
@@ -10,7 +10,7 @@ ghost use Rattle.vfs_files.specs.Extensions.{ExtensionValues};
 ghost use Rattle.vfs_files.specs.Items.{Item, item_of};
 ghost use Rattle.vfs_files.specs.Names.{name_text};
 ghost use Rattle.vfs_memory.specs.MemFs.{Stock, MemFsAllows};
-ghost use Rattle.vfs_memory.specs.Uses.{one_file, two_files, IsFirstEntry, IsNewEntry};
+ghost use Rattle.vfs_memory.specs.Uses.{one_file, two_files};
 
 use crate::MemFs;
 use std::alloc::Global;
@@ -26,7 +26,12 @@ use vfs_wire::{Attr, Statvfs64};
 /// alone can be wanting, and then for the file system.
 pub fn first_file(alloc: Global, ctx: Context, name: CStr<'_>) -> Result<Entry, Fault>
     requires { name_text name ≡ codes "a" }
-    ensures { MatchResult result IsFirstEntry (λ fault. fault ≡ Some 12) }
+    ensures node { MatchResult result
+        (λ entry. (entry.inode ≡ 2) × (entry.generation ≡ 0))
+        (λ fault. fault ≡ Some 12) }
+    ensures attributes { IfOk result (λ entry. (entry.attr.ino ≡ 2) × (entry.attr.size ≡ 5)) }
+    ensures second { IfOk result (λ entry. (as_nanos entry.entry_timeout ≡ 1000000000)
+        × (as_nanos entry.attr_timeout ≡ 1000000000)) }
 {
     let mut fs = MemFs::new(alloc)?;
     fs.lookup(ctx, 1, name)
@@ -106,7 +111,7 @@ pub fn new_file(
     requires first { fs.old ≡ one_file (codes "hello") }
     requires named { name_text name ≡ codes "b" }
     ensures { MatchResult result
-        (λ made. IsNewEntry made.0 × (made.1 ≡ None) × (open_options_bits made.2 ≡ 0)
+        (λ made. (made.0.inode ≡ 3) × (made.0.attr.size ≡ 0) × (made.1 ≡ None) × (open_options_bits made.2 ≡ 0)
         × (fs.new ≡ two_files))
         (λ fault. (fault ≡ Some 12) × (fs.new ≡ fs.old)) }
 {
@@ -191,6 +196,19 @@ pub fn written_behind_the_end<R: ZeroCopyReader>(
         (λ fault. (fault ≡ Some 12) × (fs.new ≡ fs.old)) }
 {
     fs.write(ctx, 2, 0, r, 3, 7, None, false, false, 0)
+}
+
+/// WRITE of no bytes behind the end of node 2: it takes no memory, and the files stay.
+pub fn nothing_written<R: ZeroCopyReader>(
+    fs: &mut MemFs,
+    ctx: Context,
+    r: &mut R,
+) -> Result<u32, Fault>
+    requires { fs.old ≡ one_file (codes "hello") }
+    ensures answer { result ≡ Ok 0 }
+    ensures files { fs.new ≡ fs.old }
+{
+    fs.write(ctx, 2, 0, r, 0, 7, None, false, false, 0)
 }
 
 /// WRITE into node 1, which is no file: ENOENT, and the files stay.
