@@ -1,8 +1,8 @@
 -- How a run over three lines may end, of which the second and the third are bad.
-use Rattle.std.proofs.Common.{◌≡◌, false, true, ℕ, zero, suc, List, [], ◌∷◌, take, None, Result, Ok, Err, MatchResult, refl, sym, ap, ◌∙◌, ◌+◌, arith}
+use Rattle.std.proofs.Common.{◌≡◌, false, true, ℕ, zero, suc, List, [], ◌∷◌, take, None, Result, Ok, Err, MatchResult, refl, ap, ◌∙◌, ◌+◌, arith}
 use Rattle.std.specs.Prelude.{All, IsSomeAnd, slice_get}
 use Rattle.hex.specs.Hex.{decode_pairs}
-use Rattle.vfs_lines.specs.Lines.{IsRequest, IsFirstBad, EndsAs, line_of}
+use Rattle.vfs_lines.specs.Lines.{IsRequest, EndsAs, line_of}
 use Rattle.vfs_lines.specs.declared.error.RunError.{RunError}
 use Rattle.vfs_lines.specs.declared.error.RunError.TheVariants.{BadLine, Io, OutOfMemory}
 
