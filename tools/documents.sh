@@ -108,6 +108,7 @@ def check_row(fault, crates, functions, guards):
             known = own_words.issuperset(re.findall(r"\w+", code))
         elif owner:
             # Clauses behind it are those of the files that have the function.
+            owner = owner.rpartition("::")[2]
             files = {path for path in own if re.search(rf"\b{owner}\b", path + sources[path])
                      and (name in definitions[path] or path.endswith(f"/{name}.rt"))} or own
             known = files is not own
