@@ -10,11 +10,12 @@ use Rattle.vfs_listings.specs.Listing.{IsDirectory}
 use Rattle.vfs_listings.specs.Uses.{file_a}
 use Rattle.vfs_listings.proofs.WholeCallers.{one_file, refused_is}
 use Rattle.vfs_messages.specs.Ask.{ask}
-use Rattle.vfs_messages.specs.DirectoryUses.{nobody, usual, directory_request, reply_of_one_file, refused_reply}
+use Rattle.vfs_messages.specs.DirectoryUses.{nobody, reply_of_one_file, refused_reply}
 use Rattle.vfs_messages.specs.Forms.{Ask, Listing, Lists}
-use Rattle.vfs_messages.specs.Laws.{listing_reply}
+use Rattle.vfs_messages.specs.Laws.{default_limits, listing_reply}
 use Rattle.vfs_messages.specs.Reply.{Echo, body_reply}
 use Rattle.vfs_messages.specs.Room.{IsPutOpen}
+use Rattle.vfs_messages.specs.Uses.{request_for_data}
 use Rattle.vfs_messages.specs.declared.error.Error.{Error}
 
 -- what the replies repeat
@@ -28,36 +29,36 @@ listing plus size =
 
 -- what a request asks, by its bytes and its room
 asks_by : (options room n : ℕ) (request bytes : List ℕ) (a : Ask) → request ≡ bytes → room ≡ n
-    → ask usual options n bytes ≡ a → ask usual options room request ≡ a
+    → ask (default_limits 4096) options n bytes ≡ a → ask (default_limits 4096) options room request ≡ a
 asks_by options room n request bytes a e f asks =
-    ap (λ (q : List ℕ). ask usual options room q) e ∙ ap (λ (m : ℕ). ask usual options m bytes) f ∙ asks
+    ap (λ (q : List ℕ). ask (default_limits 4096) options room q) e ∙ ap (λ (m : ℕ). ask (default_limits 4096) options m bytes) f ∙ asks
 
-readdir : (options : ℕ) → ask usual options 80 (directory_request 28 64) ≡ Lists echo (listing false 64)
+readdir : (options : ℕ) → ask (default_limits 4096) options 80 (request_for_data 28 64) ≡ Lists echo (listing false 64)
 unfolding number opcode_of
 readdir options = refl
 
-small_readdir : (options : ℕ) → ask usual options 39 (directory_request 28 23) ≡ Lists echo (listing false 23)
+small_readdir : (options : ℕ) → ask (default_limits 4096) options 39 (request_for_data 28 23) ≡ Lists echo (listing false 23)
 unfolding number opcode_of
 small_readdir options = refl
 
-small_readdirplus : (options : ℕ) → ask usual options 167 (directory_request 44 151) ≡ Lists echo (listing true 151)
+small_readdirplus : (options : ℕ) → ask (default_limits 4096) options 167 (request_for_data 44 151) ≡ Lists echo (listing true 151)
 unfolding number opcode_of
 small_readdirplus options = refl
 
-pub asks_readdir : (options room : ℕ) (request : List ℕ) → request ≡ directory_request 28 64 → room ≡ 80
-    → ask usual options room request ≡ Lists echo (listing false 64)
+pub asks_readdir : (options room : ℕ) (request : List ℕ) → request ≡ request_for_data 28 64 → room ≡ 80
+    → ask (default_limits 4096) options room request ≡ Lists echo (listing false 64)
 asks_readdir options room request e f =
-    asks_by options room 80 request (directory_request 28 64) (Lists echo (listing false 64)) e f (readdir options)
+    asks_by options room 80 request (request_for_data 28 64) (Lists echo (listing false 64)) e f (readdir options)
 
-pub asks_small_readdir : (options room : ℕ) (request : List ℕ) → request ≡ directory_request 28 23 → room ≡ 39
-    → ask usual options room request ≡ Lists echo (listing false 23)
+pub asks_small_readdir : (options room : ℕ) (request : List ℕ) → request ≡ request_for_data 28 23 → room ≡ 39
+    → ask (default_limits 4096) options room request ≡ Lists echo (listing false 23)
 asks_small_readdir options room request e f =
-    asks_by options room 39 request (directory_request 28 23) (Lists echo (listing false 23)) e f (small_readdir options)
+    asks_by options room 39 request (request_for_data 28 23) (Lists echo (listing false 23)) e f (small_readdir options)
 
-pub asks_small_readdirplus : (options room : ℕ) (request : List ℕ) → request ≡ directory_request 44 151 → room ≡ 167
-    → ask usual options room request ≡ Lists echo (listing true 151)
+pub asks_small_readdirplus : (options room : ℕ) (request : List ℕ) → request ≡ request_for_data 44 151 → room ≡ 167
+    → ask (default_limits 4096) options room request ≡ Lists echo (listing true 151)
 asks_small_readdirplus options room request e f =
-    asks_by options room 167 request (directory_request 44 151) (Lists echo (listing true 151)) e f (small_readdirplus options)
+    asks_by options room 167 request (request_for_data 44 151) (Lists echo (listing true 151)) e f (small_readdirplus options)
 
 module _ (room : List ℕ) (outcome : Result ℕ Error) (room_after : List ℕ) where
   -- the reply of a directory that is whole

@@ -14,6 +14,7 @@ use Rattle.vfs_messages.specs.Ask.{ask}
 use Rattle.vfs_messages.specs.Extensions.{extensions_in, cut_of, no_extensions}
 use Rattle.vfs_messages.specs.Forms.{Ask, Ends, Asks, Lists, Copies, refused, silent}
 use Rattle.vfs_messages.specs.declared.limits.Limits.{Limits}
+use Rattle.vfs_messages.specs.Laws.{default_limits}
 use Rattle.vfs_messages.specs.Options.{agreed, options_after}
 use Rattle.vfs_messages.specs.Reply.{Bytes, OpenBehind, NoReply, Echo, reply_of}
 use Rattle.vfs_messages.specs.Room.{put_outcome, put_room}
@@ -38,7 +39,7 @@ abbrev nobody : Context
 nobody = record { uid = 0; gid = 0; pid = pos 0 }
 
 abbrev usual : Limits
-usual = record { page_size = 4096; max_buffer = 1048576 }
+usual = default_limits 4096
 
 abbrev echo : ℕ → Echo
 echo unique = record { unique = unique; max_readahead = 0 }
