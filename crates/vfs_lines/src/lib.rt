@@ -10,6 +10,7 @@ mod line;
 mod session;
 pub mod uses;
 
+pub use answer::answer_line;
 pub use error::{RunError, exit_status, report};
 pub use input::{run, run_with};
 pub use line::{Line, MOST_ROOM, lines_of, parse_line};

@@ -6,21 +6,16 @@
 //!   that it was turned into, each line with two spaces before it.
 //! - `answer N`, `answer fault N`, `answer fault none`, `answer items ITEM ..` or
 //!   `answer endless ITEM ..`: what the next call is answered, in place of what the file system's
-//!   rules say (`told`).
+//!   rules say.
 //! - A line that begins with `#` is passed over.
 //!
-//! What each call is answered else is a function of its caller's process (`script`), so that any
-//! request can be made to meet any answer, and another implementation of the protocol with the same
-//! file system must write the same lines. The program takes no arguments and opens no file.
+//! What each call is answered else is a function of its caller's process, by the file system of
+//! `vfs_scripted`, so that any request can be made to meet any answer, and another implementation of
+//! the protocol with the same file system must write the same lines. The program takes no arguments
+//! and opens no file.
 #![tactic(auto)]
 
-mod contents;
-mod listing;
-mod notes;
-mod rules;
 mod run;
-mod script;
-mod told;
 
 use std::process::ExitCode;
 use vfs_lines::{exit_status, report};

@@ -1,12 +1,11 @@
 //! A session: the lines of an input, answered one after another.
 
-use crate::script::ScriptFs;
-use crate::told::{Told, parse_told};
 use std::alloc::Global;
 use std::cell::RefCell;
 use std::collections::VecDeque;
 use std::io;
 use vfs_lines::{Line, RunError, answer_to, lines_of, parse_line, read_all, write_all};
+use vfs_scripted::{ScriptFs, Told, parse_told};
 use vfs_server::server::Server;
 
 /// The page size of the server, in bytes.

@@ -1,6 +1,6 @@
 use Rattle.std.proofs.Common.{◌≡◌, ◌<◌, [], length, get_or, ap, ◌∙◌, arith}
 use Rattle.vfs_views.specs.ViewLaws.{IsSameRoom-count, IsSameRoom-then_piece}
-use Rattle.vfs_script.proofs.contents.fill_pieces.Goals as goal
+use Rattle.vfs_scripted.proofs.contents.fill_pieces.Goals as goal
 
 pub get_mut-requires : goal.get_mut-requires
 get_mut-requires c =
