@@ -9,8 +9,8 @@
 use std::alloc::Global;
 use std::io;
 use std::process::ExitCode;
+use vfs_corpus::{MESSAGES, Way, try_message};
 use vfs_lines::{RunError, exit_status, report, write_all};
-use vfs_scripted::{CORPUS, Way, try_message};
 
 fn main(rt: HostRuntime) -> ExitCode {
     let outcome = run(rt.alloc(), &mut rt.stdout());
@@ -23,7 +23,7 @@ fn run<W: io::Write>(alloc: Global, output: &mut W) -> Result<(), RunError> {
     let mut text = String::new(alloc);
     let mut tried = 0usize;
     let mut wrong = 0usize;
-    for message in &CORPUS {
+    for message in &MESSAGES {
         let tally = try_message(alloc, message, Way::Messages)?;
         tried = tried.saturating_add(tally.tried);
         wrong = wrong.saturating_add(tally.wrong);

@@ -1,12 +1,11 @@
 //! Answers that the input tells, for the calls of the requests that follow.
 
 use hex::FromHexError;
-use std::alloc::Global;
+use std::alloc::{AllocError, Global};
 use std::time::Duration;
 use vfs_bench::{ScriptDirectory, ScriptItem};
 use vfs_files::{CStr, CString, Entry};
 use vfs_flags::{Errno, Fault};
-use vfs_lines::RunError;
 use vfs_wire::Attr;
 
 /// An answer that a line tells.
@@ -51,7 +50,7 @@ pub fn bare_entry(inode: u64) -> Entry {
 }
 
 /// Reads what stands behind `answer `. It is `None` where that has none of the forms.
-pub fn parse_told(alloc: Global, text: &[u8]) -> Result<Option<Told>, RunError> {
+pub fn parse_told(alloc: Global, text: &[u8]) -> Result<Option<Told>, AllocError> {
     if let Some(fault) = text.strip_prefix(b"fault ") {
         return Ok(parse_fault(fault).map(Told::Fault));
     }
@@ -74,7 +73,7 @@ fn parse_fault(text: &[u8]) -> Option<Fault> {
 }
 
 // The directory of items joined by spaces.
-fn parse_directory(alloc: Global, text: &[u8], endless: bool) -> Result<Option<Told>, RunError> {
+fn parse_directory(alloc: Global, text: &[u8], endless: bool) -> Result<Option<Told>, AllocError> {
     let mut items = Vec::new(alloc);
     let pieces: Vec<&[u8]> = text.split(|b| *b == b' ').collect(alloc)?;
     for piece in &pieces {
@@ -90,12 +89,12 @@ fn parse_directory(alloc: Global, text: &[u8], endless: bool) -> Result<Option<T
     };
     match directory {
         Ok(directory) => Ok(Some(Told::Directory(directory))),
-        Err(_) => Err(RunError::OutOfMemory),
+        Err(_) => Err(AllocError),
     }
 }
 
 // An item, its four parts joined by commas.
-fn parse_item(alloc: Global, text: &[u8]) -> Result<Option<ScriptItem>, RunError> {
+fn parse_item(alloc: Global, text: &[u8]) -> Result<Option<ScriptItem>, AllocError> {
     let parts: Vec<&[u8]> = text.split(|b| *b == b',').collect(alloc)?;
     let [ino, offset, type_, name] = parts.as_slice() else {
         return Ok(None);
@@ -119,10 +118,10 @@ fn parse_item(alloc: Global, text: &[u8]) -> Result<Option<ScriptItem>, RunError
 }
 
 // The name whose bytes a text writes in hex.
-fn parse_name(alloc: Global, text: &[u8]) -> Result<Option<CString>, RunError> {
+fn parse_name(alloc: Global, text: &[u8]) -> Result<Option<CString>, AllocError> {
     let mut bytes = match hex::decode(alloc, text) {
         Ok(bytes) => bytes,
-        Err(FromHexError::OutOfMemory) => return Err(RunError::OutOfMemory),
+        Err(FromHexError::OutOfMemory) => return Err(AllocError),
         Err(_) => return Ok(None),
     };
     bytes.push(0)?;
@@ -131,7 +130,7 @@ fn parse_name(alloc: Global, text: &[u8]) -> Result<Option<CString>, RunError> {
     };
     match CString::new(alloc, name) {
         Ok(name) => Ok(Some(name)),
-        Err(_) => Err(RunError::OutOfMemory),
+        Err(_) => Err(AllocError),
     }
 }
 

@@ -1,7 +1,7 @@
 //! The hostile forms of a message: cut short, with other lengths in its header, and with less room.
 //! Each must come to the same in every cutting.
 
-use crate::corpus::Message;
+use crate::messages::Message;
 use crate::serve::{Cut, Cutting, Served, Way, serve};
 use std::alloc::{AllocError, Global};
 use vfs_lines::{RunError, answer_line};

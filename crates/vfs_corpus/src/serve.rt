@@ -1,11 +1,11 @@
 //! A request that is handed to a server in many cuttings, and what came of it.
 
-use crate::corpus::Message;
-use crate::script::ScriptFs;
+use crate::messages::Message;
 use std::alloc::{AllocError, Global};
 use std::cell::RefCell;
 use std::collections::VecDeque;
 use vfs_lines::{RunError, answer_to, lines_of, parse_line};
+use vfs_scripted::ScriptFs;
 use vfs_segments::{Reader, Writer};
 use vfs_server::server::Server;
 

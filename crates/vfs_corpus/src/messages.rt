@@ -1,4 +1,4 @@
-//! The corpus: one accepted message for each opcode of the protocol, and for each form that an
+//! The messages: one accepted message for each opcode of the protocol, and for each form that an
 //! agreed option gives it.
 
 use std::alloc::Global;
@@ -63,7 +63,7 @@ const BOTH: &str = concat!(
 
 /// The messages, in the order of their opcodes, and then those whose form an option changes.
 #[rattlefmt::skip]
-pub static CORPUS: [Message; 65] = [
+pub static MESSAGES: [Message; 65] = [
     Message { name: "LOOKUP", before: "", line: "144 2b0000000100000009000000000000000100000000000000e8030000640000001800000000000000+616200" },
     Message { name: "FORGET", before: "", line: "0 300000000200000009000000000000000200000000000000e8030000640000001800000000000000+0300000000000000" },
     Message { name: "GETATTR", before: "", line: "120 380000000300000009000000000000000100000000000000e8030000640000002800000000000000+01000000000000000400000000000000" },

@@ -1,0 +1,11 @@
+//! A corpus of messages, one for each opcode, and loops that cut, shorten and change them: for
+//! tests alone.
+#![tactic(auto)]
+
+mod hostile;
+mod messages;
+mod serve;
+
+pub use hostile::{Form, Tally, try_message};
+pub use messages::{MESSAGES, Message};
+pub use serve::{Cut, Cutting, Served, Way, agree, pieces, rooms, serve};
