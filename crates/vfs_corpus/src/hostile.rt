@@ -1,17 +1,21 @@
 //! The hostile forms of a message: cut short, with other lengths in its header, and with less room.
 //! Each must come to the same in every cutting.
 
+use crate::cuttings::{Cut, Cutting, Served, Way, serve};
 use crate::messages::Message;
-use crate::serve::{Cut, Cutting, Served, Way, serve};
 use std::alloc::{AllocError, Global};
 use vfs_lines::{RunError, answer_line};
 
-/// A form of a message: how many of its bytes are there, the `len` in its header, and how many bytes
-/// of room.
+/// A form of a message.
 #[derive(Clone, Copy, Debug)]
 pub struct Form {
+    /// How many of the message's bytes are there.
     pub taken: usize,
+
+    /// The `len` of its header.
     pub len: usize,
+
+    /// How many bytes the room has.
     pub room: usize,
 }
 
@@ -102,7 +106,7 @@ fn cuttings_of(
 // The bytes of a form of a message.
 fn bytes_of(alloc: Global, bytes: &[u8], form: Form) -> Result<Vec<u8>, AllocError> {
     let mut all = Vec::from_slice(alloc, bytes)?;
-    for (place, byte) in all.iter_mut().zip((form.len as u32).to_le_bytes()) {
+    for (place, byte) in all.iter_mut().take(4).zip(form.len.to_le_bytes()) {
         *place = byte;
     }
     all.truncate(form.taken);
@@ -124,7 +128,7 @@ fn try_form(
     let uncut = serve(alloc, message, &request, form.room, &whole, Way::Messages)?;
     tally.digest = digest(tally.digest, text_of(alloc, &uncut)?.as_bytes());
     let served = serve(alloc, message, &request, form.room, cuttings, way)?;
-    let wrong = count_wrong(&uncut, &served, message.leaves_room_open());
+    let wrong = count_wrong(&uncut, &served, leaves_room_open(&request));
     if wrong > 0 && tally.first_wrong.is_none() {
         tally.first_wrong = Some(form);
     }
@@ -132,6 +136,12 @@ fn try_form(
     tally.tried = tally.tried.saturating_add(1).saturating_add(cuttings.len());
     tally.wrong = tally.wrong.saturating_add(wrong);
     Ok(())
+}
+
+// Whether what lies in the room behind a request's reply is open: of READ, READDIR and READDIRPLUS,
+// by the lowest byte of their opcodes.
+fn leaves_room_open(request: &[u8]) -> bool {
+    matches!(request.get(4), Some(15 | 28 | 44))
 }
 
 // The answer and the calls of a request, as text.

@@ -2,10 +2,10 @@
 //! tests alone.
 #![tactic(auto)]
 
+mod cuttings;
 mod hostile;
 mod messages;
-mod serve;
 
+pub use cuttings::{Cut, Cutting, Served, Way, agree, pieces, rooms, serve};
 pub use hostile::{Form, Tally, try_message};
 pub use messages::{MESSAGES, Message};
-pub use serve::{Cut, Cutting, Served, Way, agree, pieces, rooms, serve};

@@ -30,11 +30,6 @@ impl Message {
         }
         Ok((bytes, line.rooms.first().copied().unwrap_or(0)))
     }
-
-    /// Whether what lies in the room behind its reply is open: of READ, READDIR and READDIRPLUS.
-    pub fn leaves_room_open(&self) -> bool {
-        self.name.starts_with("READ") && !self.name.starts_with("READLINK")
-    }
 }
 
 /// SETXATTR_EXT is agreed on.

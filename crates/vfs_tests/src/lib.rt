@@ -11,6 +11,8 @@ mod files;
 #[cfg(test)]
 mod flags;
 #[cfg(test)]
+mod hostile;
+#[cfg(test)]
 mod lines;
 #[cfg(test)]
 mod message;

@@ -1,11 +1,13 @@
 //! A request that is handed to a server in many cuttings, and what came of it.
 
+ghost use Rattle.std.specs.Prelude.{◌≡◌, length, vec_len, IfOk};
+
 use crate::messages::Message;
 use std::alloc::{AllocError, Global};
 use std::cell::RefCell;
 use std::collections::VecDeque;
 use vfs_lines::{RunError, answer_to, lines_of, parse_line};
-use vfs_scripted::ScriptFs;
+use vfs_scripted::{Notes, ScriptFs};
 use vfs_segments::{Reader, Writer};
 use vfs_server::server::Server;
 
@@ -39,8 +41,13 @@ pub type Cutting = (Cut, Cut);
 /// afterwards, and the notes of the calls that all of them made.
 #[derive(Drop)]
 pub struct Served {
+    /// The reply's length or the error, a cutting each.
     pub outcomes: Vec<vfs_server::Result<usize>>,
+
+    /// All bytes of the room, a cutting each.
     pub rooms: Vec<Vec<u8>>,
+
+    /// The calls of all cuttings in order, with their answers: lines as `vfs_script` writes them.
     pub calls: String,
 }
 
@@ -102,77 +109,70 @@ pub fn serve(
     let mut server = Server::new(ScriptFs::new(alloc, &told), PAGE_SIZE);
     agree(alloc, &mut server, message)?;
     let noted = server.fs().notes().text().len();
+    let cut = cut_each(alloc, bytes, cuttings)?;
+    let readers = readers_over(alloc, &cut)?;
     let mut writers = writers_for(alloc, room, cuttings)?;
-    let outcomes = match way {
-        Way::Messages => handle_each(alloc, &mut server, bytes, cuttings, &mut writers)?,
-        Way::Session => handle_all(alloc, &mut server, bytes, cuttings, &mut writers)?,
-    };
-    let notes = server.fs().notes();
-    if notes.lacks() {
-        return Err(RunError::OutOfMemory);
+    let mut outcomes = vec![in alloc; Ok(0); cuttings.len()]?;
+    match way {
+        Way::Messages => handle_each(alloc, &mut server, readers, &mut writers, &mut outcomes),
+        Way::Session => server.handle_session(alloc, readers, &mut writers, &mut outcomes),
     }
-    let calls = String::from_str(alloc, notes.text().get(noted..).unwrap_or(""))?;
     Ok(Served {
         outcomes,
         rooms: bytes_of(alloc, writers)?,
-        calls,
+        calls: calls_from(alloc, server.fs().notes(), noted)?,
     })
 }
 
-// The outcomes where each cutting is a message.
+// Handles requests in order, each as a message.
 fn handle_each(
     alloc: Global,
     server: &mut Server<ScriptFs<'_>>,
-    bytes: &[u8],
-    cuttings: &[Cutting],
+    readers: Vec<Reader<'_>>,
     writers: &mut [Writer],
-) -> Result<Vec<vfs_server::Result<usize>>, RunError> {
-    let mut outcomes = Vec::new(alloc);
-    for ((cut, _), writer) in cuttings.iter().zip(writers) {
-        let pieces = pieces(alloc, bytes, *cut)?;
-        let Ok(reader) = Reader::new(alloc, &pieces) else {
-            return Err(RunError::OutOfMemory);
-        };
-        outcomes.push(server.handle_message(alloc, reader, writer))?;
+    outcomes: &mut [vfs_server::Result<usize>],
+) {
+    for ((reader, writer), outcome) in readers.into_iter().zip(writers).zip(outcomes) {
+        *outcome = server.handle_message(alloc, reader, writer);
     }
-    Ok(outcomes)
 }
 
-// The outcomes where all cuttings are one session.
-fn handle_all(
+// The pieces of a request in each cutting.
+fn cut_each<'a>(
     alloc: Global,
-    server: &mut Server<ScriptFs<'_>>,
-    bytes: &[u8],
+    bytes: &'a [u8],
     cuttings: &[Cutting],
-    writers: &mut [Writer],
-) -> Result<Vec<vfs_server::Result<usize>>, RunError> {
-    let mut all = Vec::new(alloc);
-    let mut ends = Vec::new(alloc);
-    for (cut, _) in cuttings {
-        for piece in &pieces(alloc, bytes, *cut)? {
-            all.push(*piece)?;
-        }
-        ends.push(all.len())?;
+) -> Result<Vec<Vec<&'a [u8]>>, AllocError>
+    ensures { IfOk result (λ cut. vec_len cut ≡ length cuttings.now) }
+{
+    let mut cut = Vec::new(alloc);
+    for (place, _) in cuttings {
+        cut.push(pieces(alloc, bytes, *place)?)?;
     }
+    Ok(cut)
+}
+
+// A reader over the pieces of each cutting.
+fn readers_over<'a>(alloc: Global, cut: &'a [Vec<&'a [u8]>]) -> Result<Vec<Reader<'a>>, RunError>
+    ensures { IfOk result (λ readers. vec_len readers ≡ length cut.now) }
+{
     let mut readers = Vec::new(alloc);
-    let mut start = 0;
-    for end in &ends {
-        match Reader::new(alloc, &all[start..*end]) {
+    for pieces in cut {
+        match Reader::new(alloc, pieces) {
             Ok(reader) => readers.push(reader)?,
             Err(_) => return Err(RunError::OutOfMemory),
         }
-        start = *end;
     }
-    let mut outcomes = vec![in alloc; Ok(0); readers.len()]?;
-    server.handle_session(alloc, readers, writers, &mut outcomes);
-    Ok(outcomes)
+    Ok(readers)
 }
 
 // A writer over a room of so many bytes for each cutting.
-fn writers_for(alloc: Global, room: usize, cuttings: &[Cutting]) -> Result<Vec<Writer>, RunError> {
+fn writers_for(alloc: Global, room: usize, cuttings: &[Cutting]) -> Result<Vec<Writer>, RunError>
+    ensures { IfOk result (λ writers. vec_len writers ≡ length cuttings.now) }
+{
     let mut writers = Vec::new(alloc);
-    for (_, cut) in cuttings {
-        match Writer::new(alloc, rooms(alloc, room, *cut)?) {
+    for (_, place) in cuttings {
+        match Writer::new(alloc, rooms(alloc, room, *place)?) {
             Ok(writer) => writers.push(writer)?,
             Err(_) => return Err(RunError::OutOfMemory),
         }
@@ -191,4 +191,12 @@ fn bytes_of(alloc: Global, writers: Vec<Writer>) -> Result<Vec<Vec<u8>>, AllocEr
         rooms.push(room)?;
     }
     Ok(rooms)
+}
+
+// The calls that were noted from this place of the notes on.
+fn calls_from(alloc: Global, notes: &Notes, noted: usize) -> Result<String, RunError> {
+    if notes.lacks() {
+        return Err(RunError::OutOfMemory);
+    }
+    Ok(String::from_str(alloc, notes.text().get(noted..).unwrap_or(""))?)
 }
