@@ -186,19 +186,39 @@ fn entry_of(inode: u64) -> Entry {
     }
 }
 
-/// A directory of one item, which has this node and no name: it ends behind it, or gives it again
-/// and again.
-fn nameless(alloc: Global, ino: u64, endless: bool) -> Result<ScriptDirectory, Fault> {
-    let mut items = Vec::new(alloc);
-    if let Some(name) = CStr::from_bytes_with_nul(b"\0") {
-        let item = ScriptItem {
-            ino,
-            offset: 1,
-            type_: 4,
-            name: CString::new(alloc, name)?,
-        };
-        items.push(item).map_err(|_| Some(Errno::ENOMEM))?;
+/// A name of so many bytes.
+fn name_of(alloc: Global, length: usize) -> Result<CString, Fault> {
+    match vec![in alloc; b'n'; length] {
+        Ok(bytes) => terminated(alloc, bytes),
+        Err(_) => Err(Some(Errno::ENOMEM)),
     }
+}
+
+/// The name with these bytes.
+fn terminated(alloc: Global, mut bytes: Vec<u8>) -> Result<CString, Fault> {
+    bytes.push(0).map_err(|_| Some(Errno::ENOMEM))?;
+    match CStr::from_bytes_with_nul(&bytes) {
+        Some(name) => CString::new(alloc, name),
+        None => Err(None),
+    }
+}
+
+/// A directory of one item, which has this node and a name of so many bytes: it ends behind it, or
+/// gives it again and again.
+fn directory(
+    alloc: Global,
+    ino: u64,
+    name: usize,
+    endless: bool,
+) -> Result<ScriptDirectory, Fault> {
+    let item = ScriptItem {
+        ino,
+        offset: 1,
+        type_: 4,
+        name: name_of(alloc, name)?,
+    };
+    let mut items = Vec::new(alloc);
+    items.push(item).map_err(|_| Some(Errno::ENOMEM))?;
     if endless {
         ScriptDirectory::endless(alloc, items)
     } else {
@@ -226,7 +246,7 @@ fn script_of_answers(alloc: Global) -> Result<Script, AllocError> {
         byte: b'f',
         calls: 0,
     });
-    script.directory = nameless(alloc, 500, true);
+    script.directory = directory(alloc, 500, 0, true);
     script.written = Ok(100);
     script.done = Err(None);
     script.tmpfile = Errno::new(11);
@@ -324,15 +344,61 @@ fn a_call_without_a_place_is_missed_and_answered(rt: HostRuntime) -> Result<(), 
     Ok(())
 }
 
-/// A READDIR of 240 bytes, behind its header: they hold ten records of 24.
-static READDIR: [u8; 40] = *b"\0\0\0\0\0\0\0\0\0\0\0\0\0\0\0\0\xf0\0\0\0\
-    \0\0\0\0\0\0\0\0\0\0\0\0\0\0\0\0\0\0\0\0";
+/// A reading of a directory of one item: the opcode, how many bytes the item's name has, whether the
+/// directory has no end, and the size that is asked for. Then what comes of it: how long the reply
+/// is, how often an entry is asked for, and how many lookups and how many forgets there are.
+type Reading = (u8, usize, bool, u32, usize, u64, (u16, u16));
 
-/// A server over a directory of one item, or of one without end.
-fn server_of_directory(alloc: Global, endless: bool) -> Result<ScriptServer, AllocError> {
+static READINGS: [Reading; 5] = [
+    // READDIR: ten records of 24 bytes, and one entry that doesn't fit.
+    (28, 0, true, 240, 256, 11, (0, 0)),
+    // One record, and the end.
+    (28, 0, false, 240, 40, 2, (0, 0)),
+    // The largest size: 43,690 records, and one entry that doesn't fit.
+    (28, 0, true, 1_048_576, 1_048_576, 43_691, (0, 0)),
+    // READDIRPLUS: 6,898 records of 152 bytes, and one entry that doesn't fit and is given back.
+    (44, 0, true, 1_048_576, 1_048_512, 6_899, (6_899, 1)),
+    // An entry with a name that is longer than the largest size.
+    (44, 1_048_600, false, 1_048_576, 16, 1, (1, 1)),
+];
+
+/// The calls of a reading of node 1, in which lookups find node 5, and entries of it are given back
+/// one by one.
+static READ: Note = Note {
+    call: 28,
+    node: 1,
+    count: 0,
+    kind: NoteKind::Ok,
+    value: 0,
+};
+
+static LOOKED_UP: Note = Note {
+    call: 1,
+    node: 1,
+    count: 0,
+    kind: NoteKind::Ok,
+    value: 5,
+};
+
+static GIVEN_BACK: Note = Note {
+    call: 2,
+    node: 5,
+    count: 1,
+    kind: NoteKind::Nothing,
+    value: 0,
+};
+
+/// A server over a directory of one item, whose lookups find node 5, with places for so many notes.
+fn server_of_directory(
+    alloc: Global,
+    name: usize,
+    endless: bool,
+    places: usize,
+) -> Result<ScriptServer, AllocError> {
     let mut script = Script::new();
-    script.directory = nameless(alloc, 1, endless);
-    script_server(alloc, script, 1)
+    script.entry = Ok(entry_of(5));
+    script.directory = directory(alloc, 1, name, endless);
+    script_server(alloc, script, places)
 }
 
 /// How often an entry of a script's directory was asked for.
@@ -343,22 +409,62 @@ fn takings(script: &Script) -> Option<u64> {
     }
 }
 
-/// How long the reply to it is, and how often an entry was asked for.
-fn taken(alloc: Global, endless: bool) -> Result<(usize, Option<u64>), Fail> {
-    let mut server = server_of_directory(alloc, endless)?;
-    let reply = reply_by_script(alloc, &mut server, (28, 1, &READDIR), 256)?;
-    Ok((reply.len(), takings(server.fs().inner())))
+/// Whether all of these notes are this one.
+fn are_all(notes: Option<&[Note]>, note: &Note) -> bool {
+    match notes {
+        Some(notes) => notes.iter().all(|noted| noted == note),
+        None => false,
+    }
 }
 
-/// Whether the directory has no end, how long the reply is, and how often an entry is asked for:
-/// once more than ten records, for one that doesn't fit, and once more than one record, for the
-/// end.
-static TAKINGS: [(bool, usize, u64); 2] = [(true, 256, 11), (false, 40, 2)];
+/// Whether the calls are a `readdir`, so many lookups, and so many forgets.
+fn are_calls(recorder: &Recorder<Script>, lookups: u16, forgets: u16) -> bool {
+    let notes = recorder.notes();
+    let behind = 1 + usize::from(lookups);
+    are_all(notes.get(..1), &READ)
+        && are_all(notes.get(1..behind), &LOOKED_UP)
+        && are_all(notes.get(behind..), &GIVEN_BACK)
+        && notes.len() == behind + usize::from(forgets)
+        && !recorder.missed()
+}
+
+/// The header of a successful reply of so many bytes.
+fn header_of(length: usize) -> [u8; 16] {
+    let mut header = [0; 16];
+    header[..8].copy_from_slice(&length.to_le_bytes());
+    header[8] = 9;
+    header
+}
+
+/// Whether a reply succeeds and has so many bytes.
+fn is_success(reply: &[u8], length: usize) -> bool {
+    reply.len() == length && reply.starts_with(&header_of(length))
+}
+
+/// What stands behind the header of a request for a reading of so many bytes.
+fn reading_of(size: u32) -> [u8; 40] {
+    let mut record = [0; 40];
+    record[16..20].copy_from_slice(&size.to_le_bytes());
+    record
+}
+
+/// Whether a reading comes to what is said of it.
+fn is_read(alloc: Global, reading: &Reading) -> Result<bool, Fail> {
+    let (opcode, name, endless, size, length, entries, (lookups, forgets)) = reading;
+    let room = *size as usize + 16;
+    let mut server = server_of_directory(alloc, *name, *endless, 7000)?;
+    let reply = reply_by_script(alloc, &mut server, (*opcode, 1, &reading_of(*size)), room)?;
+    Ok(
+        is_success(&reply, *length)
+            && takings(server.fs().inner()) == Some(*entries)
+            && are_calls(server.fs(), *lookups, *forgets),
+    )
+}
 
 #[test]
-fn takings_from_a_directory_are_counted(rt: HostRuntime) -> Result<(), Fail> {
-    for (endless, length, count) in &TAKINGS {
-        assert!(rt; taken(rt.alloc(), *endless)? == (*length, Some(*count)));
+fn readings_of_a_directory_take_what_fits_and_one_more(rt: HostRuntime) -> Result<(), Fail> {
+    for reading in &READINGS {
+        assert!(rt; is_read(rt.alloc(), reading)?);
     }
     Ok(())
 }
