@@ -109,8 +109,8 @@ pub fn serve(
     let mut server = Server::new(ScriptFs::new(alloc, &told), PAGE_SIZE);
     agree(alloc, &mut server, message)?;
     let noted = server.fs().notes().text().len();
-    let cut = cut_each(alloc, bytes, cuttings)?;
-    let readers = readers_over(alloc, &cut)?;
+    let (pieces, counts) = cut_each(alloc, bytes, cuttings)?;
+    let readers = readers_over(alloc, &pieces, &counts)?;
     let mut writers = writers_for(alloc, room, cuttings)?;
     let mut outcomes = vec![in alloc; Ok(0); cuttings.len()]?;
     match way {
@@ -137,28 +137,39 @@ fn handle_each(
     }
 }
 
-// The pieces of a request in each cutting.
+// The pieces of a request in all cuttings, one after another, and how many each cutting has.
 fn cut_each<'a>(
     alloc: Global,
     bytes: &'a [u8],
     cuttings: &[Cutting],
-) -> Result<Vec<Vec<&'a [u8]>>, AllocError>
-    ensures { IfOk result (λ cut. vec_len cut ≡ length cuttings.now) }
+) -> Result<(Vec<&'a [u8]>, Vec<usize>), AllocError>
+    ensures { IfOk result (λ cut. vec_len cut.1 ≡ length cuttings.now) }
 {
-    let mut cut = Vec::new(alloc);
+    let mut all = Vec::new(alloc);
+    let mut counts = Vec::new(alloc);
     for (place, _) in cuttings {
-        cut.push(pieces(alloc, bytes, *place)?)?;
+        let pieces = pieces(alloc, bytes, *place)?;
+        all.extend_from_slice(&pieces)?;
+        counts.push(pieces.len())?;
     }
-    Ok(cut)
+    Ok((all, counts))
 }
 
-// A reader over the pieces of each cutting.
-fn readers_over<'a>(alloc: Global, cut: &'a [Vec<&'a [u8]>]) -> Result<Vec<Reader<'a>>, RunError>
-    ensures { IfOk result (λ readers. vec_len readers ≡ length cut.now) }
+// A reader over the next so many pieces for each count.
+fn readers_over<'a>(
+    alloc: Global,
+    pieces: &'a [&'a [u8]],
+    counts: &[usize],
+) -> Result<Vec<Reader<'a>>, RunError>
+    ensures { IfOk result (λ readers. vec_len readers ≡ length counts.now) }
 {
     let mut readers = Vec::new(alloc);
-    for pieces in cut {
-        match Reader::new(alloc, pieces) {
+    let mut start = 0usize;
+    for count in counts {
+        let end = pieces.len().min(start.saturating_add(*count));
+        let next = &pieces[start..end];
+        start = end;
+        match Reader::new(alloc, next) {
             Ok(reader) => readers.push(reader)?,
             Err(_) => return Err(RunError::OutOfMemory),
         }
