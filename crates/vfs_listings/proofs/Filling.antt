@@ -11,7 +11,7 @@ use Rattle.vfs_files.specs.RunLaws.{Ran, ran_on, ran_nothing, ran_taking, ran_ca
 use Rattle.vfs_files.specs.declared.entry.Context.{Context}
 use Rattle.vfs_files.specs.declared.entry.Entry.{Entry}
 use Rattle.vfs_listings.specs.Records.{Verdict, Fits, Full, Fails, verdict, record_bytes, record_len, FitsOption, Adds}
-use Rattle.vfs_listings.specs.Listing.{Got, Line, End, At, Gets, IsGot, FitsGot, is_dot, lookup_of, lookups, line_events, given_back, line_len, line_bytes, len_of, bytes_got, judged, fate, AreWritten, cut_by, told, answer_at}
+use Rattle.vfs_listings.specs.Listing.{Got, Line, End, At, Gets, IsGot, FitsGot, is_dot, lookup_of, lookups, line_events, given_back, node_got, line_len, line_bytes, len_of, bytes_got, judged, fate, AreWritten, cut_by, told, answer_at}
 use Rattle.vfs_listings.specs.ListingLaws.{fits_within, length-bytes_got, length-listing, listing_within}
 use Rattle.vfs_listings.specs.Reading.{AddsGot, Puts, LooksUpName, LooksUp, GivesBack, AddsLine, ReadsItems}
 use Rattle.vfs_listings.specs.ReadingLaws.{puts_nothing}
@@ -53,7 +53,7 @@ module _ {S I : Type 0} (allows : S → Call → Handed I → S → Type 0)
       (ran_lookups plus (is_dot i.name) parent i (Some after) old got new looked)
 
   ran_node : (got : Got) (it : Option I) (old new : S) → GivesBack allows ctx Full got old new
-      → Ran allows gives it old (given_back ctx got) new it
+      → Ran allows gives it old (given_back ctx (node_got got)) new it
   ran_node (Ok (Some entry)) it old new h = ran_call allows gives it old (Forget ctx entry.inode 1)
       Done new h
   ran_node (Ok None) it old new h = ran_still it old new h
@@ -62,7 +62,7 @@ module _ {S I : Type 0} (allows : S → Call → Handed I → S → Type 0)
   -- the events of an entry that was not written
   pub ran_back : (v : Verdict) (got : Got) (it : Option I) (old new : S)
       → GivesBack allows ctx v got old new → v ≢ Fits
-      → Ran allows gives it old (given_back ctx got) new it
+      → Ran allows gives it old (given_back ctx (node_got got)) new it
   ran_back Fits got it old new h wrong = absurd (wrong refl)
   ran_back Full got it old new h wrong = ran_node got it old new h
   ran_back (Fails fault) got it old new h wrong = ran_node got it old new h

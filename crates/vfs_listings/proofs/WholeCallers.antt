@@ -16,7 +16,7 @@ use Rattle.vfs_files.specs.Runs.{Event, Called, Taken, events_of}
 use Rattle.vfs_files.specs.declared.entry.Context.{Context}
 use Rattle.vfs_files.specs.declared.entry.Entry.{Entry}
 use Rattle.vfs_listings.specs.Laws.{GoesOn, EndsWhole, EndsFull, IsWhole}
-use Rattle.vfs_listings.specs.Listing.{Got, Line, Stop, End, At, Gets, IsGot, IsDotEntry, is_dot, dot_out, lookups, lookup_of, line_events, stop_events, given_back, line_bytes, line_len, bytes_got, len_of, judged, fate, told, answer_at, answer_of, AreWritten, Stops, IsListing, IsDirectory, cut_by, cut_of}
+use Rattle.vfs_listings.specs.Listing.{Got, Line, Stop, End, At, Gets, IsGot, IsDotEntry, is_dot, dot_out, lookups, lookup_of, line_events, stop_events, given_back, node_got, line_bytes, line_len, bytes_got, len_of, judged, fate, told, answer_at, answer_of, AreWritten, Stops, IsListing, IsDirectory, cut_by, cut_of}
 use Rattle.vfs_listings.specs.ListingLaws.{fits_within}
 use Rattle.vfs_listings.specs.Reading.{ReadsItems}
 use Rattle.vfs_listings.specs.RecordLaws.{length-record_bytes}
@@ -52,7 +52,7 @@ module _ (ctx : Context) (parent : ℕ) (i : Item) where
   not_full : (lines : List Line) (last : Line) → IsGot false last
       → Taken (Some i) ∷ Taken None ∷ [] ≡ flat_map (line_events ctx parent false) lines ++ stop_events ctx parent false (At last)
       → ⊥
-  not_full [] last got e = let back = ap (given_back ctx) got in cc
+  not_full [] last got e = let back = ap (λ (g : Got). given_back ctx (node_got g)) got in cc
   not_full (l ∷ []) last got e = cc
   not_full (l ∷ k ∷ ls) last got e = cc
 
@@ -139,7 +139,7 @@ module _ (ctx : Context) (parent : ℕ) where
       )
 
   -- nothing is taken by what is given back
-  back_takes_none : (got : Got) (item : Option Item) (rest : List Event) → Taken item ∷ rest ≡ given_back ctx got → ⊥
+  back_takes_none : (got : Got) (item : Option Item) (rest : List Event) → Taken item ∷ rest ≡ given_back ctx (node_got got) → ⊥
   back_takes_none (Ok (Some entry)) item rest e = cc
   back_takes_none (Ok None) item rest e = cc
   back_takes_none (Err fault) item rest e = cc
@@ -163,8 +163,8 @@ module _ (ctx : Context) (parent : ℕ) where
         → flat_map line_bytes ls ≡ record_bytes (Some entry) file_a
     behind_dot [] End all got e = cc
     behind_dot [] (At last) all got e =
-        let a = a_then last _ (given_back ctx last.got) got e in
-        let f = found_by last.got entry _ (given_back ctx last.got) a.1 a.2 in
+        let a = a_then last _ (given_back ctx (node_got last.got)) got e in
+        let f = found_by last.got entry _ (given_back ctx (node_got last.got)) a.1 a.2 in
         absurd (back_takes_none last.got None [] f.1)
     behind_dot (k ∷ ks) s all got e =
         let here = All-head (IsGot true) k ks all in
@@ -182,7 +182,7 @@ module _ (ctx : Context) (parent : ℕ) where
         → flat_map line_bytes ls ≡ (entry_of_dot ++ record_of_dot) ++ record_bytes (Some entry) file_a
     both_lines [] End all got e = cc
     both_lines [] (At last) all got e =
-        absurd (back_takes_none last.got _ _ (dot_then last _ (given_back ctx last.got) e).1)
+        absurd (back_takes_none last.got _ _ (dot_then last _ (given_back ctx (node_got last.got)) e).1)
     both_lines (l ∷ ls) s all got e =
         let here = All-head (IsGot true) l ls all in
         let d = dot_then l _ (flat_map (line_events ctx parent true) ls ++ stop_events ctx parent true s)
@@ -239,11 +239,11 @@ module _ (ctx : Context) (parent n : ℕ) where
 
   -- what is given back of `.` is node 0
   back_of_dot : (last : Line) → last.item ≡ root_dot → IsGot true last
-      → Called (Forget ctx n 1) Done ∷ [] ≡ given_back ctx last.got → (n ≡ 0) × (line_len last ≡ 160)
+      → Called (Forget ctx n 1) Done ∷ [] ≡ given_back ctx (node_got last.got) → (n ≡ 0) × (line_len last ≡ 160)
   back_of_dot last item got e =
       let d = dot_entry last.got (dot_got ctx parent last item got) in
       let zero : d.0.inode ≡ 0 = ap (λ (o : EntryOut). o.nodeid) d.2 in
-      let back = ap (given_back ctx) d.1 in
+      let back = ap (λ (g : Got). given_back ctx (node_got g)) d.1 in
       let same : n ≡ d.0.inode = cc in
       (same ∙ zero, ap (λ (g : Got). len_of g last.item) d.1 ∙ ap (record_len (Some d.0)) item)
 
@@ -258,7 +258,7 @@ module _ (ctx : Context) (parent n : ℕ) where
       let none = no_lines lines (At full.last) full.events_are in
       let e = full.events_are
       ∙ ap (λ (ls : List Line). flat_map (line_events ctx parent true) ls ++ stop_events ctx parent true (At full.last)) none in
-      let d = dot_then ctx parent full.last _ (given_back ctx full.last.got) e in
+      let d = dot_then ctx parent full.last _ (given_back ctx (node_got full.last.got)) e in
       let b = back_of_dot full.last d.0 full.got d.1 in
       let empty : body ≡ [] = is ∙ ap (λ (ls : List Line). flat_map line_bytes ls) none in
       (b.0, empty, omega (arith, full.passes, ap length empty, b.1))
@@ -304,8 +304,8 @@ module _ (ctx : Context) (parent size room : ℕ) where
       → (flat_map line_bytes lines ≡ []) × (answer_of true size room (sum_by line_len lines) s ≡ Err (Some 2))
   first_by [] End w stops e = cc
   first_by [] (At last) w stops e =
-      let a = a_then ctx parent last _ (given_back ctx last.got) stops.0 e in
-      let f = failed_by ctx parent last.got (Some 2) [] (given_back ctx last.got) a.1 a.2 in
+      let a = a_then ctx parent last _ (given_back ctx (node_got last.got)) stops.0 e in
+      let f = failed_by ctx parent last.got (Some 2) [] (given_back ctx (node_got last.got)) a.1 a.2 in
       (refl, answered_by 0 last (Some 2) f)
   first_by (l ∷ ls) s w stops e =
       let tail = flat_map (line_events ctx parent true) ls ++ stop_events ctx parent true s in

@@ -93,10 +93,10 @@ FitsGot (Err fault) = Unit {0}
 
 -- ---- events
 
--- an entry that was not written is given back
-abbrev pub given_back : Context → Got → List Event
-given_back ctx (Ok (Some entry)) = Called (Forget ctx entry.inode 1) Done ∷ []
-given_back ctx _ = []
+-- one lookup of a node is given back, where there is a node
+abbrev pub given_back : Context → Option ℕ → List Event
+given_back ctx None = []
+given_back ctx (Some node) = Called (Forget ctx node 1) Done ∷ []
 
 module _ (ctx : Context) (parent : ℕ) where
   -- the lookup that gave this
@@ -115,10 +115,10 @@ module _ (ctx : Context) (parent : ℕ) where
   abbrev pub line_events : (plus : Bool) → Line → List Event
   line_events plus l = Taken (Some l.item) ∷ lookups plus (is_dot l.item.name) l
 
-  -- the events of a stop
+  -- the events of a stop: an entry that was not written is given back
   abbrev pub stop_events : (plus : Bool) → Stop → List Event
   stop_events plus End = Taken None ∷ []
-  stop_events plus (At l) = line_events plus l ++ given_back ctx l.got
+  stop_events plus (At l) = line_events plus l ++ given_back ctx (node_got l.got)
 
 -- ---- records
 

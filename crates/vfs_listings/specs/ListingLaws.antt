@@ -14,7 +14,7 @@ use Rattle.vfs_files.specs.declared.entry.Entry.{Entry}
 use Rattle.vfs_listings.specs.Laws.{takings, least_record, GoesOn, IsWhole}
 use Rattle.vfs_listings.specs.Records.{Verdict, Fits, Full, Fails, verdict, record_len}
 use Rattle.vfs_listings.specs.RecordLaws.{length-record_bytes}
-use Rattle.vfs_listings.specs.Listing.{Got, Line, Stop, End, At, Gets, is_dot, lookup_of, lookups, line_events, given_back, stop_events, Stops, judged, fate, len_of, bytes_got, line_len, line_bytes, AreWritten, answer_at, answer_of, IsListing, IsGot}
+use Rattle.vfs_listings.specs.Listing.{Got, Line, Stop, End, At, Gets, is_dot, lookup_of, lookups, line_events, given_back, node_got, stop_events, Stops, judged, fate, len_of, bytes_got, line_len, line_bytes, AreWritten, answer_at, answer_of, IsListing, IsGot}
 
 -- ---- one record
 
@@ -166,7 +166,7 @@ takings-lines plus ctx parent (l ∷ ls) =
     (takings-line plus ctx parent l)
     ∙ ap (λ t. Some l.item ∷ t) (takings-lines plus ctx parent ls)
 
-takings-back : (ctx : Context) (got : Got) → takings (given_back ctx got) ≡ []
+takings-back : (ctx : Context) (got : Got) → takings (given_back ctx (node_got got)) ≡ []
 takings-back ctx (Ok (Some e)) = refl
 takings-back ctx (Ok None) = refl
 takings-back ctx (Err fault) = refl
@@ -180,8 +180,8 @@ takings-stop : (plus : Bool) (ctx : Context) (parent : ℕ) (stop : Stop)
     → takings (stop_events ctx parent plus stop) ≡ last_of stop ∷ []
 takings-stop plus ctx parent End = refl
 takings-stop plus ctx parent (At l) =
-    takings-append (line_events ctx parent plus l) (given_back ctx l.got)
-    ∙ ap (λ t. t ++ takings (given_back ctx l.got)) (takings-line plus ctx parent l)
+    takings-append (line_events ctx parent plus l) (given_back ctx (node_got l.got))
+    ∙ ap (λ t. t ++ takings (given_back ctx (node_got l.got))) (takings-line plus ctx parent l)
     ∙ ap (λ t. Some l.item ∷ t) (takings-back ctx l.got)
 
 bound_by : (plus : Bool) (size n total : ℕ) → least_record plus * n ≤ total → total ≤ size

@@ -11,5 +11,5 @@ mod listing;
 mod record;
 pub mod uses;
 
-pub use listing::read_directory;
+pub use listing::{give_back, read_directory};
 pub use record::add_dirent;

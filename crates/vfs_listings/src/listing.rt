@@ -41,8 +41,9 @@ fn dot_entry(dir_entry: DirEntry<'_>) -> Entry
     }
 }
 
-/// Gives back one lookup of a node.
-fn give_back<F: FileSystem>(fs: &mut F, header: &InHeader, node: u64)
+/// Gives back one lookup of a node, for the caller that the header names: the file system's `forget`
+/// is called. Node 0 isn't kept from it.
+pub fn give_back<F: FileSystem>(fs: &mut F, header: &InHeader, node: u64)
     ensures { GivesBackNode F.allows (context_of header.now) (Some node) fs.old fs.new }
 {
     fs.forget(Context::from(*header), F::Inode::from_number(node), 1)
