@@ -1,5 +1,5 @@
 -- The books held against turns written out: each sum, computed.
-use Rattle.std.proofs.Common.{◌-◌, length, take, ◌≡◌, ◌+◌, ◌/◌, ◌%◌, ℕ, List, [], ◌∷◌, ◌++◌, replicate, false, Some, None, Result, Ok, Err, sum_by, refl, pos}
+use Rattle.std.proofs.Common.{◌-◌, length, take, ◌≡◌, ◌+◌, ◌/◌, ◌%◌, ℕ, List, [], ◌∷◌, ◌++◌, replicate, false, Option, Some, None, Result, Ok, Err, sum_by, refl, pos}
 use Rattle.vfs_flags.specs.Opcode.{opcode_of}
 use Rattle.vfs_wire.specs.Fields.{number, value_of}
 use Rattle.vfs_wire.specs.Attributes.{attr}
@@ -10,10 +10,11 @@ use Rattle.vfs_files.specs.Calls.{Found, Created, Done, Text}
 use Rattle.vfs_files.specs.Calls as call
 use Rattle.vfs_files.specs.Items.{Item}
 use Rattle.vfs_files.specs.Runs.{Event, Called, Opened, Taken}
+use Rattle.vfs_listings.specs.Listing.{given_back}
 use Rattle.vfs_messages.specs.Turn.{Turn}
 use Rattle.vfs_messages.specs.declared.error.Error.{Error}
 use Rattle.vfs_messages.specs.declared.error.Error.TheVariants.{DecodeMessage, EncodeMessage}
-use Rattle.vfs_books.specs.Books.{answered, sent, delivered, lost, accepted}
+use Rattle.vfs_books.specs.Books.{answered, sent, delivered, accepted}
 use Rattle.vfs_books.specs.Turns.{events_in}
 
 -- four bytes of a number, the lowest first
@@ -51,20 +52,20 @@ node n = record {
 abbrev reply_of_node : (n len behind : ℕ) → List ℕ
 reply_of_node n len behind = (((four len ++ zeros 4) ++ eight 9) ++ eight n) ++ zeros behind
 
--- ---- LOOKUP of `a` in node 1, answered by node n
+-- ---- LOOKUP of `a` in node 1, answered by node n, and a node that is given back
 
-abbrev lookup : (n room : ℕ) → Result ℕ Error → (room_after : List ℕ) → Turn
-lookup n room outcome room_after = record {
+abbrev lookup : (n room : ℕ) → Option ℕ → Result ℕ Error → (room_after : List ℕ) → Turn
+lookup n room back outcome room_after = record {
   request = header 42 1 9 1 ++ (0x61 ∷ 0 ∷ []);
   room = zeros room;
-  events = Called (call.Lookup nobody 1 (0x61 ∷ [])) (Found (node n)) ∷ [];
+  events = Called (call.Lookup nobody 1 (0x61 ∷ [])) (Found (node n)) ∷ given_back nobody back;
   outcome = outcome;
   room_after = room_after;
 }
 
 -- with a room of 146 bytes, of which two stay
 abbrev whole : Turn
-whole = lookup 5 146 (Ok 144) (reply_of_node 5 144 120 ++ (0xaa ∷ 0xaa ∷ []))
+whole = lookup 5 146 None (Ok 144) (reply_of_node 5 144 120 ++ (0xaa ∷ 0xaa ∷ []))
 
 whole_is_answered : answered 5 whole.events ≡ 1
 whole_is_answered = refl
@@ -77,8 +78,8 @@ another_is_not_delivered : delivered 6 whole ≡ 0
 unfolding number opcode_of
 another_is_not_delivered = refl
 
-whole_is_not_lost : lost 5 whole ≡ 0
-whole_is_not_lost = refl
+whole_is_not_given_back : sent 5 whole.events ≡ 0
+whole_is_not_given_back = refl
 
 whole_accepts_nothing : accepted 5 whole ≡ 0
 unfolding number opcode_of
@@ -86,39 +87,39 @@ whole_accepts_nothing = refl
 
 -- with a room of 20 bytes
 abbrev cut_short : Turn
-cut_short = lookup 5 20 (Err EncodeMessage) (((four 144 ++ zeros 4) ++ eight 9) ++ four 5)
+cut_short = lookup 5 20 (Some 5) (Err EncodeMessage) (((four 144 ++ zeros 4) ++ eight 9) ++ four 5)
 
-cut_short_is_lost : lost 5 cut_short ≡ 1
-cut_short_is_lost = refl
+cut_short_is_given_back : sent 5 cut_short.events ≡ answered 5 cut_short.events
+cut_short_is_given_back = refl
 
 cut_short_is_not_delivered : delivered 5 cut_short ≡ 0
 cut_short_is_not_delivered = refl
 
 -- whatever stands behind the header of a fault is no node: -2 in four bytes is fe ff ff ff
-fault_delivers_nothing : delivered 5 (lookup 5 24 (Ok 24) (((four 24 ++ (0xfe ∷ 0xff ∷ 0xff ∷ 0xff ∷ [])) ++ eight 9) ++ eight 5)) ≡ 0
+fault_delivers_nothing : delivered 5 (lookup 5 24 None (Ok 24) (((four 24 ++ (0xfe ∷ 0xff ∷ 0xff ∷ 0xff ∷ [])) ++ eight 9) ++ eight 5)) ≡ 0
 unfolding number opcode_of
 fault_delivers_nothing = refl
 
 -- ---- CREATE of `c` in node 1, answered by node 3 and no handle
 
-abbrev create : (room : ℕ) → Result ℕ Error → (room_after : List ℕ) → Turn
-create room outcome room_after = record {
+abbrev create : (room : ℕ) → Option ℕ → Result ℕ Error → (room_after : List ℕ) → Turn
+create room back outcome room_after = record {
   request = header 58 35 9 1 ++ (zeros 16 ++ (0x63 ∷ 0 ∷ []));
   room = zeros room;
-  events = Called (call.Create nobody 1 (0x63 ∷ []) 0 false 0 0 no_extensions) (Created (node 3) None 0) ∷ [];
+  events = Called (call.Create nobody 1 (0x63 ∷ []) 0 false 0 0 no_extensions) (Created (node 3) None 0) ∷ given_back nobody back;
   outcome = outcome;
   room_after = room_after;
 }
 
-create_is_answered : answered 3 (create 160 (Ok 160) (reply_of_node 3 160 136)).events ≡ 1
+create_is_answered : answered 3 (create 160 None (Ok 160) (reply_of_node 3 160 136)).events ≡ 1
 create_is_answered = refl
 
-create_is_delivered : delivered 3 (create 160 (Ok 160) (reply_of_node 3 160 136)) ≡ 1
+create_is_delivered : delivered 3 (create 160 None (Ok 160) (reply_of_node 3 160 136)) ≡ 1
 unfolding number opcode_of
 create_is_delivered = refl
 
-create_is_lost : lost 3 (create 0 (Err EncodeMessage) []) ≡ 1
-create_is_lost = refl
+create_is_given_back : sent 3 (create 0 (Some 3) (Err EncodeMessage) []).events ≡ 1
+create_is_given_back = refl
 
 -- ---- READLINK, whose text begins as an entry of node 5 does
 
@@ -234,8 +235,8 @@ listed =
 
 abbrev session : List Turn
 session =
-    lookup 2 144 (Ok 144) (reply_of_node 2 144 120)
-    ∷ lookup 2 100 (Err EncodeMessage) (take 100 (reply_of_node 2 144 120))
+    lookup 2 144 None (Ok 144) (reply_of_node 2 144 120)
+    ∷ lookup 2 100 (Some 2) (Err EncodeMessage) (take 100 (reply_of_node 2 144 120))
     ∷ forget 2 1 ∷ listed
     ∷ record {
       request = header 64 42 9 0 ++ ((four 2 ++ zeros 4) ++ (eight 2 ++ eight 1));
@@ -256,8 +257,5 @@ session_delivers : sum_by (delivered 2) session ≡ 1
 unfolding number opcode_of
 session_delivers = refl
 
-session_loses : sum_by (lost 2) session ≡ 1
-session_loses = refl
-
-session_sends : sent 2 (events_in session) ≡ 2
+session_sends : sent 2 (events_in session) ≡ 3
 session_sends = refl

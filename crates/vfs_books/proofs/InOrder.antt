@@ -7,7 +7,7 @@ use Rattle.std.proofs.lemmas.List.Sums.{sum_by-cons, sum_by-take-le}
 use Rattle.vfs_files.specs.Runs.{Event}
 use Rattle.vfs_messages.specs.Turn.{Turn}
 use Rattle.vfs_messages.specs.declared.limits.Limits.{Limits}
-use Rattle.vfs_books.specs.Books.{sent_by, answered, sent, delivered, lost, accepted}
+use Rattle.vfs_books.specs.Books.{sent_by, answered, sent, delivered, accepted}
 use Rattle.vfs_books.specs.Laws.{AreBalanced, GivesBackWithin, NeverBelow, KeepsBooks}
 use Rattle.vfs_books.specs.Turns.{AreTurns, events_in}
 use Rattle.vfs_books.proofs.OneTurn.{turn_books, turn_last}
@@ -45,13 +45,12 @@ module _ (n : ℕ) (some : n ≢ 0) (limits : Limits) where
       let s = sent-append n t.events (events_in ts) in
       let g = sum_by-cons (accepted n) t ts in
       let d = sum_by-cons (delivered n) t ts in
-      let l = sum_by-cons (lost n) t ts in
-      omega (arith, one, rest, a, s, g, d, l)
+      omega (arith, one, rest, a, s, g, d)
 
-  -- where before these turns so much was answered (a), accepted (g), delivered or lost (d) and sent (s)
+  -- where before these turns so much was answered (a), accepted (g), delivered (d) and sent (s)
   below_from : (options : ℕ) (turns : List Turn) (after : ℕ) → AreTurns limits options turns after
       → (a g d s : ℕ) → a + g ≡ d + s
-      → ((k : ℕ) → g + sum_by (accepted n) (take k turns) ≤ d + (sum_by (delivered n) (take k turns) + sum_by (lost n) (take k turns)))
+      → ((k : ℕ) → g + sum_by (accepted n) (take k turns) ≤ d + sum_by (delivered n) (take k turns))
       → (k : ℕ) → s + sent n (take k (events_in turns)) ≤ a + answered n (take k (events_in turns))
   below_from options [] after are a g d s e within k =
       let w = within 0 in
@@ -68,13 +67,12 @@ module _ (n : ℕ) (some : n ≢ 0) (limits : Limits) where
             let m = k - length t.events in
             let one = turn_books n limits options t are.0 some are.1 in
             let more = below_from are.0 ts after are.2
-            (a + answered n t.events) (g + accepted n t) (d + (delivered n t + lost n t)) (s + sent n t.events) (omega (arith, one, e))
+            (a + answered n t.events) (g + accepted n t) (d + delivered n t) (s + sent n t.events) (omega (arith, one, e))
             (λ j.
             let w = within (suc j) in
             let g' = sum_by-cons (accepted n) t (take j ts) in
             let d' = sum_by-cons (delivered n) t (take j ts) in
-            let l' = sum_by-cons (lost n) t (take j ts) in
-            omega (arith, w, g', d', l'))
+            omega (arith, w, g', d'))
             m in
             let parts = take-append-ge k t.events (events_in ts) past in
             let x = answered-append n t.events (take m (events_in ts)) in

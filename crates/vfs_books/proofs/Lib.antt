@@ -4,6 +4,7 @@ mod Saying
 mod Table
 mod Replying
 mod Listings
+mod Backs
 mod OneTurn
 mod InOrder
 mod SmallCallers

@@ -31,7 +31,7 @@ abbrev node_of_got : Got → ℕ
 node_of_got got = unwrap_or (node_got got) 0
 
 -- node 0 is none of those of which books are kept
-no_node : (n node : ℕ) → n ≢ 0 → node ≡ 0 → times n (node ∷ []) ≡ 0
+pub no_node : (n node : ℕ) → n ≢ 0 → node ≡ 0 → times n (node ∷ []) ≡ 0
 no_node n node some e =
     let other : nat_eq node n ≡ false = grind (arith, nat_tests) in
     rw other refl
@@ -87,12 +87,12 @@ module _ (ctx : Context) (parent n : ℕ) (some : n ≢ 0) where
       let d = sum_by-cons (λ (k : ℕ). cond (k == n) 1 0) (node_of_line l) (map node_of_line ls) in
       omega (arith, a, b, c, d)
 
-  back_sent : (got : Got) → sent n (given_back ctx got) ≡ times n (node_of_got got ∷ [])
+  back_sent : (got : Got) → sent n (given_back ctx (node_got got)) ≡ times n (node_of_got got ∷ [])
   back_sent (Ok (Some entry)) = zero-add _
   back_sent (Ok None) = sym (no_node n 0 some refl)
   back_sent (Err fault) = sym (no_node n 0 some refl)
 
-  back_answered : (got : Got) → answered n (given_back ctx got) ≡ 0
+  back_answered : (got : Got) → answered n (given_back ctx (node_got got)) ≡ 0
   back_answered (Ok (Some entry)) = refl
   back_answered (Ok None) = refl
   back_answered (Err fault) = refl
@@ -102,8 +102,8 @@ module _ (ctx : Context) (parent n : ℕ) (some : n ≢ 0) where
       → answered n (stop_events ctx parent plus s) ≡ sent n (stop_events ctx parent plus s)
   stop_balances plus size room written End h = refl
   stop_balances plus size room written (At l) h =
-      let a = answered-append n (line_events ctx parent plus l) (given_back ctx l.got) in
-      let s = sent-append n (line_events ctx parent plus l) (given_back ctx l.got) in
+      let a = answered-append n (line_events ctx parent plus l) (given_back ctx (node_got l.got)) in
+      let s = sent-append n (line_events ctx parent plus l) (given_back ctx (node_got l.got)) in
       let b = line_answered plus l h.0 in
       let c = line_sent plus l in
       let d = back_sent l.got in
@@ -140,7 +140,7 @@ module _ (ctx : Context) (parent n : ℕ) (some : n ≢ 0) where
         let e = lines_delivered plus h in
         omega (arith, a, s, b, c, d, e)
 
-  back_short : (got : Got) → length (given_back ctx got) ≤ 1
+  back_short : (got : Got) → length (given_back ctx (node_got got)) ≤ 1
   back_short (Ok (Some entry)) = omega arith
   back_short (Ok None) = omega arith
   back_short (Err fault) = omega arith
@@ -158,8 +158,8 @@ module _ (ctx : Context) (parent n : ℕ) (some : n ≢ 0) where
       let b = line_sent plus l in
       record {
         front = front ++ line_events ctx parent plus l;
-        last = given_back ctx l.got;
-        are = sym (append_assoc front (line_events ctx parent plus l) (given_back ctx l.got));
+        last = given_back ctx (node_got l.got);
+        are = sym (append_assoc front (line_events ctx parent plus l) (given_back ctx (node_got l.got)));
         none = omega (arith, a, b, h);
         short = back_short l.got;
       }

@@ -7,7 +7,7 @@ use Rattle.vfs_messages.specs.Room.{IsPut}
 use Rattle.vfs_messages.specs.Turn.{Turn}
 use Rattle.vfs_messages.specs.declared.error.Error.{Error}
 use Rattle.vfs_messages.specs.declared.error.Error.TheVariants.{EncodeMessage}
-use Rattle.vfs_books.specs.Books.{times, counts, opcode_in, forgets_in, delivered_nodes, answered, sent, delivered_by, delivered, lost_by, lost, accepted_by, accepted}
+use Rattle.vfs_books.specs.Books.{times, counts, opcode_in, forgets_in, delivered_nodes, answered, sent, delivered_by, delivered, accepted_by, accepted}
 
 -- ---- what came back
 
@@ -26,15 +26,11 @@ put_by false reply room outcome room_after e f = inr e
 pub put_back : (reply room : List ℕ) (outcome : Result ℕ Error) (room_after : List ℕ) → IsPut reply room outcome room_after → ComesBack reply outcome room_after
 put_back reply room outcome room_after p = put_by (nat_le (length reply) (length room)) reply room outcome room_after p.says p.leaves
 
-lost_none : (n : ℕ) (e : Error) → lost_by n [] (Err e) ≡ 0
-lost_none n EncodeMessage = refl
-lost_none n _ = refl
-
 -- ---- the books
 
 -- the books of a node balance over one turn
 abbrev pub Balances : (n : ℕ) → Turn → Type 0
-Balances n t = answered n t.events + accepted n t ≡ delivered n t + lost n t + sent n t.events
+Balances n t = answered n t.events + accepted n t ≡ delivered n t + sent n t.events
 
 module _ (n : ℕ) (t : Turn) where
   -- a whole reply: what was answered is what its bytes hold, and what was sent
@@ -44,28 +40,32 @@ module _ (n : ℕ) (t : Turn) where
       let some : nat_eq (length reply) 0 ≡ false = grind (arith, nat_tests) in
       let d : delivered n t ≡ times n (delivered_nodes (opcode_in t.request) reply) =
       ap (λ r. delivered_by n (opcode_in t.request) r t.room_after) o ∙ rw (some, whole) refl in
-      let l : lost n t ≡ 0 = ap (λ r. lost_by n t.events r) o in
       let a : accepted n t ≡ 0 = ap (λ r. accepted_by n t.request r) o ∙ rw some refl in
-      omega (arith, d, l, a, e)
+      omega (arith, d, a, e)
 
-  -- a reply that came back, whole or not, to a request that sent nothing
+  -- nothing was sent where the reply came back whole, and where it didn't fit what was answered
+  pub record SendsBack : Type 0 where
+    pub whole : (m : ℕ) → t.outcome ≡ Ok m → sent n t.events ≡ 0
+    pub unfit : t.outcome ≡ Err EncodeMessage → sent n t.events ≡ answered n t.events
+
+  -- a reply that came back, whole or not
   pub reply_books : (reply : List ℕ) → ComesBack reply t.outcome t.room_after → 0 < length reply
-      → answered n t.events ≡ times n (delivered_nodes (opcode_in t.request) reply) → sent n t.events ≡ 0 → Balances n t
-  reply_books reply (inl back) long e s = whole_books reply back.0 back.1 long (omega (arith, e, s))
+      → answered n t.events ≡ times n (delivered_nodes (opcode_in t.request) reply) → SendsBack → Balances n t
+  reply_books reply (inl back) long e s =
+      let none = s.whole (length reply) back.0 in whole_books reply back.0 back.1 long (omega (arith, e, none))
   reply_books reply (inr full) long e s =
       let d : delivered n t ≡ 0 = ap (λ r. delivered_by n (opcode_in t.request) r t.room_after) full in
-      let l : lost n t ≡ answered n t.events = ap (λ r. lost_by n t.events r) full in
       let a : accepted n t ≡ 0 = ap (λ r. accepted_by n t.request r) full in
-      omega (arith, d, l, a, s)
+      let all = s.unfit full in
+      omega (arith, d, a, all)
 
   -- a request that is done without a reply: what was sent is what its bytes give back
   pub done_books : t.outcome ≡ Ok 0 → answered n t.events ≡ 0
       → sent n t.events ≡ counts n (forgets_in (opcode_in t.request) t.request) → Balances n t
   done_books o e s =
       let d : delivered n t ≡ 0 = ap (λ r. delivered_by n (opcode_in t.request) r t.room_after) o in
-      let l : lost n t ≡ 0 = ap (λ r. lost_by n t.events r) o in
       let a : accepted n t ≡ counts n (forgets_in (opcode_in t.request) t.request) = ap (λ r. accepted_by n t.request r) o in
-      omega (arith, d, l, a, e, s)
+      omega (arith, d, a, e, s)
 
   -- a request that is refused without a call
   pub refused_books : (e : Error) → t.events ≡ [] → t.outcome ≡ Err e → Balances n t
@@ -73,9 +73,8 @@ module _ (n : ℕ) (t : Turn) where
       let f : answered n t.events ≡ 0 = ap (answered n) none in
       let s : sent n t.events ≡ 0 = ap (sent n) none in
       let d : delivered n t ≡ 0 = ap (λ r. delivered_by n (opcode_in t.request) r t.room_after) o in
-      let l : lost n t ≡ 0 = ap (λ r. lost_by n t.events r) o ∙ ap (λ es. lost_by n es (Err e)) none ∙ lost_none n e in
       let a : accepted n t ≡ 0 = ap (λ r. accepted_by n t.request r) o in
-      omega (arith, f, s, d, l, a)
+      omega (arith, f, s, d, a)
 
 -- ---- in the middle of a request
 

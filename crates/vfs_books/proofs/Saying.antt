@@ -127,7 +127,8 @@ ForgetsFit forgets Unsaid = Unit {0}
 ForgetsFit forgets Wrong = Unit {0}
 ForgetsFit forgets _ = forgets ≡ []
 
-AreForgets : Kind → List (ℕ × ℕ) → Type 0
+-- a call of this kind gives back these: nothing, but where nothing is said of its answer
+abbrev pub AreForgets : Kind → List (ℕ × ℕ) → Type 0
 AreForgets Quiet forgets = Unit {0}
 AreForgets _ forgets = forgets ≡ []
 
@@ -143,12 +144,10 @@ quiet_fits forgets _ = tt
 
 forgets_by_kind : (limits : Limits) (echo : Echo) (options : ℕ) (kind : Kind) (answer : Answer) (forgets : List (ℕ × ℕ)) → AreForgets kind forgets
     → ForgetsFit forgets (say limits echo options kind answer)
-unfolding AreForgets
 forgets_by_kind limits echo options Quiet answer forgets are = quiet_fits forgets answer
 forgets_by_kind limits echo options kind answer forgets are = none_fit forgets (say limits echo options kind answer) are
 
-are_forgets : (call : Call) → AreForgets (kind_of call) (forgets_of call)
-unfolding AreForgets
+pub are_forgets : (call : Call) → AreForgets (kind_of call) (forgets_of call)
 are_forgets (Forget _ _ _) = tt
 are_forgets (BatchForget _ _) = tt
 are_forgets Destroy = tt

@@ -11,18 +11,15 @@ use Rattle.vfs_files.specs.declared.entry.Entry.{Entry}
 use Rattle.vfs_listings.specs.Nodes.{u64_at}
 use Rattle.vfs_messages.specs.Turn.{Turn}
 use Rattle.vfs_messages.specs.declared.error.Error.{Error}
-use Rattle.vfs_books.specs.Books.{times, opcode_in, nodes_behind, delivered, delivered_by, lost, lost_by, accepted, accepted_by, answered, sent}
+use Rattle.vfs_books.specs.Books.{times, opcode_in, nodes_behind, delivered, delivered_by, accepted, accepted_by, answered, sent}
 use Rattle.vfs_books.specs.Laws.{GivesBackWithin}
 use Rattle.vfs_books.specs.Uses.{reply_of_node_5, batch_of_two}
 
 -- the books of a node balance over one turn
 abbrev Balances : (n : ℕ) → Turn → Type 0
-Balances n t = answered n t.events + accepted n t ≡ delivered n t + lost n t + sent n t.events
+Balances n t = answered n t.events + accepted n t ≡ delivered n t + sent n t.events
 
--- a whole reply loses nothing and accepts nothing
-lost_of_whole : (n : ℕ) (t : Turn) → t.outcome ≡ Ok 144 → lost n t ≡ 0
-lost_of_whole n t whole = ap (λ (r : Result ℕ Error). lost_by n t.events r) whole
-
+-- a whole reply accepts nothing
 accepted_of_whole : (n : ℕ) (t : Turn) → t.outcome ≡ Ok 144 → accepted n t ≡ 0
 accepted_of_whole n t whole = ap (λ (r : Result ℕ Error). accepted_by n t.request r) whole
 
@@ -33,9 +30,8 @@ pub delivers_once : (t : Turn) (call : Call) (entry : Entry) → Balances 5 t
 delivers_once t call entry books called counted none five whole =
     let a : answered 5 t.events ≡ 1 = ap (answered 5) called ∙ counted ∙ ap (λ (k : ℕ). times 5 (k ∷ [])) five in
     let s : sent 5 t.events ≡ 0 = ap (sent 5) called ∙ none in
-    let l = lost_of_whole 5 t whole in
     let g = accepted_of_whole 5 t whole in
-    omega (arith, books, a, s, l, g)
+    omega (arith, books, a, s, g)
 
 -- what a reply with an entry of node 5 delivers, by the opcode of its request
 reply_delivers : (opcode : Option Opcode) (behind : List ℕ)
@@ -54,9 +50,8 @@ reply_was_answered t opcode behind books asked has whole room =
     ∙ ap (λ (r : Result ℕ Error). delivered_by 5 (Some opcode) r t.room_after) whole
     ∙ ap (λ (bytes : List ℕ). delivered_by 5 (Some opcode) (Ok 144) bytes) room
     ∙ reply_delivers (Some opcode) behind has in
-    let l = lost_of_whole 5 t whole in
     let g = accepted_of_whole 5 t whole in
-    omega (arith, books, d, l, g)
+    omega (arith, books, d, g)
 
 -- ---- a batch
 
@@ -79,8 +74,7 @@ pub sends_what_they_say : (t : Turn) → Balances 7 t → t.request ≡ batch_of
 sends_what_they_say t books asked done =
     let g = accepts_by 7 3 t batch_accepts_7 asked done in
     let d : delivered 7 t ≡ 0 = ap (λ (r : Result ℕ Error). delivered_by 7 (opcode_in t.request) r t.room_after) done in
-    let l : lost 7 t ≡ 0 = ap (λ (r : Result ℕ Error). lost_by 7 t.events r) done in
-    omega (arith, books, g, d, l)
+    omega (arith, books, g, d)
 
 -- a client that was delivered node 5 once may give it back once
 pub gives_back : (looked gave : Turn) → delivered 5 looked ≡ 1 → looked.outcome ≡ Ok 144

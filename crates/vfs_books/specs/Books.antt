@@ -1,6 +1,6 @@
 -- The books of lookups and forgets. A file system counts how often it answered an entry of a node,
--- and a client gives these counts back by forgets. Five sums are kept of a node: two of the events
--- that happened, two of the bytes that came and went, and one of answers whose reply didn't fit.
+-- and a client gives these counts back by forgets. Four sums are kept of a node: two of the events
+-- that happened, and two of the bytes that came and went.
 use Rattle.std.specs.Prelude.{ℕ, zero, suc, ◌==◌, if◌then◌else◌, List, [], ◌∷◌, take, drop, sum_by, count_by, Option, Some, Result, Ok, Err}
 use Rattle.vfs_flags.specs.Opcode.{opcode_of}
 use Rattle.vfs_flags.specs.declared.opcode.Opcode.{Opcode}
@@ -10,7 +10,6 @@ use Rattle.vfs_files.specs.Runs.{Event, Called}
 use Rattle.vfs_listings.specs.Nodes.{u32_at, u64_at, nodes_in}
 use Rattle.vfs_messages.specs.Turn.{Turn}
 use Rattle.vfs_messages.specs.declared.error.Error.{Error}
-use Rattle.vfs_messages.specs.declared.error.Error.TheVariants.{EncodeMessage}
 
 -- how often a node stands in a list
 abbrev pub times : (n : ℕ) → List ℕ → ℕ
@@ -101,11 +100,6 @@ delivered_by n opcode (Ok m) room_after =
     if m == 0 then 0 else times n (delivered_nodes opcode (take m room_after))
 delivered_by n opcode (Err error) room_after = 0
 
--- the entries of a node in answers whose reply didn't fit
-abbrev pub lost_by : (n : ℕ) → List Event → Result ℕ Error → ℕ
-lost_by n events (Err EncodeMessage) = answered n events
-lost_by n events _ = 0
-
 -- the forgets of a node in a request's bytes, where it was accepted
 abbrev pub accepted_by : (n : ℕ) → (request : List ℕ) → Result ℕ Error → ℕ
 accepted_by n request (Ok m) =
@@ -117,10 +111,6 @@ accepted_by n request (Err error) = 0
 -- the entries of a node that were delivered to the client, in whole replies
 abbrev pub delivered : (n : ℕ) → Turn → ℕ
 delivered n t = delivered_by n (opcode_in t.request) t.outcome t.room_after
-
--- the entries of a node that were lost, in replies that didn't fit
-abbrev pub lost : (n : ℕ) → Turn → ℕ
-lost n t = lost_by n t.events t.outcome
 
 -- the forgets of a node that were accepted from the client
 abbrev pub accepted : (n : ℕ) → Turn → ℕ

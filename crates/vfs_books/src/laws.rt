@@ -2,18 +2,18 @@
 //! proved.
 
 ghost use Rattle.std.specs.Prelude.{◌≡◌, ◌≢◌, ◌+◌, ℕ, List, sum_by};
-ghost use Rattle.vfs_books.specs.Books.{answered, sent, delivered, lost, accepted};
+ghost use Rattle.vfs_books.specs.Books.{answered, sent, delivered, accepted};
 ghost use Rattle.vfs_books.specs.Laws.{GivesBackWithin, NeverBelow, KeepsBooks};
 ghost use Rattle.vfs_books.specs.Turns.{AreTurns, events_in};
 ghost use Rattle.vfs_messages.specs.Turn.{Turn, IsTurn};
 ghost use Rattle.vfs_messages.specs.declared.limits.Limits.{Limits};
 
 /// Over each turn the books of each node but 0 balance: entries answered and forgets accepted are
-/// entries delivered, entries lost and forgets sent.
+/// entries delivered and forgets sent. No entry is lost.
 pub fn each_turn_balances()
     ensures { (limits : Limits) (options after n : ℕ) (t : Turn) → n ≢ 0 →
         IsTurn limits options t after →
-        answered n t.events + accepted n t ≡ delivered n t + lost n t + sent n t.events }
+        answered n t.events + accepted n t ≡ delivered n t + sent n t.events }
 {}
 
 /// Over turns in order the books of each node but 0 balance likewise.
@@ -21,12 +21,12 @@ pub fn turns_balance()
     ensures { (limits : Limits) (options after n : ℕ) (turns : List Turn) → n ≢ 0 →
         AreTurns limits options turns after →
         answered n (events_in turns) + sum_by (accepted n) turns
-        ≡ sum_by (delivered n) turns + sum_by (lost n) turns + sent n (events_in turns) }
+        ≡ sum_by (delivered n) turns + sent n (events_in turns) }
 {}
 
-/// As long as the client gives back no more entries of a node but 0 than were delivered to it or
-/// lost, after each turn, no more are sent back to the file system than it answered, after each
-/// event, and so in the middle of a request too.
+/// As long as the client gives back no more entries of a node but 0 than were delivered to it, after
+/// each turn, no more are sent back to the file system than it answered, after each event, and so in
+/// the middle of a request too.
 pub fn counts_never_fall_below_zero()
     ensures { (limits : Limits) (options after n : ℕ) (turns : List Turn) → n ≢ 0 →
         AreTurns limits options turns after → GivesBackWithin n turns →

@@ -2,7 +2,7 @@
 //! and from nothing else.
 
 ghost use Rattle.std.specs.Prelude.{◌≡◌, ◌≢◌, ◌≤◌, ◌+◌, ◌++◌, ℕ, List, [], ◌∷◌, Some, Ok, sum_by};
-ghost use Rattle.vfs_books.specs.Books.{answered, sent, delivered, lost, accepted, opcode_in};
+ghost use Rattle.vfs_books.specs.Books.{answered, sent, delivered, accepted, opcode_in};
 ghost use Rattle.vfs_books.specs.Laws.{GivesBackWithin, NeverBelow};
 ghost use Rattle.vfs_books.specs.Turns.{AreTurns, events_in};
 ghost use Rattle.vfs_books.specs.Uses.{reply_of_node_5, batch_of_two};
@@ -73,12 +73,12 @@ pub fn a_session_of_a_destroy()
     destroy_leaves_no_options();
 }
 
-/// A client that has given back all that was delivered to it or lost leaves the file system
-/// nothing of a node to wait for: it was sent as many forgets as it answered entries.
+/// A client that has given back all that was delivered to it leaves the file system nothing of a
+/// node to wait for: it was sent as many forgets as it answered entries, whatever the rooms were.
 pub fn all_is_sent_back()
     ensures { (limits : Limits) (options after n : ℕ) (turns : List Turn) → n ≢ 0 →
         AreTurns limits options turns after →
-        sum_by (accepted n) turns ≡ sum_by (delivered n) turns + sum_by (lost n) turns →
+        sum_by (accepted n) turns ≡ sum_by (delivered n) turns →
         sent n (events_in turns) ≡ answered n (events_in turns) }
 {
     turns_keep_books();

@@ -20,7 +20,7 @@ use Rattle.vfs_messages.specs.declared.error.Error.{Error}
 
 -- what the replies repeat
 abbrev pub echo : Echo
-echo = record { unique = 9; max_readahead = 0 }
+echo = record { unique = 9; max_readahead = 0; ctx = nobody }
 
 -- the directory that is read
 abbrev pub listing : (plus : Bool) (size : ℕ) → Listing

@@ -8,8 +8,8 @@ use Rattle.vfs_wire.specs.declared.stat.Statvfs64.{Statvfs64}
 use Rattle.vfs_files.specs.declared.entry.Context.{Context}
 use Rattle.vfs_files.specs.declared.entry.Entry.{Entry}
 use Rattle.vfs_files.specs.Calls as call
-use Rattle.vfs_files.specs.Answers.{Done, Failed, Options, Found, Attributes, Put, Opened, Statistics, Text, Count, Offset, Written}
-use Rattle.vfs_files.specs.Answers.{Agreements, Data, Entries, Told, Untold, TimedAttributes, Openings, Capacities, Texts, TextsOrCounts, Offsets, Writes, Faults}
+use Rattle.vfs_files.specs.Answers.{Done, Failed, Options, Found, Attributes, Put, Opened, Created, Statistics, Text, Count, Offset, Written}
+use Rattle.vfs_files.specs.Answers.{Agreements, Data, Entries, Told, Untold, TimedAttributes, Openings, Creations, Capacities, Texts, TextsOrCounts, Offsets, Writes, Faults}
 use Rattle.vfs_messages.specs.Ask.{ask}
 use Rattle.vfs_messages.specs.Extensions.{extensions_in, cut_of, no_extensions}
 use Rattle.vfs_messages.specs.Forms.{Ask, Ends, Asks, Lists, Copies, refused, silent}
@@ -17,7 +17,8 @@ use Rattle.vfs_messages.specs.declared.limits.Limits.{Limits}
 use Rattle.vfs_messages.specs.Laws.{default_limits}
 use Rattle.vfs_messages.specs.Options.{agreed, options_after}
 use Rattle.vfs_messages.specs.Reply.{Bytes, OpenBehind, NoReply, Echo, reply_of}
-use Rattle.vfs_messages.specs.Room.{put_outcome, put_room}
+use Rattle.vfs_messages.specs.Room.{put_outcome, put_room, unseen}
+use Rattle.vfs_messages.specs.Turn.{node_answered}
 use Rattle.vfs_messages.specs.declared.error.Error.TheVariants.{DecodeMessage, EncodeMessage, InvalidCString, InvalidHeaderLength, InvalidXattrSize, MissingExtension, MissingParameter}
 
 -- four bytes of a number, the lowest first
@@ -42,7 +43,7 @@ abbrev usual : Limits
 usual = default_limits 4096
 
 abbrev echo : ℕ → Echo
-echo unique = record { unique = unique; max_readahead = 0 }
+echo unique = record { unique = unique; max_readahead = 0; ctx = nobody }
 
 abbrev said_so : List ℕ → Ask
 said_so reply = Ends (Bytes reply)
@@ -100,7 +101,7 @@ unfolding number little opcode_of
 getattr_by_a_handle = refl
 
 -- INIT of 7.38, a read-ahead of 131072 and all flags of both words
-init_of_everything : ask usual 0 80 (header 104 26 1 0 ++ ((four 7 ++ (four 38 ++ four 131072)) ++ ((0xff ∷ 0xff ∷ 0xff ∷ 0xff ∷ []) ++ ((0xff ∷ 0xff ∷ 0xff ∷ 0xff ∷ []) ++ zeros 44)))) ≡ Asks (record { unique = 1; max_readahead = 131072 }) (call.Init 0x117fbffffff)
+init_of_everything : ask usual 0 80 (header 104 26 1 0 ++ ((four 7 ++ (four 38 ++ four 131072)) ++ ((0xff ∷ 0xff ∷ 0xff ∷ 0xff ∷ []) ++ ((0xff ∷ 0xff ∷ 0xff ∷ 0xff ∷ []) ++ zeros 44)))) ≡ Asks (record { unique = 1; max_readahead = 131072; ctx = nobody }) (call.Init 0x117fbffffff)
 unfolding number little opcode_of
 init_of_everything = refl
 
@@ -460,8 +461,11 @@ getxattr_of_no_name : ask usual 0 16 (header 49 22 9 1 ++ (zeros 8 ++ (0x61 ∷ 
 unfolding number little opcode_of
 getxattr_of_no_name = refl
 
+abbrev the_caller : Context
+the_caller = record { uid = 1000; gid = 100; pid = negsuc 0 }
+
 -- the caller is the header's, its process with the same bits
-a_caller : ask usual 0 16 (((four 48 ++ four 34) ++ (eight 9 ++ eight 2)) ++ (((four 1000 ++ four 100) ++ four 0xffffffff) ++ (zeros 4 ++ (four 6 ++ zeros 4)))) ≡ Asks (echo 9) (call.Access (record { uid = 1000; gid = 100; pid = negsuc 0 }) 2 6)
+a_caller : ask usual 0 16 (((four 48 ++ four 34) ++ (eight 9 ++ eight 2)) ++ (((four 1000 ++ four 100) ++ four 0xffffffff) ++ (zeros 4 ++ (four 6 ++ zeros 4)))) ≡ Asks (record (echo 9) { ctx = the_caller }) (call.Access the_caller 2 6)
 unfolding number little opcode_of
 a_caller = refl
 
@@ -473,7 +477,7 @@ agreed_where_nothing_is_wanted = refl
 agreed_where_bits_17_and_28_are_wanted : agreed 0x117fbffffff (2 ^ 17 + 2 ^ 28) ≡ 0x10458469829
 agreed_where_bits_17_and_28_are_wanted = refl
 
-reply_of_init : reply_of usual (record { unique = 1; max_readahead = 131072 }) (agreed 0x117fbffffff 0) Agreements (Options 0)
+reply_of_init : reply_of usual (record { unique = 1; max_readahead = 131072; ctx = nobody }) (agreed 0x117fbffffff 0) Agreements (Options 0)
     ≡ Bytes ((((((0x50 ∷ zeros 7) ++ (1 ∷ zeros 7)) ++ ((four 7 ++ four 38) ++ (0 ∷ 0 ∷ 2 ∷ 0 ∷ [])))
     ++ ((0x29 ∷ 0x98 ∷ 0x44 ∷ 0x48 ∷ []) ++ (0xff ∷ 0xff ∷ 0xfd ∷ 0xbf ∷ []))) ++ ((0 ∷ 0 ∷ 0x10 ∷ 0 ∷ []) ++ ((1 ∷ zeros 3) ++ (0 ∷ 1 ∷ 0 ∷ 0 ∷ []))))
     ++ ((4 ∷ 1 ∷ 0 ∷ 0 ∷ []) ++ zeros 28))
@@ -579,6 +583,41 @@ reply_of_no_data = refl
 reply_of_a_fault_alone : reply_of usual (echo 9) 0 Faults (Failed (Some 38)) ≡ Bytes ((four 16 ++ (0xda ∷ 0xff ∷ 0xff ∷ 0xff ∷ [])) ++ eight 9)
 unfolding number little
 reply_of_a_fault_alone = refl
+
+-- ---- entries whose reply doesn't fit
+
+-- the entry of node 5 has no place in a room of 100, and one in a room of 144
+unseen_in_100 : unseen 100 (reply_of usual (echo 9) 0 Entries (Found node_5)) (node_answered Entries (Found node_5)) ≡ Some 5
+unfolding number little
+unseen_in_100 = refl
+
+seen_in_144 : unseen 144 (reply_of usual (echo 9) 0 Entries (Found node_5)) (node_answered Entries (Found node_5)) ≡ None
+unfolding number little
+seen_in_144 = refl
+
+-- lookups of node 0 are not counted
+abbrev node_0 : Entry
+node_0 = record node_5 { inode = 0 }
+
+node_0_in_100 : unseen 100 (reply_of usual (echo 9) 0 Entries (Found node_0)) (node_answered Entries (Found node_0)) ≡ None
+unfolding number little
+node_0_in_100 = refl
+
+-- CREATE's reply has 160 bytes
+created_in_159 : unseen 159 (reply_of usual (echo 9) 0 Creations (Created node_5 (Some 7) 0)) (node_answered Creations (Created node_5 (Some 7) 0)) ≡ Some 5
+unfolding number little
+created_in_159 = refl
+
+created_in_160 : unseen 160 (reply_of usual (echo 9) 0 Creations (Created node_5 (Some 7) 0)) (node_answered Creations (Created node_5 (Some 7) 0)) ≡ None
+unfolding number little
+created_in_160 = refl
+
+-- a fault has no entry, and a text none either
+fault_in_10 : unseen 10 (reply_of usual (echo 9) 0 Entries (Failed None)) (node_answered Entries (Failed None)) ≡ None
+fault_in_10 = refl
+
+text_in_10 : unseen 10 (reply_of usual (echo 9) 0 Texts (Text (0x74 ∷ []))) (node_answered Texts (Text (0x74 ∷ []))) ≡ None
+text_in_10 = refl
 
 -- ---- rooms
 

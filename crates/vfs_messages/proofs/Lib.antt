@@ -9,6 +9,7 @@ pub mod Turns
 pub mod Directories
 pub mod DirectoryCallers
 pub mod Cutting
+pub mod Unseen
 pub mod Sizes
 pub mod Lacking
 pub mod Said

@@ -250,7 +250,7 @@ module _ (limits : Limits) (options after : ℕ) (t : Turn) where
   unfolding SaidBy
   flags_said want a =
       let is = after_call limits options (ask limits options (length t.room) t.request) t after a.call (Options want) a.turn a.called in
-      let small = options_small a.call want options (of_its_kind limits options after a.call (Options want) t a.turn a.called) in
+      let small = options_small a.call want options (of_its_kind limits options after a.call (Options want) [] t a.turn a.called) in
       let s = answered_says limits options (Options want) t after a in
       flags_by limits s.echo after t.room_after s.kind want s.of_kind s.said_in (omega (arith, is, small))
 

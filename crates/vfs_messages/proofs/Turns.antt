@@ -15,15 +15,17 @@ use Rattle.vfs_wire.specs.declared.headers.InHeader.{InHeader}
 use Rattle.vfs_wire.specs.declared.headers.OutHeader.{OutHeader}
 use Rattle.vfs_files.specs.Calls.{Call, Init, Destroy, Readdir, Answer, Failed, Options, Data, Iterators, kind_of, read_answer, IsAnswer, IsFault}
 use Rattle.vfs_files.specs.Runs.{Event, Called}
+use Rattle.vfs_files.specs.declared.entry.Context.{Context}
+use Rattle.vfs_listings.specs.Listing.{given_back}
 use Rattle.vfs_messages.specs.Limits.{max_len}
 use Rattle.vfs_messages.specs.Records.{size_of}
 use Rattle.vfs_messages.specs.Ask.{form_of, ask, ask_number}
 use Rattle.vfs_messages.specs.Forms.{Listing, Ask, Ends, Asks, Lists, Copies, refused, Form, NoTail, NameTail, TwoNames, NameAndValue, NameAndExtensions, LinkAndExtensions, Pairs, WithRest, IntoRoom, Directories, Versions, Silent, NotServed, Layout, refused_or, layout_record, layout_size, tail_of, behind, TailIsWhole, ask_form, MayLackMemory}
 use Rattle.vfs_messages.specs.Laws.{unique_of, BeginsWithHeader, AreAgreed, WantsMemory, MayLackBehind}
 use Rattle.vfs_messages.specs.Options.{agreed, options_after}
-use Rattle.vfs_messages.specs.Reply.{Reply, echo_of, Refusal, NoReply, Bytes, OpenBehind, Never, Saying, Fault, Body, Unsaid, Wrong, said, said_open, said_by, is_open, say, fault_reply, fault_number, body_reply, version_out}
-use Rattle.vfs_messages.specs.Room.{IsReplied}
-use Rattle.vfs_messages.specs.Turn.{Turn, Follows, IsRead, IsTurn, IsTurnWithMemory, turn_tells, turn_with_memory_tells}
+use Rattle.vfs_messages.specs.Reply.{Reply, echo_of, Refusal, NoReply, Bytes, OpenBehind, Never, Saying, Fault, Body, Unsaid, Wrong, said, said_open, said_by, is_open, say, fault_reply, fault_number, body_reply, reply_of, version_out}
+use Rattle.vfs_messages.specs.Room.{IsReplied, unseen}
+use Rattle.vfs_messages.specs.Turn.{Turn, Follows, IsRead, IsTurn, IsTurnWithMemory, node_answered, turn_tells, turn_with_memory_tells}
 use Rattle.vfs_messages.specs.declared.limits.Limits.{Limits}
 use Rattle.vfs_messages.specs.declared.error.Error.{Error}
 use Rattle.vfs_messages.specs.declared.error.Error.TheVariants.{DecodeMessage, EncodeMessage, FlushMessage, InvalidCString2, OutOfMemory}
@@ -386,11 +388,14 @@ pub destroyed : (limits : Limits) (options after : ℕ) (answer : Answer) (t : T
 destroyed limits options after answer t f e = after_call limits options (ask limits options (length t.room) t.request) t after Destroy answer f e
 
 -- a call that is no accepted INIT and no DESTROY keeps the options
-call_keeps : (call : Call) (answer : Answer) (options : ℕ) → ((offered want : ℕ) → call ≡ Init offered → answer ≢ Options want) → call ≢ Destroy → options_after call answer options ≡ options
-call_keeps (Init offered) (Options want) options no_init no_destroy = absurd (no_init offered want refl refl)
-call_keeps (Init offered) _ options no_init no_destroy = refl
-call_keeps Destroy answer options no_init no_destroy = absurd (no_destroy refl)
-call_keeps _ answer options no_init no_destroy = refl
+call_keeps : (call : Call) (answer : Answer) (options : ℕ) (events : List Event) (ctx : Context) (room : ℕ) (reply : Reply)
+    → events ≡ Called call answer ∷ given_back ctx (unseen room reply (node_answered (kind_of call) answer))
+    → ((offered want : ℕ) → events ≢ Called (Init offered) (Options want) ∷ []) → ((answer : Answer) → events ≢ Called Destroy answer ∷ [])
+    → options_after call answer options ≡ options
+call_keeps (Init offered) (Options want) options events ctx room reply e no_init no_destroy = absurd (no_init offered want e)
+call_keeps (Init offered) _ options events ctx room reply e no_init no_destroy = refl
+call_keeps Destroy answer options events ctx room reply e no_init no_destroy = absurd (no_destroy answer e)
+call_keeps _ answer options events ctx room reply e no_init no_destroy = refl
 
 -- what is asked keeps the options, but for an accepted INIT and a DESTROY
 keeps : (limits : Limits) (options : ℕ) (a : Ask) (t : Turn) (after : ℕ) → Follows (turn_tells t) limits options a after
@@ -398,9 +403,8 @@ keeps : (limits : Limits) (options : ℕ) (a : Ask) (t : Turn) (after : ℕ) →
     → after ≡ options
 keeps limits options (Ends reply) t after f no_init no_destroy = f.2
 keeps limits options (Asks echo call) t after f no_init no_destroy =
-    f.4 ∙ call_keeps call f.0 options
-    (λ offered want is answered. no_init offered want (let e = f.1 in cc))
-    (λ is. no_destroy f.0 (let e = f.1 in cc))
+    f.4
+    ∙ call_keeps call f.0 options t.events echo.ctx (length t.room) (reply_of limits echo after (kind_of call) f.0) f.1 no_init no_destroy
 keeps limits options (Lists echo l) t after f no_init no_destroy = f.5
 keeps limits options (Copies rest) t after (inl f) no_init no_destroy = keeps limits options rest t after f no_init no_destroy
 keeps limits options (Copies rest) t after (inr f) no_init no_destroy = f.2
@@ -412,30 +416,30 @@ kept limits options after t f no_init no_destroy = keeps limits options (ask lim
 
 -- ---- answers
 
--- a directory of which nothing happened but a call was answered by a fault
-listed_kind : (l : Listing) (events : List Event) (records : List ℕ) (result : Result ℕ (Option ℕ)) (call : Call) (answer : Answer)
-    → IsRead l events records result → events ≡ Called call answer ∷ [] → IsAnswer (Data l.size) (read_answer result records) → IsAnswer (kind_of call) answer
-listed_kind l events records result call answer (inl u) e a =
+-- a directory that begins with a call was answered by a fault
+listed_kind : (l : Listing) (events : List Event) (records : List ℕ) (result : Result ℕ (Option ℕ)) (call : Call) (answer : Answer) (rest : List Event)
+    → IsRead l events records result → events ≡ Called call answer ∷ rest → IsAnswer (Data l.size) (read_answer result records) → IsAnswer (kind_of call) answer
+listed_kind l events records result call answer rest (inl u) e a =
     let x = sym u.events_are ∙ e in
     let same : Readdir l.ctx l.parent l.handle l.size l.offset ≡ call = cc in
     let answered : Failed u.fault ≡ answer = cc in
     let fault : IsFault u.fault = subst (λ r. IsAnswer (Data l.size) (read_answer r records)) u.answer_is a in
     subst (λ c. IsAnswer (kind_of c) answer) same (subst (λ x. IsAnswer Iterators x) answered fault)
-listed_kind l events records result call answer (inr o) e a = absurd (let x = sym o.events_are ∙ e in cc)
+listed_kind l events records result call answer rest (inr o) e a = absurd (let x = sym o.events_are ∙ e in cc)
 
--- the one call of a turn was answered by an answer of its kind
-called_kind : (limits : Limits) (options : ℕ) (a : Ask) (t : Turn) (after : ℕ) (call : Call) (answer : Answer) → Follows (turn_tells t) limits options a after
-    → t.events ≡ Called call answer ∷ [] → IsAnswer (kind_of call) answer
-called_kind limits options (Ends reply) t after call answer f e = absurd (let a = sym f.0 ∙ e in cc)
-called_kind limits options (Asks echo c) t after call answer f e =
+-- the call that a turn begins with was answered by an answer of its kind
+called_kind : (limits : Limits) (options : ℕ) (a : Ask) (t : Turn) (after : ℕ) (call : Call) (answer : Answer) (rest : List Event) → Follows (turn_tells t) limits options a after
+    → t.events ≡ Called call answer ∷ rest → IsAnswer (kind_of call) answer
+called_kind limits options (Ends reply) t after call answer rest f e = absurd (let a = sym f.0 ∙ e in cc)
+called_kind limits options (Asks echo c) t after call answer rest f e =
     let a = sym f.1 ∙ e in
     let same : c ≡ call = cc in
     let answered : f.0 ≡ answer = cc in
     subst (λ x. IsAnswer (kind_of x) answer) same (subst (λ x. IsAnswer (kind_of c) x) answered f.2)
-called_kind limits options (Lists echo l) t after call answer f e = listed_kind l t.events f.0 f.1 call answer f.2 e f.3
-called_kind limits options (Copies rest) t after call answer (inl f) e = called_kind limits options rest t after call answer f e
-called_kind limits options (Copies rest) t after call answer (inr f) e = absurd (let a = sym f.0 ∙ e in cc)
+called_kind limits options (Lists echo l) t after call answer rest f e = listed_kind l t.events f.0 f.1 call answer rest f.2 e f.3
+called_kind limits options (Copies next) t after call answer rest (inl f) e = called_kind limits options next t after call answer rest f e
+called_kind limits options (Copies next) t after call answer rest (inr f) e = absurd (let a = sym f.0 ∙ e in cc)
 
-pub of_its_kind : (limits : Limits) (options after : ℕ) (call : Call) (answer : Answer) (t : Turn) → IsTurn limits options t after
-    → t.events ≡ Called call answer ∷ [] → IsAnswer (kind_of call) answer
-of_its_kind limits options after call answer t f e = called_kind limits options (ask limits options (length t.room) t.request) t after call answer f e
+pub of_its_kind : (limits : Limits) (options after : ℕ) (call : Call) (answer : Answer) (rest : List Event) (t : Turn) → IsTurn limits options t after
+    → t.events ≡ Called call answer ∷ rest → IsAnswer (kind_of call) answer
+of_its_kind limits options after call answer rest t f e = called_kind limits options (ask limits options (length t.room) t.request) t after call answer rest f e

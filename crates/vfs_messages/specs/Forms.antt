@@ -12,6 +12,7 @@ use Rattle.vfs_wire.specs.declared.headers.InHeader.{InHeader}
 use Rattle.vfs_wire.specs.declared.init.InitInExt.{InitInExt}
 use Rattle.vfs_files.specs.Calls.{Call}
 use Rattle.vfs_files.specs.Calls as call
+use Rattle.vfs_files.specs.Entries.{context_of}
 use Rattle.vfs_files.specs.Extensions.{ExtensionValues}
 use Rattle.vfs_files.specs.Names.{name_of, first_name}
 use Rattle.vfs_files.specs.declared.entry.Context.{Context}
@@ -179,7 +180,7 @@ ask_version h r flags2 =
     Ends (Bytes (body_reply (bytes_of init_out version_out) h.unique))
     else if nat_lt r.minor MIN_KERNEL_MINOR_VERSION then faulted eproto h
     else
-    Asks (record { unique = h.unique; max_readahead = r.max_readahead })
+    Asks (record { unique = h.unique; max_readahead = r.max_readahead; ctx = context_of h })
     (call.Init (offered r.flags flags2))
 
 -- a request's record: none, in the place of which this stands, or one of this table

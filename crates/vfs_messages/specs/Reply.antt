@@ -23,7 +23,8 @@ use Rattle.vfs_wire.specs.declared.files.WriteOut.{WriteOut}
 use Rattle.vfs_wire.specs.declared.xattrs.GetxattrOut.{GetxattrOut}
 use Rattle.vfs_files.specs.Answers.{Kind, Quiet, Told, Untold, Data, Agreements, Entries, TimedAttributes, Openings, Creations, Capacities, Texts, TextsOrCounts, Offsets, Writes, Iterators, Faults}
 use Rattle.vfs_files.specs.Answers.{Answer, Done, Failed, Options, Found, Put, Attributes, Opened, Created, Statistics, Text, Count, Offset, Written}
-use Rattle.vfs_files.specs.Entries.{entry_out_of, whole_seconds, nanoseconds_beyond}
+use Rattle.vfs_files.specs.Entries.{context_of, entry_out_of, whole_seconds, nanoseconds_beyond}
+use Rattle.vfs_files.specs.declared.entry.Context.{Context}
 use Rattle.vfs_messages.specs.Limits.{max_pages}
 use Rattle.vfs_messages.specs.Records.{size_of}
 use Rattle.vfs_messages.specs.declared.limits.Limits.{Limits}
@@ -38,14 +39,16 @@ pub data Reply : Type 0 where
   OpenBehind : (reply : List ℕ) → Reply
   Never : Reply
 
--- what a reply repeats of its request: the client's number, and, of INIT alone, the read-ahead
+-- What is kept of a request behind its call: what the reply repeats, which is the client's number
+-- and, of INIT alone, the read-ahead; and the caller, for whom an entry is given back.
 pub record Echo : Type 0 where
   pub unique : ℕ
   pub max_readahead : ℕ
+  pub ctx : Context
 
--- what every reply but INIT's repeats
+-- what is kept of every request but INIT
 abbrev pub echo_of : InHeader → Echo
-echo_of h = record { unique = h.unique; max_readahead = 0 }
+echo_of h = record { unique = h.unique; max_readahead = 0; ctx = context_of h }
 
 -- the number of a fault: that of EIO where it has none
 abbrev pub fault_number : Option ℕ → ℕ

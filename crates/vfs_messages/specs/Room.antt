@@ -1,5 +1,5 @@
 -- How a reply is put into the room that its writer has left.
-use Rattle.std.specs.Prelude.{◌≡◌, ◌≤◌, ℕ, List, ◌++◌, length, take, drop, nat_le, if◌then◌else◌, Result, Ok, Err}
+use Rattle.std.specs.Prelude.{◌≡◌, ◌≤◌, ℕ, List, ◌++◌, length, take, drop, nat_le, if◌then◌else◌, Bool, true, Option, None, Some, Result, Ok, Err}
 use Rattle.vfs_wire.specs.Headers.{out_header}
 use Rattle.vfs_segments.specs.Written.{Written, Moves, held_over, whole}
 use Rattle.vfs_messages.specs.Records.{size_of}
@@ -40,6 +40,16 @@ IsReplied NoReply room outcome room_after = (outcome ≡ Ok 0) × (room_after �
 IsReplied (Bytes reply) room outcome room_after = IsPut reply room outcome room_after
 IsReplied (OpenBehind reply) room outcome room_after = IsPutOpen reply room outcome room_after
 IsReplied Never room outcome room_after = ⊥
+
+-- whether what comes back fits into so much room
+abbrev pub fits : (room : ℕ) → Reply → Bool
+fits room (Bytes reply) = nat_le (length reply) room
+fits room _ = true
+
+-- the node of an entry that a client doesn't get to see: of one whose reply doesn't fit
+abbrev pub unseen : (room : ℕ) → Reply → Option ℕ → Option ℕ
+unseen room reply None = None
+unseen room reply (Some node) = if fits room reply then None else Some node
 
 -- A writer keeps the bytes that it had passed, and those of its room are `room_after`, as many as
 -- before, in segments of the same lengths. Where it stands isn't said.

@@ -18,7 +18,7 @@ ghost use Rattle.vfs_wire.specs.declared.stat.Statvfs64.{Statvfs64};
 ghost use Rattle.vfs_files.specs.Calls.{Found, Attributes, Opened, Created, Statistics, Count, Offset, Written, Text, Put};
 ghost use Rattle.vfs_files.specs.Calls.{Call, Init, Destroy, BatchForget, Answer, Options, kind_of, IsAnswer};
 ghost use Rattle.vfs_files.specs.Entries.{entry_out_of, context_of};
-ghost use Rattle.vfs_files.specs.Runs.{Called};
+ghost use Rattle.vfs_files.specs.Runs.{Event, Called};
 ghost use Rattle.vfs_files.specs.declared.entry.Entry.{Entry};
 ghost use Rattle.vfs_messages.specs.Ask.{ask, ask_number};
 ghost use Rattle.vfs_messages.specs.Forms.{Listing, Lists, Asks, Copies, faulted, refused_or, pairs_in};
@@ -161,12 +161,12 @@ pub fn other_requests_keep_the_options()
         ((answer : Answer) → t.events ≢ Called Destroy answer ∷ []) → after ≡ options }
 {}
 
-/// A call that is all that happened at a request was answered by an answer of its kind, whose
+/// A call that the events of a request begin with was answered by an answer of its kind, whose
 /// numbers are in the widths that a reply has for them.
 pub fn answers_are_of_their_kind()
-    ensures { (limits : Limits) (options after : ℕ) (call : Call) (answer : Answer) (t : Turn) →
-        IsTurn limits options t after → t.events ≡ Called call answer ∷ [] →
-        IsAnswer (kind_of call) answer }
+    ensures { (limits : Limits) (options after : ℕ) (call : Call) (answer : Answer)
+        (rest : List Event) (t : Turn) → IsTurn limits options t after →
+        t.events ≡ Called call answer ∷ rest → IsAnswer (kind_of call) answer }
 {}
 
 /// What stands behind the header of a reply that fits is what the one call of the request answered:

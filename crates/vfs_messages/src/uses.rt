@@ -16,7 +16,7 @@ ghost use Rattle.vfs_segments.specs.Written.{whole};
 ghost use Rattle.vfs_files.specs.Calls.{Call, Lookup, Getattr, Access, Init, Failed, Options, Found, Attributes};
 ghost use Rattle.vfs_files.specs.Entries.{whole_seconds};
 ghost use Rattle.vfs_files.specs.Extensions.{extension_values_of};
-ghost use Rattle.vfs_files.specs.Runs.{Called};
+ghost use Rattle.vfs_files.specs.Runs.{Event, Called};
 ghost use Rattle.vfs_files.specs.declared.entry.Context.{Context};
 ghost use Rattle.vfs_files.specs.declared.entry.Entry.{Entry};
 ghost use Rattle.vfs_messages.specs.ExtensionLaws.{blocks_of};
@@ -164,9 +164,9 @@ pub fn lengths_of_data()
 /// beginning of these 144 bytes, as a room of a hundred bytes the first hundred. With eight bytes
 /// of room a READ made no call, and changed nothing; with twenty it isn't so refused.
 pub fn rooms_that_are_too_small()
-    ensures lookup { (options after : ℕ) (call : Call) (t : Turn) →
+    ensures lookup { (options after : ℕ) (call : Call) (back : List Event) (t : Turn) →
         IsTurn (default_limits 4096) options t after → t.request ≡ lookup_of_a →
-        t.events ≡ Called call (Found node_5) ∷ [] → t.outcome ≡ Err Error.EncodeMessage →
+        t.events ≡ Called call (Found node_5) ∷ back → t.outcome ≡ Err Error.EncodeMessage →
         (length t.room < 144) × (t.room_after ≡ take (length t.room) node_5_reply) }
     ensures read { (options after : ℕ) (t : Turn) →
         IsTurn (default_limits 4096) options t after → t.request ≡ request_for_data 15 3 →

@@ -2,7 +2,7 @@ use Rattle.std.proofs.Common.{◌≡◌, ◌<◌, ℕ, List, [], ◌∷◌, leng
 use Rattle.vfs_flags.specs.Opcode.{opcode_of}
 use Rattle.vfs_wire.specs.Fields.{number, little}
 use Rattle.vfs_files.specs.Calls.{Call, Lookup, Read, Answer, Found}
-use Rattle.vfs_files.specs.Runs.{Called}
+use Rattle.vfs_files.specs.Runs.{Event, Called}
 use Rattle.vfs_files.specs.declared.entry.Context.{Context}
 use Rattle.std.proofs.Common.{pos}
 use Rattle.vfs_messages.specs.Ask.{ask}
@@ -18,7 +18,7 @@ abbrev nobody : Context
 nobody = record { uid = 0; gid = 0; pid = pos 0 }
 
 abbrev echo : Echo
-echo = record { unique = 9; max_readahead = 0 }
+echo = record { unique = 9; max_readahead = 0; ctx = nobody }
 
 -- data aren't cut off
 never_cut : (unique : ℕ) (s : Saying) (room room_after : List ℕ) → CutsOff (said_open unique s) room room_after → ⊥
@@ -31,22 +31,22 @@ found_so : said 9 (say_entry (Found node_5)) ≡ Bytes node_5_reply
 unfolding number little
 found_so = refl
 
-looked_up : (options : ℕ) (after : ℕ) (call : Call) (t : Turn) → t.events ≡ Called call (Found node_5) ∷ []
+looked_up : (options : ℕ) (after : ℕ) (call : Call) (back : List Event) (t : Turn) → t.events ≡ Called call (Found node_5) ∷ back
     → Follows (cut_turn_tells t) (default_limits 4096) options (Copies (Asks echo (Lookup nobody 1 (0x61 ∷ [])))) after
     → (length t.room < 144) × (t.room_after ≡ take (length t.room) node_5_reply)
-looked_up options after call t e (inl f) =
+looked_up options after call back t e (inl f) =
     let a = sym f.1 ∙ e in
     let same : f.0 ≡ Found node_5 = cc in
     let cut : CutsOff (said 9 (say_entry (Found node_5))) t.room t.room_after = subst (λ (x : Answer). CutsOff (said 9 (say_entry x)) t.room t.room_after) same f.3 in
     let found : CutsOff (Bytes node_5_reply) t.room t.room_after = subst (λ (reply : Reply). CutsOff reply t.room t.room_after) found_so cut in
     (found.longer, found.holds)
-looked_up options after call t e (inr f) = absurd f.1
+looked_up options after call back t e (inr f) = absurd f.1
 
 pub returns-clause-lookup : goal.returns-clause-lookup
 unfolding number opcode_of
-returns-clause-lookup c = λ options after call t turn is e o.
+returns-clause-lookup c = λ options after call back t turn is e o.
     elim (c.unfit_replies_are_cut_off.ensures (default_limits 4096) options after t turn o) as (λ x. (length t.room < 144) × (t.room_after ≡ take (length t.room) node_5_reply)) [
-      | inl f ↦ looked_up options after call t e (subst (λ (r : List ℕ). Follows (cut_turn_tells t) (default_limits 4096) options (ask (default_limits 4096) options (length t.room) r) after) is f)
+      | inl f ↦ looked_up options after call back t e (subst (λ (r : List ℕ). Follows (cut_turn_tells t) (default_limits 4096) options (ask (default_limits 4096) options (length t.room) r) after) is f)
       | inr lacks ↦ absurd (subst (λ (r : List ℕ). CarriesData (opcode_in r)) is lacks.carries)
     ]
 
