@@ -1,5 +1,5 @@
 -- What a session says of requests that are written out.
-use Rattle.std.proofs.Common.{◌≡◌, ◌≢◌, ◌⊎◌, ℕ, Bool, false, List, [], ◌∷◌, ◌++◌, length, map, nat_lt, Option, Some, None, Result, Ok, Err, ap, sym, ◌∙◌, arith, subst, inl, inr, refl}
+use Rattle.std.proofs.Common.{◌≡◌, ◌≢◌, ◌⊎◌, ℕ, Bool, false, List, [], ◌∷◌, ◌++◌, length, map, nat_lt, Option, Some, None, Result, Ok, Err, ap, sym, ◌∙◌, arith, subst, inl, inr, refl, pos}
 use Rattle.std.proofs.lemmas.Bool.Decides.{nat_tests}
 use Rattle.std.proofs.lemmas.List.Sums.{sum_by-take-le}
 use Rattle.vfs_flags.specs.Opcode.{opcode_of}
@@ -12,8 +12,9 @@ use Rattle.vfs_files.specs.Answers.{Answer, Done, Failed, Options, Attributes, P
 use Rattle.vfs_files.specs.Answers as answers
 use Rattle.vfs_files.specs.Calls.{Call, Init, Lookup, Forget, default_answer}
 use Rattle.vfs_files.specs.Entries.{context_of}
+use Rattle.vfs_files.specs.declared.entry.Context.{Context}
 use Rattle.vfs_files.specs.Runs.{Event, Called, Opened, Taken, events_of}
-use Rattle.vfs_books.specs.Books.{accepted, delivered, lost, accepted_by, delivered_by, lost_by, opcode_in}
+use Rattle.vfs_books.specs.Books.{accepted, delivered, accepted_by, delivered_by, opcode_in}
 use Rattle.vfs_books.specs.Laws.{GivesBackWithin, KeepsBooks}
 use Rattle.vfs_books.specs.Turns.{events_in}
 use Rattle.vfs_messages.specs.Ask.{ask}
@@ -101,17 +102,20 @@ module _ (limits : Limits) where
 
 -- ---- the three requests
 
+abbrev nobody : Context
+nobody = record { uid = 0; gid = 0; pid = pos 0 }
+
 abbrev pub limits_of_new : Limits
 limits_of_new = record { page_size = 4096; max_buffer = 1048576 }
 
-ask-init : ask limits_of_new 0 80 init_request ≡ Asks (record { unique = 7; max_readahead = 131072 }) (Init 11)
+ask-init : ask limits_of_new 0 80 init_request ≡ Asks (record { unique = 7; max_readahead = 131072; ctx = nobody }) (Init 11)
 unfolding number opcode_of
 ask-init = refl
 
 turn-init : (t : Turn) (after : ℕ) → IsTurn limits_of_new 0 t after → t.request ≡ init_request → length t.room ≡ 80 → AreDefault t.events → Seen t 80 init_reply 9 after
 unfolding little number
 turn-init t after s request room default =
-    let echo : Echo = record { unique = 7; max_readahead = 131072 } in
+    let echo : Echo = record { unique = 7; max_readahead = 131072; ctx = nobody } in
     let P : Ask → Type 0 = λ a. Follows (turn_tells t) limits_of_new 0 a after in
     let asks : ask limits_of_new 0 (length t.room) t.request ≡ Asks echo (Init 11) =
     ap (λ (n : ℕ). ask limits_of_new 0 n t.request) room ∙ ap (λ (b : List ℕ). ask limits_of_new 0 80 b) request ∙ ask-init in
@@ -275,7 +279,6 @@ module _ {S I : Type 0} (allows : S → Call → Handed I → S → Type 0) (giv
       let five : accepted 5 o.t ≡ 3 = accepted-forget 5 o.t (o.request ∙ request) outcome in
       let six : accepted 6 o.t ≡ 0 = accepted-forget 6 o.t (o.request ∙ request) outcome in
       let none : delivered 5 o.t ≡ 0 = ap (λ (r : Result ℕ Error). delivered_by 5 (opcode_in o.t.request) r o.t.room_after) outcome in
-      let kept : lost 5 o.t ≡ 0 = ap (λ (r : Result ℕ Error). lost_by 5 o.t.events r) outcome in
       let books = subst KeepsBooks o.turns_are s.books in
       let balanced = books.balanced 5 (λ e. omega (arith, e)) in
       let below = books.never_below 6 (λ e. omega (arith, e)) (gives_nothing_back 6 o.t six) in
@@ -285,7 +288,7 @@ module _ {S I : Type 0} (allows : S → Call → Handed I → S → Type 0) (giv
         books = record {
           run = s.run;
           is_run = s.is_run;
-          three_more = rw events (omega (arith, balanced, five, none, kept));
+          three_more = rw events (omega (arith, balanced, five, none));
           never_below = rw events below;
         };
       }

@@ -1,24 +1,26 @@
 -- From what a handler says of one request to the step that it is.
-use Rattle.std.proofs.Common.{◌≡◌, ◌≢◌, ◌∙◌, ℕ, Bool, true, false, nat_lt, if◌then◌else◌, subst, List, [], ◌∷◌, Option, None, Result, Ok, Err, length, drop, refl, ap, inl, inr, ◌++◌, append-nil}
+use Rattle.std.proofs.Common.{◌≡◌, ◌≢◌, ◌∙◌, ℕ, Bool, true, false, nat_lt, if◌then◌else◌, subst, List, [], ◌∷◌, Option, None, Some, Result, Ok, Err, length, drop, refl, ap, inl, inr, ◌++◌, append-nil}
 use Rattle.vfs_flags.specs.Opcode.{opcode_of}
 use Rattle.vfs_wire.specs.Headers.{in_header}
 use Rattle.vfs_wire.specs.declared.headers.InHeader.{InHeader}
 use Rattle.vfs_segments.specs.Written.{Written, held_over}
 use Rattle.vfs_files.specs.Items.{Item}
-use Rattle.vfs_files.specs.Calls.{Call, Handed, Data, kind_of, read_answer}
-use Rattle.vfs_files.specs.Runs.{Happening, Calls, IsRun, events_of}
+use Rattle.vfs_files.specs.Calls.{Call, Forget, Answer, Done, Handed, Data, kind_of, read_answer}
+use Rattle.vfs_files.specs.Runs.{Happening, Called, Calls, IsRun, events_of}
+use Rattle.vfs_files.specs.declared.entry.Context.{Context}
+use Rattle.vfs_listings.specs.Listing.{given_back}
 use Rattle.vfs_messages.specs.Records.{record_of, size_of}
 use Rattle.vfs_messages.specs.Forms.{Listing, Ask, Ends, Asks, Lists, Copies, refused, refused_or}
 use Rattle.vfs_messages.specs.Ask.{ask, ask_header}
 use Rattle.vfs_messages.specs.Laws.{StopsForACause, ComesWhole, TakesFew, header_of}
 use Rattle.vfs_messages.specs.Reply.{Echo, Reply, Refusal, NoReply, Bytes, OpenBehind, Never, reply_of}
-use Rattle.vfs_messages.specs.Room.{IsReplied, Leaves, Replies}
-use Rattle.vfs_messages.specs.Turn.{Turn, Witness, Follows, IsTurn, IsTurnWithMemory, turn_tells}
+use Rattle.vfs_messages.specs.Room.{IsReplied, Leaves, Replies, unseen}
+use Rattle.vfs_messages.specs.Turn.{Turn, Witness, Follows, IsTurn, IsTurnWithMemory, node_answered, turn_tells}
 use Rattle.vfs_messages.specs.declared.limits.Limits.{Limits}
 use Rattle.vfs_messages.specs.declared.error.Error.{Error}
 use Rattle.vfs_messages.specs.declared.error.Error.TheVariants.{DecodeMessage, OutOfMemory}
 use Rattle.vfs_server.specs.Memory.{MayWantBehind}
-use Rattle.vfs_server.specs.Step.{ServerState, Handles, IsStep, ReadsDirectories, server_tells, turn_over}
+use Rattle.vfs_server.specs.Step.{ServerState, CallsAndGivesBack, Handles, IsStep, ReadsDirectories, server_tells, turn_over}
 
 -- what came back through a writer, as a reader of the room's bytes sees it
 pub record Came (reply : Reply) (old : Written) (outcome : Result ℕ Error) (new : Written) : Type 0 where
@@ -62,6 +64,20 @@ follows_less limits options after t P Q less (Copies rest) (inl f) = inl (follow
 follows_less limits options after t P Q less (Copies rest) (inr f) = inr (less f.0, f.1, f.2)
 
 module _ {S I : Type 0} (allows : S → Call → Handed I → S → Type 0) (gives : I → Option Item → I → Type 0) (old : ServerState S) (request : List ℕ) (writer : Written) (outcome : Result ℕ Error) (writer_after : Written) (new : ServerState S) where
+  -- a call, and what was given back behind it, as a run
+  record Ran (call : Call) (answer : Answer) (ctx : Context) (back : Option ℕ) : Type 0 where
+    run : List (Happening I × S)
+    is_run : IsRun allows gives None old.fs run new.fs
+    events : events_of run ≡ Called call answer ∷ given_back ctx back
+
+  ran : (call : Call) (answer : Answer) (ctx : Context) (back : Option ℕ) → CallsAndGivesBack allows gives call answer ctx back old.fs new.fs → Ran call answer ctx back
+  ran call answer ctx None h = record { run = (Calls call answer, new.fs) ∷ []; is_run = (h, refl); events = refl }
+  ran call answer ctx (Some node) h = record {
+    run = (Calls call answer, h.0) ∷ (Calls (Forget ctx node 1) Done, new.fs) ∷ [];
+    is_run = (h.1, (h.2, refl));
+    events = refl;
+  }
+
   -- what was handled without a list of events is a run with the events that the table gives
   record Followed (wanted : Type 0) (a : Ask) : Type 0 where
     run : List (Happening I × S)
@@ -77,8 +93,10 @@ module _ {S I : Type 0} (allows : S → Call → Handed I → S → Type 0) (giv
       let c = came reply writer writer_after outcome h.1 in
       record { run = []; room_after = c.room_after; is_run = h.0; leaves = c.leaves; follows = (refl, c.says, h.2); no_hold = c.no_hold }
   follow wanted (Asks echo call) h =
-      let c = came (reply_of old.limits echo new.options (kind_of call) h.0) writer writer_after outcome h.3 in
-      record { run = (Calls call h.0, new.fs) ∷ []; room_after = c.room_after; is_run = (h.1, refl); leaves = c.leaves; follows = (h.0, refl, h.2, c.says, h.4); no_hold = c.no_hold }
+      let reply = reply_of old.limits echo new.options (kind_of call) h.0 in
+      let c = came reply writer writer_after outcome h.3 in
+      let r = ran call h.0 echo.ctx (unseen (length writer.left) reply (node_answered (kind_of call) h.0)) h.1 in
+      record { run = r.run; room_after = c.room_after; is_run = r.is_run; leaves = c.leaves; follows = (h.0, r.events, h.2, c.says, h.4); no_hold = c.no_hold }
   follow wanted (Lists echo l) h =
       let c = came (reply_of old.limits echo new.options (Data l.size) (read_answer h.1 h.0)) writer writer_after outcome h.4 in
       record { run = h.2.run; room_after = c.room_after; is_run = h.2.is_run; leaves = c.leaves; follows = (h.0, h.1, h.2.is_read, h.3, c.says, h.5); no_hold = c.no_hold }

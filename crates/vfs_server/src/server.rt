@@ -4,6 +4,7 @@
 mod attributes;
 mod contents;
 mod directories;
+mod entries;
 mod files;
 mod locks;
 mod migration;
@@ -184,7 +185,8 @@ impl<F: FileSystem> Server<F> {
     /// holds anything afterwards.
     ///
     /// For each node number but 0 the books balance over the session: entries answered and forgets
-    /// accepted are entries delivered, entries lost and forgets sent.
+    /// accepted are entries delivered and forgets sent. No entry is lost: one whose reply doesn't fit
+    /// is given back.
     pub fn handle_session(
         &mut self,
         alloc: Global,

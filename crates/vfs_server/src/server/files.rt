@@ -3,12 +3,13 @@
 ghost use Rattle.vfs_server.specs.Step.{Serves};
 
 use crate::server::Server;
+use crate::server::entries::deliver_created;
 use std::alloc::Global;
 use vfs_files::{Context, FileSystem, Number};
 use vfs_flags::{FSYNC_FDATASYNC, OPEN_KILL_SUIDGID, Opcode, RELEASE_FLOCK_UNLOCK, RELEASE_FLUSH};
 use vfs_messages::{
-    Result, is_set, number_if, read_extended, read_record, reply_created, reply_done,
-    reply_fault_alone, reply_offset, reply_opened, reply_written,
+    Result, is_set, number_if, read_extended, read_record, reply_done, reply_fault_alone,
+    reply_offset, reply_opened, reply_written,
 };
 use vfs_segments::{Reader, Writer};
 use vfs_wire::{
@@ -59,7 +60,7 @@ impl<F: FileSystem> Server<F> {
             create_in.umask,
             extensions,
         );
-        reply_created::<F::Handle>(answer, header.unique, w)
+        deliver_created(&mut self.fs, header, answer, w)
     }
 
     /// RELEASE (`struct fuse_release_in`): a file is closed. The owner of locks is passed where

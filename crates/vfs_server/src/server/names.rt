@@ -3,12 +3,13 @@
 ghost use Rattle.vfs_server.specs.Step.{Serves};
 
 use crate::server::Server;
+use crate::server::entries::deliver_entry;
 use std::alloc::Global;
 use vfs_files::{Context, FileSystem, Number};
 use vfs_flags::{Errno, Opcode};
 use vfs_messages::{
     Result, read_extended, read_link, read_name, read_names, read_pairs, read_record, reply_done,
-    reply_entry, reply_failed, reply_text,
+    reply_failed, reply_text,
 };
 use vfs_segments::{Reader, Writer};
 use vfs_wire::{
@@ -36,7 +37,7 @@ impl<F: FileSystem> Server<F> {
         let answer = self
             .fs
             .lookup(Context::from(*header), parent, name.as_c_str());
-        reply_entry(answer, header.unique, w)
+        deliver_entry(&mut self.fs, header, answer, w)
     }
 
     /// FORGET (`struct fuse_forget_in`): lookups of a node are taken back. There is no reply.
@@ -110,7 +111,7 @@ impl<F: FileSystem> Server<F> {
         let answer = self
             .fs
             .symlink(Context::from(*header), text, parent, name, extensions);
-        reply_entry(answer, header.unique, w)
+        deliver_entry(&mut self.fs, header, answer, w)
     }
 
     /// MKNOD (`struct fuse_mknod_in`): makes a file, a pipe, a socket or a device.
@@ -135,7 +136,7 @@ impl<F: FileSystem> Server<F> {
             mknod_in.umask,
             extensions,
         );
-        reply_entry(answer, header.unique, w)
+        deliver_entry(&mut self.fs, header, answer, w)
     }
 
     /// MKDIR (`struct fuse_mkdir_in`): makes a directory.
@@ -159,7 +160,7 @@ impl<F: FileSystem> Server<F> {
             mkdir_in.umask,
             extensions,
         );
-        reply_entry(answer, header.unique, w)
+        deliver_entry(&mut self.fs, header, answer, w)
     }
 
     /// UNLINK: takes a file's name away.
@@ -220,7 +221,7 @@ impl<F: FileSystem> Server<F> {
             F::Inode::from_number(header.nodeid),
             name.as_c_str(),
         );
-        reply_entry(answer, header.unique, w)
+        deliver_entry(&mut self.fs, header, answer, w)
     }
 
     /// RENAME (`struct fuse_rename_in`): gives a node another name, in place of what has it.

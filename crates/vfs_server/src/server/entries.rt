@@ -1,0 +1,84 @@
+//! Entries as replies. A file system counts each entry that it answers, and the client gives the
+//! counts back. An entry whose reply doesn't fit never comes to the client, and is given back here.
+
+ghost use Rattle.std.specs.Prelude.{◌≡◌, length, None, is_err, if◌then◌else◌};
+ghost use Rattle.vfs_files.specs.Answers.{Entries, Creations, IsAnswer, entry_answer, created_answer};
+ghost use Rattle.vfs_files.specs.Calls.{Call, Plain};
+ghost use Rattle.vfs_files.specs.Entries.{context_of};
+ghost use Rattle.vfs_listings.specs.Reading.{GivesBackNode};
+ghost use Rattle.vfs_messages.specs.Reply.{said, say_entry, say_created};
+ghost use Rattle.vfs_messages.specs.Room.{Replies, unseen};
+ghost use Rattle.vfs_messages.specs.Turn.{counted, node_answered};
+ghost use Rattle.vfs_server.specs.Step.{CallsAndGivesBack};
+
+use vfs_files::{Entry, FileSystem, Number};
+use vfs_flags::{Fault, OpenOptions};
+use vfs_listings::give_back;
+use vfs_messages::{Result, reply_created, reply_entry};
+use vfs_segments::Writer;
+use vfs_wire::InHeader;
+
+/// Gives back an entry whose reply was refused for want of room. Lookups of node 0 aren't counted.
+fn give_back_unfit<F: FileSystem>(fs: &mut F, header: &InHeader, node: u64, outcome: &Result<usize>)
+    ensures { GivesBackNode F.allows (context_of header.now)
+        (if is_err outcome.now then counted node else None) fs.old fs.new }
+{
+    if outcome.is_err() && node != 0 {
+        give_back(fs, header, node);
+    }
+}
+
+/// Replies an entry, as LOOKUP does, or gives it back where its reply doesn't fit.
+pub(super) fn deliver_entry<F: FileSystem>(
+    fs: &mut F,
+    header: &InHeader,
+    answer: std::result::Result<Entry, Fault>,
+    w: &mut Writer,
+) -> Result<usize>
+    ensures replied { Replies (said header.now.unique (say_entry (entry_answer answer)))
+        w.old result w.new }
+    ensures kind { IsAnswer Entries (entry_answer answer) }
+    ensures gives_back { (old : F) (call : Call) →
+        F.allows old call (Plain (entry_answer answer)) fs.old →
+        CallsAndGivesBack F.allows F.DirIter.gives call (entry_answer answer) (context_of header.now)
+        (unseen (length w.old.left) (said header.now.unique (say_entry (entry_answer answer)))
+        (node_answered Entries (entry_answer answer)))
+        old fs.new }
+{
+    let node = match &answer {
+        Ok(entry) => entry.inode,
+        Err(_) => 0,
+    };
+    let outcome = reply_entry(answer, header.unique, w);
+    give_back_unfit(fs, header, node, &outcome);
+    outcome
+}
+
+/// Replies an entry and what was opened, as CREATE does, or gives the entry back where its reply
+/// doesn't fit. What was opened stays open.
+pub(super) fn deliver_created<F: FileSystem>(
+    fs: &mut F,
+    header: &InHeader,
+    answer: std::result::Result<(Entry, Option<F::Handle>, OpenOptions), Fault>,
+    w: &mut Writer,
+) -> Result<usize>
+    ensures replied { Replies
+        (said header.now.unique (say_created (created_answer F.Handle.value answer)))
+        w.old result w.new }
+    ensures kind { IsAnswer Creations (created_answer F.Handle.value answer) }
+    ensures gives_back { (old : F) (call : Call) →
+        F.allows old call (Plain (created_answer F.Handle.value answer)) fs.old →
+        CallsAndGivesBack F.allows F.DirIter.gives call (created_answer F.Handle.value answer)
+        (context_of header.now) (unseen (length w.old.left)
+        (said header.now.unique (say_created (created_answer F.Handle.value answer)))
+        (node_answered Creations (created_answer F.Handle.value answer)))
+        old fs.new }
+{
+    let node = match &answer {
+        Ok((entry, _, _)) => entry.inode,
+        Err(_) => 0,
+    };
+    let outcome = reply_created::<F::Handle>(answer, header.unique, w);
+    give_back_unfit(fs, header, node, &outcome);
+    outcome
+}
