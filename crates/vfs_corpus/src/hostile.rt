@@ -2,7 +2,7 @@
 //! Each must come to the same in every cutting.
 
 use crate::cuttings::{Cut, Cutting, Served, Way, serve};
-use crate::messages::Message;
+use crate::table::Message;
 use std::alloc::{AllocError, Global};
 use vfs_lines::{RunError, answer_line};
 

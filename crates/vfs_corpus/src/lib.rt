@@ -4,8 +4,8 @@
 
 mod cuttings;
 mod hostile;
-mod messages;
+mod table;
 
 pub use cuttings::{Cut, Cutting, Served, Way, agree, pieces, rooms, serve};
 pub use hostile::{Form, Tally, try_message};
-pub use messages::{MESSAGES, Message};
+pub use table::{Message, messages};

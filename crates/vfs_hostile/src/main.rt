@@ -9,7 +9,7 @@
 use std::alloc::Global;
 use std::io;
 use std::process::ExitCode;
-use vfs_corpus::{MESSAGES, Way, try_message};
+use vfs_corpus::{Way, messages, try_message};
 use vfs_lines::{RunError, exit_status, report, write_all};
 
 fn main(rt: HostRuntime) -> ExitCode {
@@ -23,7 +23,7 @@ fn run<W: io::Write>(alloc: Global, output: &mut W) -> Result<(), RunError> {
     let mut text = String::new(alloc);
     let mut tried = 0usize;
     let mut wrong = 0usize;
-    for message in &MESSAGES {
+    for message in messages() {
         let tally = try_message(alloc, message, Way::Messages)?;
         tried = tried.saturating_add(tally.tried);
         wrong = wrong.saturating_add(tally.wrong);

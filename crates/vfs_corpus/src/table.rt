@@ -32,6 +32,14 @@ impl Message {
     }
 }
 
+/// The messages, in the order of their opcodes, and then those whose form an option changes.
+///
+/// It says nothing of them to the prover, which would work out the whole table in each function that
+/// goes over it.
+pub fn messages() -> &'static [Message] {
+    &MESSAGES
+}
+
 /// SETXATTR_EXT is agreed on.
 const EXTENDED: &str = concat!(
     "0 300000000200000009000000000000000000000000000000e8030000640000001800000000000000+0100000000000000\n",
@@ -56,9 +64,9 @@ const BOTH: &str = concat!(
     "80 680000001a00000009000000000000000000000000000000e8030000640000000000000000000000+07000000260000000000020000000040050000000000000000000000000000000000000000000000000000000000000000000000000000000000000000000000\n",
 );
 
-/// The messages, in the order of their opcodes, and then those whose form an option changes.
+/// The table.
 #[rattlefmt::skip]
-pub static MESSAGES: [Message; 65] = [
+static MESSAGES: [Message; 65] = [
     Message { name: "LOOKUP", before: "", line: "144 2b0000000100000009000000000000000100000000000000e8030000640000001800000000000000+616200" },
     Message { name: "FORGET", before: "", line: "0 300000000200000009000000000000000200000000000000e8030000640000001800000000000000+0300000000000000" },
     Message { name: "GETATTR", before: "", line: "120 380000000300000009000000000000000100000000000000e8030000640000002800000000000000+01000000000000000400000000000000" },
