@@ -1,122 +1,247 @@
 #!/usr/bin/env bash
-# Runs the program vfs_demo on the beginning of its stored session again and again, each time with
-# another one of its allocations refused, and looks for an answer that changes in place of the error.
-# It is the requests before the first that changes a file: where memory is refused to such a one, the
-# answers behind it are others.
+# Refuses each request for memory of the built programs vfs_refusals and vfs_demo, one a run, and
+# looks at how that run ends: until one meets no refusal.
 #
-# A run is right where it ends in one of these ways, and else wrong:
-# - the program wanted memory: status 4, some of the stored answers, and then `out of memory`;
-# - the server wanted memory: status 0, and the stored answers but for one `err OutOfMemory`;
-# - a smaller allocation was made in place of the refused one: status 0, and the stored answers.
+# vfs_refusals makes calls one after another, each in a part of its own (its src/main.rt has their
+# form). Of the allocations of a part one is refused. That part is right where it ends in one of
+# these ways, and all others where they are those of a run that is refused nothing:
 #
-# Usage: tools/refuse-allocations.sh [JOBS]
-# Where the proved program is built and there is a C compiler, it runs that, in a second. Otherwise
-# each run builds the program without a proof, in some ten seconds, with JOBS runs side by side, 2 if
-# left out. Status 0: each run was right.
+# - a reader or a writer: `OutOfMemory`, with the same counts as before;
+# - the server: `OutOfMemory`, with no call, and with room and options as before; in a session that
+#   outcome alone;
+# - the file system: an ENOMEM reply, the room behind it and the options as before; the call is the
+#   same, and its answer ENOMEM.
+#
+# The lines of vfs_demo's stored session are parts too, by one server over files in memory. What is
+# answered behind a refused one is what a session without that line answers: nothing was moved.
+# Behind them stands a LOOKUP of `a` twice, cut behind its header, which wants no memory, and inside
+# its name, which wants it once.
+#
+# vfs_demo answers its stored session. Any of its allocations is refused, and a run ends as above, or
+# the program itself wants memory: status 4, and `out of memory` behind some of the answers.
+#
+# Usage: tools/refuse-allocations.sh
+# It wants both programs built and as new as the sources, as `rt ci` leaves them, a C compiler and
+# Python, and takes seconds. Status 0: all runs ended so, and their counts are printed.
 set -eu
-. "$(dirname "$0")/program.sh"
-
-# How many requests that are, each with one answer.
-requests=12
-
-# Runs the proved program with allocation $1 refused, and keeps what it said in folder $2.
-run_built() {
-    local status=0
-    REFUSE_ALLOCATION=$1 REFUSE_ALLOCATION_COUNT=$2/count LD_PRELOAD=$2/refuse_allocation.so \
-        "$program" < "$2/stdin" > "$2/$1.out" 2> "$2/$1.err" || status=$?
-    echo "$status" > "$2/$1.status"
-}
-
-# The same with a program that is built for it, without a proof.
-run_unproved() {
-    local status=0
-    (cd "$crate" && rt try --fail-alloc "$1" < "$2/stdin") > "$2/$1.out" 2> "$2/$1.err" || status=$?
-    sed -n 's/^allocations: //p' "$2/$1.err" > "$2/count"
-    if ! grep -q '^run=ended' "$2/$1.err"; then
-        status='of no end'
-    fi
-    echo "$status" > "$2/$1.status"
-}
-
-# How the run with allocation $1 refused ended, by folder $2.
-ending_of() {
-    local status out
-    status=$(cat "$2/$1.status")
-    out=$2/$1.out
-    if [ "$status" = 0 ] && cmp -s "$out" "$stored"; then
-        echo "the stored answers"
-    elif [ "$status" = 0 ] && is_one_refused "$out"; then
-        echo "one request refused by the server"
-    elif [ "$status" = 4 ] && is_stopped "$out"; then
-        echo "the program out of memory"
-    else
-        echo "wrong: status $status"
-    fi
-}
-
-# Whether a file has the stored answers, but `err OutOfMemory` for one of them.
-is_one_refused() {
-    [ "$(wc -l < "$1")" = "$(wc -l < "$stored")" ] &&
-        [ "$(diff "$stored" "$1" | grep '^>')" = '> err OutOfMemory' ]
-}
-
-# Whether a file has some of the stored answers, from the first on, and then `out of memory`.
-is_stopped() {
-    local answers
-    answers=$(($(wc -l < "$1") - 1))
-    [ "$(tail -n 1 "$1")" = 'out of memory' ] &&
-        [ "$(head -n "$answers" "$1")" = "$(head -n "$answers" "$stored")" ]
-}
-
-if [ "${1:-}" = --run-unproved ]; then
-    run_unproved "$2" "$3"
-    exit 0
-fi
+cd "$(dirname "$0")/.."
 
 folder=$(mktemp -d)
 trap 'rm -rf "$folder"' EXIT
-stored=$folder/stdout
-head -n "$requests" "$crate/stdin" > "$folder/stdin"
-head -n "$requests" "$crate/stdout" > "$stored"
+"${CC:-cc}" -shared -fPIC -O2 -o "$folder/refuse_allocation.so" tools/refuse_allocation.c -ldl
 
-if is_built && command -v cc > /dev/null; then
-    echo "The proved program, $program:"
-    cc -shared -fPIC -o "$folder/refuse_allocation.so" "$here/tools/refuse_allocation.c" -ldl
-    run=run_built
-else
-    need_toolchain
-    echo "The program, built for each run and without a proof:"
-    run=run_unproved
-fi
+python3 - "$folder" <<'PYTHON'
+import collections, glob, os, re, subprocess, sys, threading
+from concurrent.futures import ThreadPoolExecutor
 
-# A run that is refused none counts them.
-none=1000000000
-"$run" "$none" "$folder"
-count=$(cat "$folder/count")
-if [ -z "$count" ] || [ "$(ending_of "$none" "$folder")" != 'the stored answers' ]; then
-    echo "A run that is refused nothing does not give the stored answers:" >&2
-    cat "$folder/$none.out" "$folder/$none.err" >&2
-    exit 1
-fi
-echo "The session makes $count allocations. With one of them refused:"
+FOLDER = sys.argv[1]
+FILL = "a5"
+ENOMEM = "10000000f4ffffff"
+UNREFUSED = 1 << 40
 
-if [ "$run" = run_built ]; then
-    for number in $(seq 1 "$count"); do
-        run_built "$number" "$folder"
-    done
-else
-    seq 1 "$count" | xargs -P "${1:-2}" -I '{}' "$0" --run-unproved '{}' "$folder"
-fi
+Part = collections.namedtuple("Part", "name state answers now calls")
+Run = collections.namedtuple("Run", "status output counts")
 
-for number in $(seq 1 "$count"); do
-    ending=$(ending_of "$number" "$folder")
-    echo "$ending" >> "$folder/endings"
-    case $ending in
-        wrong:*)
-            echo "$ending, with allocation $number refused:" >&2
-            cat "$folder/$number.out" "$folder/$number.err" >&2
-            ;;
-    esac
-done
-sort "$folder/endings" | uniq -c
-! grep -q '^wrong' "$folder/endings"
+
+def built(name):
+    """The path of a built program."""
+    path = f"crates/{name}/out/{name}"
+    sources = [it for kind in ("src", "specs", "proofs")
+               for it in glob.glob(f"crates/*/{kind}/**", recursive=True) if os.path.isfile(it)]
+    newest = max(os.path.getmtime(it) for it in ["crates.txt", *sources])
+    if not os.path.exists(path) or os.path.getmtime(path) < newest:
+        sys.exit(f"There is no {path} of today's sources. `rt ci` builds it, and so does "
+                 f"`rt run < stdin` in crates/{name}.")
+    return path
+
+
+def run(program, stdin, part=0, number=UNREFUSED):
+    """A run in which this allocation of this part is refused."""
+    counts = f"{FOLDER}/{threading.get_ident()}"
+    if os.path.exists(counts):
+        os.remove(counts)
+    names = {"LD_PRELOAD": f"{FOLDER}/refuse_allocation.so", "REFUSE_COUNTS": counts,
+             "REFUSE_PART": str(part), "REFUSE_ALLOCATION": str(number)}
+    ran = subprocess.run([program], input=stdin, env=names, timeout=60, capture_output=True)
+    made = []
+    if os.path.exists(counts):
+        with open(counts) as file:
+            made = [int(line) for line in file]
+    return Run(ran.returncode, ran.stdout.decode(), made)
+
+
+def refused(program, stdin, part, clean):
+    """The runs in which an allocation of this part is refused, each in turn."""
+    number = 1
+    while True:
+        it = run(program, stdin, part, number)
+        if len(it.counts) > part and it.counts[part] < number:
+            if it != clean:
+                raise ValueError(f"a run that met no refusal differs, part {part}")
+            return
+        yield it
+        number += 1
+
+
+def parts_of(output):
+    """The parts of what vfs_refusals wrote."""
+    parts = []
+    for text in output.split("request ")[1:]:
+        head, answered, *lines = text.splitlines()
+        name, _, state = head.partition("; ")
+        at = next(at for at, line in enumerate(lines) if line.startswith("now"))
+        answers = re.findall(r"(Ok\S*|Err\S*)\n(?:room (.*)\n)?", "\n".join(lines[:at]) + "\n")
+        now = lines[at].removeprefix("now ")
+        if answered != "answered" or not answers:
+            raise ValueError(f"no part: {text}")
+        parts.append(Part(name, state, answers, now, lines[at + 1:]))
+    return parts
+
+
+def ending_of(clean, part):
+    """Who answered that there was no memory, where a part ended so, or None."""
+    count = len(clean.answers)
+    changed = [at for at in range(count) if part.answers[at : at + 1] != clean.answers[at : at + 1]]
+    state = clean.state if count == 1 else clean.now
+    if part[:2] != clean[:2] or len(part.answers) != count or len(changed) != 1 or part.now != state:
+        return None
+    at, size = changed[0], len(clean.calls) // count
+    calls, behind = clean.calls[: size * at], clean.calls[size * (at + 1) :]
+    outcome, room = part.answers[at]
+    if outcome == "Err(OutOfMemory)" and room == FILL * (len(room) // 2):
+        who = "the server" if state.startswith("options") else "a reader or a writer"
+    elif outcome == "Ok(16)" and room == fault_in(clean.answers[at][1]):
+        who = "the file system"
+        calls += refused_calls(clean.calls[size * at :])
+    else:
+        return None
+    return who if part.calls == calls + behind else None
+
+
+def fault_in(room):
+    """The room that a reply fills, where it is the fault ENOMEM."""
+    return ENOMEM + room[16:32] + FILL * (len(room) // 2 - 16)
+
+
+def refused_calls(calls):
+    """The calls of a request of which the first is answered ENOMEM."""
+    if len(calls) > 1 and calls[1].startswith("  -> "):
+        return [calls[0], "  -> fault 12"]
+    return [re.sub(r" (Nothing|Ok|Fault) \d+$", " Fault 12", calls[0])]
+
+
+faults = []
+
+
+def wrong(what, it):
+    faults.append(what)
+    print(f"{what}: status {it.status}\n{it.output[-2000:]}", file=sys.stderr)
+
+
+class Refusals:
+    """The runs of vfs_refusals on some lines."""
+
+    def __init__(self, program, lines):
+        self.program, self.lines = program, lines
+        self.clean = run(program, self.stdin(), 0)
+        self.parts = parts_of(self.clean.output)
+        self.first_line = len(self.parts) - len(lines)
+        self.counts = self.clean.counts[1:]
+        if self.clean.status or len(self.counts) != len(self.parts):
+            raise ValueError("vfs_refusals, refused nothing, does not end well")
+
+    def stdin(self, but=None):
+        return b"".join(line for at, line in enumerate(self.lines) if at != but)
+
+    def wanted(self, at):
+        """The parts behind this one, where it was refused."""
+        if at < self.first_line:
+            return self.parts[at + 1:]
+        without = run(self.program, self.stdin(at - self.first_line))
+        return parts_of(without.output)[at:]
+
+    def endings(self, at):
+        """How a part ends, of which each allocation is refused in turn."""
+        if not self.counts[at]:
+            return []
+        behind, endings = self.wanted(at), []
+        for it in refused(self.program, self.stdin(), at + 1, self.clean):
+            endings.append(self.ending(at, behind, it))
+            if endings[-1] is None:
+                wrong(f"vfs_refusals, allocation {len(endings)} of {self.parts[at].name}", it)
+        return endings
+
+    def ending(self, at, behind, it):
+        """How this part ended in a run, where all others are as they should be, or None."""
+        parts = parts_of(it.output) if it.status == 0 else []
+        if parts[:at] != self.parts[:at] or parts[at + 1 :] != behind:
+            return None
+        return ending_of(self.parts[at], parts[at])
+
+
+def is_stopped(output, stored):
+    """Whether these are some of the stored answers, from the first on, and then want of memory."""
+    *answers, last = output.splitlines()
+    return last == "out of memory" and answers == stored[: len(answers)]
+
+
+def demo_ending(program, lines, stored, it):
+    """How a run of vfs_demo ended, by who wanted memory, or None."""
+    answers = it.output.splitlines()
+    if it.status == 4 and is_stopped(it.output, stored):
+        return "the program"
+    if it.status or len(answers) != len(stored):
+        return None
+    if answers == stored:
+        return "nobody, a smaller one was made in its place"
+    at = next(at for at in range(len(stored)) if answers[at] != stored[at])
+    unique = re.sub(rb"[^0-9a-f]", b"", lines[at].split(b" ")[1])[16:32].decode()
+    ends = {"err OutOfMemory": "the server", f"ok 16 {ENOMEM}{unique}": "the file system"}
+    without = run(program, b"".join(line for i, line in enumerate(lines) if i != at))
+    same = answers[at + 1:] == without.output.splitlines()[at:]
+    return ends.get(answers[at]) if same else None
+
+
+def try_demo(program, lines, stored):
+    stdin = b"".join(lines)
+    clean = run(program, stdin)
+    if clean.status or clean.output.splitlines() != stored:
+        raise ValueError("vfs_demo, refused nothing, does not give its stored answers")
+    with ThreadPoolExecutor(os.cpu_count()) as pool:
+        numbers = range(1, clean.counts[0] + 2)
+        runs = list(pool.map(lambda number: run(program, stdin, 0, number), numbers))
+    if runs.pop() != clean:
+        raise ValueError("vfs_demo wants more memory than it wanted")
+    endings = [demo_ending(program, lines, stored, it) for it in runs]
+    for number, (ending, it) in enumerate(zip(endings, runs), 1):
+        if ending is None:
+            wrong(f"vfs_demo, allocation {number}", it)
+    return endings
+
+
+def tell(what, endings):
+    counts = collections.Counter(endings)
+    told = ", ".join(f"{it} {counts[it]}" for it in sorted(counts, key=str))
+    print(f"{what}: {len(endings)} allocations refused in turn; answered by {told}", flush=True)
+
+
+refusals, demo = built("vfs_refusals"), built("vfs_demo")
+with open("crates/vfs_demo/stdin", "rb") as file:
+    lines = file.readlines()
+with open("crates/vfs_demo/stdout") as file:
+    stored = file.read().splitlines()
+header = next(it[1] for it in (re.match(rb"(144 2a00000001[0-9a-f]*)61\+00\n", it) for it in lines) if it)
+lookups = [header + b"+6100\n", header + b"61+00\n"]
+
+tried = Refusals(refusals, lines + lookups)
+with ThreadPoolExecutor(os.cpu_count()) as pool:
+    endings = list(pool.map(tried.endings, range(len(tried.parts))))
+if endings[-2:] != [[], ["the server"]]:
+    faults.append("LOOKUP of a")
+    print(f"LOOKUP of a, cut behind its header and in its name: {endings[-2:]}", file=sys.stderr)
+wanting = sum(len(it) > 0 for it in endings)
+print(f"vfs_refusals: {len(endings)} calls, of which {wanting} want memory")
+tell("vfs_refusals", sum(endings, []))
+tell("vfs_demo", try_demo(demo, lines, stored))
+sys.exit(1 if faults else 0)
+PYTHON

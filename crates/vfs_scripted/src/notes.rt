@@ -10,7 +10,6 @@ use vfs_flags::Fault;
 /// answer likewise.
 #[derive(Drop)]
 pub struct Notes {
-    alloc: Global,
     text: String,
     lacks: bool,
 }
@@ -19,10 +18,17 @@ impl Notes {
     /// No lines.
     pub fn new(alloc: Global) -> Notes {
         Notes {
-            alloc,
             text: String::new(alloc),
             lacks: false,
         }
+    }
+
+    /// No lines, with the room for so many bytes of them: noting these takes no memory.
+    pub fn with_room(alloc: Global, bytes: usize) -> Result<Notes, AllocError> {
+        Ok(Notes {
+            text: String::with_capacity(alloc, bytes)?,
+            lacks: false,
+        })
     }
 
     /// All lines so far, each with its newline.
@@ -160,12 +166,9 @@ impl Notes {
 
     /// Bytes in hex, with nothing before them.
     pub fn hex(&mut self, value: &[u8]) {
-        match hex::encode(self.alloc, value) {
-            Ok(value) => {
-                let noted = self.text.push_str(value.as_str());
-                self.keep(noted);
-            }
-            Err(_) => self.lacks = true,
+        for byte in value {
+            let noted = write!(self.text, "{byte:02x}");
+            self.keep(noted);
         }
     }
 

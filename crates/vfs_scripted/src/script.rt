@@ -37,7 +37,7 @@ use crate::notes::Notes;
 use crate::rules::{attr, bytes, entry, fault_of, handle, open_options, time, wanted_bits};
 use crate::told::{Told, bare_entry};
 use bitflags::Flags;
-use std::alloc::Global;
+use std::alloc::{AllocError, Global};
 use std::cell::RefCell;
 use std::collections::VecDeque;
 use std::mem;
@@ -67,6 +67,20 @@ impl<'a> ScriptFs<'a> {
             told,
             notes: Notes::new(alloc),
         }
+    }
+
+    /// The same with room for so many bytes of notes, so that noting these takes no memory.
+    pub fn with_room(
+        alloc: Global,
+        told: &'a RefCell<VecDeque<Told>>,
+        bytes: usize,
+    ) -> Result<ScriptFs<'a>, AllocError> {
+        Ok(ScriptFs {
+            alloc,
+            word: 0,
+            told,
+            notes: Notes::with_room(alloc, bytes)?,
+        })
     }
 
     /// The notes of all calls so far.
