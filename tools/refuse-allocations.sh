@@ -90,7 +90,7 @@ def parts_of(output):
         head, answered, *lines = text.splitlines()
         name, _, state = head.partition("; ")
         at = next(at for at, line in enumerate(lines) if line.startswith("now"))
-        answers = re.findall(r"(Ok\S*|Err\S*)\n(?:room (.*)\n)?", "\n".join(lines[:at]) + "\n")
+        answers = re.findall(r"^((?:Ok|Err).*)\n(?:room (.*)\n)?", "\n".join(lines[:at]) + "\n", re.M)
         now = lines[at].removeprefix("now ")
         if answered != "answered" or not answers:
             raise ValueError(f"no part: {text}")

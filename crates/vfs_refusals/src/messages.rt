@@ -7,7 +7,7 @@ use std::alloc::{AllocError, Global};
 use std::cell::RefCell;
 use std::collections::VecDeque;
 use std::io;
-use vfs_corpus::{Cut, MESSAGES, Message, agree, pieces};
+use vfs_corpus::{Cut, Message, agree, messages, pieces};
 use vfs_lines::{RunError, write_all};
 use vfs_scripted::ScriptFs;
 use vfs_server::server::Server;
@@ -20,32 +20,74 @@ const HEADER: usize = 40;
 
 /// Handles each message of the corpus, in each way.
 pub fn try_all<W: io::Write>(alloc: Global, output: &mut W) -> Result<(), RunError> {
-    for message in &MESSAGES {
-        let (bytes, room) = message.request(alloc)?;
-        let last = bytes.len().saturating_sub(1);
-        let cuts = [
-            ("whole", Cut::Whole),
-            ("cut behind its header", Cut::At(HEADER)),
-            ("cut before its last byte", Cut::At(last)),
-            ("in single bytes", Cut::Bytes),
-        ];
-        for (way, cut) in &cuts {
-            let segments = pieces(alloc, &bytes, *cut)?;
-            try_message(alloc, output, message, way, &segments, room)?;
-        }
-        let segments = pieces(alloc, &bytes, Cut::Bytes)?;
-        try_session(alloc, output, message, &segments, room)?;
+    for message in messages() {
+        try_each(alloc, output, message)?;
     }
     Ok(())
 }
 
-// Handles a message, in these segments, by `handle_message`.
-fn try_message<W: io::Write>(
+// Handles a message in each way.
+fn try_each<W: io::Write>(
+    alloc: Global,
+    output: &mut W,
+    message: &Message,
+) -> Result<(), RunError> {
+    let (bytes, room) = message.request(alloc)?;
+    let last = bytes.len().saturating_sub(1);
+    let header = Cut::At(HEADER);
+    try_cut(alloc, output, message, "whole", &bytes, Cut::Whole, room)?;
+    try_cut(
+        alloc,
+        output,
+        message,
+        "cut behind its header",
+        &bytes,
+        header,
+        room,
+    )?;
+    try_cut(
+        alloc,
+        output,
+        message,
+        "cut before its last byte",
+        &bytes,
+        Cut::At(last),
+        room,
+    )?;
+    try_cut(
+        alloc,
+        output,
+        message,
+        "in single bytes",
+        &bytes,
+        Cut::Bytes,
+        room,
+    )?;
+    let segments = pieces(alloc, &bytes, Cut::Bytes)?;
+    try_session(alloc, output, message, &segments, room)
+}
+
+// Cuts a message, and handles it by `handle_message`.
+fn try_cut<W: io::Write>(
     alloc: Global,
     output: &mut W,
     message: &Message,
     way: &str,
-    segments: &[&[u8]],
+    bytes: &[u8],
+    cut: Cut,
+    room: usize,
+) -> Result<(), RunError> {
+    let segments = pieces(alloc, bytes, cut)?;
+    try_message(alloc, output, message, way, &segments, room)
+}
+
+// Handles a message, in these segments, by `handle_message`.
+fn try_message<'a, W: io::Write>(
+    alloc: Global,
+    output: &mut W,
+    message: &Message,
+    way: &str,
+    segments: &'a [&'a [u8]],
     room: usize,
 ) -> Result<(), RunError> {
     let told = RefCell::new(VecDeque::new(alloc));
@@ -67,11 +109,11 @@ fn try_message<W: io::Write>(
 }
 
 // Handles a message, in these segments, three times by one `handle_session`.
-fn try_session<W: io::Write>(
+fn try_session<'a, W: io::Write>(
     alloc: Global,
     output: &mut W,
     message: &Message,
-    segments: &[&[u8]],
+    segments: &'a [&'a [u8]],
     room: usize,
 ) -> Result<(), RunError> {
     let told = RefCell::new(VecDeque::new(alloc));

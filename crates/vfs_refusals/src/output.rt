@@ -57,12 +57,12 @@ pub fn reader_over<'a>(alloc: Global, segments: &'a [&'a [u8]]) -> Result<Reader
 }
 
 /// Hands a server one request, and writes all of its part but the calls.
-pub fn answer<F: FileSystem, W: io::Write>(
+pub fn answer<'a, F: FileSystem, W: io::Write>(
     alloc: Global,
     output: &mut W,
     server: &mut Server<F>,
     name: &str,
-    segments: &[&[u8]],
+    segments: &'a [&'a [u8]],
     lengths: &[usize],
 ) -> Result<(), RunError> {
     let reader = reader_over(alloc, segments)?;
