@@ -23,7 +23,7 @@ fn run<W: io::Write>(alloc: Global, output: &mut W) -> Result<(), RunError> {
     let mut text = String::new(alloc);
     let mut tried = 0usize;
     let mut wrong = 0usize;
-    for message in messages() {
+    for message in &messages(alloc)? {
         let tally = try_message(alloc, message, Way::Messages)?;
         tried = tried.saturating_add(tally.tried);
         wrong = wrong.saturating_add(tally.wrong);
