@@ -20,7 +20,7 @@ const HEADER: usize = 40;
 
 /// Handles each message of the corpus, in each way.
 pub fn try_all<W: io::Write>(alloc: Global, output: &mut W) -> Result<(), RunError> {
-    for message in messages() {
+    for message in &messages(alloc)? {
         try_each(alloc, output, message)?;
     }
     Ok(())
