@@ -1,7 +1,7 @@
 /* Refuses one allocation of a program that is started with this library preloaded, and counts them.
  *
  * A part of a run goes from a line on standard output that begins with `request ` to the next line
- * there; the parts count from 1, and part 0 is all that lies outside of them. REFUSE_PART says of
+ * there; the parts count from 1, and 0 is all that lies outside of them. REFUSE_PART says of
  * which part an allocation is refused, and REFUSE_ALLOCATION which of that part's, counted from 1.
  * REFUSE_COUNTS names a file that gets a line for each part, from 0 on, as the program ends: how
  * many allocations were asked for in it, the refused one too.
