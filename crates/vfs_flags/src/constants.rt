@@ -67,6 +67,17 @@ pub const LK_FLOCK: u32 = 1 << 0;
 /// In `flags` of `struct fuse_poll_in`: the kernel wants a notification once the file is ready.
 pub const POLL_SCHEDULE_NOTIFY: u32 = 1 << 0;
 
+// Limits of a server, in bytes.
+
+/// The least limit that a server can be made for, of the payload of a request or a reply.
+pub const LEAST_MAX_BUFFER: u32 = 4096;
+
+/// The limit of a server that none was chosen for, of the payload of a request or a reply.
+pub const DEFAULT_MAX_BUFFER: u32 = 1_048_576;
+
+/// The greatest limit that a server can be made for, of the payload of a request or a reply.
+pub const GREATEST_MAX_BUFFER: u32 = 134_217_728;
+
 // Sizes, in bytes.
 
 /// The least room for a request that a reader of the device must offer.

@@ -57,3 +57,10 @@ pub fn sizes_have_their_numbers()
     ensures init_out_22 { FUSE_COMPAT_22_INIT_OUT_SIZE ≡ 24 }
     ensures setxattr_in { FUSE_COMPAT_SETXATTR_IN_SIZE ≡ 8 }
 {}
+
+/// The limits that a server can be made for.
+pub fn limits_have_their_numbers()
+    ensures least { LEAST_MAX_BUFFER ≡ 4096 }
+    ensures default { DEFAULT_MAX_BUFFER ≡ 1_048_576 }
+    ensures greatest { GREATEST_MAX_BUFFER ≡ 134_217_728 }
+{}

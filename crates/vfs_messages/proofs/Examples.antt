@@ -1,6 +1,7 @@
 -- The definitions held against examples: what these bytes ask, and what these replies are, computed.
 use Rattle.std.proofs.Common.{◌≡◌, ◌+◌, ◌/◌, ◌%◌, ◌^◌, ℕ, Bool, List, [], ◌∷◌, ◌++◌, take, replicate, true, false, Some, None, Ok, Err, refl, pos, negsuc}
 use Rattle.vfs_flags.specs.Opcode.{opcode_of}
+use Rattle.vfs_flags.specs.declared.constants.TheConstants.{GREATEST_MAX_BUFFER}
 use Rattle.vfs_wire.specs.Fields.{number, little, value_of}
 use Rattle.vfs_wire.specs.Attributes.{attr, setattr_in}
 use Rattle.vfs_wire.specs.declared.attributes.Attr.{Attr}
@@ -41,6 +42,14 @@ nobody = record { uid = 0; gid = 0; pid = pos 0 }
 
 abbrev usual : Limits
 usual = default_limits 4096
+
+-- payloads of two pages
+abbrev small : Limits
+small = record { page_size = 4096; max_buffer = 8192 }
+
+-- the largest payloads
+abbrev large : Limits
+large = record { page_size = 4096; max_buffer = GREATEST_MAX_BUFFER }
 
 abbrev echo : ℕ → Echo
 echo unique = record { unique = unique; max_readahead = 0; ctx = nobody }
@@ -635,3 +644,54 @@ room_of_10 = refl
 
 room_of_10_holds_the_beginning : put_room no_such_opcode (zeros 10) ≡ (16 ∷ zeros 3) ++ ((0xda ∷ 0xff ∷ 0xff ∷ 0xff ∷ []) ++ (9 ∷ 0 ∷ []))
 room_of_10_holds_the_beginning = refl
+
+-- ---- limits that were chosen
+
+len_at_a_chosen_limit : ask small 0 96 (header 12288 17 2 1) ≡ Asks (echo 2) (call.Statfs nobody 1)
+unfolding number little opcode_of
+len_at_a_chosen_limit = refl
+
+len_above_a_chosen_limit : ask small 0 16 (header 12289 17 2 1) ≡ said_so ((four 16 ++ (0xf4 ∷ 0xff ∷ 0xff ∷ 0xff ∷ [])) ++ eight 2)
+unfolding number little opcode_of
+len_above_a_chosen_limit = refl
+
+-- 512 pairs are looked for, and 513 are too many
+forget_at_a_chosen_limit : ask small 0 16 (header 48 42 9 0 ++ (four 512 ++ four 0)) ≡ refused DecodeMessage
+unfolding number little opcode_of
+forget_at_a_chosen_limit = refl
+
+forget_above_a_chosen_limit : ask small 0 16 (header 48 42 9 0 ++ (four 513 ++ four 0)) ≡ said_so ((four 16 ++ (0xf4 ∷ 0xff ∷ 0xff ∷ 0xff ∷ [])) ++ eight 9)
+unfolding number little opcode_of
+forget_above_a_chosen_limit = refl
+
+listxattr_at_a_chosen_limit : ask small 0 16 (header 48 23 9 1 ++ (four 8192 ++ zeros 4)) ≡ Asks (echo 9) (call.Listxattr nobody 1 8192)
+unfolding number little opcode_of
+listxattr_at_a_chosen_limit = refl
+
+listxattr_above_a_chosen_limit : ask small 0 16 (header 48 23 9 1 ++ (four 8193 ++ zeros 4)) ≡ said_so ((four 16 ++ (0xf4 ∷ 0xff ∷ 0xff ∷ 0xff ∷ [])) ++ eight 9)
+unfolding number little opcode_of
+listxattr_above_a_chosen_limit = refl
+
+readdir_at_a_chosen_limit : ask small 0 9000 (header 80 28 9 1 ++ (((eight 7 ++ eight 2) ++ four 8192) ++ zeros 20)) ≡ listed false 7 8192 2 8984
+unfolding number little opcode_of
+readdir_at_a_chosen_limit = refl
+
+readdir_above_a_chosen_limit : ask small 0 9000 (header 80 28 9 1 ++ ((zeros 16 ++ four 8193) ++ zeros 20)) ≡ said_so ((four 16 ++ (0xf4 ∷ 0xff ∷ 0xff ∷ 0xff ∷ [])) ++ eight 9)
+unfolding number little opcode_of
+readdir_above_a_chosen_limit = refl
+
+-- two pages are said, and 8192 bytes
+reply_of_init_with_a_chosen_limit : reply_of small (record { unique = 1; max_readahead = 131072; ctx = nobody }) 0 Agreements (Options 0)
+    ≡ Bytes ((((((0x50 ∷ zeros 7) ++ (1 ∷ zeros 7)) ++ ((four 7 ++ four 38) ++ (0 ∷ 0 ∷ 2 ∷ 0 ∷ [])))
+    ++ (zeros 4 ++ (0xff ∷ 0xff ∷ 0xfd ∷ 0xbf ∷ []))) ++ ((0 ∷ 0x20 ∷ 0 ∷ 0 ∷ []) ++ ((1 ∷ zeros 3) ++ (2 ∷ 0 ∷ 0 ∷ 0 ∷ []))))
+    ++ zeros 32)
+unfolding number little
+reply_of_init_with_a_chosen_limit = refl
+
+-- the largest payloads take 32,768 pages
+reply_of_init_with_the_largest_limit : reply_of large (record { unique = 1; max_readahead = 131072; ctx = nobody }) 0 Agreements (Options 0)
+    ≡ Bytes ((((((0x50 ∷ zeros 7) ++ (1 ∷ zeros 7)) ++ ((four 7 ++ four 38) ++ (0 ∷ 0 ∷ 2 ∷ 0 ∷ [])))
+    ++ (zeros 4 ++ (0xff ∷ 0xff ∷ 0xfd ∷ 0xbf ∷ []))) ++ ((0 ∷ 0 ∷ 0 ∷ 8 ∷ []) ++ ((1 ∷ zeros 3) ++ (0 ∷ 0x80 ∷ 0 ∷ 0 ∷ []))))
+    ++ zeros 32)
+unfolding number little
+reply_of_init_with_the_largest_limit = refl

@@ -1,7 +1,8 @@
 -- What the bytes of a reply that fits say is what was answered.
-use Rattle.std.proofs.Common.{◌≡◌, ◌<◌, ℕ, Bool, true, false, List, [], ◌∷◌, ◌++◌, length, take, drop, nat_le, if◌then◌else◌, Option, Result, Ok, Err, refl, ap, sym, ◌∙◌, subst, inl, inr, append_assoc, pos, ◌+◌, ◌*◌, ◌/◌, ◌%◌, ◌^◌, bit_or, lit<, zero, suc, slice_index, arith}
+use Rattle.std.proofs.Common.{◌≡◌, ◌<◌, ◌≤◌, ◌-◌, ℕ, Bool, true, false, List, [], ◌∷◌, ◌++◌, length, take, drop, nat_le, if◌then◌else◌, Option, Result, Ok, Err, refl, ap, sym, ◌∙◌, subst, inl, inr, append_assoc, pos, ◌+◌, ◌*◌, ◌/◌, ◌%◌, ◌^◌, bit_or, lit<, zero, suc, slice_index, arith}
 use Rattle.std.proofs.lemmas.List.{take_at, drop_at, drop-drop, take-append-drop}
 use Rattle.std.proofs.lemmas.Nat.{and_le_r, or_lt}
+use Rattle.std.proofs.Math.Nat.{mul-div-le, mul-le-mul_right}
 use Rattle.std.specs.declared.time.Duration.{Duration}
 use Rattle.vfs_flags.specs.Flags.{supported_fs_options}
 use Rattle.vfs_wire.specs.Fields.{Table, Fit, little, number, row, numbers_at, bytes_of, value_of}
@@ -30,6 +31,7 @@ use Rattle.vfs_files.specs.declared.entry.Entry.{Entry}
 use Rattle.vfs_messages.specs.Ask.{ask}
 use Rattle.vfs_messages.specs.Forms.{Listing, Ask, Ends, Asks, Lists, Copies}
 use Rattle.vfs_messages.specs.Laws.{IsAnswered, body_in}
+use Rattle.vfs_messages.specs.Limits.{AreLimits, max_pages}
 use Rattle.vfs_messages.specs.Options.{agreed, options_after}
 use Rattle.vfs_messages.specs.Reply.{Echo, Saying, Body, said, said_open, said_by, is_open, say, body_reply, init_out_of, attr_out_of, open_out_of, getxattr_out_of, write_out_of}
 use Rattle.vfs_messages.specs.Room.{IsReplied}
@@ -39,6 +41,16 @@ use Rattle.vfs_messages.specs.declared.error.Error.{Error}
 use Rattle.vfs_messages.specs.declared.error.Error.TheVariants.{EncodeMessage}
 use Rattle.vfs_messages.proofs.Rooms.{length-header}
 use Rattle.vfs_messages.proofs.Turns.{after_call, of_its_kind}
+
+-- how many pages a payload takes can be said in two bytes
+pages_fit : (limits : Limits) → AreLimits limits → max_pages limits < 256 ^ 2
+pages_fit limits are =
+    let n : ℕ = limits.max_buffer - 1 in
+    let pages : ℕ = n / limits.page_size in
+    let whole : limits.page_size * pages ≤ n = mul-div-le n limits.page_size in
+    let large : 4096 * pages ≤ limits.page_size * pages = mul-le-mul_right pages are.page in
+    let most : limits.max_buffer ≤ 134217728 = are.greatest in
+    omega (arith, whole, large, most)
 
 -- bytes that stand at the beginning of a room
 record Begins (reply room_after : List ℕ) : Type 0 where
@@ -221,6 +233,14 @@ module _ (limits : Limits) (echo : Echo) (after : ℕ) (room_after : List ℕ) w
       number_in_row 6 0 init_out.widths (init_out.fields out) (body_in room_after) b.rest (behind (bytes_of init_out out) room_after echo.unique b) refl (lit< tt) small
   max_write_by _ want a b small = absurd a
 
+  max_pages_by : (kind : Kind) (want : ℕ) → IsAnswer kind (Options want) → SaidBy kind (Options want) → max_pages limits < 256 ^ 2
+      → (value_of init_out (body_in room_after)).max_pages ≡ max_pages limits
+  unfolding SaidIn SaidBy
+  max_pages_by Agreements want a b small =
+      let out = init_out_of limits echo.max_readahead after in
+      number_in_row 8 0 init_out.widths (init_out.fields out) (body_in room_after) b.rest (behind (bytes_of init_out out) room_after echo.unique b) refl (lit< tt) small
+  max_pages_by _ want a b small = absurd a
+
   -- the two words of flags in INIT's reply are the options together
   flags_by : (kind : Kind) (want : ℕ) → IsAnswer kind (Options want) → SaidBy kind (Options want) → after < 2 ^ 64
       → (value_of init_out (body_in room_after)).flags + 2 ^ 32 * (value_of init_out (body_in room_after)).flags2 ≡ after
@@ -260,6 +280,13 @@ module _ (limits : Limits) (options after : ℕ) (t : Turn) where
   max_write_said want a small =
       let s = answered_says limits options (Options want) t after a in
       max_write_by limits s.echo after t.room_after s.kind want s.of_kind s.said_in small
+
+  pub max_pages_said : (want : ℕ) → IsAnswered limits options (Options want) t after → AreLimits limits
+      → (value_of init_out (body_in t.room_after)).max_pages ≡ max_pages limits
+  unfolding SaidBy
+  max_pages_said want a are =
+      let s = answered_says limits options (Options want) t after a in
+      max_pages_by limits s.echo after t.room_after s.kind want s.of_kind s.said_in (pages_fit limits are)
 
   pub entry_said : (entry : Entry) → IsAnswered limits options (Found entry) t after → value_of entry_out (body_in t.room_after) ≡ entry_out_of entry
   unfolding SaidBy

@@ -40,7 +40,7 @@ above_is : (test : Bool) (h : InHeader) (next : Ask) → test ≡ true → withi
 above_is true h next e = refl
 above_is false h next e = absurd cc
 
-module _ (limits : Limits) (default : limits.max_buffer ≡ 1048576) (options room : ℕ) (request : List ℕ) where
+module _ (limits : Limits) (options room : ℕ) (request : List ℕ) where
   -- what a request asks whose header is whole
   by_header : 40 ≤ length request
       → ask limits options room request
@@ -48,19 +48,19 @@ module _ (limits : Limits) (default : limits.max_buffer ≡ 1048576) (options ro
       (ask_number limits options room (opcode_in request) (header_of request) (behind_header request))
   by_header long = record_whole (nat_lt (length request) 40) (header_of request) _ (grind (arith, nat_tests))
 
-  pub len_within : 40 ≤ length request → (header_of request).len ≤ 1052672
+  pub len_within : 40 ≤ length request → (header_of request).len ≤ limits.max_buffer + 4096
       → ask limits options room request
       ≡ ask_number limits options room (opcode_in request) (header_of request) (behind_header request)
   len_within long small =
       by_header long ∙ within_is (nat_lt (max_len limits) (header_of request).len) (header_of request) _ (grind (arith, nat_tests))
 
-  pub len_above : 40 ≤ length request → 1052672 < (header_of request).len
+  pub len_above : 40 ≤ length request → limits.max_buffer + 4096 < (header_of request).len
       → ask limits options room request ≡ faulted 12 (header_of request)
   len_above long large =
       by_header long ∙ above_is (nat_lt (max_len limits) (header_of request).len) (header_of request) _ (grind (arith, nat_tests))
 
   -- what a BATCH_FORGET asks whose record is whole
-  by_count : 48 ≤ length request → (header_of request).len ≤ 1052672 → opcode_in request ≡ Some BatchForget
+  by_count : 48 ≤ length request → (header_of request).len ≤ limits.max_buffer + 4096 → opcode_in request ≡ Some BatchForget
       → ask limits options room request
       ≡ within (nat_lt limits.max_buffer (count_of_pairs request * 16)) (header_of request)
       (refused_or (pairs_in (count_of_pairs request) (drop 8 (behind_header request))) (λ pairs.
@@ -71,7 +71,7 @@ module _ (limits : Limits) (default : limits.max_buffer ≡ 1048576) (options ro
       ∙ record_whole (nat_lt (length (behind_header request)) 8) (value_of batch_forget_in (behind_header request)) _
       (let size = length-drop 40 request in grind (arith, nat_tests))
 
-  pub pairs_within : 48 ≤ length request → (header_of request).len ≤ 1052672 → opcode_in request ≡ Some BatchForget → count_of_pairs request ≤ 65536
+  pub pairs_within : 48 ≤ length request → (header_of request).len ≤ limits.max_buffer + 4096 → opcode_in request ≡ Some BatchForget → 16 * count_of_pairs request ≤ limits.max_buffer
       → ask limits options room request
       ≡ refused_or (pairs_in (count_of_pairs request) (drop 48 request)) (λ pairs.
       Copies (Asks (echo_of (header_of request)) (call.BatchForget (context_of (header_of request)) pairs)))
@@ -82,7 +82,7 @@ module _ (limits : Limits) (default : limits.max_buffer ≡ 1048576) (options ro
       refused_or (pairs_in (count_of_pairs request) bytes) (λ pairs.
       Copies (Asks (echo_of (header_of request)) (call.BatchForget (context_of (header_of request)) pairs)))) (drop-drop 8 40 request)
 
-  pub pairs_above : 48 ≤ length request → (header_of request).len ≤ 1052672 → opcode_in request ≡ Some BatchForget → 65536 < count_of_pairs request
+  pub pairs_above : 48 ≤ length request → (header_of request).len ≤ limits.max_buffer + 4096 → opcode_in request ≡ Some BatchForget → limits.max_buffer < 16 * count_of_pairs request
       → ask limits options room request ≡ faulted 12 (header_of request)
   pairs_above long small is many =
       by_count long small is

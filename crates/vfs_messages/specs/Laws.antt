@@ -3,6 +3,7 @@ use Rattle.std.specs.Prelude.{◌≡◌, ◌≤◌, ◌<◌, ◌+◌, ◌/◌, �
 use Rattle.std.specs.Int.{bit_at}
 use Rattle.std.specs.List.{All}
 use Rattle.vfs_flags.specs.Flags.{supported_fs_options}
+use Rattle.vfs_flags.specs.declared.constants.TheConstants.{DEFAULT_MAX_BUFFER}
 use Rattle.vfs_flags.specs.Opcode.{opcode_of}
 use Rattle.vfs_flags.specs.declared.opcode.Opcode.{Opcode}
 use Rattle.vfs_flags.specs.declared.opcode.Opcode.TheVariants as opcode
@@ -22,7 +23,6 @@ use Rattle.vfs_messages.specs.Reply.{Reply, Bytes, fault_reply, body_reply}
 use Rattle.vfs_messages.specs.Room.{IsPutOpen}
 use Rattle.vfs_messages.specs.Turn.{Witness, Turn, IsRead, IsTurn, turn_tells}
 use Rattle.vfs_messages.specs.declared.limits.Limits.{Limits}
-use Rattle.vfs_messages.specs.declared.limits.TheConstants.{DEFAULT_MAX_BUFFER}
 
 -- the header that a request begins with
 abbrev pub header_of : (request : List ℕ) → InHeader

@@ -1,5 +1,6 @@
 -- The sizes that a server goes by, and what follows of them.
 use Rattle.std.specs.Prelude.{◌≤◌, ◌+◌, ◌-◌, ◌/◌, ℕ}
+use Rattle.vfs_flags.specs.declared.constants.TheConstants.{LEAST_MAX_BUFFER, GREATEST_MAX_BUFFER}
 use Rattle.vfs_messages.specs.declared.limits.Limits.{Limits}
 
 -- the bytes that a request may have before its payload
@@ -17,5 +18,5 @@ max_pages limits = (limits.max_buffer - 1) / limits.page_size + 1
 -- what a server may be made for: pages of at least 4 KiB, and payloads of 4 KiB to 128 MiB
 pub record AreLimits (limits : Limits) : Type 0 where
   pub page : 4096 ≤ limits.page_size
-  pub least : 4096 ≤ limits.max_buffer
-  pub greatest : limits.max_buffer ≤ 134217728
+  pub least : LEAST_MAX_BUFFER ≤ limits.max_buffer
+  pub greatest : limits.max_buffer ≤ GREATEST_MAX_BUFFER

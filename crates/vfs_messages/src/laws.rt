@@ -1,7 +1,7 @@
 //! What holds of every turn of a request, as laws: each function does nothing, and its clause says
 //! what was proved.
 
-ghost use Rattle.std.specs.Prelude.{◌≡◌, ◌≢◌, ◌<◌, ◌≤◌, ◌+◌, ◌*◌, ◌^◌, ◌⊎◌, ℕ, length, take, drop, List, [], ◌∷◌, Option, Ok, Err, Some};
+ghost use Rattle.std.specs.Prelude.{◌≡◌, ◌≢◌, ◌<◌, ◌≤◌, ◌+◌, ◌*◌, ◌-◌, ◌/◌, ◌^◌, ◌⊎◌, ℕ, length, take, drop, List, [], ◌∷◌, Option, Ok, Err, Some};
 ghost use Rattle.std.specs.declared.time.Duration.{Duration};
 ghost use Rattle.vfs_flags.specs.declared.opcode.Opcode.{Opcode};
 ghost use Rattle.vfs_wire.specs.Attributes.{attr_out};
@@ -27,13 +27,47 @@ ghost use Rattle.vfs_messages.specs.Laws.{header_of, unique_of, BeginsWithHeader
 ghost use Rattle.vfs_messages.specs.Laws.{default_limits, behind_header, opcode_in, count_of_pairs};
 ghost use Rattle.vfs_messages.specs.Laws.{CarriesData, size_asked, cut_turn_tells, LacksRoomForHeader};
 ghost use Rattle.vfs_messages.specs.Laws.{StopsForACause, ComesWhole, TakesFew};
-ghost use Rattle.vfs_messages.specs.Limits.{max_len};
+ghost use Rattle.vfs_messages.specs.Limits.{AreLimits, max_len};
 ghost use Rattle.vfs_messages.specs.Reply.{Echo, echo_of, attr_out_of, open_out_of};
 ghost use Rattle.vfs_messages.specs.Turn.{Turn, IsTurn, IsTurnWithMemory, Follows};
 ghost use Rattle.vfs_messages.specs.declared.error.Error.{Error};
 ghost use Rattle.vfs_messages.specs.declared.limits.Limits.{Limits};
 
-use crate::limits::DEFAULT_MAX_BUFFER;
+/// What a server goes by that was made for these limits, whatever they are: INIT's reply says the
+/// largest payload as `max_write`, and in `max_pages` how many pages it takes. A `len` of more than
+/// it and 4096 is answered ENOMEM, 12, and with it the rest isn't looked at; and so is a
+/// BATCH_FORGET whose pairs, of sixteen bytes each, are more than it, whether they are there or
+/// not.
+pub fn limits_are_kept()
+    ensures max_write { (limits : Limits) (options after want : ℕ) (t : Turn) → AreLimits limits →
+        IsAnswered limits options (Options want) t after →
+        (value_of init_out (body_in t.room_after)).max_write ≡ limits.max_buffer }
+    ensures max_pages { (limits : Limits) (options after want : ℕ) (t : Turn) → AreLimits limits →
+        IsAnswered limits options (Options want) t after →
+        (value_of init_out (body_in t.room_after)).max_pages
+        ≡ (limits.max_buffer - 1) / limits.page_size + 1 }
+    ensures len_within { (limits : Limits) (options room : ℕ) (request : List ℕ) →
+        40 ≤ length request → (header_of request).len ≤ limits.max_buffer + 4096 →
+        ask limits options room request
+        ≡ ask_number limits options room (opcode_in request)
+        (header_of request) (behind_header request) }
+    ensures len_above { (limits : Limits) (options room : ℕ) (request : List ℕ) →
+        40 ≤ length request → limits.max_buffer + 4096 < (header_of request).len →
+        ask limits options room request ≡ faulted 12 (header_of request) }
+    ensures pairs_within { (limits : Limits) (options room : ℕ) (request : List ℕ) →
+        48 ≤ length request → (header_of request).len ≤ limits.max_buffer + 4096 →
+        opcode_in request ≡ Some Opcode.BatchForget →
+        16 * count_of_pairs request ≤ limits.max_buffer →
+        ask limits options room request
+        ≡ refused_or (pairs_in (count_of_pairs request) (drop 48 request)) (λ pairs.
+        Copies (Asks (echo_of (header_of request))
+        (BatchForget (context_of (header_of request)) pairs))) }
+    ensures pairs_above { (limits : Limits) (options room : ℕ) (request : List ℕ) →
+        48 ≤ length request → (header_of request).len ≤ limits.max_buffer + 4096 →
+        opcode_in request ≡ Some Opcode.BatchForget →
+        limits.max_buffer < 16 * count_of_pairs request →
+        ask limits options room request ≡ faulted 12 (header_of request) }
+{}
 
 /// The limits of a server of which nothing is said but the size of a page, in numbers: payloads of
 /// 1,048,576 bytes, which INIT's reply says as `max_write`, and requests whose `len` is at most
@@ -41,7 +75,6 @@ use crate::limits::DEFAULT_MAX_BUFFER;
 /// BATCH_FORGET has at most 65,536 pairs; of more it is answered ENOMEM, whether they are there or
 /// not.
 pub fn limits_have_their_numbers()
-    ensures buffer { DEFAULT_MAX_BUFFER ≡ 1_048_576 }
     ensures largest_len { (page_size : ℕ) → max_len (default_limits page_size) ≡ 1_052_672 }
     ensures max_write { (page_size options after want : ℕ) (t : Turn) →
         IsAnswered (default_limits page_size) options (Options want) t after →

@@ -16,7 +16,7 @@ pub mod uses;
 
 pub use error::{Error, Result};
 pub use extensions::{get_extensions, parse_security_context, parse_sup_groups};
-pub use limits::{DEFAULT_MAX_BUFFER, Limits};
+pub use limits::Limits;
 pub use options::{agreed_options, offered_options, read_second_flags, reply_init, reply_version};
 pub use reply::{
     hold_header, reply_attr, reply_created, reply_data, reply_done, reply_entry, reply_error,

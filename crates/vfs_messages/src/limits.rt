@@ -1,9 +1,5 @@
 //! What a server is made for.
 
-/// The largest payload of a READ or a WRITE that a server takes where nothing else is said, in
-/// bytes.
-pub const DEFAULT_MAX_BUFFER: u32 = 1_048_576;
-
 /// The bytes that a request may have before its payload.
 const BEFORE_PAYLOAD: u32 = 4096;
 
@@ -12,7 +8,9 @@ const BEFORE_PAYLOAD: u32 = 4096;
 pub struct Limits {
     /// The size of a page of the machine, in bytes: at least 4096.
     pub page_size: u32,
-    /// The largest payload of a READ or a WRITE, in bytes: from 4096 to 134,217,728.
+    /// The largest payload of a request or a reply, in bytes: from
+    /// [`LEAST_MAX_BUFFER`](vfs_flags::LEAST_MAX_BUFFER) to
+    /// [`GREATEST_MAX_BUFFER`](vfs_flags::GREATEST_MAX_BUFFER).
     pub max_buffer: u32,
 }
 

@@ -1,8 +1,8 @@
 -- What a step says of one request that is written out.
-use Rattle.std.proofs.Common.{◌≡◌, ◌≤◌, ℕ, Bool, false, List, [], ◌∷◌, ◌++◌, length, drop, nat_lt, Option, Some, None, Result, Ok, Err, ap, ◌∙◌, arith, subst, refl, append-nil, inl, inr}
+use Rattle.std.proofs.Common.{◌≡◌, ◌≤◌, ℕ, Bool, false, true, List, [], ◌∷◌, ◌++◌, length, drop, nat_lt, Option, Some, None, Result, Ok, Err, ap, ◌∙◌, arith, subst, refl, append-nil, inl, inr}
 use Rattle.std.proofs.lemmas.Bool.Decides.{nat_tests}
 use Rattle.std.proofs.lemmas.List.{drop_all}
-use Rattle.vfs_flags.specs.Errors.{enosys}
+use Rattle.vfs_flags.specs.Errors.{enomem, enosys}
 use Rattle.vfs_flags.specs.Opcode.{opcode_of}
 use Rattle.vfs_wire.specs.Fields.{little, number, value_of}
 use Rattle.vfs_wire.specs.Headers.{in_header}
@@ -18,18 +18,18 @@ use Rattle.vfs_files.specs.Runs.{Event, Called, Opened, Taken, Happening, Calls,
 use Rattle.vfs_messages.specs.Ask.{ask}
 use Rattle.vfs_messages.specs.Forms.{Ask, Asks, within, faulted, refused}
 use Rattle.vfs_messages.specs.Limits.{max_len}
-use Rattle.vfs_messages.specs.Reply.{Echo, echo_of, reply_of}
+use Rattle.vfs_messages.specs.Reply.{Echo, echo_of, fault_reply, reply_of}
 use Rattle.vfs_messages.specs.Room.{IsReplied, IsPut}
 use Rattle.vfs_messages.specs.Turn.{Turn, Follows, IsTurn, turn_tells}
 use Rattle.vfs_messages.specs.Uses.{not_served_reply}
 use Rattle.vfs_messages.specs.declared.limits.Limits.{Limits}
 use Rattle.vfs_messages.specs.declared.error.Error.{Error}
 use Rattle.vfs_messages.specs.declared.error.Error.TheVariants.{EncodeMessage}
-use Rattle.vfs_messages.proofs.Rooms.{put_outcome-fits, put_room-fits}
+use Rattle.vfs_messages.proofs.Rooms.{length-fault_reply, put_outcome-fits, put_room-fits}
 use Rattle.vfs_server.specs.Step.{ServerState, IsStep, turn_over}
 use Rattle.vfs_server.specs.Memory.{WantsNoneBehind}
-use Rattle.vfs_server.specs.Uses.{statfs_reply, IsWithoutTail}
-use Rattle.vfs_server.specs.declared.uses.TheConstants.{READ, STATFS, UNKNOWN}
+use Rattle.vfs_server.specs.Uses.{statfs_reply, no_memory_reply, IsWithoutTail}
+use Rattle.vfs_server.specs.declared.uses.TheConstants.{LONG_STATFS, READ, STATFS, UNKNOWN}
 
 -- each call of these events has its default answer
 abbrev pub AreDefault : List Event → Type 0
@@ -65,6 +65,12 @@ unfolding number opcode_of
 ask-unknown limits options room =
     ap (λ (above : Bool). within above (value_of in_header UNKNOWN) (faulted enosys (value_of in_header UNKNOWN))) (len_40_is_within limits)
 
+ask-long : (limits : Limits) (options room : ℕ) → limits.max_buffer ≡ 8192 → ask limits options room LONG_STATFS ≡ faulted enomem (value_of in_header LONG_STATFS)
+unfolding number opcode_of
+ask-long limits options room small =
+    let above : nat_lt (max_len limits) 12289 ≡ true = grind (arith, nat_tests) in
+    ap (λ (is_above : Bool). within is_above (value_of in_header LONG_STATFS) (Asks (echo_of (value_of in_header LONG_STATFS)) (Statfs (context_of (value_of in_header LONG_STATFS)) 1))) above
+
 module _ {S I : Type 0} (allows : S → Call → Handed I → S → Type 0) (gives : I → Option Item → I → Type 0) where
   -- a run without events leaves the state as it was
   IsRun-no_events : (old new : S) (run : List (Happening I × S)) → IsRun allows gives None old run new → events_of run ≡ [] → new ≡ old
@@ -78,24 +84,43 @@ module _ {S I : Type 0} (allows : S → Call → Handed I → S → Type 0) (giv
       ∙ ap (λ (n : ℕ). let server : ServerState S = record { options = n; limits = new.limits; fs = old.fs } in server) o
       ∙ ap (λ (k : Limits). let server : ServerState S = record { options = old.options; limits = k; fs = old.fs } in server) l
 
-  -- what is seen of the request of an unknown opcode
-  pub record NotServed (old : ServerState S) (writer : Written) (outcome : Result ℕ Error) (writer_after : Written) (new : ServerState S) : Type 0 where
+  -- what is seen of a request that this reply of sixteen bytes ends
+  pub record Ended (reply : List ℕ) (old : ServerState S) (writer : Written) (outcome : Result ℕ Error) (writer_after : Written) (new : ServerState S) : Type 0 where
     pub outcome_is : outcome ≡ Ok 16
-    pub bytes : whole writer_after ≡ writer.passed ++ (not_served_reply ++ drop 16 writer.left)
+    pub bytes : whole writer_after ≡ writer.passed ++ (reply ++ drop 16 writer.left)
     pub state : new ≡ old
 
-  pub step-unknown : (old : ServerState S) (writer : Written) (outcome : Result ℕ Error) (writer_after : Written) (new : ServerState S) → IsStep allows gives old UNKNOWN writer outcome writer_after new → 16 ≤ length writer.left
-      → NotServed old writer outcome writer_after new
-  unfolding little number
-  step-unknown old writer outcome writer_after new s room =
-      let t : Turn = record { request = UNKNOWN; room = writer.left; events = events_of s.run; outcome = outcome; room_after = s.room_after } in
+  -- a request that a fault ends, whatever its bytes
+  pub step-fault : (request : List ℕ) (number : ℕ) (h : InHeader) (old : ServerState S) (writer : Written) (outcome : Result ℕ Error) (writer_after : Written) (new : ServerState S)
+      → ask old.limits old.options (length writer.left) request ≡ faulted number h → IsStep allows gives old request writer outcome writer_after new → 16 ≤ length writer.left
+      → Ended (fault_reply (Some number) h.unique) old writer outcome writer_after new
+  step-fault request number h old writer outcome writer_after new asks s room =
+      let t : Turn = record { request = request; room = writer.left; events = events_of s.run; outcome = outcome; room_after = s.room_after } in
       let P : Ask → Type 0 = λ a. Follows (turn_tells t) old.limits old.options a new.options in
-      let f = subst P (ask-unknown old.limits old.options (length writer.left)) s.turn in
+      let f = subst P asks s.turn in
+      let reply : List ℕ = fault_reply (Some number) h.unique in
+      let size : length reply ≡ 16 = length-fault_reply (Some number) h.unique in
+      let fits : length reply ≤ length writer.left = omega (arith, size, room) in
+      let behind : drop (length reply) writer.left ≡ drop 16 writer.left = ap (λ (n : ℕ). drop n writer.left) size in
       record {
-        outcome_is = f.1.says ∙ put_outcome-fits not_served_reply writer.left room;
-        bytes = s.leaves.kept ∙ ap (λ (l : List ℕ). writer.passed ++ l) (f.1.leaves ∙ put_room-fits not_served_reply writer.left room);
+        outcome_is = f.1.says ∙ put_outcome-fits reply writer.left fits ∙ ap (λ (n : ℕ). Ok n) size;
+        bytes =
+            s.leaves.kept
+            ∙ ap (λ (l : List ℕ). writer.passed ++ l) (f.1.leaves ∙ put_room-fits reply writer.left fits ∙ ap (λ (l : List ℕ). reply ++ l) behind);
         state = same_server old new (IsRun-no_events old.fs new.fs s.run s.is_run f.0) f.2 s.same_limits;
       }
+
+  pub step-unknown : (old : ServerState S) (writer : Written) (outcome : Result ℕ Error) (writer_after : Written) (new : ServerState S) → IsStep allows gives old UNKNOWN writer outcome writer_after new → 16 ≤ length writer.left
+      → Ended not_served_reply old writer outcome writer_after new
+  unfolding little number
+  step-unknown old writer outcome writer_after new s room =
+      step-fault UNKNOWN enosys (value_of in_header UNKNOWN) old writer outcome writer_after new (ask-unknown old.limits old.options (length writer.left)) s room
+
+  pub step-long : (old : ServerState S) (writer : Written) (outcome : Result ℕ Error) (writer_after : Written) (new : ServerState S) → IsStep allows gives old LONG_STATFS writer outcome writer_after new → old.limits.max_buffer ≡ 8192 → 16 ≤ length writer.left
+      → Ended no_memory_reply old writer outcome writer_after new
+  unfolding little number
+  step-long old writer outcome writer_after new s small room =
+      step-fault LONG_STATFS enomem (value_of in_header LONG_STATFS) old writer outcome writer_after new (ask-long old.limits old.options (length writer.left) small) s room
 
 -- what the request asks
 ask-read : (limits : Limits) (options : ℕ) → ask limits options 8 READ ≡ refused EncodeMessage

@@ -26,6 +26,11 @@ statfs_reply =
     (0x60 ∷ 0 ∷ 0 ∷ 0 ∷ 0 ∷ 0 ∷ 0 ∷ 0 ∷ 9 ∷ 0 ∷ 0 ∷ 0 ∷ 0 ∷ 0 ∷ 0 ∷ 0 ∷ [])
     ++ (replicate 40 0 ++ ((0 ∷ 2 ∷ 0 ∷ 0 ∷ 0xff ∷ 0 ∷ 0 ∷ 0 ∷ []) ++ replicate 32 0))
 
+-- the reply to request 2 that says ENOMEM: 16 bytes, and the error number 12 negated
+abbrev pub no_memory_reply : List ℕ
+no_memory_reply =
+    0x10 ∷ 0 ∷ 0 ∷ 0 ∷ 0xf4 ∷ 0xff ∷ 0xff ∷ 0xff ∷ 2 ∷ 0 ∷ 0 ∷ 0 ∷ 0 ∷ 0 ∷ 0 ∷ 0 ∷ []
+
 -- Request 7, INIT of version 7.38 with a read-ahead of 131,072 bytes, that offers the options of bits
 -- 0, 1 and 3: ASYNC_READ, POSIX_LOCKS and ATOMIC_O_TRUNC. It has a header and a record, of 56 bytes.
 abbrev pub init_request : List ℕ

@@ -16,6 +16,7 @@ mod xattrs;
 ghost use Rattle.std.specs.Prelude.{◌≡◌, ◌≢◌, ◌≤◌, length, vec_len, Err};
 ghost use Rattle.vfs_flags.specs.Flags.{fs_options_bits};
 ghost use Rattle.vfs_flags.specs.Opcode.{opcode_of};
+ghost use Rattle.vfs_flags.specs.declared.constants.TheConstants.{LEAST_MAX_BUFFER, GREATEST_MAX_BUFFER};
 ghost use Rattle.vfs_segments.specs.Written.{held_over};
 ghost use Rattle.vfs_files.specs.Calls.{Destroy};
 ghost use Rattle.vfs_files.specs.Answers.{Plain, Done};
@@ -31,10 +32,10 @@ use std::marker::Model;
 use vfs_books::laws::turns_keep_books;
 use vfs_files::FileSystem;
 use vfs_files::laws::runs_join;
-use vfs_flags::{Errno, FsOptions, Opcode};
+use vfs_flags::{DEFAULT_MAX_BUFFER, Errno, FsOptions, Opcode};
 pub use vfs_listings::add_dirent;
 use vfs_messages::laws::{directories_are_read, memory_is_wanted_for_copies};
-use vfs_messages::{DEFAULT_MAX_BUFFER, Limits, Result, read_record, reply_failed};
+use vfs_messages::{Limits, Result, read_record, reply_failed};
 pub use vfs_messages::{
     get_extensions, parse_security_context, parse_sup_groups, reply_error, reply_ok, reply_readdir,
 };
@@ -70,8 +71,8 @@ impl<F> Model for Server<F> {
 }
 
 impl<F> Server<F> {
-    /// A server over `fs`, with no options agreed. `page_size` is that of the machine in bytes, at
-    /// least 4096.
+    /// A server over `fs`, with no options agreed, and of the limit [`DEFAULT_MAX_BUFFER`].
+    /// `page_size` is that of the machine in bytes, at least 4096.
     pub fn new(fs: F, page_size: u32) -> Server<F>
         requires { 4096 ≤ page_size }
         ensures { result ≡ record {
@@ -80,14 +81,40 @@ impl<F> Server<F> {
           fs = fs;
         } }
     {
+        Server::with_limit(fs, page_size, DEFAULT_MAX_BUFFER)
+    }
+
+    /// A server over `fs`, with no options agreed, that takes and gives payloads of at most
+    /// `max_buffer` bytes: a READ and a WRITE as the reply to INIT says, the value of an extended
+    /// attribute, what a directory is asked for, and the pairs of a BATCH_FORGET. It is from
+    /// [`LEAST_MAX_BUFFER`](vfs_flags::LEAST_MAX_BUFFER) to
+    /// [`GREATEST_MAX_BUFFER`](vfs_flags::GREATEST_MAX_BUFFER). `page_size` is that of the machine
+    /// in bytes, at least 4096.
+    pub fn with_limit(fs: F, page_size: u32, max_buffer: u32) -> Server<F>
+        requires page { 4096 ≤ page_size }
+        requires least { LEAST_MAX_BUFFER ≤ max_buffer }
+        requires greatest { max_buffer ≤ GREATEST_MAX_BUFFER }
+        ensures { result ≡ record {
+          options = 0;
+          limits = record { page_size = page_size; max_buffer = max_buffer };
+          fs = fs;
+        } }
+    {
         Server {
             fs,
             options: FsOptions::empty(),
             limits: Limits {
                 page_size,
-                max_buffer: DEFAULT_MAX_BUFFER,
+                max_buffer,
             },
         }
+    }
+
+    /// The largest payload of a request or a reply, in bytes.
+    pub fn max_buffer(&self) -> u32
+        ensures { result ≡ self.now.limits.max_buffer }
+    {
+        self.limits.max_buffer
     }
 
     /// The options that the last accepted INIT agreed on; none before, and none after a DESTROY.

@@ -13,7 +13,7 @@ ghost use Rattle.vfs_files.specs.declared.migration.MigrateError.TheVariants.{Un
 ghost use Rattle.vfs_messages.specs.Laws.{header_of};
 ghost use Rattle.vfs_messages.specs.Uses.{not_served_reply};
 ghost use Rattle.vfs_messages.specs.declared.error.Error.TheVariants.{EncodeMessage, OutOfMemory};
-ghost use Rattle.vfs_server.specs.Uses.{statfs_reply, IsWithoutTail, ReadsOneRecord};
+ghost use Rattle.vfs_server.specs.Uses.{statfs_reply, no_memory_reply, IsWithoutTail, ReadsOneRecord};
 
 use crate::server::Server;
 use std::alloc::Global;
@@ -107,6 +107,39 @@ pub fn behind_a_hold<F: FileSystem>(
 {
     w.hold(16).ok()?;
     unknown_opcode(alloc, server, w)
+}
+
+/// A server for payloads of at most 8,192 bytes, and the limit that it tells.
+pub fn small_buffers<F>(fs: F) -> (Server<F>, u32)
+    ensures limits { result.0.limits ≡ record { page_size = 4096; max_buffer = 8192 } }
+    ensures told { result.1 ≡ 8192 }
+{
+    let server = Server::with_limit(fs, 4096, 8192);
+    let limit = server.max_buffer();
+    (server, limit)
+}
+
+/// Request 2, STATFS of node 1, whose `len` says 12,289 bytes: a header alone, of 40 bytes.
+const LONG_STATFS: [u8; 40] = [
+    1, 48, 0, 0, 17, 0, 0, 0, 2, 0, 0, 0, 0, 0, 0, 0, 1, 0, 0, 0, 0, 0, 0, 0, 0, 0, 0, 0, 0, 0, 0,
+    0, 0, 0, 0, 0, 0, 0, 0, 0,
+];
+
+/// Hands over a request that says to be one byte longer than a server for payloads of 8,192 bytes
+/// takes. The sixteen bytes that say ENOMEM stand at the front of the room, and all other bytes are
+/// as they were. `None` where there is no memory for the reader.
+pub fn len_above_a_chosen_limit(alloc: Global, w: &mut Writer) -> Option<usize>
+    requires { 16 ≤ length w.old.left }
+    ensures outcome { IfSome result (λ n. n ≡ 16) }
+    ensures bytes { OnSome result
+        (whole w.new ≡ w.old.passed ++ (no_memory_reply ++ drop 16 w.old.left)) }
+{
+    let (mut server, _) = small_buffers(Unserved {});
+    let segments = [LONG_STATFS.as_slice()];
+    let Ok(reader) = Reader::new(alloc, &segments) else {
+        return None;
+    };
+    server.handle_message(alloc, reader, w).ok()
 }
 
 /// Request 9, READ of three bytes of node 2: a header and a record, of 80 bytes.
