@@ -3,7 +3,8 @@
 #
 # Usage: tools/replay.sh LINES [EXPECTED]
 # Prints the answers to the lines of the file LINES; with EXPECTED, a file of answers, only the first
-# that differs, with its request. A bad line ends a session with status 2, here too.
+# that differs, with its request. A bad line ends a session with status 2, here too. The first line may
+# be `limit N`, which has no answer.
 #
 # It runs the proved program where that is built and no source is newer, and otherwise builds the
 # program without a proof, which takes some ten seconds. Status 0: each line was answered, as
@@ -47,9 +48,15 @@ at=$(cmp "$answers" "$expected" 2>&1 | sed -nE 's/.* line ([0-9]+)$/\1/p')
 if [ -z "$at" ]; then
     at=$(($(wc -l < "$answers") + 1))
 fi
+
+# A first line that sets the limit has no answer, unless it is the bad one.
+asked=$at
+if [[ $(head -n 1 "$lines") == 'limit '* && $(head -n 1 "$answers") != 'bad line 1' ]]; then
+    asked=$((at + 1))
+fi
 {
-    echo "The first difference is at line $at (status $status)."
-    echo "request:  $(sed -n "${at}p" "$lines")"
+    echo "The first difference is at answer $at, to line $asked (status $status)."
+    echo "request:  $(sed -n "${asked}p" "$lines")"
     echo "answer:   $(sed -n "${at}p" "$answers")"
     echo "expected: $(sed -n "${at}p" "$expected")"
 } >&2

@@ -1,7 +1,10 @@
 //! A file server in memory that answers the requests of a session, line by line.
 //!
 //! Standard input has a line for each request, with the rooms for its reply and its bytes, and
-//! standard output gets a line for each answer. The program takes no arguments and opens no file.
+//! standard output gets a line for each answer. The first line may be `limit N` in place of a
+//! request: then the server takes and gives payloads of at most N bytes, 4096 to 134217728, and else
+//! of 1048576. The program takes no arguments and opens no file; one that is started otherwise, or
+//! whose first line is bad, prints to standard error what it takes.
 //!
 //! The lines of its stored session, `stdin`, show:
 //!
@@ -21,10 +24,19 @@
 #![tactic(auto)]
 
 use std::process::ExitCode;
-use vfs_lines::{exit_status, report, run};
+use vfs_lines::{Program, USAGE_STATUS, exit_status, refuses_arguments, report_session, run};
+
+/// What the program's usage says of it.
+const PROGRAM: Program = Program {
+    name: "vfs_demo",
+    more_lines: "",
+};
 
 fn main(rt: HostRuntime) -> ExitCode {
+    if refuses_arguments(&rt, PROGRAM) {
+        return ExitCode::from(USAGE_STATUS);
+    }
     let outcome = run(rt.alloc(), &mut rt.stdin(), &mut rt.stdout());
-    let _ = report(&rt, &outcome);
+    let _ = report_session(&rt, &outcome, PROGRAM);
     ExitCode::from(exit_status(&outcome))
 }

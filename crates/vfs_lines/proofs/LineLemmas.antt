@@ -17,13 +17,13 @@ all_requests-more items i item asked lt so_far some =
     All-more IsRequest (texts_of items) i item.now within so_far (rw (at, some) (search rules))
 
 -- a line that asks nothing is the first of its kind, where all before it ask something
-pub first_bad : (items : List (Bor (List ℕ))) (i : ℕ) (item : Bor (List ℕ))
+pub first_bad : (counted : ℕ) (items : List (Bor (List ℕ))) (i : ℕ) (item : Bor (List ℕ))
     → i < length items → All IsRequest (take i (texts_of items)) → line_of (get_or items i item).now ≡ None
-    → IsFirstBad (texts_of items) (i + 1)
-first_bad items i item lt so_far none =
+    → IsFirstBad counted (texts_of items) (counted + i + 1)
+first_bad counted items i item lt so_far none =
     let at = get_or-map (λ (x : Bor (List ℕ)). x.now) items i item item.now lt in
     let within : i < length (texts_of items) = omega (arith, length-map items (λ (x : Bor (List ℕ)). x.now)) in
-    record { index = i; counted = refl; before = so_far; bad = rw (slice_get-get_or (texts_of items) i item.now within, at) none }
+    record { index = i; numbered = refl; before = so_far; bad = rw (slice_get-get_or (texts_of items) i item.now within, at) none }
 
 -- all lines before the end are all lines
 pub all_requests-whole : (items : List (Bor (List ℕ))) (i : ℕ)

@@ -1,9 +1,12 @@
--- The lines of a session: room lengths joined by `+`, one space, hex segments joined by `+`.
-use Rattle.std.specs.Prelude.{◌≡◌, ℕ, slice_index, slice_get, All, IsSome, IsSomeAnd, ◌+◌, ◌-◌, ◌*◌, ◌==◌, nat_le, Bool, ◌&&◌, if◌then◌else◌, List, [], ◌∷◌, ◌++◌, length, map, sum, fold, take, drop, position, Option, Some, None, Result, Ok, Err, Vec}
+-- The lines of a session: room lengths joined by `+`, one space, hex segments joined by `+`. The first
+-- line may set the server's limit in place of asking something.
+use Rattle.std.specs.Prelude.{◌≡◌, ℕ, slice_index, slice_get, All, IsSome, IsSomeAnd, ◌+◌, ◌-◌, ◌*◌, ◌==◌, nat_le, Bool, ◌&&◌, if◌then◌else◌, codes, is_some, List, [], ◌∷◌, ◌++◌, length, map, sum, fold, take, drop, position, Option, Some, None, Result, Ok, Err, Vec}
 use Rattle.std.specs.List.{slice_split, list_all}
 use Rattle.std.specs.Char.{is_ascii_digit}
+use Rattle.std.specs.Str.{bytes_eq}
 use Rattle.std.specs.declared.alloc.Global.{Global}
 use Rattle.hex.specs.Hex.{decode_of}
+use Rattle.vfs_flags.specs.declared.constants.TheConstants.{LEAST_MAX_BUFFER, DEFAULT_MAX_BUFFER, GREATEST_MAX_BUFFER}
 use Rattle.vfs_lines.specs.declared.error.RunError.{RunError}
 use Rattle.vfs_lines.specs.declared.error.RunError.TheVariants.{BadLine, Io, OutOfMemory}
 use Rattle.vfs_lines.specs.declared.line.Line.{Line}
@@ -16,14 +19,18 @@ parts text = slice_split (λ b. b == 43) text
 abbrev pub decimal_value : List ℕ → ℕ
 decimal_value text = fold (λ n digit. n * 10 + (digit - 48)) 0 text
 
--- one to seven decimal digits
-abbrev pub is_length_text : List ℕ → Bool
-is_length_text text =
-    nat_le 1 (length text) && nat_le (length text) 7 && list_all is_ascii_digit text
+-- `least` to `most` decimal digits
+abbrev pub is_number_text : ℕ → ℕ → List ℕ → Bool
+is_number_text least most text =
+    nat_le least (length text) && nat_le (length text) most && list_all is_ascii_digit text
 
--- the length that a part writes
+-- the number that a text writes in `least` to `most` decimal digits
+abbrev pub number_of : ℕ → ℕ → List ℕ → Option ℕ
+number_of least most text = if is_number_text least most text then Some (decimal_value text) else None
+
+-- the length that a part writes, in one to seven digits
 abbrev pub length_of : List ℕ → Option ℕ
-length_of text = if is_length_text text then Some (decimal_value text) else None
+length_of text = number_of 1 7 text
 
 -- the value of a result, if it has one
 abbrev pub ok_of : {A E : Type 0} → Result A E → Option A
@@ -83,24 +90,56 @@ abbrev pub lines_in : List ℕ → List (List ℕ)
 lines_in text =
     if length text == 0 then [] else slice_split (λ b. b == 10) (without_last_newline text)
 
+-- a number that a server's limit may be
+abbrev pub judged_limit : Option ℕ → Option ℕ
+judged_limit None = None
+judged_limit (Some number) =
+    if nat_le LEAST_MAX_BUFFER number && nat_le number GREATEST_MAX_BUFFER then Some number else None
+
+-- the limit that a line sets: `limit`, one space, and four to nine decimal digits within the bounds
+abbrev pub limit_of : List ℕ → Option ℕ
+limit_of text =
+    if bytes_eq (take 6 text) (codes "limit ") then judged_limit (number_of 4 9 (drop 6 text)) else None
+
+-- the limit that the first of these lines sets, if it does
+abbrev pub first_limit_of : List (List ℕ) → Option ℕ
+first_limit_of [] = None
+first_limit_of (line ∷ lines) = limit_of line
+
+-- the limit of a server, where this one or none was set
+abbrev pub or_default : Option ℕ → ℕ
+or_default None = DEFAULT_MAX_BUFFER
+or_default (Some limit) = limit
+
+-- how many lines of a session stand before its requests: one that sets the limit, or none
+abbrev pub before_requests : List (List ℕ) → ℕ
+before_requests lines = if is_some (first_limit_of lines) then 1 else 0
+
 -- a line that asks something
 abbrev pub IsRequest : List ℕ → Type 0
 IsRequest line = IsSome (line_of line)
 
--- the first line that asks nothing has this number, counted from 1
-pub record IsFirstBad (lines : List (List ℕ)) (number : ℕ) : Type 0 where
+-- the first of these lines that asks nothing has this number, counted from 1, where so many lines
+-- were counted before these
+pub record IsFirstBad (counted : ℕ) (lines : List (List ℕ)) (number : ℕ) : Type 0 where
   pub index : ℕ
-  pub counted : number ≡ index + 1
+  pub numbered : number ≡ counted + index + 1
   pub before : All IsRequest (take index lines)
   pub bad : IsSomeAnd (slice_get lines index) (λ line. line_of line ≡ None)
 
--- how a session of these lines may end: each asks something, or the first that does not is named,
--- or there was a fault or no memory
-abbrev pub EndsAs : List (List ℕ) → Result (Unit {0}) RunError → Type 0
-EndsAs lines (Ok done) = All IsRequest lines
-EndsAs lines (Err (BadLine number)) = IsFirstBad lines number
-EndsAs lines (Err Io) = Unit {0}
-EndsAs lines (Err OutOfMemory) = Unit {0}
+-- how the lines of requests may end, where so many lines were counted before them: each asks
+-- something, or the first that does not is named, or there was a fault or no memory
+abbrev pub EndsAs : ℕ → List (List ℕ) → Result (Unit {0}) RunError → Type 0
+EndsAs counted lines (Ok done) = All IsRequest lines
+EndsAs counted lines (Err (BadLine number)) = IsFirstBad counted lines number
+EndsAs counted lines (Err Io) = Unit {0}
+EndsAs counted lines (Err OutOfMemory) = Unit {0}
+
+-- how a session of these lines may end: as its requests, behind a line that sets the limit, if there
+-- is one
+abbrev pub EndsSession : List (List ℕ) → Result (Unit {0}) RunError → Type 0
+EndsSession lines result =
+    EndsAs (before_requests lines) (drop (before_requests lines) lines) result
 
 -- how a session ends whose first bad line has this number, where there is one
 abbrev pub ending : Option ℕ → Result (Unit {0}) RunError

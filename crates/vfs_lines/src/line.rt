@@ -1,7 +1,7 @@
 //! A line of a session: the rooms for a reply, and the segments of the request.
 ghost use Rattle.std.specs.Prelude.{◌≡◌, ◌↔◌, ◌<◌, ◌≤◌, ◌==◌, length, map, sum, position, IsTrue, IfOk, IfErr, IfSome};
 ghost use Rattle.std.specs.List.{slice_split};
-ghost use Rattle.vfs_lines.specs.Lines.{parts, length_of, segment_of, values_of, line_of, lines_in, request_option, numbers_option, lists_option};
+ghost use Rattle.vfs_lines.specs.Lines.{parts, number_of, length_of, segment_of, values_of, line_of, lines_in, request_option, numbers_option, lists_option};
 
 use crate::error::RunError;
 use hex::FromHexError;
@@ -100,15 +100,26 @@ fn cut<'a>(alloc: Global, text: &'a [u8], separator: u8) -> Result<Vec<&'a [u8]>
 fn parse_length(text: &[u8]) -> Option<usize>
     ensures { result ≡ length_of text.now }
 {
-    if text.is_empty() || text.len() > MOST_DIGITS {
+    match parse_number(text, 1, MOST_DIGITS) {
+        Some(number) => Some(number as usize),
+        None => None,
+    }
+}
+
+/// The number that `least` to `most` decimal digits write, where a text is so many and nothing else.
+pub fn parse_number(text: &[u8], least: usize, most: usize) -> Option<u32>
+    requires { most ≤ 9 }
+    ensures { result ≡ number_of least most text.now }
+{
+    if text.len() < least || text.len() > most {
         return None;
     }
-    let mut number = 0usize;
+    let mut number = 0u32;
     for byte in text {
         if !byte.is_ascii_digit() {
             return None;
         }
-        number = number * 10 + usize::from(*byte - b'0');
+        number = number * 10 + u32::from(*byte - b'0');
     }
     Some(number)
 }

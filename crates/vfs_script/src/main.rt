@@ -9,19 +9,35 @@
 //!   rules say.
 //! - A line that begins with `#` is passed over.
 //!
+//! The first line of all may be `limit N` in place of one of these, as in `vfs_demo`.
+//!
 //! What each call is answered else is a function of its caller's process, by the file system of
 //! `vfs_scripted`, so that any request can be made to meet any answer, and another implementation of
 //! the protocol with the same file system must write the same lines. The program takes no arguments
-//! and opens no file.
+//! and opens no file; one that is started otherwise, or whose first line is bad, prints to standard
+//! error what it takes.
 #![tactic(auto)]
 
 mod run;
 
 use std::process::ExitCode;
-use vfs_lines::{exit_status, report};
+use vfs_lines::{Program, USAGE_STATUS, exit_status, refuses_arguments, report_session};
+
+/// What the program's usage says of it.
+const PROGRAM: Program = Program {
+    name: "vfs_script",
+    more_lines: "\
+  answer ANSWER   What the next call is answered: N, fault N, fault none, items ITEM ..
+                  or endless ITEM .., where an ITEM is INO,OFFSET,TYPE,NAME.
+  # ..            Nothing.
+",
+};
 
 fn main(rt: HostRuntime) -> ExitCode {
+    if refuses_arguments(&rt, PROGRAM) {
+        return ExitCode::from(USAGE_STATUS);
+    }
     let outcome = run::run(rt.alloc(), &mut rt.stdin(), &mut rt.stdout());
-    let _ = report(&rt, &outcome);
+    let _ = report_session(&rt, &outcome, PROGRAM);
     ExitCode::from(exit_status(&outcome))
 }

@@ -4,12 +4,12 @@ use std::alloc::Global;
 use std::cell::RefCell;
 use std::collections::VecDeque;
 use std::io;
-use vfs_lines::{Line, RunError, answer_to, lines_of, parse_line, read_all, write_all};
+use vfs_lines::{
+    Line, RunError, answer_to, lines_before_requests, lines_of, parse_line, read_all, server_for,
+    write_all,
+};
 use vfs_scripted::{ScriptFs, Told, parse_told};
 use vfs_server::server::Server;
-
-/// The page size of the server, in bytes.
-const PAGE_SIZE: u32 = 4096;
 
 /// What a line with an answer begins with.
 const ANSWER: &[u8] = b"answer ";
@@ -26,8 +26,8 @@ enum Said {
 }
 
 /// Reads all of `input`, answers each line before the first bad one, and then writes the answers
-/// and the calls to `output`. For a bad line `bad line N` is written after them, where N counts all
-/// lines, and [`RunError::BadLine`] answered.
+/// and the calls to `output`. The first line may set the server's limit, and has no answer then. For
+/// a bad line `bad line N` is written after them, where N counts all lines, and [`RunError::BadLine`] answered.
 pub fn run<R: io::Read, W: io::Write>(
     alloc: Global,
     input: &mut R,
@@ -43,9 +43,10 @@ pub fn run<R: io::Read, W: io::Write>(
 // Answers each line of a text before the first bad one.
 fn answer_all(alloc: Global, text: &[u8], answers: &mut String) -> Result<(), RunError> {
     let told = RefCell::new(VecDeque::new(alloc));
-    let mut server = Server::new(ScriptFs::new(alloc, &told), PAGE_SIZE);
     let lines = lines_of(alloc, text)?;
-    for (index, line) in lines.iter().enumerate() {
+    let mut server = server_for(ScriptFs::new(alloc, &told), &lines);
+    let before = lines_before_requests(&lines);
+    for (index, line) in lines.iter().enumerate().skip(before) {
         match read_line(alloc, line)? {
             Some(Said::Request(request)) => {
                 push_answer(alloc, &mut server, &request, answers)?;

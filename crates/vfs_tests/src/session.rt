@@ -74,6 +74,85 @@ static ENDS: [(&str, &str, &str, &str, Result<(), RunError>, u8); 5] = [
     ),
 ];
 
+/// A pair of a BATCH_FORGET: one lookup of node 2.
+const PAIR: &str = "02000000000000000100000000000000";
+
+/// An input whose first line sets a limit, or would, how many pairs stand behind it, what is
+/// answered, how the run ends, and the program's status then: what INIT tells of the limit, a `len`
+/// above the greatest and at it, as many pairs of a BATCH_FORGET, and bad lines.
+static LIMITED: [(&str, usize, &str, Result<(), RunError>, u8); 10] = [
+    (
+        "limit 8192\n80 380000001a000000010000000000000000000000000000000000000000000000000000000000000007000000260000000000020000000000",
+        0,
+        "ok 80 5000000000000000010000000000000007000000260000000000020000000000fffffdbf0020000001000000020000000000000000000000000000000000000000000000000000000000000000000000\n",
+        Ok(()),
+        0,
+    ),
+    (
+        "limit 134217728\n80 380000001a000000010000000000000000000000000000000000000000000000000000000000000007000000260000000000020000000000",
+        0,
+        "ok 80 5000000000000000010000000000000007000000260000000000020000000000fffffdbf0000000801000000008000000000000000000000000000000000000000000000000000000000000000000000\n",
+        Ok(()),
+        0,
+    ),
+    (
+        "limit 8192\n16 01300000110000000200000000000000010000000000000000000000000000000000000000000000",
+        0,
+        "ok 16 10000000f4ffffff0200000000000000\n",
+        Ok(()),
+        0,
+    ),
+    (
+        "limit 8192\n96 00300000110000000200000000000000010000000000000000000000000000000000000000000000",
+        0,
+        "ok 96 600000000000000002000000000000000000000000000000000000000000000000000000000000000000000000000000000000000000000000020000ff0000000000000000000000000000000000000000000000000000000000000000000000\n",
+        Ok(()),
+        0,
+    ),
+    (
+        "limit 8192\n16 300000002a00000003000000000000000000000000000000000000000000000000000000000000000102000000000000",
+        0,
+        "ok 16 10000000f4ffffff0300000000000000\n",
+        Ok(()),
+        0,
+    ),
+    (
+        "limit 8192\n16 302000002a00000003000000000000000000000000000000000000000000000000000000000000000002000000000000",
+        512,
+        "ok 0\n",
+        Ok(()),
+        0,
+    ),
+    (
+        "limit 4095\n80 380000001a000000010000000000000000000000000000000000000000000000000000000000000007000000260000000000020000000000",
+        0,
+        "bad line 1\n",
+        Err(RunError::BadLine(1)),
+        2,
+    ),
+    (
+        "limit 134217729\n80 380000001a000000010000000000000000000000000000000000000000000000000000000000000007000000260000000000020000000000",
+        0,
+        "bad line 1\n",
+        Err(RunError::BadLine(1)),
+        2,
+    ),
+    (
+        "limit 8192\n16",
+        0,
+        "bad line 2\n",
+        Err(RunError::BadLine(2)),
+        2,
+    ),
+    (
+        "limit 8192\nlimit 8192",
+        0,
+        "bad line 2\n",
+        Err(RunError::BadLine(2)),
+        2,
+    ),
+];
+
 /// A server over new files in memory, with a note of each of up to eleven calls.
 type FilesServer = Server<Recorder<MemFs>>;
 
@@ -107,6 +186,30 @@ fn a_session_is_answered_up_to_its_bad_line(rt: HostRuntime) -> Result<(), Fail>
                 && exit_status(&ended) == *status
                 && written.as_slice() == wanted.as_bytes(),
             "at {last:?}"
+        );
+    }
+    Ok(())
+}
+
+/// This text so many times.
+fn times(alloc: Global, text: &str, count: usize) -> Result<String, AllocError> {
+    let mut all = String::new(alloc);
+    for _ in 0..count {
+        all.push_str(text)?;
+    }
+    Ok(all)
+}
+
+#[test]
+fn a_first_line_sets_the_limit(rt: HostRuntime) -> Result<(), Fail> {
+    for (input, pairs, answers, end, status) in &LIMITED {
+        let last = times(rt.alloc(), PAIR, *pairs)?;
+        let (ended, written) = ran(rt.alloc(), input, last.as_str())?;
+        assert!(rt;
+            ended == *end
+                && exit_status(&ended) == *status
+                && written.as_slice() == answers.as_bytes(),
+            "at {input:?}"
         );
     }
     Ok(())

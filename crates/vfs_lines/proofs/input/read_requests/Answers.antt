@@ -6,7 +6,7 @@ use Rattle.vfs_lines.proofs.input.read_requests.Goals as goal
 pub returns-in-None-clause-read : goal.returns-in-None-clause-read
 returns-in-None-clause-read c =
     let none = sym c.in_ok-request.ensures.read ∙ ap request_option c.in-None.is in
-    first_bad c.args.lines.now c.loop-index.index _ c.loop-index-test.true c.loop-index.invariant none
+    first_bad c.args.counted c.args.lines.now c.loop-index.index _ c.loop-index-test.true c.loop-index.invariant none
 
 pub loop-index-preserved : goal.loop-index-preserved
 loop-index-preserved c =

@@ -2,7 +2,7 @@ use Rattle.std.proofs.Common.{◌≡◌, ◌<◌, ◌^◌, ℕ, List, true, take
 use Rattle.std.specs.List.{list_all}
 use Rattle.std.specs.Char.{is_ascii_digit}
 use Rattle.vfs_lines.specs.Lines.{decimal_value}
-use Rattle.vfs_lines.proofs.line.parse_length.Given as goal
+use Rattle.vfs_lines.proofs.line.parse_number.Given as goal
 
 -- what the digits so far write, and that they are digits
 pub record Read (text : List ℕ) (i number : ℕ) : Type 0 where
