@@ -35,7 +35,7 @@ import collections, glob, os, re, subprocess, sys, threading
 from concurrent.futures import ThreadPoolExecutor
 
 FOLDER = sys.argv[1]
-FILL = "a5"
+FILL = "00"
 ENOMEM = "10000000f4ffffff"
 UNREFUSED = 1 << 40
 
@@ -127,7 +127,7 @@ def refused_calls(calls):
     """The calls of a request of which the first is answered ENOMEM."""
     if len(calls) > 1 and calls[1].startswith("  -> "):
         return [calls[0], "  -> fault 12"]
-    return [re.sub(r" (Nothing|Ok|Fault) \d+$", " Fault 12", calls[0])]
+    return [re.sub(r"kind: \w+, value: \d+", "kind: Fault, value: 12", calls[0])]
 
 
 faults = []

@@ -6,6 +6,7 @@ use crate::table::Message;
 use std::alloc::{AllocError, Global};
 use std::cell::RefCell;
 use std::collections::VecDeque;
+use vfs_flags::FsOptions;
 use vfs_lines::{RunError, answer_to, lines_of, parse_line};
 use vfs_scripted::{Notes, ScriptFs};
 use vfs_segments::{Reader, Writer};
@@ -14,6 +15,10 @@ use vfs_server::server::Server;
 /// The page size of the server, in bytes.
 const PAGE_SIZE: u32 = 4096;
 
+/// For how many bytes of notes the file system has room from the first: more than those of a few
+/// calls.
+const NOTES: usize = 16_384;
+
 /// The call by which a server is handed requests.
 #[derive(Clone, Copy, Debug)]
 pub enum Way {
@@ -21,6 +26,26 @@ pub enum Way {
     Messages,
     /// All by one `handle_session`.
     Session,
+}
+
+/// What happens right before and right behind a server's handling of requests.
+pub trait Watch {
+    /// Happens before it, with the options that are agreed then.
+    fn before(&mut self, options: FsOptions) -> Result<(), RunError>;
+
+    /// Happens behind it.
+    fn after(&mut self) -> Result<(), RunError>;
+}
+
+/// Nothing happens.
+impl Watch for () {
+    fn before(&mut self, _options: FsOptions) -> Result<(), RunError> {
+        Ok(())
+    }
+
+    fn after(&mut self) -> Result<(), RunError> {
+        Ok(())
+    }
 }
 
 /// Where bytes are cut into segments.
@@ -46,6 +71,9 @@ pub struct Served {
 
     /// All bytes of the room, a cutting each.
     pub rooms: Vec<Vec<u8>>,
+
+    /// The options that are agreed afterwards.
+    pub options: FsOptions,
 
     /// The calls of all cuttings in order, with their answers: lines as `vfs_script` writes them.
     pub calls: String,
@@ -97,29 +125,34 @@ pub fn agree(
 
 /// Hands a new server the bytes of a request again and again, in each of these cuttings of them and
 /// of a room of so many bytes, once what the message needs is agreed on.
-pub fn serve(
+pub fn serve<W: Watch>(
     alloc: Global,
     message: &Message,
     bytes: &[u8],
     room: usize,
     cuttings: &[Cutting],
     way: Way,
+    watch: &mut W,
 ) -> Result<Served, RunError> {
     let told = RefCell::new(VecDeque::new(alloc));
-    let mut server = Server::new(ScriptFs::new(alloc, &told), PAGE_SIZE);
+    let fs = ScriptFs::with_room(alloc, &told, NOTES)?;
+    let mut server = Server::new(fs, PAGE_SIZE);
     agree(alloc, &mut server, message)?;
     let noted = server.fs().notes().text().len();
     let (pieces, counts) = cut_each(alloc, bytes, cuttings)?;
     let readers = readers_over(alloc, &pieces, &counts)?;
     let mut writers = writers_for(alloc, room, cuttings)?;
     let mut outcomes = vec![in alloc; Ok(0); cuttings.len()]?;
+    watch.before(server.options())?;
     match way {
         Way::Messages => handle_each(alloc, &mut server, readers, &mut writers, &mut outcomes),
         Way::Session => server.handle_session(alloc, readers, &mut writers, &mut outcomes),
     }
+    watch.after()?;
     Ok(Served {
         outcomes,
         rooms: bytes_of(alloc, writers)?,
+        options: server.options(),
         calls: calls_from(alloc, server.fs().notes(), noted)?,
     })
 }
@@ -191,8 +224,8 @@ fn writers_for(alloc: Global, room: usize, cuttings: &[Cutting]) -> Result<Vec<W
     Ok(writers)
 }
 
-// The bytes that each writer's room holds.
-fn bytes_of(alloc: Global, writers: Vec<Writer>) -> Result<Vec<Vec<u8>>, AllocError> {
+/// The bytes that each writer's room holds.
+pub fn bytes_of(alloc: Global, writers: Vec<Writer>) -> Result<Vec<Vec<u8>>, AllocError> {
     let mut rooms = Vec::new(alloc);
     for writer in writers {
         let mut room = Vec::new(alloc);

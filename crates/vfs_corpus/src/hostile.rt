@@ -125,9 +125,17 @@ fn try_form(
 ) -> Result<(), RunError> {
     let request = bytes_of(alloc, bytes, form)?;
     let whole = [(Cut::Whole, Cut::Whole)];
-    let uncut = serve(alloc, message, &request, form.room, &whole, Way::Messages)?;
+    let uncut = serve(
+        alloc,
+        message,
+        &request,
+        form.room,
+        &whole,
+        Way::Messages,
+        &mut (),
+    )?;
     tally.digest = digest(tally.digest, text_of(alloc, &uncut)?.as_bytes());
-    let served = serve(alloc, message, &request, form.room, cuttings, way)?;
+    let served = serve(alloc, message, &request, form.room, cuttings, way, &mut ())?;
     let wrong = count_wrong(&uncut, &served, leaves_room_open(&request));
     if wrong > 0 && tally.first_wrong.is_none() {
         tally.first_wrong = Some(form);

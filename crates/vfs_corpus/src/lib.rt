@@ -6,6 +6,6 @@ mod cuttings;
 mod hostile;
 mod table;
 
-pub use cuttings::{Cut, Cutting, Served, Way, agree, pieces, rooms, serve};
+pub use cuttings::{Cut, Cutting, Served, Watch, Way, agree, bytes_of, pieces, rooms, serve};
 pub use hostile::{Form, Tally, try_message};
 pub use table::{Message, messages};

@@ -1,26 +1,31 @@
 //! The lines of a session, over files in memory.
 
-use crate::output::{PAGE_SIZE, answer};
+use crate::parts::Parts;
 use std::alloc::Global;
 use std::io;
-use vfs_bench::{Note, Recorder};
-use vfs_lines::{Line, MemFs, RunError, lines_of, parse_line, read_all, write_all};
+use vfs_bench::Recorder;
+use vfs_corpus::{Served, Watch, bytes_of};
+use vfs_lines::{Line, MemFs, RunError, lines_of, parse_line, read_all};
+use vfs_segments::{Reader, Writer};
 use vfs_server::server::Server;
+
+/// The page size of the server, in bytes.
+const PAGE_SIZE: u32 = 4096;
 
 /// How many calls can be noted.
 const PLACES: usize = 4096;
 
 /// Handles each line of an input, up to the first bad one, by one server.
-pub fn try_all<R: io::Read, W: io::Write>(
+pub fn try_all<R: io::Read, W: io::Write + Drop>(
     alloc: Global,
     input: &mut R,
-    output: &mut W,
+    parts: &mut Parts<W>,
 ) -> Result<(), RunError> {
     let text = read_all(alloc, input)?;
     let mut server = Server::new(recorder(alloc)?, PAGE_SIZE);
     for (index, line) in lines_of(alloc, &text)?.iter().enumerate() {
         match parse_line(alloc, line)? {
-            Some(line) => try_line(alloc, output, &mut server, &line)?,
+            Some(line) => try_line(alloc, parts, &mut server, &line)?,
             None => return Err(RunError::BadLine(index + 1)),
         }
     }
@@ -39,9 +44,9 @@ fn recorder(alloc: Global) -> Result<Recorder<MemFs>, RunError> {
 }
 
 // Handles a line.
-fn try_line<W: io::Write>(
+fn try_line<W: io::Write + Drop>(
     alloc: Global,
-    output: &mut W,
+    parts: &mut Parts<W>,
     server: &mut Server<Recorder<MemFs>>,
     line: &Line,
 ) -> Result<(), RunError> {
@@ -50,25 +55,37 @@ fn try_line<W: io::Write>(
     for segment in &line.segments {
         segments.push(segment.as_slice())?;
     }
-    answer(alloc, output, server, "of a line", &segments, &line.rooms)?;
-    for note in server.fs().notes().iter().skip(noted) {
-        write_note(alloc, output, note)?;
+    let mut rooms = Vec::new(alloc);
+    for length in &line.rooms {
+        rooms.push(vec![in alloc; 0u8; *length]?)?;
     }
-    if server.fs().missed() {
+    let Ok(reader) = Reader::new(alloc, &segments) else {
         return Err(RunError::OutOfMemory);
-    }
-    Ok(())
+    };
+    let Ok(mut writer) = Writer::new(alloc, rooms) else {
+        return Err(RunError::OutOfMemory);
+    };
+    parts.call_next(String::from_str(alloc, "of a line")?);
+    parts.before(server.options())?;
+    let outcome = server.handle_message(alloc, reader, &mut writer);
+    parts.after()?;
+    let served = Served {
+        outcomes: Vec::from_array(alloc, [outcome])?,
+        rooms: bytes_of(alloc, Vec::from_array(alloc, [writer])?)?,
+        options: server.options(),
+        calls: calls_from(alloc, server.fs(), noted)?,
+    };
+    parts.tell_served(&served)
 }
 
-// Writes what was noted of a call.
-fn write_note<W: io::Write>(alloc: Global, output: &mut W, note: &Note) -> Result<(), RunError> {
-    let Note {
-        call,
-        node,
-        count,
-        kind,
-        value,
-    } = note;
-    let line = format!(in alloc; "  call {call} node={node} count={count} {kind:?} {value}\n")?;
-    write_all(output, line.as_str())
+// The calls behind the first ones, a line each.
+fn calls_from(alloc: Global, fs: &Recorder<MemFs>, noted: usize) -> Result<String, RunError> {
+    let mut calls = String::new(alloc);
+    for note in fs.notes().iter().skip(noted) {
+        writeln!(calls, "  {note:?}")?;
+    }
+    if fs.missed() {
+        return Err(RunError::OutOfMemory);
+    }
+    Ok(calls)
 }

@@ -12,33 +12,35 @@
 //! The parts are `Reader::new`, `Writer::new`, `split_at` and `clone`; each message of the corpus,
 //! whole, cut behind its header, before its last byte and in single bytes, by `handle_message`, and
 //! three times in a row by `handle_session`; and each line of standard input, in the form of
-//! `vfs_demo` and over files in memory as there, by `handle_message`. The bytes of a room are 0xa5
+//! `vfs_demo` and over files in memory as there, by `handle_message`. The bytes of a room are zeros
 //! before a request. The program takes no arguments and opens no file.
 #![tactic(auto)]
 
 mod lines;
 mod messages;
-mod output;
+mod parts;
 mod segments;
 
+use crate::parts::Parts;
 use std::alloc::Global;
 use std::io;
 use std::process::ExitCode;
 use vfs_lines::{RunError, exit_status, report};
 
 // Makes all calls.
-fn run<R: io::Read, W: io::Write>(
+fn run<R: io::Read, W: io::Write + Drop>(
     alloc: Global,
     input: &mut R,
-    output: &mut W,
+    output: W,
 ) -> Result<(), RunError> {
-    segments::try_all(alloc, output)?;
-    messages::try_all(alloc, output)?;
-    lines::try_all(alloc, input, output)
+    let mut parts = Parts::new(alloc, output);
+    segments::try_all(alloc, &mut parts)?;
+    messages::try_all(alloc, &mut parts)?;
+    lines::try_all(alloc, input, &mut parts)
 }
 
 fn main(rt: HostRuntime) -> ExitCode {
-    let outcome = run(rt.alloc(), &mut rt.stdin(), &mut rt.stdout());
+    let outcome = run(rt.alloc(), &mut rt.stdin(), rt.stdout());
     let _ = report(&rt, &outcome);
     ExitCode::from(exit_status(&outcome))
 }

@@ -1,9 +1,9 @@
 //! The calls of a reader and a writer that ask for memory.
 
-use crate::output::{begin, end, reader_over, write_state, writer_over};
+use crate::parts::Parts;
 use std::alloc::{AllocError, Global};
 use std::io;
-use vfs_lines::{RunError, write_all};
+use vfs_lines::RunError;
 use vfs_segments::{Error, Reader, Writer};
 
 /// The segments of a reader: more than need no memory.
@@ -16,87 +16,86 @@ const LENGTHS: [usize; 6] = [2, 1, 3, 0, 1, 2];
 const MIDDLE: usize = 1;
 
 /// Makes each call.
-pub fn try_all<W: io::Write>(alloc: Global, output: &mut W) -> Result<(), RunError> {
-    try_reader_new(alloc, output)?;
-    try_writer_new(alloc, output)?;
-    try_reader_split(alloc, output)?;
-    try_writer_split(alloc, output)?;
-    try_clone(alloc, output)
+pub fn try_all<W: io::Write + Drop>(alloc: Global, parts: &mut Parts<W>) -> Result<(), RunError> {
+    try_new(alloc, parts)?;
+    try_reader(alloc, parts)?;
+    try_writer(alloc, parts)
 }
 
-fn try_reader_new<W: io::Write>(alloc: Global, output: &mut W) -> Result<(), RunError> {
-    begin(alloc, output, "Reader::new", "")?;
+// Makes a reader and a writer.
+fn try_new<W: io::Write + Drop>(alloc: Global, parts: &mut Parts<W>) -> Result<(), RunError> {
+    begin(alloc, parts, "Reader::new", (0, 0))?;
     let made = Reader::new(alloc, &SEGMENTS);
-    end(output)?;
-    write_answer(alloc, output, made.err())?;
-    write_state(alloc, output, "")
+    end(alloc, parts, made.err(), (0, 0))?;
+
+    let rooms = rooms(alloc)?;
+    begin(alloc, parts, "Writer::new", (0, 0))?;
+    let made = Writer::new(alloc, rooms);
+    end(alloc, parts, made.err(), (0, 0))
 }
 
-fn try_writer_new<W: io::Write>(alloc: Global, output: &mut W) -> Result<(), RunError> {
-    let mut room = Vec::new(alloc);
-    for length in LENGTHS {
-        room.push(vec![in alloc; 0u8; length]?)?;
-    }
-    begin(alloc, output, "Writer::new", "")?;
-    let made = Writer::new(alloc, room);
-    end(output)?;
-    write_answer(alloc, output, made.err())?;
-    write_state(alloc, output, "")
-}
-
-fn try_reader_split<W: io::Write>(alloc: Global, output: &mut W) -> Result<(), RunError> {
-    let mut reader = reader_over(alloc, &SEGMENTS)?;
-    let state = state_of_reader(alloc, &reader)?;
-    begin(alloc, output, "split_at of a reader", state.as_str())?;
-    let rest = reader.split_at(MIDDLE);
-    end(output)?;
-    write_answer(alloc, output, rest.err())?;
-    write_state(alloc, output, state_of_reader(alloc, &reader)?.as_str())
-}
-
-fn try_writer_split<W: io::Write>(alloc: Global, output: &mut W) -> Result<(), RunError> {
-    let mut writer = writer_over(alloc, &LENGTHS)?;
-    let state = state_of_writer(alloc, &writer)?;
-    begin(alloc, output, "split_at of a writer", state.as_str())?;
-    let rest = writer.split_at(MIDDLE);
-    end(output)?;
-    write_answer(alloc, output, rest.err())?;
-    write_state(alloc, output, state_of_writer(alloc, &writer)?.as_str())
-}
-
-fn try_clone<W: io::Write>(alloc: Global, output: &mut W) -> Result<(), RunError> {
-    let reader = reader_over(alloc, &SEGMENTS)?;
-    let state = state_of_reader(alloc, &reader)?;
-    begin(alloc, output, "clone", state.as_str())?;
-    let clone = reader.clone();
-    end(output)?;
-    write_answer(alloc, output, clone.err())?;
-    write_state(alloc, output, state_of_reader(alloc, &reader)?.as_str())
-}
-
-// Writes the error of a call.
-fn write_answer<W: io::Write>(
-    alloc: Global,
-    output: &mut W,
-    error: Option<Error>,
-) -> Result<(), RunError> {
-    let line = match error {
-        None => format!(in alloc; "Ok\n")?,
-        Some(error) => format!(in alloc; "Err({error:?})\n")?,
+// Splits a reader, and clones it.
+fn try_reader<W: io::Write + Drop>(alloc: Global, parts: &mut Parts<W>) -> Result<(), RunError> {
+    let Ok(mut reader) = Reader::new(alloc, &SEGMENTS) else {
+        return Err(RunError::OutOfMemory);
     };
-    write_all(output, line.as_str())
+    begin(alloc, parts, "clone", counts_of(&reader))?;
+    let clone = reader.clone();
+    end(alloc, parts, clone.err(), counts_of(&reader))?;
+
+    begin(alloc, parts, "split_at of a reader", counts_of(&reader))?;
+    let rest = reader.split_at(MIDDLE);
+    end(alloc, parts, rest.err(), counts_of(&reader))
 }
 
-// The counts of a reader.
-fn state_of_reader(alloc: Global, reader: &Reader<'_>) -> Result<String, AllocError> {
-    let left = reader.available_bytes();
-    let read = reader.bytes_read();
-    format!(in alloc; "{left} left, {read} read")
+// Splits a writer.
+fn try_writer<W: io::Write + Drop>(alloc: Global, parts: &mut Parts<W>) -> Result<(), RunError> {
+    let Ok(mut writer) = Writer::new(alloc, rooms(alloc)?) else {
+        return Err(RunError::OutOfMemory);
+    };
+    let before = (writer.available_bytes(), writer.bytes_written());
+    begin(alloc, parts, "split_at of a writer", before)?;
+    let rest = writer.split_at(MIDDLE);
+    let after = (writer.available_bytes(), writer.bytes_written());
+    end(alloc, parts, rest.err(), after)
 }
 
-// The counts of a writer.
-fn state_of_writer(alloc: Global, writer: &Writer) -> Result<String, AllocError> {
-    let left = writer.available_bytes();
-    let written = writer.bytes_written();
-    format!(in alloc; "{left} left, {written} written")
+// The segments of a writer.
+fn rooms(alloc: Global) -> Result<Vec<Vec<u8>>, AllocError> {
+    let mut rooms = Vec::new(alloc);
+    for length in &LENGTHS {
+        rooms.push(vec![in alloc; 0u8; *length]?)?;
+    }
+    Ok(rooms)
+}
+
+// How many bytes a reader has left, and how many it has given.
+fn counts_of(reader: &Reader<'_>) -> (usize, usize) {
+    (reader.available_bytes(), reader.bytes_read())
+}
+
+// Begins the part of a call, with the counts before it.
+fn begin<W: io::Write + Drop>(
+    alloc: Global,
+    parts: &mut Parts<W>,
+    call: &str,
+    counts: (usize, usize),
+) -> Result<(), RunError> {
+    parts.call_next(String::from_str(alloc, call)?);
+    parts.begin(format!(in alloc; "{counts:?}")?.as_str())
+}
+
+// Ends the part of a call, with its error and the counts behind it.
+fn end<W: io::Write + Drop>(
+    alloc: Global,
+    parts: &mut Parts<W>,
+    error: Option<Error>,
+    counts: (usize, usize),
+) -> Result<(), RunError> {
+    parts.end()?;
+    let outcome = match error {
+        None => Ok(()),
+        Some(error) => Err(error),
+    };
+    parts.tell(format!(in alloc; "{outcome:?}\nnow {counts:?}\n")?.as_str())
 }
