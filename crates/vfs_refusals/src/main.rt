@@ -7,7 +7,8 @@
 //! - `answered`, written right after it, so that all memory that is asked for between these two
 //!   lines is asked for by the call;
 //! - what the call answered, and of a request the bytes of its room;
-//! - `now STATE`, and the calls of the file system, each line with two spaces before it.
+//! - `now STATE`, and the calls of the file system, each line with two spaces before it. The state of
+//!   a server is its options, that of a reader or a writer how many bytes are left and done.
 //!
 //! The parts are `Reader::new`, `Writer::new`, `split_at` and `clone`; each message of the corpus,
 //! whole, cut behind its header, before its last byte and in single bytes, by `handle_message`, and
