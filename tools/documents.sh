@@ -1,5 +1,5 @@
 #!/usr/bin/env bash
-# Holds README.md, NOTICE.md and docs/*.md against the repository, as far as a script can.
+# Holds the Markdown pages of the root and of docs/ against the repository, as far as a script can.
 #
 # Usage: tools/documents.sh
 # It prints each fault with its file and line, and ends with their count. Status 0: there is none.
@@ -22,7 +22,8 @@ cd "$(dirname "$0")/.."
 kit=$(rt version) exec python3 - <<'PYTHON'
 import glob, os, re, sys
 
-DOCUMENTS = ["README.md", "NOTICE.md", *sorted(glob.glob("docs/*.md"))]
+DOCUMENTS = ["README.md", "NOTICE.md", "CONTRIBUTING.md", "CHANGELOG.md",
+             *sorted(glob.glob("docs/*.md"))]
 # Where no crate is named in PROTOCOL.md, it is this one, as that page says.
 CRATES = {"docs/PROTOCOL.md": ["vfs_messages"]}
 CODE = re.compile(r"`([^`]+)`")
@@ -151,7 +152,7 @@ def check_line(fault, document, crates, line):
                 if word not in words:
                     fault(f"no source has the name {word}")
         elif code.startswith("rattle-kit") and code != os.environ["kit"]:
-            fault(f"the line of rt version is {os.environ['kit']}")
+            fault(f"this toolchain is {os.environ['kit']}, and the proofs were last checked with {code}")
 
 
 def check_block(fault, language, comment, block):
