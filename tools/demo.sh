@@ -4,6 +4,7 @@
 # It runs the proved program where that is built and no source is newer, and otherwise builds the
 # program without a proof, which takes some ten seconds. Status 0: each answer is the stored one.
 set -eu
+. "$(dirname "$0")/usage.sh"
 . "$(dirname "$0")/program.sh"
 
 # What a request is, by the opcode in its header.

@@ -17,6 +17,7 @@
 #   commands            a path that begins an indented line is a file that can be run
 #   the toolchain       its line is that of `rt version`
 set -eu
+. "$(dirname "$0")/usage.sh"
 cd "$(dirname "$0")/.."
 
 kit=$(rt version) exec python3 - <<'PYTHON'

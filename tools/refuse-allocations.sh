@@ -24,6 +24,7 @@
 # It wants both programs built and as new as the sources, as `rt ci` leaves them, a C compiler and
 # Python, and takes seconds. Status 0: all runs ended so, and their counts are printed.
 set -eu
+. "$(dirname "$0")/usage.sh"
 cd "$(dirname "$0")/.."
 
 folder=$(mktemp -d)

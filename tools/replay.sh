@@ -10,12 +10,19 @@
 # program without a proof, which takes some ten seconds. Status 0: each line was answered, as
 # EXPECTED says where it is given; 1: an answer differs.
 set -eu
+. "$(dirname "$0")/usage.sh"
 . "$(dirname "$0")/program.sh"
 
 if [ $# -lt 1 ] || [ $# -gt 2 ]; then
     echo "Usage: tools/replay.sh LINES [EXPECTED]" >&2
     exit 2
 fi
+for file in "$@"; do
+    if [ ! -r "$file" ]; then
+        echo "There is no file $file that can be read." >&2
+        exit 2
+    fi
+done
 lines=$(realpath "$1")
 expected=${2:+$(realpath "$2")}
 

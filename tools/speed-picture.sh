@@ -6,6 +6,7 @@
 # A line of the figures is: the number of pairs, nanoseconds a pair in virtiofsd's Rust, and here. The
 # first line names the columns.
 set -eu
+. "$(dirname "${BASH_SOURCE[0]}")/usage.sh"
 folder=$(cd "$(dirname "${BASH_SOURCE[0]}")/../docs/speed" && pwd)
 
 awk -F '\t' '

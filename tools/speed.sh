@@ -8,11 +8,13 @@
 #
 # --beside FOLDER holds virtiofsd's own Rust beside it, in one process: FOLDER has that code built as
 # a library `fast/liboracle.rlib` with a harness `mended/src/bin/oracle_bench.rs` over it, which calls
-# `nizwarf_batch`, and beside it the crates that it uses. The replies of both are compared first, and nothing is timed where they differ.
+# `nizwarf_batch`, and beside it the crates that it uses. The replies of both are compared first, and
+# nothing is timed where they differ.
 # Then trust the last column, the middle of the ratios of runs that followed each other.
 #
 # It builds the library where sources are newer, with its proof, which takes minutes.
 set -eu
+. "$(dirname "${BASH_SOURCE[0]}")/usage.sh"
 here=$(cd "$(dirname "${BASH_SOURCE[0]}")/.." && pwd)
 crate=$here/crates/vfs_speed
 library=$crate/out/libvfs_speed.a
