@@ -16,12 +16,13 @@
 #                       <!-- FILE -->; of another block with such a comment each line does
 #   commands            a path that begins an indented line is a file that can be run
 #   the toolchain       its line is that of `rt version`
+#   pictures            are those that tools/pictures.sh draws
 set -eu
 . "$(dirname "$0")/usage.sh"
 cd "$(dirname "$0")/.."
 
 kit=$(rt version) exec python3 - <<'PYTHON'
-import glob, os, re, sys
+import glob, os, re, subprocess, sys
 
 DOCUMENTS = ["README.md", "NOTICE.md", "CONTRIBUTING.md", "CHANGELOG.md",
              *sorted(glob.glob("docs/*.md"))]
@@ -191,6 +192,8 @@ for document in DOCUMENTS:
             comment = line
 for crate, edit in sorted(edits - named_edits):
     faults.append(f"docs/PROOFS.md: no row names the edit {edit} of {crate}")
+faults += subprocess.run(["tools/pictures.sh", "--check"], stdout=subprocess.PIPE,
+                         stderr=subprocess.STDOUT, text=True).stdout.splitlines()
 
 print("\n".join([*faults, f"{len(DOCUMENTS)} documents, {len(faults)} faults"]))
 sys.exit(1 if faults else 0)
