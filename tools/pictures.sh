@@ -11,6 +11,7 @@
 #                the first full stop, the first function, and the crates of all files
 #   ratios.svg   the ratios of the table in docs/SPEED.md
 set -eu
+. "$(dirname "$0")/usage.sh"
 cd "$(dirname "$0")/.."
 
 exec python3 - "$@" <<'PYTHON'
