@@ -27,7 +27,7 @@ import glob, os, re, subprocess, sys
 DOCUMENTS = ["README.md", "NOTICE.md", "CONTRIBUTING.md", "CHANGELOG.md",
              *sorted(glob.glob("docs/*.md"))]
 # Where no crate is named in PROTOCOL.md, it is this one, as that page says.
-CRATES = {"docs/PROTOCOL.md": ["vfs_messages"]}
+CRATES = {"docs/PROTOCOL.md": ["vfs_grammar"]}
 CODE = re.compile(r"`([^`]+)`")
 NAMED = re.compile(r"((?:`[\w:]+`, )+)`([\w./]+\.(?:rt|antt))`")
 PLACE = re.compile(r"`([^`]+)` \(`([^`]+):(\d+)`\)")
@@ -54,8 +54,8 @@ words = {word for text in [*paths, *sources.values()] for word in re.findall(r"\
 definitions = {path: set(DEFINITION.findall(text)) for path, text in sources.items()}
 clauses = {path: set(CLAUSE.findall(text)) for path, text in sources.items()}
 # Definitions and laws, which a row of any crate may name.
-stated = {name for path, found in definitions.items() if re.search(r"/specs/|laws\.rt$", path)
-          for name in found}
+stated = {name for path, found in definitions.items()
+          if re.search(r"/specs/|laws\.rt$|/vfs_laws/src/\w+\.rt$", path) for name in found}
 edits = {(path.split("/")[1], path.split("/")[3][:-5]) for path in paths if path.endswith(".edit")}
 named_edits = set()
 faults = []

@@ -10,10 +10,10 @@ use Rattle.vfs_files.specs.Items.{Item}
 use Rattle.vfs_files.specs.RunLaws.{Ran, ran_on, ran_nothing, ran_taking, ran_call}
 use Rattle.vfs_files.specs.declared.entry.Context.{Context}
 use Rattle.vfs_files.specs.declared.entry.Entry.{Entry}
-use Rattle.vfs_listings.specs.Records.{Verdict, Fits, Full, Fails, verdict, record_bytes, record_len, FitsOption, Adds}
-use Rattle.vfs_listings.specs.Listing.{Got, Line, End, At, Gets, IsGot, FitsGot, is_dot, lookup_of, lookups, line_events, given_back, node_got, line_len, line_bytes, len_of, bytes_got, judged, fate, AreWritten, cut_by, told, answer_at}
-use Rattle.vfs_listings.specs.ListingLaws.{fits_within, length-bytes_got, length-listing, listing_within}
-use Rattle.vfs_listings.specs.Reading.{AddsGot, Puts, LooksUpName, LooksUp, GivesBack, AddsLine, ReadsItems}
+use Rattle.vfs_grammar.specs.Dirents.{Verdict, Fits, Full, Fails, verdict, record_bytes, record_len, FitsOption}
+use Rattle.vfs_listings.specs.Reading.{Adds, cut_by, AddsGot, Puts, LooksUpName, LooksUp, GivesBack, AddsLine, ReadsItems}
+use Rattle.vfs_grammar.specs.Listing.{Got, Line, End, At, Gets, IsGot, FitsGot, is_dot, lookup_of, lookups, line_events, given_back, node_got, line_len, line_bytes, len_of, bytes_got, judged, fate, AreWritten, told, answer_at}
+use Rattle.vfs_grammar.proofs.Listings.{fits_within, length-bytes_got, length-listing, listing_within}
 use Rattle.vfs_listings.specs.ReadingLaws.{puts_nothing}
 use Rattle.vfs_listings.proofs.Putting.{wrote-wrote}
 

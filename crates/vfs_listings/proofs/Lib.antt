@@ -1,4 +1,3 @@
 pub mod Putting
 pub mod Filling
 pub mod SmallCallers
-pub mod WholeCallers

@@ -12,8 +12,9 @@ use Rattle.vfs_segments.specs.Written.{Written, wrote}
 use Rattle.vfs_files.specs.Entries.{entry_out_of}
 use Rattle.vfs_files.specs.Items.{Item}
 use Rattle.vfs_files.specs.declared.entry.Entry.{Entry}
-use Rattle.vfs_listings.specs.Records.{PutsBeginning, dirent_len, dirent_of, dirent_bytes, record_len, record_bytes, FitsOption, verdict, Adds}
-use Rattle.vfs_listings.specs.RecordLaws.{length-record_bytes}
+use Rattle.vfs_listings.specs.Reading.{PutsBeginning, Adds}
+use Rattle.vfs_grammar.specs.Dirents.{dirent_len, dirent_of, dirent_bytes, record_len, record_bytes, FitsOption, verdict}
+use Rattle.vfs_grammar.proofs.Dirents.{length-record_bytes}
 
 -- two writes are one
 pub wrote-wrote : (w : Written) (x y : List ℕ) → wrote (wrote w x) y ≡ wrote w (x ++ y)

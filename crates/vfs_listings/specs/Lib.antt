@@ -1,10 +1,2 @@
-pub mod Records
-pub mod RecordLaws
-pub mod Listing
 pub mod Reading
-pub mod Nodes
-pub mod Laws
-pub mod ListingLaws
-pub mod NodeLaws
 pub mod ReadingLaws
-pub mod Uses

@@ -1,14 +1,44 @@
--- What the reading of a directory does to a file system and to a writer: of one item, and as a
--- whole.
-use Rattle.std.specs.Prelude.{◌≡◌, ◌≤◌, ℕ, Bool, true, false, List, ◌++◌, Option, Some, None, Result, Ok, Err, MatchResult, length, sum_by}
+-- How records of a directory are put through a writer, and what is left of one that is cut short.
+use Rattle.std.specs.Prelude.{◌≡◌, ◌≤◌, ◌↔◌, ℕ, List, length, take, Option, Some, None, Result, Ok, Err, IsOk, ◌-◌, [], Bool, true, false, ◌++◌, MatchResult, sum_by}
 use Rattle.vfs_segments.specs.Written.{Written, wrote}
-use Rattle.vfs_files.specs.Calls.{Call, Lookup, Forget, Readdir, directory_answer, Handed, Plain, Failed, Found, Done}
 use Rattle.vfs_files.specs.Items.{Item}
+use Rattle.vfs_files.specs.declared.entry.Entry.{Entry}
+use Rattle.vfs_files.specs.Calls.{Call, Lookup, Forget, Readdir, directory_answer, Handed, Plain, Failed, Found, Done}
 use Rattle.vfs_files.specs.Runs.{Happening, IsRun, events_of}
 use Rattle.vfs_files.specs.declared.entry.Context.{Context}
-use Rattle.vfs_files.specs.declared.entry.Entry.{Entry}
-use Rattle.vfs_listings.specs.Records.{Verdict, Fits, Full, Fails, verdict, Adds}
-use Rattle.vfs_listings.specs.Listing.{Got, node_got, IsDotEntry, is_dot, judged, line_len, cut_of, IsListing, IsDirectory}
+use Rattle.vfs_grammar.specs.Dirents.{record_len, record_bytes, FitsOption, Verdict, Fits, Full, Fails, verdict}
+use Rattle.vfs_grammar.specs.Listing.{At, End, Stop, line_bytes, fate, Got, node_got, IsDotEntry, is_dot, judged, line_len, IsListing, IsDirectory}
+
+-- as much of these bytes was put as there is room for, and that is all of them exactly where the
+-- answer is Ok
+pub record PutsBeginning {E : Type 0}
+    (old : Written) (bytes : List ℕ) (result : Result (Unit {0}) E) (new : Written) : Type 0 where
+  pub puts : new ≡ wrote old (take (length old.left) bytes)
+  pub whole : IsOk result ↔ (length bytes ≤ length old.left)
+
+-- a record was added with this verdict: where it fits it was put whole, and its length is answered;
+-- where it is too long nothing was put, and 0 is answered; where it fails the fault is answered,
+-- and for want of room its beginning was put
+abbrev pub Adds :
+    Verdict → Option Entry → Item → Written → Result ℕ (Option ℕ) → Written → Type 0
+Adds Fits entry i old result new =
+    (result ≡ Ok (record_len entry i)) × (new ≡ wrote old (record_bytes entry i)) × FitsOption entry
+Adds Full entry i old result new = (result ≡ Ok 0) × (new ≡ old)
+Adds (Fails None) entry i old result new =
+    (result ≡ Err None) × (new ≡ wrote old (take (length old.left) (record_bytes entry i)))
+Adds (Fails (Some number)) entry i old result new = (result ≡ Err (Some number)) × (new ≡ old)
+
+-- what was put of a record that was not written, by what became of it: for want of room its
+-- beginning, as much as there is room for, and else nothing
+abbrev pub cut_by : Verdict → (room : ℕ) → List ℕ → List ℕ
+cut_by (Fails None) room bytes = take room bytes
+cut_by _ room bytes = []
+
+-- what stands behind so many bytes of records though it does not count: the beginning of the record
+-- of the last item, where the room was too small for it
+abbrev pub cut_of : (size room written : ℕ) → Stop → List ℕ
+cut_of size room written End = []
+cut_of size room written (At l) = cut_by (fate size room written l) (room - written) (line_bytes l)
 
 -- what its lookup gives an item
 abbrev pub got_of : Result Entry (Option ℕ) → Got

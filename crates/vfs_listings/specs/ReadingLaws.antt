@@ -5,8 +5,8 @@ use Rattle.vfs_files.specs.Calls.{Call, Readdir, Handed, Failed, directory_answe
 use Rattle.vfs_files.specs.Items.{Item}
 use Rattle.vfs_files.specs.Runs.{Calls, Opens, events_of}
 use Rattle.vfs_files.specs.declared.entry.Context.{Context}
-use Rattle.vfs_listings.specs.Listing.{line_len, cut_of}
-use Rattle.vfs_listings.specs.Reading.{Puts, ReadsItems, ReadsDirectory, RunsDirectory}
+use Rattle.vfs_grammar.specs.Listing.{line_len}
+use Rattle.vfs_listings.specs.Reading.{cut_of, Puts, ReadsItems, ReadsDirectory, RunsDirectory}
 
 -- nothing is put
 pub puts_nothing : (old new : Written) → new ≡ old → Puts old [] new

@@ -4,11 +4,9 @@
 ghost use Rattle.std.specs.Prelude.{◌≡◌, ◌≤◌, length, true, Some, Ok, IfOk};
 ghost use Rattle.vfs_files.specs.Entries.{context_of, entry_out_of};
 ghost use Rattle.vfs_files.specs.Items.{item};
-ghost use Rattle.vfs_listings.specs.Listing.{is_dot, dot_out, judged, told};
-ghost use Rattle.vfs_listings.specs.Reading.{got_of, AddsGot, AddsLine, GivesBack, GivesBackNode};
-ghost use Rattle.vfs_listings.specs.Reading.{ReadsItems};
-ghost use Rattle.vfs_listings.specs.Records.{verdict};
-ghost use Rattle.vfs_listings.specs.Reading.{ReadsDirectory};
+ghost use Rattle.vfs_grammar.specs.Listing.{is_dot, dot_out, judged, told};
+ghost use Rattle.vfs_listings.specs.Reading.{got_of, AddsGot, AddsLine, GivesBack, GivesBackNode, ReadsItems, ReadsDirectory};
+ghost use Rattle.vfs_grammar.specs.Dirents.{verdict};
 
 use crate::record::{add_plain, add_plus};
 use std::time::Duration;

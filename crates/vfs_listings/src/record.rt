@@ -5,8 +5,8 @@ ghost use Rattle.std.specs.Prelude.{◌≡◌, ◌<◌, ◌^◌, length, Some, N
 ghost use Rattle.vfs_files.specs.Answers.{FitsEntry};
 ghost use Rattle.vfs_files.specs.Entries.{entry_out_of};
 ghost use Rattle.vfs_files.specs.Items.{item};
-ghost use Rattle.vfs_listings.specs.Records.{dirent_len, dirent_of, dirent_bytes, record_bytes};
-ghost use Rattle.vfs_listings.specs.Records.{PutsBeginning, verdict, Adds};
+ghost use Rattle.vfs_grammar.specs.Dirents.{dirent_len, dirent_of, dirent_bytes, record_bytes, verdict};
+ghost use Rattle.vfs_listings.specs.Reading.{PutsBeginning, Adds};
 
 use std::io;
 use vfs_files::{DirEntry, Entry};

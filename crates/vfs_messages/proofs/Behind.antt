@@ -7,9 +7,9 @@ use Rattle.vfs_wire.specs.declared.headers.OutHeader.{OutHeader}
 use Rattle.vfs_segments.specs.SegmentLaws.{with_bytes_at-append}
 use Rattle.vfs_segments.specs.Written.{Written, whole, held_filled}
 use Rattle.vfs_files.specs.Answers.{IsFault, IsAnswer, Counts, Data, read_answer}
-use Rattle.vfs_messages.specs.Reply.{OpenBehind, said_open, say_bytes, body_reply, fault_reply, data_header}
-use Rattle.vfs_messages.specs.Room.{Replies, PutsBehindHeader}
-use Rattle.vfs_messages.proofs.Rooms.{length-header, length-body_reply, length-fault_reply}
+use Rattle.vfs_grammar.specs.Reply.{OpenBehind, said_open, say_bytes, body_reply, fault_reply}
+use Rattle.vfs_messages.specs.Rooms.{data_header, Replies, PutsBehindHeader}
+use Rattle.vfs_grammar.proofs.Rooms.{length-header, length-body_reply, length-fault_reply}
 
 -- all bytes of a writer whose held place was filled
 whole-filled : (old mid : Written) (bytes head : List ℕ) → length head ≡ 16

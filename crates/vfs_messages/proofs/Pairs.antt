@@ -8,10 +8,10 @@ use Rattle.vfs_wire.specs.Fields.{value_of}
 use Rattle.vfs_wire.specs.Entries.{forget_one}
 use Rattle.vfs_wire.specs.declared.entries.ForgetOne.{ForgetOne}
 use Rattle.vfs_wire.specs.FieldLaws.{value_of-take}
-use Rattle.vfs_messages.specs.Forms.{pairs_in, pairs_of}
+use Rattle.vfs_grammar.specs.Forms.{pairs_in, pairs_of}
 use Rattle.vfs_messages.specs.Parts.{GivesPairs}
-use Rattle.vfs_messages.specs.declared.error.Error.{Error}
-use Rattle.vfs_messages.specs.declared.error.Error.TheVariants.{OutOfMemory}
+use Rattle.vfs_grammar.specs.declared.error.Error.{Error}
+use Rattle.vfs_grammar.specs.declared.error.Error.TheVariants.{OutOfMemory}
 
 -- the pairs copied so far, and those of the bytes that are left, are all pairs
 pub record Copied (done all : List (ℕ × ℕ)) (n : ℕ) (left : List ℕ) : Type 0 where

@@ -1,14 +1,2 @@
-pub mod Limits
-pub mod Records
-pub mod Options
-pub mod Reply
-pub mod Room
-pub mod Forms
-pub mod Ask
 pub mod Parts
-pub mod Turn
-pub mod Laws
-pub mod Uses
-pub mod Extensions
-pub mod ExtensionLaws
-pub mod DirectoryUses
+pub mod Rooms

@@ -1,17 +1,54 @@
--- What the calls that read the parts of a request say of them.
-use Rattle.std.specs.Prelude.{◌≡◌, ◌⊎◌, ◌==◌, ◌+◌, ◌-◌, ℕ, List, [], map, position, take, Option, Some, None, Result, Ok, Err, IsFalse}
+-- What the code that reads tails, extensions and pairs answers, beside what the grammar says of them.
+use Rattle.std.specs.Prelude.{◌≡◌, ◌⊎◌, ℕ, List, drop, option_map, IsTrue, IsOk, Result, Ok, Err, ◌==◌, ◌+◌, ◌-◌, [], map, position, take, Option, Some, None, IsFalse}
 use Rattle.std.specs.declared.vec.Vec.{Vec}
 use Rattle.std.specs.declared.alloc.Global.{Global}
-use Rattle.vfs_files.specs.Extensions.{ExtensionValues, extension_values_of}
-use Rattle.vfs_files.specs.declared.extensions.Extensions.{Extensions}
-use Rattle.vfs_segments.specs.Lengths.{lengths_from, lie_together}
+use Rattle.vfs_flags.specs.Flags.{security_ctx}
+use Rattle.vfs_wire.specs.Extensions.{secctx}
 use Rattle.vfs_wire.specs.Headers.{in_header}
 use Rattle.vfs_wire.specs.declared.headers.InHeader.{InHeader}
-use Rattle.vfs_messages.specs.Extensions.{MayHoldContext}
-use Rattle.vfs_messages.specs.Forms.{Layout, Without, Record, extended_in}
-use Rattle.vfs_messages.specs.Records.{size_of}
-use Rattle.vfs_messages.specs.declared.error.Error.{Error}
-use Rattle.vfs_messages.specs.declared.error.Error.TheVariants.{OutOfMemory}
+use Rattle.vfs_segments.specs.Lengths.{lengths_from, lie_together}
+use Rattle.vfs_files.specs.Extensions.{context_values, ExtensionValues, extension_values_of}
+use Rattle.vfs_files.specs.declared.extensions.Extensions.{Extensions}
+use Rattle.vfs_grammar.specs.declared.error.Error.{Error}
+use Rattle.vfs_grammar.specs.declared.error.Error.TheVariants.{OutOfMemory}
+use Rattle.vfs_grammar.specs.Extensions.{context_in, Block, block_size, block_in, has_option, Received}
+use Rattle.vfs_grammar.specs.Forms.{Layout, Without, Record, extended_in}
+use Rattle.vfs_grammar.specs.Records.{size_of}
+use Rattle.vfs_messages.specs.declared.extensions.Found.{Found}
+use Rattle.vfs_messages.specs.declared.extensions.Block as found
+
+-- it was found, and is of this value; or it is refused; or, where memory is wanted, there was none
+abbrev pub GivesValue :
+    {A B : Type 0} → (wanted : Type 0) → (value : A → B) → Result A Error
+    → (said : Result B Error) → Type 0
+GivesValue wanted value (Ok x) said = said ≡ Ok (value x)
+GivesValue wanted value (Err e) said = (said ≡ Err e) ⊎ (wanted × (e ≡ OutOfMemory))
+
+-- memory is wanted for a context that is whole
+abbrev pub IsContext : (bytes : List ℕ) → Type 0
+IsContext bytes = IsOk (context_in bytes)
+
+-- and so in a body of one context alone
+abbrev pub HoldsContext : (nr : ℕ) → (body : List ℕ) → Type 0
+HoldsContext nr body = (nr ≡ 1) × IsContext body
+
+-- among extensions, only where contexts were agreed on
+abbrev pub MayHoldContext : (options : ℕ) → Type 0
+MayHoldContext options = IsTrue (has_option options security_ctx)
+
+-- what was found so far, as values
+abbrev pub found_values : Found → Received
+found_values found = record {
+  has_contexts = found.has_contexts;
+  values = record { context = option_map context_values found.secctx; group = found.sup_gid };
+}
+
+-- a block was found at the beginning of bytes, and what stands behind it; or there is none
+abbrev pub GivesBlock : Result found.Block Error → (bytes : List ℕ) → Type 0
+GivesBlock (Ok block) bytes =
+    (block_in bytes ≡ Ok (record { ext_type = block.ext_type; body = block.body.now }))
+    × (block.behind.now ≡ drop (block_size bytes) bytes)
+GivesBlock (Err error) bytes = block_in bytes ≡ Err error
 
 -- the lengths of the pieces in which the bytes behind a record lie, of those from the record on
 abbrev pub pieces_behind : {R : Type 0} → Layout R → (pieces : List ℕ) → List ℕ

@@ -9,14 +9,15 @@ ghost use Rattle.vfs_flags.specs.Flags.{fs_options_bits, security_ctx};
 ghost use Rattle.vfs_flags.specs.ExtType.{ext_type_of};
 ghost use Rattle.vfs_files.specs.Extensions.{context_values, extension_values_of};
 ghost use Rattle.vfs_files.specs.Names.{name_text};
-ghost use Rattle.vfs_messages.specs.Extensions.{GivesValue, GivesBlock, IsContext, HoldsContext, MayHoldContext, has_option, found_values, name_and_value, context_in, security_context_in, group_in, receive, receive_kind, received_at_end, cut_of, nothing_received, reads_extensions, extensions_of, extensions_after};
-ghost use Rattle.vfs_messages.specs.Records.{record_of, size_of};
+ghost use Rattle.vfs_messages.specs.Parts.{GivesValue, GivesBlock, IsContext, HoldsContext, MayHoldContext, found_values};
+ghost use Rattle.vfs_grammar.specs.Extensions.{has_option, name_and_value, context_in, security_context_in, group_in, receive, receive_kind, received_at_end, cut_of, nothing_received, reads_extensions, extensions_of, extensions_after};
+ghost use Rattle.vfs_grammar.specs.Records.{record_of, size_of};
 
-use crate::error::{Error, Result};
 use bitflags::Flags;
 use std::alloc::Global;
 use vfs_files::{CStr, CString, Extensions, SecContext};
 use vfs_flags::{ExtType, FsOptions, GuestGid};
+use vfs_grammar::{Error, Result};
 use vfs_wire::parts::part_at;
 use vfs_wire::{ByteValued, ExtHeader, Secctx, SuppGroups};
 

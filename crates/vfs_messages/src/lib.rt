@@ -1,22 +1,16 @@
-//! Requests and replies as bytes, without a file system: what a request asks, by a written grammar;
-//! the parts of a request, read from a reader; replies, put into the room of a writer.
+//! The parts of a request, read from a reader, and replies, put into the room of a writer: without a
+//! file system, and as the written grammar says.
 //!
 //! The server stands on this crate and shows the parts of it that its callers need again.
 #![tactic(auto)]
 
-mod error;
-pub mod extension_laws;
 mod extensions;
-pub mod laws;
-mod limits;
 mod options;
 mod reply;
 mod request;
 pub mod uses;
 
-pub use error::{Error, Result};
 pub use extensions::{get_extensions, parse_security_context, parse_sup_groups};
-pub use limits::Limits;
 pub use options::{agreed_options, offered_options, read_second_flags, reply_init, reply_version};
 pub use reply::{
     hold_header, reply_attr, reply_created, reply_data, reply_done, reply_entry, reply_error,

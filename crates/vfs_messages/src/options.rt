@@ -6,18 +6,17 @@ ghost use Rattle.vfs_flags.specs.Flags.{fs_options_bits};
 ghost use Rattle.vfs_wire.specs.Fields.{bytes_of};
 ghost use Rattle.vfs_wire.specs.Init.{init_out};
 ghost use Rattle.vfs_files.specs.Calls.{IsAnswer, Agreements, Init, init_answer};
-ghost use Rattle.vfs_messages.specs.Forms.{second_flags};
-ghost use Rattle.vfs_messages.specs.Limits.{AreLimits};
-ghost use Rattle.vfs_messages.specs.Options.{offered, agreed, options_after};
-ghost use Rattle.vfs_messages.specs.Reply.{Bytes, said, say_init, init_out_of, body_reply, version_out};
-ghost use Rattle.vfs_messages.specs.Room.{Replies};
+ghost use Rattle.vfs_grammar.specs.Forms.{second_flags};
+ghost use Rattle.vfs_grammar.specs.Limits.{AreLimits};
+ghost use Rattle.vfs_grammar.specs.Options.{offered, agreed, options_after};
+ghost use Rattle.vfs_grammar.specs.Reply.{Bytes, said, say_init, init_out_of, body_reply, version_out};
+ghost use Rattle.vfs_messages.specs.Rooms.{Replies};
 
-use crate::error::Result;
-use crate::limits::Limits;
 use crate::reply::{reply_failed, reply_record};
 use crate::request::read_record;
 use bitflags::Flags;
 use vfs_flags::{Fault, FsOptions, KERNEL_MINOR_VERSION, KERNEL_VERSION};
+use vfs_grammar::{Limits, Result};
 use vfs_segments::{Reader, Writer};
 use vfs_wire::{InitInExt, InitOut};
 

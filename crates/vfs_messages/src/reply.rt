@@ -11,24 +11,18 @@ ghost use Rattle.vfs_wire.specs.Xattrs.{getxattr_out};
 ghost use Rattle.vfs_flags.specs.Flags.{open_options_bits};
 ghost use Rattle.vfs_segments.specs.Written.{Written, wrote, held_over, held_filled};
 ghost use Rattle.std.specs.Option.{option_copied};
-ghost use Rattle.vfs_files.specs.Answers.{IsFault, IsAnswer, FitsText, KeepsTextShort, Counts, Data, Told, Untold, Entries, TimedAttributes};
-ghost use Rattle.vfs_files.specs.Answers.{Openings, Creations, Capacities, Texts, TextsOrCounts, Offsets, Writes, Faults, Failed};
-ghost use Rattle.vfs_files.specs.Answers.{done_answer, entry_answer, attr_answer, opened_answer, created_answer, statistics_answer};
-ghost use Rattle.vfs_files.specs.Answers.{text_answer, getxattr_answer, listxattr_answer, offset_answer, written_answer, read_answer};
-ghost use Rattle.vfs_messages.specs.Records.{size_of, bytes_of_option, bytes_or_none, size_of_option};
-ghost use Rattle.vfs_messages.specs.Reply.{Bytes, said, said_open, fault_reply, fault_number, body_reply, data_header};
-ghost use Rattle.vfs_messages.specs.Reply.{say_done, say_fault, say_bytes, say_entry, say_attr, say_opened, say_created, say_statistics};
-ghost use Rattle.vfs_messages.specs.Reply.{say_text, say_text_or_count, say_offset, say_written, say_fault_alone};
-ghost use Rattle.vfs_messages.specs.Reply.{attr_out_of, open_out_of, getxattr_out_of};
-ghost use Rattle.vfs_messages.specs.Forms.{room_behind_header};
-ghost use Rattle.vfs_messages.specs.Room.{Replies, PutsBehindHeader};
+ghost use Rattle.vfs_files.specs.Answers.{IsFault, IsAnswer, FitsText, KeepsTextShort, Counts, Data, Told, Untold, Entries, TimedAttributes, Openings, Creations, Capacities, Texts, TextsOrCounts, Offsets, Writes, Faults, Failed, done_answer, entry_answer, attr_answer, opened_answer, created_answer, statistics_answer, text_answer, getxattr_answer, listxattr_answer, offset_answer, written_answer, read_answer};
+ghost use Rattle.vfs_grammar.specs.Records.{size_of};
+ghost use Rattle.vfs_messages.specs.Rooms.{bytes_of_option, bytes_or_none, size_of_option, data_header, Replies, PutsBehindHeader};
+ghost use Rattle.vfs_grammar.specs.Reply.{Bytes, said, said_open, fault_reply, fault_number, body_reply, say_done, say_fault, say_bytes, say_entry, say_attr, say_opened, say_created, say_statistics, say_text, say_text_or_count, say_offset, say_written, say_fault_alone, attr_out_of, open_out_of, getxattr_out_of};
+ghost use Rattle.vfs_grammar.specs.Forms.{room_behind_header};
 
-use crate::error::{Error, Result};
 use bitflags::Flags;
 use std::io::Write;
 use std::time::Duration;
 use vfs_files::{Entry, GetxattrReply, ListxattrReply, Number};
 use vfs_flags::{Errno, Fault, OpenOptions};
+use vfs_grammar::{Error, Result};
 use vfs_segments::Writer;
 use vfs_wire::{
     Attr, AttrOut, ByteValued, EntryOut, GetxattrOut, Kstatfs, LseekOut, OpenOut, OutHeader,

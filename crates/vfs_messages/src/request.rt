@@ -1,21 +1,15 @@
 //! The parts of a request: records, tails, pairs of a node and a count.
 
 ghost use Rattle.std.specs.Prelude.{◌≡◌, ◌==◌, ◌≤◌, ◌+◌, ◌-◌, ◌*◌, length, drop, take, map, option_map, bit_and, position, ◌⊎◌, OnOk, IfOk, IfErr, IsErr, IsFalse, MatchResult, Ok, Err, Some};
-ghost use Rattle.vfs_flags.specs.Flags.{fs_options_bits, setattr_valid_bits, known_setattr_valid};
-ghost use Rattle.vfs_flags.specs.Flags.{setxattr_flags_bits, known_setxattr_flags, setxattr_ext};
+ghost use Rattle.vfs_flags.specs.Flags.{fs_options_bits, setattr_valid_bits, known_setattr_valid, setxattr_flags_bits, known_setxattr_flags, setxattr_ext};
 ghost use Rattle.vfs_files.specs.Names.{name_text, name_of};
 ghost use Rattle.vfs_wire.specs.Entries.{forget_one};
 ghost use Rattle.vfs_segments.specs.Lengths.{lengths_from, lie_together};
-ghost use Rattle.vfs_messages.specs.Ask.{has_flag, if_set, setxattr_layout};
-ghost use Rattle.vfs_messages.specs.Extensions.{GivesValue, MayHoldContext};
-ghost use Rattle.vfs_messages.specs.Forms.{tail_of, name_in, pairs_in, pairs_of};
-ghost use Rattle.vfs_messages.specs.Forms.{second_or_refusal, names_in, sized_or_refusal, value_in};
-ghost use Rattle.vfs_messages.specs.Forms.{extended_in, link_or_refusal, link_in_tail};
-ghost use Rattle.vfs_messages.specs.Forms.{layout_record, layout_size};
-ghost use Rattle.vfs_messages.specs.Parts.{TailIsCut, pieces_behind, GivesTail, GivesPart, GivesPartAs, GivesExtended, extended_values, link_values, GivesPairs};
-ghost use Rattle.vfs_messages.specs.Records.{record_of, size_of};
+ghost use Rattle.vfs_grammar.specs.Ask.{has_flag, if_set, setxattr_layout};
+ghost use Rattle.vfs_messages.specs.Parts.{GivesValue, MayHoldContext, TailIsCut, pieces_behind, GivesTail, GivesPart, GivesPartAs, GivesExtended, extended_values, link_values, GivesPairs};
+ghost use Rattle.vfs_grammar.specs.Forms.{tail_of, name_in, pairs_in, pairs_of, second_or_refusal, names_in, sized_or_refusal, value_in, extended_in, link_or_refusal, link_in_tail, layout_record, layout_size};
+ghost use Rattle.vfs_grammar.specs.Records.{record_of, size_of};
 
-use crate::error::{Error, Result};
 use crate::extensions::get_extensions;
 use bitflags::Flags;
 use std::alloc::Global;
@@ -23,6 +17,7 @@ use std::io::Read;
 use std::marker::Model;
 use vfs_files::{CStr, Extensions, Number};
 use vfs_flags::{FsOptions, SetattrValid, SetxattrFlags};
+use vfs_grammar::{Error, Result};
 use vfs_segments::Reader;
 use vfs_wire::{ByteValued, ForgetOne, InHeader, SetxattrIn, SetxattrInCompat};
 

@@ -15,17 +15,17 @@ use Rattle.vfs_files.specs.Answers.{Answer, Handed, Plain, Capacities}
 use Rattle.vfs_files.specs.Calls.{Call, Statfs, default_answer}
 use Rattle.vfs_files.specs.Entries.{context_of}
 use Rattle.vfs_files.specs.Runs.{Event, Called, Opened, Taken, Happening, Calls, Opens, Takes, IsRun, events_of}
-use Rattle.vfs_messages.specs.Ask.{ask}
-use Rattle.vfs_messages.specs.Forms.{Ask, Asks, within, faulted, refused}
-use Rattle.vfs_messages.specs.Limits.{max_len}
-use Rattle.vfs_messages.specs.Reply.{Echo, echo_of, fault_reply, reply_of}
-use Rattle.vfs_messages.specs.Room.{IsReplied, IsPut}
-use Rattle.vfs_messages.specs.Turn.{Turn, Follows, IsTurn, turn_tells}
-use Rattle.vfs_messages.specs.Uses.{not_served_reply}
-use Rattle.vfs_messages.specs.declared.limits.Limits.{Limits}
-use Rattle.vfs_messages.specs.declared.error.Error.{Error}
-use Rattle.vfs_messages.specs.declared.error.Error.TheVariants.{EncodeMessage}
-use Rattle.vfs_messages.proofs.Rooms.{length-fault_reply, put_outcome-fits, put_room-fits}
+use Rattle.vfs_grammar.specs.Ask.{ask}
+use Rattle.vfs_grammar.specs.Forms.{Ask, Asks, within, faulted, refused}
+use Rattle.vfs_grammar.specs.Limits.{max_len}
+use Rattle.vfs_grammar.specs.Reply.{Echo, echo_of, fault_reply, reply_of}
+use Rattle.vfs_grammar.specs.Room.{IsReplied, IsPut}
+use Rattle.vfs_grammar.specs.Turn.{Turn, Follows, IsTurn, turn_tells}
+use Rattle.vfs_grammar.specs.Samples.{not_served_reply}
+use Rattle.vfs_grammar.specs.declared.limits.Limits.{Limits}
+use Rattle.vfs_grammar.specs.declared.error.Error.{Error}
+use Rattle.vfs_grammar.specs.declared.error.Error.TheVariants.{EncodeMessage}
+use Rattle.vfs_grammar.proofs.Rooms.{length-fault_reply, put_outcome-fits, put_room-fits}
 use Rattle.vfs_server.specs.Step.{ServerState, IsStep, turn_over}
 use Rattle.vfs_server.specs.Memory.{WantsNoneBehind}
 use Rattle.vfs_server.specs.Uses.{statfs_reply, no_memory_reply, IsWithoutTail}

@@ -10,17 +10,16 @@ use Rattle.vfs_segments.specs.Written.{Written, whole}
 use Rattle.vfs_files.specs.Items.{Item}
 use Rattle.vfs_files.specs.Calls.{Call, Failed, Handed}
 use Rattle.vfs_files.specs.Runs.{Event, Called, Taken, events_of}
-use Rattle.vfs_listings.specs.Laws.{EndsWhole, EndsFull, GoesOn}
-use Rattle.vfs_listings.specs.Listing.{Line, line_bytes}
-use Rattle.vfs_messages.specs.Ask.{ask}
-use Rattle.vfs_messages.specs.Forms.{Ask, Lists, Listing, within}
-use Rattle.vfs_messages.specs.Laws.{CameWhole, listing_reply}
-use Rattle.vfs_messages.specs.Limits.{max_len}
-use Rattle.vfs_messages.specs.Reply.{Echo, echo_of, body_reply}
-use Rattle.vfs_messages.specs.Room.{IsPutOpen}
-use Rattle.vfs_messages.specs.Turn.{Turn, IsRead}
-use Rattle.vfs_messages.specs.declared.limits.Limits.{Limits}
-use Rattle.vfs_messages.specs.declared.error.Error.{Error}
+use Rattle.vfs_grammar.specs.Directories.{EndsWhole, EndsFull, GoesOn, CameWhole, listing_reply}
+use Rattle.vfs_grammar.specs.Listing.{Line, line_bytes}
+use Rattle.vfs_grammar.specs.Ask.{ask}
+use Rattle.vfs_grammar.specs.Forms.{Ask, Lists, Listing, within}
+use Rattle.vfs_grammar.specs.Limits.{max_len}
+use Rattle.vfs_grammar.specs.Reply.{Echo, echo_of, body_reply}
+use Rattle.vfs_grammar.specs.Room.{IsPutOpen}
+use Rattle.vfs_grammar.specs.Turn.{Turn, IsRead}
+use Rattle.vfs_grammar.specs.declared.limits.Limits.{Limits}
+use Rattle.vfs_grammar.specs.declared.error.Error.{Error}
 use Rattle.vfs_server.specs.Step.{ServerState, ReadsDirectories, turn_over}
 use Rattle.vfs_server.specs.Uses.{small_readdir, no_directory_reply, no_records_reply, ReadsOneRecord}
 use Rattle.vfs_server.specs.declared.uses.TheConstants.{READDIR}

@@ -9,14 +9,14 @@ use Rattle.vfs_files.specs.Answers.{Handed, Counts}
 use Rattle.vfs_files.specs.Calls.{Call}
 use Rattle.vfs_files.specs.Items.{Item}
 use Rattle.vfs_files.specs.Runs.{Event, Happening, IsRun}
-use Rattle.vfs_listings.specs.Listing.{IsListing}
-use Rattle.vfs_listings.specs.ListingLaws.{length-listing, listing_within}
+use Rattle.vfs_grammar.specs.Listing.{IsListing}
+use Rattle.vfs_grammar.proofs.Listings.{length-listing, listing_within}
 use Rattle.vfs_listings.specs.Reading.{Puts}
-use Rattle.vfs_messages.specs.Ask.{lists_too_much}
-use Rattle.vfs_messages.specs.Forms.{Listing}
-use Rattle.vfs_messages.specs.Room.{PutsBehindHeader}
-use Rattle.vfs_messages.specs.Turn.{IsRead}
-use Rattle.vfs_messages.specs.declared.limits.Limits.{Limits}
+use Rattle.vfs_grammar.specs.Ask.{lists_too_much}
+use Rattle.vfs_grammar.specs.Forms.{Listing}
+use Rattle.vfs_messages.specs.Rooms.{PutsBehindHeader}
+use Rattle.vfs_grammar.specs.Turn.{IsRead}
+use Rattle.vfs_grammar.specs.declared.limits.Limits.{Limits}
 
 -- data were put, and nothing beyond them
 pub data_behind : (old held new : Written) (bytes : List ℕ) → held ≡ held_over old 16 → 16 ≤ length old.left → Moves held bytes new

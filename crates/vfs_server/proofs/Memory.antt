@@ -7,12 +7,12 @@ use Rattle.vfs_wire.specs.Headers.{in_header}
 use Rattle.vfs_wire.specs.declared.headers.InHeader.{InHeader}
 use Rattle.vfs_segments.specs.Lengths.{lengths_from, lie_together}
 use Rattle.vfs_segments.specs.Unread.{Unread}
-use Rattle.vfs_messages.specs.Ask.{form_of}
-use Rattle.vfs_messages.specs.Extensions.{has_option}
-use Rattle.vfs_messages.specs.Forms.{Layout, Without, Record, layout_size, Form, NoTail, NameTail, TwoNames, NameAndValue, NameAndExtensions, LinkAndExtensions, Pairs, WithRest, IntoRoom, Directories, Versions, Silent, NotServed}
+use Rattle.vfs_grammar.specs.Ask.{form_of}
+use Rattle.vfs_grammar.specs.Extensions.{has_option}
+use Rattle.vfs_grammar.specs.Forms.{Layout, Without, Record, layout_size, Form, NoTail, NameTail, TwoNames, NameAndValue, NameAndExtensions, LinkAndExtensions, Pairs, WithRest, IntoRoom, Directories, Versions, Silent, NotServed}
 use Rattle.vfs_messages.specs.Parts.{TailIsCut, pieces_behind}
-use Rattle.vfs_messages.specs.Records.{size_of}
-use Rattle.vfs_messages.specs.declared.limits.Limits.{Limits}
+use Rattle.vfs_grammar.specs.Records.{size_of}
+use Rattle.vfs_grammar.specs.declared.limits.Limits.{Limits}
 use Rattle.vfs_server.specs.Memory.{TailIsTogether, WantsNone, WantsNoneBehind, MayWantForm, MayWantBehind}
 
 -- both of two tests

@@ -14,19 +14,18 @@ use Rattle.vfs_files.specs.Calls.{Call, Init, Lookup, Forget, default_answer}
 use Rattle.vfs_files.specs.Entries.{context_of}
 use Rattle.vfs_files.specs.declared.entry.Context.{Context}
 use Rattle.vfs_files.specs.Runs.{Event, Called, Opened, Taken, events_of}
-use Rattle.vfs_books.specs.Books.{accepted, delivered, accepted_by, delivered_by, opcode_in}
-use Rattle.vfs_books.specs.Laws.{GivesBackWithin, KeepsBooks}
-use Rattle.vfs_books.specs.Turns.{events_in}
-use Rattle.vfs_messages.specs.Ask.{ask}
-use Rattle.vfs_messages.specs.Forms.{Ask, Asks, Copies, within}
-use Rattle.vfs_messages.specs.Limits.{max_len}
-use Rattle.vfs_messages.specs.Options.{options_after}
-use Rattle.vfs_messages.specs.Reply.{Echo, echo_of, reply_of}
-use Rattle.vfs_messages.specs.Room.{IsReplied, Leaves}
-use Rattle.vfs_messages.specs.Turn.{Turn, IsTurn, Follows, turn_tells}
-use Rattle.vfs_messages.specs.declared.limits.Limits.{Limits}
-use Rattle.vfs_messages.specs.declared.error.Error.{Error}
-use Rattle.vfs_messages.specs.declared.error.Error.TheVariants.{OutOfMemory}
+use Rattle.vfs_grammar.specs.Books.{accepted, delivered, accepted_by, delivered_by, opcode_in, GivesBackWithin, KeepsBooks}
+use Rattle.vfs_grammar.specs.Turn.{events_in, Turn, IsTurn, Follows, turn_tells}
+use Rattle.vfs_grammar.specs.Ask.{ask}
+use Rattle.vfs_grammar.specs.Forms.{Ask, Asks, Copies, within}
+use Rattle.vfs_grammar.specs.Limits.{max_len}
+use Rattle.vfs_grammar.specs.Options.{options_after}
+use Rattle.vfs_grammar.specs.Reply.{Echo, echo_of, reply_of}
+use Rattle.vfs_grammar.specs.Room.{IsReplied}
+use Rattle.vfs_messages.specs.Rooms.{Leaves}
+use Rattle.vfs_grammar.specs.declared.limits.Limits.{Limits}
+use Rattle.vfs_grammar.specs.declared.error.Error.{Error}
+use Rattle.vfs_grammar.specs.declared.error.Error.TheVariants.{OutOfMemory}
 use Rattle.vfs_server.proofs.Callers.{Seen, AreDefault, seen_put, turn-statfs, run_is_default}
 use Rattle.vfs_server.specs.Memory.{WantsNoMemory}
 use Rattle.vfs_server.specs.Session.{IsServed, AreServed, IsSession}

@@ -7,15 +7,14 @@ use Rattle.vfs_segments.specs.Written.{Written}
 use Rattle.vfs_files.specs.Items.{Item}
 use Rattle.vfs_files.specs.Calls.{Call, Handed}
 use Rattle.vfs_files.specs.Runs.{events_of, RunsJoin, EventsJoin}
-use Rattle.vfs_messages.specs.Turn.{Turn}
-use Rattle.vfs_messages.specs.declared.limits.Limits.{Limits}
-use Rattle.vfs_messages.specs.declared.error.Error.{Error}
-use Rattle.vfs_messages.specs.declared.error.Error.TheVariants.{OutOfMemory}
+use Rattle.vfs_grammar.specs.Turn.{Turn, AreTurns}
+use Rattle.vfs_grammar.specs.declared.limits.Limits.{Limits}
+use Rattle.vfs_grammar.specs.declared.error.Error.{Error}
+use Rattle.vfs_grammar.specs.declared.error.Error.TheVariants.{OutOfMemory}
 use Rattle.vfs_server.specs.Memory.{WantsNoMemory}
 use Rattle.vfs_server.specs.Step.{ServerState, IsStep, turn_over}
-use Rattle.vfs_books.specs.Laws.{KeepsBooks}
-use Rattle.vfs_books.specs.Turns.{AreTurns}
-use Rattle.vfs_books.specs.TurnLaws.{events_in-push}
+use Rattle.vfs_grammar.specs.Books.{KeepsBooks}
+use Rattle.vfs_grammar.proofs.Turns.{events_in-push}
 use Rattle.vfs_server.specs.Session.{IsServed, AreServed, IsSession}
 
 map_push : {A B : Type 0} (f : A → B) (xs : List A) (x : A) → map f (xs ++ x ∷ []) ≡ map f xs ++ f x ∷ []

@@ -8,17 +8,18 @@ use Rattle.vfs_files.specs.Items.{Item}
 use Rattle.vfs_files.specs.Calls.{Call, Forget, Answer, Done, Handed, Data, kind_of, read_answer}
 use Rattle.vfs_files.specs.Runs.{Happening, Called, Calls, IsRun, events_of}
 use Rattle.vfs_files.specs.declared.entry.Context.{Context}
-use Rattle.vfs_listings.specs.Listing.{given_back}
-use Rattle.vfs_messages.specs.Records.{record_of, size_of}
-use Rattle.vfs_messages.specs.Forms.{Listing, Ask, Ends, Asks, Lists, Copies, refused, refused_or}
-use Rattle.vfs_messages.specs.Ask.{ask, ask_header}
-use Rattle.vfs_messages.specs.Laws.{StopsForACause, ComesWhole, TakesFew, header_of}
-use Rattle.vfs_messages.specs.Reply.{Echo, Reply, Refusal, NoReply, Bytes, OpenBehind, Never, reply_of}
-use Rattle.vfs_messages.specs.Room.{IsReplied, Leaves, Replies, unseen}
-use Rattle.vfs_messages.specs.Turn.{Turn, Witness, Follows, IsTurn, IsTurnWithMemory, node_answered, turn_tells}
-use Rattle.vfs_messages.specs.declared.limits.Limits.{Limits}
-use Rattle.vfs_messages.specs.declared.error.Error.{Error}
-use Rattle.vfs_messages.specs.declared.error.Error.TheVariants.{DecodeMessage, OutOfMemory}
+use Rattle.vfs_grammar.specs.Listing.{given_back}
+use Rattle.vfs_grammar.specs.Records.{record_of, size_of}
+use Rattle.vfs_grammar.specs.Forms.{Listing, Ask, Ends, Asks, Lists, Copies, refused, refused_or}
+use Rattle.vfs_grammar.specs.Ask.{ask, ask_header, header_of}
+use Rattle.vfs_grammar.specs.Directories.{StopsForACause, ComesWhole, TakesFew}
+use Rattle.vfs_grammar.specs.Reply.{Echo, Reply, Refusal, NoReply, Bytes, OpenBehind, Never, reply_of}
+use Rattle.vfs_grammar.specs.Room.{IsReplied, unseen}
+use Rattle.vfs_messages.specs.Rooms.{Leaves, Replies}
+use Rattle.vfs_grammar.specs.Turn.{Turn, Witness, Follows, IsTurn, IsTurnWithMemory, node_answered, turn_tells}
+use Rattle.vfs_grammar.specs.declared.limits.Limits.{Limits}
+use Rattle.vfs_grammar.specs.declared.error.Error.{Error}
+use Rattle.vfs_grammar.specs.declared.error.Error.TheVariants.{DecodeMessage, OutOfMemory}
 use Rattle.vfs_server.specs.Memory.{MayWantBehind}
 use Rattle.vfs_server.specs.Step.{ServerState, CallsAndGivesBack, Handles, IsStep, ReadsDirectories, server_tells, turn_over}
 

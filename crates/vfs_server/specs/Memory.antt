@@ -7,13 +7,12 @@ use Rattle.vfs_wire.specs.Headers.{in_header}
 use Rattle.vfs_wire.specs.declared.headers.InHeader.{InHeader}
 use Rattle.vfs_segments.specs.Lengths.{lengths_from}
 use Rattle.vfs_segments.specs.Unread.{Unread, are_together}
-use Rattle.vfs_messages.specs.Ask.{form_of}
-use Rattle.vfs_messages.specs.Extensions.{MayHoldContext, has_option}
-use Rattle.vfs_messages.specs.Forms.{Layout, layout_size, Form, NameTail, TwoNames, NameAndValue, NameAndExtensions, LinkAndExtensions, Pairs}
-use Rattle.vfs_messages.specs.Laws.{header_of}
-use Rattle.vfs_messages.specs.Parts.{TailIsCut, pieces_behind}
-use Rattle.vfs_messages.specs.Records.{size_of}
-use Rattle.vfs_messages.specs.declared.limits.Limits.{Limits}
+use Rattle.vfs_grammar.specs.Ask.{form_of, header_of}
+use Rattle.vfs_messages.specs.Parts.{MayHoldContext, TailIsCut, pieces_behind}
+use Rattle.vfs_grammar.specs.Extensions.{has_option}
+use Rattle.vfs_grammar.specs.Forms.{Layout, layout_size, Form, NameTail, TwoNames, NameAndValue, NameAndExtensions, LinkAndExtensions, Pairs}
+use Rattle.vfs_grammar.specs.Records.{size_of}
+use Rattle.vfs_grammar.specs.declared.limits.Limits.{Limits}
 
 -- ---- as a transport sees it
 

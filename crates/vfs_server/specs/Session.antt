@@ -5,13 +5,12 @@ use Rattle.vfs_segments.specs.Written.{Written}
 use Rattle.vfs_files.specs.Items.{Item}
 use Rattle.vfs_files.specs.Calls.{Call, Handed}
 use Rattle.vfs_files.specs.Runs.{Happening, IsRun, events_of}
-use Rattle.vfs_messages.specs.Room.{Leaves}
-use Rattle.vfs_messages.specs.Turn.{Turn, IsTurn}
-use Rattle.vfs_messages.specs.declared.limits.Limits.{Limits}
-use Rattle.vfs_messages.specs.declared.error.Error.{Error}
-use Rattle.vfs_messages.specs.declared.error.Error.TheVariants.{OutOfMemory}
-use Rattle.vfs_books.specs.Laws.{KeepsBooks}
-use Rattle.vfs_books.specs.Turns.{events_in}
+use Rattle.vfs_messages.specs.Rooms.{Leaves}
+use Rattle.vfs_grammar.specs.Turn.{Turn, IsTurn, events_in}
+use Rattle.vfs_grammar.specs.declared.limits.Limits.{Limits}
+use Rattle.vfs_grammar.specs.declared.error.Error.{Error}
+use Rattle.vfs_grammar.specs.declared.error.Error.TheVariants.{OutOfMemory}
+use Rattle.vfs_grammar.specs.Books.{KeepsBooks}
 use Rattle.vfs_server.specs.Memory.{WantsNoMemory}
 use Rattle.vfs_server.specs.Step.{ServerState}
 

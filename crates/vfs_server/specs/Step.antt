@@ -10,14 +10,14 @@ use Rattle.vfs_files.specs.Runs.{Happening, IsRun, events_of}
 use Rattle.vfs_files.specs.declared.entry.Context.{Context}
 use Rattle.vfs_listings.specs.Reading.{GivesBackNode}
 use Rattle.vfs_files.specs.Migrations.{MigrationCall, MigrationAnswer}
-use Rattle.vfs_messages.specs.Forms.{Listing, Ask, Lists}
-use Rattle.vfs_messages.specs.Ask.{ask, ask_opcode, form_of}
-use Rattle.vfs_messages.specs.Laws.{StopsForACause, ComesWhole, TakesFew}
-use Rattle.vfs_messages.specs.Reply.{Echo}
-use Rattle.vfs_messages.specs.Room.{Leaves, Replies}
-use Rattle.vfs_messages.specs.Turn.{Witness, Follows, IsRead, Turn, IsTurn}
-use Rattle.vfs_messages.specs.declared.limits.Limits.{Limits}
-use Rattle.vfs_messages.specs.declared.error.Error.{Error}
+use Rattle.vfs_grammar.specs.Forms.{Listing, Ask, Lists}
+use Rattle.vfs_grammar.specs.Ask.{ask, ask_opcode, form_of}
+use Rattle.vfs_grammar.specs.Directories.{StopsForACause, ComesWhole, TakesFew}
+use Rattle.vfs_grammar.specs.Reply.{Echo}
+use Rattle.vfs_messages.specs.Rooms.{Leaves, Replies}
+use Rattle.vfs_grammar.specs.Turn.{Witness, Follows, IsRead, Turn, IsTurn}
+use Rattle.vfs_grammar.specs.declared.limits.Limits.{Limits}
+use Rattle.vfs_grammar.specs.declared.error.Error.{Error}
 use Rattle.vfs_server.specs.Memory.{MayWantForm}
 
 -- a server as contracts see it: the agreed options, the limits, the state of the file system

@@ -9,10 +9,9 @@ use Rattle.vfs_segments.specs.Written.{Written}
 use Rattle.vfs_files.specs.Items.{Item}
 use Rattle.vfs_files.specs.Calls.{Call, Readdir, Failed, Handed}
 use Rattle.vfs_files.specs.Runs.{Called, Opened, Taken, Happening, IsRun, events_of}
-use Rattle.vfs_listings.specs.Laws.{takings}
-use Rattle.vfs_books.specs.Books.{answered, sent}
-use Rattle.vfs_books.specs.Laws.{NeverBelow}
-use Rattle.vfs_messages.specs.declared.error.Error.{Error}
+use Rattle.vfs_grammar.specs.Directories.{takings}
+use Rattle.vfs_grammar.specs.Books.{answered, sent, NeverBelow}
+use Rattle.vfs_grammar.specs.declared.error.Error.{Error}
 
 -- request 9, STATFS of node 1: a header alone, of 40 bytes
 abbrev pub statfs_request : List ℕ

@@ -4,13 +4,14 @@
 //! The lower crates stand again below the modules that are named after virtiofsd's files: `fuse`
 //! has the records and numbers of the protocol, `descriptor_utils` readers and writers,
 //! `filesystem` the trait and its types. `server` has the server, and the parts of requests and
-//! replies that a caller may need beside it.
+//! replies that a caller may need beside it. `laws` has what holds of every request.
 #![tactic(auto)]
 
 pub mod descriptor_utils;
 pub mod filesystem;
 pub mod fuse;
+pub mod laws;
 pub mod server;
 pub mod uses;
 
-pub use vfs_messages::{Error, Result, extension_laws, laws};
+pub use vfs_grammar::{Error, Result};

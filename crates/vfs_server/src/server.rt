@@ -20,8 +20,8 @@ ghost use Rattle.vfs_flags.specs.declared.constants.TheConstants.{LEAST_MAX_BUFF
 ghost use Rattle.vfs_segments.specs.Written.{held_over};
 ghost use Rattle.vfs_files.specs.Calls.{Destroy};
 ghost use Rattle.vfs_files.specs.Answers.{Plain, Done};
-ghost use Rattle.vfs_messages.specs.Ask.{ask_header};
-ghost use Rattle.vfs_messages.specs.declared.error.Error.{Error};
+ghost use Rattle.vfs_grammar.specs.Ask.{ask_header};
+ghost use Rattle.vfs_grammar.specs.declared.error.Error.{Error};
 ghost use Rattle.vfs_server.specs.Memory.{MayWant, MayWantBehind, WantsNoMemory};
 ghost use Rattle.vfs_server.specs.Session.{IsSession};
 ghost use Rattle.vfs_server.specs.Step.{IsStep, ReadsDirectories, Handles, Serves};
@@ -29,13 +29,14 @@ ghost use Rattle.vfs_server.specs.Step.{IsStep, ReadsDirectories, Handles, Serve
 use bitflags::Flags;
 use std::alloc::Global;
 use std::marker::Model;
-use vfs_books::laws::turns_keep_books;
 use vfs_files::FileSystem;
 use vfs_files::laws::runs_join;
 use vfs_flags::{DEFAULT_MAX_BUFFER, Errno, FsOptions, Opcode};
+use vfs_grammar::{Limits, Result};
+use vfs_laws::books::turns_keep_books;
+use vfs_laws::turns::{directories_are_read, memory_is_wanted_for_copies};
 pub use vfs_listings::add_dirent;
-use vfs_messages::laws::{directories_are_read, memory_is_wanted_for_copies};
-use vfs_messages::{Limits, Result, read_record, reply_failed};
+use vfs_messages::{read_record, reply_failed};
 pub use vfs_messages::{
     get_extensions, parse_security_context, parse_sup_groups, reply_error, reply_ok, reply_readdir,
 };
@@ -56,7 +57,7 @@ pub struct Server<F> {
 
 impl<F> Model for Server<F> {
     ghost use Rattle.vfs_flags.specs.Flags.{fs_options_bits};
-    ghost use Rattle.vfs_messages.specs.Limits.{AreLimits};
+    ghost use Rattle.vfs_grammar.specs.Limits.{AreLimits};
     ghost use Rattle.vfs_server.specs.Step.{ServerState};
 
     ghost Value = { ServerState F };

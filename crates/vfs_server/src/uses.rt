@@ -10,16 +10,16 @@ ghost use Rattle.vfs_segments.specs.Segments.{contents, flat_bytes};
 ghost use Rattle.vfs_segments.specs.Unread.{are_together};
 ghost use Rattle.vfs_segments.specs.Written.{whole};
 ghost use Rattle.vfs_files.specs.declared.migration.MigrateError.TheVariants.{Unsupported};
-ghost use Rattle.vfs_messages.specs.Laws.{header_of};
-ghost use Rattle.vfs_messages.specs.Uses.{not_served_reply};
-ghost use Rattle.vfs_messages.specs.declared.error.Error.TheVariants.{EncodeMessage, OutOfMemory};
+ghost use Rattle.vfs_grammar.specs.Ask.{header_of};
+ghost use Rattle.vfs_grammar.specs.Samples.{not_served_reply};
+ghost use Rattle.vfs_grammar.specs.declared.error.Error.TheVariants.{EncodeMessage, OutOfMemory};
 ghost use Rattle.vfs_server.specs.Uses.{statfs_reply, no_memory_reply, IsWithoutTail, ReadsOneRecord};
 
 use crate::server::Server;
 use std::alloc::Global;
 use std::io;
 use vfs_files::{FileSystem, MigrateError, SerializableFileSystem, Unserved};
-use vfs_messages::Result;
+use vfs_grammar::Result;
 use vfs_segments::{Reader, Writer};
 
 /// Request 9, STATFS of node 1: a header alone, of 40 bytes.

@@ -5,9 +5,8 @@ ghost use Rattle.vfs_server.specs.Step.{Serves};
 use crate::server::Server;
 use vfs_files::{Context, FileSystem, Number};
 use vfs_flags::{FATTR_FH, GETATTR_FH, Opcode};
-use vfs_messages::{
-    Result, handle_if, known_valid, read_record, reply_attr, reply_done, reply_statistics,
-};
+use vfs_grammar::Result;
+use vfs_messages::{handle_if, known_valid, read_record, reply_attr, reply_done, reply_statistics};
 use vfs_segments::{Reader, Writer};
 use vfs_wire::{AccessIn, GetattrIn, InHeader, SetattrIn};
 

@@ -5,7 +5,7 @@ ghost use Rattle.std.specs.Prelude.{◌≡◌, length};
 ghost use Rattle.vfs_files.specs.Calls.{Read};
 ghost use Rattle.vfs_files.specs.Entries.{context_of};
 ghost use Rattle.vfs_flags.specs.declared.constants.TheConstants.{READ_LOCKOWNER};
-ghost use Rattle.vfs_messages.specs.Ask.{if_set};
+ghost use Rattle.vfs_grammar.specs.Ask.{if_set};
 ghost use Rattle.vfs_server.specs.Step.{Serves, ReadsInto};
 
 use crate::server::Server;
@@ -13,9 +13,8 @@ use std::alloc::Global;
 use std::mem;
 use vfs_files::{Context, FileSystem, Number};
 use vfs_flags::{Fault, Opcode, READ_LOCKOWNER, WRITE_CACHE, WRITE_KILL_PRIV, WRITE_LOCKOWNER};
-use vfs_messages::{
-    Result, hold_header, is_set, number_if, read_record, reply_data, reply_written,
-};
+use vfs_grammar::Result;
+use vfs_messages::{hold_header, is_set, number_if, read_record, reply_data, reply_written};
 use vfs_segments::{Reader, Writer};
 use vfs_transfers::{ZcReader, ZcWriter};
 use vfs_wire::{InHeader, ReadIn, WriteIn};

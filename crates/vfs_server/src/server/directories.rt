@@ -2,16 +2,17 @@
 
 ghost use Rattle.std.specs.Prelude.{◌≡◌, length};
 ghost use Rattle.vfs_wire.specs.Files.{read_in};
-ghost use Rattle.vfs_messages.specs.Ask.{listing_of, lists_too_much};
-ghost use Rattle.vfs_messages.specs.Forms.{Directories, Record, ask_form};
+ghost use Rattle.vfs_grammar.specs.Ask.{listing_of, lists_too_much};
+ghost use Rattle.vfs_grammar.specs.Forms.{Directories, Record, ask_form};
 ghost use Rattle.vfs_server.specs.Step.{Handles, Serves};
 
 use crate::server::Server;
 use vfs_files::{Context, FileSystem, Number};
 use vfs_flags::{Errno, FSYNC_FDATASYNC, Opcode};
+use vfs_grammar::Result;
 use vfs_listings::read_directory;
 use vfs_messages::{
-    Result, hold_header, is_set, read_record, reply_data, reply_done, reply_failed, reply_opened,
+    hold_header, is_set, read_record, reply_data, reply_done, reply_failed, reply_opened,
 };
 use vfs_segments::{Reader, Writer};
 use vfs_wire::{FsyncIn, InHeader, OpenIn, ReadIn, ReleaseIn};

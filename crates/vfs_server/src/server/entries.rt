@@ -6,15 +6,17 @@ ghost use Rattle.vfs_files.specs.Answers.{Entries, Creations, IsAnswer, entry_an
 ghost use Rattle.vfs_files.specs.Calls.{Call, Plain};
 ghost use Rattle.vfs_files.specs.Entries.{context_of};
 ghost use Rattle.vfs_listings.specs.Reading.{GivesBackNode};
-ghost use Rattle.vfs_messages.specs.Reply.{said, say_entry, say_created};
-ghost use Rattle.vfs_messages.specs.Room.{Replies, unseen};
-ghost use Rattle.vfs_messages.specs.Turn.{counted, node_answered};
+ghost use Rattle.vfs_grammar.specs.Reply.{said, say_entry, say_created};
+ghost use Rattle.vfs_messages.specs.Rooms.{Replies};
+ghost use Rattle.vfs_grammar.specs.Room.{unseen};
+ghost use Rattle.vfs_grammar.specs.Turn.{counted, node_answered};
 ghost use Rattle.vfs_server.specs.Step.{CallsAndGivesBack};
 
 use vfs_files::{Entry, FileSystem, Number};
 use vfs_flags::{Fault, OpenOptions};
+use vfs_grammar::Result;
 use vfs_listings::give_back;
-use vfs_messages::{Result, reply_created, reply_entry};
+use vfs_messages::{reply_created, reply_entry};
 use vfs_segments::Writer;
 use vfs_wire::InHeader;
 

@@ -7,9 +7,10 @@ use crate::server::entries::deliver_created;
 use std::alloc::Global;
 use vfs_files::{Context, FileSystem, Number};
 use vfs_flags::{FSYNC_FDATASYNC, OPEN_KILL_SUIDGID, Opcode, RELEASE_FLOCK_UNLOCK, RELEASE_FLUSH};
+use vfs_grammar::Result;
 use vfs_messages::{
-    Result, is_set, number_if, read_extended, read_record, reply_done, reply_fault_alone,
-    reply_offset, reply_opened, reply_written,
+    is_set, number_if, read_extended, read_record, reply_done, reply_fault_alone, reply_offset,
+    reply_opened, reply_written,
 };
 use vfs_segments::{Reader, Writer};
 use vfs_wire::{

@@ -7,8 +7,9 @@ use crate::server::entries::deliver_entry;
 use std::alloc::Global;
 use vfs_files::{Context, FileSystem, Number};
 use vfs_flags::{Errno, Opcode};
+use vfs_grammar::Result;
 use vfs_messages::{
-    Result, read_extended, read_link, read_name, read_names, read_pairs, read_record, reply_done,
+    read_extended, read_link, read_name, read_names, read_pairs, read_record, reply_done,
     reply_failed, reply_text,
 };
 use vfs_segments::{Reader, Writer};

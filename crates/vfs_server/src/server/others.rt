@@ -6,7 +6,8 @@ ghost use Rattle.vfs_server.specs.Step.{Serves};
 use crate::server::Server;
 use vfs_files::FileSystem;
 use vfs_flags::Opcode;
-use vfs_messages::{Result, reply_fault};
+use vfs_grammar::Result;
+use vfs_messages::reply_fault;
 use vfs_segments::{Reader, Writer};
 use vfs_wire::InHeader;
 

@@ -1,15 +1,15 @@
 //! The session: INIT, DESTROY, and what concerns the file system as a whole.
 
-ghost use Rattle.vfs_server.specs.Step.{Serves};
-ghost use Rattle.vfs_messages.specs.Forms.{ask_version};
-ghost use Rattle.vfs_server.specs.Step.{Handles};
+ghost use Rattle.vfs_server.specs.Step.{Serves, Handles};
+ghost use Rattle.vfs_grammar.specs.Forms.{ask_version};
 
 use crate::server::Server;
 use vfs_files::{Context, FileSystem, Number};
 use vfs_flags::{Errno, KERNEL_VERSION, MIN_KERNEL_MINOR_VERSION, Opcode};
+use vfs_grammar::Result;
 use vfs_messages::{
-    Result, agreed_options, offered_options, read_record, read_second_flags, reply_done,
-    reply_failed, reply_init, reply_version,
+    agreed_options, offered_options, read_record, read_second_flags, reply_done, reply_failed,
+    reply_init, reply_version,
 };
 use vfs_segments::{Reader, Writer};
 use vfs_wire::{InHeader, InitInCompat};

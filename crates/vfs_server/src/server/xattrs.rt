@@ -6,9 +6,10 @@ use crate::server::Server;
 use std::alloc::Global;
 use vfs_files::{Context, FileSystem, Number};
 use vfs_flags::{Errno, Opcode};
+use vfs_grammar::Result;
 use vfs_messages::{
-    Result, further_flags, name_of_tail, read_name, read_record, read_setxattr, read_tail,
-    read_value, reply_done, reply_failed, reply_names, reply_value, setxattr_size,
+    further_flags, name_of_tail, read_name, read_record, read_setxattr, read_tail, read_value,
+    reply_done, reply_failed, reply_names, reply_value, setxattr_size,
 };
 use vfs_segments::{Reader, Writer};
 use vfs_wire::{ByteValued, GetxattrIn, InHeader};

@@ -7,7 +7,7 @@ ghost use Rattle.vfs_server.specs.Uses.{init_request, init_reply, lookup_request
 use crate::server::Server;
 use std::alloc::Global;
 use vfs_files::{FileSystem, Unserved};
-use vfs_messages::Result;
+use vfs_grammar::Result;
 use vfs_segments::{Reader, Writer};
 
 /// Asks a server over a file system that serves nothing for three things in one session: INIT, a

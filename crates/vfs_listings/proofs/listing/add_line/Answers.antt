@@ -3,7 +3,7 @@ use Rattle.vfs_files.specs.Calls.{Call, Handed}
 use Rattle.vfs_files.specs.Entries.{context_of}
 use Rattle.vfs_files.specs.declared.entry.Context.{Context}
 use Rattle.vfs_listings.specs.Reading.{GivesBack}
-use Rattle.vfs_listings.specs.Records.{Verdict, Fits, Full, Fails}
+use Rattle.vfs_grammar.specs.Dirents.{Verdict, Fits, Full, Fails}
 use Rattle.vfs_listings.proofs.listing.add_line.Goals as goal
 
 -- an item that got no entry gives none back

@@ -1,6 +1,6 @@
 use Rattle.vfs_files.specs.Items.{item}
-use Rattle.vfs_listings.specs.Records.{dirent_bytes}
-use Rattle.vfs_listings.specs.RecordLaws.{length-dirent_bytes}
+use Rattle.vfs_grammar.specs.Dirents.{dirent_bytes}
+use Rattle.vfs_grammar.proofs.Dirents.{length-dirent_bytes}
 use Rattle.vfs_listings.proofs.Putting.{puts_by, dirent_parts}
 use Rattle.vfs_listings.proofs.record.put_dirent.Goals as goal
 

@@ -1,4 +1,4 @@
-use Rattle.vfs_listings.proofs.WholeCallers.{room_is_filled}
+use Rattle.vfs_listings.proofs.SmallCallers.{room_is_filled}
 use Rattle.vfs_listings.proofs.uses.a_room_that_is_too_small.Goals as goal
 
 pub returns : goal.returns

@@ -1,8 +1,8 @@
 use Rattle.std.proofs.Common.{◌≡◌, ◌∙◌, ℕ, List, None, arith, ap, codes, length, refl}
 use Rattle.vfs_segments.specs.Written.{wrote}
 use Rattle.vfs_wire.specs.Fields.{little}
-use Rattle.vfs_listings.specs.Records.{dirent_bytes, record_bytes}
-use Rattle.vfs_listings.specs.Uses.{record_of_dot}
+use Rattle.vfs_grammar.specs.Dirents.{dirent_bytes, record_bytes}
+use Rattle.vfs_grammar.specs.Samples.{record_of_dot}
 use Rattle.vfs_listings.proofs.SmallCallers.{put_whole}
 use Rattle.vfs_listings.proofs.uses.add_dot.Goals as goal
 

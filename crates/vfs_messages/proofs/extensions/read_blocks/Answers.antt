@@ -2,8 +2,9 @@ use Rattle.std.proofs.Common.{◌≡◌, ◌<◌, length, inl, arith}
 use Rattle.std.proofs.lemmas.Bool.Decides.{nat_tests}
 use Rattle.std.proofs.lemmas.Result.{err_from_is_err_and}
 use Rattle.vfs_flags.specs.Flags.{fs_options_bits}
-use Rattle.vfs_messages.specs.Extensions.{found_values}
-use Rattle.vfs_messages.proofs.Blocks.{says-fault, says-bad, says-more, says-end}
+use Rattle.vfs_messages.specs.Parts.{found_values}
+use Rattle.vfs_messages.proofs.Blocks.{says-fault, says-bad, says-end}
+use Rattle.vfs_grammar.proofs.Blocks.{says-more}
 use Rattle.vfs_messages.proofs.extensions.read_blocks.Goals as goal
 
 pub returns-in_err-block : goal.returns-in_err-block

@@ -3,8 +3,9 @@ use Rattle.vfs_wire.specs.Fields.{bytes_of}
 use Rattle.vfs_wire.specs.Headers.{out_header}
 use Rattle.vfs_wire.specs.declared.headers.OutHeader.{OutHeader}
 use Rattle.vfs_segments.specs.Written.{wrote}
-use Rattle.vfs_messages.specs.Reply.{fault_reply}
-use Rattle.vfs_messages.proofs.Rooms.{replied, length-fault_reply, put_outcome-lengths}
+use Rattle.vfs_grammar.specs.Reply.{fault_reply}
+use Rattle.vfs_messages.proofs.Rooms.{replied}
+use Rattle.vfs_grammar.proofs.Rooms.{length-fault_reply, put_outcome-lengths}
 use Rattle.vfs_messages.proofs.reply.reply_failed.Goals as goal
 
 pub returns-clause-replied : goal.returns-clause-replied

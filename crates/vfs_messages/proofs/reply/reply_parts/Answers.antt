@@ -2,9 +2,10 @@ use Rattle.std.proofs.Common.{◌≡◌, ◌+◌, ◌%◌, ◌^◌, ◌++◌, �
 use Rattle.vfs_wire.specs.Fields.{bytes_of}
 use Rattle.vfs_wire.specs.Headers.{out_header}
 use Rattle.vfs_segments.specs.Written.{wrote}
-use Rattle.vfs_messages.specs.Records.{bytes_of_option}
-use Rattle.vfs_messages.specs.Reply.{body_reply}
-use Rattle.vfs_messages.proofs.Rooms.{replied, wrote_three, put_outcome-lengths, length-body_reply, length-bytes_of_option}
+use Rattle.vfs_messages.specs.Rooms.{bytes_of_option}
+use Rattle.vfs_grammar.specs.Reply.{body_reply}
+use Rattle.vfs_messages.proofs.Rooms.{replied, wrote_three, length-bytes_of_option}
+use Rattle.vfs_grammar.proofs.Rooms.{put_outcome-lengths, length-body_reply}
 use Rattle.vfs_messages.proofs.reply.reply_parts.Goals as goal
 
 pub returns-clause-replied : goal.returns-clause-replied

@@ -1,6 +1,6 @@
 use Rattle.std.proofs.Common.{◌∙◌, arith, refl, ◌-◌, ◌+◌, ap, ℕ}
 use Rattle.std.proofs.lemmas.Bool.Decides.{nat_tests}
-use Rattle.vfs_messages.specs.Forms.{pairs_of}
+use Rattle.vfs_grammar.specs.Forms.{pairs_of}
 use Rattle.vfs_messages.proofs.Pairs.{copied_none, copied_one, copied_all}
 use Rattle.vfs_messages.proofs.request.copy_pairs.Goals as goal
 

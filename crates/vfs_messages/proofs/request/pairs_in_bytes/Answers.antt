@@ -2,7 +2,7 @@ use Rattle.std.proofs.Common.{◌≡◌, ◌∙◌, ◌+◌, ◌-◌, ◌≤◌,
 use Rattle.std.proofs.lemmas.List.{take_all}
 use Rattle.vfs_wire.specs.Entries.{forget_one}
 use Rattle.vfs_wire.specs.FieldLaws.{value_of-take}
-use Rattle.vfs_messages.specs.Forms.{pairs_of}
+use Rattle.vfs_grammar.specs.Forms.{pairs_of}
 use Rattle.vfs_messages.proofs.Pairs.{copied_one}
 use Rattle.vfs_messages.proofs.request.pairs_in_bytes.Goals as goal
 

@@ -1,5 +1,5 @@
 use Rattle.std.proofs.Common.{◌-◌, map}
-use Rattle.vfs_messages.specs.Forms.{pairs_of}
+use Rattle.vfs_grammar.specs.Forms.{pairs_of}
 use Rattle.vfs_messages.proofs.Pairs.{Copied}
 use Rattle.vfs_messages.proofs.request.pairs_in_bytes.Given as goal
 

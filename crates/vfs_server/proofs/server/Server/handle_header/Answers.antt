@@ -2,7 +2,7 @@
 use Rattle.std.proofs.Common.{◌≡◌, false, nat_lt, arith, rules, sym, Some}
 use Rattle.std.proofs.lemmas.Bool.Decides.{nat_tests}
 use Rattle.vfs_flags.specs.Opcode.{opcode_of}
-use Rattle.vfs_messages.specs.Limits.{max_len}
+use Rattle.vfs_grammar.specs.Limits.{max_len}
 use Rattle.vfs_server.proofs.server.Server.handle_header.Goals as goal
 
 pub returns-in-Ok : goal.returns-in-Ok

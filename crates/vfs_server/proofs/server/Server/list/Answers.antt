@@ -2,7 +2,7 @@
 use Rattle.std.proofs.Common.{◌≡◌, false, length, ap, arith}
 use Rattle.vfs_files.specs.Entries.{context_of}
 use Rattle.vfs_listings.specs.ReadingLaws.{directory_runs}
-use Rattle.vfs_messages.specs.Ask.{listing_of, lists_too_much}
+use Rattle.vfs_grammar.specs.Ask.{listing_of, lists_too_much}
 use Rattle.vfs_server.proofs.Listings.{records_behind, directory_counts, within_limit, run_from}
 use Rattle.vfs_server.specs.Step.{ServerState}
 use Rattle.vfs_server.proofs.server.Server.list.Goals as goal

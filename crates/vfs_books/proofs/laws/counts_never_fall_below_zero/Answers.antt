@@ -1,5 +1,0 @@
-use Rattle.vfs_books.proofs.InOrder.{never_below}
-use Rattle.vfs_books.proofs.laws.counts_never_fall_below_zero.Goals as goal
-
-pub returns : goal.returns
-returns c = λ limits options after n turns some are within. never_below n some limits options turns after are within

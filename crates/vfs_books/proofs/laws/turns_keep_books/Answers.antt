@@ -1,5 +1,0 @@
-use Rattle.vfs_books.proofs.InOrder.{keeps_books}
-use Rattle.vfs_books.proofs.laws.turns_keep_books.Goals as goal
-
-pub returns : goal.returns
-returns c = λ limits options after turns are. keeps_books limits options turns after are

@@ -1,0 +1,138 @@
+-- The books of lookups and forgets. A file system counts how often it answered an entry of a node,
+-- and a client gives these counts back by forgets. Four sums are kept of a node: two of the events
+-- that happened, and two of the bytes that came and went.
+use Rattle.std.specs.Prelude.{ℕ, zero, suc, ◌==◌, if◌then◌else◌, List, [], ◌∷◌, take, drop, sum_by, count_by, Option, Some, Result, Ok, Err, ◌≡◌, ◌≢◌, ◌≤◌, ◌+◌}
+use Rattle.vfs_flags.specs.Opcode.{opcode_of}
+use Rattle.vfs_flags.specs.declared.opcode.Opcode.{Opcode}
+use Rattle.vfs_files.specs.Calls.{Call, Lookup, Symlink, Mknod, Mkdir, Link, Create, Forget, BatchForget, Answer, Found, Created}
+use Rattle.vfs_files.specs.Runs.{Event, Called}
+use Rattle.vfs_grammar.specs.Nodes.{u32_at, u64_at, nodes_in}
+use Rattle.vfs_grammar.specs.Turn.{Turn, events_in}
+use Rattle.vfs_grammar.specs.declared.error.Error.{Error}
+use Rattle.vfs_flags.specs.declared.opcode.Opcode.TheVariants as opcode
+
+-- how often a node stands in a list
+abbrev pub times : (n : ℕ) → List ℕ → ℕ
+times n nodes = count_by (λ node. node == n) nodes
+
+-- the sum of the counts for a node, in pairs of a node and a count
+abbrev pub counts : (n : ℕ) → List (ℕ × ℕ) → ℕ
+counts n pairs = sum_by (λ pair. if pair.0 == n then pair.1 else 0) pairs
+
+-- ---- events
+
+-- the node of an answer's entry, where it has one
+abbrev pub node_of : Answer → List ℕ
+node_of (Found entry) = entry.inode ∷ []
+node_of (Created entry handle options) = entry.inode ∷ []
+node_of _ = []
+
+-- the node of the entry that a call answered: of these six calls, and of no other
+abbrev pub answered_nodes : Call → Answer → List ℕ
+answered_nodes (Lookup _ _ _) answer = node_of answer
+answered_nodes (Symlink _ _ _ _ _) answer = node_of answer
+answered_nodes (Mknod _ _ _ _ _ _ _) answer = node_of answer
+answered_nodes (Mkdir _ _ _ _ _ _) answer = node_of answer
+answered_nodes (Link _ _ _ _) answer = node_of answer
+answered_nodes (Create _ _ _ _ _ _ _ _) answer = node_of answer
+answered_nodes _ answer = []
+
+-- what a call gives back, as pairs of a node and a count: these two calls, and no other
+abbrev pub forgets_of : Call → List (ℕ × ℕ)
+forgets_of (Forget ctx inode count) = (inode, count) ∷ []
+forgets_of (BatchForget ctx requests) = requests
+forgets_of _ = []
+
+-- the entries of a node in one event
+abbrev pub answered_by : (n : ℕ) → Event → ℕ
+answered_by n (Called call answer) = times n (answered_nodes call answer)
+answered_by n _ = 0
+
+-- the forgets of a node in one event
+abbrev pub sent_by : (n : ℕ) → Event → ℕ
+sent_by n (Called call answer) = counts n (forgets_of call)
+sent_by n _ = 0
+
+-- the entries of a node that were answered
+abbrev pub answered : (n : ℕ) → List Event → ℕ
+answered n events = sum_by (answered_by n) events
+
+-- the forgets of a node that were sent to the file system
+abbrev pub sent : (n : ℕ) → List Event → ℕ
+sent n events = sum_by (sent_by n) events
+
+-- ---- bytes
+
+-- the opcode that a request's bytes have
+abbrev pub opcode_in : (request : List ℕ) → Option Opcode
+opcode_in request = opcode_of (u32_at 4 request)
+
+-- the nodes of the entries behind the header of a reply, by its request's opcode
+abbrev pub nodes_behind : Option Opcode → (reply : List ℕ) → List ℕ
+nodes_behind (Some opcode.Lookup) reply = u64_at 16 reply ∷ []
+nodes_behind (Some opcode.Symlink) reply = u64_at 16 reply ∷ []
+nodes_behind (Some opcode.Mknod) reply = u64_at 16 reply ∷ []
+nodes_behind (Some opcode.Mkdir) reply = u64_at 16 reply ∷ []
+nodes_behind (Some opcode.Link) reply = u64_at 16 reply ∷ []
+nodes_behind (Some opcode.Create) reply = u64_at 16 reply ∷ []
+nodes_behind (Some opcode.Readdirplus) reply = nodes_in (drop 16 reply)
+nodes_behind _ reply = []
+
+-- the nodes that a reply delivers: none where its header says an error
+abbrev pub delivered_nodes : Option Opcode → (reply : List ℕ) → List ℕ
+delivered_nodes opcode reply = if u32_at 4 reply == 0 then nodes_behind opcode reply else []
+
+-- so many pairs of a node and a count, that bytes begin with
+abbrev pub pairs_at : (count : ℕ) → (bytes : List ℕ) → List (ℕ × ℕ)
+pairs_at zero bytes = []
+pairs_at (suc count) bytes = (u64_at 0 bytes, u64_at 8 bytes) ∷ pairs_at count (drop 16 bytes)
+
+-- what a request's bytes give back, by its opcode, as pairs of a node and a count
+abbrev pub forgets_in : Option Opcode → (request : List ℕ) → List (ℕ × ℕ)
+forgets_in (Some opcode.Forget) request = (u64_at 16 request, u64_at 40 request) ∷ []
+forgets_in (Some opcode.BatchForget) request = pairs_at (u32_at 40 request) (drop 48 request)
+forgets_in _ request = []
+
+-- the entries of a node in a room by this outcome: in the reply that it counts, where there is one
+abbrev pub delivered_by :
+    (n : ℕ) → Option Opcode → Result ℕ Error → (room_after : List ℕ) → ℕ
+delivered_by n opcode (Ok m) room_after =
+    if m == 0 then 0 else times n (delivered_nodes opcode (take m room_after))
+delivered_by n opcode (Err error) room_after = 0
+
+-- the forgets of a node in a request's bytes, where it was accepted
+abbrev pub accepted_by : (n : ℕ) → (request : List ℕ) → Result ℕ Error → ℕ
+accepted_by n request (Ok m) =
+    if m == 0 then counts n (forgets_in (opcode_in request) request) else 0
+accepted_by n request (Err error) = 0
+
+-- ---- a turn
+
+-- the entries of a node that were delivered to the client, in whole replies
+abbrev pub delivered : (n : ℕ) → Turn → ℕ
+delivered n t = delivered_by n (opcode_in t.request) t.outcome t.room_after
+
+-- the forgets of a node that were accepted from the client
+abbrev pub accepted : (n : ℕ) → Turn → ℕ
+accepted n t = accepted_by n t.request t.outcome
+
+-- the books of a node balance over turns
+abbrev pub AreBalanced : (n : ℕ) → List Turn → Type 0
+AreBalanced n turns =
+    answered n (events_in turns) + sum_by (accepted n) turns
+    ≡ sum_by (delivered n) turns + sent n (events_in turns)
+
+-- after each turn the client has given back no more of a node than was delivered to it
+abbrev pub GivesBackWithin : (n : ℕ) → List Turn → Type 0
+GivesBackWithin n turns =
+    (k : ℕ) → sum_by (accepted n) (take k turns) ≤ sum_by (delivered n) (take k turns)
+
+-- after each event no more of a node was sent back than was answered
+abbrev pub NeverBelow : (n : ℕ) → List Event → Type 0
+NeverBelow n events = (k : ℕ) → sent n (take k events) ≤ answered n (take k events)
+
+-- The books of every node but 0 are kept over turns: they balance, and a client that gives back no
+-- more than it had drives no count below zero, not even in the middle of a request.
+pub record KeepsBooks (turns : List Turn) : Type 0 where
+  pub balanced : (n : ℕ) → n ≢ 0 → AreBalanced n turns
+  pub never_below : (n : ℕ) → n ≢ 0 → GivesBackWithin n turns → NeverBelow n (events_in turns)

@@ -1,0 +1,290 @@
+-- The forms of requests: what stands behind the header, and in which order it is refused.
+use Rattle.std.specs.Prelude.{ℕ, zero, suc, ◌+◌, ◌*◌, ◌-◌, ◌==◌, bit_and, [], ◌∷◌, Bool, true, false, List, length, take, drop, nat_lt, if◌then◌else◌, Option, Some, None, Result, Ok, Err}
+use Rattle.vfs_flags.specs.Errors.{enomem, enosys, eproto}
+use Rattle.vfs_flags.specs.Flags.{init_ext}
+use Rattle.vfs_flags.specs.declared.constants.TheConstants.{KERNEL_VERSION, MIN_KERNEL_MINOR_VERSION}
+use Rattle.vfs_wire.specs.Fields.{Table, bytes_of, value_of}
+use Rattle.vfs_wire.specs.Headers.{in_header, out_header}
+use Rattle.vfs_wire.specs.Init.{init_in_compat, init_in_ext, init_out}
+use Rattle.vfs_wire.specs.Entries.{forget_one}
+use Rattle.vfs_wire.specs.declared.init.InitInCompat.{InitInCompat}
+use Rattle.vfs_wire.specs.declared.headers.InHeader.{InHeader}
+use Rattle.vfs_wire.specs.declared.init.InitInExt.{InitInExt}
+use Rattle.vfs_files.specs.Calls.{Call}
+use Rattle.vfs_files.specs.Entries.{context_of}
+use Rattle.vfs_files.specs.Extensions.{ExtensionValues}
+use Rattle.vfs_files.specs.Names.{name_of, first_name}
+use Rattle.vfs_files.specs.declared.entry.Context.{Context}
+use Rattle.vfs_grammar.specs.Extensions.{error_or, extensions_in}
+use Rattle.vfs_grammar.specs.Options.{offered}
+use Rattle.vfs_grammar.specs.Records.{size_of, record_of}
+use Rattle.vfs_grammar.specs.Reply.{Reply, Refusal, Bytes, NoReply, Echo, echo_of, fault_reply, body_reply, version_out}
+use Rattle.vfs_grammar.specs.declared.error.Error.{Error}
+use Rattle.vfs_grammar.specs.declared.error.Error.TheVariants.{DecodeMessage, EncodeMessage, MissingParameter, InvalidCString, InvalidHeaderLength, InvalidXattrSize}
+use Rattle.vfs_files.specs.Calls as call
+
+-- A directory that is to be read: for this caller, with an entry behind each of its items where
+-- `plus`, from this offset on; and at most `size` bytes of records, for which there is this room.
+pub record Listing : Type 0 where
+  pub plus : Bool
+  pub ctx : Context
+  pub parent : ℕ
+  pub handle : ℕ
+  pub size : ℕ
+  pub offset : ℕ
+  pub room : ℕ
+
+-- What a request asks: to be ended without a call, by this coming back; a call, or that a directory
+-- be read, whose reply repeats this of the request; or that some of its bytes be copied, for which
+-- there may be no memory, and then the rest.
+pub data Ask : Type 0 where
+  Ends : (reply : Reply) → Ask
+  Asks : (echo : Echo) (call : Call) → Ask
+  Lists : (echo : Echo) (listing : Listing) → Ask
+  Copies : (rest : Ask) → Ask
+
+-- a request that is refused with an error
+abbrev pub refused : Error → Ask
+refused error = Ends (Refusal error)
+
+-- a request that is answered by the fault of this number, without a call
+abbrev pub faulted : (number : ℕ) → InHeader → Ask
+faulted number h = Ends (Bytes (fault_reply (Some number) h.unique))
+
+-- a request that nothing comes back of, without a call
+abbrev pub silent : Ask
+silent = Ends NoReply
+
+-- a part of a request that is at fault refuses it; otherwise the rest says what it asks
+abbrev pub refused_or : {A : Type 0} → Result A Error → (next : A → Ask) → Ask
+refused_or (Err error) next = refused error
+refused_or (Ok part) next = next part
+
+-- what is above a limit is answered by the fault ENOMEM
+abbrev pub within : (above : Bool) → InHeader → (next : Ask) → Ask
+within true h next = faulted enomem h
+within false h next = next
+
+-- the tail of a request, of what follows the header and a record of `size` bytes: as long as
+-- `len` says
+abbrev pub tail_of : InHeader → (size : ℕ) → (behind : List ℕ) → Result (List ℕ) Error
+tail_of h size behind =
+    if nat_lt h.len (size_of in_header + size) then Err InvalidHeaderLength
+    else if nat_lt (length behind) (h.len - (size_of in_header + size)) then Err DecodeMessage
+    else Ok (take (h.len - (size_of in_header + size)) behind)
+
+-- a name, or the refusal of what is none
+abbrev pub name_or_refusal : Option (List ℕ) → Result (List ℕ) Error
+name_or_refusal None = Err InvalidCString
+name_or_refusal (Some name) = Ok name
+
+-- the name that a tail is
+abbrev pub name_in : (tail : List ℕ) → Result (List ℕ) Error
+name_in tail = name_or_refusal (name_of tail)
+
+-- a name before another, or the refusal of what is none
+abbrev pub second_or_refusal : (first : List ℕ) → Option (List ℕ)
+    → Result (List ℕ × List ℕ) Error
+second_or_refusal first None = Err InvalidCString
+second_or_refusal first (Some second) = Ok (first, second)
+
+-- a name and the name that follows it, or the refusal of what has none
+abbrev pub both_or_refusal : Option (List ℕ × List ℕ) → Result (List ℕ × List ℕ) Error
+both_or_refusal None = Err MissingParameter
+both_or_refusal (Some part) = second_or_refusal part.0 (name_of part.1)
+
+-- the two names that a tail is: the first ends at its first 0, and the second is the rest
+abbrev pub names_in : (tail : List ℕ) → Result (List ℕ × List ℕ) Error
+names_in tail = both_or_refusal (first_name tail)
+
+-- a name and what follows it, or the refusal of what has none, and of what isn't as long as a record
+-- says
+abbrev pub sized_or_refusal : (size : ℕ) → Option (List ℕ × List ℕ)
+    → Result (List ℕ × List ℕ) Error
+sized_or_refusal size None = Err MissingParameter
+sized_or_refusal size (Some part) =
+    if length part.1 == size then Ok part else Err (InvalidXattrSize (size, length part.1))
+
+-- the name and the value that a tail is: the name ends at its first 0, and the value is the rest, of
+-- this size
+abbrev pub value_in : (size : ℕ) → (tail : List ℕ) → Result (List ℕ × List ℕ) Error
+value_in size tail = sized_or_refusal size (first_name tail)
+
+-- what follows the first name, where a 0 ends it, and else nothing
+abbrev pub behind_name : Option (List ℕ × List ℕ) → List ℕ
+behind_name None = []
+behind_name (Some part) = part.1
+
+-- the first name with these extensions, or the refusal of one that no 0 ends
+abbrev pub extended_or_refusal : Option (List ℕ × List ℕ) → ExtensionValues
+    → Result (List ℕ × ExtensionValues) Error
+extended_or_refusal None extensions = Err InvalidCString
+extended_or_refusal (Some part) extensions = Ok (part.0, extensions)
+
+-- The name and the extensions that bytes are: the name ends at its first 0, and the extensions are
+-- the rest. A name without a 0 runs to the end, and is refused after the extensions.
+abbrev pub extended_in : (options : ℕ) → (bytes : List ℕ) → Result (List ℕ × ExtensionValues) Error
+extended_in options [] = Err MissingParameter
+extended_in options (b ∷ bytes) =
+    error_or (extensions_in options (behind_name (first_name (b ∷ bytes))))
+    (extended_or_refusal (first_name (b ∷ bytes)))
+
+-- a name, and the text with extensions behind it, or the refusal of what has none
+abbrev pub link_or_refusal : (options : ℕ) → Option (List ℕ × List ℕ)
+    → Result (List ℕ × List ℕ × ExtensionValues) Error
+link_or_refusal options None = Err MissingParameter
+link_or_refusal options (Some part) =
+    error_or (extended_in options part.1) (λ text. Ok (part.0, text.0, text.1))
+
+-- the name, the link's text and the extensions that a tail is: name and text end at their first 0,
+-- and the extensions are the rest
+abbrev pub link_in_tail : (options : ℕ) → (tail : List ℕ)
+    → Result (List ℕ × List ℕ × ExtensionValues) Error
+link_in_tail options tail = link_or_refusal options (first_name tail)
+
+-- so many pairs of a node and a count
+abbrev pub pairs_of : (count : ℕ) → (bytes : List ℕ) → List (ℕ × ℕ)
+pairs_of zero bytes = []
+pairs_of (suc count) bytes =
+    ((value_of forget_one bytes).nodeid, (value_of forget_one bytes).nlookup)
+    ∷ pairs_of count (drop (size_of forget_one) bytes)
+
+-- the pairs that the bytes begin with, where they are whole
+abbrev pub pairs_in : (count : ℕ) → (bytes : List ℕ) → Result (List (ℕ × ℕ)) Error
+pairs_in count bytes =
+    if nat_lt (length bytes) (count * size_of forget_one) then Err DecodeMessage
+    else Ok (pairs_of count bytes)
+
+-- the room behind the header of a reply, or the refusal of a room that is too small for the header
+abbrev pub room_behind_header : (room : ℕ) → Result ℕ Error
+room_behind_header room =
+    if nat_lt room (size_of out_header) then Err EncodeMessage
+    else Ok (room - size_of out_header)
+
+-- the word of flags in INIT's second record
+abbrev pub flags2_in : Result InitInExt Error → Result ℕ Error
+flags2_in (Ok r) = Ok r.flags2
+flags2_in (Err error) = Err error
+
+-- the second word of INIT's flags: in a record of its own, where INIT_EXT in the first says that
+-- there is one, and else 0
+abbrev pub second_flags : (flags : ℕ) → (behind : List ℕ) → Result ℕ Error
+second_flags flags behind =
+    if bit_and flags init_ext == 0 then Ok 0 else flags2_in (record_of init_in_ext behind)
+
+-- INIT of this version: an older one is refused, and a newer major one is told ours
+abbrev pub ask_version : InHeader → InitInCompat → (flags2 : ℕ) → Ask
+ask_version h r flags2 =
+    if nat_lt r.major KERNEL_VERSION then faulted eproto h
+    else if nat_lt KERNEL_VERSION r.major then
+    Ends (Bytes (body_reply (bytes_of init_out version_out) h.unique))
+    else if nat_lt r.minor MIN_KERNEL_MINOR_VERSION then faulted eproto h
+    else
+    Asks (record { unique = h.unique; max_readahead = r.max_readahead; ctx = context_of h })
+    (call.Init (offered r.flags flags2))
+
+-- a request's record: none, in the place of which this stands, or one of this table
+pub data Layout (R : Type 0) : Type 0 where
+  Without : R → Layout R
+  Record : Table R → Layout R
+
+-- no record
+abbrev pub no_record : Layout (Unit {0})
+no_record = Without tt
+
+-- the bytes that it has
+abbrev pub layout_size : {R : Type 0} → Layout R → ℕ
+layout_size (Without r) = 0
+layout_size (Record t) = size_of t
+
+-- the record that the bytes begin with
+abbrev pub layout_record : {R : Type 0} → Layout R → (rest : List ℕ) → Result R Error
+layout_record (Without r) rest = Ok r
+layout_record (Record t) rest = record_of t rest
+
+-- what follows the record
+abbrev pub behind : {R : Type 0} → Layout R → (rest : List ℕ) → List ℕ
+behind layout rest = drop (layout_size layout) rest
+
+-- where there is no limit, no record asks for more than it
+abbrev pub unlimited : {R : Type 0} → R → Bool
+unlimited r = false
+
+-- A line of the protocol's table: the form of a request, with its record and the call that it
+-- asks for. By the form something may follow the record: nothing; a name; two names; a name and a
+-- value of the size that the record says; a name, or a link's name and its text, and extensions;
+-- pairs of a node and a count, as many as the record says; or bytes that the call takes as they
+-- are, to the end of the request. A call may want a room to put its reply's data into, and a
+-- directory one for its records. `above` tells whether the record asks for more than the limits
+-- allow, or than there is room for. INIT has a form of its own; some requests ask for nothing, and
+-- some aren't served.
+pub data Form : Type 1 where
+  NoTail : {R : Type 0} (layout : Layout R) (above : R → Bool) (call : R → Call) → Form
+  NameTail : {R : Type 0} (layout : Layout R) (above : R → Bool) (call : R → List ℕ → Call) → Form
+  TwoNames : {R : Type 0} (layout : Layout R) (call : R → (first second : List ℕ) → Call) → Form
+  NameAndValue : {R : Type 0} (layout : Layout R) (size : R → ℕ)
+      (call : R → (name value : List ℕ) → Call) → Form
+  NameAndExtensions : {R : Type 0} (layout : Layout R) (options : ℕ)
+      (call : R → (name : List ℕ) → ExtensionValues → Call) → Form
+  LinkAndExtensions : {R : Type 0} (layout : Layout R) (options : ℕ)
+      (call : R → (name text : List ℕ) → ExtensionValues → Call) → Form
+  Pairs : {R : Type 0} (layout : Layout R) (above : R → Bool) (count : R → ℕ)
+      (call : R → List (ℕ × ℕ) → Call) → Form
+  WithRest : {R : Type 0} (layout : Layout R) (call : R → (rest : List ℕ) → Call) → Form
+  IntoRoom : {R : Type 0} (layout : Layout R) (room : ℕ)
+      (call : R → (room_for_data : ℕ) → Call) → Form
+  Directories : {R : Type 0} (layout : Layout R) (above : R → Bool) (room : ℕ)
+      (listing : R → (room_for_records : ℕ) → Listing) → Form
+  Versions : Form
+  Silent : Form
+  NotServed : Form
+
+-- What a request of each form asks, by the bytes behind its header: in which order it is refused,
+-- and where memory is wanted.
+abbrev pub ask_form : InHeader → (rest : List ℕ) → Form → Ask
+ask_form h rest (NoTail layout above call) =
+    refused_or (layout_record layout rest) (λ r. within (above r) h (Asks (echo_of h) (call r)))
+ask_form h rest (NameTail layout above call) =
+    refused_or (layout_record layout rest) (λ r.
+    refused_or (tail_of h (layout_size layout) (behind layout rest)) (λ tail.
+    Copies (within (above r) h
+    (refused_or (name_in tail) (λ name. Asks (echo_of h) (call r name))))))
+ask_form h rest (TwoNames layout call) =
+    refused_or (layout_record layout rest) (λ r.
+    refused_or (tail_of h (layout_size layout) (behind layout rest)) (λ tail.
+    Copies (refused_or (names_in tail) (λ names. Asks (echo_of h) (call r names.0 names.1)))))
+ask_form h rest (NameAndValue layout size call) =
+    refused_or (layout_record layout rest) (λ r.
+    refused_or (tail_of h (layout_size layout) (behind layout rest)) (λ tail.
+    Copies (refused_or (value_in (size r) tail) (λ part. Asks (echo_of h) (call r part.0 part.1)))))
+ask_form h rest (NameAndExtensions layout options call) =
+    refused_or (layout_record layout rest) (λ r.
+    refused_or (tail_of h (layout_size layout) (behind layout rest)) (λ tail.
+    Copies (refused_or (extended_in options tail) (λ part.
+    Asks (echo_of h) (call r part.0 part.1)))))
+ask_form h rest (LinkAndExtensions layout options call) =
+    refused_or (layout_record layout rest) (λ r.
+    refused_or (tail_of h (layout_size layout) (behind layout rest)) (λ tail.
+    Copies (refused_or (link_in_tail options tail) (λ part.
+    Asks (echo_of h) (call r part.0 part.1 part.2)))))
+ask_form h rest (Pairs layout above count call) =
+    refused_or (layout_record layout rest) (λ r.
+    within (above r) h
+    (refused_or (pairs_in (count r) (behind layout rest)) (λ pairs.
+    Copies (Asks (echo_of h) (call r pairs)))))
+ask_form h rest (WithRest layout call) =
+    refused_or (layout_record layout rest) (λ r. Asks (echo_of h) (call r (behind layout rest)))
+ask_form h rest (IntoRoom layout room call) =
+    refused_or (layout_record layout rest) (λ r.
+    refused_or (room_behind_header room) (λ room_for_data.
+    Asks (echo_of h) (call r room_for_data)))
+ask_form h rest (Directories layout above room listing) =
+    refused_or (layout_record layout rest) (λ r.
+    within (above r) h
+    (refused_or (room_behind_header room) (λ room_for_records.
+    Lists (echo_of h) (listing r room_for_records))))
+ask_form h rest Versions =
+    refused_or (record_of init_in_compat rest) (λ r.
+    refused_or (second_flags r.flags (drop (size_of init_in_compat) rest)) (ask_version h r))
+ask_form h rest Silent = silent
+ask_form h rest NotServed = faulted enosys h

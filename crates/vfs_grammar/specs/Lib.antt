@@ -1,0 +1,15 @@
+pub mod Limits
+pub mod Records
+pub mod Options
+pub mod Reply
+pub mod Room
+pub mod Extensions
+pub mod Forms
+pub mod Ask
+pub mod Dirents
+pub mod Listing
+pub mod Nodes
+pub mod Turn
+pub mod Directories
+pub mod Books
+pub mod Samples

@@ -1,0 +1,224 @@
+-- The reading of a directory as a whole: the items that were taken and what each got, what stopped
+-- it, and what is answered. Nothing here knows a file system's state or its iterators.
+use Rattle.std.specs.Prelude.{◌≡◌, ◌≢◌, ⊤, ◌+◌, ◌-◌, ◌*◌, ◌%◌, ◌^◌, ◌⊎◌, ◌&&◌, ◌||◌, nat_lt, if◌then◌else◌, ℕ, Bool, true, false, List, [], ◌∷◌, ◌++◌, codes, Option, Some, None, Result, Ok, Err, sum_by}
+use Rattle.std.specs.List.{flat_map}
+use Rattle.std.specs.Str.{bytes_eq}
+use Rattle.vfs_wire.specs.declared.entries.EntryOut.{EntryOut}
+use Rattle.vfs_files.specs.Calls.{Call, Readdir, Lookup, Forget, Failed, Found, Done}
+use Rattle.vfs_files.specs.Entries.{entry_out_of}
+use Rattle.vfs_files.specs.Items.{Item}
+use Rattle.vfs_files.specs.Runs.{Event, Called, Opened, Taken}
+use Rattle.vfs_files.specs.declared.entry.Context.{Context}
+use Rattle.vfs_files.specs.declared.entry.Entry.{Entry}
+use Rattle.vfs_grammar.specs.Dirents.{Verdict, Fits, Full, Fails, verdict, record_bytes, record_len, FitsOption}
+
+-- what an item got: an entry for READDIRPLUS, none for READDIR, or the fault of its lookup
+abbrev pub Got : Type 0
+Got = Result (Option Entry) (Option ℕ)
+
+-- the node of the entry that was got, if one was
+abbrev pub node_got : Got → Option ℕ
+node_got (Ok (Some entry)) = Some entry.inode
+node_got _ = None
+
+-- an item that was taken, and what it got
+pub record Line : Type 0 where
+  pub item : Item
+  pub got : Got
+
+-- what stopped the reading: the end of the directory, or an item that was not written
+pub data Stop : Type 0 where
+  End : Stop
+  At : (line : Line) → Stop
+
+-- ---- what an item gets
+
+-- whether a name is `.` or `..`, which are not looked up
+abbrev pub is_dot : List ℕ → Bool
+is_dot name = bytes_eq name (codes ".") || bytes_eq name (codes "..")
+
+-- the `EntryOut` of `.` and `..`: zeros, but for the item's number and its type as a mode
+abbrev pub dot_out : Item → EntryOut
+dot_out i = record {
+  nodeid = 0;
+  generation = 0;
+  entry_valid = 0;
+  attr_valid = 0;
+  entry_valid_nsec = 0;
+  attr_valid_nsec = 0;
+  attr = record {
+    ino = i.ino;
+    size = 0;
+    blocks = 0;
+    atime = 0;
+    mtime = 0;
+    ctime = 0;
+    atimensec = 0;
+    mtimensec = 0;
+    ctimensec = 0;
+    mode = (i.type_ * 4096) % 2 ^ 32;
+    nlink = 0;
+    uid = 0;
+    gid = 0;
+    rdev = 0;
+    blksize = 0;
+    flags = 0;
+  };
+}
+
+-- an entry, or the fault of its lookup
+abbrev pub IsLookedUp : Got → Type 0
+IsLookedUp (Ok None) = ⊥
+IsLookedUp _ = Unit {0}
+
+-- the entry that `.` and `..` get
+abbrev pub IsDotEntry : Item → Got → Type 0
+IsDotEntry i (Ok (Some entry)) = entry_out_of entry ≡ dot_out i
+IsDotEntry i _ = ⊥
+
+-- what an item gets, by whether entries are wanted and whether it is `.` or `..`
+abbrev pub Gets : (plus dot : Bool) → Item → Got → Type 0
+Gets false dot i got = got ≡ Ok None
+Gets true true i got = IsDotEntry i got
+Gets true false i got = IsLookedUp got
+
+-- a line has what its item gets
+abbrev pub IsGot : (plus : Bool) → Line → Type 0
+IsGot plus l = Gets plus (is_dot l.item.name) l.item l.got
+
+-- each number of the entry that was got, if one was, is within its width in the record
+abbrev pub FitsGot : Got → Type 0
+FitsGot (Ok entry) = FitsOption entry
+FitsGot (Err fault) = Unit {0}
+
+-- ---- events
+
+-- one lookup of a node is given back, where there is a node
+abbrev pub given_back : Context → Option ℕ → List Event
+given_back ctx None = []
+given_back ctx (Some node) = Called (Forget ctx node 1) Done ∷ []
+
+module _ (ctx : Context) (parent : ℕ) where
+  -- the lookup that gave this
+  abbrev pub lookup_of : (name : List ℕ) → Got → List Event
+  lookup_of name (Ok (Some entry)) = Called (Lookup ctx parent name) (Found entry) ∷ []
+  lookup_of name (Ok None) = []
+  lookup_of name (Err fault) = Called (Lookup ctx parent name) (Failed fault) ∷ []
+
+  -- an item is looked up where entries are wanted, but for `.` and `..`
+  abbrev pub lookups : (plus dot : Bool) → Line → List Event
+  lookups false dot l = []
+  lookups true true l = []
+  lookups true false l = lookup_of l.item.name l.got
+
+  -- the events of a line: its item is taken, and looked up
+  abbrev pub line_events : (plus : Bool) → Line → List Event
+  line_events plus l = Taken (Some l.item) ∷ lookups plus (is_dot l.item.name) l
+
+  -- the events of a stop: an entry that was not written is given back
+  abbrev pub stop_events : (plus : Bool) → Stop → List Event
+  stop_events plus End = Taken None ∷ []
+  stop_events plus (At l) = line_events plus l ++ given_back ctx (node_got l.got)
+
+-- ---- records
+
+-- how long the record of an item is that got this
+abbrev pub len_of : Got → Item → ℕ
+len_of (Ok entry) i = record_len entry i
+len_of (Err fault) i = 0
+
+-- how long the record of a line is
+abbrev pub line_len : Line → ℕ
+line_len l = len_of l.got l.item
+
+-- the bytes of the record of an item that got this
+abbrev pub bytes_got : Got → Item → List ℕ
+bytes_got (Ok entry) i = record_bytes entry i
+bytes_got (Err fault) i = []
+
+-- the bytes of the record of a line
+abbrev pub line_bytes : Line → List ℕ
+line_bytes l = bytes_got l.got l.item
+
+-- what becomes of an item that got this: one whose lookup failed fails with that fault
+abbrev pub judged : (max room : ℕ) → Got → Item → Verdict
+judged max room (Ok entry) i = verdict max room entry i
+judged max room (Err fault) i = Fails fault
+
+-- what becomes of a line behind so many bytes of records
+abbrev pub fate : (size room written : ℕ) → Line → Verdict
+fate size room written l = judged (size - written) (room - written) l.got l.item
+
+-- ---- the whole
+
+-- these lines are written behind so many bytes of records: no stop applies to any of them
+abbrev pub AreWritten : (plus : Bool) (size room written : ℕ) → List Line → Type 0
+AreWritten plus size room written [] = ⊤
+AreWritten plus size room written (l ∷ ls) =
+    (fate size room written l ≡ Fits)
+    × IsGot plus l
+    × FitsGot l.got
+    × AreWritten plus size room (written + line_len l) ls
+
+-- the stop applies behind so many bytes of records
+abbrev pub Stops : (plus : Bool) (size room written : ℕ) → Stop → Type 0
+Stops plus size room written End = ⊤
+Stops plus size room written (At l) = IsGot plus l × (fate size room written l ≢ Fits)
+
+-- what is answered where an item fails behind so many bytes of records: for READDIR the fault, and
+-- for READDIRPLUS too where nothing was written, else how much was
+abbrev pub told : (plus : Bool) (written : ℕ) → (fault : Option ℕ) → Result ℕ (Option ℕ)
+told plus written fault = if plus && nat_lt 0 written then Ok written else Err fault
+
+-- what is answered behind so many bytes of records, by what became of the last item
+abbrev pub answer_at : (plus : Bool) (written : ℕ) → Verdict → Result ℕ (Option ℕ)
+answer_at plus written Fits = Ok written
+answer_at plus written Full = Ok written
+answer_at plus written (Fails fault) = told plus written fault
+
+-- what is answered at a stop behind so many bytes of records
+abbrev pub answer_of : (plus : Bool) (size room written : ℕ) → Stop → Result ℕ (Option ℕ)
+answer_of plus size room written End = Ok written
+answer_of plus size room written (At l) = answer_at plus written (fate size room written l)
+
+-- A directory that is read from its iterator, for READDIR or, where `plus`, for READDIRPLUS, with
+-- at most `size` bytes of records and this room for them. Lines are written whole, and then one
+-- stop comes. That gives the events after `readdir`, the records, and the answer: how many bytes
+-- these have, or a fault in their place.
+pub record IsListing
+    (plus : Bool) (ctx : Context) (parent size room : ℕ)
+    (events : List Event) (body : List ℕ) (result : Result ℕ (Option ℕ)) : Type 0 where
+  pub lines : List Line
+  pub stop : Stop
+  pub written : AreWritten plus size room 0 lines
+  pub stops : Stops plus size room (sum_by line_len lines) stop
+  pub events_are :
+      events
+      ≡ flat_map (line_events ctx parent plus) lines ++ stop_events ctx parent plus stop
+  pub body_is : body ≡ flat_map line_bytes lines
+  pub answer_is : result ≡ answer_of plus size room (sum_by line_len lines) stop
+
+-- `readdir` failed: its fault is the answer, and nothing is taken
+pub record IsUnopened
+    (call : Call) (events : List Event) (body : List ℕ) (result : Result ℕ (Option ℕ)) : Type 0
+  where
+    pub fault : Option ℕ
+    pub events_are : events ≡ Called call (Failed fault) ∷ []
+    pub body_is : body ≡ []
+    pub answer_is : result ≡ Err fault
+
+-- `readdir` handed back an iterator, and the directory is read from it
+pub record IsOpened
+    (plus : Bool) (call : Call) (ctx : Context) (parent size room : ℕ)
+    (events : List Event) (body : List ℕ) (result : Result ℕ (Option ℕ)) : Type 0 where
+  pub takings : List Event
+  pub events_are : events ≡ Opened call ∷ takings
+  pub listing : IsListing plus ctx parent size room takings body result
+
+-- a whole READDIR or, where `plus`, READDIRPLUS: its events, the records, and the answer
+abbrev pub IsDirectory :
+    (plus : Bool) (ctx : Context) (parent handle size offset room : ℕ)
+    → List Event → List ℕ → Result ℕ (Option ℕ) → Type 0
+IsDirectory plus ctx parent handle size offset room events body result =
+    IsUnopened (Readdir ctx parent handle size offset) events body result
+    ⊎ IsOpened plus (Readdir ctx parent handle size offset) ctx parent size room events body result

@@ -1,0 +1,30 @@
+-- The nodes in a directory's records with entries, read from their bytes alone.
+use Rattle.std.specs.Prelude.{ℕ, zero, suc, ◌+◌, List, [], ◌∷◌, length, drop, nat_le, if◌then◌else◌}
+use Rattle.vfs_wire.specs.Fields.{number}
+use Rattle.vfs_grammar.specs.Dirents.{dirent_len}
+
+-- the number of the four bytes from this place on
+abbrev pub u32_at : ℕ → List ℕ → ℕ
+u32_at place bytes = number 4 (drop place bytes)
+
+-- the number of the eight bytes from this place on
+abbrev pub u64_at : ℕ → List ℕ → ℕ
+u64_at place bytes = number 8 (drop place bytes)
+
+-- how long the record with an entry is that the bytes begin with: an `EntryOut` of 128 bytes, and a
+-- `Dirent` with its name, whose length is the number at byte 16 of the `Dirent`
+abbrev pub len_at_front : List ℕ → ℕ
+len_at_front bytes = 128 + dirent_len (u32_at 144 bytes)
+
+-- the nodes of the records that the bytes begin with, one after another, at most so many. They end
+-- where no whole record follows
+abbrev pub nodes_of : (most : ℕ) → List ℕ → List ℕ
+nodes_of zero bytes = []
+nodes_of (suc most) bytes =
+    if nat_le (len_at_front bytes) (length bytes)
+    then u64_at 0 bytes ∷ nodes_of most (drop (len_at_front bytes) bytes)
+    else []
+
+-- the nodes of all records that the bytes begin with
+abbrev pub nodes_in : List ℕ → List ℕ
+nodes_in bytes = nodes_of (length bytes) bytes

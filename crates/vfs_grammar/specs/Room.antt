@@ -1,0 +1,49 @@
+-- How a reply is put into a room.
+use Rattle.std.specs.Prelude.{◌≡◌, ℕ, List, ◌++◌, length, take, drop, nat_le, if◌then◌else◌, Bool, true, Option, None, Some, Result, Ok, Err}
+use Rattle.vfs_grammar.specs.Reply.{Reply, Refusal, NoReply, Bytes, OpenBehind, Never}
+use Rattle.vfs_grammar.specs.declared.error.Error.{Error}
+use Rattle.vfs_grammar.specs.declared.error.Error.TheVariants.{EncodeMessage}
+
+-- a reply that fits is answered by its length, another by a refusal
+abbrev pub put_outcome : (reply room : List ℕ) → Result ℕ Error
+put_outcome reply room =
+    if nat_le (length reply) (length room) then Ok (length reply) else Err EncodeMessage
+
+-- the room afterwards: the reply and the old bytes behind it, or as much of the reply as there is
+-- room for
+abbrev pub put_room : (reply room : List ℕ) → List ℕ
+put_room reply room =
+    if nat_le (length reply) (length room) then reply ++ drop (length reply) room
+    else take (length room) reply
+
+-- the reply was put into the room
+pub record IsPut (reply room : List ℕ) (outcome : Result ℕ Error) (room_after : List ℕ)
+    : Type 0 where
+  pub says : outcome ≡ put_outcome reply room
+  pub leaves : room_after ≡ put_room reply room
+
+-- the reply stands at the beginning of the room, which it fits; the bytes behind it are any
+pub record IsPutOpen (reply room : List ℕ) (outcome : Result ℕ Error) (room_after : List ℕ)
+    : Type 0 where
+  pub says : outcome ≡ Ok (length reply)
+  pub begins : take (length reply) room_after ≡ reply
+  pub same_length : length room_after ≡ length room
+
+-- The rule of rooms: what comes back, of this room, by this outcome, and with these bytes in the
+-- room afterwards.
+abbrev pub IsReplied : Reply → (room : List ℕ) → Result ℕ Error → (room_after : List ℕ) → Type 0
+IsReplied (Refusal error) room outcome room_after = (outcome ≡ Err error) × (room_after ≡ room)
+IsReplied NoReply room outcome room_after = (outcome ≡ Ok 0) × (room_after ≡ room)
+IsReplied (Bytes reply) room outcome room_after = IsPut reply room outcome room_after
+IsReplied (OpenBehind reply) room outcome room_after = IsPutOpen reply room outcome room_after
+IsReplied Never room outcome room_after = ⊥
+
+-- whether what comes back fits into so much room
+abbrev pub fits : (room : ℕ) → Reply → Bool
+fits room (Bytes reply) = nat_le (length reply) room
+fits room _ = true
+
+-- the node of an entry that a client doesn't get to see: of one whose reply doesn't fit
+abbrev pub unseen : (room : ℕ) → Reply → Option ℕ → Option ℕ
+unseen room reply None = None
+unseen room reply (Some node) = if fits room reply then None else Some node
