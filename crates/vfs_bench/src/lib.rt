@@ -9,7 +9,7 @@ mod note;
 mod outcome;
 mod recorder;
 mod script;
-pub mod uses;
+mod uses;
 
 pub use directory::{ScriptDirectory, ScriptEntries, ScriptItem};
 pub use file::ScriptFile;

@@ -19,7 +19,7 @@ use vfs_files::{
 use vfs_flags::{Errno, Fault};
 
 /// Looks a name up in node 9 of a file system that serves nothing: one note more says so.
-pub fn lookup_is_noted(
+fn lookup_is_noted(
     recorder: &mut Recorder<Unserved>,
     ctx: Context,
     name: CStr<'_>,
@@ -39,7 +39,7 @@ pub fn lookup_is_noted(
 }
 
 /// The same where there is no place for a note: the call is answered all the same.
-pub fn lookup_is_missed(
+fn lookup_is_missed(
     recorder: &mut Recorder<Unserved>,
     ctx: Context,
     name: CStr<'_>,
@@ -53,7 +53,7 @@ pub fn lookup_is_missed(
 }
 
 /// Takes three lookups of node 9 back, which the note counts.
-pub fn forget_is_noted(recorder: &mut Recorder<Unserved>, ctx: Context)
+fn forget_is_noted(recorder: &mut Recorder<Unserved>, ctx: Context)
     requires { length recorder.old.notes < recorder.old.places }
     ensures { recorder.new.notes ≡ recorder.old.notes ++ record {
       call = 2;
@@ -67,7 +67,7 @@ pub fn forget_is_noted(recorder: &mut Recorder<Unserved>, ctx: Context)
 }
 
 /// A recorder with one place, after two calls: it has the note of the first, and missed the second.
-pub fn first_of_two(alloc: Global) -> Result<Recorder<Unserved>, Fault>
+fn first_of_two(alloc: Global) -> Result<Recorder<Unserved>, Fault>
     ensures notes { IfOk result (λ recorder. recorder.notes ≡ record {
       call = 31;
       node = 0;
@@ -85,11 +85,7 @@ pub fn first_of_two(alloc: Global) -> Result<Recorder<Unserved>, Fault>
 
 /// Takes lookups of many nodes back, one by one: where none is missed there is a note for each, in
 /// order.
-pub fn forgets_are_noted(
-    recorder: &mut Recorder<Unserved>,
-    ctx: &Context,
-    requests: Vec<(u64, u64)>,
-)
+fn forgets_are_noted(recorder: &mut Recorder<Unserved>, ctx: &Context, requests: Vec<(u64, u64)>)
     ensures { recorder.new.missed ≡ false →
         recorder.new.notes ≡ recorder.old.notes ++ map (λ p. told 2 p.0 p.1) requests.items }
 {
@@ -98,7 +94,7 @@ pub fn forgets_are_noted(
 }
 
 /// A file system that says of each call that it was done, where it says no more than that.
-pub fn all_done() -> Script
+fn all_done() -> Script
     ensures done { IsOk result.done }
     ensures names { result.entry ≡ Err not_served }
 {
@@ -110,7 +106,7 @@ pub fn all_done() -> Script
 /// A script answers what its maker set, and keeps it: `lookup` that the name isn't there, then
 /// `getxattr` that a value has 9 bytes, `readdir` that it is no directory, and `unlink` that it was
 /// done.
-pub fn what_was_set(
+fn what_was_set(
     script: &mut Script,
     ctx: &Context,
     name: CStr<'_>,
@@ -138,7 +134,7 @@ pub fn what_was_set(
 
 /// The text of a link that was set is answered: where there is no memory for a copy that is ENOMEM,
 /// and where it is too long for a reply ERANGE.
-pub fn text_that_was_set(script: &mut Script, ctx: Context, text: Vec<u8>) -> Result<Vec<u8>, Fault>
+fn text_that_was_set(script: &mut Script, ctx: Context, text: Vec<u8>) -> Result<Vec<u8>, Fault>
     ensures same { IfOk result (λ copy. copy.items ≡ text.items) }
     ensures short { vec_len text < 4_294_967_280 → IfErr result (λ fault. fault ≡ no_memory) }
     ensures long { 4_294_967_280 ≤ vec_len text → result ≡ Err (Some 34) }
@@ -149,7 +145,7 @@ pub fn text_that_was_set(script: &mut Script, ctx: Context, text: Vec<u8>) -> Re
 
 /// The directory that was set is read from its first item on: where there is no memory for that it
 /// is ENOMEM.
-pub fn directory_that_was_set(
+fn directory_that_was_set(
     script: &mut Script,
     ctx: Context,
     directory: ScriptDirectory,
@@ -163,7 +159,7 @@ pub fn directory_that_was_set(
 }
 
 /// Where no file was set neither READ nor WRITE is served.
-pub fn without_a_file<W: ZeroCopyWriter, R: ZeroCopyReader>(
+fn without_a_file<W: ZeroCopyWriter, R: ZeroCopyReader>(
     script: &mut Script,
     ctx: &Context,
     w: &mut W,
@@ -180,7 +176,7 @@ pub fn without_a_file<W: ZeroCopyWriter, R: ZeroCopyReader>(
 }
 
 /// READ of one byte of a file of sevens puts a seven, and calls the file once.
-pub fn one_byte_of_a_file<W: ZeroCopyWriter>(
+fn one_byte_of_a_file<W: ZeroCopyWriter>(
     script: &mut Script,
     ctx: Context,
     w: &mut W,
@@ -202,7 +198,7 @@ pub fn one_byte_of_a_file<W: ZeroCopyWriter>(
 }
 
 /// WRITE to a file that takes no byte: 0 is answered, and the file was called once.
-pub fn file_that_takes_no_byte<R: ZeroCopyReader>(
+fn file_that_takes_no_byte<R: ZeroCopyReader>(
     script: &mut Script,
     ctx: Context,
     r: &mut R,
@@ -223,7 +219,7 @@ pub fn file_that_takes_no_byte<R: ZeroCopyReader>(
 }
 
 /// A reading of a directory that has items and no end: it never gives the end.
-pub fn reading_without_end(alloc: Global, items: Vec<ScriptItem>) -> Result<ScriptEntries, Fault>
+fn reading_without_end(alloc: Global, items: Vec<ScriptItem>) -> Result<ScriptEntries, Fault>
     requires { 0 < vec_len items }
     ensures { IfOk result (λ entries. (new : Reading) → ¬ (GivesNext entries None new)) }
 {
@@ -232,7 +228,7 @@ pub fn reading_without_end(alloc: Global, items: Vec<ScriptItem>) -> Result<Scri
 
 /// A reading that has one item left and ends behind it: gives that item, then the end, and then the
 /// end again.
-pub fn one_item_and_the_end(entries: &mut ScriptEntries) -> (Option<u64>, bool, bool)
+fn one_item_and_the_end(entries: &mut ScriptEntries) -> (Option<u64>, bool, bool)
     requires last { length entries.old.left ≡ 1 }
     requires ends { entries.old.again ≡ [] }
     ensures item { IfSome result.0 (λ ino. map (λ item. item.ino) entries.old.left ≡ ino ∷ []) }
@@ -250,7 +246,7 @@ pub fn one_item_and_the_end(entries: &mut ScriptEntries) -> (Option<u64>, bool, 
 }
 
 /// How many calls a recorder noted, where it missed none.
-pub fn count_of_calls(recorder: &Recorder<Unserved>) -> Option<usize>
+fn count_of_calls(recorder: &Recorder<Unserved>) -> Option<usize>
     ensures all { recorder.now.missed ≡ false → result ≡ Some (length recorder.now.notes) }
     ensures some { recorder.now.missed ≡ true → result ≡ None }
 {

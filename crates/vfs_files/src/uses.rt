@@ -21,7 +21,7 @@ use vfs_views::PositionedFile;
 use vfs_wire::{Attr, EntryOut, InHeader};
 
 /// A name ends at its only 0.
-pub fn name_of_two_letters() -> bool
+fn name_of_two_letters() -> bool
     ensures { IsTrue result }
 {
     match CStr::from_bytes_with_nul(b"ab\0") {
@@ -31,14 +31,14 @@ pub fn name_of_two_letters() -> bool
 }
 
 /// Two names are not one.
-pub fn two_names_are_no_name() -> bool
+fn two_names_are_no_name() -> bool
     ensures { IsTrue result }
 {
     CStr::from_bytes_with_nul(b"a\0b\0").is_none()
 }
 
 /// The first of two names ends at the first 0.
-pub fn first_of_two_names() -> bool
+fn first_of_two_names() -> bool
     ensures { IsTrue result }
 {
     match CStr::from_bytes_until_nul(b"a\0b\0") {
@@ -48,7 +48,7 @@ pub fn first_of_two_names() -> bool
 }
 
 /// A name of its own has the bytes of the one that it was made from.
-pub fn own_name_has_the_same_bytes(alloc: Global, name: CStr<'_>) -> Result<bool, Fault>
+fn own_name_has_the_same_bytes(alloc: Global, name: CStr<'_>) -> Result<bool, Fault>
     ensures { IfOk result (λ same. IsTrue same) }
 {
     let own = CString::new(alloc, name)?;
@@ -56,7 +56,7 @@ pub fn own_name_has_the_same_bytes(alloc: Global, name: CStr<'_>) -> Result<bool
 }
 
 /// Two names made from one are equal.
-pub fn own_names_are_equal(alloc: Global, name: CStr<'_>) -> Result<bool, Fault>
+fn own_names_are_equal(alloc: Global, name: CStr<'_>) -> Result<bool, Fault>
     ensures { IfOk result (λ same. IsTrue same) }
 {
     let one = CString::new(alloc, name)?;
@@ -65,7 +65,7 @@ pub fn own_names_are_equal(alloc: Global, name: CStr<'_>) -> Result<bool, Fault>
 }
 
 /// A name of its own only ever fails with the number 12.
-pub fn own_name_wants_memory_alone(alloc: Global, name: CStr<'_>) -> Result<CString, i32>
+fn own_name_wants_memory_alone(alloc: Global, name: CStr<'_>) -> Result<CString, i32>
     ensures { IfErr result (λ error. error ≡ pos 12) }
 {
     match CString::new(alloc, name) {
@@ -76,7 +76,7 @@ pub fn own_name_wants_memory_alone(alloc: Global, name: CStr<'_>) -> Result<CStr
 }
 
 /// A copy of a security context has its name and its value.
-pub fn copy_of_a_context(alloc: Global, context: &SecContext) -> Result<SecContext, Fault>
+fn copy_of_a_context(alloc: Global, context: &SecContext) -> Result<SecContext, Fault>
     ensures name { IfOk result (λ copy. copy.name ≡ context.now.name) }
     ensures value { IfOk result (λ copy. copy.secctx.items ≡ context.now.secctx.items) }
 {
@@ -84,7 +84,7 @@ pub fn copy_of_a_context(alloc: Global, context: &SecContext) -> Result<SecConte
 }
 
 /// A copy of extensions has their group.
-pub fn group_of_a_copy(alloc: Global, group: GuestGid) -> Result<Option<GuestGid>, Fault>
+fn group_of_a_copy(alloc: Global, group: GuestGid) -> Result<Option<GuestGid>, Fault>
     ensures { IfOk result (λ copied. copied ≡ Some group) }
 {
     let ext = Extensions {
@@ -96,7 +96,7 @@ pub fn group_of_a_copy(alloc: Global, group: GuestGid) -> Result<Option<GuestGid
 }
 
 /// A copy of extensions has their security context.
-pub fn context_of_a_copy(alloc: Global, context: SecContext) -> Result<Option<SecContext>, Fault>
+fn context_of_a_copy(alloc: Global, context: SecContext) -> Result<Option<SecContext>, Fault>
     ensures { IfOk result (λ copied.
         option_map context_values copied ≡ Some (context_values context)) }
 {
@@ -109,7 +109,7 @@ pub fn context_of_a_copy(alloc: Global, context: SecContext) -> Result<Option<Se
 }
 
 /// A process number with the high bit set is negative.
-pub fn caller_with_the_highest_process() -> i32
+fn caller_with_the_highest_process() -> i32
     ensures { result ≡ negsuc 0 }
 {
     let header = InHeader {
@@ -120,7 +120,7 @@ pub fn caller_with_the_highest_process() -> i32
 }
 
 /// A timeout of a second and a half is one second and 500,000,000 nanoseconds.
-pub fn second_and_a_half() -> (u64, u32)
+fn second_and_a_half() -> (u64, u32)
     ensures { result ≡ (1, 500_000_000) }
 {
     let out = EntryOut::from(Entry {
@@ -134,14 +134,14 @@ pub fn second_and_a_half() -> (u64, u32)
 }
 
 /// A number of a node or a handle comes back.
-pub fn there_and_back<N: Number>(n: u64) -> u64
+fn there_and_back<N: Number>(n: u64) -> u64
     ensures { result ≡ n }
 {
     N::from_number(n).number()
 }
 
 /// A call that isn't served fails with the number 38.
-pub fn error_of_a_call_that_is_not_served() -> i32
+fn error_of_a_call_that_is_not_served() -> i32
     ensures { result ≡ pos 38 }
 {
     match defaults::no_such_call::<()>() {
@@ -151,7 +151,7 @@ pub fn error_of_a_call_that_is_not_served() -> i32
 }
 
 /// A file that is opened by default has no handle and no options.
-pub fn default_open_says_nothing() -> bool
+fn default_open_says_nothing() -> bool
     ensures { IsTrue result }
 {
     match defaults::open::<u64>() {
@@ -161,7 +161,7 @@ pub fn default_open_says_nothing() -> bool
 }
 
 /// By default names have up to 255 bytes.
-pub fn default_length_of_names() -> u64
+fn default_length_of_names() -> u64
     ensures { result ≡ 255 }
 {
     match defaults::statfs() {
@@ -171,7 +171,7 @@ pub fn default_length_of_names() -> u64
 }
 
 /// A name is taken out of the root as the file system allows it.
-pub fn unlink_from_the_root<F: FileSystem>(
+fn unlink_from_the_root<F: FileSystem>(
     fs: &mut F,
     ctx: Context,
     name: CStr<'_>,
@@ -197,7 +197,7 @@ pub fn forget_each<F: FileSystem>(fs: &mut F, ctx: &Context, requests: Vec<(F::I
 }
 
 /// Forgets the nodes of one list and then those of another, which is to forget those of both.
-pub fn forget_two_lists<F: FileSystem>(
+fn forget_two_lists<F: FileSystem>(
     fs: &mut F,
     ctx: &Context,
     first: Vec<(F::Inode, u64)>,
@@ -215,7 +215,7 @@ pub fn forget_two_lists<F: FileSystem>(
 }
 
 /// The text of a link has at most 4,294,967,279 bytes, whatever the file system.
-pub fn length_of_a_link<F: FileSystem>(
+fn length_of_a_link<F: FileSystem>(
     fs: &mut F,
     ctx: Context,
     inode: F::Inode,
@@ -228,7 +228,7 @@ pub fn length_of_a_link<F: FileSystem>(
 
 /// The value of an extended attribute, or the length told in its place, is at most 4,294,967,295
 /// bytes.
-pub fn length_of_a_value<F: FileSystem>(
+fn length_of_a_value<F: FileSystem>(
     fs: &mut F,
     ctx: Context,
     inode: F::Inode,
@@ -244,7 +244,7 @@ pub fn length_of_a_value<F: FileSystem>(
 
 /// The names of all extended attributes, or the length told in their place, are at most
 /// 4,294,967,295 bytes.
-pub fn length_of_all_names<F: FileSystem>(
+fn length_of_all_names<F: FileSystem>(
     fs: &mut F,
     ctx: Context,
     inode: F::Inode,
@@ -258,7 +258,7 @@ pub fn length_of_all_names<F: FileSystem>(
 }
 
 /// Nothing is found in a file system that serves nothing.
-pub fn lookup_that_is_not_served(ctx: Context, name: CStr<'_>) -> Result<Entry, Fault>
+fn lookup_that_is_not_served(ctx: Context, name: CStr<'_>) -> Result<Entry, Fault>
     ensures { result ≡ Err not_served }
 {
     let mut fs = Unserved {};
@@ -266,7 +266,7 @@ pub fn lookup_that_is_not_served(ctx: Context, name: CStr<'_>) -> Result<Entry, 
 }
 
 /// A `read` whose bytes stand in a file from `offset` on: as many as a reply can count.
-pub fn read_through<P: PositionedFile, W: ZeroCopyWriter>(
+fn read_through<P: PositionedFile, W: ZeroCopyWriter>(
     f: &mut P,
     w: &mut W,
     size: u32,
@@ -280,7 +280,7 @@ pub fn read_through<P: PositionedFile, W: ZeroCopyWriter>(
 
 /// A READ of any file system, whatever room it has: as many bytes are told as were put, no more
 /// than were asked for, and no more than a reply can count.
-pub fn bytes_of_a_read<F: FileSystem, W: ZeroCopyWriter>(
+fn bytes_of_a_read<F: FileSystem, W: ZeroCopyWriter>(
     fs: &mut F,
     ctx: Context,
     w: &mut W,
@@ -297,7 +297,7 @@ pub fn bytes_of_a_read<F: FileSystem, W: ZeroCopyWriter>(
 
 /// Bytes are moved up to position 2^64 - 2 alone: from the one behind it a transfer moves none, or
 /// fails.
-pub fn from_the_last_position<P: PositionedFile, W: ZeroCopyWriter>(
+fn from_the_last_position<P: PositionedFile, W: ZeroCopyWriter>(
     f: &mut P,
     w: &mut W,
     count: usize,
@@ -308,7 +308,7 @@ pub fn from_the_last_position<P: PositionedFile, W: ZeroCopyWriter>(
 }
 
 /// A state that is written stands behind what the vector had.
-pub fn saved_behind<F: SerializableFileSystem>(
+fn saved_behind<F: SerializableFileSystem>(
     fs: &mut F,
     out: &mut Vec<u8>,
 ) -> Result<(), MigrateError>
@@ -318,7 +318,7 @@ pub fn saved_behind<F: SerializableFileSystem>(
 }
 
 /// A state that is read is a beginning of the bytes that were there.
-pub fn restored_from<F: SerializableFileSystem>(
+fn restored_from<F: SerializableFileSystem>(
     fs: &mut F,
     saved: &mut &[u8],
 ) -> Result<(), MigrateError>

@@ -16,7 +16,7 @@ mod open_options;
 mod setattr_valid;
 mod setupmapping_flags;
 mod setxattr_flags;
-pub mod uses;
+mod uses;
 
 pub use constants::{
     ATTR_DAX, ATTR_SUBMOUNT, DEFAULT_MAX_BUFFER, FATTR_FH, FATTR_LOCKOWNER, FSYNC_FDATASYNC,

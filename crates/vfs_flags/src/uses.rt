@@ -6,12 +6,12 @@ ghost use Rattle.vfs_flags.specs.Flags.{fs_options_bits, init_ext, setxattr_ext,
 
 use crate::{Errno, FsOptions};
 
-pub mod ids;
-pub mod opcodes;
-pub mod sets;
+mod ids;
+mod opcodes;
+mod sets;
 
 /// The named errors, in the order of their numbers.
-pub fn named_errors() -> [Errno; 20]
+fn named_errors() -> [Errno; 20]
     ensures { result ≡
         eperm ∷ enoent ∷ eio ∷ ebadf ∷ enomem ∷ eacces ∷ eexist ∷ exdev ∷ enotdir ∷ eisdir ∷
         einval ∷ enospc ∷ erofs ∷ erange ∷ enosys ∷ enotempty ∷ enodata ∷ eproto ∷ eoverflow ∷
@@ -42,56 +42,56 @@ pub fn named_errors() -> [Errno; 20]
 }
 
 /// The option that SETXATTR has its longer record.
-pub fn longer_setxattr() -> FsOptions
+fn longer_setxattr() -> FsOptions
     ensures { fs_options_bits result ≡ setxattr_ext }
 {
     FsOptions::SETXATTR_EXT
 }
 
 /// The option that INIT has a second record.
-pub fn longer_init() -> FsOptions
+fn longer_init() -> FsOptions
     ensures { fs_options_bits result ≡ init_ext }
 {
     FsOptions::INIT_EXT
 }
 
 /// The option that a request which creates a node carries its security contexts.
-pub fn security_contexts() -> FsOptions
+fn security_contexts() -> FsOptions
     ensures { fs_options_bits result ≡ security_ctx }
 {
     FsOptions::SECURITY_CTX
 }
 
 /// The option that a request which creates a node carries a supplementary group.
-pub fn supplementary_group() -> FsOptions
+fn supplementary_group() -> FsOptions
     ensures { fs_options_bits result ≡ create_supp_group }
 {
     FsOptions::CREATE_SUPP_GROUP
 }
 
 /// The options that a server supports by itself.
-pub fn supported() -> FsOptions
+fn supported() -> FsOptions
     ensures { fs_options_bits result ≡ supported_fs_options }
 {
     FsOptions::SUPPORTED
 }
 
 /// The error of the number that `open` of the system gives for a name that is not there.
-pub fn not_found() -> Option<Errno>
+fn not_found() -> Option<Errno>
     ensures { result ≡ Some enoent }
 {
     Errno::new(2)
 }
 
 /// 0 is no error.
-pub fn no_error() -> Option<Errno>
+fn no_error() -> Option<Errno>
     ensures { result ≡ None }
 {
     Errno::new(0)
 }
 
 /// The number of an error, as the header of a reply carries it: below 0.
-pub fn negated(e: Errno) -> i32
+fn negated(e: Errno) -> i32
     ensures value { result ≡ pos 0 -ℤ pos e }
     ensures below { result <ℤ pos 0 }
 {
@@ -99,7 +99,7 @@ pub fn negated(e: Errno) -> i32
 }
 
 /// Whether two errors are the same.
-pub fn same_error(a: Errno, b: Errno) -> bool
+fn same_error(a: Errno, b: Errno) -> bool
     ensures { IsTrue result ↔ (a ≡ b) }
 {
     a == b

@@ -31,7 +31,7 @@ pub enum Error {
     #[error("a length in the request is less than what it counts")]
     InvalidHeaderLength,
     /// The `size` of a SETXATTR, and the length of its value, which differ.
-    #[error("the size of an extended attribute and the length of its value differ: {0:?}")]
+    #[error("the size of an extended attribute is said to be {}, and its value has {} bytes", .0.0, .0.1)]
     InvalidXattrSize((u32, usize)),
     /// A security context was agreed on, and the request has none.
     #[error("the request lacks the security context that was agreed on")]

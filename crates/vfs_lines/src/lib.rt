@@ -10,7 +10,7 @@ mod limit;
 mod line;
 mod session;
 mod usage;
-pub mod uses;
+mod uses;
 
 pub use answer::answer_line;
 pub use error::{RunError, exit_status, report};

@@ -9,7 +9,7 @@
 pub mod laws;
 mod listing;
 mod record;
-pub mod uses;
+mod uses;
 
 pub use listing::{give_back, read_directory};
 pub use record::add_dirent;

@@ -18,7 +18,7 @@ use vfs_segments::Writer;
 use vfs_wire::{InHeader, ReadIn};
 
 /// Adds `.` of the root, whose record has 32 bytes, where 32 may still be put.
-pub fn add_dot(w: &mut Writer, dot: CStr<'_>) -> Result<usize, Fault>
+fn add_dot(w: &mut Writer, dot: CStr<'_>) -> Result<usize, Fault>
     requires name { name_text dot ≡ codes "." }
     requires room { 32 ≤ length w.old.left }
     ensures answer { result ≡ Ok 32 }
@@ -35,7 +35,7 @@ pub fn add_dot(w: &mut Writer, dot: CStr<'_>) -> Result<usize, Fault>
 
 /// Adds an entry whose name has one byte where 31 bytes may still be put: its record is too long,
 /// and nothing is put, however small the room is.
-pub fn add_too_long(w: &mut Writer, entry: DirEntry<'_>) -> Result<usize, Fault>
+fn add_too_long(w: &mut Writer, entry: DirEntry<'_>) -> Result<usize, Fault>
     requires { length (name_text entry.name) ≡ 1 }
     ensures answer { result ≡ Ok 0 }
     ensures same { w.new ≡ w.old }
@@ -45,7 +45,7 @@ pub fn add_too_long(w: &mut Writer, entry: DirEntry<'_>) -> Result<usize, Fault>
 
 /// Adds the same entry where 32 bytes may be put and there is room for 31: a fault, and the room is
 /// full.
-pub fn add_past_the_room(w: &mut Writer, entry: DirEntry<'_>) -> Result<usize, Fault>
+fn add_past_the_room(w: &mut Writer, entry: DirEntry<'_>) -> Result<usize, Fault>
     requires name { length (name_text entry.name) ≡ 1 }
     requires room { length w.old.left ≡ 31 }
     ensures answer { result ≡ Err Nothing }
@@ -56,7 +56,7 @@ pub fn add_past_the_room(w: &mut Writer, entry: DirEntry<'_>) -> Result<usize, F
 
 /// Reads a directory of a file system that serves nothing: its fault is answered, and nothing is
 /// put.
-pub fn read_what_is_not_served(
+fn read_what_is_not_served(
     header: &InHeader,
     read_in: &ReadIn,
     plus: bool,
@@ -70,7 +70,7 @@ pub fn read_what_is_not_served(
 }
 
 /// The records of one READDIRPLUS fit into the page that was asked for, whatever the file system.
-pub fn read_a_page<F: FileSystem>(
+fn read_a_page<F: FileSystem>(
     fs: &mut F,
     header: &InHeader,
     read_in: &ReadIn,
@@ -84,7 +84,7 @@ pub fn read_a_page<F: FileSystem>(
 
 /// Where READDIR takes the file `a`, may put the 32 bytes of its record, and there is room for 31:
 /// the answer is a fault without a number, and the beginning of the record fills the room.
-pub fn a_room_that_is_too_small<F: FileSystem>()
+fn a_room_that_is_too_small<F: FileSystem>()
     ensures { (ctx : Context) (parent size : ℕ) (it : F.DirIter) (old new : F)
         (room left : Written) (result : Outcome ℕ (Option ℕ)) →
         (h : ReadsItems F.allows F.DirIter.gives ctx false parent size it old room result new left) →

@@ -4,7 +4,7 @@
 
 mod memfile;
 mod memfs;
-pub mod uses;
+mod uses;
 
 pub use memfile::MemFile;
 pub use memfs::MemFs;

@@ -24,7 +24,7 @@ use vfs_wire::{Attr, Statvfs64};
 
 /// LOOKUP of `a` in the root of a new file system: node 2 with five bytes, for a second. Memory
 /// alone can be wanting, and then for the file system.
-pub fn first_file(alloc: Global, ctx: Context, name: CStr<'_>) -> Result<Entry, Fault>
+fn first_file(alloc: Global, ctx: Context, name: CStr<'_>) -> Result<Entry, Fault>
     requires { name_text name ≡ codes "a" }
     ensures node { MatchResult result
         (λ entry. (entry.inode ≡ 2) × (entry.generation ≡ 0))
@@ -38,7 +38,7 @@ pub fn first_file(alloc: Global, ctx: Context, name: CStr<'_>) -> Result<Entry, 
 }
 
 /// LOOKUP of `a` in node 2, which is no directory: ENOENT, and the files stay.
-pub fn name_in_a_file(fs: &mut MemFs, ctx: Context, name: CStr<'_>) -> Result<Entry, Fault>
+fn name_in_a_file(fs: &mut MemFs, ctx: Context, name: CStr<'_>) -> Result<Entry, Fault>
     requires first { fs.old ≡ one_file (codes "hello") }
     requires named { name_text name ≡ codes "a" }
     ensures refused { result ≡ Err (Some 2) }
@@ -48,7 +48,7 @@ pub fn name_in_a_file(fs: &mut MemFs, ctx: Context, name: CStr<'_>) -> Result<En
 }
 
 /// GETATTR of the root: a directory with two names, for a second. The files stay.
-pub fn attributes_of_the_root(fs: &mut MemFs, ctx: Context) -> Result<(Attr, Duration), Fault>
+fn attributes_of_the_root(fs: &mut MemFs, ctx: Context) -> Result<(Attr, Duration), Fault>
     ensures root { MatchResult result
         (λ reply. (reply.0.mode ≡ 0o40755) × (reply.0.nlink ≡ 2)
         × (as_nanos reply.1 ≡ 1000000000))
@@ -59,7 +59,7 @@ pub fn attributes_of_the_root(fs: &mut MemFs, ctx: Context) -> Result<(Attr, Dur
 }
 
 /// GETATTR of node 3, which isn't there: ENOENT, and the files stay.
-pub fn attributes_of_no_file(fs: &mut MemFs, ctx: Context) -> Result<(Attr, Duration), Fault>
+fn attributes_of_no_file(fs: &mut MemFs, ctx: Context) -> Result<(Attr, Duration), Fault>
     requires { fs.old ≡ one_file (codes "hello") }
     ensures refused { result ≡ Err (Some 2) }
     ensures files { fs.new ≡ fs.old }
@@ -82,7 +82,7 @@ fn attributes<F: FileSystem>(
 }
 
 /// UNLINK of `a`: no file is left.
-pub fn taken_out(fs: &mut MemFs, ctx: Context, name: CStr<'_>) -> Result<(), Fault>
+fn taken_out(fs: &mut MemFs, ctx: Context, name: CStr<'_>) -> Result<(), Fault>
     requires first { fs.old ≡ one_file (codes "hello") }
     requires named { name_text name ≡ codes "a" }
     ensures done { result ≡ Ok tt }
@@ -92,7 +92,7 @@ pub fn taken_out(fs: &mut MemFs, ctx: Context, name: CStr<'_>) -> Result<(), Fau
 }
 
 /// UNLINK of `b`, which isn't there: ENOENT, and the files stay.
-pub fn nothing_taken_out(fs: &mut MemFs, ctx: Context, name: CStr<'_>) -> Result<(), Fault>
+fn nothing_taken_out(fs: &mut MemFs, ctx: Context, name: CStr<'_>) -> Result<(), Fault>
     requires first { fs.old ≡ one_file (codes "hello") }
     requires named { name_text name ≡ codes "b" }
     ensures refused { result ≡ Err (Some 2) }
@@ -103,7 +103,7 @@ pub fn nothing_taken_out(fs: &mut MemFs, ctx: Context, name: CStr<'_>) -> Result
 
 /// CREATE of `b`: node 3, which is empty, without a handle. Memory alone can be wanting, and then
 /// the files stay.
-pub fn new_file(
+fn new_file(
     fs: &mut MemFs,
     ctx: Context,
     name: CStr<'_>,
@@ -119,7 +119,7 @@ pub fn new_file(
 }
 
 /// CREATE of `a`, which is there: EEXIST, and the files stay.
-pub fn taken_name(
+fn taken_name(
     fs: &mut MemFs,
     ctx: Context,
     name: CStr<'_>,
@@ -133,11 +133,7 @@ pub fn taken_name(
 }
 
 /// READ of node 2 with more room than it has bytes: `hello`. The files stay.
-pub fn whole_file<W: ZeroCopyWriter>(
-    fs: &mut MemFs,
-    ctx: Context,
-    w: &mut W,
-) -> Result<usize, Fault>
+fn whole_file<W: ZeroCopyWriter>(fs: &mut MemFs, ctx: Context, w: &mut W) -> Result<usize, Fault>
     requires first { fs.old ≡ one_file (codes "hello") }
     requires room { W.room w.old ≡ 100 }
     ensures answer { result ≡ Ok 5 }
@@ -148,7 +144,7 @@ pub fn whole_file<W: ZeroCopyWriter>(
 }
 
 /// READ of node 1, which is no file: ENOENT, and the files stay.
-pub fn no_file_to_read<W: ZeroCopyWriter>(
+fn no_file_to_read<W: ZeroCopyWriter>(
     fs: &mut MemFs,
     ctx: Context,
     w: &mut W,
@@ -162,7 +158,7 @@ pub fn no_file_to_read<W: ZeroCopyWriter>(
 
 /// WRITE of `HEY` over the beginning of node 2, which takes no memory, and READ of it then.
 #[tactic(auto, unfolding(vfs_views::specs::Segments::with_bytes_at))]
-pub fn written_and_read<R: ZeroCopyReader, W: ZeroCopyWriter>(
+fn written_and_read<R: ZeroCopyReader, W: ZeroCopyWriter>(
     fs: &mut MemFs,
     ctx: &Context,
     r: &mut R,
@@ -183,7 +179,7 @@ pub fn written_and_read<R: ZeroCopyReader, W: ZeroCopyWriter>(
 /// WRITE of `HEY` two bytes behind the end of node 2: zeros fill the gap. Memory alone can be
 /// wanting, and then the files stay.
 #[tactic(auto, unfolding(vfs_views::specs::Segments::with_bytes_at))]
-pub fn written_behind_the_end<R: ZeroCopyReader>(
+fn written_behind_the_end<R: ZeroCopyReader>(
     fs: &mut MemFs,
     ctx: Context,
     r: &mut R,
@@ -199,11 +195,7 @@ pub fn written_behind_the_end<R: ZeroCopyReader>(
 }
 
 /// WRITE of no bytes behind the end of node 2: it takes no memory, and the files stay.
-pub fn nothing_written<R: ZeroCopyReader>(
-    fs: &mut MemFs,
-    ctx: Context,
-    r: &mut R,
-) -> Result<u32, Fault>
+fn nothing_written<R: ZeroCopyReader>(fs: &mut MemFs, ctx: Context, r: &mut R) -> Result<u32, Fault>
     requires { fs.old ≡ one_file (codes "hello") }
     ensures answer { result ≡ Ok 0 }
     ensures files { fs.new ≡ fs.old }
@@ -212,7 +204,7 @@ pub fn nothing_written<R: ZeroCopyReader>(
 }
 
 /// WRITE into node 1, which is no file: ENOENT, and the files stay.
-pub fn no_file_to_write<R: ZeroCopyReader>(
+fn no_file_to_write<R: ZeroCopyReader>(
     fs: &mut MemFs,
     ctx: Context,
     r: &mut R,
@@ -225,7 +217,7 @@ pub fn no_file_to_write<R: ZeroCopyReader>(
 }
 
 /// READDIR of the root: `.` is first. Memory alone can be wanting. The files stay.
-pub fn first_name(fs: &mut MemFs, ctx: Context) -> Result<bool, Fault>
+fn first_name(fs: &mut MemFs, ctx: Context) -> Result<bool, Fault>
     ensures first { MatchResult result (λ dot. IsTrue dot) (λ fault. fault ≡ Some 12) }
     ensures files { fs.new ≡ fs.old }
 {
@@ -239,7 +231,7 @@ pub fn first_name(fs: &mut MemFs, ctx: Context) -> Result<bool, Fault>
 }
 
 /// READDIR of the root behind `..`: the file, and then the end, as often as it is asked for.
-pub fn last_name(fs: &mut MemFs, ctx: Context) -> Result<[Option<u64>; 3], Fault>
+fn last_name(fs: &mut MemFs, ctx: Context) -> Result<[Option<u64>; 3], Fault>
     requires { fs.old ≡ one_file (codes "hello") }
     ensures { MatchResult result
         (λ nodes. nodes ≡ Some 2 ∷ None ∷ None ∷ [])
@@ -260,7 +252,7 @@ fn node(entry: Option<DirEntry<'_>>) -> Option<u64>
 }
 
 /// READDIR of node 2, which is no directory: ENOTDIR, and the files stay.
-pub fn no_directory(fs: &mut MemFs, ctx: Context) -> Result<(), Fault>
+fn no_directory(fs: &mut MemFs, ctx: Context) -> Result<(), Fault>
     ensures refused { result ≡ Err (Some 20) }
     ensures files { fs.new ≡ fs.old }
 {
@@ -269,7 +261,7 @@ pub fn no_directory(fs: &mut MemFs, ctx: Context) -> Result<(), Fault>
 }
 
 /// INIT asks for READDIRPLUS, and STATFS says what it says by default. Neither changes the files.
-pub fn wanted(fs: &mut MemFs, capable: FsOptions) -> Result<FsOptions, Fault>
+fn wanted(fs: &mut MemFs, capable: FsOptions) -> Result<FsOptions, Fault>
     ensures answer { init_answer result ≡ Options 0x2000 }
     ensures files { fs.new ≡ fs.old }
 {
@@ -277,7 +269,7 @@ pub fn wanted(fs: &mut MemFs, capable: FsOptions) -> Result<FsOptions, Fault>
 }
 
 /// STATFS, which is not served: its default answer, no directory, and the files stay.
-pub fn default_statfs(fs: &mut MemFs, ctx: Context) -> Result<Statvfs64, Fault>
+fn default_statfs(fs: &mut MemFs, ctx: Context) -> Result<Statvfs64, Fault>
     ensures answer { result ≡ Ok default_statistics }
     ensures files { fs.new ≡ fs.old }
 {
@@ -286,7 +278,7 @@ pub fn default_statfs(fs: &mut MemFs, ctx: Context) -> Result<Statvfs64, Fault>
 
 /// An answer of another kind than its call's is not allowed: STATFS hands back no directory, and
 /// CREATE and WRITE don't answer only that they are done.
-pub fn answers_are_of_their_kind()
+fn answers_are_of_their_kind()
     ensures statfs { (ctx : Context) (items : List Item) (new : Stock) →
         ¬ (MemFsAllows (one_file []) (Statfs ctx 1) (Iterator items) new) }
     ensures create { (ctx : Context) (ext : ExtensionValues) (new : Stock) →

@@ -21,7 +21,7 @@ use vfs_wire::{GetattrIn, InHeader};
 /// Says to request 9 that it is not served. Sixteen bytes are put into the room; those behind
 /// them, and those that the writer had passed, are as they were, and so are the lengths of its
 /// segments.
-pub fn say_not_served(w: &mut Writer) -> Result<usize>
+fn say_not_served(w: &mut Writer) -> Result<usize>
     requires { 16 ≤ length w.old.left }
     ensures outcome { result ≡ Ok 16 }
     ensures bytes { whole w.new ≡ w.old.passed ++ (not_served_reply ++ drop 16 w.old.left) }
@@ -32,7 +32,7 @@ pub fn say_not_served(w: &mut Writer) -> Result<usize>
 
 /// Says to request 9 that it was done, in a room of ten bytes: they hold the beginning of the
 /// reply.
-pub fn say_done_in_ten_bytes(w: &mut Writer) -> Result<usize>
+fn say_done_in_ten_bytes(w: &mut Writer) -> Result<usize>
     requires { length w.old.left ≡ 10 }
     ensures outcome { result ≡ Err Error.EncodeMessage }
     ensures bytes { whole w.new ≡ w.old.passed ++ ten_of_done_reply }
@@ -42,7 +42,7 @@ pub fn say_done_in_ten_bytes(w: &mut Writer) -> Result<usize>
 
 /// Says to request 9 that it is not served, with a writer that holds sixteen bytes in front of
 /// others: they hold the reply then, what stands behind them stays, and nothing is held.
-pub fn say_not_served_in_front(w: &mut Writer) -> Result<usize>
+fn say_not_served_in_front(w: &mut Writer) -> Result<usize>
     requires { w.old.held ≡ 16 }
     ensures outcome { result ≡ Ok 16 }
     ensures bytes { w.new.passed ≡ with_bytes_at w.old.held_at not_served_reply w.old.passed }
@@ -54,11 +54,7 @@ pub fn say_not_served_in_front(w: &mut Writer) -> Result<usize>
 
 /// Reads the tail of a request whose `len` is less than its header: it is refused before a byte is
 /// looked for, and before memory is asked for.
-pub fn tail_of_a_short_len<'a>(
-    alloc: Global,
-    header: &InHeader,
-    r: &mut Reader<'a>,
-) -> Result<Tail<'a>>
+fn tail_of_a_short_len<'a>(alloc: Global, header: &InHeader, r: &mut Reader<'a>) -> Result<Tail<'a>>
     requires { header.now.len < 40 }
     ensures { result ≡ Err Error.InvalidHeaderLength }
 {
@@ -66,7 +62,7 @@ pub fn tail_of_a_short_len<'a>(
 }
 
 /// Reads the record of a GETATTR from fifteen bytes, one too few.
-pub fn getattr_of_fifteen_bytes(r: &mut Reader<'_>) -> Result<GetattrIn>
+fn getattr_of_fifteen_bytes(r: &mut Reader<'_>) -> Result<GetattrIn>
     requires { length r.old.left ≡ 15 }
     ensures { result ≡ Err Error.DecodeMessage }
 {
@@ -75,7 +71,7 @@ pub fn getattr_of_fifteen_bytes(r: &mut Reader<'_>) -> Result<GetattrIn>
 
 /// Reads the extensions of a MKDIR behind the name `d`, where groups were agreed on: the group
 /// 1000, for which no memory is wanted.
-pub fn group_behind_a_name(alloc: Global) -> Result<Extensions>
+fn group_behind_a_name(alloc: Global) -> Result<Extensions>
     ensures { MatchResult result
         (λ ext. extension_values_of ext ≡ record { context = None; group = Some 1000 })
         (λ error. ⊥) }
@@ -86,7 +82,7 @@ pub fn group_behind_a_name(alloc: Global) -> Result<Extensions>
 
 /// Reads the extensions of a MKDIR behind the name `d`, where a context was agreed on: one named
 /// `s`, whose value is `v`.
-pub fn context_behind_a_name(alloc: Global) -> Result<Extensions>
+fn context_behind_a_name(alloc: Global) -> Result<Extensions>
     ensures { MatchResult result
         (λ ext. extension_values_of ext
         ≡ record { context = Some (codes "s", codes "v"); group = None })
@@ -98,7 +94,7 @@ pub fn context_behind_a_name(alloc: Global) -> Result<Extensions>
 
 /// Two contexts are refused, whatever they are, and a context whose value has no byte: for neither
 /// memory is wanted.
-pub fn contexts_that_are_refused(
+fn contexts_that_are_refused(
     alloc: Global,
     body: &[u8],
 ) -> (Result<Option<SecContext>>, Result<Option<SecContext>>)
@@ -111,7 +107,7 @@ pub fn contexts_that_are_refused(
 }
 
 /// The body of an extension of one group, 1000.
-pub fn group_of_a_body() -> Result<GuestGid>
+fn group_of_a_body() -> Result<GuestGid>
     ensures { result ≡ Ok 1000 }
 {
     parse_sup_groups(b"\x01\0\0\0\xe8\x03\0\0")

@@ -30,7 +30,7 @@ mod record;
 mod running;
 mod scatter;
 mod transfer;
-pub mod uses;
+mod uses;
 mod writer;
 
 pub use descriptor_type::DescriptorType;

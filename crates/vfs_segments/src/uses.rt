@@ -17,7 +17,7 @@ use vfs_views::uses::{Journal, Zeros};
 
 /// A new reader of two segments has the bytes of both left, and has given none. It is refused where
 /// they are too many to count, and else only for want of memory.
-pub fn counts_of_a_new_reader(alloc: Global, first: &[u8], second: &[u8]) -> Result<(usize, usize)>
+fn counts_of_a_new_reader(alloc: Global, first: &[u8], second: &[u8]) -> Result<(usize, usize)>
     ensures left { IfOk result (λ counts. counts.0 ≡ length first.now + length second.now) }
     ensures taken { IfOk result (λ counts. counts.1 ≡ 0) }
     ensures too_long { 2 ^ 64 ≤ length first.now + length second.now →
@@ -32,7 +32,7 @@ pub fn counts_of_a_new_reader(alloc: Global, first: &[u8], second: &[u8]) -> Res
 
 /// A reader of two segments, which wants no memory, gives the bytes of the first and then those of
 /// the second.
-pub fn read_over_two_segments(alloc: Global, first: &[u8], second: &[u8], buf: &mut [u8])
+fn read_over_two_segments(alloc: Global, first: &[u8], second: &[u8], buf: &mut [u8])
     requires { length buf.old ≡ length first.now + length second.now }
     ensures { buf.new ≡ first.now ++ second.now }
 {
@@ -42,7 +42,7 @@ pub fn read_over_two_segments(alloc: Global, first: &[u8], second: &[u8], buf: &
 }
 
 /// A read into six bytes where four are left moves these four. The rest of the buffer stays.
-pub fn read_of_what_is_left(reader: &mut Reader<'_>, buf: &mut [u8]) -> io::Result<usize>
+fn read_of_what_is_left(reader: &mut Reader<'_>, buf: &mut [u8]) -> io::Result<usize>
     requires left { length reader.old.left ≡ 4 }
     requires room { length buf.old ≡ 6 }
     ensures count { result ≡ Ok 4 }
@@ -55,7 +55,7 @@ pub fn read_of_what_is_left(reader: &mut Reader<'_>, buf: &mut [u8]) -> io::Resu
 }
 
 /// A read into four bytes where six are left moves the first four of these.
-pub fn read_of_a_part(reader: &mut Reader<'_>, buf: &mut [u8]) -> io::Result<usize>
+fn read_of_a_part(reader: &mut Reader<'_>, buf: &mut [u8]) -> io::Result<usize>
     requires left { length reader.old.left ≡ 6 }
     requires room { length buf.old ≡ 4 }
     ensures count { result ≡ Ok 4 }
@@ -67,7 +67,7 @@ pub fn read_of_a_part(reader: &mut Reader<'_>, buf: &mut [u8]) -> io::Result<usi
 
 /// Where a buffer is to be filled and too few bytes are left, the error's kind is `UnexpectedEof`,
 /// and they are taken.
-pub fn kind_of_a_short_read(reader: &mut Reader<'_>, buf: &mut [u8]) -> Option<ErrorKind>
+fn kind_of_a_short_read(reader: &mut Reader<'_>, buf: &mut [u8]) -> Option<ErrorKind>
     requires { length reader.old.left < length buf.old }
     ensures kind { result ≡ Some ErrorKind.UnexpectedEof }
     ensures none_left { reader.new.left ≡ [] }
@@ -81,7 +81,7 @@ pub fn kind_of_a_short_read(reader: &mut Reader<'_>, buf: &mut [u8]) -> Option<E
 
 /// Where a number of four bytes is to be read and fewer are left, the error's kind is
 /// `UnexpectedEof`, and they are taken.
-pub fn kind_of_a_short_record(reader: &mut Reader<'_>) -> Option<ErrorKind>
+fn kind_of_a_short_record(reader: &mut Reader<'_>) -> Option<ErrorKind>
     requires { length reader.old.left < 4 }
     ensures kind { result ≡ Some ErrorKind.UnexpectedEof }
     ensures none_left { reader.new.left ≡ [] }
@@ -94,7 +94,7 @@ pub fn kind_of_a_short_record(reader: &mut Reader<'_>) -> Option<ErrorKind>
 }
 
 /// A number of four bytes, where they are left.
-pub fn number_of_four_bytes(reader: &mut Reader<'_>) -> u32
+fn number_of_four_bytes(reader: &mut Reader<'_>) -> u32
     requires { 4 ≤ length reader.old.left }
     ensures value { result ≡ value_of (lone_number 4) reader.old.left }
     ensures left { reader.new.left ≡ drop 4 reader.old.left }
@@ -103,7 +103,7 @@ pub fn number_of_four_bytes(reader: &mut Reader<'_>) -> u32
 }
 
 /// A number of four bytes is taken, where they are left.
-pub fn taken_number(reader: &mut Reader<'_>) -> Option<u32>
+fn taken_number(reader: &mut Reader<'_>) -> Option<u32>
     requires { 4 ≤ length reader.old.left }
     ensures value { result ≡ Some (value_of (lone_number 4) reader.old.left) }
     ensures left { reader.new.left ≡ drop 4 reader.old.left }
@@ -112,7 +112,7 @@ pub fn taken_number(reader: &mut Reader<'_>) -> Option<u32>
 }
 
 /// Where three bytes are left no number of four is taken, and the reader is as it was.
-pub fn number_of_too_few_bytes(reader: &mut Reader<'_>) -> Option<u32>
+fn number_of_too_few_bytes(reader: &mut Reader<'_>) -> Option<u32>
     requires { length reader.old.left ≡ 3 }
     ensures none { result ≡ None }
     ensures same { reader.new ≡ reader.old }
@@ -122,7 +122,7 @@ pub fn number_of_too_few_bytes(reader: &mut Reader<'_>) -> Option<u32>
 
 /// A reader that has eight bytes left is cut after three: it keeps these and its count, and the
 /// rest begins anew. Only memory can be wanting, and then the reader is as it was.
-pub fn split_after_three_bytes<'a>(reader: &mut Reader<'a>) -> Result<Reader<'a>>
+fn split_after_three_bytes<'a>(reader: &mut Reader<'a>) -> Result<Reader<'a>>
     requires { length reader.old.left ≡ 8 }
     ensures first { OnOk result (reader.new.left ≡ take 3 reader.old.left) }
     ensures count { OnOk result (reader.new.taken ≡ reader.old.taken) }
@@ -135,7 +135,7 @@ pub fn split_after_three_bytes<'a>(reader: &mut Reader<'a>) -> Result<Reader<'a>
 }
 
 /// A split past what is left is refused by its place, and the reader is as it was.
-pub fn refused_split(reader: &mut Reader<'_>) -> Option<Error>
+fn refused_split(reader: &mut Reader<'_>) -> Option<Error>
     requires { length reader.old.left ≡ 8 }
     ensures refused { result ≡ Some (Error.SplitOutOfBounds 9) }
     ensures same { reader.new ≡ reader.old }
@@ -144,7 +144,7 @@ pub fn refused_split(reader: &mut Reader<'_>) -> Option<Error>
 }
 
 /// What a clone reads the reader still has. Only memory can be wanting.
-pub fn read_by_a_clone(reader: &Reader<'_>, buf: &mut [u8]) -> Result<usize>
+fn read_by_a_clone(reader: &Reader<'_>, buf: &mut [u8]) -> Result<usize>
     requires { length buf.old ≤ length reader.now.left }
     ensures bytes { OnOk result (buf.new ≡ take (length buf.old) reader.now.left) }
     ensures left { IfOk result (λ n. n ≡ length reader.now.left) }
@@ -157,7 +157,7 @@ pub fn read_by_a_clone(reader: &Reader<'_>, buf: &mut [u8]) -> Result<usize>
 
 /// Which bytes of segments of three and four bytes lie together: those of each segment, and none
 /// over the cut or past the end.
-pub fn together_in_two_segments(
+fn together_in_two_segments(
     alloc: Global,
     first: &[u8],
     second: &[u8],
@@ -177,7 +177,7 @@ pub fn together_in_two_segments(
 }
 
 /// Four bytes that a cut stands in are not lent, and the reader is as it was.
-pub fn slice_over_a_cut<'a>(reader: &mut Reader<'a>) -> Option<&'a [u8]>
+fn slice_over_a_cut<'a>(reader: &mut Reader<'a>) -> Option<&'a [u8]>
     requires left { length reader.old.left ≡ 7 }
     requires pieces { reader.old.pieces ≡ 3 ∷ 4 ∷ [] }
     ensures none { result ≡ None }
@@ -187,7 +187,7 @@ pub fn slice_over_a_cut<'a>(reader: &mut Reader<'a>) -> Option<&'a [u8]>
 }
 
 /// The bytes of two segments are lent one after the other, where they are taken as they are cut.
-pub fn slices_of_two_segments<'a>(reader: &mut Reader<'a>) -> (Option<&'a [u8]>, Option<&'a [u8]>)
+fn slices_of_two_segments<'a>(reader: &mut Reader<'a>) -> (Option<&'a [u8]>, Option<&'a [u8]>)
     requires left { length reader.old.left ≡ 7 }
     requires pieces { reader.old.pieces ≡ 3 ∷ 4 ∷ [] }
     ensures first { MatchOption result.0 ⊥ (λ bytes. bytes.now ≡ take 3 reader.old.left) }
@@ -201,7 +201,7 @@ pub fn slices_of_two_segments<'a>(reader: &mut Reader<'a>) -> (Option<&'a [u8]>,
 
 /// Three calls of a reader, and what it answers, in the words of the law that readers of equal flat
 /// bytes answer alike.
-pub fn three_answers(reader: &mut Reader<'_>, buf: &mut [u8]) -> io::Result<(usize, usize, usize)>
+fn three_answers(reader: &mut Reader<'_>, buf: &mut [u8]) -> io::Result<(usize, usize, usize)>
     ensures { IfOk result (λ counts. AreAnswers reader.old
         (Available ∷ Read buf.old ∷ Taken ∷ [])
         (Count counts.0 ∷ Moved counts.1 buf.new ∷ Count counts.2 ∷ []) reader.new) }
@@ -214,7 +214,7 @@ pub fn three_answers(reader: &mut Reader<'_>, buf: &mut [u8]) -> io::Result<(usi
 
 /// Readers of three bytes, which are cut after the first or after the second, answer every list of
 /// calls alike, and then have the same bytes left.
-pub fn two_cuttings_of_three_bytes()
+fn two_cuttings_of_three_bytes()
     ensures { (u t v w : Unread) (questions : List Question) (answers others : List Answer) →
         IsUnread (flat_bytes ((1 ∷ []) ∷ (2 ∷ 3 ∷ []) ∷ [])) u →
         IsUnread (flat_bytes ((1 ∷ 2 ∷ []) ∷ (3 ∷ []) ∷ [])) t →
@@ -225,7 +225,7 @@ pub fn two_cuttings_of_three_bytes()
 }
 
 /// A reader that is asked for its counts has answers.
-pub fn counts_have_answers()
+fn counts_have_answers()
     ensures { (u : Unread) →
         (answers : List Answer) × ((v : Unread) × AreAnswers u (Available ∷ Taken ∷ []) answers v) }
 {
@@ -234,7 +234,7 @@ pub fn counts_have_answers()
 
 /// Of a reader that has five bytes left the next three are written to a journal, and two are left.
 /// Only memory for the journal can be wanting, and then both are as they were.
-pub fn three_bytes_to_a_journal(
+fn three_bytes_to_a_journal(
     reader: &mut Reader<'_>,
     journal: &mut Journal,
 ) -> result::Result<usize, Fault>
@@ -254,7 +254,7 @@ pub fn three_bytes_to_a_journal(
 }
 
 /// A writer over no segments needs no memory, and has no room.
-pub fn writer_of_no_room(alloc: Global) -> Writer
+fn writer_of_no_room(alloc: Global) -> Writer
     ensures left { result.left ≡ [] }
     ensures passed { result.passed ≡ [] }
     ensures lengths { result.lengths ≡ [] }
@@ -263,7 +263,7 @@ pub fn writer_of_no_room(alloc: Global) -> Writer
 }
 
 /// A writer over four segments, whose bytes can be counted, wants no memory.
-pub fn writer_over_four_segments(alloc: Global, segments: Vec<Vec<u8>>) -> Writer
+fn writer_over_four_segments(alloc: Global, segments: Vec<Vec<u8>>) -> Writer
     requires four { length segments.items ≡ 4 }
     requires counted { length (flat_bytes (contents segments.items)) < 2 ^ 64 }
     ensures left { result.left ≡ flat_bytes (contents segments.items) }
@@ -273,7 +273,7 @@ pub fn writer_over_four_segments(alloc: Global, segments: Vec<Vec<u8>>) -> Write
 }
 
 /// A write of four bytes where three fit writes the first three.
-pub fn write_of_what_fits(writer: &mut Writer, bytes: &[u8]) -> io::Result<usize>
+fn write_of_what_fits(writer: &mut Writer, bytes: &[u8]) -> io::Result<usize>
     requires room { length writer.old.left ≡ 3 }
     requires four { length bytes.now ≡ 4 }
     ensures count { result ≡ Ok 3 }
@@ -285,7 +285,7 @@ pub fn write_of_what_fits(writer: &mut Writer, bytes: &[u8]) -> io::Result<usize
 
 /// Of a room of twenty bytes sixteen are held and two written: two are left. A flush changes
 /// nothing of it.
-pub fn counts_after_a_hold(writer: &mut Writer, bytes: &[u8]) -> (usize, usize, usize)
+fn counts_after_a_hold(writer: &mut Writer, bytes: &[u8]) -> (usize, usize, usize)
     requires passed { writer.old.passed ≡ [] }
     requires room { length writer.old.left ≡ 20 }
     requires two { length bytes.now ≡ 2 }
@@ -304,7 +304,7 @@ pub fn counts_after_a_hold(writer: &mut Writer, bytes: &[u8]) -> (usize, usize, 
 }
 
 /// Where bytes don't fit, the error's kind is `WriteZero`, and those that fit are written.
-pub fn kind_of_a_long_write(writer: &mut Writer, bytes: &[u8]) -> Option<ErrorKind>
+fn kind_of_a_long_write(writer: &mut Writer, bytes: &[u8]) -> Option<ErrorKind>
     requires { length writer.old.left < length bytes.now }
     ensures kind { result ≡ Some ErrorKind.WriteZero }
     ensures wrote { writer.new.passed ≡
@@ -319,7 +319,7 @@ pub fn kind_of_a_long_write(writer: &mut Writer, bytes: &[u8]) -> Option<ErrorKi
 
 /// Where a number of four bytes doesn't fit into two, the error's kind is `WriteZero`, and its low
 /// two are written.
-pub fn kind_of_a_long_record(writer: &mut Writer, number: u32) -> Option<ErrorKind>
+fn kind_of_a_long_record(writer: &mut Writer, number: u32) -> Option<ErrorKind>
     requires { length writer.old.left ≡ 2 }
     ensures kind { result ≡ Some ErrorKind.WriteZero }
     ensures wrote { writer.new.passed ≡
@@ -332,7 +332,7 @@ pub fn kind_of_a_long_record(writer: &mut Writer, number: u32) -> Option<ErrorKi
 }
 
 /// A number of four bytes and one of two behind it take six bytes of the room.
-pub fn two_numbers(writer: &mut Writer, first: u32, second: u16)
+fn two_numbers(writer: &mut Writer, first: u32, second: u16)
     requires { 6 ≤ length writer.old.left }
     ensures wrote { writer.new.passed ≡ writer.old.passed ++
         (bytes_of (lone_number 4) first ++ bytes_of (lone_number 2) second) }
@@ -343,7 +343,7 @@ pub fn two_numbers(writer: &mut Writer, first: u32, second: u16)
 
 /// Where there is room for five of the six bytes, the error's kind is `WriteZero`, and these are
 /// written.
-pub fn kind_of_a_long_pair(writer: &mut Writer, first: u32, second: u16) -> Option<ErrorKind>
+fn kind_of_a_long_pair(writer: &mut Writer, first: u32, second: u16) -> Option<ErrorKind>
     requires { length writer.old.left ≡ 5 }
     ensures kind { result ≡ Some ErrorKind.WriteZero }
     ensures wrote { writer.new.passed ≡ writer.old.passed ++
@@ -357,7 +357,7 @@ pub fn kind_of_a_long_pair(writer: &mut Writer, first: u32, second: u16) -> Opti
 
 /// A number of four bytes and two bytes behind it take eight bytes of the room, of which the last
 /// two are zeros, whatever stood there.
-pub fn number_and_two_bytes(writer: &mut Writer, number: u32, bytes: &[u8])
+fn number_and_two_bytes(writer: &mut Writer, number: u32, bytes: &[u8])
     requires two { length bytes.now ≡ 2 }
     requires room { 8 ≤ length writer.old.left }
     ensures wrote { writer.new.passed ≡ writer.old.passed ++
@@ -368,7 +368,7 @@ pub fn number_and_two_bytes(writer: &mut Writer, number: u32, bytes: &[u8])
 }
 
 /// Zeros are read from a file into the next three of five bytes. The two behind them stay.
-pub fn three_zeros_from_a_file(writer: &mut Writer) -> usize
+fn three_zeros_from_a_file(writer: &mut Writer) -> usize
     requires { length writer.old.left ≡ 5 }
     ensures count { result ≡ 3 }
     ensures wrote { writer.new.passed ≡ writer.old.passed ++ 0 ∷ 0 ∷ 0 ∷ [] }
@@ -379,7 +379,7 @@ pub fn three_zeros_from_a_file(writer: &mut Writer) -> usize
 }
 
 /// A header is put before a body that is written first. Nothing is held then.
-pub fn header_before_body(writer: &mut Writer, header: &[u8], body: &[u8])
+fn header_before_body(writer: &mut Writer, header: &[u8], body: &[u8])
     requires { length header.now + length body.now ≤ length writer.old.left }
     ensures wrote { writer.new.passed ≡ writer.old.passed ++ header.now ++ body.now }
     ensures held { writer.new.held ≡ 0 }
@@ -390,7 +390,7 @@ pub fn header_before_body(writer: &mut Writer, header: &[u8], body: &[u8])
 }
 
 /// A second hold takes the place of the first: the last two of five bytes are held.
-pub fn second_hold(writer: &mut Writer) -> usize
+fn second_hold(writer: &mut Writer) -> usize
     requires { length writer.old.left ≡ 5 }
     ensures held { result ≡ 2 }
     ensures place { writer.new.held_at ≡ length writer.old.passed + 3 }
@@ -402,7 +402,7 @@ pub fn second_hold(writer: &mut Writer) -> usize
 }
 
 /// A hold of more than is left is refused by its length, and the writer is as it was.
-pub fn refused_hold(writer: &mut Writer) -> Option<Error>
+fn refused_hold(writer: &mut Writer) -> Option<Error>
     requires { length writer.old.left ≡ 5 }
     ensures refused { result ≡ Some (Error.SplitOutOfBounds 6) }
     ensures same { writer.new ≡ writer.old }
@@ -412,7 +412,7 @@ pub fn refused_hold(writer: &mut Writer) -> Option<Error>
 
 /// A new writer over two segments of four bytes is cut after six: its second segment has two bytes
 /// then, and the rest is one of two. Only memory can be wanting, and then the writer is as it was.
-pub fn split_inside_a_segment(writer: &mut Writer) -> Result<Writer>
+fn split_inside_a_segment(writer: &mut Writer) -> Result<Writer>
     requires passed { writer.old.passed ≡ [] }
     requires left { length writer.old.left ≡ 8 }
     requires lengths { writer.old.lengths ≡ 4 ∷ 4 ∷ [] }
@@ -427,7 +427,7 @@ pub fn split_inside_a_segment(writer: &mut Writer) -> Result<Writer>
 }
 
 /// A split past what is left is refused by its place, and the writer is as it was.
-pub fn refused_room_split(writer: &mut Writer) -> Option<Error>
+fn refused_room_split(writer: &mut Writer) -> Option<Error>
     requires { length writer.old.left ≡ 8 }
     ensures refused { result ≡ Some (Error.SplitOutOfBounds 9) }
     ensures same { writer.new ≡ writer.old }
@@ -438,7 +438,7 @@ pub fn refused_room_split(writer: &mut Writer) -> Option<Error>
 /// The segments that a writer gives back have the lengths of those that it was given, and what
 /// was written stands in place of the first bytes. Where they can be counted, only memory can be
 /// wanting.
-pub fn segments_with_what_was_written(
+fn segments_with_what_was_written(
     alloc: Global,
     segments: Vec<Vec<u8>>,
     bytes: &[u8],
@@ -460,7 +460,7 @@ pub fn segments_with_what_was_written(
 
 /// Where a place lies among segments of 8, 16, 18 and 64 bytes, found by their running totals, how
 /// many looks that took, and how many totals there are still.
-pub fn place_among_four_segments(at: usize) -> (usize, u32, usize)
+fn place_among_four_segments(at: usize) -> (usize, u32, usize)
     ensures begin { at ≡ 0 → result.0 ≡ 0 }
     ensures second { at ≡ 8 → result.0 ≡ 1 }
     ensures last { at ≡ 64 → result.0 ≡ 3 }
@@ -475,7 +475,7 @@ pub fn place_among_four_segments(at: usize) -> (usize, u32, usize)
 
 /// An empty segment is passed over: the place behind the first of segments of 8, 0 and 16 bytes lies
 /// in the third.
-pub fn place_past_an_empty_segment() -> usize
+fn place_past_an_empty_segment() -> usize
     ensures { result ≡ 2 }
 {
     find_segment(&mut Counted::new(&[8, 8, 24]), 8)

@@ -12,6 +12,6 @@ pub mod filesystem;
 pub mod fuse;
 pub mod laws;
 pub mod server;
-pub mod uses;
+mod uses;
 
 pub use vfs_grammar::{Error, Result};

@@ -1,7 +1,7 @@
 //! Small callers of the server, as examples. What each ensures follows from the contracts of what
 //! it calls, and from nothing else.
 
-pub mod session;
+mod session;
 
 ghost use Rattle.std.specs.Prelude.{◌≡◌, ◌≢◌, ◌≤◌, ◌-◌, ◌++◌, [], true, length, take, drop, Err, Some, IfSome, OnSome};
 ghost use Rattle.vfs_flags.specs.Opcode.{opcode_of};
@@ -29,7 +29,7 @@ const STATFS: [u8; 40] = [
 ];
 
 /// A writer over one segment of ninety-six zeros. `None` where there is no memory.
-pub fn empty_room(alloc: Global) -> Option<Writer>
+fn empty_room(alloc: Global) -> Option<Writer>
     ensures passed { IfSome result (λ w. w.passed ≡ []) }
     ensures room { IfSome result (λ w. length w.left ≡ 96) }
 {
@@ -47,7 +47,7 @@ pub fn empty_room(alloc: Global) -> Option<Writer>
 
 /// Makes a server over a file system that serves nothing, asks it how much it holds, and gives back
 /// the room of ninety-six bytes with the reply in it. `None` where there is no memory.
-pub fn ask_statfs(alloc: Global) -> Option<Vec<Vec<u8>>>
+fn ask_statfs(alloc: Global) -> Option<Vec<Vec<u8>>>
     ensures { IfSome result (λ room. flat_bytes (contents room.items) ≡ statfs_reply) }
 {
     let mut server = Server::new(Unserved {}, 4096);
@@ -73,7 +73,7 @@ const UNKNOWN: [u8; 40] = [
 /// Hands over a request of an unknown opcode. The sixteen bytes that say ENOSYS stand at the
 /// front of the room, and all other bytes are as they were; nothing is held; the file system
 /// wasn't called, and the server is as it was. `None` where there is no memory for the reader.
-pub fn unknown_opcode<F: FileSystem>(
+fn unknown_opcode<F: FileSystem>(
     alloc: Global,
     server: &mut Server<F>,
     w: &mut Writer,
@@ -94,7 +94,7 @@ pub fn unknown_opcode<F: FileSystem>(
 
 /// The same, by a caller that holds the first sixteen bytes of its room for itself: they stay as
 /// they were, the reply stands behind them, and nothing is held any more.
-pub fn behind_a_hold<F: FileSystem>(
+fn behind_a_hold<F: FileSystem>(
     alloc: Global,
     server: &mut Server<F>,
     w: &mut Writer,
@@ -110,7 +110,7 @@ pub fn behind_a_hold<F: FileSystem>(
 }
 
 /// A server for payloads of at most 8,192 bytes, and the limit that it tells.
-pub fn small_buffers<F>(fs: F) -> (Server<F>, u32)
+fn small_buffers<F>(fs: F) -> (Server<F>, u32)
     ensures limits { result.0.limits ≡ record { page_size = 4096; max_buffer = 8192 } }
     ensures told { result.1 ≡ 8192 }
 {
@@ -128,7 +128,7 @@ const LONG_STATFS: [u8; 40] = [
 /// Hands over a request that says to be one byte longer than a server for payloads of 8,192 bytes
 /// takes. The sixteen bytes that say ENOMEM stand at the front of the room, and all other bytes are
 /// as they were. `None` where there is no memory for the reader.
-pub fn len_above_a_chosen_limit(alloc: Global, w: &mut Writer) -> Option<usize>
+fn len_above_a_chosen_limit(alloc: Global, w: &mut Writer) -> Option<usize>
     requires { 16 ≤ length w.old.left }
     ensures outcome { IfSome result (λ n. n ≡ 16) }
     ensures bytes { OnSome result
@@ -152,7 +152,7 @@ const READ: [u8; 80] = [
 /// Hands over a READ with eight bytes of room, which is too small for a header: it is refused, the
 /// bytes of the room are as they were, and the file system wasn't called. `None` where there is no
 /// memory for the reader.
-pub fn read_into_eight_bytes<F: FileSystem>(
+fn read_into_eight_bytes<F: FileSystem>(
     alloc: Global,
     server: &mut Server<F>,
     w: &mut Writer,
@@ -171,7 +171,7 @@ pub fn read_into_eight_bytes<F: FileSystem>(
 
 /// Hands over any request: what the writer had passed stays, its room is as long as before, in
 /// segments of the same lengths, and nothing is held; and the limits of the server stay.
-pub fn any_request<F: FileSystem>(
+fn any_request<F: FileSystem>(
     alloc: Global,
     server: &mut Server<F>,
     r: Reader<'_>,
@@ -189,7 +189,7 @@ pub fn any_request<F: FileSystem>(
 /// Hands over a request without a tail and without pairs: of an unknown opcode, a GETATTR, a READ, a
 /// WRITE, a READDIR, an INIT, an INTERRUPT or a SETUPMAPPING. Whatever its bytes, the room and the
 /// cutting, it is never told that memory is wanted.
-pub fn without_tail_lacks_no_memory<F: FileSystem>(
+fn without_tail_lacks_no_memory<F: FileSystem>(
     alloc: Global,
     server: &mut Server<F>,
     r: Reader<'_>,
@@ -203,7 +203,7 @@ pub fn without_tail_lacks_no_memory<F: FileSystem>(
 
 /// Hands over a LOOKUP whose name lies in one segment: whatever its bytes and the room, it is never
 /// told that memory is wanted.
-pub fn lookup_in_one_segment<F: FileSystem>(
+fn lookup_in_one_segment<F: FileSystem>(
     alloc: Global,
     server: &mut Server<F>,
     r: Reader<'_>,
@@ -217,7 +217,7 @@ pub fn lookup_in_one_segment<F: FileSystem>(
 }
 
 /// The same of a RENAME whose two names lie in one segment.
-pub fn rename_in_one_segment<F: FileSystem>(
+fn rename_in_one_segment<F: FileSystem>(
     alloc: Global,
     server: &mut Server<F>,
     r: Reader<'_>,
@@ -231,7 +231,7 @@ pub fn rename_in_one_segment<F: FileSystem>(
 }
 
 /// The same of a SETXATTR whose name and value lie in one segment, where no options are agreed.
-pub fn setxattr_in_one_segment<F: FileSystem>(
+fn setxattr_in_one_segment<F: FileSystem>(
     alloc: Global,
     server: &mut Server<F>,
     r: Reader<'_>,
@@ -247,7 +247,7 @@ pub fn setxattr_in_one_segment<F: FileSystem>(
 
 /// The same of a MKDIR whose name lies in one segment, where no options are agreed: no context can
 /// stand behind it.
-pub fn mkdir_in_one_segment<F: FileSystem>(
+fn mkdir_in_one_segment<F: FileSystem>(
     alloc: Global,
     server: &mut Server<F>,
     r: Reader<'_>,
@@ -262,7 +262,7 @@ pub fn mkdir_in_one_segment<F: FileSystem>(
 }
 
 /// The same of a SYMLINK whose name and text lie in one segment.
-pub fn symlink_in_one_segment<F: FileSystem>(
+fn symlink_in_one_segment<F: FileSystem>(
     alloc: Global,
     server: &mut Server<F>,
     r: Reader<'_>,
@@ -288,7 +288,7 @@ const READDIR: [u8; 80] = [
 /// items are taken; where the file system says that node 1 is no directory, that is the reply; and
 /// where the directory ends at once, the reply has no record. `None` where there is no memory for
 /// the reader.
-pub fn read_one_record<F: FileSystem>(
+fn read_one_record<F: FileSystem>(
     alloc: Global,
     server: &mut Server<F>,
     w: &mut Writer,
@@ -308,7 +308,7 @@ pub fn read_one_record<F: FileSystem>(
 
 /// Asks a server over a file system that serves nothing for its state: there is none to carry over.
 /// Nothing is written, and the options and all else of the server stay.
-pub fn state_that_is_not_served<W: io::Write>(
+fn state_that_is_not_served<W: io::Write>(
     server: &mut Server<Unserved>,
     w: &mut W,
 ) -> std::result::Result<(), MigrateError>

@@ -2,8 +2,9 @@ use bitflags::Flags;
 use std::alloc::{AllocError, Global};
 use std::test::Fail;
 use std::time::Duration;
-use vfs_files::uses::there_and_back;
-use vfs_files::{CStr, CString, Context, Entry, Extensions, FileSystem, SecContext, Unserved};
+use vfs_files::{
+    CStr, CString, Context, Entry, Extensions, FileSystem, Number, SecContext, Unserved,
+};
 use vfs_flags::{Errno, Fault, FsOptions, GuestGid, GuestUid, OpenOptions};
 use vfs_wire::{Attr, EntryOut, InHeader, Statvfs64};
 
@@ -64,7 +65,7 @@ fn names_are_equal_where_their_bytes_are(rt: HostRuntime) {
 #[test]
 fn a_number_comes_back(rt: HostRuntime) {
     for n in [0, 1, 0x0123_4567_89ab_cdef, u64::MAX] {
-        assert_eq!(rt; there_and_back::<u64>(n), n);
+        assert_eq!(rt; u64::from_number(n).number(), n);
     }
 }
 

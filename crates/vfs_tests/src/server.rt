@@ -192,7 +192,7 @@ static TEXTS: [(Error, &str); 10] = [
     ),
     (
         Error::InvalidXattrSize((2, 1)),
-        "the size of an extended attribute and the length of its value differ: (2, 1)",
+        "the size of an extended attribute is said to be 2, and its value has 1 bytes",
     ),
     (
         Error::MissingExtension,

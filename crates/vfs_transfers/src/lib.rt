@@ -7,7 +7,7 @@
 #![tactic(auto)]
 
 mod reader;
-pub mod uses;
+mod uses;
 mod writer;
 
 pub use reader::ZcReader;

@@ -8,11 +8,7 @@ use vfs_flags::Fault;
 use vfs_views::PositionedFile;
 
 /// Where no byte is to be put the file isn't called.
-pub fn nothing_is_put<P: PositionedFile>(
-    w: &mut ZcWriter,
-    f: &mut P,
-    off: u64,
-) -> Result<usize, Fault>
+fn nothing_is_put<P: PositionedFile>(w: &mut ZcWriter, f: &mut P, off: u64) -> Result<usize, Fault>
     ensures answer { result ≡ Ok 0 }
     ensures file { f.new ≡ f.old }
 {
@@ -20,7 +16,7 @@ pub fn nothing_is_put<P: PositionedFile>(
 }
 
 /// Where no byte is to be taken the file isn't called.
-pub fn nothing_is_taken<P: PositionedFile>(
+fn nothing_is_taken<P: PositionedFile>(
     r: &mut ZcReader<'_>,
     f: &mut P,
     off: u64,
@@ -33,7 +29,7 @@ pub fn nothing_is_taken<P: PositionedFile>(
 
 /// What is told was put: the writer has passed so many bytes more, and no more than `count`, and
 /// has so much less room. A held place stays, and so do the segments' lengths.
-pub fn as_told_was_put<P: PositionedFile>(
+fn as_told_was_put<P: PositionedFile>(
     w: &mut ZcWriter,
     f: &mut P,
     count: usize,
@@ -50,7 +46,7 @@ pub fn as_told_was_put<P: PositionedFile>(
 
 /// What is told was taken: the reader has so many bytes less, and no more than `count`, and counts
 /// them.
-pub fn as_told_was_taken<P: PositionedFile>(
+fn as_told_was_taken<P: PositionedFile>(
     r: &mut ZcReader<'_>,
     f: &mut P,
     count: usize,

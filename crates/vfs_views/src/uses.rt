@@ -76,14 +76,14 @@ impl PositionedFile for Zeros {
 }
 
 /// The last piece of what is lent to be read. There always is one.
-pub fn last_piece<'s>(view: &Slices<'s>) -> &'s [u8]
+fn last_piece<'s>(view: &Slices<'s>) -> &'s [u8]
     ensures { result.now ≡ slice_index_or view.now (length view.now - 1) [] }
 {
     view.get(view.count() - 1)
 }
 
 /// How many bytes the last piece of the room that is lent has. There always is one.
-pub fn last_room(view: &mut SlicesMut<'_>) -> usize
+fn last_room(view: &mut SlicesMut<'_>) -> usize
     ensures { result ≡
         length (slice_index_or view.old.pieces (length view.old.pieces - 1) []) }
 {
@@ -93,11 +93,7 @@ pub fn last_room(view: &mut SlicesMut<'_>) -> usize
 
 /// Of two segments of two bytes the middle two bytes are written to the journal: the last of the
 /// first one and the first of the last one. Only memory can be wanting, and then none is written.
-pub fn middle_of_two_segments(
-    journal: &mut Journal,
-    first: &[u8],
-    last: &[u8],
-) -> Result<usize, Fault>
+fn middle_of_two_segments(journal: &mut Journal, first: &[u8], last: &[u8]) -> Result<usize, Fault>
     requires first_two { length first.now ≡ 2 }
     requires last_two { length last.now ≡ 2 }
     ensures count { IfOk result (λ n. n ≡ 2) }
@@ -121,7 +117,7 @@ pub fn middle_of_two_segments(
 
 /// Zeros are read into a span of segments. They stand in place of the bytes of the span, and of no
 /// others, and each segment keeps its length.
-pub fn zeros_in_a_span(alloc: Global, segments: Vec<Vec<u8>>, span: Span) -> Vec<Vec<u8>>
+fn zeros_in_a_span(alloc: Global, segments: Vec<Vec<u8>>, span: Span) -> Vec<Vec<u8>>
     requires { IsSpan span (contents segments.items) }
     ensures lengths { lengths_of (contents result.items) ≡ lengths_of (contents segments.items) }
     ensures bytes { flat_bytes (contents result.items) ≡

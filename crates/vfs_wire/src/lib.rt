@@ -24,7 +24,7 @@ mod numbers;
 pub mod parts;
 mod ranges;
 mod stat;
-pub mod uses;
+mod uses;
 mod xattrs;
 
 pub use attributes::{Attr, AttrOut, GetattrIn, SetattrIn};

@@ -12,12 +12,12 @@ use crate::{
 };
 use vfs_flags::{Errno, Fault, GuestGid, GuestUid};
 
-pub mod defaults;
-pub mod layouts;
+mod defaults;
+mod layouts;
 
 /// The bytes of a reply that refuses the request 9 with ENOSYS: the error is negated.
 #[tactic(auto, unfolding(crate::specs::Fields::little))]
-pub fn refusal() -> [u8; 16]
+fn refusal() -> [u8; 16]
     ensures { result ≡ (16 ∷ replicate 3 0) ++ (0xda ∷ replicate 3 0xff) ++ (9 ∷ replicate 7 0) }
 {
     let header = OutHeader {
@@ -32,7 +32,7 @@ pub fn refusal() -> [u8; 16]
 
 /// What these bytes say: the request 9 is refused with ENOSYS.
 #[tactic(auto, unfolding(crate::specs::Fields::number))]
-pub fn refused() -> OutHeader
+fn refused() -> OutHeader
     ensures { result ≡ record { len = 16; error = negsuc 37; unique = 9 } }
 {
     OutHeader::take(&[16, 0, 0, 0, 0xda, 0xff, 0xff, 0xff, 9, 0, 0, 0, 0, 0, 0, 0])
@@ -40,14 +40,14 @@ pub fn refused() -> OutHeader
 
 /// What the record of a FORGET says: 258 lookups are given back.
 #[tactic(auto, unfolding(crate::specs::Fields::number))]
-pub fn given_back() -> ForgetIn
+fn given_back() -> ForgetIn
     ensures { result ≡ record { nlookup = 258 } }
 {
     ForgetIn::take(&[2, 1, 0, 0, 0, 0, 0, 0])
 }
 
 /// A header that is written and read again.
-pub fn header_again(header: &InHeader) -> InHeader
+fn header_again(header: &InHeader) -> InHeader
     ensures { result ≡ header.now }
 {
     take_after_put::<InHeader>();
@@ -57,7 +57,7 @@ pub fn header_again(header: &InHeader) -> InHeader
 }
 
 /// Bytes that are read as a header and written again.
-pub fn bytes_again(bytes: &[u8], again: &mut [u8])
+fn bytes_again(bytes: &[u8], again: &mut [u8])
     requires read { length bytes.now ≡ 40 }
     requires written { length again.old ≡ 40 }
     ensures { again.new ≡ bytes.now }
@@ -68,7 +68,7 @@ pub fn bytes_again(bytes: &[u8], again: &mut [u8])
 
 /// The header of a reply that stands among other bytes: it has sixteen bytes, which are read as it
 /// again.
-pub fn reply_header_at(bytes: &[u8], at: usize) -> OutHeader
+fn reply_header_at(bytes: &[u8], at: usize) -> OutHeader
     requires { at + 16 ≤ length bytes.now }
     ensures size { length (bytes_of out_header result) ≡ 16 }
     ensures again { value_of out_header (bytes_of out_header result) ≡ result }
@@ -79,7 +79,7 @@ pub fn reply_header_at(bytes: &[u8], at: usize) -> OutHeader
 }
 
 /// The attributes of a file of the host, whose users and groups the guest numbers as the host does.
-pub fn as_on_the_host(st: Stat64) -> Result<Attr, Fault>
+fn as_on_the_host(st: Stat64) -> Result<Attr, Fault>
     ensures { result ≡ Ok (attr_of st 0 st.st_uid st.st_gid) }
 {
     Attr::try_from_stat64(
@@ -90,7 +90,7 @@ pub fn as_on_the_host(st: Stat64) -> Result<Attr, Fault>
 }
 
 /// The attributes of a submount, where all files are the root's.
-pub fn submount_of_root(st: Stat64) -> Result<Attr, Fault>
+fn submount_of_root(st: Stat64) -> Result<Attr, Fault>
     ensures { result ≡ Ok (attr_of st 1 0 0) }
 {
     Attr::try_with_flags(
@@ -103,7 +103,7 @@ pub fn submount_of_root(st: Stat64) -> Result<Attr, Fault>
 
 /// The attributes of a file whose numbers of links, devices and nanoseconds have more than 32 bits,
 /// and whose size and time of access are below 0.
-pub fn cut_attributes() -> Result<Attr, Fault>
+fn cut_attributes() -> Result<Attr, Fault>
     ensures { result ≡ Ok (record {
       ino = 9;
       size = 0xffffffffffffffff;
@@ -143,7 +143,7 @@ pub fn cut_attributes() -> Result<Attr, Fault>
 }
 
 /// A fault of the map of users is the answer, whatever the map of groups does.
-pub fn unmapped_user(st: Stat64) -> Result<Attr, Fault>
+fn unmapped_user(st: Stat64) -> Result<Attr, Fault>
     ensures { result ≡ Err (Some 34) }
 {
     Attr::try_from_stat64(
@@ -154,7 +154,7 @@ pub fn unmapped_user(st: Stat64) -> Result<Attr, Fault>
 }
 
 /// A fault of the map of groups is the answer where the map of users gave a user.
-pub fn unmapped_group(st: Stat64) -> Result<Attr, Fault>
+fn unmapped_group(st: Stat64) -> Result<Attr, Fault>
     ensures { result ≡ Err (Some 34) }
 {
     Attr::try_from_stat64(
@@ -165,7 +165,7 @@ pub fn unmapped_group(st: Stat64) -> Result<Attr, Fault>
 }
 
 /// The counts of an empty file system with names of up to 255 bytes.
-pub fn empty_file_system() -> Kstatfs
+fn empty_file_system() -> Kstatfs
     ensures { result ≡ record {
       blocks = 0;
       bfree = 0;
@@ -187,7 +187,7 @@ pub fn empty_file_system() -> Kstatfs
 }
 
 /// Counts of 64 bits are kept, and sizes are cut to 32.
-pub fn cut_counts() -> Kstatfs
+fn cut_counts() -> Kstatfs
     ensures { result ≡ record {
       blocks = 0x100000001;
       bfree = 2;
@@ -214,7 +214,7 @@ pub fn cut_counts() -> Kstatfs
 }
 
 /// A file of the host of which nothing is known.
-pub fn unknown_file() -> Stat64
+fn unknown_file() -> Stat64
     ensures { result ≡ record {
       st_ino = 0;
       st_nlink = 0;
@@ -237,7 +237,7 @@ pub fn unknown_file() -> Stat64
 }
 
 /// A file system of the host of which nothing is known.
-pub fn unknown_file_system() -> Statvfs64
+fn unknown_file_system() -> Statvfs64
     ensures { result ≡ record {
       f_bsize = 0;
       f_frsize = 0;

@@ -10,7 +10,7 @@ mod listings;
 mod locks;
 mod mappings;
 mod notifications;
-pub mod uses;
+mod uses;
 
 pub use devices::{BmapIn, BmapOut, IoctlIn, IoctlIovec, IoctlOut, PollIn, PollOut, SyncfsIn};
 pub use extensions::SecctxHeader;

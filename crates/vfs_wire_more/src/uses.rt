@@ -5,13 +5,13 @@ ghost use Rattle.std.specs.Prelude.{◌≡◌, [], ◌∷◌, ◌++◌, pos, neg
 use crate::{IoctlOut, NotifyInvalInodeOut};
 use vfs_wire::ByteValued;
 
-pub mod defaults;
-pub mod layouts;
+mod defaults;
+mod layouts;
 
 /// What these bytes of a notification say: the attributes of node 1 alone are out of date, for its
 /// place is below 0.
 #[tactic(auto, unfolding(vfs_wire::specs::Fields::number))]
-pub fn attributes_alone() -> NotifyInvalInodeOut
+fn attributes_alone() -> NotifyInvalInodeOut
     ensures { result ≡ record { ino = 1; off = negsuc 0; len = pos 0 } }
 {
     NotifyInvalInodeOut::take(&[
@@ -21,7 +21,7 @@ pub fn attributes_alone() -> NotifyInvalInodeOut
 
 /// The bytes of a reply to an IOCTL that answers -1.
 #[tactic(auto, unfolding(vfs_wire::specs::Fields::little))]
-pub fn refused_ioctl() -> [u8; 16]
+fn refused_ioctl() -> [u8; 16]
     ensures { result ≡ replicate 4 0xff ++ replicate 12 0 }
 {
     let reply = IoctlOut {

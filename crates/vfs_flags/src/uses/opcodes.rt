@@ -6,63 +6,63 @@ ghost use Rattle.vfs_flags.specs.Opcode.{number_of};
 use crate::{ExtType, NotifyOpcode, Opcode};
 
 /// 1 is a LOOKUP.
-pub fn first_opcode() -> Result<Opcode, ()>
+fn first_opcode() -> Result<Opcode, ()>
     ensures { result ≡ Ok Opcode.Lookup }
 {
     Opcode::try_from(1)
 }
 
 /// 7 is not the number of a request.
-pub fn opcode_7() -> Result<Opcode, ()>
+fn opcode_7() -> Result<Opcode, ()>
     ensures { IsErr result }
 {
     Opcode::try_from(7)
 }
 
 /// 51 is a TMPFILE.
-pub fn last_opcode() -> Result<Opcode, ()>
+fn last_opcode() -> Result<Opcode, ()>
     ensures { result ≡ Ok Opcode.TmpFile }
 {
     Opcode::try_from(51)
 }
 
 /// 52 is not the number of a request.
-pub fn opcode_52() -> Result<Opcode, ()>
+fn opcode_52() -> Result<Opcode, ()>
     ensures { IsErr result }
 {
     Opcode::try_from(52)
 }
 
 /// 31 is so many security contexts.
-pub fn most_contexts() -> Result<ExtType, ()>
+fn most_contexts() -> Result<ExtType, ()>
     ensures { result ≡ Ok (ExtType.SecCtx 31) }
 {
     ExtType::try_from(31)
 }
 
 /// 32 is groups.
-pub fn groups() -> Result<ExtType, ()>
+fn groups() -> Result<ExtType, ()>
     ensures { result ≡ Ok ExtType.SupGroups }
 {
     ExtType::try_from(32)
 }
 
 /// 33 is no extension.
-pub fn extension_33() -> Result<ExtType, ()>
+fn extension_33() -> Result<ExtType, ()>
     ensures { IsErr result }
 {
     ExtType::try_from(33)
 }
 
 /// The number of a request.
-pub fn number(opcode: Opcode) -> u32
+fn number(opcode: Opcode) -> u32
     ensures { result ≡ number_of opcode }
 {
     opcode as u32
 }
 
 /// The numbers of the notifications, and the end of their list.
-pub fn notifications() -> [u32; 7]
+fn notifications() -> [u32; 7]
     ensures { result ≡ 1 ∷ 2 ∷ 3 ∷ 4 ∷ 5 ∷ 6 ∷ 7 ∷ [] }
 {
     [

@@ -15,14 +15,14 @@ use std::cmp::Ordering;
 use std::hash::{DefaultHasher, Hash, Hasher};
 
 /// The order of two sets of options.
-pub fn order_of_options(a: FsOptions, b: FsOptions) -> Ordering
+fn order_of_options(a: FsOptions, b: FsOptions) -> Ordering
     ensures { result ≡ nat_cmp (fs_options_bits a) (fs_options_bits b) }
 {
     a.cmp(&b)
 }
 
 /// The hash of a set of options.
-pub fn hash_of_options(a: FsOptions) -> u64
+fn hash_of_options(a: FsOptions) -> u64
     ensures { result ≡ sip.finish (fold sip.write sip.initial (fed.u64 (fs_options_bits a))) }
 {
     let mut state = DefaultHasher::new();
@@ -31,7 +31,7 @@ pub fn hash_of_options(a: FsOptions) -> u64
 }
 
 /// The hash of one set of each other kind, which are hashed one after another.
-pub fn hash_of_others(
+fn hash_of_others(
     valid: SetattrValid,
     opened: OpenOptions,
     ioctl: IoctlFlags,
@@ -56,21 +56,21 @@ pub fn hash_of_others(
 }
 
 /// The options of either set.
-pub fn either_options(a: FsOptions, b: FsOptions) -> FsOptions
+fn either_options(a: FsOptions, b: FsOptions) -> FsOptions
     ensures { fs_options_bits result ≡ bit_or (fs_options_bits a) (fs_options_bits b) }
 {
     a | b
 }
 
 /// The options of both sets.
-pub fn both_options(a: FsOptions, b: FsOptions) -> FsOptions
+fn both_options(a: FsOptions, b: FsOptions) -> FsOptions
     ensures { fs_options_bits result ≡ bit_and (fs_options_bits a) (fs_options_bits b) }
 {
     a & b
 }
 
 /// Whether a set has all options of another.
-pub fn has_options(a: FsOptions, b: FsOptions) -> bool
+fn has_options(a: FsOptions, b: FsOptions) -> bool
     ensures { IsTrue result
         ↔ (bit_and (fs_options_bits a) (fs_options_bits b) ≡ fs_options_bits b) }
 {
@@ -78,21 +78,21 @@ pub fn has_options(a: FsOptions, b: FsOptions) -> bool
 }
 
 /// No option.
-pub fn no_option() -> FsOptions
+fn no_option() -> FsOptions
     ensures { fs_options_bits result ≡ 0 }
 {
     FsOptions::empty()
 }
 
 /// Whether two sets of options of INIT are the same.
-pub fn same_fs_options(a: FsOptions, b: FsOptions) -> bool
+fn same_fs_options(a: FsOptions, b: FsOptions) -> bool
     ensures { IsTrue result ↔ (fs_options_bits a ≡ fs_options_bits b) }
 {
     a == b
 }
 
 /// Whether one set of options of INIT has lower bits than another.
-pub fn lower_fs_options(a: FsOptions, b: FsOptions) -> bool
+fn lower_fs_options(a: FsOptions, b: FsOptions) -> bool
     ensures { IsTrue result ↔ (fs_options_bits a < fs_options_bits b) }
 {
     a < b
@@ -100,35 +100,35 @@ pub fn lower_fs_options(a: FsOptions, b: FsOptions) -> bool
 
 /// The options of INIT among these bits.
 #[tactic(auto, unfolding(bitflags::proofs::OnLiterals::bitflags_on_literals))]
-pub fn fs_options_among(bits: u64) -> FsOptions
+fn fs_options_among(bits: u64) -> FsOptions
     ensures { fs_options_bits result ≡ bit_and bits known_fs_options }
 {
     FsOptions::from_bits_truncate(bits)
 }
 
 /// Whether two sets of attributes that a SETATTR changes are the same.
-pub fn same_setattr_valid(a: SetattrValid, b: SetattrValid) -> bool
+fn same_setattr_valid(a: SetattrValid, b: SetattrValid) -> bool
     ensures { IsTrue result ↔ (setattr_valid_bits a ≡ setattr_valid_bits b) }
 {
     a == b
 }
 
 /// Whether one set of attributes that a SETATTR changes has lower bits than another.
-pub fn lower_setattr_valid(a: SetattrValid, b: SetattrValid) -> bool
+fn lower_setattr_valid(a: SetattrValid, b: SetattrValid) -> bool
     ensures { IsTrue result ↔ (setattr_valid_bits a < setattr_valid_bits b) }
 {
     a < b
 }
 
 /// The order of two sets of attributes that a SETATTR changes.
-pub fn order_of_setattr_valid(a: SetattrValid, b: SetattrValid) -> Ordering
+fn order_of_setattr_valid(a: SetattrValid, b: SetattrValid) -> Ordering
     ensures { result ≡ nat_cmp (setattr_valid_bits a) (setattr_valid_bits b) }
 {
     a.cmp(&b)
 }
 
 /// The union of two sets of attributes that a SETATTR changes, and their intersection.
-pub fn joined_setattr_valid(a: SetattrValid, b: SetattrValid) -> (SetattrValid, SetattrValid)
+fn joined_setattr_valid(a: SetattrValid, b: SetattrValid) -> (SetattrValid, SetattrValid)
     ensures either { setattr_valid_bits result.0
         ≡ bit_or (setattr_valid_bits a) (setattr_valid_bits b) }
     ensures both { setattr_valid_bits result.1
@@ -139,35 +139,35 @@ pub fn joined_setattr_valid(a: SetattrValid, b: SetattrValid) -> (SetattrValid, 
 
 /// The attributes that a SETATTR changes among these bits.
 #[tactic(auto, unfolding(bitflags::proofs::OnLiterals::bitflags_on_literals))]
-pub fn setattr_valid_among(bits: u32) -> SetattrValid
+fn setattr_valid_among(bits: u32) -> SetattrValid
     ensures { setattr_valid_bits result ≡ bit_and bits known_setattr_valid }
 {
     SetattrValid::from_bits_truncate(bits)
 }
 
 /// Whether two sets of properties of an open file are the same.
-pub fn same_open_options(a: OpenOptions, b: OpenOptions) -> bool
+fn same_open_options(a: OpenOptions, b: OpenOptions) -> bool
     ensures { IsTrue result ↔ (open_options_bits a ≡ open_options_bits b) }
 {
     a == b
 }
 
 /// Whether one set of properties of an open file has lower bits than another.
-pub fn lower_open_options(a: OpenOptions, b: OpenOptions) -> bool
+fn lower_open_options(a: OpenOptions, b: OpenOptions) -> bool
     ensures { IsTrue result ↔ (open_options_bits a < open_options_bits b) }
 {
     a < b
 }
 
 /// The order of two sets of properties of an open file.
-pub fn order_of_open_options(a: OpenOptions, b: OpenOptions) -> Ordering
+fn order_of_open_options(a: OpenOptions, b: OpenOptions) -> Ordering
     ensures { result ≡ nat_cmp (open_options_bits a) (open_options_bits b) }
 {
     a.cmp(&b)
 }
 
 /// The union of two sets of properties of an open file, and their intersection.
-pub fn joined_open_options(a: OpenOptions, b: OpenOptions) -> (OpenOptions, OpenOptions)
+fn joined_open_options(a: OpenOptions, b: OpenOptions) -> (OpenOptions, OpenOptions)
     ensures either { open_options_bits result.0
         ≡ bit_or (open_options_bits a) (open_options_bits b) }
     ensures both { open_options_bits result.1
@@ -178,35 +178,35 @@ pub fn joined_open_options(a: OpenOptions, b: OpenOptions) -> (OpenOptions, Open
 
 /// The properties of an open file among these bits.
 #[tactic(auto, unfolding(bitflags::proofs::OnLiterals::bitflags_on_literals))]
-pub fn open_options_among(bits: u32) -> OpenOptions
+fn open_options_among(bits: u32) -> OpenOptions
     ensures { open_options_bits result ≡ bit_and bits known_open_options }
 {
     OpenOptions::from_bits_truncate(bits)
 }
 
 /// Whether two sets of flags of an IOCTL are the same.
-pub fn same_ioctl_flags(a: IoctlFlags, b: IoctlFlags) -> bool
+fn same_ioctl_flags(a: IoctlFlags, b: IoctlFlags) -> bool
     ensures { IsTrue result ↔ (ioctl_flags_bits a ≡ ioctl_flags_bits b) }
 {
     a == b
 }
 
 /// Whether one set of flags of an IOCTL has lower bits than another.
-pub fn lower_ioctl_flags(a: IoctlFlags, b: IoctlFlags) -> bool
+fn lower_ioctl_flags(a: IoctlFlags, b: IoctlFlags) -> bool
     ensures { IsTrue result ↔ (ioctl_flags_bits a < ioctl_flags_bits b) }
 {
     a < b
 }
 
 /// The order of two sets of flags of an IOCTL.
-pub fn order_of_ioctl_flags(a: IoctlFlags, b: IoctlFlags) -> Ordering
+fn order_of_ioctl_flags(a: IoctlFlags, b: IoctlFlags) -> Ordering
     ensures { result ≡ nat_cmp (ioctl_flags_bits a) (ioctl_flags_bits b) }
 {
     a.cmp(&b)
 }
 
 /// The union of two sets of flags of an IOCTL, and their intersection.
-pub fn joined_ioctl_flags(a: IoctlFlags, b: IoctlFlags) -> (IoctlFlags, IoctlFlags)
+fn joined_ioctl_flags(a: IoctlFlags, b: IoctlFlags) -> (IoctlFlags, IoctlFlags)
     ensures either { ioctl_flags_bits result.0
         ≡ bit_or (ioctl_flags_bits a) (ioctl_flags_bits b) }
     ensures both { ioctl_flags_bits result.1
@@ -217,35 +217,35 @@ pub fn joined_ioctl_flags(a: IoctlFlags, b: IoctlFlags) -> (IoctlFlags, IoctlFla
 
 /// The flags of an IOCTL among these bits.
 #[tactic(auto, unfolding(bitflags::proofs::OnLiterals::bitflags_on_literals))]
-pub fn ioctl_flags_among(bits: u32) -> IoctlFlags
+fn ioctl_flags_among(bits: u32) -> IoctlFlags
     ensures { ioctl_flags_bits result ≡ bit_and bits known_ioctl_flags }
 {
     IoctlFlags::from_bits_truncate(bits)
 }
 
 /// Whether two sets of further flags of a SETXATTR are the same.
-pub fn same_setxattr_flags(a: SetxattrFlags, b: SetxattrFlags) -> bool
+fn same_setxattr_flags(a: SetxattrFlags, b: SetxattrFlags) -> bool
     ensures { IsTrue result ↔ (setxattr_flags_bits a ≡ setxattr_flags_bits b) }
 {
     a == b
 }
 
 /// Whether one set of further flags of a SETXATTR has lower bits than another.
-pub fn lower_setxattr_flags(a: SetxattrFlags, b: SetxattrFlags) -> bool
+fn lower_setxattr_flags(a: SetxattrFlags, b: SetxattrFlags) -> bool
     ensures { IsTrue result ↔ (setxattr_flags_bits a < setxattr_flags_bits b) }
 {
     a < b
 }
 
 /// The order of two sets of further flags of a SETXATTR.
-pub fn order_of_setxattr_flags(a: SetxattrFlags, b: SetxattrFlags) -> Ordering
+fn order_of_setxattr_flags(a: SetxattrFlags, b: SetxattrFlags) -> Ordering
     ensures { result ≡ nat_cmp (setxattr_flags_bits a) (setxattr_flags_bits b) }
 {
     a.cmp(&b)
 }
 
 /// The union of two sets of further flags of a SETXATTR, and their intersection.
-pub fn joined_setxattr_flags(a: SetxattrFlags, b: SetxattrFlags) -> (SetxattrFlags, SetxattrFlags)
+fn joined_setxattr_flags(a: SetxattrFlags, b: SetxattrFlags) -> (SetxattrFlags, SetxattrFlags)
     ensures either { setxattr_flags_bits result.0
         ≡ bit_or (setxattr_flags_bits a) (setxattr_flags_bits b) }
     ensures both { setxattr_flags_bits result.1
@@ -256,14 +256,14 @@ pub fn joined_setxattr_flags(a: SetxattrFlags, b: SetxattrFlags) -> (SetxattrFla
 
 /// The further flags of a SETXATTR among these bits.
 #[tactic(auto, unfolding(bitflags::proofs::OnLiterals::bitflags_on_literals))]
-pub fn setxattr_flags_among(bits: u32) -> SetxattrFlags
+fn setxattr_flags_among(bits: u32) -> SetxattrFlags
     ensures { setxattr_flags_bits result ≡ bit_and bits known_setxattr_flags }
 {
     SetxattrFlags::from_bits_truncate(bits)
 }
 
 /// Whether two sets of flags of the notice that a name is out of date are the same.
-pub fn same_notify_inval_entry_out_flags(
+fn same_notify_inval_entry_out_flags(
     a: NotifyInvalEntryOutFlags,
     b: NotifyInvalEntryOutFlags,
 ) -> bool
@@ -274,7 +274,7 @@ pub fn same_notify_inval_entry_out_flags(
 }
 
 /// Whether one set of flags of the notice that a name is out of date has lower bits than another.
-pub fn lower_notify_inval_entry_out_flags(
+fn lower_notify_inval_entry_out_flags(
     a: NotifyInvalEntryOutFlags,
     b: NotifyInvalEntryOutFlags,
 ) -> bool
@@ -285,7 +285,7 @@ pub fn lower_notify_inval_entry_out_flags(
 }
 
 /// The order of two sets of flags of the notice that a name is out of date.
-pub fn order_of_notify_inval_entry_out_flags(
+fn order_of_notify_inval_entry_out_flags(
     a: NotifyInvalEntryOutFlags,
     b: NotifyInvalEntryOutFlags,
 ) -> Ordering
@@ -296,7 +296,7 @@ pub fn order_of_notify_inval_entry_out_flags(
 }
 
 /// The union of two sets of flags of the notice that a name is out of date, and their intersection.
-pub fn joined_notify_inval_entry_out_flags(
+fn joined_notify_inval_entry_out_flags(
     a: NotifyInvalEntryOutFlags,
     b: NotifyInvalEntryOutFlags,
 ) -> (NotifyInvalEntryOutFlags, NotifyInvalEntryOutFlags)
@@ -310,7 +310,7 @@ pub fn joined_notify_inval_entry_out_flags(
 
 /// The flags of the notice that a name is out of date among these bits.
 #[tactic(auto, unfolding(bitflags::proofs::OnLiterals::bitflags_on_literals))]
-pub fn notify_inval_entry_out_flags_among(bits: u32) -> NotifyInvalEntryOutFlags
+fn notify_inval_entry_out_flags_among(bits: u32) -> NotifyInvalEntryOutFlags
     ensures { notify_inval_entry_out_flags_bits result
         ≡ bit_and bits known_notify_inval_entry_out_flags }
 {
@@ -318,28 +318,28 @@ pub fn notify_inval_entry_out_flags_among(bits: u32) -> NotifyInvalEntryOutFlags
 }
 
 /// Whether two sets of rights of a mapping are the same.
-pub fn same_setupmapping_flags(a: SetupmappingFlags, b: SetupmappingFlags) -> bool
+fn same_setupmapping_flags(a: SetupmappingFlags, b: SetupmappingFlags) -> bool
     ensures { IsTrue result ↔ (setupmapping_flags_bits a ≡ setupmapping_flags_bits b) }
 {
     a == b
 }
 
 /// Whether one set of rights of a mapping has lower bits than another.
-pub fn lower_setupmapping_flags(a: SetupmappingFlags, b: SetupmappingFlags) -> bool
+fn lower_setupmapping_flags(a: SetupmappingFlags, b: SetupmappingFlags) -> bool
     ensures { IsTrue result ↔ (setupmapping_flags_bits a < setupmapping_flags_bits b) }
 {
     a < b
 }
 
 /// The order of two sets of rights of a mapping.
-pub fn order_of_setupmapping_flags(a: SetupmappingFlags, b: SetupmappingFlags) -> Ordering
+fn order_of_setupmapping_flags(a: SetupmappingFlags, b: SetupmappingFlags) -> Ordering
     ensures { result ≡ nat_cmp (setupmapping_flags_bits a) (setupmapping_flags_bits b) }
 {
     a.cmp(&b)
 }
 
 /// The union of two sets of rights of a mapping, and their intersection.
-pub fn joined_setupmapping_flags(
+fn joined_setupmapping_flags(
     a: SetupmappingFlags,
     b: SetupmappingFlags,
 ) -> (SetupmappingFlags, SetupmappingFlags)
@@ -353,7 +353,7 @@ pub fn joined_setupmapping_flags(
 
 /// The rights of a mapping among these bits.
 #[tactic(auto, unfolding(bitflags::proofs::OnLiterals::bitflags_on_literals))]
-pub fn setupmapping_flags_among(bits: u64) -> SetupmappingFlags
+fn setupmapping_flags_among(bits: u64) -> SetupmappingFlags
     ensures { setupmapping_flags_bits result ≡ bit_and bits known_setupmapping_flags }
 {
     SetupmappingFlags::from_bits_truncate(bits)

@@ -15,7 +15,7 @@ use crate::books::{each_turn_balances, turns_keep_books};
 use crate::turns::destroy_leaves_no_options;
 
 /// A LOOKUP whose entry of node 5 is answered in 144 bytes delivers node 5 once.
-pub fn a_whole_reply_delivers_its_entry()
+fn a_whole_reply_delivers_its_entry()
     ensures { (limits : Limits) (options after : ℕ) (t : Turn) (ctx : Context) (parent : ℕ)
         (name : List ℕ) (entry : Entry) → IsTurn limits options t after →
         t.events ≡ Called (Lookup ctx parent name) (Found entry) ∷ [] → entry.inode ≡ 5 →
@@ -26,7 +26,7 @@ pub fn a_whole_reply_delivers_its_entry()
 
 /// A reply of 144 bytes to a SYMLINK, MKNOD, MKDIR or LINK that has an entry of node 5 was answered
 /// by the file system: it counted the node.
-pub fn a_replied_entry_was_answered()
+fn a_replied_entry_was_answered()
     ensures symlink { (limits : Limits) (options after : ℕ) (t : Turn) (behind : List ℕ) →
         IsTurn limits options t after → opcode_in t.request ≡ Some Opcode.Symlink → t.outcome ≡ Ok 144 →
         t.room_after ≡ reply_of_node_5 ++ behind → 1 ≤ answered 5 t.events }
@@ -46,7 +46,7 @@ pub fn a_replied_entry_was_answered()
 /// A LOOKUP whose entry of node 5 was replied, and then a BATCH_FORGET of node 5 by 1 and of node 7 by
 /// 3: as many of node 7 are sent as the bytes say, beyond what is answered meanwhile; and no count of
 /// node 5 falls below zero, in the middle of a request too.
-pub fn what_was_replied_is_given_back()
+fn what_was_replied_is_given_back()
     ensures sent { (limits : Limits) (options after : ℕ) (gave : Turn) →
         IsTurn limits options gave after → gave.request ≡ batch_of_two → gave.outcome ≡ Ok 0 →
         sent 7 gave.events ≡ answered 7 gave.events + 3 }
@@ -62,7 +62,7 @@ pub fn what_was_replied_is_given_back()
 }
 
 /// A session of a DESTROY alone leaves no options.
-pub fn a_session_of_a_destroy()
+fn a_session_of_a_destroy()
     ensures { (limits : Limits) (options after : ℕ) (t : Turn) (answer : Answer) →
         AreTurns limits options (t ∷ []) after → t.events ≡ Called Destroy answer ∷ [] →
         after ≡ 0 }
@@ -72,7 +72,7 @@ pub fn a_session_of_a_destroy()
 
 /// A client that has given back all that was delivered to it leaves the file system nothing of a
 /// node to wait for: it was sent as many forgets as it answered entries, whatever the rooms were.
-pub fn all_is_sent_back()
+fn all_is_sent_back()
     ensures { (limits : Limits) (options after n : ℕ) (turns : List Turn) → n ≢ 0 →
         AreTurns limits options turns after →
         sum_by (accepted n) turns ≡ sum_by (delivered n) turns →
@@ -82,7 +82,7 @@ pub fn all_is_sent_back()
 }
 
 /// No session of a client that gives back no more than it had begins with a forget.
-pub fn no_session_begins_with_a_forget()
+fn no_session_begins_with_a_forget()
     ensures { (limits : Limits) (options after : ℕ) (turns : List Turn) (ctx : Context)
         (events : List Event) → AreTurns limits options turns after → GivesBackWithin 5 turns →
         events_in turns ≢ Called (Forget ctx 5 1) Done ∷ events }

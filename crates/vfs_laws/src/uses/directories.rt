@@ -14,7 +14,7 @@ use crate::turns::directories_are_read;
 
 /// A READDIR of 64 bytes, where there is room for them and a header, of a directory whose one item
 /// is the file `a`: the reply has 48 bytes, says so, and behind its header is the record of `a`.
-pub fn a_reply_of_one_file()
+fn a_reply_of_one_file()
     ensures { (options after : ℕ) (t : Turn) → IsTurn (default_limits 4096) options t after →
         t.request ≡ request_for_data 28 64 → length t.room ≡ 80 →
         t.events ≡ Opened (Readdir nobody 1 0 64 0) ∷ Taken (Some file_a) ∷ Taken Nothing ∷ [] →
@@ -24,7 +24,7 @@ pub fn a_reply_of_one_file()
 }
 
 /// Where `readdir` fails with EACCES, the reply to the same READDIR is that, in 16 bytes.
-pub fn a_reply_of_a_refusal()
+fn a_reply_of_a_refusal()
     ensures { (options after : ℕ) (t : Turn) → IsTurn (default_limits 4096) options t after →
         t.request ≡ request_for_data 28 64 → length t.room ≡ 80 →
         t.events ≡ Called (Readdir nobody 1 0 64 0) (Failed (Some 13)) ∷ [] →
@@ -35,7 +35,7 @@ pub fn a_reply_of_a_refusal()
 
 /// Where fewer bytes are asked for than the shortest record has, at most one item is taken: of a
 /// READDIR of 23 bytes, and of a READDIRPLUS of 151, which looks the item up.
-pub fn one_item_is_taken()
+fn one_item_is_taken()
     ensures plain { (options after : ℕ) (t : Turn) (first second : Option Item)
         (events : List Event) → IsTurn (default_limits 4096) options t after →
         t.request ≡ request_for_data 28 23 → length t.room ≡ 39 →

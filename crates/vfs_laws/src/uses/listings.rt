@@ -15,7 +15,7 @@ ghost use Rattle.vfs_grammar.specs.Samples.{record_of_dot, record_of_a, entry_of
 use crate::listings::{directories_are_whole, nodes_are_found, takings_are_bounded};
 
 /// A READDIR of 240 bytes takes at most eleven items, also from a directory that never ends.
-pub fn endless_directory_is_left()
+fn endless_directory_is_left()
     ensures { (ctx : Context) (parent room : ℕ) (events : List Event) (body : List ℕ)
         (result : Outcome ℕ (Option ℕ)) →
         IsListing false ctx parent 240 room events body result → length (takings events) ≤ 11 }
@@ -26,7 +26,7 @@ pub fn endless_directory_is_left()
 /// A READDIR of a directory whose one item is the file `a`, where there is room for as much as was
 /// asked for: the body is the 32 bytes of its record, that is how many are answered, and no fewer
 /// were asked for.
-pub fn a_directory_of_one_file()
+fn a_directory_of_one_file()
     ensures { (ctx : Context) (parent size room : ℕ) (body : List ℕ)
         (result : Outcome ℕ (Option ℕ)) →
         IsListing false ctx parent size room (Taken (Some file_a) ∷ Taken Nothing ∷ []) body result →
@@ -37,7 +37,7 @@ pub fn a_directory_of_one_file()
 
 /// A READDIRPLUS of a directory with `.` and the file `a`, which is looked up: the body is the 160
 /// bytes of `.`, with zeros but for its inode and its mode, and the record of `a` with the entry.
-pub fn a_directory_with_entries()
+fn a_directory_with_entries()
     ensures { (ctx : Context) (parent size room : ℕ) (entry : Entry) (body : List ℕ)
         (result : Outcome ℕ (Option ℕ)) →
         IsListing true ctx parent size room
@@ -52,7 +52,7 @@ pub fn a_directory_with_entries()
 
 /// Where READDIRPLUS gives back a node right after it took `.`, that is node 0, nothing was put, and
 /// less than the 160 bytes of its record were asked for.
-pub fn a_dot_that_does_not_fit()
+fn a_dot_that_does_not_fit()
     ensures { (ctx : Context) (parent size room n : ℕ) (body : List ℕ)
         (result : Outcome ℕ (Option ℕ)) →
         IsListing true ctx parent size room
@@ -63,7 +63,7 @@ pub fn a_dot_that_does_not_fit()
 }
 
 /// Where `readdir` fails with EACCES, that is the answer, and there are no records.
-pub fn a_directory_that_is_refused()
+fn a_directory_that_is_refused()
     ensures { (plus : Bool) (ctx : Context) (parent handle size offset room : ℕ) (body : List ℕ)
         (result : Outcome ℕ (Option ℕ)) →
         IsDirectory plus ctx parent handle size offset room
@@ -73,7 +73,7 @@ pub fn a_directory_that_is_refused()
 
 /// Where the lookup of the first item fails with ENOENT, that is the answer of READDIRPLUS, and
 /// there are no records.
-pub fn a_first_lookup_that_fails()
+fn a_first_lookup_that_fails()
     ensures { (ctx : Context) (parent size room : ℕ) (body : List ℕ)
         (result : Outcome ℕ (Option ℕ)) →
         IsListing true ctx parent size room
@@ -83,7 +83,7 @@ pub fn a_first_lookup_that_fails()
 {}
 
 /// The records of two entries, one behind the other, hold their nodes in order.
-pub fn nodes_of_two_records()
+fn nodes_of_two_records()
     ensures { (first second : Entry) → FitsEntry first → FitsEntry second →
         nodes_in (record_bytes (Some first) file_a ++ record_bytes (Some second) root_dot)
         ≡ first.inode ∷ second.inode ∷ [] }

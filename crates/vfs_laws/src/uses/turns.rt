@@ -28,7 +28,7 @@ use crate::turns::{
 };
 
 /// Memory is never wanted for a GETATTR, whatever its bytes and its room: it has no tail.
-pub fn getattr_wants_no_memory()
+fn getattr_wants_no_memory()
     ensures { (limits : Limits) (options room : ℕ) (request : List ℕ) →
         opcode_of (header_of request).opcode ≡ Some Opcode.Getattr →
         ¬ (WantsMemory limits options room request) }
@@ -38,7 +38,7 @@ pub fn getattr_wants_no_memory()
 /// shorter than a header, or whose `len` is above the limit, or that is shorter than its `len`
 /// says, as a LOOKUP whose name lacks a byte; nor for a BATCH_FORGET that lacks some of its pairs,
 /// or whose pairs are above the limit.
-pub fn broken_requests_want_no_memory()
+fn broken_requests_want_no_memory()
     ensures short { (limits : Limits) (options room : ℕ) (request : List ℕ) →
         length request < 40 → ¬ (WantsMemory limits options room request) }
     ensures above { (limits : Limits) (options room : ℕ) (request : List ℕ) →
@@ -58,7 +58,7 @@ pub fn broken_requests_want_no_memory()
 
 /// The four bytes at the front of a reply are the answer, and its last eight of a header are the
 /// request's `unique`.
-pub fn front_of_a_reply()
+fn front_of_a_reply()
     ensures len { (limits : Limits) (options after n : ℕ) (t : Turn) →
         IsTurn limits options t after → t.outcome ≡ Ok n → 0 < n →
         take 4 t.room_after ≡ little 4 n }
@@ -71,7 +71,7 @@ pub fn front_of_a_reply()
 
 /// A READ of three bytes is answered by at most nineteen, a READDIR of 96 by at most 112, and a
 /// READDIRPLUS of 200 by at most 216: the data, and sixteen bytes of a header.
-pub fn lengths_of_data()
+fn lengths_of_data()
     ensures read { (limits : Limits) (options after n : ℕ) (t : Turn) →
         IsTurn limits options t after → t.request ≡ request_for_data 15 3 → t.outcome ≡ Ok n →
         n ≤ 19 }
@@ -88,7 +88,7 @@ pub fn lengths_of_data()
 /// After `EncodeMessage`: the room of a LOOKUP that was answered by the entry of node 5 holds the
 /// beginning of these 144 bytes, as a room of a hundred bytes the first hundred. With eight bytes
 /// of room a READ made no call, and changed nothing; with twenty it isn't so refused.
-pub fn rooms_that_are_too_small()
+fn rooms_that_are_too_small()
     ensures lookup { (options after : ℕ) (call : Call) (back : List Event) (t : Turn) →
         IsTurn (default_limits 4096) options t after → t.request ≡ lookup_of_a →
         t.events ≡ Called call (Found node_5) ∷ back → t.outcome ≡ Err Error.EncodeMessage →
@@ -107,7 +107,7 @@ pub fn rooms_that_are_too_small()
 /// Of options that a client offers, those that the server supports by itself are agreed on, as bit
 /// 40 is, though the file system wants none; and where none is offered none is agreed on, whatever
 /// it wants.
-pub fn options_by_themselves()
+fn options_by_themselves()
     ensures supported { (limits : Limits) (options after offered : ℕ) (t : Turn) →
         IsTurn limits options t after → bit_at offered 40 ≡ 1 →
         t.events ≡ Called (Init offered) (Options 0) ∷ [] → bit_at after 40 ≡ 1 }
@@ -120,7 +120,7 @@ pub fn options_by_themselves()
 
 /// A GETATTR that was answered by attributes: the reply of 120 bytes has the file's size and the
 /// whole seconds that the attributes hold, and a LOOKUP's of 144 the node.
-pub fn numbers_in_replies()
+fn numbers_in_replies()
     ensures getattr { (limits : Limits) (options after inode : ℕ) (ctx : Context)
         (handle : Option ℕ) (attributes : Attr) (timeout : Duration) (t : Turn) →
         IsTurn limits options t after →
@@ -137,7 +137,7 @@ pub fn numbers_in_replies()
 }
 
 /// Numbers that calls answered are in the widths that replies have for them.
-pub fn widths_of_answers()
+fn widths_of_answers()
     ensures fault { (limits : Limits) (options after number : ℕ) (ctx : Context) (inode mask : ℕ)
         (t : Turn) → IsTurn limits options t after →
         t.events ≡ Called (Access ctx inode mask) (Failed (Some number)) ∷ [] →
@@ -150,7 +150,7 @@ pub fn widths_of_answers()
 }
 
 /// The largest answer is one that the `len` of a reply's header can say.
-pub fn lengths_fit_their_field()
+fn lengths_fit_their_field()
     ensures { (limits : Limits) (options after n : ℕ) (t : Turn) → IsTurn limits options t after →
         t.outcome ≡ Ok n → 0 < n → n < 2 ^ 32 }
 {

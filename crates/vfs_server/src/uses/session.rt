@@ -15,7 +15,7 @@ use vfs_segments::{Reader, Writer};
 /// byte: the options of bits 0 and 3 are agreed on, of three that were offered, since the server
 /// supports these by itself; the LOOKUP isn't served, and not refused for want of memory; and
 /// nothing is held.
-pub fn begin_a_session(
+fn begin_a_session(
     alloc: Global,
     readers: Vec<Reader<'_>>,
     writers: &mut [Writer],
@@ -47,7 +47,7 @@ const FORGET: [u8; 48] = [
 /// books of the session the file system was sent three more forgets of node 5 than it answered
 /// entries of it; and of node 6, of which nothing was given back, it was never sent more than that.
 /// `None` where there is no memory for the reader.
-pub fn forget_three<F: FileSystem>(
+fn forget_three<F: FileSystem>(
     alloc: Global,
     server: &mut Server<F>,
     writers: &mut [Writer],

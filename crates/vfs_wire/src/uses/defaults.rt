@@ -23,7 +23,7 @@ use crate::{
 
 /// The headers, with nothing set.
 #[tactic(auto, unfolding(crate::specs::Fields::little))]
-pub fn headers() -> (InHeader, OutHeader)
+fn headers() -> (InHeader, OutHeader)
     ensures in_header { bytes_of in_header result.0 ≡ replicate 40 0 }
     ensures out_header { bytes_of out_header result.1 ≡ replicate 16 0 }
 {
@@ -32,7 +32,7 @@ pub fn headers() -> (InHeader, OutHeader)
 
 /// The records of INIT, with nothing set.
 #[tactic(auto, unfolding(crate::specs::Fields::little))]
-pub fn init() -> (InitInCompat, InitInExt, InitOut)
+fn init() -> (InitInCompat, InitInExt, InitOut)
     ensures init_in_compat { bytes_of init_in_compat result.0 ≡ replicate 16 0 }
     ensures init_in_ext { bytes_of init_in_ext result.1 ≡ replicate 48 0 }
     ensures init_out { bytes_of init_out result.2 ≡ replicate 64 0 }
@@ -46,7 +46,7 @@ pub fn init() -> (InitInCompat, InitInExt, InitOut)
 
 /// The records with attributes, with nothing set.
 #[tactic(auto, unfolding(crate::specs::Fields::little))]
-pub fn attributes() -> (Attr, GetattrIn, AttrOut, SetattrIn)
+fn attributes() -> (Attr, GetattrIn, AttrOut, SetattrIn)
     ensures attr { bytes_of attr result.0 ≡ replicate 88 0 }
     ensures getattr_in { bytes_of getattr_in result.1 ≡ replicate 16 0 }
     ensures attr_out { bytes_of attr_out result.2 ≡ replicate 104 0 }
@@ -62,7 +62,7 @@ pub fn attributes() -> (Attr, GetattrIn, AttrOut, SetattrIn)
 
 /// The records of entries, with nothing set.
 #[tactic(auto, unfolding(crate::specs::Fields::little))]
-pub fn entries() -> (EntryOut, ForgetIn, ForgetOne, BatchForgetIn)
+fn entries() -> (EntryOut, ForgetIn, ForgetOne, BatchForgetIn)
     ensures entry_out { bytes_of entry_out result.0 ≡ replicate 128 0 }
     ensures forget_in { bytes_of forget_in result.1 ≡ replicate 8 0 }
     ensures forget_one { bytes_of forget_one result.2 ≡ replicate 16 0 }
@@ -78,7 +78,7 @@ pub fn entries() -> (EntryOut, ForgetIn, ForgetOne, BatchForgetIn)
 
 /// The records of requests on names, with nothing set.
 #[tactic(auto, unfolding(crate::specs::Fields::little))]
-pub fn names() -> (
+fn names() -> (
     MknodIn,
     MkdirIn,
     RenameIn,
@@ -108,7 +108,7 @@ pub fn names() -> (
 
 /// The records of requests on open files, with nothing set.
 #[tactic(auto, unfolding(crate::specs::Fields::little))]
-pub fn files() -> (
+fn files() -> (
     OpenIn,
     OpenOut,
     ReleaseIn,
@@ -141,7 +141,7 @@ pub fn files() -> (
 
 /// The records of ranges of a file, with nothing set.
 #[tactic(auto, unfolding(crate::specs::Fields::little))]
-pub fn ranges() -> (LseekIn, LseekOut, CopyfilerangeIn, FallocateIn)
+fn ranges() -> (LseekIn, LseekOut, CopyfilerangeIn, FallocateIn)
     ensures lseek_in { bytes_of lseek_in result.0 ≡ replicate 24 0 }
     ensures lseek_out { bytes_of lseek_out result.1 ≡ replicate 8 0 }
     ensures copyfilerange_in { bytes_of copyfilerange_in result.2 ≡ replicate 56 0 }
@@ -157,7 +157,7 @@ pub fn ranges() -> (LseekIn, LseekOut, CopyfilerangeIn, FallocateIn)
 
 /// The records of directories and of counts, with nothing set.
 #[tactic(auto, unfolding(crate::specs::Fields::little))]
-pub fn listings() -> (Dirent, Kstatfs)
+fn listings() -> (Dirent, Kstatfs)
     ensures dirent { bytes_of dirent result.0 ≡ replicate 24 0 }
     ensures kstatfs { bytes_of kstatfs result.1 ≡ replicate 80 0 }
 {
@@ -166,7 +166,7 @@ pub fn listings() -> (Dirent, Kstatfs)
 
 /// The records of extended attributes, with nothing set.
 #[tactic(auto, unfolding(crate::specs::Fields::little))]
-pub fn xattrs() -> (SetxattrIn, SetxattrInCompat, GetxattrIn, GetxattrOut)
+fn xattrs() -> (SetxattrIn, SetxattrInCompat, GetxattrIn, GetxattrOut)
     ensures setxattr_in { bytes_of setxattr_in result.0 ≡ replicate 16 0 }
     ensures setxattr_in_compat { bytes_of setxattr_in_compat result.1 ≡ replicate 8 0 }
     ensures getxattr_in { bytes_of getxattr_in result.2 ≡ replicate 8 0 }
@@ -182,7 +182,7 @@ pub fn xattrs() -> (SetxattrIn, SetxattrInCompat, GetxattrIn, GetxattrOut)
 
 /// The headers of extensions, with nothing set.
 #[tactic(auto, unfolding(crate::specs::Fields::little))]
-pub fn extensions() -> (ExtHeader, Secctx, SuppGroups)
+fn extensions() -> (ExtHeader, Secctx, SuppGroups)
     ensures ext_header { bytes_of ext_header result.0 ≡ replicate 8 0 }
     ensures secctx { bytes_of secctx result.1 ≡ replicate 8 0 }
     ensures supp_groups { bytes_of supp_groups result.2 ≡ replicate 4 0 }

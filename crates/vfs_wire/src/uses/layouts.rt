@@ -18,7 +18,7 @@ ghost use Rattle.vfs_wire.specs.Extensions.{ext_header, secctx, supp_groups};
 use crate::layouts;
 
 /// The headers of requests and replies.
-pub fn headers()
+fn headers()
     ensures in_header { (value_of in_header (counting 1 40)).padding ≡ 0x2827 }
     ensures out_header { (value_of out_header (counting 1 16)).unique ≡ 0x100f0e0d0c0b0a09 }
     ensures written { bytes_of out_header (record {
@@ -31,7 +31,7 @@ pub fn headers()
 }
 
 /// The records of INIT.
-pub fn init()
+fn init()
     ensures init_in_compat { (value_of init_in_compat (counting 1 16)).flags ≡ 0x100f0e0d }
     ensures init_in_ext { slice_index (value_of init_in_ext (counting 1 48)).unused 10
         ≡ 0x302f2e2d }
@@ -41,7 +41,7 @@ pub fn init()
 }
 
 /// The records with attributes.
-pub fn attributes()
+fn attributes()
     ensures attr { (value_of attr (counting 1 88)).flags ≡ 0x58575655 }
     ensures getattr_in { (value_of getattr_in (counting 1 16)).fh ≡ 0x100f0e0d0c0b0a09 }
     ensures attr_out { (value_of attr_out (counting 1 104)).attr.flags ≡ 0x68676665 }
@@ -51,7 +51,7 @@ pub fn attributes()
 }
 
 /// The records of entries and of what is forgotten.
-pub fn entries()
+fn entries()
     ensures entry_out { (value_of entry_out (counting 1 128)).attr.flags ≡ 0x807f7e7d }
     ensures forget_in { (value_of forget_in (counting 1 8)).nlookup ≡ 0x0807060504030201 }
     ensures forget_one { (value_of forget_one (counting 1 16)).nlookup ≡ 0x100f0e0d0c0b0a09 }
@@ -61,7 +61,7 @@ pub fn entries()
 }
 
 /// The records of requests on names.
-pub fn names()
+fn names()
     ensures mknod_in { (value_of mknod_in (counting 1 16)).padding ≡ 0x100f0e0d }
     ensures mkdir_in { (value_of mkdir_in (counting 1 8)).umask ≡ 0x08070605 }
     ensures rename_in { (value_of rename_in (counting 1 8)).newdir ≡ 0x0807060504030201 }
@@ -74,7 +74,7 @@ pub fn names()
 }
 
 /// The records of requests on open files.
-pub fn files()
+fn files()
     ensures open_in { (value_of open_in (counting 1 8)).open_flags ≡ 0x08070605 }
     ensures open_out { (value_of open_out (counting 1 16)).padding ≡ 0x100f0e0d }
     ensures release_in { (value_of release_in (counting 1 24)).lock_owner ≡ 0x1817161514131211 }
@@ -88,7 +88,7 @@ pub fn files()
 }
 
 /// The records of ranges of a file.
-pub fn ranges()
+fn ranges()
     ensures lseek_in { (value_of lseek_in (counting 1 24)).padding ≡ 0x18171615 }
     ensures lseek_out { (value_of lseek_out (counting 1 8)).offset ≡ 0x0807060504030201 }
     ensures copyfilerange_in { (value_of copyfilerange_in (counting 1 56)).flags
@@ -99,7 +99,7 @@ pub fn ranges()
 }
 
 /// The records of directories and of counts.
-pub fn listings()
+fn listings()
     ensures dirent { (value_of dirent (counting 1 24)).type_ ≡ 0x18171615 }
     ensures kstatfs { slice_index (value_of kstatfs (counting 1 80)).spare 5 ≡ 0x504f4e4d }
 {
@@ -107,7 +107,7 @@ pub fn listings()
 }
 
 /// The records of extended attributes.
-pub fn xattrs()
+fn xattrs()
     ensures setxattr_in { (value_of setxattr_in (counting 1 16)).padding ≡ 0x100f0e0d }
     ensures setxattr_in_compat { (value_of setxattr_in_compat (counting 1 8)).flags ≡ 0x08070605 }
     ensures getxattr_in { (value_of getxattr_in (counting 1 8)).padding ≡ 0x08070605 }
@@ -117,7 +117,7 @@ pub fn xattrs()
 }
 
 /// The headers of extensions.
-pub fn extensions()
+fn extensions()
     ensures ext_header { (value_of ext_header (counting 1 8)).ext_type ≡ 0x08070605 }
     ensures secctx { (value_of secctx (counting 1 8)).padding ≡ 0x08070605 }
     ensures supp_groups { (value_of supp_groups (counting 1 4)).nr_groups ≡ 0x04030201 }

@@ -18,7 +18,7 @@ use crate::{
 
 /// The records of directories and of counts, with nothing set.
 #[tactic(auto, unfolding(vfs_wire::specs::Fields::little))]
-pub fn listings() -> (StatfsOut, Direntplus)
+fn listings() -> (StatfsOut, Direntplus)
     ensures statfs_out { bytes_of statfs_out result.0 ≡ replicate 80 0 }
     ensures direntplus { bytes_of direntplus result.1 ≡ replicate 152 0 }
 {
@@ -27,7 +27,7 @@ pub fn listings() -> (StatfsOut, Direntplus)
 
 /// The headers of extensions, with nothing set.
 #[tactic(auto, unfolding(vfs_wire::specs::Fields::little))]
-pub fn extensions() -> SecctxHeader
+fn extensions() -> SecctxHeader
     ensures { bytes_of secctx_header result ≡ replicate 8 0 }
 {
     SecctxHeader::default()
@@ -35,7 +35,7 @@ pub fn extensions() -> SecctxHeader
 
 /// The records of locks, with nothing set.
 #[tactic(auto, unfolding(vfs_wire::specs::Fields::little))]
-pub fn locks() -> (FileLock, LkIn, LkOut, InterruptIn)
+fn locks() -> (FileLock, LkIn, LkOut, InterruptIn)
     ensures file_lock { bytes_of file_lock result.0 ≡ replicate 24 0 }
     ensures lk_in { bytes_of lk_in result.1 ≡ replicate 48 0 }
     ensures lk_out { bytes_of lk_out result.2 ≡ replicate 24 0 }
@@ -51,7 +51,7 @@ pub fn locks() -> (FileLock, LkIn, LkOut, InterruptIn)
 
 /// The records of requests to devices, with nothing set.
 #[tactic(auto, unfolding(vfs_wire::specs::Fields::little))]
-pub fn devices() -> (
+fn devices() -> (
     BmapIn,
     BmapOut,
     IoctlIn,
@@ -84,7 +84,7 @@ pub fn devices() -> (
 
 /// The records of mappings, with nothing set.
 #[tactic(auto, unfolding(vfs_wire::specs::Fields::little))]
-pub fn mappings() -> (SetupmappingIn, RemovemappingIn, RemovemappingOne)
+fn mappings() -> (SetupmappingIn, RemovemappingIn, RemovemappingOne)
     ensures setupmapping_in { bytes_of setupmapping_in result.0 ≡ replicate 40 0 }
     ensures removemapping_in { bytes_of removemapping_in result.1 ≡ replicate 4 0 }
     ensures removemapping_one { bytes_of removemapping_one result.2 ≡ replicate 16 0 }
@@ -98,7 +98,7 @@ pub fn mappings() -> (SetupmappingIn, RemovemappingIn, RemovemappingOne)
 
 /// The records of notifications, with nothing set.
 #[tactic(auto, unfolding(vfs_wire::specs::Fields::little))]
-pub fn notifications() -> (
+fn notifications() -> (
     NotifyPollWakeupOut,
     NotifyInvalInodeOut,
     NotifyInvalEntryOut,

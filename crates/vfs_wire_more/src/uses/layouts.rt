@@ -14,7 +14,7 @@ ghost use Rattle.vfs_wire_more.specs.Notifications.{notify_poll_wakeup_out, noti
 use crate::layouts;
 
 /// The records of directories and of counts.
-pub fn listings()
+fn listings()
     ensures statfs_out { slice_index (value_of statfs_out (counting 1 80)).st.spare 5 ≡ 0x504f4e4d }
     ensures direntplus { (value_of direntplus (counting 1 152)).dirent.type_ ≡ 0x98979695 }
 {
@@ -22,14 +22,14 @@ pub fn listings()
 }
 
 /// The headers of extensions.
-pub fn extensions()
+fn extensions()
     ensures { (value_of secctx_header (counting 1 8)).nr_secctx ≡ 0x08070605 }
 {
     layouts::extensions();
 }
 
 /// The records of locks.
-pub fn locks()
+fn locks()
     ensures file_lock { (value_of file_lock (counting 1 24)).pid ≡ 0x18171615 }
     ensures lk_in { (value_of lk_in (counting 1 48)).padding ≡ 0x302f2e2d }
     ensures lk_out { (value_of lk_out (counting 1 24)).lk.pid ≡ 0x18171615 }
@@ -39,7 +39,7 @@ pub fn locks()
 }
 
 /// The records of requests to devices.
-pub fn devices()
+fn devices()
     ensures bmap_in { (value_of bmap_in (counting 1 16)).padding ≡ 0x100f0e0d }
     ensures bmap_out { (value_of bmap_out (counting 1 8)).block ≡ 0x0807060504030201 }
     ensures ioctl_in { (value_of ioctl_in (counting 1 32)).out_size ≡ 0x201f1e1d }
@@ -53,7 +53,7 @@ pub fn devices()
 }
 
 /// The records of mappings.
-pub fn mappings()
+fn mappings()
     ensures setupmapping_in { (value_of setupmapping_in (counting 1 40)).moffset
         ≡ 0x2827262524232221 }
     ensures removemapping_in { (value_of removemapping_in (counting 1 4)).count ≡ 0x04030201 }
@@ -64,7 +64,7 @@ pub fn mappings()
 }
 
 /// The records of notifications.
-pub fn notifications()
+fn notifications()
     ensures notify_poll_wakeup_out { (value_of notify_poll_wakeup_out (counting 1 8)).kh
         ≡ 0x0807060504030201 }
     ensures notify_inval_inode_out { (value_of notify_inval_inode_out (counting 1 24)).len
