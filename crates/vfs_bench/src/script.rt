@@ -16,7 +16,9 @@ use vfs_files::{
     CStr, Context, Entry, Extensions, FileSystem, GetxattrReply, ListxattrReply, ZeroCopyReader,
     ZeroCopyWriter, defaults,
 };
-use vfs_flags::{Errno, Fault, FsOptions, OpenOptions, SetattrValid, SetxattrFlags};
+use vfs_flags::{
+    Errno, Fault, FsOptions, MAX_REPLY_DATA, OpenOptions, SetattrValid, SetxattrFlags,
+};
 use vfs_wire::{Attr, SetattrIn, Statvfs64};
 
 /// Answers each call as its maker says, again and again, whatever the call's arguments are.
@@ -161,9 +163,6 @@ fn same_bytes(bytes: &Vec<u8>) -> Result<Vec<u8>, Fault>
         Err(_) => Err(Some(Errno::ENOMEM)),
     }
 }
-
-/// How many bytes `read` puts at most: with those of their header they can be counted in a reply.
-const MOST_PUT: u32 = u32::MAX - 16;
 
 /// Moves up to `size` bytes into the file, and answers how many.
 fn write_file<R: ZeroCopyReader>(
@@ -358,7 +357,7 @@ impl FileSystem for Script {
         flags: u32,
     ) -> Result<usize, Fault> {
         match &mut self.file {
-            Some(file) => w.read_from_file_at(file, size.min(MOST_PUT) as usize, offset),
+            Some(file) => w.read_from_file_at(file, size.min(MAX_REPLY_DATA) as usize, offset),
             None => defaults::read(),
         }
     }

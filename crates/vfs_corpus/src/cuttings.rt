@@ -7,13 +7,10 @@ use std::alloc::{AllocError, Global};
 use std::cell::RefCell;
 use std::collections::VecDeque;
 use vfs_flags::FsOptions;
-use vfs_lines::{RunError, answer_to, lines_of, parse_line};
+use vfs_lines::{PAGE_SIZE, RunError, answer_to, lines_of, parse_line};
 use vfs_scripted::{Notes, ScriptFs};
 use vfs_segments::{Reader, Writer};
 use vfs_server::server::Server;
-
-/// The page size of the server, in bytes.
-const PAGE_SIZE: u32 = 4096;
 
 /// For how many bytes of notes the file system has room from the first: more than those of a few
 /// calls.

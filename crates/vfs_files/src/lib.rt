@@ -25,7 +25,7 @@ pub use entry::{Context, Entry};
 pub use extensions::{Extensions, SecContext};
 pub use filesystem::FileSystem;
 pub use migration::{MigrateError, SerializableFileSystem};
-pub use name::{CStr, CString};
+pub use name::{CStr, CString, first_nul};
 pub use number::Number;
 pub use transfer::{ZeroCopyReader, ZeroCopyWriter};
 pub use unserved::{NoEntries, Unserved};

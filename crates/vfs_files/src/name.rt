@@ -13,7 +13,7 @@ use vfs_flags::Fault;
 
 /// Where the first 0 stands.
 #[tactic(auto, using(crate::proofs::Texts::first_zero_is_place))]
-fn first_nul(bytes: &[u8]) -> Option<usize>
+pub fn first_nul(bytes: &[u8]) -> Option<usize>
     ensures { result ≡ position (λ b. b == 0) bytes.now }
 {
     memchr(0, bytes)
@@ -58,9 +58,19 @@ impl<'a> CStr<'a> {
             (λ name. position (λ b. b == 0) bytes.now ≡ Some (length (name_text name))
             × name_text name ≡ take (length (name_text name)) bytes.now) }
     {
-        let first = first_nul(bytes)?;
-        let bytes = &bytes[..first];
-        Some(CStr { bytes })
+        let nul = first_nul(bytes)?;
+        Some(CStr::before_nul(bytes, nul))
+    }
+
+    /// The name before the first 0 in these bytes, which stands at `nul`. It is not looked for
+    /// again.
+    #[tactic(auto, using(crate::proofs::Texts::text_has_no_nul))]
+    pub fn before_nul(bytes: &'a [u8], nul: usize) -> CStr<'a>
+        requires { position (λ b. b == 0) bytes.now ≡ Some nul }
+        ensures { name_text result ≡ take nul bytes.now }
+    {
+        let bytes = &bytes[..nul];
+        CStr { bytes }
     }
 
     /// The bytes of the name, without the 0 behind them.

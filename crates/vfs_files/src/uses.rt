@@ -12,6 +12,7 @@ use crate::laws::runs_join;
 use crate::{
     CStr, CString, Context, Entry, Extensions, FileSystem, GetxattrReply, ListxattrReply,
     MigrateError, Number, SecContext, SerializableFileSystem, Unserved, ZeroCopyWriter, defaults,
+    first_nul,
 };
 use bitflags::Flags;
 use std::alloc::Global;
@@ -43,6 +44,17 @@ fn first_of_two_names() -> bool
 {
     match CStr::from_bytes_until_nul(b"a\0b\0") {
         Some(name) => name.to_bytes() == b"a".as_slice(),
+        None => false,
+    }
+}
+
+/// A name is what stands before the 0 that was found.
+fn name_before_a_place() -> bool
+    ensures { IsTrue result }
+{
+    let bytes = b"ab\0c\0";
+    match first_nul(bytes) {
+        Some(nul) => CStr::before_nul(bytes, nul).to_bytes() == b"ab".as_slice(),
         None => false,
     }
 }

@@ -61,6 +61,10 @@ pub const WRITE_KILL_PRIV: u32 = 1 << 2;
 /// attributes.
 pub const FSYNC_FDATASYNC: u32 = 1 << 0;
 
+/// In `flags` of `struct fuse_rename2_in`: the flags that are passed on, not to replace, to exchange,
+/// and to leave a whiteout.
+pub const RENAME_FLAGS: u32 = 7;
+
 /// In `lk_flags` of `struct fuse_lk_in`: the lock is one of `flock`, of the whole file.
 pub const LK_FLOCK: u32 = 1 << 0;
 
@@ -79,6 +83,10 @@ pub const DEFAULT_MAX_BUFFER: u32 = 1_048_576;
 pub const GREATEST_MAX_BUFFER: u32 = 134_217_728;
 
 // Sizes, in bytes.
+
+/// How many bytes of data a reply carries at most: with the 16 of its header, their count is below
+/// 2 ^ 32.
+pub const MAX_REPLY_DATA: u32 = u32::MAX - 16;
 
 /// The least room for a request that a reader of the device must offer.
 pub const FUSE_MIN_READ_BUFFER: u32 = 8192;

@@ -3,7 +3,7 @@ use Rattle.std.specs.Prelude.{ℕ, [], ◌∷◌, slice_index, ◌*◌, ◌==◌
 use Rattle.vfs_flags.specs.Errors.{enosys}
 use Rattle.vfs_flags.specs.Flags.{known_setattr_valid, known_setxattr_flags, setxattr_ext}
 use Rattle.vfs_flags.specs.Opcode.{opcode_of}
-use Rattle.vfs_flags.specs.declared.constants.TheConstants.{FATTR_FH, GETATTR_FH, FSYNC_FDATASYNC, OPEN_KILL_SUIDGID, READ_LOCKOWNER, RELEASE_FLUSH, RELEASE_FLOCK_UNLOCK, WRITE_CACHE, WRITE_KILL_PRIV, WRITE_LOCKOWNER}
+use Rattle.vfs_flags.specs.declared.constants.TheConstants.{FATTR_FH, GETATTR_FH, FSYNC_FDATASYNC, OPEN_KILL_SUIDGID, READ_LOCKOWNER, RELEASE_FLUSH, RELEASE_FLOCK_UNLOCK, WRITE_CACHE, WRITE_KILL_PRIV, WRITE_LOCKOWNER, RENAME_FLAGS}
 use Rattle.vfs_flags.specs.declared.opcode.Opcode.{Opcode}
 use Rattle.vfs_flags.specs.declared.opcode.Opcode.TheVariants.{Lookup, Forget, Getattr, Setattr, Readlink, Symlink, Mknod, Mkdir, Unlink, Rmdir, Rename, Link, Open, Read, Write, Statfs, Release, Fsync, Setxattr, Getxattr, Listxattr, Removexattr, Flush, Init, Opendir, Readdir, Releasedir, Fsyncdir, Getlk, Setlk, Setlkw, Access, Create, Interrupt, Bmap, Destroy, Ioctl, Poll, NotifyReply, BatchForget, Fallocate, Readdirplus, Rename2, Lseek, CopyFileRange, SetupMapping, RemoveMapping, Syncfs, TmpFile}
 use Rattle.vfs_wire.specs.Fields.{Table, value_of}
@@ -49,10 +49,6 @@ setxattr_in_short = record {
 abbrev pub setxattr_layout : (options : ℕ) → Layout SetxattrIn
 setxattr_layout options =
     if bit_and options setxattr_ext == 0 then Record setxattr_in_short else Record setxattr_in
-
--- the flags of RENAME2 that are passed on: not to replace, to exchange, and to leave a whiteout
-abbrev pub rename_flags : ℕ
-rename_flags = 7
 
 -- whether a directory's records may have more bytes than the limit, or than there is room for
 abbrev pub lists_too_much : Limits → (room : ℕ) → ReadIn → Bool
@@ -179,7 +175,7 @@ form_of limits options room h Readdirplus =
     Directories (Record read_in) (lists_too_much limits room) room (listing_of true h)
 form_of limits options room h Rename2 =
     TwoNames (Record rename2_in) (λ r old new.
-    call.Rename (context_of h) h.nodeid old r.newdir new (bit_and r.flags rename_flags))
+    call.Rename (context_of h) h.nodeid old r.newdir new (bit_and r.flags RENAME_FLAGS))
 form_of limits options room h Lseek =
     NoTail (Record lseek_in) unlimited (λ r.
     call.Lseek (context_of h) h.nodeid r.fh r.offset r.whence)

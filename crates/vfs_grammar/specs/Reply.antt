@@ -29,13 +29,12 @@ use Rattle.vfs_grammar.specs.declared.limits.Limits.{Limits}
 use Rattle.vfs_grammar.specs.declared.error.Error.{Error}
 
 -- What comes back of a request: an error, with no byte put; nothing; these bytes, behind which
--- the room stays as it was; these bytes, behind which the room is open; or what never comes back.
+-- the room stays as it was; or these bytes, behind which the room is open.
 pub data Reply : Type 0 where
   Refusal : (error : Error) → Reply
   NoReply : Reply
   Bytes : (reply : List ℕ) → Reply
   OpenBehind : (reply : List ℕ) → Reply
-  Never : Reply
 
 -- What is kept of a request behind its call: what the reply repeats, which is the client's number
 -- and, of INIT alone, the read-ahead; and the caller, for whom an entry is given back.
@@ -131,149 +130,40 @@ init_out_of limits max_readahead options =
       unused = 0 ∷ 0 ∷ 0 ∷ 0 ∷ 0 ∷ 0 ∷ 0 ∷ [];
     }
 
--- What is said of an answer: a fault; a body, none of whose bytes for a header alone; nothing; or
--- the answer is of another kind than its call.
-pub data Saying : Type 0 where
-  Fault : (fault : Option ℕ) → Saying
-  Body : (body : List ℕ) → Saying
-  Unsaid : Saying
-  Wrong : Saying
+-- The body of the reply to an answer, by what it is: nothing where it says that something was done.
+-- A fault has none, and that of INIT doesn't stand in its answer alone.
+abbrev pub body_of : Answer → List ℕ
+body_of Done = []
+body_of (Put bytes) = bytes
+body_of (Found entry) = bytes_of entry_out (entry_out_of entry)
+body_of (Attributes attr timeout) = bytes_of attr_out (attr_out_of attr timeout)
+body_of (Opened handle options) = bytes_of open_out (open_out_of handle options)
+body_of (Created entry handle options) =
+    bytes_of entry_out (entry_out_of entry) ++ bytes_of open_out (open_out_of handle options)
+body_of (Statistics statistics) = bytes_of kstatfs (kstatfs_of statistics)
+body_of (Text bytes) = bytes
+body_of (Count length) = bytes_of getxattr_out (getxattr_out_of length)
+body_of (Offset offset) = bytes_of lseek_out (record { offset = offset })
+body_of (Written count) = bytes_of write_out (write_out_of count)
+body_of _ = []
 
--- what comes back where this is said, and the room behind it stays
-abbrev pub said : (unique : ℕ) → Saying → Reply
-said unique (Fault fault) = Bytes (fault_reply fault unique)
-said unique (Body body) = Bytes (body_reply body unique)
-said unique Unsaid = NoReply
-said unique Wrong = Never
+-- the reply to an answer: that of its fault, or a header and this body
+abbrev pub answer_reply : (body : List ℕ) → (unique : ℕ) → Answer → List ℕ
+answer_reply body unique (Failed fault) = fault_reply fault unique
+answer_reply body unique _ = body_reply body unique
 
--- what comes back where this is said, and the room behind it is open; then something is always said
-abbrev pub said_open : (unique : ℕ) → Saying → Reply
-said_open unique (Fault fault) = OpenBehind (fault_reply fault unique)
-said_open unique (Body body) = OpenBehind (body_reply body unique)
-said_open unique Unsaid = Never
-said_open unique Wrong = Never
+-- What comes back of a call of this kind, but INIT, with this answer: nothing of one that answers
+-- nothing, and where one was done of which only a fault is told; data, behind which the room is
+-- open; and else the reply.
+abbrev pub reply_to : (unique : ℕ) → Kind → Answer → Reply
+reply_to unique Quiet answer = NoReply
+reply_to unique Untold Done = NoReply
+reply_to unique (Data size) answer = OpenBehind (answer_reply (body_of answer) unique answer)
+reply_to unique _ answer = Bytes (answer_reply (body_of answer) unique answer)
 
--- one of the two
-abbrev pub said_by : (open_behind : Bool) → (unique : ℕ) → Saying → Reply
-said_by false unique s = said unique s
-said_by true unique s = said_open unique s
-
--- of a call that answers nothing: nothing
-abbrev pub say_quiet : Answer → Saying
-say_quiet Done = Unsaid
-say_quiet _ = Wrong
-
--- that it was done: a header alone
-abbrev pub say_done : Answer → Saying
-say_done (Failed fault) = Fault fault
-say_done Done = Body []
-say_done _ = Wrong
-
--- a fault, and nothing else
-abbrev pub say_fault : Answer → Saying
-say_fault (Failed fault) = Fault fault
-say_fault Done = Unsaid
-say_fault _ = Wrong
-
--- the options that INIT agreed on, where these are the options after it
-abbrev pub say_init : Limits → (max_readahead options : ℕ) → Answer → Saying
-say_init limits max_readahead options (Failed fault) = Fault fault
-say_init limits max_readahead options (Options want) =
-    Body (bytes_of init_out (init_out_of limits max_readahead options))
-say_init limits max_readahead options _ = Wrong
-
--- the bytes that were put
-abbrev pub say_bytes : Answer → Saying
-say_bytes (Failed fault) = Fault fault
-say_bytes (Put bytes) = Body bytes
-say_bytes _ = Wrong
-
--- an entry
-abbrev pub say_entry : Answer → Saying
-say_entry (Failed fault) = Fault fault
-say_entry (Found entry) = Body (bytes_of entry_out (entry_out_of entry))
-say_entry _ = Wrong
-
--- attributes and how long they hold
-abbrev pub say_attr : Answer → Saying
-say_attr (Failed fault) = Fault fault
-say_attr (Attributes attr timeout) = Body (bytes_of attr_out (attr_out_of attr timeout))
-say_attr _ = Wrong
-
--- what was opened
-abbrev pub say_opened : Answer → Saying
-say_opened (Failed fault) = Fault fault
-say_opened (Opened handle options) = Body (bytes_of open_out (open_out_of handle options))
-say_opened _ = Wrong
-
--- an entry, and what was opened
-abbrev pub say_created : Answer → Saying
-say_created (Failed fault) = Fault fault
-say_created (Created entry handle options) =
-    Body (bytes_of entry_out (entry_out_of entry) ++ bytes_of open_out (open_out_of handle options))
-say_created _ = Wrong
-
--- what a file system holds
-abbrev pub say_statistics : Answer → Saying
-say_statistics (Failed fault) = Fault fault
-say_statistics (Statistics statistics) = Body (bytes_of kstatfs (kstatfs_of statistics))
-say_statistics _ = Wrong
-
--- a text
-abbrev pub say_text : Answer → Saying
-say_text (Failed fault) = Fault fault
-say_text (Text bytes) = Body bytes
-say_text _ = Wrong
-
--- a text, or how many bytes it has
-abbrev pub say_text_or_count : Answer → Saying
-say_text_or_count (Failed fault) = Fault fault
-say_text_or_count (Text bytes) = Body bytes
-say_text_or_count (Count length) = Body (bytes_of getxattr_out (getxattr_out_of length))
-say_text_or_count _ = Wrong
-
--- a place in a file
-abbrev pub say_offset : Answer → Saying
-say_offset (Failed fault) = Fault fault
-say_offset (Offset offset) = Body (bytes_of lseek_out (record { offset = offset }))
-say_offset _ = Wrong
-
--- how many bytes were written
-abbrev pub say_written : Answer → Saying
-say_written (Failed fault) = Fault fault
-say_written (Written count) = Body (bytes_of write_out (write_out_of count))
-say_written _ = Wrong
-
--- a fault, which is all that is ever answered
-abbrev pub say_fault_alone : Answer → Saying
-say_fault_alone (Failed fault) = Fault fault
-say_fault_alone _ = Wrong
-
--- What is said of an answer, by its kind.
-abbrev pub say : Limits → Echo → (options : ℕ) → Kind → Answer → Saying
-say limits echo options Quiet answer = say_quiet answer
-say limits echo options Told answer = say_done answer
-say limits echo options Untold answer = say_fault answer
-say limits echo options (Data size) answer = say_bytes answer
-say limits echo options Agreements answer = say_init limits echo.max_readahead options answer
-say limits echo options Entries answer = say_entry answer
-say limits echo options TimedAttributes answer = say_attr answer
-say limits echo options Openings answer = say_opened answer
-say limits echo options Creations answer = say_created answer
-say limits echo options Capacities answer = say_statistics answer
-say limits echo options Texts answer = say_text answer
-say limits echo options TextsOrCounts answer = say_text_or_count answer
-say limits echo options Offsets answer = say_offset answer
-say limits echo options Writes answer = say_written answer
-say limits echo options Iterators answer = say_fault_alone answer
-say limits echo options Faults answer = say_fault_alone answer
-
--- the kinds behind whose replies the room is open
-abbrev pub is_open : Kind → Bool
-is_open (Data size) = true
-is_open _ = false
-
--- The reply to a call of this kind with this answer, where these are the options after it.
+-- What comes back of a call of this kind with this answer, where these are the options after it.
 abbrev pub reply_of : Limits → Echo → (options : ℕ) → Kind → Answer → Reply
-reply_of limits echo options kind answer =
-    said_by (is_open kind) echo.unique (say limits echo options kind answer)
+reply_of limits echo options Agreements answer =
+    Bytes (answer_reply (bytes_of init_out (init_out_of limits echo.max_readahead options))
+    echo.unique answer)
+reply_of limits echo options kind answer = reply_to echo.unique kind answer

@@ -1,6 +1,6 @@
 -- How a reply is put into a room.
 use Rattle.std.specs.Prelude.{◌≡◌, ℕ, List, ◌++◌, length, take, drop, nat_le, if◌then◌else◌, Bool, true, Option, None, Some, Result, Ok, Err}
-use Rattle.vfs_grammar.specs.Reply.{Reply, Refusal, NoReply, Bytes, OpenBehind, Never}
+use Rattle.vfs_grammar.specs.Reply.{Reply, Refusal, NoReply, Bytes, OpenBehind}
 use Rattle.vfs_grammar.specs.declared.error.Error.{Error}
 use Rattle.vfs_grammar.specs.declared.error.Error.TheVariants.{EncodeMessage}
 
@@ -36,7 +36,6 @@ IsReplied (Refusal error) room outcome room_after = (outcome ≡ Err error) × (
 IsReplied NoReply room outcome room_after = (outcome ≡ Ok 0) × (room_after ≡ room)
 IsReplied (Bytes reply) room outcome room_after = IsPut reply room outcome room_after
 IsReplied (OpenBehind reply) room outcome room_after = IsPutOpen reply room outcome room_after
-IsReplied Never room outcome room_after = ⊥
 
 -- whether what comes back fits into so much room
 abbrev pub fits : (room : ℕ) → Reply → Bool

@@ -1,6 +1,10 @@
--- How long the bodies of replies are: short enough for a header to say.
-use Rattle.std.proofs.Common.{◌≡◌, ◌-◌, ◌^◌, ◌<◌, ℕ, length, arith, length-append}
+-- Replies to answers: their bodies are short enough for a header to say their length, and each begins
+-- with its header.
+use Rattle.std.proofs.Common.{◌≡◌, ◌≤◌, ◌+◌, ◌-◌, ◌^◌, ◌<◌, ◌++◌, ℕ, ℤ, List, length, take, Option, pos, ◌-ℤ◌, ap, sym, ◌∙◌, arith, length-append}
+use Rattle.std.proofs.lemmas.List.{take_all, take_at}
 use Rattle.vfs_wire.specs.Fields.{bytes_of}
+use Rattle.vfs_wire.specs.Headers.{out_header}
+use Rattle.vfs_wire.specs.declared.headers.OutHeader.{OutHeader}
 use Rattle.vfs_wire.specs.FieldLaws.{length-little, length-bytes_of}
 use Rattle.vfs_wire.specs.Attributes.{attr_out}
 use Rattle.vfs_wire.specs.Entries.{entry_out}
@@ -13,124 +17,105 @@ use Rattle.vfs_wire.specs.Init.{init_out}
 use Rattle.vfs_wire.specs.declared.init.InitOut.{InitOut}
 use Rattle.vfs_files.specs.Answers.{Kind, Quiet, Told, Untold, Data, Agreements, Entries, TimedAttributes, Openings, Creations, Capacities, Texts, TextsOrCounts, Offsets, Writes, Iterators, Faults, IsAnswer, Answer, Done, Failed, Options, Found, Put, Attributes, Opened, Created, Statistics, Text, Count, Offset, Written}
 use Rattle.vfs_files.specs.Entries.{entry_out_of}
-use Rattle.vfs_grammar.specs.Reply.{Echo, Saying, Body, say, say_quiet, say_done, say_fault, say_init, say_bytes, say_entry, say_attr, say_opened, say_created, say_statistics, say_text, say_text_or_count, say_offset, say_written, say_fault_alone, attr_out_of, init_out_of, open_out_of, getxattr_out_of, write_out_of}
+use Rattle.vfs_files.specs.declared.entry.Entry.{Entry}
+use Rattle.vfs_grammar.specs.Reply.{Reply, NoReply, Bytes, OpenBehind, Echo, body_of, answer_reply, reply_of, fault_reply, fault_number, body_reply, attr_out_of, init_out_of, open_out_of, getxattr_out_of, write_out_of}
+use Rattle.vfs_grammar.specs.Records.{size_of}
 use Rattle.vfs_grammar.specs.declared.limits.Limits.{Limits}
+use Rattle.vfs_grammar.proofs.Rooms.{length-header, length-fault_reply, length-body_reply}
 
--- a body and its header are together no longer than a header can say
-abbrev pub IsShort : Saying → Type 0
-IsShort (Body body) = length body < 2 ^ 32 - 16
-IsShort _ = Unit {0}
+-- a body that a header can say, with the header in front of it
+abbrev pub IsShort : (body : List ℕ) → Type 0
+IsShort body = length body < 2 ^ 32 - 16
 
 length-init_out : (r : InitOut) → length (bytes_of init_out r) ≡ 64
 length-init_out r = simp (length-append, length-little)
 
-pub init_out_is_short : (r : InitOut) → length (bytes_of init_out r) < 2 ^ 32 - 16
+pub init_out_is_short : (r : InitOut) → IsShort (bytes_of init_out r)
 init_out_is_short r = omega (arith, length-init_out r)
 
-quiet_is_short : (answer : Answer) → IsShort (say_quiet answer)
-quiet_is_short Done = tt
-quiet_is_short _ = tt
+length-getxattr_out : (n : ℕ) → length (bytes_of getxattr_out (getxattr_out_of n)) ≡ 8
+length-getxattr_out n = simp (length-append, length-little)
 
-done_is_short : (answer : Answer) → IsShort (say_done answer)
-done_is_short (Failed fault) = tt
-done_is_short Done = omega arith
-done_is_short _ = tt
+length-lseek_out : (n : ℕ) → length (bytes_of lseek_out (record { offset = n })) ≡ 8
+length-lseek_out n = simp (length-append, length-little)
 
-fault_is_short : (answer : Answer) → IsShort (say_fault answer)
-fault_is_short (Failed fault) = tt
-fault_is_short Done = tt
-fault_is_short _ = tt
+length-write_out : (n : ℕ) → length (bytes_of write_out (write_out_of n)) ≡ 8
+length-write_out n = simp (length-append, length-little)
 
-init_is_short : (limits : Limits) (max_readahead options : ℕ) (answer : Answer) → IsShort (say_init limits max_readahead options answer)
-init_is_short limits max_readahead options (Failed fault) = tt
-init_is_short limits max_readahead options (Options want) = init_out_is_short (init_out_of limits max_readahead options)
-init_is_short limits max_readahead options _ = tt
-
-bytes_are_short : (size : ℕ) (answer : Answer) → IsAnswer (Data size) answer → IsShort (say_bytes answer)
-bytes_are_short size (Failed fault) a = tt
-bytes_are_short size (Put bytes) a = a.1
-bytes_are_short size _ a = tt
-
-entry_is_short : (answer : Answer) → IsAnswer Entries answer → IsShort (say_entry answer)
-entry_is_short (Failed fault) a = tt
-entry_is_short (Found entry) a = omega (arith, length-bytes_of entry_out (entry_out_of entry) a)
-entry_is_short _ a = tt
-
-attr_is_short : (answer : Answer) → IsAnswer TimedAttributes answer → IsShort (say_attr answer)
-attr_is_short (Failed fault) a = tt
-attr_is_short (Attributes attr timeout) a = omega (arith, length-bytes_of attr_out (attr_out_of attr timeout) a)
-attr_is_short _ a = tt
-
-opened_is_short : (answer : Answer) → IsAnswer Openings answer → IsShort (say_opened answer)
-opened_is_short (Failed fault) a = tt
-opened_is_short (Opened handle options) a = omega (arith, length-bytes_of open_out (open_out_of handle options) a)
-opened_is_short _ a = tt
-
-created_is_short : (answer : Answer) → IsAnswer Creations answer → IsShort (say_created answer)
-created_is_short (Failed fault) a = tt
-created_is_short (Created entry handle options) a =
+created_is_short : (entry : Entry) (handle : Option ℕ) (options : ℕ) → IsAnswer Creations (Created entry handle options)
+    → IsShort (bytes_of entry_out (entry_out_of entry) ++ bytes_of open_out (open_out_of handle options))
+created_is_short entry handle options a =
     omega (
       arith,
       length-append (bytes_of entry_out (entry_out_of entry)) (bytes_of open_out (open_out_of handle options)),
       length-bytes_of entry_out (entry_out_of entry) a.0,
       length-bytes_of open_out (open_out_of handle options) a.1,
     )
-created_is_short _ a = tt
 
-statistics_are_short : (answer : Answer) → IsAnswer Capacities answer → IsShort (say_statistics answer)
-statistics_are_short (Failed fault) a = tt
-statistics_are_short (Statistics statistics) a = omega (arith, length-bytes_of kstatfs (kstatfs_of statistics) a)
-statistics_are_short _ a = tt
+-- the body of an answer of the call's kind, its numbers in their widths
+bodies_are_short : (kind : Kind) (answer : Answer) → IsAnswer kind answer → IsShort (body_of answer)
+bodies_are_short kind Done a = omega arith
+bodies_are_short kind (Failed fault) a = omega arith
+bodies_are_short kind (Options want) a = omega arith
+bodies_are_short (Data size) (Put bytes) a = a.1
+bodies_are_short Entries (Found entry) a = omega (arith, length-bytes_of entry_out (entry_out_of entry) a)
+bodies_are_short TimedAttributes (Attributes attr timeout) a = omega (arith, length-bytes_of attr_out (attr_out_of attr timeout) a)
+bodies_are_short Openings (Opened handle options) a = omega (arith, length-bytes_of open_out (open_out_of handle options) a)
+bodies_are_short Creations (Created entry handle options) a = created_is_short entry handle options a
+bodies_are_short Capacities (Statistics statistics) a = omega (arith, length-bytes_of kstatfs (kstatfs_of statistics) a)
+bodies_are_short Texts (Text bytes) a = a
+bodies_are_short TextsOrCounts (Text bytes) a = a
+bodies_are_short TextsOrCounts (Count n) a = omega (arith, length-getxattr_out n)
+bodies_are_short Offsets (Offset offset) a = omega (arith, length-lseek_out offset)
+bodies_are_short Writes (Written count) a = omega (arith, length-write_out count)
+bodies_are_short _ _ a = absurd a
 
-text_is_short : (answer : Answer) → IsAnswer Texts answer → IsShort (say_text answer)
-text_is_short (Failed fault) a = tt
-text_is_short (Text bytes) a = a
-text_is_short _ a = tt
+-- bytes that begin with the header of their own length, which it can say
+pub record IsReply (unique : ℕ) (reply : List ℕ) : Type 0 where
+  pub error : ℤ
+  pub long : size_of out_header ≤ length reply
+  pub fits : length reply < 2 ^ 32
+  pub header : take (size_of out_header) reply ≡ bytes_of out_header (record { len = length reply; error = error; unique = unique })
 
-length-getxattr_out : (n : ℕ) → length (bytes_of getxattr_out (getxattr_out_of n)) ≡ 8
-length-getxattr_out n = simp (length-append, length-little)
+pub IsReply-fault : (fault : Option ℕ) (unique : ℕ) → IsReply unique (fault_reply fault unique)
+IsReply-fault fault unique =
+    let size = length-fault_reply fault unique in
+    let e = pos 0 -ℤ pos (fault_number fault) in
+    record {
+      error = e;
+      long = omega (arith, size);
+      fits = omega (arith, size);
+      header = take_all 16 (fault_reply fault unique) (omega (arith, size))
+          ∙ ap (λ (n : ℕ). bytes_of out_header (record { len = n; error = e; unique = unique })) (sym size);
+    }
 
-text_or_count_is_short : (answer : Answer) → IsAnswer TextsOrCounts answer → IsShort (say_text_or_count answer)
-text_or_count_is_short (Failed fault) a = tt
-text_or_count_is_short (Text bytes) a = a
-text_or_count_is_short (Count n) a = omega (arith, length-getxattr_out n)
-text_or_count_is_short _ a = tt
+pub IsReply-body : (body : List ℕ) (unique : ℕ) → length body < 2 ^ 32 - 16 → IsReply unique (body_reply body unique)
+IsReply-body body unique short =
+    let size = length-body_reply body unique in
+    let h : OutHeader = record { len = 16 + length body; error = pos 0; unique = unique } in
+    record {
+      error = pos 0;
+      long = omega (arith, size);
+      fits = omega (arith, size, short);
+      header = take_at (bytes_of out_header h) body 16 (length-header h)
+          ∙ ap (λ (n : ℕ). bytes_of out_header (record { len = n; error = pos 0; unique = unique })) (sym size);
+    }
 
-length-lseek_out : (n : ℕ) → length (bytes_of lseek_out (record { offset = n })) ≡ 8
-length-lseek_out n = simp (length-append, length-little)
+IsReply-answer : (body : List ℕ) (unique : ℕ) (answer : Answer) → IsShort body → IsReply unique (answer_reply body unique answer)
+IsReply-answer body unique (Failed fault) short = IsReply-fault fault unique
+IsReply-answer body unique _ short = IsReply-body body unique short
 
-offset_is_short : (answer : Answer) → IsShort (say_offset answer)
-offset_is_short (Failed fault) = tt
-offset_is_short (Offset offset) = omega (arith, length-lseek_out offset)
-offset_is_short _ = tt
-
-length-write_out : (n : ℕ) → length (bytes_of write_out (write_out_of n)) ≡ 8
-length-write_out n = simp (length-append, length-little)
-
-written_is_short : (answer : Answer) → IsShort (say_written answer)
-written_is_short (Failed fault) = tt
-written_is_short (Written count) = omega (arith, length-write_out count)
-written_is_short _ = tt
-
-fault_alone_is_short : (answer : Answer) → IsShort (say_fault_alone answer)
-fault_alone_is_short (Failed fault) = tt
-fault_alone_is_short _ = tt
-
--- what is said of an answer of the call's kind, its numbers in their widths
-pub answers_are_short : (limits : Limits) (echo : Echo) (options : ℕ) (kind : Kind) (answer : Answer) → IsAnswer kind answer → IsShort (say limits echo options kind answer)
-answers_are_short limits echo options Quiet answer a = quiet_is_short answer
-answers_are_short limits echo options Told answer a = done_is_short answer
-answers_are_short limits echo options Untold answer a = fault_is_short answer
-answers_are_short limits echo options (Data size) answer a = bytes_are_short size answer a
-answers_are_short limits echo options Agreements answer a = init_is_short limits echo.max_readahead options answer
-answers_are_short limits echo options Entries answer a = entry_is_short answer a
-answers_are_short limits echo options TimedAttributes answer a = attr_is_short answer a
-answers_are_short limits echo options Openings answer a = opened_is_short answer a
-answers_are_short limits echo options Creations answer a = created_is_short answer a
-answers_are_short limits echo options Capacities answer a = statistics_are_short answer a
-answers_are_short limits echo options Texts answer a = text_is_short answer a
-answers_are_short limits echo options TextsOrCounts answer a = text_or_count_is_short answer a
-answers_are_short limits echo options Offsets answer a = offset_is_short answer
-answers_are_short limits echo options Writes answer a = written_is_short answer
-answers_are_short limits echo options Iterators answer a = fault_alone_is_short answer
-answers_are_short limits echo options Faults answer a = fault_alone_is_short answer
+-- What holds of nothing, and of each reply that begins with its header, holds of what comes back of
+-- a call.
+pub replies_hold : (P : Reply → Type 0) (limits : Limits) (echo : Echo) (options : ℕ) (kind : Kind) (answer : Answer)
+    → IsAnswer kind answer → P NoReply → ((reply : List ℕ) → IsReply echo.unique reply → P (Bytes reply))
+    → ((reply : List ℕ) → IsReply echo.unique reply → P (OpenBehind reply)) → P (reply_of limits echo options kind answer)
+replies_hold P limits echo options Quiet answer a none bytes open_behind = none
+replies_hold P limits echo options Untold Done a none bytes open_behind = none
+replies_hold P limits echo options (Data size) answer a none bytes open_behind =
+    open_behind _ (IsReply-answer (body_of answer) echo.unique answer (bodies_are_short (Data size) answer a))
+replies_hold P limits echo options Agreements answer a none bytes open_behind =
+    let out = init_out_of limits echo.max_readahead options in
+    bytes _ (IsReply-answer (bytes_of init_out out) echo.unique answer (init_out_is_short out))
+replies_hold P limits echo options kind answer a none bytes open_behind =
+    bytes _ (IsReply-answer (body_of answer) echo.unique answer (bodies_are_short kind answer a))

@@ -7,17 +7,18 @@ use Rattle.vfs_wire.specs.Fields.{bytes_of}
 use Rattle.vfs_wire.specs.Headers.{out_header}
 use Rattle.vfs_wire.specs.Init.{init_out}
 use Rattle.vfs_wire.specs.declared.headers.InHeader.{InHeader}
-use Rattle.vfs_files.specs.Calls.{Data, kind_of, read_answer}
+use Rattle.vfs_files.specs.Calls.{Kind, Answer, IsAnswer, Data, kind_of, read_answer}
 use Rattle.vfs_grammar.specs.Ask.{form_of, ask, header_of}
 use Rattle.vfs_grammar.specs.Forms.{Ask}
 use Rattle.vfs_laws.specs.Turns.{unique_of, opcode_in, CarriesData, IsCutOff, CutsOff, cut_turn_tells, LacksRoomForHeader}
 use Rattle.vfs_grammar.specs.Records.{size_of}
-use Rattle.vfs_grammar.specs.Reply.{Bytes, Refusal, Saying, Fault, Body, Unsaid, Wrong, said, said_open, said_by, is_open, say, fault_reply, body_reply, version_out}
+use Rattle.vfs_grammar.specs.Reply.{Bytes, Refusal, Echo, fault_reply, body_reply, reply_of, version_out}
 use Rattle.vfs_grammar.specs.Room.{IsReplied}
 use Rattle.vfs_grammar.specs.Turn.{Turn, Follows, IsTurn, turn_tells}
 use Rattle.vfs_grammar.specs.declared.limits.Limits.{Limits}
 use Rattle.vfs_grammar.specs.declared.error.Error.{Error}
 use Rattle.vfs_grammar.specs.declared.error.Error.TheVariants.{EncodeMessage, OutOfMemory}
+use Rattle.vfs_laws.proofs.Bodies.{replies_hold}
 use Rattle.vfs_laws.proofs.Asking.{IsCramped, IsCrampedBy, ask_cases}
 use Rattle.vfs_grammar.proofs.Refusing.{MayRefuse}
 
@@ -33,26 +34,14 @@ bytes_cut : (reply room : List ℕ) (outcome : Result ℕ Error) (room_after : L
 bytes_cut reply room outcome room_after h o =
     put_cut (nat_le (length reply) (length room)) reply room room_after refl (sym h.says ∙ o) h.leaves
 
-said_cut : (unique : ℕ) (s : Saying) (room : List ℕ) (outcome : Result ℕ Error) (room_after : List ℕ) → IsReplied (said unique s) room outcome room_after
-    → outcome ≡ Err EncodeMessage → CutsOff (said unique s) room room_after
-said_cut unique (Fault fault) room outcome room_after h o = bytes_cut (fault_reply fault unique) room outcome room_after h o
-said_cut unique (Body body) room outcome room_after h o = bytes_cut (body_reply body unique) room outcome room_after h o
-said_cut unique Unsaid room outcome room_after h o = absurd (let a = sym h.0 ∙ o in cc)
-said_cut unique Wrong room outcome room_after h o = absurd h
-
-open_cut : (unique : ℕ) (s : Saying) (room : List ℕ) (outcome : Result ℕ Error) (room_after : List ℕ) → IsReplied (said_open unique s) room outcome room_after
-    → outcome ≡ Err EncodeMessage → CutsOff (said_open unique s) room room_after
-open_cut unique (Fault fault) room outcome room_after h o = absurd (let a = sym h.says ∙ o in cc)
-open_cut unique (Body body) room outcome room_after h o = absurd (let a = sym h.says ∙ o in cc)
-open_cut unique Unsaid room outcome room_after h o = absurd h
-open_cut unique Wrong room outcome room_after h o = absurd h
-
--- what is said of an answer and refused is cut off
-answer_cut : (open_behind : Bool) (unique : ℕ) (s : Saying) (room : List ℕ) (outcome : Result ℕ Error) (room_after : List ℕ)
-    → IsReplied (said_by open_behind unique s) room outcome room_after → outcome ≡ Err EncodeMessage
-    → CutsOff (said_by open_behind unique s) room room_after
-answer_cut false unique s room outcome room_after h o = said_cut unique s room outcome room_after h o
-answer_cut true unique s room outcome room_after h o = open_cut unique s room outcome room_after h o
+-- what comes back of a call and is refused is cut off
+answer_cut : (limits : Limits) (echo : Echo) (options : ℕ) (kind : Kind) (answer : Answer) (room : List ℕ) (outcome : Result ℕ Error) (room_after : List ℕ)
+    → IsAnswer kind answer → IsReplied (reply_of limits echo options kind answer) room outcome room_after → outcome ≡ Err EncodeMessage
+    → CutsOff (reply_of limits echo options kind answer) room room_after
+answer_cut limits echo options kind answer room outcome room_after a h o =
+    replies_hold (λ reply. IsReplied reply room outcome room_after → CutsOff reply room room_after) limits echo options kind answer a
+    (λ none. absurd (let a = sym none.0 ∙ o in cc)) (λ reply is p. bytes_cut reply room outcome room_after p o)
+    (λ reply is p. absurd (let a = sym p.says ∙ o in cc)) h
 
 -- only the forms of READ, READDIR and READDIRPLUS need room for a header before their call
 cramped_form : (limits : Limits) (options room : ℕ) (h : InHeader) (opcode : Opcode) → IsCramped (form_of limits options room h opcode)
@@ -83,7 +72,7 @@ cut_off limits options after t f o =
         f.0,
         f.1,
         f.2,
-        answer_cut (is_open (kind_of c)) echo.unique (say limits echo after (kind_of c) f.0) t.room t.outcome t.room_after f.3 o,
+        answer_cut limits echo after (kind_of c) f.0 t.room t.outcome t.room_after f.2 f.3 o,
         f.4,
       );
       lists = λ echo l same f. inl (
@@ -91,7 +80,7 @@ cut_off limits options after t f o =
         f.1,
         f.2,
         f.3,
-        answer_cut true echo.unique (say limits echo after (Data l.size) (read_answer f.1 f.0)) t.room t.outcome t.room_after f.4 o,
+        answer_cut limits echo after (Data l.size) (read_answer f.1 f.0) t.room t.outcome t.room_after f.3 f.4 o,
         f.5,
       );
     })

@@ -1,22 +1,22 @@
 -- What holds of every turn that reads a directory.
 use Rattle.std.proofs.Common.{◌≡◌, ℕ, List, length, Option, Result, Ok, Err, sym, ◌∙◌, inl, inr, arith, subst}
-use Rattle.vfs_files.specs.Calls.{read_answer}
+use Rattle.vfs_files.specs.Calls.{Data, read_answer}
 use Rattle.vfs_grammar.specs.Directories.{IsWhole, listing_reply, StopsForACause, ComesWhole, TakesFew}
 use Rattle.vfs_grammar.specs.Listing.{IsListing}
 use Rattle.vfs_laws.proofs.Takings.{listing_whole, takings_bounded}
 use Rattle.vfs_grammar.specs.Ask.{ask}
 use Rattle.vfs_grammar.specs.Forms.{Listing, Lists}
-use Rattle.vfs_grammar.specs.Reply.{Echo, said_open, say_bytes}
+use Rattle.vfs_grammar.specs.Reply.{Echo, reply_to}
 use Rattle.vfs_grammar.specs.Room.{IsReplied, IsPutOpen}
 use Rattle.vfs_grammar.specs.Turn.{Turn, Follows, IsRead, IsTurn, turn_tells}
 use Rattle.vfs_grammar.specs.declared.limits.Limits.{Limits}
 use Rattle.vfs_grammar.specs.declared.error.Error.{Error}
 
-replied_so : (unique : ℕ) (answer : Result ℕ (Option ℕ)) (records room : List ℕ) (outcome : Result ℕ Error) (room_after : List ℕ)
-    → IsReplied (said_open unique (say_bytes (read_answer answer records))) room outcome room_after
+replied_so : (unique size : ℕ) (answer : Result ℕ (Option ℕ)) (records room : List ℕ) (outcome : Result ℕ Error) (room_after : List ℕ)
+    → IsReplied (reply_to unique (Data size) (read_answer answer records)) room outcome room_after
     → IsPutOpen (listing_reply answer records unique) room outcome room_after
-replied_so unique (Ok count) records room outcome room_after p = p
-replied_so unique (Err fault) records room outcome room_after p = p
+replied_so unique size (Ok count) records room outcome room_after p = p
+replied_so unique size (Err fault) records room outcome room_after p = p
 
 module _ (limits : Limits) (options after : ℕ) (t : Turn) (echo : Echo) (l : Listing)
     (turn : IsTurn limits options t after) (lists : ask limits options (length t.room) t.request ≡ Lists echo l) where
@@ -27,7 +27,7 @@ module _ (limits : Limits) (options after : ℕ) (t : Turn) (echo : Echo) (l : L
         records = f.0;
         answer = f.1;
         stops = f.2;
-        replied = replied_so echo.unique f.1 f.0 t.room t.outcome t.room_after f.4;
+        replied = replied_so echo.unique l.size f.1 f.0 t.room t.outcome t.room_after f.4;
       }
 
   few_by : (records : List ℕ) (answer : Result ℕ (Option ℕ)) → IsRead l t.events records answer → TakesFew l t

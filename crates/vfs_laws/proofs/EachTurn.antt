@@ -13,7 +13,7 @@ use Rattle.vfs_wire.specs.Headers.{in_header, out_header}
 use Rattle.vfs_wire.specs.Init.{init_out}
 use Rattle.vfs_wire.specs.declared.headers.InHeader.{InHeader}
 use Rattle.vfs_wire.specs.declared.headers.OutHeader.{OutHeader}
-use Rattle.vfs_files.specs.Calls.{Call, Init, Destroy, Readdir, Answer, Failed, Options, Data, Iterators, kind_of, read_answer, IsAnswer, IsFault}
+use Rattle.vfs_files.specs.Calls.{Call, Kind, Init, Destroy, Readdir, Answer, Failed, Options, Data, Iterators, kind_of, read_answer, IsAnswer, IsFault}
 use Rattle.vfs_files.specs.Runs.{Event, Called}
 use Rattle.vfs_files.specs.declared.entry.Context.{Context}
 use Rattle.vfs_grammar.specs.Listing.{given_back}
@@ -23,7 +23,7 @@ use Rattle.vfs_grammar.specs.Ask.{form_of, ask, ask_number}
 use Rattle.vfs_grammar.specs.Forms.{Listing, Ask, Ends, Asks, Lists, Copies, refused, Form, NoTail, NameTail, TwoNames, NameAndValue, NameAndExtensions, LinkAndExtensions, Pairs, WithRest, IntoRoom, Directories, Versions, Silent, NotServed, Layout, refused_or, layout_record, layout_size, tail_of, behind, ask_form}
 use Rattle.vfs_laws.specs.Turns.{TailIsWhole, MayLackMemory, unique_of, BeginsWithHeader, AreAgreed, WantsMemory, MayLackBehind}
 use Rattle.vfs_grammar.specs.Options.{agreed, options_after}
-use Rattle.vfs_grammar.specs.Reply.{Reply, echo_of, Refusal, NoReply, Bytes, OpenBehind, Never, Saying, Fault, Body, Unsaid, Wrong, said, said_open, said_by, is_open, say, fault_reply, fault_number, body_reply, reply_of, version_out}
+use Rattle.vfs_grammar.specs.Reply.{Reply, Echo, echo_of, Refusal, NoReply, Bytes, OpenBehind, fault_reply, body_reply, reply_of, version_out}
 use Rattle.vfs_grammar.specs.Room.{IsReplied, unseen}
 use Rattle.vfs_grammar.specs.Turn.{Turn, Follows, IsRead, IsTurn, IsTurnWithMemory, node_answered, turn_tells, turn_with_memory_tells}
 use Rattle.vfs_grammar.specs.declared.limits.Limits.{Limits}
@@ -31,7 +31,7 @@ use Rattle.vfs_grammar.specs.declared.error.Error.{Error}
 use Rattle.vfs_grammar.specs.declared.error.Error.TheVariants.{DecodeMessage, EncodeMessage, FlushMessage, InvalidCString2, OutOfMemory}
 use Rattle.vfs_laws.proofs.Asking.{EachCase, ask_cases, layout_cases, tail_cases, pairs_cases, room_cases, within_cases, versions_cases}
 use Rattle.vfs_grammar.proofs.Refusing.{MayRefuse}
-use Rattle.vfs_laws.proofs.Bodies.{IsShort, init_out_is_short, answers_are_short}
+use Rattle.vfs_laws.proofs.Bodies.{IsReply, IsReply-fault, IsReply-body, init_out_is_short, replies_hold}
 use Rattle.vfs_grammar.proofs.Rooms.{length-header, length-fault_reply, length-body_reply}
 
 -- ---- refusals
@@ -45,34 +45,24 @@ put_error false n e h = cc
 bytes_error : (bytes room : List ℕ) (outcome : Result ℕ Error) (left : List ℕ) (e : Error) → IsReplied (Bytes bytes) room outcome left → outcome ≡ Err e → e ≡ EncodeMessage
 bytes_error bytes room outcome left e h o = put_error (nat_le (length bytes) (length room)) (length bytes) e (sym h.says ∙ o)
 
-said_error : (unique : ℕ) (s : Saying) (room : List ℕ) (outcome : Result ℕ Error) (left : List ℕ) (e : Error) → IsReplied (said unique s) room outcome left → outcome ≡ Err e → e ≡ EncodeMessage
-said_error unique (Fault fault) room outcome left e h o = bytes_error (fault_reply fault unique) room outcome left e h o
-said_error unique (Body body) room outcome left e h o = bytes_error (body_reply body unique) room outcome left e h o
-said_error unique Unsaid room outcome left e h o = absurd (let a = sym h.0 ∙ o in cc)
-said_error unique Wrong room outcome left e h o = absurd h
-
-laid_error : (unique : ℕ) (s : Saying) (room : List ℕ) (outcome : Result ℕ Error) (left : List ℕ) (e : Error) → IsReplied (said_open unique s) room outcome left → outcome ≡ Err e → e ≡ EncodeMessage
-laid_error unique (Fault fault) room outcome left e h o = absurd (let a = sym h.says ∙ o in cc)
-laid_error unique (Body body) room outcome left e h o = absurd (let a = sym h.says ∙ o in cc)
-laid_error unique Unsaid room outcome left e h o = absurd h
-laid_error unique Wrong room outcome left e h o = absurd h
-
--- what is said is refused only where it is too long
-answer_error : (open_behind : Bool) (unique : ℕ) (s : Saying) (room : List ℕ) (outcome : Result ℕ Error) (left : List ℕ) (e : Error) → IsReplied (said_by open_behind unique s) room outcome left → outcome ≡ Err e → e ≡ EncodeMessage
-answer_error false unique s room outcome left e h o = said_error unique s room outcome left e h o
-answer_error true unique s room outcome left e h o = laid_error unique s room outcome left e h o
+-- what comes back of a call is refused only where it is too long
+answer_error : (limits : Limits) (echo : Echo) (options : ℕ) (kind : Kind) (answer : Answer) (room : List ℕ) (outcome : Result ℕ Error) (left : List ℕ) (e : Error)
+    → IsAnswer kind answer → IsReplied (reply_of limits echo options kind answer) room outcome left → outcome ≡ Err e → e ≡ EncodeMessage
+answer_error limits echo options kind answer room outcome left e a h o =
+    replies_hold (λ reply. IsReplied reply room outcome left → e ≡ EncodeMessage) limits echo options kind answer a
+    (λ none. absurd (let a = sym none.0 ∙ o in cc)) (λ reply is p. bytes_error reply room outcome left e p o)
+    (λ reply is p. absurd (let a = sym p.says ∙ o in cc)) h
 
 ended_so : (reply : Reply) (room : List ℕ) (outcome : Result ℕ Error) (left : List ℕ) (e : Error) → IsReplied reply room outcome left → outcome ≡ Err e → e ≢ EncodeMessage → left ≡ room
 ended_so (Refusal error) room outcome left e h o n = h.1
 ended_so NoReply room outcome left e h o n = h.1
 ended_so (Bytes bytes) room outcome left e h o n = absurd (n (bytes_error bytes room outcome left e h o))
 ended_so (OpenBehind bytes) room outcome left e h o n = absurd (let a = sym h.says ∙ o in cc)
-ended_so Never room outcome left e h o n = absurd h
 
 nothing_follows : (limits : Limits) (options : ℕ) (a : Ask) (t : Turn) (after : ℕ) (e : Error) → Follows (turn_tells t) limits options a after → t.outcome ≡ Err e → e ≢ EncodeMessage → (t.events ≡ []) × (t.room_after ≡ t.room) × (after ≡ options)
 nothing_follows limits options (Ends reply) t after e f o n = (f.0, ended_so reply t.room t.outcome t.room_after e f.1 o n, f.2)
-nothing_follows limits options (Asks echo call) t after e f o n = absurd (n (answer_error (is_open (kind_of call)) echo.unique (say limits echo after (kind_of call) f.0) t.room t.outcome t.room_after e f.3 o))
-nothing_follows limits options (Lists echo l) t after e f o n = absurd (n (answer_error true echo.unique (say limits echo after (Data l.size) (read_answer f.1 f.0)) t.room t.outcome t.room_after e f.4 o))
+nothing_follows limits options (Asks echo call) t after e f o n = absurd (n (answer_error limits echo after (kind_of call) f.0 t.room t.outcome t.room_after e f.2 f.3 o))
+nothing_follows limits options (Lists echo l) t after e f o n = absurd (n (answer_error limits echo after (Data l.size) (read_answer f.1 f.0) t.room t.outcome t.room_after e f.3 f.4 o))
 nothing_follows limits options (Copies rest) t after e (inl f) o n = nothing_follows limits options rest t after e f o n
 nothing_follows limits options (Copies rest) t after e (inr f) o n = (f.0, f.1.1, f.2)
 
@@ -107,8 +97,8 @@ answers limits options after t e o =
       fault = λ x f. encode (bytes_error (fault_reply x u) t.room t.outcome t.room_after e f.1 o);
       version = λ f. encode (bytes_error (body_reply (bytes_of init_out version_out) u) t.room t.outcome t.room_after e f.1 o);
       nothing = λ f. absurd (let a = sym f.1.0 ∙ o in cc);
-      asks = λ echo c same f. encode (answer_error (is_open (kind_of c)) echo.unique (say limits echo after (kind_of c) f.0) t.room t.outcome t.room_after e f.3 o);
-      lists = λ echo l same f. encode (answer_error true echo.unique (say limits echo after (Data l.size) (read_answer f.1 f.0)) t.room t.outcome t.room_after e f.4 o);
+      asks = λ echo c same f. encode (answer_error limits echo after (kind_of c) f.0 t.room t.outcome t.room_after e f.2 f.3 o);
+      lists = λ echo l same f. encode (answer_error limits echo after (Data l.size) (read_answer f.1 f.0) t.room t.outcome t.room_after e f.3 f.4 o);
     })
     (λ a p f. elim f as (λ x. MayAnswer e) [ inl g ↦ p g | inr g ↦ of_error OutOfMemory e t.outcome g.1.0 o tt ])
     limits options (length t.room) t.request refl (λ small f. encode (let a = sym f.1.0 ∙ o in cc))
@@ -135,8 +125,8 @@ module _ (limits : Limits) (options after : ℕ) (t : Turn) (lacks : t.outcome �
     fault = λ x f. absurd (let a = bytes_error (fault_reply x unique) t.room t.outcome t.room_after OutOfMemory f.1 lacks in cc);
     version = λ f. absurd (let a = bytes_error (body_reply (bytes_of init_out version_out) unique) t.room t.outcome t.room_after OutOfMemory f.1 lacks in cc);
     nothing = λ f. absurd (let a = sym f.1.0 ∙ lacks in cc);
-    asks = λ echo c same f. absurd (let a = answer_error (is_open (kind_of c)) echo.unique (say limits echo after (kind_of c) f.0) t.room t.outcome t.room_after OutOfMemory f.3 lacks in cc);
-    lists = λ echo l same f. absurd (let a = answer_error true echo.unique (say limits echo after (Data l.size) (read_answer f.1 f.0)) t.room t.outcome t.room_after OutOfMemory f.4 lacks in cc);
+    asks = λ echo c same f. absurd (let a = answer_error limits echo after (kind_of c) f.0 t.room t.outcome t.room_after OutOfMemory f.2 f.3 lacks in cc);
+    lists = λ echo l same f. absurd (let a = answer_error limits echo after (Data l.size) (read_answer f.1 f.0) t.room t.outcome t.room_after OutOfMemory f.3 f.4 lacks in cc);
   }
 
   -- nor where the room is too small for a header
@@ -232,44 +222,13 @@ enough_memory limits options after t f o =
       fault = λ x f. absurd (let a = bytes_error (fault_reply x u) t.room t.outcome t.room_after OutOfMemory f.1 o in cc);
       version = λ f. absurd (let a = bytes_error (body_reply (bytes_of init_out version_out) u) t.room t.outcome t.room_after OutOfMemory f.1 o in cc);
       nothing = λ f. absurd (let a = sym f.1.0 ∙ o in cc);
-      asks = λ echo c same f. absurd (let a = answer_error (is_open (kind_of c)) echo.unique (say limits echo after (kind_of c) f.0) t.room t.outcome t.room_after OutOfMemory f.3 o in cc);
-      lists = λ echo l same f. absurd (let a = answer_error true echo.unique (say limits echo after (Data l.size) (read_answer f.1 f.0)) t.room t.outcome t.room_after OutOfMemory f.4 o in cc);
+      asks = λ echo c same f. absurd (let a = answer_error limits echo after (kind_of c) f.0 t.room t.outcome t.room_after OutOfMemory f.2 f.3 o in cc);
+      lists = λ echo l same f. absurd (let a = answer_error limits echo after (Data l.size) (read_answer f.1 f.0) t.room t.outcome t.room_after OutOfMemory f.3 f.4 o in cc);
     })
     (λ a p f. elim f as (λ x. MayRefuse OutOfMemory) [ inl g ↦ p g | inr g ↦ absurd g.0 ])
     limits options (length t.room) t.request refl (λ small f. absurd (let a = sym f.1.0 ∙ o in cc)) f
 
 -- ---- replies
-
--- bytes that begin with the header of their own length, which it can say
-record IsReply (unique : ℕ) (reply : List ℕ) : Type 0 where
-  error : ℤ
-  long : size_of out_header ≤ length reply
-  fits : length reply < 2 ^ 32
-  header : take (size_of out_header) reply ≡ bytes_of out_header (record { len = length reply; error = error; unique = unique })
-
-IsReply-fault : (fault : Option ℕ) (unique : ℕ) → IsReply unique (fault_reply fault unique)
-IsReply-fault fault unique =
-    let size = length-fault_reply fault unique in
-    let e = pos 0 -ℤ pos (fault_number fault) in
-    record {
-      error = e;
-      long = omega (arith, size);
-      fits = omega (arith, size);
-      header = take_all 16 (fault_reply fault unique) (omega (arith, size))
-          ∙ ap (λ (n : ℕ). bytes_of out_header (record { len = n; error = e; unique = unique })) (sym size);
-    }
-
-IsReply-body : (body : List ℕ) (unique : ℕ) → length body < 2 ^ 32 - 16 → IsReply unique (body_reply body unique)
-IsReply-body body unique short =
-    let size = length-body_reply body unique in
-    let h : OutHeader = record { len = 16 + length body; error = pos 0; unique = unique } in
-    record {
-      error = pos 0;
-      long = omega (arith, size);
-      fits = omega (arith, size, short);
-      header = take_at (bytes_of out_header h) body 16 (length-header h)
-          ∙ ap (λ (n : ℕ). bytes_of out_header (record { len = n; error = pos 0; unique = unique })) (sym size);
-    }
 
 put_begins : (fits : Bool) (reply room : List ℕ) (n unique : ℕ) → (if fits then Ok (length reply) else Err EncodeMessage) ≡ Ok n
     → IsReply unique reply
@@ -302,29 +261,14 @@ open_begin reply room outcome room_after n unique h o r =
       header = first ∙ r.header ∙ ap (λ (k : ℕ). bytes_of out_header (record { len = k; error = r.error; unique = unique })) same;
     }
 
-said_begins : (unique : ℕ) (s : Saying) (room : List ℕ) (outcome : Result ℕ Error) (room_after : List ℕ) (n : ℕ) → IsShort s
-    → IsReplied (said unique s) room outcome room_after → outcome ≡ Ok n → 0 < n → BeginsWithHeader n unique room_after
-said_begins unique (Fault fault) room outcome room_after n short h o some =
-    bytes_begin (fault_reply fault unique) room outcome room_after n unique h o (IsReply-fault fault unique)
-said_begins unique (Body body) room outcome room_after n short h o some =
-    bytes_begin (body_reply body unique) room outcome room_after n unique h o (IsReply-body body unique short)
-said_begins unique Unsaid room outcome room_after n short h o some = let z : n ≡ 0 = (let a = sym h.0 ∙ o in cc) in absurd (omega arith)
-said_begins unique Wrong room outcome room_after n short h o some = absurd h
-
-said_open_begins : (unique : ℕ) (s : Saying) (room : List ℕ) (outcome : Result ℕ Error) (room_after : List ℕ) (n : ℕ) → IsShort s
-    → IsReplied (said_open unique s) room outcome room_after → outcome ≡ Ok n → 0 < n → BeginsWithHeader n unique room_after
-said_open_begins unique (Fault fault) room outcome room_after n short h o some =
-    open_begin (fault_reply fault unique) room outcome room_after n unique h o (IsReply-fault fault unique)
-said_open_begins unique (Body body) room outcome room_after n short h o some =
-    open_begin (body_reply body unique) room outcome room_after n unique h o (IsReply-body body unique short)
-said_open_begins unique Unsaid room outcome room_after n short h o some = absurd h
-said_open_begins unique Wrong room outcome room_after n short h o some = absurd h
-
-answer_begins : (open_behind : Bool) (unique : ℕ) (s : Saying) (room : List ℕ) (outcome : Result ℕ Error) (room_after : List ℕ) (n : ℕ)
-    → IsShort s → IsReplied (said_by open_behind unique s) room outcome room_after → outcome ≡ Ok n → 0 < n
-    → BeginsWithHeader n unique room_after
-answer_begins false unique s room outcome room_after n short h o some = said_begins unique s room outcome room_after n short h o some
-answer_begins true unique s room outcome room_after n short h o some = said_open_begins unique s room outcome room_after n short h o some
+answer_begins : (limits : Limits) (echo : Echo) (options : ℕ) (kind : Kind) (answer : Answer) (room : List ℕ) (outcome : Result ℕ Error) (room_after : List ℕ) (n : ℕ)
+    → IsAnswer kind answer → IsReplied (reply_of limits echo options kind answer) room outcome room_after → outcome ≡ Ok n → 0 < n
+    → BeginsWithHeader n echo.unique room_after
+answer_begins limits echo options kind answer room outcome room_after n a h o some =
+    replies_hold (λ reply. IsReplied reply room outcome room_after → BeginsWithHeader n echo.unique room_after) limits echo options kind answer a
+    (λ none. let z : n ≡ 0 = (let a = sym none.0 ∙ o in cc) in absurd (omega arith))
+    (λ reply is p. bytes_begin reply room outcome room_after n echo.unique p o is)
+    (λ reply is p. open_begin reply room outcome room_after n echo.unique p o is) h
 
 pub begins : (limits : Limits) (options after n : ℕ) (t : Turn) → IsTurn limits options t after → t.outcome ≡ Ok n → 0 < n
     → BeginsWithHeader n (unique_of t.request) t.room_after
@@ -339,11 +283,9 @@ begins limits options after n t f o some =
           (IsReply-body (bytes_of init_out version_out) u (init_out_is_short version_out));
       nothing = λ f. let z : n ≡ 0 = (let a = sym f.1.0 ∙ o in cc) in absurd (omega arith);
       asks = λ echo c same f. subst (λ (v : ℕ). BeginsWithHeader n v t.room_after) same
-          (answer_begins (is_open (kind_of c)) echo.unique (say limits echo after (kind_of c) f.0) t.room t.outcome t.room_after n
-          (answers_are_short limits echo after (kind_of c) f.0 f.2) f.3 o some);
+          (answer_begins limits echo after (kind_of c) f.0 t.room t.outcome t.room_after n f.2 f.3 o some);
       lists = λ echo l same f. subst (λ (v : ℕ). BeginsWithHeader n v t.room_after) same
-          (answer_begins true echo.unique (say limits echo after (Data l.size) (read_answer f.1 f.0)) t.room t.outcome t.room_after n
-          (answers_are_short limits echo after (Data l.size) (read_answer f.1 f.0) f.3) f.4 o some);
+          (answer_begins limits echo after (Data l.size) (read_answer f.1 f.0) t.room t.outcome t.room_after n f.3 f.4 o some);
     })
     (λ a p f. elim f as (λ x. BeginsWithHeader n u t.room_after) [ inl g ↦ p g | inr g ↦ absurd (let a = sym g.1.0 ∙ o in cc) ])
     limits options (length t.room) t.request refl (λ small f. absurd (let a = sym f.1.0 ∙ o in cc)) f

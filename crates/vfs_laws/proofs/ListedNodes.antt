@@ -8,7 +8,7 @@ use Rattle.vfs_flags.specs.declared.opcode.Opcode.{Opcode}
 use Rattle.vfs_wire.specs.declared.entries.EntryOut.{EntryOut}
 use Rattle.vfs_files.specs.declared.entry.Context.{Context}
 use Rattle.vfs_files.specs.Items.{Item}
-use Rattle.vfs_files.specs.Calls.{Call, Readdir, read_answer}
+use Rattle.vfs_files.specs.Calls.{Call, Readdir, Data, read_answer}
 use Rattle.vfs_files.specs.Runs.{Event, Opened, Taken}
 use Rattle.vfs_laws.specs.Listings.{node_of_line}
 use Rattle.vfs_grammar.specs.Listing.{Got, Line, Stop, End, At, Gets, IsGot, is_dot, lookups, line_events, stop_events, given_back, line_len, line_bytes, AreWritten, Stops, fate, answer_at, answer_of, IsListing, IsUnopened, IsOpened, IsDirectory, node_got}
@@ -16,14 +16,14 @@ use Rattle.vfs_laws.proofs.Takings.{lines_least}
 use Rattle.vfs_laws.proofs.Nodes.{nodes_in-listing}
 use Rattle.vfs_grammar.specs.Nodes.{nodes_in}
 use Rattle.vfs_grammar.specs.Dirents.{Verdict, Fits, Full, Fails}
-use Rattle.vfs_grammar.specs.Reply.{Saying, say_bytes, said_open, fault_reply, body_reply}
+use Rattle.vfs_grammar.specs.Reply.{reply_to, body_of, fault_reply, body_reply}
 use Rattle.vfs_grammar.specs.Room.{IsReplied}
 use Rattle.vfs_grammar.specs.Turn.{Turn}
 use Rattle.vfs_grammar.proofs.Rooms.{length-fault_reply, length-body_reply}
 use Rattle.vfs_grammar.specs.Books.{times, opcode_in, nodes_behind, delivered_nodes, sent_by, answered, sent}
 use Rattle.vfs_laws.proofs.Decoding.{delivered_nodes-fault, delivered_nodes-body, behind-body}
 use Rattle.vfs_laws.proofs.Replying.{Balances, LastOnly, whole_books}
-use Rattle.vfs_laws.proofs.Saying.{FaultFits}
+use Rattle.vfs_laws.proofs.Saying.{said_as, FaultFits}
 use Rattle.vfs_laws.proofs.Sums.{answered-append, sent-append}
 
 -- the node of what an item got: 0 where that is no entry
@@ -206,10 +206,6 @@ fault_delivers true ctx parent size room n events body g h =
 
 -- ---- a turn
 
--- what is said of a directory that was read
-abbrev pub said_of : Result ℕ (Option ℕ) → (body : List ℕ) → Saying
-said_of result body = say_bytes (read_answer result body)
-
 -- the opcode is that of READDIRPLUS or, where not `plus`, one whose replies have no entries
 pub record ListsFor (plus : Bool) (opcode : Option Opcode) : Type 0 where
   pub nodes : (reply : List ℕ) → nodes_behind opcode reply ≡ body_nodes plus (drop 16 reply)
@@ -226,7 +222,7 @@ module _ (n : ℕ) (some : n ≢ 0) (t : Turn) (plus : Bool) (ctx : Context) (pa
   -- what was answered is what the reply delivers, and what was sent
   opened_books : (unique : ℕ) (body : List ℕ) (result : Result ℕ (Option ℕ)) → ListsFor plus (opcode_in t.request)
       → IsOpened plus (Readdir ctx parent handle size offset) ctx parent size room t.events body result
-      → FaultFits (said_of result body) → IsReplied (said_open unique (said_of result body)) t.room t.outcome t.room_after → Balances n t
+      → FaultFits (said_as (body_of (read_answer result body)) (read_answer result body)) → IsReplied (reply_to unique (Data size) (read_answer result body)) t.room t.outcome t.room_after → Balances n t
   opened_books unique body (Ok count) lists o small p =
       let a : answered n t.events ≡ answered n o.takings = ap (answered n) o.events_are in
       let s : sent n t.events ≡ sent n o.takings = ap (sent n) o.events_are in
@@ -246,7 +242,7 @@ module _ (n : ℕ) (some : n ≢ 0) (t : Turn) (plus : Bool) (ctx : Context) (pa
 
   unopened_books : (unique : ℕ) (body : List ℕ) (result : Result ℕ (Option ℕ))
       → IsUnopened (Readdir ctx parent handle size offset) t.events body result
-      → FaultFits (said_of result body) → IsReplied (said_open unique (said_of result body)) t.room t.outcome t.room_after → Balances n t
+      → FaultFits (said_as (body_of (read_answer result body)) (read_answer result body)) → IsReplied (reply_to unique (Data size) (read_answer result body)) t.room t.outcome t.room_after → Balances n t
   unopened_books unique body (Ok count) u small p = absurd (let e = u.answer_is in cc)
   unopened_books unique body (Err fault) u small p =
       let a : answered n t.events ≡ 0 = ap (answered n) u.events_are in
@@ -257,6 +253,6 @@ module _ (n : ℕ) (some : n ≢ 0) (t : Turn) (plus : Bool) (ctx : Context) (pa
   -- the books of a READDIR or READDIRPLUS
   pub directory_books : (unique : ℕ) (body : List ℕ) (result : Result ℕ (Option ℕ)) → ListsFor plus (opcode_in t.request)
       → IsDirectory plus ctx parent handle size offset room t.events body result
-      → FaultFits (said_of result body) → IsReplied (said_open unique (said_of result body)) t.room t.outcome t.room_after → Balances n t
+      → FaultFits (said_as (body_of (read_answer result body)) (read_answer result body)) → IsReplied (reply_to unique (Data size) (read_answer result body)) t.room t.outcome t.room_after → Balances n t
   directory_books unique body result lists (inl u) small p = unopened_books unique body result u small p
   directory_books unique body result lists (inr o) small p = opened_books unique body result lists o small p

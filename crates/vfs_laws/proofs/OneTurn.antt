@@ -1,14 +1,14 @@
 -- The books of one turn.
 use Rattle.std.proofs.Common.{◌≡◌, ◌≢◌, ◌+◌, ℕ, Bool, true, false, if◌then◌else◌, List, [], ◌∷◌, length, Option, None, Result, Ok, Err, refl, ap, sym, ◌∙◌, inl, inr, arith}
 use Rattle.std.proofs.lemmas.List.Sums.{sum_by-cons}
-use Rattle.vfs_files.specs.Answers.{Answer}
+use Rattle.vfs_files.specs.Answers.{Answer, Done, Failed, Kind, Quiet, Untold, Agreements}
 use Rattle.vfs_files.specs.Calls.{Call, Data, kind_of, read_answer}
 use Rattle.vfs_files.specs.Runs.{Called}
 use Rattle.vfs_files.specs.declared.entry.Context.{Context}
 use Rattle.vfs_grammar.specs.Listing.{given_back}
 use Rattle.vfs_grammar.specs.Ask.{ask}
 use Rattle.vfs_grammar.specs.Forms.{Ask, Ends, Asks, Lists, Copies}
-use Rattle.vfs_grammar.specs.Reply.{Reply, Refusal, NoReply, Bytes, OpenBehind, Never, Saying, Fault, Body, Unsaid, Wrong, said_by, is_open, say, reply_of, fault_reply, body_reply}
+use Rattle.vfs_grammar.specs.Reply.{Reply, Refusal, NoReply, Bytes, OpenBehind, Echo, reply_of, fault_reply, body_reply}
 use Rattle.vfs_grammar.specs.Room.{IsReplied, unseen}
 use Rattle.vfs_grammar.specs.Turn.{Turn, Follows, IsTurn, node_answered, turn_tells}
 use Rattle.vfs_grammar.specs.declared.limits.Limits.{Limits}
@@ -22,7 +22,7 @@ use Rattle.vfs_laws.proofs.Backs.{back_answered, nodes_back, call_last}
 use Rattle.vfs_laws.proofs.Decoding.{delivered_nodes-fault, delivered_nodes-body, u64_at-body}
 use Rattle.vfs_laws.proofs.ListedNodes.{directory_books, directory_last}
 use Rattle.vfs_laws.proofs.Replying.{ComesBack, put_back, Balances, reply_books, done_books, refused_books, SendsBack, LastOnly, no_event}
-use Rattle.vfs_laws.proofs.Saying.{has_entry, node_first, NodesFit, FaultFits, ForgetsFit, are_forgets, nodes_fit, fault_fits, forgets_fit}
+use Rattle.vfs_laws.proofs.Saying.{Saying, Fault, Body, Unsaid, say, has_entry, node_first, NodesFit, FaultFits, ForgetsFit, are_forgets, nodes_fit, fault_fits, forgets_fit}
 use Rattle.vfs_laws.proofs.Table.{CallFits, ReplyFits, AskFits, ask_fits}
 
 -- ---- what is said of an answer
@@ -32,18 +32,18 @@ abbrev SaidBack : (unique : ℕ) → Saying → Result ℕ Error → (room_after
 SaidBack unique (Fault fault) outcome room_after = ComesBack (fault_reply fault unique) outcome room_after
 SaidBack unique (Body body) outcome room_after = ComesBack (body_reply body unique) outcome room_after
 SaidBack unique Unsaid outcome room_after = outcome ≡ Ok 0
-SaidBack unique Wrong outcome room_after = ⊥
 
-said_back : (open_behind : Bool) (unique : ℕ) (s : Saying) (room : List ℕ) (outcome : Result ℕ Error) (room_after : List ℕ)
-    → IsReplied (said_by open_behind unique s) room outcome room_after → SaidBack unique s outcome room_after
-said_back false unique (Fault fault) room outcome room_after p = put_back (fault_reply fault unique) room outcome room_after p
-said_back false unique (Body body) room outcome room_after p = put_back (body_reply body unique) room outcome room_after p
-said_back false unique Unsaid room outcome room_after p = p.0
-said_back false unique Wrong room outcome room_after p = p
-said_back true unique (Fault fault) room outcome room_after p = inl (p.says, p.begins)
-said_back true unique (Body body) room outcome room_after p = inl (p.says, p.begins)
-said_back true unique Unsaid room outcome room_after p = absurd p
-said_back true unique Wrong room outcome room_after p = p
+said_back : (limits : Limits) (echo : Echo) (options : ℕ) (kind : Kind) (answer : Answer) (room : List ℕ) (outcome : Result ℕ Error) (room_after : List ℕ)
+    → IsReplied (reply_of limits echo options kind answer) room outcome room_after
+    → SaidBack echo.unique (say limits echo options kind answer) outcome room_after
+said_back limits echo options Quiet answer room outcome room_after p = p.0
+said_back limits echo options Untold Done room outcome room_after p = p.0
+said_back limits echo options (Data size) (Failed fault) room outcome room_after p = inl (p.says, p.begins)
+said_back limits echo options (Data size) _ room outcome room_after p = inl (p.says, p.begins)
+said_back limits echo options _ (Failed fault) room outcome room_after p =
+    put_back (fault_reply fault echo.unique) room outcome room_after p
+said_back limits echo options Agreements _ room outcome room_after p = put_back _ room outcome room_after p
+said_back limits echo options _ _ room outcome room_after p = put_back _ room outcome room_after p
 
 -- the number that a body begins with, by its place in the reply
 first_behind : (entry : Bool) (body : List ℕ) (unique : ℕ)
@@ -64,7 +64,6 @@ module _ (n : ℕ) (t : Turn) where
       reply_books n t reply (put_back reply t.room t.outcome t.room_after p) fits.0 (ap (answered n) none ∙ ap (times n) (sym fits.1))
       (record { whole = λ m o. ap (sent n) none; unfit = λ o. ap (sent n) none ∙ sym (ap (answered n) none) })
   end_books (OpenBehind reply) fits none p = absurd fits
-  end_books Never fits none p = absurd fits
 
   module _ (c : Call) (answer : Answer) (ctx : Context) (given : Option ℕ) (called : t.events ≡ Called c answer ∷ given_back ctx given)
       (fits : CallFits (opcode_in t.request) t.request c) where
@@ -111,7 +110,6 @@ module _ (n : ℕ) (t : Turn) where
         let s = none_sent 0 g back in
         let asked = ap (counts n) fits.forgets in
         done_books n t back (one_answered [] nodes) (omega (arith, one_sent, s, asked))
-    said_books unique Wrong nodes small forgets g back = absurd back
 
   -- what a request asks
   ask_books : n ≢ 0 → (limits : Limits) (options : ℕ) (a : Ask) (after : ℕ) → AskFits (opcode_in t.request) t.request a
@@ -119,16 +117,16 @@ module _ (n : ℕ) (t : Turn) where
   ask_books some limits options (Ends reply) after fits f = end_books reply fits f.0 f.1
   ask_books some limits options (Asks echo c) after fits f =
       let s = say limits echo after (kind_of c) f.0 in
-      let reply = said_by (is_open (kind_of c)) echo.unique s in
+      let reply = reply_of limits echo after (kind_of c) f.0 in
       let node = node_answered (kind_of c) f.0 in
       said_books c f.0 echo.ctx (unseen (length t.room) reply node) f.1 fits echo.unique s (nodes_fit limits echo after c f.0 f.2) (fault_fits limits echo after (kind_of c) f.0 f.2)
       (forgets_fit limits echo after c f.0)
       (record {
         whole = λ m o. unseen-whole reply t.room t.outcome t.room_after m node f.3 o;
-        unfit = λ o. ap (λ (back : Option ℕ). sent n (given_back echo.ctx back)) (unseen-unfit (is_open (kind_of c)) echo.unique s t.room t.outcome t.room_after node f.3 o)
+        unfit = λ o. ap (λ (back : Option ℕ). sent n (given_back echo.ctx back)) (unseen-unfit limits echo after (kind_of c) f.0 t.room t.outcome t.room_after node f.2 f.3 o)
             ∙ nodes_back n some echo.ctx c f.0 f.2;
       })
-      (said_back (is_open (kind_of c)) echo.unique s t.room t.outcome t.room_after f.3)
+      (said_back limits echo after (kind_of c) f.0 t.room t.outcome t.room_after f.3)
   ask_books some limits options (Lists echo l) after fits f =
       directory_books n some t l.plus l.ctx l.parent l.handle l.size l.offset l.room echo.unique f.0 f.1 fits f.2
       (fault_fits limits echo after (Data l.size) (read_answer f.1 f.0) f.3) f.4

@@ -32,7 +32,7 @@ use Rattle.vfs_grammar.specs.Forms.{Listing, Ask, Ends, Asks, Lists, Copies}
 use Rattle.vfs_laws.specs.Turns.{IsAnswered, body_in}
 use Rattle.vfs_grammar.specs.Limits.{AreLimits, max_pages}
 use Rattle.vfs_grammar.specs.Options.{agreed, options_after}
-use Rattle.vfs_grammar.specs.Reply.{Echo, Saying, Body, said, said_open, said_by, is_open, say, body_reply, init_out_of, attr_out_of, open_out_of, getxattr_out_of, write_out_of}
+use Rattle.vfs_grammar.specs.Reply.{Bytes, OpenBehind, Echo, reply_of, body_reply, init_out_of, attr_out_of, open_out_of, getxattr_out_of, write_out_of}
 use Rattle.vfs_grammar.specs.Room.{IsReplied}
 use Rattle.vfs_grammar.specs.Turn.{Turn, Follows, IsRead, turn_tells}
 use Rattle.vfs_grammar.specs.declared.limits.Limits.{Limits}
@@ -61,68 +61,41 @@ put_begins : (fits : Bool) (reply room room_after : List ℕ) (n : ℕ) → (if 
 put_begins true reply room room_after n o left = record { rest = drop (length reply) room; is = left }
 put_begins false reply room room_after n o left = absurd (let e = o in cc)
 
--- where a body is said, a room begins with it behind its header
-SaidIn : (unique : ℕ) → Saying → (room_after : List ℕ) → Type 0
-SaidIn unique (Body body) room_after = Begins (body_reply body unique) room_after
-SaidIn unique _ room_after = Unit {0}
-
-said_so : (unique : ℕ) (s : Saying) (room : List ℕ) (outcome : Result ℕ Error) (room_after : List ℕ) (n : ℕ)
-    → IsReplied (said unique s) room outcome room_after → outcome ≡ Ok n → SaidIn unique s room_after
-unfolding SaidIn
-said_so unique (Body body) room outcome room_after n h o =
-    put_begins (nat_le (length (body_reply body unique)) (length room)) (body_reply body unique) room room_after n (sym h.says ∙ o) h.leaves
-said_so unique _ room outcome room_after n h o = tt
-
-said_openly : (unique : ℕ) (s : Saying) (room : List ℕ) (outcome : Result ℕ Error) (room_after : List ℕ)
-    → IsReplied (said_open unique s) room outcome room_after → SaidIn unique s room_after
-unfolding SaidIn
-said_openly unique (Body body) room outcome room_after h =
-    let size = length (body_reply body unique) in
-    record {
-      rest = drop size room_after;
-      is = sym (take-append-drop size room_after) ∙ ap (λ (l : List ℕ). l ++ drop size room_after) h.begins;
-    }
-said_openly unique _ room outcome room_after h = tt
-
-answer_said : (open_behind : Bool) (unique : ℕ) (s : Saying) (room : List ℕ) (outcome : Result ℕ Error) (room_after : List ℕ) (n : ℕ)
-    → IsReplied (said_by open_behind unique s) room outcome room_after → outcome ≡ Ok n → SaidIn unique s room_after
-answer_said false unique s room outcome room_after n h o = said_so unique s room outcome room_after n h o
-answer_said true unique s room outcome room_after n h o = said_openly unique s room outcome room_after h
-
--- an answer of a kind was said
-record Says (limits : Limits) (after : ℕ) (answer : Answer) (room_after : List ℕ) : Type 0 where
+-- an answer of a kind came back
+record Says (limits : Limits) (after : ℕ) (answer : Answer) (t : Turn) : Type 0 where
   kind : Kind
   echo : Echo
   of_kind : IsAnswer kind answer
-  said_in : SaidIn echo.unique (say limits echo after kind answer) room_after
+  replied : IsReplied (reply_of limits echo after kind answer) t.room t.outcome t.room_after
 
-listed_says : (limits : Limits) (after : ℕ) (echo : Echo) (l : Listing) (events : List Event) (records : List ℕ) (result : Result ℕ (Option ℕ)) (call : Call) (answer : Answer) (room_after : List ℕ)
-    → IsRead l events records result → events ≡ Called call answer ∷ [] → IsAnswer (Data l.size) (read_answer result records)
-    → Says limits after answer room_after
-unfolding SaidIn
-listed_says limits after echo l events records result call answer room_after (inl u) e a =
+listed_says : (limits : Limits) (after : ℕ) (echo : Echo) (l : Listing) (t : Turn) (records : List ℕ) (result : Result ℕ (Option ℕ)) (call : Call) (answer : Answer)
+    → IsRead l t.events records result → t.events ≡ Called call answer ∷ [] → IsAnswer (Data l.size) (read_answer result records)
+    → IsReplied (reply_of limits echo after (Data l.size) (read_answer result records)) t.room t.outcome t.room_after
+    → Says limits after answer t
+listed_says limits after echo l t records result call answer (inl u) e a p =
     let x = sym u.events_are ∙ e in
     let answered : Failed u.fault ≡ answer = cc in
     let fault : IsAnswer (Data l.size) (Failed u.fault) = subst (λ r. IsAnswer (Data l.size) (read_answer r records)) u.answer_is a in
-    let says : Says limits after (Failed u.fault) room_after = record { kind = Data l.size; echo = echo; of_kind = fault; said_in = tt } in
-    subst (λ (y : Answer). Says limits after y room_after) answered says
-listed_says limits after echo l events records result call answer room_after (inr o) e a = absurd (let x = sym o.events_are ∙ e in cc)
+    let replied : IsReplied (reply_of limits echo after (Data l.size) (Failed u.fault)) t.room t.outcome t.room_after =
+    subst (λ r. IsReplied (reply_of limits echo after (Data l.size) (read_answer r records)) t.room t.outcome t.room_after) u.answer_is p in
+    let says : Says limits after (Failed u.fault) t = record { kind = Data l.size; echo = echo; of_kind = fault; replied = replied } in
+    subst (λ (y : Answer). Says limits after y t) answered says
+listed_says limits after echo l t records result call answer (inr o) e a p = absurd (let x = sym o.events_are ∙ e in cc)
 
-says : (limits : Limits) (options : ℕ) (a : Ask) (t : Turn) (after n : ℕ) (call : Call) (answer : Answer)
-    → Follows (turn_tells t) limits options a after → t.events ≡ Called call answer ∷ [] → t.outcome ≡ Ok n → Says limits after answer t.room_after
-says limits options (Ends reply) t after n call answer f e o = absurd (let a = sym f.0 ∙ e in cc)
-says limits options (Asks echo c) t after n call answer f e o =
+says : (limits : Limits) (options : ℕ) (a : Ask) (t : Turn) (after : ℕ) (call : Call) (answer : Answer)
+    → Follows (turn_tells t) limits options a after → t.events ≡ Called call answer ∷ [] → Says limits after answer t
+says limits options (Ends reply) t after call answer f e = absurd (let a = sym f.0 ∙ e in cc)
+says limits options (Asks echo c) t after call answer f e =
     let a = sym f.1 ∙ e in
     let answered : f.0 ≡ answer = cc in
-    let said_in = answer_said (is_open (kind_of c)) echo.unique (say limits echo after (kind_of c) f.0) t.room t.outcome t.room_after n f.3 o in
-    let it : Says limits after f.0 t.room_after = record { kind = kind_of c; echo = echo; of_kind = f.2; said_in = said_in } in
-    subst (λ (y : Answer). Says limits after y t.room_after) answered it
-says limits options (Lists echo l) t after n call answer f e o = listed_says limits after echo l t.events f.0 f.1 call answer t.room_after f.2 e f.3
-says limits options (Copies rest) t after n call answer (inl f) e o = says limits options rest t after n call answer f e o
-says limits options (Copies rest) t after n call answer (inr f) e o = absurd (let a = sym f.0 ∙ e in cc)
+    let it : Says limits after f.0 t = record { kind = kind_of c; echo = echo; of_kind = f.2; replied = f.3 } in
+    subst (λ (y : Answer). Says limits after y t) answered it
+says limits options (Lists echo l) t after call answer f e = listed_says limits after echo l t f.0 f.1 call answer f.2 e f.3 f.4
+says limits options (Copies rest) t after call answer (inl f) e = says limits options rest t after call answer f e
+says limits options (Copies rest) t after call answer (inr f) e = absurd (let a = sym f.0 ∙ e in cc)
 
-answered_says : (limits : Limits) (options : ℕ) (answer : Answer) (t : Turn) (after : ℕ) → IsAnswered limits options answer t after → Says limits after answer t.room_after
-answered_says limits options answer t after a = says limits options (ask limits options (length t.room) t.request) t after a.len a.call answer a.turn a.called a.fits
+answered_says : (limits : Limits) (options : ℕ) (answer : Answer) (t : Turn) (after : ℕ) → IsAnswered limits options answer t after → Says limits after answer t
+answered_says limits options answer t after a = says limits options (ask limits options (length t.room) t.request) t after a.call answer a.turn a.called
 
 -- ---- by the answer
 
@@ -150,35 +123,51 @@ number_in_row (suc k) i (w ∷ ws) (x ∷ xs) bytes rest e l h fit =
     sym (drop-drop w i bytes) ∙ ap (drop w) parts ∙ drop_at (little w x) (row ws xs ++ rest) w (length-little w x) in
     number_in_row k (i + w) ws xs bytes rest others (omega arith) (omega arith) fit
 
-module _ (limits : Limits) (echo : Echo) (after : ℕ) (room_after : List ℕ) where
+module _ (limits : Limits) (echo : Echo) (after : ℕ) (t : Turn) (len : ℕ) (fits : t.outcome ≡ Ok len) where
   SaidBy : Kind → Answer → Type 0
-  SaidBy kind answer = SaidIn echo.unique (say limits echo after kind answer) room_after
+  SaidBy kind answer = IsReplied (reply_of limits echo after kind answer) t.room t.outcome t.room_after
+
+  -- the room begins with a body that came back behind its header
+  said : (body : List ℕ) → IsReplied (Bytes (body_reply body echo.unique)) t.room t.outcome t.room_after
+      → Begins (body_reply body echo.unique) t.room_after
+  said body p =
+      put_begins (nat_le (length (body_reply body echo.unique)) (length t.room)) (body_reply body echo.unique) t.room t.room_after len (sym p.says ∙ fits) p.leaves
+
+  said_openly : (body : List ℕ) → IsReplied (OpenBehind (body_reply body echo.unique)) t.room t.outcome t.room_after
+      → Begins (body_reply body echo.unique) t.room_after
+  said_openly body p =
+      let size = length (body_reply body echo.unique) in
+      record {
+        rest = drop size t.room_after;
+        is = sym (take-append-drop size t.room_after) ∙ ap (λ (l : List ℕ). l ++ drop size t.room_after) p.begins;
+      }
 
   entry_by : (kind : Kind) (entry : Entry) → IsAnswer kind (Found entry) → SaidBy kind (Found entry)
-      → value_of entry_out (body_in room_after) ≡ entry_out_of entry
-  unfolding SaidIn SaidBy
-  entry_by Entries entry a b = decoded entry_out (entry_out_of entry) room_after echo.unique a refl b
+      → value_of entry_out (body_in t.room_after) ≡ entry_out_of entry
+  unfolding SaidBy
+  entry_by Entries entry a b = decoded entry_out (entry_out_of entry) t.room_after echo.unique a refl (said _ b)
   entry_by _ entry a b = absurd a
 
   attributes_by : (kind : Kind) (attributes : Attr) (timeout : Duration) → IsAnswer kind (Attributes attributes timeout) → SaidBy kind (Attributes attributes timeout)
-      → value_of attr_out (body_in room_after) ≡ attr_out_of attributes timeout
-  unfolding SaidIn SaidBy
-  attributes_by TimedAttributes attributes timeout a b = decoded attr_out (attr_out_of attributes timeout) room_after echo.unique a refl b
+      → value_of attr_out (body_in t.room_after) ≡ attr_out_of attributes timeout
+  unfolding SaidBy
+  attributes_by TimedAttributes attributes timeout a b = decoded attr_out (attr_out_of attributes timeout) t.room_after echo.unique a refl (said _ b)
   attributes_by _ attributes timeout a b = absurd a
 
   opening_by : (kind : Kind) (handle : Option ℕ) (how : ℕ) → IsAnswer kind (Opened handle how) → SaidBy kind (Opened handle how)
-      → value_of open_out (body_in room_after) ≡ open_out_of handle how
-  unfolding SaidIn SaidBy
-  opening_by Openings handle how a b = decoded open_out (open_out_of handle how) room_after echo.unique a refl b
+      → value_of open_out (body_in t.room_after) ≡ open_out_of handle how
+  unfolding SaidBy
+  opening_by Openings handle how a b = decoded open_out (open_out_of handle how) t.room_after echo.unique a refl (said _ b)
   opening_by _ handle how a b = absurd a
 
   creation_by : (kind : Kind) (entry : Entry) (handle : Option ℕ) (how : ℕ) → IsAnswer kind (Created entry handle how) → SaidBy kind (Created entry handle how)
-      → (value_of entry_out (body_in room_after) ≡ entry_out_of entry) × (value_of open_out (drop 128 (body_in room_after)) ≡ open_out_of handle how)
-  unfolding SaidIn SaidBy
-  creation_by Creations entry handle how a b =
+      → (value_of entry_out (body_in t.room_after) ≡ entry_out_of entry) × (value_of open_out (drop 128 (body_in t.room_after)) ≡ open_out_of handle how)
+  unfolding SaidBy
+  creation_by Creations entry handle how a p =
       let first = bytes_of entry_out (entry_out_of entry) in
       let second = bytes_of open_out (open_out_of handle how) in
-      let parts : body_in room_after ≡ first ++ (second ++ b.rest) = behind (first ++ second) room_after echo.unique b ∙ append_assoc first second b.rest in
+      let b = said (first ++ second) p in
+      let parts : body_in t.room_after ≡ first ++ (second ++ b.rest) = behind (first ++ second) t.room_after echo.unique b ∙ append_assoc first second b.rest in
       let size : length first ≡ 128 = length-bytes_of entry_out (entry_out_of entry) a.0 in (
         ap (value_of entry_out) parts ∙ value_of-bytes_of-then entry_out (entry_out_of entry) (second ++ b.rest) a.0 refl,
         ap (λ (l : List ℕ). value_of open_out (drop 128 l)) parts ∙ ap (value_of open_out) (drop_at first (second ++ b.rest) 128 size)
@@ -187,70 +176,73 @@ module _ (limits : Limits) (echo : Echo) (after : ℕ) (room_after : List ℕ) w
   creation_by _ entry handle how a b = absurd a
 
   statistics_by : (kind : Kind) (statistics : Statvfs64) → IsAnswer kind (Statistics statistics) → SaidBy kind (Statistics statistics)
-      → value_of kstatfs (body_in room_after) ≡ kstatfs_of statistics
-  unfolding SaidIn SaidBy
-  statistics_by Capacities statistics a b = decoded kstatfs (kstatfs_of statistics) room_after echo.unique a refl b
+      → value_of kstatfs (body_in t.room_after) ≡ kstatfs_of statistics
+  unfolding SaidBy
+  statistics_by Capacities statistics a b = decoded kstatfs (kstatfs_of statistics) t.room_after echo.unique a refl (said _ b)
   statistics_by _ statistics a b = absurd a
 
-  count_by : (kind : Kind) (size : ℕ) → IsAnswer kind (Count size) → SaidBy kind (Count size) → (value_of getxattr_out (body_in room_after)).size ≡ size
-  unfolding SaidIn SaidBy
+  count_by : (kind : Kind) (size : ℕ) → IsAnswer kind (Count size) → SaidBy kind (Count size) → (value_of getxattr_out (body_in t.room_after)).size ≡ size
+  unfolding SaidBy
   count_by TextsOrCounts size a b =
-      ap (λ (r : GetxattrOut). r.size) (decoded getxattr_out (getxattr_out_of size) room_after echo.unique (a, (lit< tt, tt)) refl b)
+      ap (λ (r : GetxattrOut). r.size) (decoded getxattr_out (getxattr_out_of size) t.room_after echo.unique (a, (lit< tt, tt)) refl (said _ b))
   count_by _ size a b = absurd a
 
-  offset_by : (kind : Kind) (offset : ℕ) → IsAnswer kind (Offset offset) → SaidBy kind (Offset offset) → (value_of lseek_out (body_in room_after)).offset ≡ offset
-  unfolding SaidIn SaidBy
+  offset_by : (kind : Kind) (offset : ℕ) → IsAnswer kind (Offset offset) → SaidBy kind (Offset offset) → (value_of lseek_out (body_in t.room_after)).offset ≡ offset
+  unfolding SaidBy
   offset_by Offsets offset a b =
-      ap (λ (r : LseekOut). r.offset) (decoded lseek_out (record { offset = offset }) room_after echo.unique (a, tt) refl b)
+      ap (λ (r : LseekOut). r.offset) (decoded lseek_out (record { offset = offset }) t.room_after echo.unique (a, tt) refl (said _ b))
   offset_by _ offset a b = absurd a
 
-  written_by : (kind : Kind) (count : ℕ) → IsAnswer kind (Written count) → SaidBy kind (Written count) → (value_of write_out (body_in room_after)).size ≡ count
-  unfolding SaidIn SaidBy
+  written_by : (kind : Kind) (count : ℕ) → IsAnswer kind (Written count) → SaidBy kind (Written count) → (value_of write_out (body_in t.room_after)).size ≡ count
+  unfolding SaidBy
   written_by Writes count a b =
-      ap (λ (r : WriteOut). r.size) (decoded write_out (write_out_of count) room_after echo.unique (a, (lit< tt, tt)) refl b)
+      ap (λ (r : WriteOut). r.size) (decoded write_out (write_out_of count) t.room_after echo.unique (a, (lit< tt, tt)) refl (said _ b))
   written_by _ count a b = absurd a
 
-  bytes_by : (bytes : List ℕ) → Begins (body_reply bytes echo.unique) room_after → take (length bytes) (body_in room_after) ≡ bytes
-  bytes_by bytes b = ap (take (length bytes)) (behind bytes room_after echo.unique b) ∙ take_at bytes b.rest (length bytes) refl
+  bytes_by : (bytes : List ℕ) → Begins (body_reply bytes echo.unique) t.room_after → take (length bytes) (body_in t.room_after) ≡ bytes
+  bytes_by bytes b = ap (take (length bytes)) (behind bytes t.room_after echo.unique b) ∙ take_at bytes b.rest (length bytes) refl
 
-  text_by : (kind : Kind) (bytes : List ℕ) → IsAnswer kind (Text bytes) → SaidBy kind (Text bytes) → take (length bytes) (body_in room_after) ≡ bytes
-  unfolding SaidIn SaidBy
-  text_by Texts bytes a b = bytes_by bytes b
-  text_by TextsOrCounts bytes a b = bytes_by bytes b
+  text_by : (kind : Kind) (bytes : List ℕ) → IsAnswer kind (Text bytes) → SaidBy kind (Text bytes) → take (length bytes) (body_in t.room_after) ≡ bytes
+  unfolding SaidBy
+  text_by Texts bytes a b = bytes_by bytes (said bytes b)
+  text_by TextsOrCounts bytes a b = bytes_by bytes (said bytes b)
   text_by _ bytes a b = absurd a
 
-  data_by : (kind : Kind) (bytes : List ℕ) → IsAnswer kind (Put bytes) → SaidBy kind (Put bytes) → take (length bytes) (body_in room_after) ≡ bytes
-  unfolding SaidIn SaidBy
-  data_by (Data size) bytes a b = bytes_by bytes b
+  data_by : (kind : Kind) (bytes : List ℕ) → IsAnswer kind (Put bytes) → SaidBy kind (Put bytes) → take (length bytes) (body_in t.room_after) ≡ bytes
+  unfolding SaidBy
+  data_by (Data size) bytes a b = bytes_by bytes (said_openly bytes b)
   data_by _ bytes a b = absurd a
 
   max_write_by : (kind : Kind) (want : ℕ) → IsAnswer kind (Options want) → SaidBy kind (Options want) → limits.max_buffer < 256 ^ 4
-      → (value_of init_out (body_in room_after)).max_write ≡ limits.max_buffer
-  unfolding SaidIn SaidBy
-  max_write_by Agreements want a b small =
+      → (value_of init_out (body_in t.room_after)).max_write ≡ limits.max_buffer
+  unfolding SaidBy
+  max_write_by Agreements want a p small =
       let out = init_out_of limits echo.max_readahead after in
-      number_in_row 6 0 init_out.widths (init_out.fields out) (body_in room_after) b.rest (behind (bytes_of init_out out) room_after echo.unique b) refl (lit< tt) small
+      let b = said (bytes_of init_out out) p in
+      number_in_row 6 0 init_out.widths (init_out.fields out) (body_in t.room_after) b.rest (behind (bytes_of init_out out) t.room_after echo.unique b) refl (lit< tt) small
   max_write_by _ want a b small = absurd a
 
   max_pages_by : (kind : Kind) (want : ℕ) → IsAnswer kind (Options want) → SaidBy kind (Options want) → max_pages limits < 256 ^ 2
-      → (value_of init_out (body_in room_after)).max_pages ≡ max_pages limits
-  unfolding SaidIn SaidBy
-  max_pages_by Agreements want a b small =
+      → (value_of init_out (body_in t.room_after)).max_pages ≡ max_pages limits
+  unfolding SaidBy
+  max_pages_by Agreements want a p small =
       let out = init_out_of limits echo.max_readahead after in
-      number_in_row 8 0 init_out.widths (init_out.fields out) (body_in room_after) b.rest (behind (bytes_of init_out out) room_after echo.unique b) refl (lit< tt) small
+      let b = said (bytes_of init_out out) p in
+      number_in_row 8 0 init_out.widths (init_out.fields out) (body_in t.room_after) b.rest (behind (bytes_of init_out out) t.room_after echo.unique b) refl (lit< tt) small
   max_pages_by _ want a b small = absurd a
 
   -- the two words of flags in INIT's reply are the options together
   flags_by : (kind : Kind) (want : ℕ) → IsAnswer kind (Options want) → SaidBy kind (Options want) → after < 2 ^ 64
-      → (value_of init_out (body_in room_after)).flags + 2 ^ 32 * (value_of init_out (body_in room_after)).flags2 ≡ after
-  unfolding SaidIn SaidBy
-  flags_by Agreements want a b small =
+      → (value_of init_out (body_in t.room_after)).flags + 2 ^ 32 * (value_of init_out (body_in t.room_after)).flags2 ≡ after
+  unfolding SaidBy
+  flags_by Agreements want a p small =
       let out = init_out_of limits echo.max_readahead after in
-      let begins = behind (bytes_of init_out out) room_after echo.unique b in
-      let low : (value_of init_out (body_in room_after)).flags ≡ after % 2 ^ 32 =
-      number_in_row 3 0 init_out.widths (init_out.fields out) (body_in room_after) b.rest begins refl (lit< tt) (omega arith) in
-      let high : (value_of init_out (body_in room_after)).flags2 ≡ after / 2 ^ 32 =
-      number_in_row 10 0 init_out.widths (init_out.fields out) (body_in room_after) b.rest begins refl (lit< tt) (omega arith) in
+      let b = said (bytes_of init_out out) p in
+      let begins = behind (bytes_of init_out out) t.room_after echo.unique b in
+      let low : (value_of init_out (body_in t.room_after)).flags ≡ after % 2 ^ 32 =
+      number_in_row 3 0 init_out.widths (init_out.fields out) (body_in t.room_after) b.rest begins refl (lit< tt) (omega arith) in
+      let high : (value_of init_out (body_in t.room_after)).flags2 ≡ after / 2 ^ 32 =
+      number_in_row 10 0 init_out.widths (init_out.fields out) (body_in t.room_after) b.rest begins refl (lit< tt) (omega arith) in
       omega (arith, low, high)
   flags_by _ want a b small = absurd a
 
@@ -271,70 +263,70 @@ module _ (limits : Limits) (options after : ℕ) (t : Turn) where
       let is = after_call limits options (ask limits options (length t.room) t.request) t after a.call (Options want) a.turn a.called in
       let small = options_small a.call want options (of_its_kind limits options after a.call (Options want) [] t a.turn a.called) in
       let s = answered_says limits options (Options want) t after a in
-      flags_by limits s.echo after t.room_after s.kind want s.of_kind s.said_in (omega (arith, is, small))
+      flags_by limits s.echo after t a.len a.fits s.kind want s.of_kind s.replied (omega (arith, is, small))
 
   pub max_write_said : (want : ℕ) → IsAnswered limits options (Options want) t after → limits.max_buffer < 256 ^ 4
       → (value_of init_out (body_in t.room_after)).max_write ≡ limits.max_buffer
   unfolding SaidBy
   max_write_said want a small =
       let s = answered_says limits options (Options want) t after a in
-      max_write_by limits s.echo after t.room_after s.kind want s.of_kind s.said_in small
+      max_write_by limits s.echo after t a.len a.fits s.kind want s.of_kind s.replied small
 
   pub max_pages_said : (want : ℕ) → IsAnswered limits options (Options want) t after → AreLimits limits
       → (value_of init_out (body_in t.room_after)).max_pages ≡ max_pages limits
   unfolding SaidBy
   max_pages_said want a are =
       let s = answered_says limits options (Options want) t after a in
-      max_pages_by limits s.echo after t.room_after s.kind want s.of_kind s.said_in (pages_fit limits are)
+      max_pages_by limits s.echo after t a.len a.fits s.kind want s.of_kind s.replied (pages_fit limits are)
 
   pub entry_said : (entry : Entry) → IsAnswered limits options (Found entry) t after → value_of entry_out (body_in t.room_after) ≡ entry_out_of entry
   unfolding SaidBy
-  entry_said entry a = let s = answered_says limits options (Found entry) t after a in entry_by limits s.echo after t.room_after s.kind entry s.of_kind s.said_in
+  entry_said entry a = let s = answered_says limits options (Found entry) t after a in entry_by limits s.echo after t a.len a.fits s.kind entry s.of_kind s.replied
 
   pub attributes_said : (attributes : Attr) (timeout : Duration) → IsAnswered limits options (Attributes attributes timeout) t after
       → value_of attr_out (body_in t.room_after) ≡ attr_out_of attributes timeout
   unfolding SaidBy
   attributes_said attributes timeout a =
       let s = answered_says limits options (Attributes attributes timeout) t after a in
-      attributes_by limits s.echo after t.room_after s.kind attributes timeout s.of_kind s.said_in
+      attributes_by limits s.echo after t a.len a.fits s.kind attributes timeout s.of_kind s.replied
 
   pub opening_said : (handle : Option ℕ) (how : ℕ) → IsAnswered limits options (Opened handle how) t after
       → value_of open_out (body_in t.room_after) ≡ open_out_of handle how
   unfolding SaidBy
   opening_said handle how a =
       let s = answered_says limits options (Opened handle how) t after a in
-      opening_by limits s.echo after t.room_after s.kind handle how s.of_kind s.said_in
+      opening_by limits s.echo after t a.len a.fits s.kind handle how s.of_kind s.replied
 
   pub creation_said : (entry : Entry) (handle : Option ℕ) (how : ℕ) → IsAnswered limits options (Created entry handle how) t after
       → (value_of entry_out (body_in t.room_after) ≡ entry_out_of entry) × (value_of open_out (drop 128 (body_in t.room_after)) ≡ open_out_of handle how)
   unfolding SaidBy
   creation_said entry handle how a =
       let s = answered_says limits options (Created entry handle how) t after a in
-      creation_by limits s.echo after t.room_after s.kind entry handle how s.of_kind s.said_in
+      creation_by limits s.echo after t a.len a.fits s.kind entry handle how s.of_kind s.replied
 
   pub statistics_said : (statistics : Statvfs64) → IsAnswered limits options (Statistics statistics) t after
       → value_of kstatfs (body_in t.room_after) ≡ kstatfs_of statistics
   unfolding SaidBy
   statistics_said statistics a =
       let s = answered_says limits options (Statistics statistics) t after a in
-      statistics_by limits s.echo after t.room_after s.kind statistics s.of_kind s.said_in
+      statistics_by limits s.echo after t a.len a.fits s.kind statistics s.of_kind s.replied
 
   pub count_said : (size : ℕ) → IsAnswered limits options (Count size) t after → (value_of getxattr_out (body_in t.room_after)).size ≡ size
   unfolding SaidBy
-  count_said size a = let s = answered_says limits options (Count size) t after a in count_by limits s.echo after t.room_after s.kind size s.of_kind s.said_in
+  count_said size a = let s = answered_says limits options (Count size) t after a in count_by limits s.echo after t a.len a.fits s.kind size s.of_kind s.replied
 
   pub offset_said : (offset : ℕ) → IsAnswered limits options (Offset offset) t after → (value_of lseek_out (body_in t.room_after)).offset ≡ offset
   unfolding SaidBy
-  offset_said offset a = let s = answered_says limits options (Offset offset) t after a in offset_by limits s.echo after t.room_after s.kind offset s.of_kind s.said_in
+  offset_said offset a = let s = answered_says limits options (Offset offset) t after a in offset_by limits s.echo after t a.len a.fits s.kind offset s.of_kind s.replied
 
   pub written_said : (count : ℕ) → IsAnswered limits options (Written count) t after → (value_of write_out (body_in t.room_after)).size ≡ count
   unfolding SaidBy
-  written_said count a = let s = answered_says limits options (Written count) t after a in written_by limits s.echo after t.room_after s.kind count s.of_kind s.said_in
+  written_said count a = let s = answered_says limits options (Written count) t after a in written_by limits s.echo after t a.len a.fits s.kind count s.of_kind s.replied
 
   pub text_said : (bytes : List ℕ) → IsAnswered limits options (Text bytes) t after → take (length bytes) (body_in t.room_after) ≡ bytes
   unfolding SaidBy
-  text_said bytes a = let s = answered_says limits options (Text bytes) t after a in text_by limits s.echo after t.room_after s.kind bytes s.of_kind s.said_in
+  text_said bytes a = let s = answered_says limits options (Text bytes) t after a in text_by limits s.echo after t a.len a.fits s.kind bytes s.of_kind s.replied
 
   pub data_said : (bytes : List ℕ) → IsAnswered limits options (Put bytes) t after → take (length bytes) (body_in t.room_after) ≡ bytes
   unfolding SaidBy
-  data_said bytes a = let s = answered_says limits options (Put bytes) t after a in data_by limits s.echo after t.room_after s.kind bytes s.of_kind s.said_in
+  data_said bytes a = let s = answered_says limits options (Put bytes) t after a in data_by limits s.echo after t a.len a.fits s.kind bytes s.of_kind s.replied

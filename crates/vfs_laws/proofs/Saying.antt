@@ -1,16 +1,34 @@
--- What is said of the answer of a call, by the kind of the call.
+-- What is said of the answer of a call, by the kind of the call, as the books see it.
 use Rattle.std.proofs.Common.{◌≡◌, ◌<◌, ◌^◌, ℕ, Bool, true, false, List, [], ◌∷◌, ◌++◌, Option, Some, None, refl, ap, sym, arith}
 use Rattle.vfs_wire.specs.Fields.{little, number, bytes_of}
 use Rattle.vfs_wire.specs.FieldLaws.{number-little}
 use Rattle.vfs_wire.specs.Entries.{entry_out}
 use Rattle.vfs_wire.specs.Files.{open_out}
+use Rattle.vfs_wire.specs.Init.{init_out}
 use Rattle.vfs_files.specs.declared.entry.Entry.{Entry}
 use Rattle.vfs_files.specs.Entries.{entry_out_of}
-use Rattle.vfs_files.specs.Answers.{Kind, Quiet, Entries, Creations, Answer, Done, Failed, Found, Created, IsAnswer, IsFault, FitsEntry}
+use Rattle.vfs_files.specs.Answers.{Kind, Quiet, Untold, Agreements, Entries, Creations, Answer, Done, Failed, Found, Created, IsAnswer, IsFault, FitsEntry}
 use Rattle.vfs_files.specs.Calls.{Call, Lookup, Symlink, Mknod, Mkdir, Link, Create, Forget, BatchForget, Destroy, kind_of}
-use Rattle.vfs_grammar.specs.Reply.{Echo, Saying, Fault, Body, Unsaid, Wrong, say, say_quiet, fault_number, open_out_of}
+use Rattle.vfs_grammar.specs.Reply.{Echo, body_of, init_out_of, fault_number, open_out_of}
 use Rattle.vfs_grammar.specs.declared.limits.Limits.{Limits}
 use Rattle.vfs_grammar.specs.Books.{node_of, answered_nodes, forgets_of}
+
+-- a fault; a body behind a header; or nothing
+pub data Saying : Type 0 where
+  Fault : (fault : Option ℕ) → Saying
+  Body : (body : List ℕ) → Saying
+  Unsaid : Saying
+
+-- a fault is said as one, and another answer by this body
+abbrev pub said_as : (body : List ℕ) → Answer → Saying
+said_as body (Failed fault) = Fault fault
+said_as body _ = Body body
+
+abbrev pub say : Limits → Echo → (options : ℕ) → Kind → Answer → Saying
+say limits echo options Quiet answer = Unsaid
+say limits echo options Untold Done = Unsaid
+say limits echo options Agreements answer = said_as (bytes_of init_out (init_out_of limits echo.max_readahead options)) answer
+say limits echo options _ answer = said_as (body_of answer) answer
 
 -- whether the answer of a call has an entry
 abbrev pub has_entry : Call → Bool
@@ -76,10 +94,10 @@ entry_fits limits echo options Entries (Found e) has fits =
 entry_fits limits echo options Creations (Created e handle opened) has fits =
     ap (λ (k : ℕ). k ∷ [])
     (sym (entry_first-then e (bytes_of open_out (open_out_of handle opened)) fits.0))
-entry_fits limits echo options Entries (Created e handle opened) has fits = absurd fits
-entry_fits limits echo options Creations (Found e) has fits = absurd fits
-entry_fits limits echo options Entries _ has fits = refl
-entry_fits limits echo options Creations _ has fits = refl
+entry_fits limits echo options Entries (Failed fault) has fits = refl
+entry_fits limits echo options Creations (Failed fault) has fits = refl
+entry_fits limits echo options Entries _ has fits = absurd fits
+entry_fits limits echo options Creations _ has fits = absurd fits
 entry_fits limits echo options _ answer has fits = absurd has
 
 -- where there is no entry, nothing that is said has a node
@@ -87,7 +105,6 @@ no_entry_fits : (s : Saying) → NodesFit [] false s
 no_entry_fits (Fault fault) = refl
 no_entry_fits (Body body) = refl
 no_entry_fits Unsaid = refl
-no_entry_fits Wrong = refl
 
 nodes_by_kind : (limits : Limits) (echo : Echo) (options : ℕ) (entry : Bool) (kind : Kind)
     (answer : Answer) → (entry ≡ true → HasEntry kind) → IsAnswer kind answer
@@ -124,7 +141,6 @@ fault_fits limits echo options _ _ fits = tt
 -- a call that gives back something is of a kind of which nothing is said
 abbrev pub ForgetsFit : List (ℕ × ℕ) → Saying → Type 0
 ForgetsFit forgets Unsaid = Unit {0}
-ForgetsFit forgets Wrong = Unit {0}
 ForgetsFit forgets _ = forgets ≡ []
 
 -- a call of this kind gives back these: nothing, but where nothing is said of its answer
@@ -136,15 +152,10 @@ none_fit : (forgets : List (ℕ × ℕ)) (s : Saying) → forgets ≡ [] → For
 none_fit forgets (Fault fault) none = none
 none_fit forgets (Body body) none = none
 none_fit forgets Unsaid none = tt
-none_fit forgets Wrong none = tt
-
-quiet_fits : (forgets : List (ℕ × ℕ)) (answer : Answer) → ForgetsFit forgets (say_quiet answer)
-quiet_fits forgets Done = tt
-quiet_fits forgets _ = tt
 
 forgets_by_kind : (limits : Limits) (echo : Echo) (options : ℕ) (kind : Kind) (answer : Answer) (forgets : List (ℕ × ℕ)) → AreForgets kind forgets
     → ForgetsFit forgets (say limits echo options kind answer)
-forgets_by_kind limits echo options Quiet answer forgets are = quiet_fits forgets answer
+forgets_by_kind limits echo options Quiet answer forgets are = tt
 forgets_by_kind limits echo options kind answer forgets are = none_fit forgets (say limits echo options kind answer) are
 
 pub are_forgets : (call : Call) → AreForgets (kind_of call) (forgets_of call)

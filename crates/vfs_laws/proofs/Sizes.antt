@@ -17,7 +17,7 @@ use Rattle.vfs_grammar.specs.Ask.{ask, ask_number, lists_too_much, listing_of, h
 use Rattle.vfs_grammar.specs.Forms.{Ask, Asks, Lists, Copies, faulted, refused, refused_or, within, pairs_in, Record, Directories, ask_form}
 use Rattle.vfs_laws.specs.Turns.{opcode_in, behind_header, count_of_pairs, CarriesData, size_asked}
 use Rattle.vfs_grammar.specs.Limits.{max_len}
-use Rattle.vfs_grammar.specs.Reply.{Echo, echo_of, fault_reply, body_reply, said_open, say_bytes}
+use Rattle.vfs_grammar.specs.Reply.{Echo, echo_of, fault_reply, body_reply, reply_to}
 use Rattle.vfs_grammar.specs.Room.{IsReplied}
 use Rattle.vfs_grammar.specs.Turn.{Turn, Follows, IsTurn, turn_tells}
 use Rattle.vfs_grammar.specs.declared.limits.Limits.{Limits}
@@ -115,7 +115,7 @@ module _ (limits : Limits) (options after n : ℕ) (t : Turn) (answered : t.outc
       omega (arith, is, length-fault_reply (Some number) h.unique)
 
   answer_keeps : (answer : Answer) (unique : ℕ) → IsAnswer (Data size) answer
-      → IsReplied (said_open unique (say_bytes answer)) t.room t.outcome t.room_after → n ≤ 16 + size
+      → IsReplied (reply_to unique (Data size) answer) t.room t.outcome t.room_after → n ≤ 16 + size
   answer_keeps (Failed fault) unique a h =
       let is : n ≡ length (fault_reply fault unique) = (let e = sym h.says ∙ answered in cc) in
       omega (arith, is, length-fault_reply fault unique)

@@ -3,16 +3,17 @@ use Rattle.std.proofs.Common.{◌≡◌, ◌≤◌, ◌<◌, ℕ, Bool, true, fa
 use Rattle.std.proofs.lemmas.Bool.Decides.{nat_tests}
 use Rattle.vfs_wire.specs.Fields.{bytes_of}
 use Rattle.vfs_wire.specs.Init.{init_out}
-use Rattle.vfs_files.specs.Calls.{Data, kind_of, read_answer}
+use Rattle.vfs_files.specs.Calls.{Kind, Answer, IsAnswer, Data, kind_of, read_answer}
 use Rattle.vfs_grammar.specs.Ask.{ask}
 use Rattle.vfs_grammar.specs.Forms.{Ask, Ends, Asks, Lists, Copies}
 use Rattle.vfs_laws.specs.Turns.{unique_of}
-use Rattle.vfs_grammar.specs.Reply.{Reply, Refusal, NoReply, Bytes, OpenBehind, Never, Saying, Fault, Body, Unsaid, Wrong, said, said_open, said_by, is_open, say, reply_of, fault_reply, body_reply, version_out}
+use Rattle.vfs_grammar.specs.Reply.{Reply, Refusal, NoReply, Bytes, OpenBehind, Echo, reply_of, fault_reply, body_reply, version_out}
 use Rattle.vfs_grammar.specs.Room.{IsReplied}
 use Rattle.vfs_grammar.specs.Turn.{Turn, Follows, IsTurn, turn_tells}
 use Rattle.vfs_grammar.specs.declared.limits.Limits.{Limits}
 use Rattle.vfs_grammar.specs.declared.error.Error.{Error}
 use Rattle.vfs_grammar.specs.declared.error.Error.TheVariants.{EncodeMessage, OutOfMemory}
+use Rattle.vfs_laws.proofs.Bodies.{replies_hold}
 use Rattle.vfs_laws.proofs.Asking.{ask_cases}
 use Rattle.vfs_grammar.proofs.Rooms.{length-body_reply, length-fault_reply}
 
@@ -31,7 +32,6 @@ replied_length (Refusal error) room outcome room_after h = ap length h.1
 replied_length NoReply room outcome room_after h = ap length h.1
 replied_length (Bytes reply) room outcome room_after h = ap length h.leaves ∙ put_length (nat_le (length reply) (length room)) reply room refl
 replied_length (OpenBehind reply) room outcome room_after h = h.same_length
-replied_length Never room outcome room_after h = absurd h
 
 length_follows : (limits : Limits) (options : ℕ) (a : Ask) (t : Turn) (after : ℕ) → Follows (turn_tells t) limits options a after → length t.room_after ≡ length t.room
 length_follows limits options (Ends reply) t after f = replied_length reply t.room t.outcome t.room_after f.1
@@ -67,28 +67,13 @@ body_some body unique room outcome room_after h o =
     let none = bytes_none (body_reply body unique) room outcome room_after h o in
     absurd (omega (arith, none, length-body_reply body unique))
 
-said_silent : (unique : ℕ) (s : Saying) (room : List ℕ) (outcome : Result ℕ Error) (room_after : List ℕ) → IsReplied (said unique s) room outcome room_after
-    → outcome ≡ Ok 0 → room_after ≡ room
-said_silent unique (Fault fault) room outcome room_after h o = absurd (fault_some fault unique room outcome room_after h o)
-said_silent unique (Body body) room outcome room_after h o = absurd (body_some body unique room outcome room_after h o)
-said_silent unique Unsaid room outcome room_after h o = h.1
-said_silent unique Wrong room outcome room_after h o = absurd h
-
-open_silent : (unique : ℕ) (s : Saying) (room : List ℕ) (outcome : Result ℕ Error) (room_after : List ℕ) → IsReplied (said_open unique s) room outcome room_after
-    → outcome ≡ Ok 0 → room_after ≡ room
-open_silent unique (Fault fault) room outcome room_after h o =
-    let none : length (fault_reply fault unique) ≡ 0 = (let e = sym h.says ∙ o in cc) in
-    absurd (omega (arith, none, length-fault_reply fault unique))
-open_silent unique (Body body) room outcome room_after h o =
-    let none : length (body_reply body unique) ≡ 0 = (let e = sym h.says ∙ o in cc) in
-    absurd (omega (arith, none, length-body_reply body unique))
-open_silent unique Unsaid room outcome room_after h o = absurd h
-open_silent unique Wrong room outcome room_after h o = absurd h
-
-answer_silent : (open_behind : Bool) (unique : ℕ) (s : Saying) (room : List ℕ) (outcome : Result ℕ Error) (room_after : List ℕ)
-    → IsReplied (said_by open_behind unique s) room outcome room_after → outcome ≡ Ok 0 → room_after ≡ room
-answer_silent false unique s room outcome room_after h o = said_silent unique s room outcome room_after h o
-answer_silent true unique s room outcome room_after h o = open_silent unique s room outcome room_after h o
+answer_silent : (limits : Limits) (echo : Echo) (options : ℕ) (kind : Kind) (answer : Answer) (room : List ℕ) (outcome : Result ℕ Error) (room_after : List ℕ)
+    → IsAnswer kind answer → IsReplied (reply_of limits echo options kind answer) room outcome room_after → outcome ≡ Ok 0 → room_after ≡ room
+answer_silent limits echo options kind answer room outcome room_after a h o =
+    replies_hold (λ reply. IsReplied reply room outcome room_after → room_after ≡ room) limits echo options kind answer a
+    (λ none. none.1)
+    (λ reply is p. let none = bytes_none reply room outcome room_after p o in absurd (omega (arith, none, is.long)))
+    (λ reply is p. let none : length reply ≡ 0 = (let e = sym p.says ∙ o in cc) in absurd (omega (arith, none, is.long))) h
 
 pub same_room : (limits : Limits) (options after : ℕ) (t : Turn) → IsTurn limits options t after → t.outcome ≡ Ok 0 → t.room_after ≡ t.room
 same_room limits options after t f o =
@@ -100,8 +85,8 @@ same_room limits options after t f o =
       fault = λ x f. absurd (fault_some x u t.room t.outcome t.room_after f.1 o);
       version = λ f. absurd (body_some (bytes_of init_out version_out) u t.room t.outcome t.room_after f.1 o);
       nothing = λ f. f.1.1;
-      asks = λ echo c same f. answer_silent (is_open (kind_of c)) echo.unique (say limits echo after (kind_of c) f.0) t.room t.outcome t.room_after f.3 o;
-      lists = λ echo l same f. answer_silent true echo.unique (say limits echo after (Data l.size) (read_answer f.1 f.0)) t.room t.outcome t.room_after f.4 o;
+      asks = λ echo c same f. answer_silent limits echo after (kind_of c) f.0 t.room t.outcome t.room_after f.2 f.3 o;
+      lists = λ echo l same f. answer_silent limits echo after (Data l.size) (read_answer f.1 f.0) t.room t.outcome t.room_after f.3 f.4 o;
     })
     (λ a p f. elim f as (λ x. t.room_after ≡ t.room) [ inl g ↦ p g | inr g ↦ g.1.1 ])
     limits options (length t.room) t.request refl (λ small f. f.1.1) f

@@ -22,7 +22,7 @@ use Rattle.vfs_grammar.specs.Ask.{form_of, ask_number, ask_header, ask}
 use Rattle.vfs_grammar.specs.Forms.{Ask, Ends, Asks, Lists, Copies, refused, faulted, silent, refused_or, within, tail_of, name_in, names_in, value_in, extended_in, link_in_tail, pairs_of, pairs_in, room_behind_header, second_flags, ask_version, Layout, layout_size, layout_record, behind, Form, NoTail, NameTail, TwoNames, NameAndValue, NameAndExtensions, LinkAndExtensions, Pairs, WithRest, IntoRoom, Directories, Versions, Silent, NotServed, ask_form}
 use Rattle.vfs_grammar.specs.Limits.{max_len}
 use Rattle.vfs_grammar.specs.Records.{size_of, record_of}
-use Rattle.vfs_grammar.specs.Reply.{Reply, Refusal, NoReply, Bytes, OpenBehind, Never, Echo, echo_of, body_reply, version_out}
+use Rattle.vfs_grammar.specs.Reply.{Reply, Refusal, NoReply, Bytes, OpenBehind, Echo, echo_of, body_reply, version_out}
 use Rattle.vfs_grammar.specs.declared.limits.Limits.{Limits}
 use Rattle.vfs_grammar.specs.declared.error.Error.{Error}
 use Rattle.vfs_grammar.specs.declared.error.Error.TheVariants.{DecodeMessage}
@@ -135,7 +135,6 @@ ReplyFits opcode request (Refusal error) = Unit {0}
 ReplyFits opcode request NoReply = forgets_in opcode request ≡ []
 ReplyFits opcode request (Bytes reply) = (0 < length reply) × (delivered_nodes opcode reply ≡ [])
 ReplyFits opcode request (OpenBehind reply) = ⊥
-ReplyFits opcode request Never = ⊥
 
 -- what a request asks, by its opcode and its bytes
 abbrev pub AskFits : Option Opcode → (request : List ℕ) → Ask → Type 0

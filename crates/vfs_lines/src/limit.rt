@@ -9,7 +9,7 @@ use vfs_flags::{DEFAULT_MAX_BUFFER, GREATEST_MAX_BUFFER, LEAST_MAX_BUFFER};
 use vfs_server::server::Server;
 
 /// The page size of a session's server, in bytes.
-const PAGE_SIZE: u32 = 4096;
+pub const PAGE_SIZE: u32 = 4096;
 
 /// What a line that sets a limit begins with.
 const WORD: &[u8] = b"limit ";

@@ -7,7 +7,7 @@ use Rattle.vfs_wire.specs.declared.headers.OutHeader.{OutHeader}
 use Rattle.vfs_segments.specs.SegmentLaws.{with_bytes_at-append}
 use Rattle.vfs_segments.specs.Written.{Written, whole, held_filled}
 use Rattle.vfs_files.specs.Answers.{IsFault, IsAnswer, Counts, Data, read_answer}
-use Rattle.vfs_grammar.specs.Reply.{OpenBehind, said_open, say_bytes, body_reply, fault_reply}
+use Rattle.vfs_grammar.specs.Reply.{OpenBehind, reply_to, body_reply, fault_reply}
 use Rattle.vfs_messages.specs.Rooms.{data_header, Replies, PutsBehindHeader}
 use Rattle.vfs_grammar.proofs.Rooms.{length-header, length-body_reply, length-fault_reply}
 
@@ -37,10 +37,10 @@ replied_by old mid new bytes head reply behind len n h e same l =
       no_hold = λ z. ap (λ (w : Written). w.held) e;
     }
 
--- what is said of the data is replied, where their header is filled in
+-- the data are replied, or the fault, where their header is filled in
 pub data_replied : (old mid new : Written) (bytes : List ℕ) (answer : Result ℕ (Option ℕ)) (unique size : ℕ) → PutsBehindHeader old bytes mid
     → Counts answer bytes size → new ≡ held_filled mid (bytes_of out_header (data_header answer unique))
-    → Replies (said_open unique (say_bytes (read_answer answer bytes))) old (Ok (data_header answer unique).len) new
+    → Replies (reply_to unique (Data size) (read_answer answer bytes)) old (Ok (data_header answer unique).len) new
 data_replied old mid new bytes (Ok count) unique size h counts e =
     let head : OutHeader = data_header (Ok (length bytes)) unique in
     let is : new ≡ held_filled mid (bytes_of out_header head) =

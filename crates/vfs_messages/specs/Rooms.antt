@@ -5,7 +5,7 @@ use Rattle.vfs_wire.specs.Headers.{out_header}
 use Rattle.vfs_wire.specs.declared.headers.OutHeader.{OutHeader}
 use Rattle.vfs_segments.specs.Written.{Written, Moves, held_over, whole}
 use Rattle.vfs_grammar.specs.Records.{size_of}
-use Rattle.vfs_grammar.specs.Reply.{fault_number, Reply, Refusal, NoReply, Bytes, OpenBehind, Never}
+use Rattle.vfs_grammar.specs.Reply.{fault_number, Reply, Refusal, NoReply, Bytes, OpenBehind}
 use Rattle.vfs_grammar.specs.declared.error.Error.{Error}
 use Rattle.vfs_grammar.specs.Room.{IsReplied}
 
@@ -56,7 +56,6 @@ Replies (Refusal error) old outcome new = (outcome ≡ Err error) × (new ≡ ol
 Replies NoReply old outcome new = (outcome ≡ Ok 0) × (new ≡ old)
 Replies (Bytes reply) old outcome new = Writes (Bytes reply) old outcome new
 Replies (OpenBehind reply) old outcome new = Writes (OpenBehind reply) old outcome new
-Replies Never old outcome new = ⊥
 
 -- These bytes were put into a writer behind the place of a reply's header, which it holds, and
 -- perhaps others beyond them, which don't count. What stands behind them in the room isn't said.

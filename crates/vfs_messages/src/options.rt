@@ -9,7 +9,7 @@ ghost use Rattle.vfs_files.specs.Calls.{IsAnswer, Agreements, Init, init_answer}
 ghost use Rattle.vfs_grammar.specs.Forms.{second_flags};
 ghost use Rattle.vfs_grammar.specs.Limits.{AreLimits};
 ghost use Rattle.vfs_grammar.specs.Options.{offered, agreed, options_after};
-ghost use Rattle.vfs_grammar.specs.Reply.{Bytes, said, say_init, init_out_of, body_reply, version_out};
+ghost use Rattle.vfs_grammar.specs.Reply.{Bytes, init_out_of, body_reply, answer_reply, version_out};
 ghost use Rattle.vfs_messages.specs.Rooms.{Replies};
 
 use crate::reply::{reply_failed, reply_record};
@@ -110,7 +110,9 @@ pub fn reply_init(
 ) -> Result<usize>
     requires { AreLimits limits }
     ensures replied { Replies
-        (said unique (say_init limits max_readahead (fs_options_bits options) (init_answer answer)))
+        (Bytes (answer_reply
+        (bytes_of init_out (init_out_of limits max_readahead (fs_options_bits options))) unique
+        (init_answer answer)))
         w.old result w.new }
     ensures kind { IsAnswer Agreements (init_answer answer) }
 {

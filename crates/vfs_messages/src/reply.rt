@@ -9,12 +9,13 @@ ghost use Rattle.vfs_wire.specs.Fields.{Fit, bytes_of};
 ghost use Rattle.vfs_wire.specs.Headers.{out_header};
 ghost use Rattle.vfs_wire.specs.Xattrs.{getxattr_out};
 ghost use Rattle.vfs_flags.specs.Flags.{open_options_bits};
+ghost use Rattle.vfs_segments.specs.declared.record.TheConstants.{LARGEST_RECORD};
 ghost use Rattle.vfs_segments.specs.Written.{Written, wrote, held_over, held_filled};
 ghost use Rattle.std.specs.Option.{option_copied};
 ghost use Rattle.vfs_files.specs.Answers.{IsFault, IsAnswer, FitsText, KeepsTextShort, Counts, Data, Told, Untold, Entries, TimedAttributes, Openings, Creations, Capacities, Texts, TextsOrCounts, Offsets, Writes, Faults, Failed, done_answer, entry_answer, attr_answer, opened_answer, created_answer, statistics_answer, text_answer, getxattr_answer, listxattr_answer, offset_answer, written_answer, read_answer};
 ghost use Rattle.vfs_grammar.specs.Records.{size_of};
 ghost use Rattle.vfs_messages.specs.Rooms.{bytes_of_option, bytes_or_none, size_of_option, data_header, Replies, PutsBehindHeader};
-ghost use Rattle.vfs_grammar.specs.Reply.{Bytes, said, said_open, fault_reply, fault_number, body_reply, say_done, say_fault, say_bytes, say_entry, say_attr, say_opened, say_created, say_statistics, say_text, say_text_or_count, say_offset, say_written, say_fault_alone, attr_out_of, open_out_of, getxattr_out_of};
+ghost use Rattle.vfs_grammar.specs.Reply.{Bytes, fault_reply, fault_number, body_reply, reply_to, attr_out_of, open_out_of, getxattr_out_of};
 ghost use Rattle.vfs_grammar.specs.Forms.{room_behind_header};
 
 use bitflags::Flags;
@@ -63,7 +64,7 @@ fn put_body(body: &[u8], w: &mut Writer)
 
 /// The bytes that a record has, where there is one.
 fn part_size<T: ByteValued + Drop>(out: &Option<T>) -> usize
-    ensures small { result ≤ 152 }
+    ensures small { result ≤ LARGEST_RECORD }
     ensures size { result ≡ size_of_option T.table out.now }
 {
     match out {
@@ -148,7 +149,7 @@ fn reply_both<T: ByteValued + Drop>(
     unique: u64,
     w: &mut Writer,
 ) -> Result<usize>
-    requires { length behind.now ≤ 152 }
+    requires { length behind.now ≤ LARGEST_RECORD }
     ensures replied { Replies (Bytes (body_reply (bytes_of T.table out ++ behind.now) unique))
         w.old result w.new }
     ensures in_width { Fit T.table.widths (T.table.fields out) }
@@ -272,7 +273,7 @@ pub fn reply_data(
     requires short { IfOk answer (λ count. count < 2 ^ 32 - 16) }
     ensures replied { (old : Written) (bytes : List ℕ) (size : ℕ) →
         PutsBehindHeader old bytes w.old → Counts answer bytes size →
-        Replies (said_open unique (say_bytes (read_answer answer bytes))) old result w.new }
+        Replies (reply_to unique (Data size) (read_answer answer bytes)) old result w.new }
     ensures kind { (bytes : List ℕ) (size : ℕ) → Counts answer bytes size →
         IsAnswer (Data size) (read_answer answer bytes) }
 {
@@ -288,7 +289,7 @@ pub fn reply_done(
     unique: u64,
     w: &mut Writer,
 ) -> Result<usize>
-    ensures replied { Replies (said unique (say_done (done_answer answer))) w.old result w.new }
+    ensures replied { Replies (reply_to unique Told (done_answer answer)) w.old result w.new }
     ensures kind { IsAnswer Told (done_answer answer) }
 {
     match answer {
@@ -303,7 +304,7 @@ pub fn reply_fault(
     unique: u64,
     w: &mut Writer,
 ) -> Result<usize>
-    ensures replied { Replies (said unique (say_fault (done_answer answer))) w.old result w.new }
+    ensures replied { Replies (reply_to unique Untold (done_answer answer)) w.old result w.new }
     ensures kind { IsAnswer Untold (done_answer answer) }
 {
     match answer {
@@ -314,7 +315,7 @@ pub fn reply_fault(
 
 /// Replies a fault, which is all that TMPFILE is ever answered.
 pub fn reply_fault_alone(fault: Fault, unique: u64, w: &mut Writer) -> Result<usize>
-    ensures replied { Replies (said unique (say_fault_alone (Failed fault))) w.old result w.new }
+    ensures replied { Replies (reply_to unique Faults (Failed fault)) w.old result w.new }
     ensures kind { IsAnswer Faults (Failed fault) }
 {
     reply_failed(fault, unique, w)
@@ -327,7 +328,7 @@ pub fn reply_entry(
     unique: u64,
     w: &mut Writer,
 ) -> Result<usize>
-    ensures replied { Replies (said unique (say_entry (entry_answer answer))) w.old result w.new }
+    ensures replied { Replies (reply_to unique Entries (entry_answer answer)) w.old result w.new }
     ensures kind { IsAnswer Entries (entry_answer answer) }
 {
     match answer {
@@ -354,7 +355,7 @@ pub fn reply_attr(
     unique: u64,
     w: &mut Writer,
 ) -> Result<usize>
-    ensures replied { Replies (said unique (say_attr (attr_answer answer))) w.old result w.new }
+    ensures replied { Replies (reply_to unique TimedAttributes (attr_answer answer)) w.old result w.new }
     ensures kind { IsAnswer TimedAttributes (attr_answer answer) }
 {
     match answer {
@@ -384,7 +385,7 @@ pub fn reply_opened<H: Number>(
     unique: u64,
     w: &mut Writer,
 ) -> Result<usize>
-    ensures replied { Replies (said unique (say_opened (opened_answer H.value answer)))
+    ensures replied { Replies (reply_to unique Openings (opened_answer H.value answer))
         w.old result w.new }
     ensures kind { IsAnswer Openings (opened_answer H.value answer) }
 {
@@ -400,7 +401,7 @@ pub fn reply_created<H: Number>(
     unique: u64,
     w: &mut Writer,
 ) -> Result<usize>
-    ensures replied { Replies (said unique (say_created (created_answer H.value answer)))
+    ensures replied { Replies (reply_to unique Creations (created_answer H.value answer))
         w.old result w.new }
     ensures kind { IsAnswer Creations (created_answer H.value answer) }
 {
@@ -420,7 +421,7 @@ pub fn reply_statistics(
     unique: u64,
     w: &mut Writer,
 ) -> Result<usize>
-    ensures replied { Replies (said unique (say_statistics (statistics_answer answer)))
+    ensures replied { Replies (reply_to unique Capacities (statistics_answer answer))
         w.old result w.new }
     ensures kind { IsAnswer Capacities (statistics_answer answer) }
 {
@@ -445,7 +446,7 @@ pub fn reply_text(
     w: &mut Writer,
 ) -> Result<usize>
     requires { KeepsTextShort (text_answer answer) }
-    ensures replied { Replies (said unique (say_text (text_answer answer))) w.old result w.new }
+    ensures replied { Replies (reply_to unique Texts (text_answer answer)) w.old result w.new }
     ensures kind { IsAnswer Texts (text_answer answer) }
 {
     match answer {
@@ -473,7 +474,7 @@ pub fn reply_names(
     w: &mut Writer,
 ) -> Result<usize>
     requires { KeepsTextShort (listxattr_answer answer) }
-    ensures replied { Replies (said unique (say_text_or_count (listxattr_answer answer)))
+    ensures replied { Replies (reply_to unique TextsOrCounts (listxattr_answer answer))
         w.old result w.new }
     ensures kind { IsAnswer TextsOrCounts (listxattr_answer answer) }
 {
@@ -491,7 +492,7 @@ pub fn reply_value(
     w: &mut Writer,
 ) -> Result<usize>
     requires { KeepsTextShort (getxattr_answer answer) }
-    ensures replied { Replies (said unique (say_text_or_count (getxattr_answer answer)))
+    ensures replied { Replies (reply_to unique TextsOrCounts (getxattr_answer answer))
         w.old result w.new }
     ensures kind { IsAnswer TextsOrCounts (getxattr_answer answer) }
 {
@@ -508,7 +509,7 @@ pub fn reply_offset(
     unique: u64,
     w: &mut Writer,
 ) -> Result<usize>
-    ensures replied { Replies (said unique (say_offset (offset_answer answer))) w.old result w.new }
+    ensures replied { Replies (reply_to unique Offsets (offset_answer answer)) w.old result w.new }
     ensures kind { IsAnswer Offsets (offset_answer answer) }
 {
     match answer {
@@ -523,7 +524,7 @@ pub fn reply_written(
     unique: u64,
     w: &mut Writer,
 ) -> Result<usize>
-    ensures replied { Replies (said unique (say_written (written_answer answer)))
+    ensures replied { Replies (reply_to unique Writes (written_answer answer))
         w.old result w.new }
     ensures kind { IsAnswer Writes (written_answer answer) }
 {

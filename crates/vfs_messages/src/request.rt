@@ -4,6 +4,7 @@ ghost use Rattle.std.specs.Prelude.{◌≡◌, ◌==◌, ◌≤◌, ◌+◌, ◌
 ghost use Rattle.vfs_flags.specs.Flags.{fs_options_bits, setattr_valid_bits, known_setattr_valid, setxattr_flags_bits, known_setxattr_flags, setxattr_ext};
 ghost use Rattle.vfs_files.specs.Names.{name_text, name_of};
 ghost use Rattle.vfs_wire.specs.Entries.{forget_one};
+ghost use Rattle.vfs_segments.specs.declared.record.TheConstants.{LARGEST_RECORD};
 ghost use Rattle.vfs_segments.specs.Lengths.{lengths_from, lie_together};
 ghost use Rattle.vfs_grammar.specs.Ask.{has_flag, if_set, setxattr_layout};
 ghost use Rattle.vfs_messages.specs.Parts.{GivesValue, MayHoldContext, TailIsCut, pieces_behind, GivesTail, GivesPart, GivesPartAs, GivesExtended, extended_values, link_values, GivesPairs};
@@ -15,7 +16,7 @@ use bitflags::Flags;
 use std::alloc::Global;
 use std::io::Read;
 use std::marker::Model;
-use vfs_files::{CStr, Extensions, Number};
+use vfs_files::{CStr, Extensions, Number, first_nul};
 use vfs_flags::{FsOptions, SetattrValid, SetxattrFlags};
 use vfs_grammar::{Error, Result};
 use vfs_segments::Reader;
@@ -112,7 +113,7 @@ pub fn read_tail<'a>(
     size: usize,
     reader: &mut Reader<'a>,
 ) -> Result<Tail<'a>>
-    requires { size ≤ 152 }
+    requires { size ≤ LARGEST_RECORD }
     ensures { GivesTail (TailIsCut header.now size reader.old.pieces) result
         (tail_of header.now size reader.old.left) }
 {
@@ -147,13 +148,12 @@ impl<'a> Model for Name<'a> {
 
 impl<'a> Name<'a> {
     /// The name.
+    #[tactic(auto, using(crate::proofs::FirstNames::name_has_an_end, crate::proofs::FirstNames::name_ends_last, crate::proofs::FirstNames::name_is_the_rest))]
     pub fn as_c_str(&self) -> CStr<'_>
         ensures { name_text result ≡ self.now }
     {
-        match CStr::from_bytes_with_nul(self.tail.as_bytes()) {
-            Some(name) => name,
-            None => unreachable!(),
-        }
+        let bytes = self.tail.as_bytes();
+        CStr::before_nul(bytes, bytes.len() - 1)
     }
 }
 
@@ -177,20 +177,12 @@ pub fn read_name<'a>(
     size: usize,
     reader: &mut Reader<'a>,
 ) -> Result<Name<'a>>
-    requires { size ≤ 152 }
+    requires { size ≤ LARGEST_RECORD }
     ensures { GivesPart (TailIsCut header.now size reader.old.pieces) name_in result
         (tail_of header.now size reader.old.left) }
 {
     let tail = read_tail(alloc, header, size, reader)?;
     name_of_tail(tail)
-}
-
-/// Where the first 0 stands.
-fn first_nul(bytes: &[u8]) -> Option<usize>
-    ensures { result ≡ position (λ b. b == 0) bytes.now }
-{
-    let name = CStr::from_bytes_until_nul(bytes)?;
-    Some(name.to_bytes().len())
 }
 
 /// A tail that begins with a name and the 0 behind it.
@@ -215,10 +207,7 @@ impl<'a> FirstName<'a> {
     pub fn as_c_str(&self) -> CStr<'_>
         ensures { name_text result ≡ self.now.0 }
     {
-        match CStr::from_bytes_until_nul(self.tail.as_bytes()) {
-            Some(name) => name,
-            None => unreachable!(),
-        }
+        CStr::before_nul(self.tail.as_bytes(), self.nul)
     }
 
     /// What follows it.
@@ -257,13 +246,12 @@ impl<'a> TwoNames<'a> {
     }
 
     /// The second name.
+    #[tactic(auto, using(crate::proofs::FirstNames::name_has_an_end, crate::proofs::FirstNames::name_ends_last, crate::proofs::FirstNames::name_is_the_rest))]
     pub fn second(&self) -> CStr<'_>
         ensures { name_text result ≡ self.now.1 }
     {
-        match CStr::from_bytes_with_nul(self.first.rest()) {
-            Some(name) => name,
-            None => unreachable!(),
-        }
+        let bytes = self.first.rest();
+        CStr::before_nul(bytes, bytes.len() - 1)
     }
 }
 
@@ -300,7 +288,7 @@ pub fn read_names<'a>(
     size: usize,
     reader: &mut Reader<'a>,
 ) -> Result<TwoNames<'a>>
-    requires { size ≤ 152 }
+    requires { size ≤ LARGEST_RECORD }
     ensures { GivesPart (TailIsCut header.now size reader.old.pieces) names_in result
         (tail_of header.now size reader.old.left) }
 {
@@ -343,7 +331,7 @@ pub fn read_value<'a>(
     value: u32,
     reader: &mut Reader<'a>,
 ) -> Result<FirstName<'a>>
-    requires { size ≤ 152 }
+    requires { size ≤ LARGEST_RECORD }
     ensures { GivesPart (TailIsCut header.now size reader.old.pieces) (value_in value) result
         (tail_of header.now size reader.old.left) }
 {
@@ -393,7 +381,7 @@ pub fn read_extended<'a>(
     size: usize,
     reader: &mut Reader<'a>,
 ) -> Result<(FirstName<'a>, Extensions)>
-    requires { size ≤ 152 }
+    requires { size ≤ LARGEST_RECORD }
     ensures { GivesPartAs
         (TailIsCut header.now size reader.old.pieces ⊎ MayHoldContext (fs_options_bits options))
         extended_values (extended_in (fs_options_bits options)) result
@@ -432,10 +420,7 @@ impl<'a> NameAndText<'a> {
     pub fn text(&self) -> CStr<'_>
         ensures { name_text result ≡ self.now.1 }
     {
-        match CStr::from_bytes_until_nul(self.first.rest()) {
-            Some(text) => text,
-            None => unreachable!(),
-        }
+        CStr::before_nul(self.first.rest(), self.nul)
     }
 }
 
@@ -517,7 +502,7 @@ pub fn read_setxattr(options: FsOptions, reader: &mut Reader<'_>) -> Result<Setx
 /// The bytes of SETXATTR's record, by the agreed options.
 pub fn setxattr_size(options: FsOptions) -> usize
     ensures size { result ≡ layout_size (setxattr_layout (fs_options_bits options)) }
-    ensures small { result ≤ 152 }
+    ensures small { result ≤ LARGEST_RECORD }
 {
     if has_short_setxattr(options) {
         SetxattrInCompat::SIZE

@@ -5,12 +5,9 @@ use std::alloc::Global;
 use std::io;
 use vfs_bench::Recorder;
 use vfs_corpus::{Served, Watch, bytes_of};
-use vfs_lines::{Line, MemFs, RunError, lines_of, parse_line, read_all};
+use vfs_lines::{Line, MemFs, PAGE_SIZE, RunError, lines_of, parse_line, read_all};
 use vfs_segments::{Reader, Writer};
 use vfs_server::server::Server;
-
-/// The page size of the server, in bytes.
-const PAGE_SIZE: u32 = 4096;
 
 /// How many calls can be noted.
 const PLACES: usize = 4096;

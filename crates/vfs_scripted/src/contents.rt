@@ -16,11 +16,8 @@ ghost use Rattle.vfs_views.specs.Views.{IsSameRoom};
 
 use crate::notes::Notes;
 use vfs_files::{ZeroCopyReader, ZeroCopyWriter};
-use vfs_flags::{Errno, Fault};
+use vfs_flags::{Errno, Fault, MAX_REPLY_DATA};
 use vfs_views::{PositionedFile, Slices, SlicesMut, WritevFlags};
-
-/// How many bytes a reply carries at most: with its header's 16, their count is below 2 ^ 32.
-const MOST_PUT: u32 = u32::MAX - 16;
 
 /// The file. It notes its calls.
 #[derive(Drop)]
@@ -54,7 +51,7 @@ impl Contents {
     ) -> Result<usize, Fault>
         ensures { (bytes : List ℕ) × W.puts w.old bytes w.new × Counts result bytes size }
     {
-        let size = size.min(MOST_PUT) as usize;
+        let size = size.min(MAX_REPLY_DATA) as usize;
         if self.seed / 40 % 2 == 0 {
             return w.read_from_file_at(self, size, offset);
         }

@@ -36,5 +36,6 @@ mod writer;
 pub use descriptor_type::DescriptorType;
 pub use error::{Error, Result};
 pub use reader::Reader;
+pub use record::LARGEST_RECORD;
 pub use vfs_views::{PositionedFile, Slices, SlicesMut, WritevFlags};
 pub use writer::Writer;

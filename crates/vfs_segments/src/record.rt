@@ -1,4 +1,4 @@
 //! What a reader and a writer know of records.
 
 /// The size of the largest record, in bytes.
-pub(crate) const LARGEST_RECORD: usize = 152;
+pub const LARGEST_RECORD: usize = 152;

@@ -214,19 +214,7 @@ ask-forget limits options room =
 -- nothing comes back of a call that answers nothing
 quiet : (limits : Limits) (echo : Echo) (options : ℕ) (a : Answer) (room : List ℕ) (outcome : Result ℕ Error) (room_after : List ℕ)
     → IsReplied (reply_of limits echo options Quiet a) room outcome room_after → outcome ≡ Ok 0
-quiet limits echo options Done room outcome room_after r = r.0
-quiet limits echo options (Failed f) room outcome room_after r = absurd r
-quiet limits echo options (Options w) room outcome room_after r = absurd r
-quiet limits echo options (answers.Found e) room outcome room_after r = absurd r
-quiet limits echo options (Attributes e d) room outcome room_after r = absurd r
-quiet limits echo options (Put b) room outcome room_after r = absurd r
-quiet limits echo options (answers.Opened h o) room outcome room_after r = absurd r
-quiet limits echo options (answers.Created e h o) room outcome room_after r = absurd r
-quiet limits echo options (Statistics s) room outcome room_after r = absurd r
-quiet limits echo options (Text b) room outcome room_after r = absurd r
-quiet limits echo options (Count n) room outcome room_after r = absurd r
-quiet limits echo options (Offset n) room outcome room_after r = absurd r
-quiet limits echo options (answers.Written n) room outcome room_after r = absurd r
+quiet limits echo options a room outcome room_after r = r.0
 
 turn-forget : (limits : Limits) (options : ℕ) (t : Turn) (after : ℕ) → IsTurn limits options t after → t.request ≡ FORGET → t.outcome ≡ Ok 0
 turn-forget limits options t after s request =

@@ -13,7 +13,7 @@ use Rattle.vfs_grammar.specs.Records.{record_of, size_of}
 use Rattle.vfs_grammar.specs.Forms.{Listing, Ask, Ends, Asks, Lists, Copies, refused, refused_or}
 use Rattle.vfs_grammar.specs.Ask.{ask, ask_header, header_of}
 use Rattle.vfs_grammar.specs.Directories.{StopsForACause, ComesWhole, TakesFew}
-use Rattle.vfs_grammar.specs.Reply.{Echo, Reply, Refusal, NoReply, Bytes, OpenBehind, Never, reply_of}
+use Rattle.vfs_grammar.specs.Reply.{Echo, Reply, Refusal, NoReply, Bytes, OpenBehind, reply_of}
 use Rattle.vfs_grammar.specs.Room.{IsReplied, unseen}
 use Rattle.vfs_messages.specs.Rooms.{Leaves, Replies}
 use Rattle.vfs_grammar.specs.Turn.{Turn, Witness, Follows, IsTurn, IsTurnWithMemory, node_answered, turn_tells}
@@ -38,7 +38,6 @@ came (Refusal error) old new outcome h = record { room_after = old.left; leaves 
 came NoReply old new outcome h = record { room_after = old.left; leaves = stays old new h.1; says = (h.0, refl); no_hold = λ z. ap (λ (w : Written). w.held) h.1 ∙ z }
 came (Bytes reply) old new outcome h = record { room_after = h.room_after; leaves = h.leaves; says = h.says; no_hold = h.no_hold }
 came (OpenBehind reply) old new outcome h = record { room_after = h.room_after; leaves = h.leaves; says = h.says; no_hold = h.no_hold }
-came Never old new outcome h = absurd h
 
 -- the header that a request begins with, where it is whole
 header_is : (short : Bool) (v h : InHeader) → (if short then Err DecodeMessage else Ok v) ≡ Ok h → h ≡ v

@@ -7,7 +7,9 @@ use vfs_files::{
     CStr, Context, DirEntry, DirectoryIterator, Entry, Extensions, FileSystem, GetxattrReply,
     ListxattrReply, ZeroCopyReader, ZeroCopyWriter, defaults,
 };
-use vfs_flags::{Errno, Fault, FsOptions, OpenOptions, SetattrValid, SetxattrFlags};
+use vfs_flags::{
+    Errno, Fault, FsOptions, MAX_REPLY_DATA, OpenOptions, SetattrValid, SetxattrFlags,
+};
 use vfs_views::{PositionedFile, Slices, SlicesMut, WritevFlags};
 use vfs_wire::{Attr, SetattrIn, Statvfs64};
 
@@ -16,9 +18,6 @@ const FILE_MODE: u32 = 0o100644;
 
 /// The kind and permissions of a directory.
 const DIRECTORY_MODE: u32 = 0o40755;
-
-/// How many bytes a reply carries at most: with its header's 16, their count is below 2 ^ 32.
-const MOST_PUT: u32 = u32::MAX - 16;
 
 /// How many entries a directory has.
 const ENTRIES: u64 = 1000;
@@ -234,7 +233,7 @@ impl FileSystem for NullFs {
         lock_owner: Option<u64>,
         flags: u32,
     ) -> Result<usize, Fault> {
-        w.read_from_file_at(&mut NullFile {}, size.min(MOST_PUT) as usize, offset)
+        w.read_from_file_at(&mut NullFile {}, size.min(MAX_REPLY_DATA) as usize, offset)
     }
 
     fn write<R: ZeroCopyReader>(

@@ -6,10 +6,7 @@ ghost use Rattle.vfs_memory.specs.MemFs.{PutsPart};
 
 use crate::memfile::MemFile;
 use vfs_files::{ZeroCopyReader, ZeroCopyWriter};
-use vfs_flags::Fault;
-
-/// How many bytes a reply carries at most: with its header's 16, their count is below 2 ^ 32.
-const MOST_PUT: u32 = u32::MAX - 16;
+use vfs_flags::{Fault, MAX_REPLY_DATA};
 
 /// Puts up to `size` bytes of the file, from `offset` on, into `w`, and answers how many.
 pub(super) fn read_into<W: ZeroCopyWriter>(
@@ -21,7 +18,7 @@ pub(super) fn read_into<W: ZeroCopyWriter>(
     ensures { (bytes : List ℕ) × W.puts w.old bytes w.new
         × PutsPart file.old (W.room w.old) size offset result bytes file.new }
 {
-    w.read_from_file_at(file, size.min(MOST_PUT) as usize, offset)
+    w.read_from_file_at(file, size.min(MAX_REPLY_DATA) as usize, offset)
 }
 
 /// Takes up to `size` bytes from `r`, puts those into the file that fit, from `offset` on, and

@@ -6,7 +6,7 @@ ghost use Rattle.vfs_files.specs.Answers.{Entries, Creations, IsAnswer, entry_an
 ghost use Rattle.vfs_files.specs.Calls.{Call, Plain};
 ghost use Rattle.vfs_files.specs.Entries.{context_of};
 ghost use Rattle.vfs_listings.specs.Reading.{GivesBackNode};
-ghost use Rattle.vfs_grammar.specs.Reply.{said, say_entry, say_created};
+ghost use Rattle.vfs_grammar.specs.Reply.{reply_to};
 ghost use Rattle.vfs_messages.specs.Rooms.{Replies};
 ghost use Rattle.vfs_grammar.specs.Room.{unseen};
 ghost use Rattle.vfs_grammar.specs.Turn.{counted, node_answered};
@@ -37,13 +37,13 @@ pub(super) fn deliver_entry<F: FileSystem>(
     answer: std::result::Result<Entry, Fault>,
     w: &mut Writer,
 ) -> Result<usize>
-    ensures replied { Replies (said header.now.unique (say_entry (entry_answer answer)))
+    ensures replied { Replies (reply_to header.now.unique Entries (entry_answer answer))
         w.old result w.new }
     ensures kind { IsAnswer Entries (entry_answer answer) }
     ensures gives_back { (old : F) (call : Call) →
         F.allows old call (Plain (entry_answer answer)) fs.old →
         CallsAndGivesBack F.allows F.DirIter.gives call (entry_answer answer) (context_of header.now)
-        (unseen (length w.old.left) (said header.now.unique (say_entry (entry_answer answer)))
+        (unseen (length w.old.left) (reply_to header.now.unique Entries (entry_answer answer))
         (node_answered Entries (entry_answer answer)))
         old fs.new }
 {
@@ -65,14 +65,14 @@ pub(super) fn deliver_created<F: FileSystem>(
     w: &mut Writer,
 ) -> Result<usize>
     ensures replied { Replies
-        (said header.now.unique (say_created (created_answer F.Handle.value answer)))
+        (reply_to header.now.unique Creations (created_answer F.Handle.value answer))
         w.old result w.new }
     ensures kind { IsAnswer Creations (created_answer F.Handle.value answer) }
     ensures gives_back { (old : F) (call : Call) →
         F.allows old call (Plain (created_answer F.Handle.value answer)) fs.old →
         CallsAndGivesBack F.allows F.DirIter.gives call (created_answer F.Handle.value answer)
         (context_of header.now) (unseen (length w.old.left)
-        (said header.now.unique (say_created (created_answer F.Handle.value answer)))
+        (reply_to header.now.unique Creations (created_answer F.Handle.value answer))
         (node_answered Creations (created_answer F.Handle.value answer)))
         old fs.new }
 {

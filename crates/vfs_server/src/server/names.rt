@@ -6,7 +6,7 @@ use crate::server::Server;
 use crate::server::entries::deliver_entry;
 use std::alloc::Global;
 use vfs_files::{Context, FileSystem, Number};
-use vfs_flags::{Errno, Opcode};
+use vfs_flags::{Errno, Opcode, RENAME_FLAGS};
 use vfs_grammar::Result;
 use vfs_messages::{
     read_extended, read_link, read_name, read_names, read_pairs, read_record, reply_done,
@@ -17,9 +17,6 @@ use vfs_wire::{
     BatchForgetIn, ByteValued, ForgetIn, ForgetOne, InHeader, LinkIn, MkdirIn, MknodIn, Rename2In,
     RenameIn,
 };
-
-/// The flags of RENAME2 that are passed on: not to replace, to exchange, and to leave a whiteout.
-const RENAME_FLAGS: u32 = 7;
 
 impl<F: FileSystem> Server<F> {
     /// LOOKUP: the node of a name, which is the request's tail.

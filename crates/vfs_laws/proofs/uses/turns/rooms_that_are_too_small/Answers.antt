@@ -1,14 +1,14 @@
 use Rattle.std.proofs.Common.{◌≡◌, ◌<◌, ℕ, List, [], ◌∷◌, length, take, None, ap, sym, subst, ◌∙◌, inl, inr, refl, arith, pos}
 use Rattle.vfs_flags.specs.Opcode.{opcode_of}
 use Rattle.vfs_wire.specs.Fields.{number, little}
-use Rattle.vfs_files.specs.Calls.{Call, Lookup, Read, Answer, Found}
+use Rattle.vfs_files.specs.Calls.{Call, Lookup, Read, Answer, Entries, Found}
 use Rattle.vfs_files.specs.Runs.{Event, Called}
 use Rattle.vfs_files.specs.declared.entry.Context.{Context}
 use Rattle.vfs_grammar.specs.Ask.{ask}
 use Rattle.vfs_grammar.specs.Forms.{Ask, Asks, Copies, refused}
 use Rattle.vfs_laws.specs.Turns.{opcode_in, CarriesData, cut_turn_tells, CutsOff}
 use Rattle.vfs_grammar.specs.Limits.{default_limits}
-use Rattle.vfs_grammar.specs.Reply.{Reply, Echo, Bytes, Saying, Fault, Body, Unsaid, Wrong, said_open, say_bytes, say_entry, said}
+use Rattle.vfs_grammar.specs.Reply.{Reply, Echo, Bytes, reply_to}
 use Rattle.vfs_grammar.specs.Turn.{Turn, Follows}
 use Rattle.vfs_grammar.specs.Samples.{request_for_data, node_5, node_5_reply}
 use Rattle.vfs_grammar.specs.declared.error.Error.TheVariants.{EncodeMessage}
@@ -20,14 +20,7 @@ nobody = record { uid = 0; gid = 0; pid = pos 0 }
 abbrev echo : Echo
 echo = record { unique = 9; max_readahead = 0; ctx = nobody }
 
--- data aren't cut off
-never_cut : (unique : ℕ) (s : Saying) (room room_after : List ℕ) → CutsOff (said_open unique s) room room_after → ⊥
-never_cut unique (Fault fault) room room_after h = h
-never_cut unique (Body body) room room_after h = h
-never_cut unique Unsaid room room_after h = h
-never_cut unique Wrong room room_after h = h
-
-found_so : said 9 (say_entry (Found node_5)) ≡ Bytes node_5_reply
+found_so : reply_to 9 Entries (Found node_5) ≡ Bytes node_5_reply
 unfolding number little
 found_so = refl
 
@@ -37,7 +30,7 @@ looked_up : (options : ℕ) (after : ℕ) (call : Call) (back : List Event) (t :
 looked_up options after call back t e (inl f) =
     let a = sym f.1 ∙ e in
     let same : f.0 ≡ Found node_5 = cc in
-    let cut : CutsOff (said 9 (say_entry (Found node_5))) t.room t.room_after = subst (λ (x : Answer). CutsOff (said 9 (say_entry x)) t.room t.room_after) same f.3 in
+    let cut : CutsOff (reply_to 9 Entries (Found node_5)) t.room t.room_after = subst (λ (x : Answer). CutsOff (reply_to 9 Entries x) t.room t.room_after) same f.3 in
     let found : CutsOff (Bytes node_5_reply) t.room t.room_after = subst (λ (reply : Reply). CutsOff reply t.room t.room_after) found_so cut in
     (found.longer, found.holds)
 looked_up options after call back t e (inr f) = absurd f.1
@@ -72,6 +65,6 @@ pub returns-clause-enough : goal.returns-clause-enough
 unfolding number opcode_of
 returns-clause-enough c = λ options after t turn is size o.
     elim (c.unfit_replies_are_cut_off.ensures (default_limits 4096) options after t turn o) as (λ x. ⊥) [
-      | inl f ↦ (let g = asked options 20 (Asks echo (Read nobody 1 0 4 3 0 None 0)) refl after t is size f in never_cut 9 (say_bytes g.0) t.room t.room_after g.3)
+      | inl f ↦ (let g = asked options 20 (Asks echo (Read nobody 1 0 4 3 0 None 0)) refl after t is size f in g.3)
       | inr lacks ↦ absurd (let small = lacks.small in omega arith)
     ]
