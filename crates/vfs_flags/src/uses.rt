@@ -1,6 +1,6 @@
 //! Numbers of the protocol by name: calls of this crate, each with a fact that its contracts give.
 
-ghost use Rattle.std.specs.Prelude.{◌≡◌, ◌↔◌, [], ◌∷◌, pos, ◌-ℤ◌, ◌<ℤ◌, Some, None, IsTrue};
+ghost use Rattle.std.specs.Prelude.{◌≡◌, ◌↔◌, [], ◌∷◌, pos, ◌-ℤ◌, ◌<ℤ◌, Some, None, IsTrue, map};
 ghost use Rattle.vfs_flags.specs.Errors.{eperm, enoent, eio, ebadf, enomem, eacces, eexist, exdev, enotdir, eisdir, einval, enospc, erofs, erange, enosys, enotempty, enodata, eproto, eoverflow, eopnotsupp};
 ghost use Rattle.vfs_flags.specs.Flags.{fs_options_bits, init_ext, setxattr_ext, security_ctx, create_supp_group, supported_fs_options};
 
@@ -41,53 +41,27 @@ fn named_errors() -> [Errno; 20]
     ]
 }
 
-/// The option that SETXATTR has its longer record.
-fn longer_setxattr() -> FsOptions
-    ensures { fs_options_bits result ≡ setxattr_ext }
+/// The options that SETXATTR has its longer record, that INIT has a second one, and that a request
+/// which creates a node carries its security contexts, or a supplementary group; and those that a
+/// server supports by itself.
+fn named_options() -> [FsOptions; 5]
+    ensures { map fs_options_bits result
+        ≡ setxattr_ext ∷ init_ext ∷ security_ctx ∷ create_supp_group ∷ supported_fs_options ∷ [] }
 {
-    FsOptions::SETXATTR_EXT
+    [
+        FsOptions::SETXATTR_EXT,
+        FsOptions::INIT_EXT,
+        FsOptions::SECURITY_CTX,
+        FsOptions::CREATE_SUPP_GROUP,
+        FsOptions::SUPPORTED,
+    ]
 }
 
-/// The option that INIT has a second record.
-fn longer_init() -> FsOptions
-    ensures { fs_options_bits result ≡ init_ext }
+/// The error of the number that `open` of the system gives for a name that is not there; 0 is none.
+fn not_found() -> [Option<Errno>; 2]
+    ensures { result ≡ Some enoent ∷ None ∷ [] }
 {
-    FsOptions::INIT_EXT
-}
-
-/// The option that a request which creates a node carries its security contexts.
-fn security_contexts() -> FsOptions
-    ensures { fs_options_bits result ≡ security_ctx }
-{
-    FsOptions::SECURITY_CTX
-}
-
-/// The option that a request which creates a node carries a supplementary group.
-fn supplementary_group() -> FsOptions
-    ensures { fs_options_bits result ≡ create_supp_group }
-{
-    FsOptions::CREATE_SUPP_GROUP
-}
-
-/// The options that a server supports by itself.
-fn supported() -> FsOptions
-    ensures { fs_options_bits result ≡ supported_fs_options }
-{
-    FsOptions::SUPPORTED
-}
-
-/// The error of the number that `open` of the system gives for a name that is not there.
-fn not_found() -> Option<Errno>
-    ensures { result ≡ Some enoent }
-{
-    Errno::new(2)
-}
-
-/// 0 is no error.
-fn no_error() -> Option<Errno>
-    ensures { result ≡ None }
-{
-    Errno::new(0)
+    [Errno::new(2), Errno::new(0)]
 }
 
 /// The number of an error, as the header of a reply carries it: below 0.

@@ -4,79 +4,47 @@ ghost use Rattle.std.specs.Prelude.{◌≡◌, ◌↔◌, IsTrue};
 
 use crate::{GuestGid, GuestUid, HostGid, HostUid};
 
-/// The user root of the guest.
-fn guest_root() -> GuestUid
-    ensures { result ≡ 0 }
+/// The users and groups root of the guest and of the host.
+fn roots() -> (GuestUid, GuestGid, HostUid, HostGid)
+    ensures guest { result.0 ≡ 0 }
+    ensures guest_group { result.1 ≡ 0 }
+    ensures host { result.2 ≡ 0 }
+    ensures host_group { result.3 ≡ 0 }
 {
-    GuestUid::default()
+    (
+        GuestUid::default(),
+        GuestGid::default(),
+        HostUid::default(),
+        HostGid::default(),
+    )
 }
 
-/// The group root of the guest.
-fn guest_root_group() -> GuestGid
-    ensures { result ≡ 0 }
+/// Whether two users and two groups of the guest are the same.
+fn same_in_the_guest(a: (GuestUid, GuestGid), b: (GuestUid, GuestGid)) -> (bool, bool)
+    ensures user { IsTrue result.0 ↔ (a.0 ≡ b.0) }
+    ensures group { IsTrue result.1 ↔ (a.1 ≡ b.1) }
 {
-    GuestGid::default()
+    (a.0 == b.0, a.1 == b.1)
 }
 
-/// The user root of the host.
-fn host_root() -> HostUid
-    ensures { result ≡ 0 }
+/// Whether two users and two groups of the host are the same.
+fn same_in_the_host(a: (HostUid, HostGid), b: (HostUid, HostGid)) -> (bool, bool)
+    ensures user { IsTrue result.0 ↔ (a.0 ≡ b.0) }
+    ensures group { IsTrue result.1 ↔ (a.1 ≡ b.1) }
 {
-    HostUid::default()
+    (a.0 == b.0, a.1 == b.1)
 }
 
-/// The group root of the host.
-fn host_root_group() -> HostGid
-    ensures { result ≡ 0 }
+/// The user and the group of the guest that have the numbers of those of the host, and a user of
+/// the host that comes back as the number that it was made of.
+fn same_numbers(user: HostUid, group: HostGid, n: u32) -> (GuestUid, GuestGid, u32)
+    ensures user { result.0 ≡ user }
+    ensures group { result.1 ≡ group }
+    ensures comes_back { result.2 ≡ n }
 {
-    HostGid::default()
-}
-
-/// Whether two users of the guest are the same.
-fn same_guest_user(a: GuestUid, b: GuestUid) -> bool
-    ensures { IsTrue result ↔ (a ≡ b) }
-{
-    a == b
-}
-
-/// Whether two groups of the guest are the same.
-fn same_guest_group(a: GuestGid, b: GuestGid) -> bool
-    ensures { IsTrue result ↔ (a ≡ b) }
-{
-    a == b
-}
-
-/// Whether two users of the host are the same.
-fn same_host_user(a: HostUid, b: HostUid) -> bool
-    ensures { IsTrue result ↔ (a ≡ b) }
-{
-    a == b
-}
-
-/// Whether two groups of the host are the same.
-fn same_host_group(a: HostGid, b: HostGid) -> bool
-    ensures { IsTrue result ↔ (a ≡ b) }
-{
-    a == b
-}
-
-/// The user of the guest that has the number of a user of the host.
-fn same_number(user: HostUid) -> GuestUid
-    ensures { result ≡ user }
-{
-    GuestUid::from(user.into_inner())
-}
-
-/// The group of the guest that has the number of a group of the host.
-fn same_group_number(group: HostGid) -> GuestGid
-    ensures { result ≡ group }
-{
-    GuestGid::from(group.into_inner())
-}
-
-/// A user of the guest that comes back as the number that it was made of.
-fn user_comes_back(n: u32) -> u32
-    ensures { result ≡ n }
-{
-    HostUid::from(GuestUid::from(n).into_inner()).into_inner()
+    (
+        GuestUid::from(user.into_inner()),
+        GuestGid::from(group.into_inner()),
+        HostUid::from(GuestUid::from(n).into_inner()).into_inner(),
+    )
 }

@@ -1,57 +1,31 @@
 //! Numbers of requests and of extensions, and what they stand for.
 
-ghost use Rattle.std.specs.Prelude.{◌≡◌, [], ◌∷◌, IsErr, Ok};
+ghost use Rattle.std.specs.Prelude.{◌≡◌, [], ◌∷◌, Ok, Err};
 ghost use Rattle.vfs_flags.specs.Opcode.{number_of};
 
 use crate::{ExtType, NotifyOpcode, Opcode};
 
-/// 1 is a LOOKUP.
-fn first_opcode() -> Result<Opcode, ()>
-    ensures { result ≡ Ok Opcode.Lookup }
+/// 1 is a LOOKUP and 51 a TMPFILE; 7 and 52 are no numbers of requests.
+fn opcodes() -> [Result<Opcode, ()>; 4]
+    ensures { result ≡ Ok Opcode.Lookup ∷ Ok Opcode.TmpFile ∷ Err tt ∷ Err tt ∷ [] }
 {
-    Opcode::try_from(1)
+    [
+        Opcode::try_from(1),
+        Opcode::try_from(51),
+        Opcode::try_from(7),
+        Opcode::try_from(52),
+    ]
 }
 
-/// 7 is not the number of a request.
-fn opcode_7() -> Result<Opcode, ()>
-    ensures { IsErr result }
+/// 31 is so many security contexts and 32 groups; 33 is no extension.
+fn extensions() -> [Result<ExtType, ()>; 3]
+    ensures { result ≡ Ok (ExtType.SecCtx 31) ∷ Ok ExtType.SupGroups ∷ Err tt ∷ [] }
 {
-    Opcode::try_from(7)
-}
-
-/// 51 is a TMPFILE.
-fn last_opcode() -> Result<Opcode, ()>
-    ensures { result ≡ Ok Opcode.TmpFile }
-{
-    Opcode::try_from(51)
-}
-
-/// 52 is not the number of a request.
-fn opcode_52() -> Result<Opcode, ()>
-    ensures { IsErr result }
-{
-    Opcode::try_from(52)
-}
-
-/// 31 is so many security contexts.
-fn most_contexts() -> Result<ExtType, ()>
-    ensures { result ≡ Ok (ExtType.SecCtx 31) }
-{
-    ExtType::try_from(31)
-}
-
-/// 32 is groups.
-fn groups() -> Result<ExtType, ()>
-    ensures { result ≡ Ok ExtType.SupGroups }
-{
-    ExtType::try_from(32)
-}
-
-/// 33 is no extension.
-fn extension_33() -> Result<ExtType, ()>
-    ensures { IsErr result }
-{
-    ExtType::try_from(33)
+    [
+        ExtType::try_from(31),
+        ExtType::try_from(32),
+        ExtType::try_from(33),
+    ]
 }
 
 /// The number of a request.

@@ -14,12 +14,9 @@ use bitflags::Flags;
 use std::cmp::Ordering;
 use std::hash::{DefaultHasher, Hash, Hasher};
 
-/// The order of two sets of options.
-fn order_of_options(a: FsOptions, b: FsOptions) -> Ordering
-    ensures { result ≡ nat_cmp (fs_options_bits a) (fs_options_bits b) }
-{
-    a.cmp(&b)
-}
+/// The union of two sets, their intersection and the known ones among some bits; whether the two are
+/// the same, whether the first has lower bits, and their order.
+type Joined<S> = (S, S, S, bool, bool, Ordering);
 
 /// The hash of a set of options.
 fn hash_of_options(a: FsOptions) -> u64
@@ -55,20 +52,6 @@ fn hash_of_others(
     state.finish()
 }
 
-/// The options of either set.
-fn either_options(a: FsOptions, b: FsOptions) -> FsOptions
-    ensures { fs_options_bits result ≡ bit_or (fs_options_bits a) (fs_options_bits b) }
-{
-    a | b
-}
-
-/// The options of both sets.
-fn both_options(a: FsOptions, b: FsOptions) -> FsOptions
-    ensures { fs_options_bits result ≡ bit_and (fs_options_bits a) (fs_options_bits b) }
-{
-    a & b
-}
-
 /// Whether a set has all options of another.
 fn has_options(a: FsOptions, b: FsOptions) -> bool
     ensures { IsTrue result
@@ -84,277 +67,150 @@ fn no_option() -> FsOptions
     FsOptions::empty()
 }
 
-/// Whether two sets of options of INIT are the same.
-fn same_fs_options(a: FsOptions, b: FsOptions) -> bool
-    ensures { IsTrue result ↔ (fs_options_bits a ≡ fs_options_bits b) }
-{
-    a == b
-}
-
-/// Whether one set of options of INIT has lower bits than another.
-fn lower_fs_options(a: FsOptions, b: FsOptions) -> bool
-    ensures { IsTrue result ↔ (fs_options_bits a < fs_options_bits b) }
-{
-    a < b
-}
-
-/// The options of INIT among these bits.
+/// The options of INIT.
 #[tactic(auto, unfolding(bitflags::proofs::OnLiterals::bitflags_on_literals))]
-fn fs_options_among(bits: u64) -> FsOptions
-    ensures { fs_options_bits result ≡ bit_and bits known_fs_options }
+fn joined_fs_options(a: FsOptions, b: FsOptions, bits: u64) -> Joined<FsOptions>
+    ensures either { fs_options_bits result.0 ≡ bit_or (fs_options_bits a) (fs_options_bits b) }
+    ensures both { fs_options_bits result.1 ≡ bit_and (fs_options_bits a) (fs_options_bits b) }
+    ensures among { fs_options_bits result.2 ≡ bit_and bits known_fs_options }
+    ensures same { IsTrue result.3 ↔ (fs_options_bits a ≡ fs_options_bits b) }
+    ensures lower { IsTrue result.4 ↔ (fs_options_bits a < fs_options_bits b) }
+    ensures order { result.5 ≡ nat_cmp (fs_options_bits a) (fs_options_bits b) }
 {
-    FsOptions::from_bits_truncate(bits)
+    (
+        a | b,
+        a & b,
+        FsOptions::from_bits_truncate(bits),
+        a == b,
+        a < b,
+        a.cmp(&b),
+    )
 }
 
-/// Whether two sets of attributes that a SETATTR changes are the same.
-fn same_setattr_valid(a: SetattrValid, b: SetattrValid) -> bool
-    ensures { IsTrue result ↔ (setattr_valid_bits a ≡ setattr_valid_bits b) }
-{
-    a == b
-}
-
-/// Whether one set of attributes that a SETATTR changes has lower bits than another.
-fn lower_setattr_valid(a: SetattrValid, b: SetattrValid) -> bool
-    ensures { IsTrue result ↔ (setattr_valid_bits a < setattr_valid_bits b) }
-{
-    a < b
-}
-
-/// The order of two sets of attributes that a SETATTR changes.
-fn order_of_setattr_valid(a: SetattrValid, b: SetattrValid) -> Ordering
-    ensures { result ≡ nat_cmp (setattr_valid_bits a) (setattr_valid_bits b) }
-{
-    a.cmp(&b)
-}
-
-/// The union of two sets of attributes that a SETATTR changes, and their intersection.
-fn joined_setattr_valid(a: SetattrValid, b: SetattrValid) -> (SetattrValid, SetattrValid)
-    ensures either { setattr_valid_bits result.0
-        ≡ bit_or (setattr_valid_bits a) (setattr_valid_bits b) }
-    ensures both { setattr_valid_bits result.1
-        ≡ bit_and (setattr_valid_bits a) (setattr_valid_bits b) }
-{
-    (a | b, a & b)
-}
-
-/// The attributes that a SETATTR changes among these bits.
+/// The attributes that a SETATTR changes.
 #[tactic(auto, unfolding(bitflags::proofs::OnLiterals::bitflags_on_literals))]
-fn setattr_valid_among(bits: u32) -> SetattrValid
-    ensures { setattr_valid_bits result ≡ bit_and bits known_setattr_valid }
+fn joined_setattr_valid(a: SetattrValid, b: SetattrValid, bits: u32) -> Joined<SetattrValid>
+    ensures either { setattr_valid_bits result.0 ≡ bit_or (setattr_valid_bits a) (setattr_valid_bits b) }
+    ensures both { setattr_valid_bits result.1 ≡ bit_and (setattr_valid_bits a) (setattr_valid_bits b) }
+    ensures among { setattr_valid_bits result.2 ≡ bit_and bits known_setattr_valid }
+    ensures same { IsTrue result.3 ↔ (setattr_valid_bits a ≡ setattr_valid_bits b) }
+    ensures lower { IsTrue result.4 ↔ (setattr_valid_bits a < setattr_valid_bits b) }
+    ensures order { result.5 ≡ nat_cmp (setattr_valid_bits a) (setattr_valid_bits b) }
 {
-    SetattrValid::from_bits_truncate(bits)
+    (
+        a | b,
+        a & b,
+        SetattrValid::from_bits_truncate(bits),
+        a == b,
+        a < b,
+        a.cmp(&b),
+    )
 }
 
-/// Whether two sets of properties of an open file are the same.
-fn same_open_options(a: OpenOptions, b: OpenOptions) -> bool
-    ensures { IsTrue result ↔ (open_options_bits a ≡ open_options_bits b) }
-{
-    a == b
-}
-
-/// Whether one set of properties of an open file has lower bits than another.
-fn lower_open_options(a: OpenOptions, b: OpenOptions) -> bool
-    ensures { IsTrue result ↔ (open_options_bits a < open_options_bits b) }
-{
-    a < b
-}
-
-/// The order of two sets of properties of an open file.
-fn order_of_open_options(a: OpenOptions, b: OpenOptions) -> Ordering
-    ensures { result ≡ nat_cmp (open_options_bits a) (open_options_bits b) }
-{
-    a.cmp(&b)
-}
-
-/// The union of two sets of properties of an open file, and their intersection.
-fn joined_open_options(a: OpenOptions, b: OpenOptions) -> (OpenOptions, OpenOptions)
-    ensures either { open_options_bits result.0
-        ≡ bit_or (open_options_bits a) (open_options_bits b) }
-    ensures both { open_options_bits result.1
-        ≡ bit_and (open_options_bits a) (open_options_bits b) }
-{
-    (a | b, a & b)
-}
-
-/// The properties of an open file among these bits.
+/// The properties of an open file.
 #[tactic(auto, unfolding(bitflags::proofs::OnLiterals::bitflags_on_literals))]
-fn open_options_among(bits: u32) -> OpenOptions
-    ensures { open_options_bits result ≡ bit_and bits known_open_options }
+fn joined_open_options(a: OpenOptions, b: OpenOptions, bits: u32) -> Joined<OpenOptions>
+    ensures either { open_options_bits result.0 ≡ bit_or (open_options_bits a) (open_options_bits b) }
+    ensures both { open_options_bits result.1 ≡ bit_and (open_options_bits a) (open_options_bits b) }
+    ensures among { open_options_bits result.2 ≡ bit_and bits known_open_options }
+    ensures same { IsTrue result.3 ↔ (open_options_bits a ≡ open_options_bits b) }
+    ensures lower { IsTrue result.4 ↔ (open_options_bits a < open_options_bits b) }
+    ensures order { result.5 ≡ nat_cmp (open_options_bits a) (open_options_bits b) }
 {
-    OpenOptions::from_bits_truncate(bits)
+    (
+        a | b,
+        a & b,
+        OpenOptions::from_bits_truncate(bits),
+        a == b,
+        a < b,
+        a.cmp(&b),
+    )
 }
 
-/// Whether two sets of flags of an IOCTL are the same.
-fn same_ioctl_flags(a: IoctlFlags, b: IoctlFlags) -> bool
-    ensures { IsTrue result ↔ (ioctl_flags_bits a ≡ ioctl_flags_bits b) }
-{
-    a == b
-}
-
-/// Whether one set of flags of an IOCTL has lower bits than another.
-fn lower_ioctl_flags(a: IoctlFlags, b: IoctlFlags) -> bool
-    ensures { IsTrue result ↔ (ioctl_flags_bits a < ioctl_flags_bits b) }
-{
-    a < b
-}
-
-/// The order of two sets of flags of an IOCTL.
-fn order_of_ioctl_flags(a: IoctlFlags, b: IoctlFlags) -> Ordering
-    ensures { result ≡ nat_cmp (ioctl_flags_bits a) (ioctl_flags_bits b) }
-{
-    a.cmp(&b)
-}
-
-/// The union of two sets of flags of an IOCTL, and their intersection.
-fn joined_ioctl_flags(a: IoctlFlags, b: IoctlFlags) -> (IoctlFlags, IoctlFlags)
-    ensures either { ioctl_flags_bits result.0
-        ≡ bit_or (ioctl_flags_bits a) (ioctl_flags_bits b) }
-    ensures both { ioctl_flags_bits result.1
-        ≡ bit_and (ioctl_flags_bits a) (ioctl_flags_bits b) }
-{
-    (a | b, a & b)
-}
-
-/// The flags of an IOCTL among these bits.
+/// The flags of an IOCTL.
 #[tactic(auto, unfolding(bitflags::proofs::OnLiterals::bitflags_on_literals))]
-fn ioctl_flags_among(bits: u32) -> IoctlFlags
-    ensures { ioctl_flags_bits result ≡ bit_and bits known_ioctl_flags }
+fn joined_ioctl_flags(a: IoctlFlags, b: IoctlFlags, bits: u32) -> Joined<IoctlFlags>
+    ensures either { ioctl_flags_bits result.0 ≡ bit_or (ioctl_flags_bits a) (ioctl_flags_bits b) }
+    ensures both { ioctl_flags_bits result.1 ≡ bit_and (ioctl_flags_bits a) (ioctl_flags_bits b) }
+    ensures among { ioctl_flags_bits result.2 ≡ bit_and bits known_ioctl_flags }
+    ensures same { IsTrue result.3 ↔ (ioctl_flags_bits a ≡ ioctl_flags_bits b) }
+    ensures lower { IsTrue result.4 ↔ (ioctl_flags_bits a < ioctl_flags_bits b) }
+    ensures order { result.5 ≡ nat_cmp (ioctl_flags_bits a) (ioctl_flags_bits b) }
 {
-    IoctlFlags::from_bits_truncate(bits)
+    (
+        a | b,
+        a & b,
+        IoctlFlags::from_bits_truncate(bits),
+        a == b,
+        a < b,
+        a.cmp(&b),
+    )
 }
 
-/// Whether two sets of further flags of a SETXATTR are the same.
-fn same_setxattr_flags(a: SetxattrFlags, b: SetxattrFlags) -> bool
-    ensures { IsTrue result ↔ (setxattr_flags_bits a ≡ setxattr_flags_bits b) }
-{
-    a == b
-}
-
-/// Whether one set of further flags of a SETXATTR has lower bits than another.
-fn lower_setxattr_flags(a: SetxattrFlags, b: SetxattrFlags) -> bool
-    ensures { IsTrue result ↔ (setxattr_flags_bits a < setxattr_flags_bits b) }
-{
-    a < b
-}
-
-/// The order of two sets of further flags of a SETXATTR.
-fn order_of_setxattr_flags(a: SetxattrFlags, b: SetxattrFlags) -> Ordering
-    ensures { result ≡ nat_cmp (setxattr_flags_bits a) (setxattr_flags_bits b) }
-{
-    a.cmp(&b)
-}
-
-/// The union of two sets of further flags of a SETXATTR, and their intersection.
-fn joined_setxattr_flags(a: SetxattrFlags, b: SetxattrFlags) -> (SetxattrFlags, SetxattrFlags)
-    ensures either { setxattr_flags_bits result.0
-        ≡ bit_or (setxattr_flags_bits a) (setxattr_flags_bits b) }
-    ensures both { setxattr_flags_bits result.1
-        ≡ bit_and (setxattr_flags_bits a) (setxattr_flags_bits b) }
-{
-    (a | b, a & b)
-}
-
-/// The further flags of a SETXATTR among these bits.
+/// The further flags of a SETXATTR.
 #[tactic(auto, unfolding(bitflags::proofs::OnLiterals::bitflags_on_literals))]
-fn setxattr_flags_among(bits: u32) -> SetxattrFlags
-    ensures { setxattr_flags_bits result ≡ bit_and bits known_setxattr_flags }
+fn joined_setxattr_flags(a: SetxattrFlags, b: SetxattrFlags, bits: u32) -> Joined<SetxattrFlags>
+    ensures either { setxattr_flags_bits result.0 ≡ bit_or (setxattr_flags_bits a) (setxattr_flags_bits b) }
+    ensures both { setxattr_flags_bits result.1 ≡ bit_and (setxattr_flags_bits a) (setxattr_flags_bits b) }
+    ensures among { setxattr_flags_bits result.2 ≡ bit_and bits known_setxattr_flags }
+    ensures same { IsTrue result.3 ↔ (setxattr_flags_bits a ≡ setxattr_flags_bits b) }
+    ensures lower { IsTrue result.4 ↔ (setxattr_flags_bits a < setxattr_flags_bits b) }
+    ensures order { result.5 ≡ nat_cmp (setxattr_flags_bits a) (setxattr_flags_bits b) }
 {
-    SetxattrFlags::from_bits_truncate(bits)
+    (
+        a | b,
+        a & b,
+        SetxattrFlags::from_bits_truncate(bits),
+        a == b,
+        a < b,
+        a.cmp(&b),
+    )
 }
 
-/// Whether two sets of flags of the notice that a name is out of date are the same.
-fn same_notify_inval_entry_out_flags(
-    a: NotifyInvalEntryOutFlags,
-    b: NotifyInvalEntryOutFlags,
-) -> bool
-    ensures { IsTrue result
-        ↔ (notify_inval_entry_out_flags_bits a ≡ notify_inval_entry_out_flags_bits b) }
-{
-    a == b
-}
-
-/// Whether one set of flags of the notice that a name is out of date has lower bits than another.
-fn lower_notify_inval_entry_out_flags(
-    a: NotifyInvalEntryOutFlags,
-    b: NotifyInvalEntryOutFlags,
-) -> bool
-    ensures { IsTrue result
-        ↔ (notify_inval_entry_out_flags_bits a < notify_inval_entry_out_flags_bits b) }
-{
-    a < b
-}
-
-/// The order of two sets of flags of the notice that a name is out of date.
-fn order_of_notify_inval_entry_out_flags(
-    a: NotifyInvalEntryOutFlags,
-    b: NotifyInvalEntryOutFlags,
-) -> Ordering
-    ensures { result ≡
-        nat_cmp (notify_inval_entry_out_flags_bits a) (notify_inval_entry_out_flags_bits b) }
-{
-    a.cmp(&b)
-}
-
-/// The union of two sets of flags of the notice that a name is out of date, and their intersection.
+/// The flags of the notice that a name is out of date.
+#[tactic(auto, unfolding(bitflags::proofs::OnLiterals::bitflags_on_literals))]
 fn joined_notify_inval_entry_out_flags(
     a: NotifyInvalEntryOutFlags,
     b: NotifyInvalEntryOutFlags,
-) -> (NotifyInvalEntryOutFlags, NotifyInvalEntryOutFlags)
-    ensures either { notify_inval_entry_out_flags_bits result.0
-        ≡ bit_or (notify_inval_entry_out_flags_bits a) (notify_inval_entry_out_flags_bits b) }
-    ensures both { notify_inval_entry_out_flags_bits result.1
-        ≡ bit_and (notify_inval_entry_out_flags_bits a) (notify_inval_entry_out_flags_bits b) }
+    bits: u32,
+) -> Joined<NotifyInvalEntryOutFlags>
+    ensures either { notify_inval_entry_out_flags_bits result.0 ≡ bit_or (notify_inval_entry_out_flags_bits a) (notify_inval_entry_out_flags_bits b) }
+    ensures both { notify_inval_entry_out_flags_bits result.1 ≡ bit_and (notify_inval_entry_out_flags_bits a) (notify_inval_entry_out_flags_bits b) }
+    ensures among { notify_inval_entry_out_flags_bits result.2 ≡ bit_and bits known_notify_inval_entry_out_flags }
+    ensures same { IsTrue result.3 ↔ (notify_inval_entry_out_flags_bits a ≡ notify_inval_entry_out_flags_bits b) }
+    ensures lower { IsTrue result.4 ↔ (notify_inval_entry_out_flags_bits a < notify_inval_entry_out_flags_bits b) }
+    ensures order { result.5 ≡ nat_cmp (notify_inval_entry_out_flags_bits a) (notify_inval_entry_out_flags_bits b) }
 {
-    (a | b, a & b)
+    (
+        a | b,
+        a & b,
+        NotifyInvalEntryOutFlags::from_bits_truncate(bits),
+        a == b,
+        a < b,
+        a.cmp(&b),
+    )
 }
 
-/// The flags of the notice that a name is out of date among these bits.
+/// The rights of a mapping.
 #[tactic(auto, unfolding(bitflags::proofs::OnLiterals::bitflags_on_literals))]
-fn notify_inval_entry_out_flags_among(bits: u32) -> NotifyInvalEntryOutFlags
-    ensures { notify_inval_entry_out_flags_bits result
-        ≡ bit_and bits known_notify_inval_entry_out_flags }
-{
-    NotifyInvalEntryOutFlags::from_bits_truncate(bits)
-}
-
-/// Whether two sets of rights of a mapping are the same.
-fn same_setupmapping_flags(a: SetupmappingFlags, b: SetupmappingFlags) -> bool
-    ensures { IsTrue result ↔ (setupmapping_flags_bits a ≡ setupmapping_flags_bits b) }
-{
-    a == b
-}
-
-/// Whether one set of rights of a mapping has lower bits than another.
-fn lower_setupmapping_flags(a: SetupmappingFlags, b: SetupmappingFlags) -> bool
-    ensures { IsTrue result ↔ (setupmapping_flags_bits a < setupmapping_flags_bits b) }
-{
-    a < b
-}
-
-/// The order of two sets of rights of a mapping.
-fn order_of_setupmapping_flags(a: SetupmappingFlags, b: SetupmappingFlags) -> Ordering
-    ensures { result ≡ nat_cmp (setupmapping_flags_bits a) (setupmapping_flags_bits b) }
-{
-    a.cmp(&b)
-}
-
-/// The union of two sets of rights of a mapping, and their intersection.
 fn joined_setupmapping_flags(
     a: SetupmappingFlags,
     b: SetupmappingFlags,
-) -> (SetupmappingFlags, SetupmappingFlags)
-    ensures either { setupmapping_flags_bits result.0
-        ≡ bit_or (setupmapping_flags_bits a) (setupmapping_flags_bits b) }
-    ensures both { setupmapping_flags_bits result.1
-        ≡ bit_and (setupmapping_flags_bits a) (setupmapping_flags_bits b) }
+    bits: u64,
+) -> Joined<SetupmappingFlags>
+    ensures either { setupmapping_flags_bits result.0 ≡ bit_or (setupmapping_flags_bits a) (setupmapping_flags_bits b) }
+    ensures both { setupmapping_flags_bits result.1 ≡ bit_and (setupmapping_flags_bits a) (setupmapping_flags_bits b) }
+    ensures among { setupmapping_flags_bits result.2 ≡ bit_and bits known_setupmapping_flags }
+    ensures same { IsTrue result.3 ↔ (setupmapping_flags_bits a ≡ setupmapping_flags_bits b) }
+    ensures lower { IsTrue result.4 ↔ (setupmapping_flags_bits a < setupmapping_flags_bits b) }
+    ensures order { result.5 ≡ nat_cmp (setupmapping_flags_bits a) (setupmapping_flags_bits b) }
 {
-    (a | b, a & b)
-}
-
-/// The rights of a mapping among these bits.
-#[tactic(auto, unfolding(bitflags::proofs::OnLiterals::bitflags_on_literals))]
-fn setupmapping_flags_among(bits: u64) -> SetupmappingFlags
-    ensures { setupmapping_flags_bits result ≡ bit_and bits known_setupmapping_flags }
-{
-    SetupmappingFlags::from_bits_truncate(bits)
+    (
+        a | b,
+        a & b,
+        SetupmappingFlags::from_bits_truncate(bits),
+        a == b,
+        a < b,
+        a.cmp(&b),
+    )
 }
