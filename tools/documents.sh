@@ -10,8 +10,9 @@
 #   files and folders   are there; a part of a path, as `Ask.antt`, in the folder or crate that was
 #                       named last in the same line, else in the crates of the heading above
 #   names of code       stand in the sources. DIFFERENCES.md also has those of the Rust
-#   tables of edits     functions and clauses are of the heading's crates; so are the edits, or of a
-#                       crate that is named beside them; and no edit of the repository is left out
+#   tables of edits     functions and clauses are of the heading's crates, or their callers in
+#                       vfs_uses; so are the edits, or of a crate that is named beside them; and no
+#                       edit of the repository is left out
 #   blocks              one of Rust stands, as it is, in the file that the comment above it names,
 #                       <!-- FILE -->; of another block with such a comment each line does
 #   commands            a path that begins an indented line is a file that can be run
@@ -100,7 +101,9 @@ def check_path(fault, document, path, beside):
 def check_row(fault, crates, functions, guards):
     """A row of a table of edits, for these crates: its second and its third column."""
     here = " and ".join(crates)
-    own = {path for path in sources if path.startswith("crates/") and path.split("/")[1] in crates}
+    callers = tuple(f"crates/vfs_uses/src/{crate[4:]}{end}" for crate in crates for end in (".rt", "/"))
+    own = {path for path in sources if path.startswith(callers)
+           or path.startswith("crates/") and path.split("/")[1] in crates}
     files = own
     for code in re.findall(r"`([^`]+)`|;", functions):
         owner, _, name = code.rpartition("::")
@@ -112,7 +115,7 @@ def check_row(fault, crates, functions, guards):
         elif owner:
             # Clauses behind it are those of the files that have the function.
             owner = owner.rpartition("::")[2]
-            files = {path for path in own if re.search(rf"\b{owner}\b", path + sources[path])
+            files = {path for path in own if re.search(rf"\b{owner}\b", path.replace("_", " ") + sources[path])
                      and (name in definitions[path] or path.endswith(f"/{name}.rt"))} or own
             known = files is not own
         else:

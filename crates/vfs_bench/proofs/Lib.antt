@@ -1,3 +1,2 @@
 pub mod PlainOutcomes
 pub mod Noted
-pub mod ScriptTransfers

@@ -9,7 +9,6 @@ mod note;
 mod outcome;
 mod recorder;
 mod script;
-mod uses;
 
 pub use directory::{ScriptDirectory, ScriptEntries, ScriptItem};
 pub use file::ScriptFile;

@@ -1,3 +1,2 @@
 pub mod MemFile
 pub mod MemFs
-pub mod Uses

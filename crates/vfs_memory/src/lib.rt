@@ -4,7 +4,6 @@
 
 mod memfile;
 mod memfs;
-mod uses;
 
 pub use memfile::MemFile;
 pub use memfs::MemFs;

@@ -30,7 +30,6 @@ mod record;
 mod running;
 mod scatter;
 mod transfer;
-mod uses;
 mod writer;
 
 pub use descriptor_type::DescriptorType;

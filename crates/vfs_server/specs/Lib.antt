@@ -1,4 +1,3 @@
 pub mod Memory
 pub mod Step
 pub mod Session
-pub mod Uses

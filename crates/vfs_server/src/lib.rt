@@ -12,6 +12,5 @@ pub mod filesystem;
 pub mod fuse;
 pub mod laws;
 pub mod server;
-mod uses;
 
 pub use vfs_grammar::{Error, Result};

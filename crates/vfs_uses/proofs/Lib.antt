@@ -1,0 +1,4 @@
+pub mod Callers
+pub mod SessionCallers
+pub mod DirectoryCallers
+pub mod ScriptTransfers
