@@ -4,7 +4,7 @@
 //! `Reader` and a `Writer` hide the cuts: each call is an operation on flat bytes, those of one
 //! segment after another, and on a count. A record is read and written as the bytes that stand for
 //! it, and `Writer::write_padded` aligns what it writes to 8 bytes, as a directory's records are;
-//! what a record says is not looked at. The module `uses` has examples.
+//! what a record says is not looked at. The crate `vfs_uses` has examples.
 //!
 //! A transfer moves bytes between segments and a file without a copy in between: the file is lent
 //! a view of just the next bytes, of `vfs_views`, and moves a beginning of them.
