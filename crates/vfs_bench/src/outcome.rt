@@ -18,6 +18,12 @@ pub(crate) struct Outcome {
 }
 
 impl Outcome {
+    /// The outcome of a call that has no answer.
+    pub(crate) const NOTHING: Outcome = Outcome {
+        kind: NoteKind::Nothing,
+        value: 0,
+    };
+
     /// The outcome of a call that failed.
     pub(crate) fn of_fault(fault: &Fault) -> Outcome
         ensures { result ≡ outcome_of (Failed fault.now) }

@@ -8,7 +8,7 @@ ghost use Rattle.vfs_files.specs.Answers.{Plain, Done, attr_answer};
 ghost use Rattle.vfs_bench.specs.Notes.{told};
 ghost use Rattle.vfs_bench.specs.Recorded.{IsNoted, recorded};
 
-use crate::note::{Note, NoteKind};
+use crate::note::Note;
 use crate::outcome::Outcome;
 use std::alloc::Global;
 use std::marker::Model;
@@ -115,13 +115,7 @@ impl<F> Recorder<F> {
         ensures inner { self.new.inner ≡ self.old.inner }
         ensures noted { IsNoted self.old (told (number_of opcode) node count) self.new }
     {
-        self.note(Note {
-            call: opcode as u32,
-            node,
-            count,
-            kind: NoteKind::Nothing,
-            value: 0,
-        });
+        self.note_call(opcode, node, count, Outcome::NOTHING);
     }
 
     /// Notes a call with its outcome.
@@ -135,10 +129,24 @@ impl<F> Recorder<F> {
           value = outcome.value;
         }) self.new }
     {
+        self.note_call(opcode, node, 0, outcome);
+    }
+
+    /// Notes a call.
+    fn note_call(&mut self, opcode: Opcode, node: u64, count: u64, outcome: Outcome)
+        ensures inner { self.new.inner ≡ self.old.inner }
+        ensures noted { IsNoted self.old (record {
+          call = number_of opcode;
+          node = node;
+          count = count;
+          kind = outcome.kind;
+          value = outcome.value;
+        }) self.new }
+    {
         self.note(Note {
             call: opcode as u32,
             node,
-            count: 0,
+            count,
             kind: outcome.kind,
             value: outcome.value,
         });
