@@ -30,7 +30,7 @@ pub fn read_record<T: ByteValued>(reader: &mut Reader<'_>) -> Result<T>
     ensures pieces { OnOk result
         (reader.new.pieces ≡ lengths_from (size_of T.table) reader.old.pieces) }
 {
-    match reader.take_obj() {
+    match reader.read_obj_if_whole() {
         Some(record) => Ok(record),
         None => Err(Error::DecodeMessage),
     }
@@ -566,7 +566,7 @@ fn copy_pairs<I: Number>(
         Err(_) => return Err(Error::OutOfMemory),
     };
     for i in 0..count {
-        match reader.take_obj::<ForgetOne>() {
+        match reader.read_obj_if_whole::<ForgetOne>() {
             Some(one) => match pairs.push(pair_of::<I>(&one)) {
                 Ok(()) => {}
                 Err(_) => return Err(Error::OutOfMemory),

@@ -190,7 +190,7 @@ impl<'a> Reader<'a> {
 
     /// Takes a record, where as many bytes are left as it has. Otherwise nothing changes.
     #[inline(always)]
-    pub fn take_obj<T: ByteValued>(&mut self) -> Option<T>
+    pub fn read_obj_if_whole<T: ByteValued>(&mut self) -> Option<T>
         ensures variant { is_some result ≡ nat_le T.SIZE (length self.old.left) }
         ensures value { IfSome result (λ x. x ≡ value_of T.table self.old.left) }
         ensures in_width { IfSome result (λ x. Fit T.table.widths (T.table.fields x)) }
@@ -222,7 +222,7 @@ impl<'a> Reader<'a> {
         ensures eof { IfErr result (λ fault. error_kind fault ≡ ErrorKind.UnexpectedEof) }
         ensures at_end { OnErr result (self.new ≡ advanced self.old (length self.old.left)) }
     {
-        match self.take_obj() {
+        match self.read_obj_if_whole() {
             Some(record) => Ok(record),
             None => Err(self.too_few()),
         }

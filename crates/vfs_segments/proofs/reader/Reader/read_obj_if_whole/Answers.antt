@@ -5,7 +5,7 @@ use Rattle.vfs_wire.specs.FieldLaws.{value_of-take}
 use Rattle.vfs_segments.specs.Unread.{Unread}
 use Rattle.vfs_segments.proofs.Places.{length-left, moved_on}
 use Rattle.vfs_segments.proofs.Segments.{flat}
-use Rattle.vfs_segments.proofs.reader.Reader.take_obj.Goals as goal
+use Rattle.vfs_segments.proofs.reader.Reader.read_obj_if_whole.Goals as goal
 
 pub returns-clause-value : goal.returns-clause-value
 returns-clause-value g c =
