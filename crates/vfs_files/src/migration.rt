@@ -5,6 +5,7 @@ ghost use Rattle.vfs_files.specs.Migrations.{MigrationCall, PrepareSerialization
 ghost use Rattle.vfs_files.specs.Migrations.{DeserializeAndApply, MigrationAnswer, Prepared};
 ghost use Rattle.vfs_files.specs.Migrations.{Migrated, Traffic, IsWritten, IsTaken};
 
+use std::fmt::{self, Display, Formatter};
 use std::io;
 use thiserror::Error;
 use vfs_flags::Fault;
@@ -16,8 +17,21 @@ pub enum MigrateError {
     #[error("the state of the file system can't be carried over")]
     Unsupported,
     /// It could not be written, read or put in place.
-    #[error("the state of the file system was not carried over: {0:?}")]
+    #[error("the state of the file system was not carried over: {}", Shown(.0))]
     Failed(Fault),
+}
+
+/// Shows a fault by its error, or says that it has none.
+#[derive(Clone, Copy)]
+struct Shown<'a>(&'a Fault);
+
+impl Display for Shown<'_> {
+    fn fmt<W: fmt::Write>(&self, f: &mut Formatter<W>) -> fmt::Result {
+        match self.0 {
+            Some(errno) => write!(f, "{errno}"),
+            None => f.write_str("no error is named"),
+        }
+    }
 }
 
 /// A file system whose state can be carried over to another host, where a second one goes on with

@@ -2,6 +2,7 @@
 
 ghost use Rattle.std.specs.Prelude.{◌≡◌, ◌<◌, ◌^◌, ℤ, pos, ◌≤ℤ◌, MatchOption};
 
+use std::fmt::{self, Display, Formatter};
 use std::marker::Model;
 
 /// An error number of Linux, from 1 to `i32::MAX`. The header of a reply carries it negated, as
@@ -101,4 +102,44 @@ impl Errno {
     {
         self.0 as i32
     }
+}
+
+/// The name of the error, where it is one of those above, and its number, as `EIO (5)`; else
+/// `error` and the number.
+impl Display for Errno {
+    fn fmt<W: fmt::Write>(&self, f: &mut Formatter<W>) -> fmt::Result {
+        let number = self.get();
+        match name_of(number) {
+            Some(name) => write!(f, "{name} ({number})"),
+            None => write!(f, "error {number}"),
+        }
+    }
+}
+
+// The name of the error of this number, where it is one of the constants.
+fn name_of(number: i32) -> Option<&'static str> {
+    let name = match number {
+        1 => "EPERM",
+        2 => "ENOENT",
+        5 => "EIO",
+        9 => "EBADF",
+        12 => "ENOMEM",
+        13 => "EACCES",
+        17 => "EEXIST",
+        18 => "EXDEV",
+        20 => "ENOTDIR",
+        21 => "EISDIR",
+        22 => "EINVAL",
+        28 => "ENOSPC",
+        30 => "EROFS",
+        34 => "ERANGE",
+        38 => "ENOSYS",
+        39 => "ENOTEMPTY",
+        61 => "ENODATA",
+        71 => "EPROTO",
+        75 => "EOVERFLOW",
+        95 => "EOPNOTSUPP",
+        _ => return None,
+    };
+    Some(name)
 }

@@ -1,40 +1,68 @@
 //! Numbers and bits, each written out.
 
+use crate::support::has_text;
 use bitflags::Flags;
+use std::alloc::{AllocError, Global};
+use std::test::Fail;
 use vfs_flags::*;
 
-/// The errors that have a name, and their numbers.
-const ERRORS: [(Errno, i32); 20] = [
-    (Errno::EPERM, 1),
-    (Errno::ENOENT, 2),
-    (Errno::EIO, 5),
-    (Errno::EBADF, 9),
-    (Errno::ENOMEM, 12),
-    (Errno::EACCES, 13),
-    (Errno::EEXIST, 17),
-    (Errno::EXDEV, 18),
-    (Errno::ENOTDIR, 20),
-    (Errno::EISDIR, 21),
-    (Errno::EINVAL, 22),
-    (Errno::ENOSPC, 28),
-    (Errno::EROFS, 30),
-    (Errno::ERANGE, 34),
-    (Errno::ENOSYS, 38),
-    (Errno::ENOTEMPTY, 39),
-    (Errno::ENODATA, 61),
-    (Errno::EPROTO, 71),
-    (Errno::EOVERFLOW, 75),
-    (Errno::EOPNOTSUPP, 95),
+/// The errors that have a name, their numbers, and how they are shown.
+const ERRORS: [(Errno, i32, &str); 20] = [
+    (Errno::EPERM, 1, "EPERM (1)"),
+    (Errno::ENOENT, 2, "ENOENT (2)"),
+    (Errno::EIO, 5, "EIO (5)"),
+    (Errno::EBADF, 9, "EBADF (9)"),
+    (Errno::ENOMEM, 12, "ENOMEM (12)"),
+    (Errno::EACCES, 13, "EACCES (13)"),
+    (Errno::EEXIST, 17, "EEXIST (17)"),
+    (Errno::EXDEV, 18, "EXDEV (18)"),
+    (Errno::ENOTDIR, 20, "ENOTDIR (20)"),
+    (Errno::EISDIR, 21, "EISDIR (21)"),
+    (Errno::EINVAL, 22, "EINVAL (22)"),
+    (Errno::ENOSPC, 28, "ENOSPC (28)"),
+    (Errno::EROFS, 30, "EROFS (30)"),
+    (Errno::ERANGE, 34, "ERANGE (34)"),
+    (Errno::ENOSYS, 38, "ENOSYS (38)"),
+    (Errno::ENOTEMPTY, 39, "ENOTEMPTY (39)"),
+    (Errno::ENODATA, 61, "ENODATA (61)"),
+    (Errno::EPROTO, 71, "EPROTO (71)"),
+    (Errno::EOVERFLOW, 75, "EOVERFLOW (75)"),
+    (Errno::EOPNOTSUPP, 95, "EOPNOTSUPP (95)"),
 ];
 
 /// The first number that is another error's.
 fn wrong_error() -> Option<i32> {
-    for (e, n) in ERRORS {
+    for (e, n, _) in ERRORS {
         if e.get() != n || Errno::new(n) != Some(e) {
             return Some(n);
         }
     }
     None
+}
+
+/// The first number whose error is shown otherwise.
+fn wrongly_shown(alloc: Global) -> Result<Option<i32>, AllocError> {
+    for (e, n, text) in ERRORS {
+        if !has_text(alloc, &e, text)? {
+            return Ok(Some(n));
+        }
+    }
+    Ok(None)
+}
+
+/// Whether an error without a name is shown by its number.
+fn is_shown_by_number(alloc: Global) -> Result<bool, AllocError> {
+    match Errno::new(1234) {
+        Some(e) => has_text(alloc, &e, "error 1234"),
+        None => Ok(false),
+    }
+}
+
+#[test]
+fn errors_are_shown_by_name_and_number(rt: HostRuntime) -> Result<(), Fail> {
+    assert!(rt; wrongly_shown(rt.alloc())?.is_none());
+    assert!(rt; is_shown_by_number(rt.alloc())?);
+    Ok(())
 }
 
 /// The numbers of no error, from 0 down.

@@ -1,8 +1,11 @@
 //! The state of a file system that serves nothing.
 
+use crate::support::has_text;
+use std::alloc::{AllocError, Global};
 use std::process::Abort;
 use std::test::Fail;
 use vfs_files::Unserved;
+use vfs_flags::Errno;
 use vfs_server::filesystem::{MigrateError, SerializableFileSystem};
 use vfs_server::server::Server;
 
@@ -20,5 +23,37 @@ fn state_that_is_not_served_is_not_carried_over(rt: HostRuntime) -> Result<(), F
     let applied = server.deserialize_and_apply(&mut left);
     assert!(rt; applied == Err(MigrateError::Unsupported));
     assert!(rt; left.len() == 5);
+    Ok(())
+}
+
+/// Why a state was not carried over, and how that is shown.
+const TEXTS: [(MigrateError, &str); 3] = [
+    (
+        MigrateError::Unsupported,
+        "the state of the file system can't be carried over",
+    ),
+    (
+        MigrateError::Failed(Some(Errno::EIO)),
+        "the state of the file system was not carried over: EIO (5)",
+    ),
+    (
+        MigrateError::Failed(None),
+        "the state of the file system was not carried over: no error is named",
+    ),
+];
+
+/// Whether each is shown so.
+fn are_shown(alloc: Global) -> Result<bool, AllocError> {
+    for (error, text) in TEXTS {
+        if !has_text(alloc, &error, text)? {
+            return Ok(false);
+        }
+    }
+    Ok(true)
+}
+
+#[test]
+fn errors_of_migration_have_texts(rt: HostRuntime) -> Result<(), Fail> {
+    assert!(rt; are_shown(rt.alloc())?);
     Ok(())
 }
