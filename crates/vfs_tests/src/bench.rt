@@ -1,6 +1,8 @@
 //! Each call once through a recorder, and what a script answers.
 
-use crate::message::{Outcome, ScriptServer, handle, reply_by_script, script_server, server_over};
+use crate::support::{
+    Message, Outcome, ScriptServer, handle, reply_by_script, script_server, server_over,
+};
 use bitflags::Flags;
 use std::alloc::{AllocError, Global};
 use std::test::Fail;
@@ -35,141 +37,413 @@ const FOUND: [u8; 144] = *b"\
 const OPENED: [u8; 32] =
     *b"\x20\0\0\0\0\0\0\0\x09\0\0\0\0\0\0\0\x06\0\0\0\0\0\0\0\x01\0\0\0\0\0\0\0";
 
-/// A message: its opcode, its node, and the bytes behind its header. Then the count of its note,
-/// the reply of a script, and the kind and the value of the note where a script answers, and where
-/// nothing is served.
-type Row = (
-    u8,
-    u8,
-    &'static [u8],
-    u64,
-    &'static [u8],
-    (NoteKind, u64),
-    (NoteKind, u64),
-);
+/// The kind of a note, and its value.
+type Noted = (NoteKind, u64);
+
+/// The note of a call that has no answer.
+const NOTHING: Noted = (NoteKind::Nothing, 0);
+
+/// That of one that succeeds and answers no entry. One that does has its node.
+const OK: Noted = (NoteKind::Ok, 0);
+
+/// That of one that fails, as one does that is not served. Others have the number of their fault, or
+/// 0.
+const ENOSYS: Noted = (NoteKind::Fault, 38);
+
+/// A message of a call.
+struct Row {
+    message: Message<'static>,
+    /// The count of its note.
+    count: u64,
+    /// What is replied to it over a script.
+    reply: &'static [u8],
+    /// The note over a script.
+    by_script: Noted,
+    /// The note where nothing is served.
+    unserved: Noted,
+}
 
 /// A message for each call.
-#[rattlefmt::skip]
 static ROWS: [Row; 44] = [
     // INIT
-    (26, 0, b"\x07\0\0\0\x26\0\0\0\0\0\0\0\0\0\0\0", 0,
-        b"\x50\0\0\0\0\0\0\0\x09\0\0\0\0\0\0\0\x07\0\0\0\x26\0\0\0\0\0\0\0\0\0\0\0\xff\xff\
+    Row {
+        message: (26, 0, b"\x07\0\0\0\x26\0\0\0\0\0\0\0\0\0\0\0"),
+        count: 0,
+        reply: b"\x50\0\0\0\0\0\0\0\x09\0\0\0\0\0\0\0\x07\0\0\0\x26\0\0\0\0\0\0\0\0\0\0\0\xff\xff\
         \xfd\xbf\0\0\x10\0\x01\0\0\0\0\x01\0\0\0\0\0\0\0\0\0\0\0\0\0\0\0\0\0\0\0\0\0\0\0\
         \0\0\0\0\0\0\0\0\0\0\0",
-        (NoteKind::Ok, 0), (NoteKind::Ok, 0)),
+        by_script: OK,
+        unserved: OK,
+    },
     // FORGET
-    (2, 2, b"\x03\0\0\0\0\0\0\0", 3, b"", (NoteKind::Nothing, 0), (NoteKind::Nothing, 0)),
+    Row {
+        message: (2, 2, b"\x03\0\0\0\0\0\0\0"),
+        count: 3,
+        reply: b"",
+        by_script: NOTHING,
+        unserved: NOTHING,
+    },
     // GETATTR
-    (3, 3, &ZEROS, 0, &ATTRIBUTES, (NoteKind::Ok, 0), (NoteKind::Fault, 38)),
+    Row {
+        message: (3, 3, &ZEROS),
+        count: 0,
+        reply: &ATTRIBUTES,
+        by_script: OK,
+        unserved: ENOSYS,
+    },
     // SETATTR
-    (4, 4, &ZEROS, 0, &ATTRIBUTES, (NoteKind::Ok, 0), (NoteKind::Fault, 38)),
+    Row {
+        message: (4, 4, &ZEROS),
+        count: 0,
+        reply: &ATTRIBUTES,
+        by_script: OK,
+        unserved: ENOSYS,
+    },
     // READLINK
-    (5, 5, b"", 0,
-        b"\x12\0\0\0\0\0\0\0\x09\0\0\0\0\0\0\0to", (NoteKind::Ok, 0), (NoteKind::Fault, 38)),
+    Row {
+        message: (5, 5, b""),
+        count: 0,
+        reply: b"\x12\0\0\0\0\0\0\0\x09\0\0\0\0\0\0\0to",
+        by_script: OK,
+        unserved: ENOSYS,
+    },
     // STATFS
-    (17, 17, b"", 0, &FAILED, (NoteKind::Fault, 5), (NoteKind::Ok, 0)),
+    Row {
+        message: (17, 17, b""),
+        count: 0,
+        reply: &FAILED,
+        by_script: (NoteKind::Fault, 5),
+        unserved: OK,
+    },
     // ACCESS
-    (34, 34, &ZEROS, 0, &FAILED, (NoteKind::Fault, 0), (NoteKind::Fault, 38)),
+    Row {
+        message: (34, 34, &ZEROS),
+        count: 0,
+        reply: &FAILED,
+        by_script: (NoteKind::Fault, 0),
+        unserved: ENOSYS,
+    },
     // BATCH_FORGET
-    (42, 0, b"\x02\0\0\0\0\0\0\0\x06\0\0\0\0\0\0\0\x01\0\0\0\0\0\0\0\x07\0\0\0\0\0\0\0\x02\0\0\
-            \0\0\0\0\0", 2,
-        b"", (NoteKind::Nothing, 0), (NoteKind::Nothing, 0)),
+    Row {
+        message: (
+            42,
+            0,
+            b"\x02\0\0\0\0\0\0\0\x06\0\0\0\0\0\0\0\x01\0\0\0\0\0\0\0\x07\0\0\0\0\0\0\0\x02\0\0\
+            \0\0\0\0\0",
+        ),
+        count: 2,
+        reply: b"",
+        by_script: NOTHING,
+        unserved: NOTHING,
+    },
     // SYNCFS
-    (50, 50, &ZEROS, 0, &FAILED, (NoteKind::Fault, 0), (NoteKind::Fault, 38)),
+    Row {
+        message: (50, 50, &ZEROS),
+        count: 0,
+        reply: &FAILED,
+        by_script: (NoteKind::Fault, 0),
+        unserved: ENOSYS,
+    },
     // DESTROY
-    (38, 0, b"", 0, b"", (NoteKind::Nothing, 0), (NoteKind::Nothing, 0)),
+    Row {
+        message: (38, 0, b""),
+        count: 0,
+        reply: b"",
+        by_script: NOTHING,
+        unserved: NOTHING,
+    },
     // LOOKUP
-    (1, 1, b"a\0", 0, &FOUND, (NoteKind::Ok, 77), (NoteKind::Fault, 38)),
+    Row {
+        message: (1, 1, b"a\0"),
+        count: 0,
+        reply: &FOUND,
+        by_script: (NoteKind::Ok, 77),
+        unserved: ENOSYS,
+    },
     // SYMLINK
-    (6, 6, b"a\0b\0", 0, &FOUND, (NoteKind::Ok, 77), (NoteKind::Fault, 38)),
+    Row {
+        message: (6, 6, b"a\0b\0"),
+        count: 0,
+        reply: &FOUND,
+        by_script: (NoteKind::Ok, 77),
+        unserved: ENOSYS,
+    },
     // MKNOD
-    (8, 8, b"\0\0\0\0\0\0\0\0\0\0\0\0\0\0\0\0a\0", 0,
-        &FOUND, (NoteKind::Ok, 77), (NoteKind::Fault, 38)),
+    Row {
+        message: (8, 8, b"\0\0\0\0\0\0\0\0\0\0\0\0\0\0\0\0a\0"),
+        count: 0,
+        reply: &FOUND,
+        by_script: (NoteKind::Ok, 77),
+        unserved: ENOSYS,
+    },
     // MKDIR
-    (9, 9, b"\0\0\0\0\0\0\0\0a\0", 0, &FOUND, (NoteKind::Ok, 77), (NoteKind::Fault, 38)),
+    Row {
+        message: (9, 9, b"\0\0\0\0\0\0\0\0a\0"),
+        count: 0,
+        reply: &FOUND,
+        by_script: (NoteKind::Ok, 77),
+        unserved: ENOSYS,
+    },
     // UNLINK
-    (10, 10, b"a\0", 0, &FAILED, (NoteKind::Fault, 0), (NoteKind::Fault, 38)),
+    Row {
+        message: (10, 10, b"a\0"),
+        count: 0,
+        reply: &FAILED,
+        by_script: (NoteKind::Fault, 0),
+        unserved: ENOSYS,
+    },
     // RMDIR
-    (11, 11, b"a\0", 0, &FAILED, (NoteKind::Fault, 0), (NoteKind::Fault, 38)),
+    Row {
+        message: (11, 11, b"a\0"),
+        count: 0,
+        reply: &FAILED,
+        by_script: (NoteKind::Fault, 0),
+        unserved: ENOSYS,
+    },
     // RENAME
-    (12, 12, b"\x2d\0\0\0\0\0\0\0a\0b\0", 0, &FAILED, (NoteKind::Fault, 0), (NoteKind::Fault, 38)),
+    Row {
+        message: (12, 12, b"\x2d\0\0\0\0\0\0\0a\0b\0"),
+        count: 0,
+        reply: &FAILED,
+        by_script: (NoteKind::Fault, 0),
+        unserved: ENOSYS,
+    },
     // LINK
-    (13, 13, b"\x0d\0\0\0\0\0\0\0a\0", 0, &FOUND, (NoteKind::Ok, 77), (NoteKind::Fault, 38)),
+    Row {
+        message: (13, 13, b"\x0d\0\0\0\0\0\0\0a\0"),
+        count: 0,
+        reply: &FOUND,
+        by_script: (NoteKind::Ok, 77),
+        unserved: ENOSYS,
+    },
     // CREATE
-    (35, 35, b"\0\0\0\0\0\0\0\0\0\0\0\0\0\0\0\0a\0", 0,
-        b"\xa0\0\0\0\0\0\0\0\x09\0\0\0\0\0\0\0\x4e\0\0\0\0\0\0\0\x03\0\0\0\0\0\0\0\x02\0\0\
+    Row {
+        message: (35, 35, b"\0\0\0\0\0\0\0\0\0\0\0\0\0\0\0\0a\0"),
+        count: 0,
+        reply: b"\xa0\0\0\0\0\0\0\0\x09\0\0\0\0\0\0\0\x4e\0\0\0\0\0\0\0\x03\0\0\0\0\0\0\0\x02\0\0\
         \0\0\0\0\0\x01\0\0\0\0\0\0\0\0\0\0\0\0\0\0\0\xf4\x01\0\0\0\0\0\0\0\0\0\0\0\0\0\0\
         \0\0\0\0\0\0\0\0\0\0\0\0\0\0\0\0\0\0\0\0\0\0\0\0\0\0\0\0\0\0\0\0\0\0\0\0\0\0\0\0\
         \0\0\0\0\0\0\0\0\0\0\0\0\0\0\0\0\0\0\0\0\0\0\0\0\0\0\0\0\0\0\0\0\x07\0\0\0\0\0\0\
         \0\0\0\0\0\0\0\0\0",
-        (NoteKind::Ok, 78), (NoteKind::Fault, 38)),
+        by_script: (NoteKind::Ok, 78),
+        unserved: ENOSYS,
+    },
     // SETXATTR
-    (21, 21, b"\x01\0\0\0\0\0\0\0a\0v", 0, &FAILED, (NoteKind::Fault, 0), (NoteKind::Fault, 38)),
+    Row {
+        message: (21, 21, b"\x01\0\0\0\0\0\0\0a\0v"),
+        count: 0,
+        reply: &FAILED,
+        by_script: (NoteKind::Fault, 0),
+        unserved: ENOSYS,
+    },
     // GETXATTR
-    (22, 22, b"\0\0\0\0\0\0\0\0a\0", 0,
-        b"\x11\0\0\0\0\0\0\0\x09\0\0\0\0\0\0\0v", (NoteKind::Ok, 0), (NoteKind::Fault, 38)),
+    Row {
+        message: (22, 22, b"\0\0\0\0\0\0\0\0a\0"),
+        count: 0,
+        reply: b"\x11\0\0\0\0\0\0\0\x09\0\0\0\0\0\0\0v",
+        by_script: OK,
+        unserved: ENOSYS,
+    },
     // LISTXATTR
-    (23, 23, &ZEROS, 0,
-        b"\x18\0\0\0\0\0\0\0\x09\0\0\0\0\0\0\0\x09\0\0\0\0\0\0\0",
-        (NoteKind::Ok, 0), (NoteKind::Fault, 38)),
+    Row {
+        message: (23, 23, &ZEROS),
+        count: 0,
+        reply: b"\x18\0\0\0\0\0\0\0\x09\0\0\0\0\0\0\0\x09\0\0\0\0\0\0\0",
+        by_script: OK,
+        unserved: ENOSYS,
+    },
     // REMOVEXATTR
-    (24, 24, b"a\0", 0, &FAILED, (NoteKind::Fault, 0), (NoteKind::Fault, 38)),
+    Row {
+        message: (24, 24, b"a\0"),
+        count: 0,
+        reply: &FAILED,
+        by_script: (NoteKind::Fault, 0),
+        unserved: ENOSYS,
+    },
     // OPEN
-    (14, 14, &ZEROS, 0, &OPENED, (NoteKind::Ok, 0), (NoteKind::Ok, 0)),
+    Row {
+        message: (14, 14, &ZEROS),
+        count: 0,
+        reply: &OPENED,
+        by_script: OK,
+        unserved: OK,
+    },
     // RELEASE
-    (18, 18, &ZEROS, 0, &FAILED, (NoteKind::Fault, 0), (NoteKind::Fault, 38)),
+    Row {
+        message: (18, 18, &ZEROS),
+        count: 0,
+        reply: &FAILED,
+        by_script: (NoteKind::Fault, 0),
+        unserved: ENOSYS,
+    },
     // FSYNC
-    (20, 20, &ZEROS, 0, &FAILED, (NoteKind::Fault, 0), (NoteKind::Fault, 38)),
+    Row {
+        message: (20, 20, &ZEROS),
+        count: 0,
+        reply: &FAILED,
+        by_script: (NoteKind::Fault, 0),
+        unserved: ENOSYS,
+    },
     // FLUSH
-    (25, 25, &ZEROS, 0, &FAILED, (NoteKind::Fault, 0), (NoteKind::Fault, 38)),
+    Row {
+        message: (25, 25, &ZEROS),
+        count: 0,
+        reply: &FAILED,
+        by_script: (NoteKind::Fault, 0),
+        unserved: ENOSYS,
+    },
     // OPENDIR
-    (27, 27, &ZEROS, 0, &OPENED, (NoteKind::Ok, 0), (NoteKind::Ok, 0)),
+    Row {
+        message: (27, 27, &ZEROS),
+        count: 0,
+        reply: &OPENED,
+        by_script: OK,
+        unserved: OK,
+    },
     // READDIR
-    (28, 28, b"\0\0\0\0\0\0\0\0\0\0\0\0\0\0\0\0\x30\0\0\0\0\0\0\0\0\0\0\0\0\0\0\0\0\0\0\0\0\0\0\
-            \0", 0,
-        b"\x40\0\0\0\0\0\0\0\x09\0\0\0\0\0\0\0\xf4\x01\0\0\0\0\0\0\x01\0\0\0\0\0\0\0\0\0\0\
+    Row {
+        message: (
+            28,
+            28,
+            b"\0\0\0\0\0\0\0\0\0\0\0\0\0\0\0\0\x30\0\0\0\0\0\0\0\0\0\0\0\0\0\0\0\0\0\0\0\0\0\0\
+            \0",
+        ),
+        count: 0,
+        reply: b"\x40\0\0\0\0\0\0\0\x09\0\0\0\0\0\0\0\xf4\x01\0\0\0\0\0\0\x01\0\0\0\0\0\0\0\0\0\0\
         \0\x04\0\0\0\xf4\x01\0\0\0\0\0\0\x01\0\0\0\0\0\0\0\0\0\0\0\x04\0\0\0",
-        (NoteKind::Ok, 0), (NoteKind::Fault, 38)),
+        by_script: OK,
+        unserved: ENOSYS,
+    },
     // RELEASEDIR
-    (29, 29, &ZEROS, 0, &FAILED, (NoteKind::Fault, 0), (NoteKind::Fault, 38)),
+    Row {
+        message: (29, 29, &ZEROS),
+        count: 0,
+        reply: &FAILED,
+        by_script: (NoteKind::Fault, 0),
+        unserved: ENOSYS,
+    },
     // FSYNCDIR
-    (30, 30, &ZEROS, 0, &FAILED, (NoteKind::Fault, 0), (NoteKind::Fault, 38)),
+    Row {
+        message: (30, 30, &ZEROS),
+        count: 0,
+        reply: &FAILED,
+        by_script: (NoteKind::Fault, 0),
+        unserved: ENOSYS,
+    },
     // FALLOCATE
-    (43, 43, &ZEROS, 0, &FAILED, (NoteKind::Fault, 0), (NoteKind::Fault, 38)),
+    Row {
+        message: (43, 43, &ZEROS),
+        count: 0,
+        reply: &FAILED,
+        by_script: (NoteKind::Fault, 0),
+        unserved: ENOSYS,
+    },
     // LSEEK
-    (46, 46, &ZEROS, 0,
-        b"\x18\0\0\0\0\0\0\0\x09\0\0\0\0\0\0\0\0\x10\0\0\0\0\0\0",
-        (NoteKind::Ok, 0), (NoteKind::Fault, 38)),
+    Row {
+        message: (46, 46, &ZEROS),
+        count: 0,
+        reply: b"\x18\0\0\0\0\0\0\0\x09\0\0\0\0\0\0\0\0\x10\0\0\0\0\0\0",
+        by_script: OK,
+        unserved: ENOSYS,
+    },
     // COPY_FILE_RANGE
-    (47, 47, &ZEROS, 0,
-        b"\x18\0\0\0\0\0\0\0\x09\0\0\0\0\0\0\0\x64\0\0\0\0\0\0\0",
-        (NoteKind::Ok, 0), (NoteKind::Fault, 38)),
+    Row {
+        message: (47, 47, &ZEROS),
+        count: 0,
+        reply: b"\x18\0\0\0\0\0\0\0\x09\0\0\0\0\0\0\0\x64\0\0\0\0\0\0\0",
+        by_script: OK,
+        unserved: ENOSYS,
+    },
     // READ
-    (15, 15, b"\0\0\0\0\0\0\0\0\0\0\0\0\0\0\0\0\x05\0\0\0\0\0\0\0\0\0\0\0\0\0\0\0\0\0\0\0\0\0\0\
-            \0", 0,
-        b"\x15\0\0\0\0\0\0\0\x09\0\0\0\0\0\0\0fffff", (NoteKind::Ok, 0), (NoteKind::Fault, 38)),
+    Row {
+        message: (
+            15,
+            15,
+            b"\0\0\0\0\0\0\0\0\0\0\0\0\0\0\0\0\x05\0\0\0\0\0\0\0\0\0\0\0\0\0\0\0\0\0\0\0\0\0\0\
+            \0",
+        ),
+        count: 0,
+        reply: b"\x15\0\0\0\0\0\0\0\x09\0\0\0\0\0\0\0fffff",
+        by_script: OK,
+        unserved: ENOSYS,
+    },
     // WRITE
-    (16, 16, b"\0\0\0\0\0\0\0\0\0\0\0\0\0\0\0\0\x04\0\0\0\0\0\0\0\0\0\0\0\0\0\0\0\0\0\0\0\0\0\0\
-            \0abcd", 0,
-        &FAILED, (NoteKind::Fault, 5), (NoteKind::Fault, 38)),
+    Row {
+        message: (
+            16,
+            16,
+            b"\0\0\0\0\0\0\0\0\0\0\0\0\0\0\0\0\x04\0\0\0\0\0\0\0\0\0\0\0\0\0\0\0\0\0\0\0\0\0\0\
+            \0abcd",
+        ),
+        count: 0,
+        reply: &FAILED,
+        by_script: (NoteKind::Fault, 5),
+        unserved: ENOSYS,
+    },
     // GETLK
-    (31, 0, b"", 0, &FAILED, (NoteKind::Fault, 0), (NoteKind::Fault, 38)),
+    Row {
+        message: (31, 0, b""),
+        count: 0,
+        reply: &FAILED,
+        by_script: (NoteKind::Fault, 0),
+        unserved: ENOSYS,
+    },
     // SETLK
-    (32, 0, b"", 0, &FAILED, (NoteKind::Fault, 0), (NoteKind::Fault, 38)),
+    Row {
+        message: (32, 0, b""),
+        count: 0,
+        reply: &FAILED,
+        by_script: (NoteKind::Fault, 0),
+        unserved: ENOSYS,
+    },
     // SETLKW
-    (33, 0, b"", 0, &FAILED, (NoteKind::Fault, 0), (NoteKind::Fault, 38)),
+    Row {
+        message: (33, 0, b""),
+        count: 0,
+        reply: &FAILED,
+        by_script: (NoteKind::Fault, 0),
+        unserved: ENOSYS,
+    },
     // BMAP
-    (37, 0, b"", 0, &FAILED, (NoteKind::Fault, 0), (NoteKind::Fault, 38)),
+    Row {
+        message: (37, 0, b""),
+        count: 0,
+        reply: &FAILED,
+        by_script: (NoteKind::Fault, 0),
+        unserved: ENOSYS,
+    },
     // IOCTL
-    (39, 0, b"", 0, &FAILED, (NoteKind::Fault, 0), (NoteKind::Fault, 38)),
+    Row {
+        message: (39, 0, b""),
+        count: 0,
+        reply: &FAILED,
+        by_script: (NoteKind::Fault, 0),
+        unserved: ENOSYS,
+    },
     // POLL
-    (40, 0, b"", 0, &FAILED, (NoteKind::Fault, 0), (NoteKind::Fault, 38)),
+    Row {
+        message: (40, 0, b""),
+        count: 0,
+        reply: &FAILED,
+        by_script: (NoteKind::Fault, 0),
+        unserved: ENOSYS,
+    },
     // NOTIFY_REPLY
-    (41, 0, b"", 0, &FAILED, (NoteKind::Fault, 0), (NoteKind::Fault, 38)),
+    Row {
+        message: (41, 0, b""),
+        count: 0,
+        reply: &FAILED,
+        by_script: (NoteKind::Fault, 0),
+        unserved: ENOSYS,
+    },
     // TMPFILE
-    (51, 0, b"", 0,
-        b"\x10\0\0\0\xf5\xff\xff\xff\x09\0\0\0\0\0\0\0",
-        (NoteKind::Fault, 11), (NoteKind::Fault, 38)),
+    Row {
+        message: (51, 0, b""),
+        count: 0,
+        reply: b"\x10\0\0\0\xf5\xff\xff\xff\x09\0\0\0\0\0\0\0",
+        by_script: (NoteKind::Fault, 11),
+        unserved: ENOSYS,
+    },
 ];
 
 /// An entry of this node.
@@ -254,11 +528,12 @@ fn script_of_answers(alloc: Global) -> Result<Script, AllocError> {
 }
 
 /// The note of a call, of this kind and value.
-fn note_of(row: &Row, (kind, value): (NoteKind, u64)) -> Note {
+fn note_of(row: &Row, (kind, value): Noted) -> Note {
+    let (opcode, node, _) = row.message;
     Note {
-        call: u32::from(row.0),
-        node: u64::from(row.1),
-        count: row.3,
+        call: u32::from(opcode),
+        node: u64::from(node),
+        count: row.count,
         kind,
         value,
     }
@@ -274,15 +549,15 @@ fn is_last<F>(recorder: &Recorder<F>, note: &Note) -> bool {
 
 /// Whether a script answers a row so, and its call is noted.
 fn is_answered(alloc: Global, server: &mut ScriptServer, row: &Row) -> Result<bool, Fail> {
-    let reply = reply_by_script(alloc, server, (row.0, row.1, row.2), 160)?;
-    Ok(reply.as_slice() == row.4 && is_last(server.fs(), &note_of(row, row.5)))
+    let reply = reply_by_script(alloc, server, row.message, 160)?;
+    Ok(reply.as_slice() == row.reply && is_last(server.fs(), &note_of(row, row.by_script)))
 }
 
 /// The opcode of the first message that a script answers otherwise, or whose note is another.
 fn wrongly_answered(alloc: Global, server: &mut ScriptServer) -> Result<Option<u8>, Fail> {
     for row in &ROWS {
         if !is_answered(alloc, server, row)? {
-            return Ok(Some(row.0));
+            return Ok(Some(row.message.0));
         }
     }
     Ok(None)
@@ -301,12 +576,12 @@ type UnservedServer = Server<Recorder<Unserved>>;
 
 /// Hands such a server the message of a row.
 fn handle_unserved(alloc: Global, server: &mut UnservedServer, row: &Row) -> Result<Outcome, Fail> {
-    handle(alloc, server, (row.0, row.1, row.2), &[160], 0)
+    handle(alloc, server, row.message, &[160], 0)
 }
 
 /// Whether the call of a row is the last note of such a server.
 fn is_noted_unserved(server: &UnservedServer, row: &Row) -> bool {
-    is_last(server.fs(), &note_of(row, row.6))
+    is_last(server.fs(), &note_of(row, row.unserved))
 }
 
 /// The opcode of the first message whose note is another where nothing is served.
@@ -314,7 +589,7 @@ fn wrongly_noted(alloc: Global, server: &mut UnservedServer) -> Result<Option<u8
     for row in &ROWS {
         handle_unserved(alloc, server, row)?;
         if !is_noted_unserved(server, row) {
-            return Ok(Some(row.0));
+            return Ok(Some(row.message.0));
         }
     }
     Ok(None)
@@ -344,22 +619,79 @@ fn a_call_without_a_place_is_missed_and_answered(rt: HostRuntime) -> Result<(), 
     Ok(())
 }
 
-/// A reading of a directory of one item: the opcode, how many bytes the item's name has, whether the
-/// directory has no end, and the size that is asked for. Then what comes of it: how long the reply
-/// is, how often an entry is asked for, and how many lookups and how many forgets there are.
-type Reading = (u8, usize, bool, u32, usize, u64, (u16, u16));
+/// A reading of a directory of one item, and what comes of it.
+struct Reading {
+    opcode: u8,
+    /// How many bytes the item's name has.
+    name: usize,
+    /// Whether the directory has no end.
+    endless: bool,
+    /// How many bytes are asked for.
+    size: u32,
+    /// How long the reply is.
+    length: usize,
+    /// How often an entry is asked for.
+    entries: u64,
+    lookups: u16,
+    forgets: u16,
+}
 
 static READINGS: [Reading; 5] = [
     // READDIR: ten records of 24 bytes, and one entry that doesn't fit.
-    (28, 0, true, 240, 256, 11, (0, 0)),
+    Reading {
+        opcode: 28,
+        name: 0,
+        endless: true,
+        size: 240,
+        length: 256,
+        entries: 11,
+        lookups: 0,
+        forgets: 0,
+    },
     // One record, and the end.
-    (28, 0, false, 240, 40, 2, (0, 0)),
+    Reading {
+        opcode: 28,
+        name: 0,
+        endless: false,
+        size: 240,
+        length: 40,
+        entries: 2,
+        lookups: 0,
+        forgets: 0,
+    },
     // The largest size: 43,690 records, and one entry that doesn't fit.
-    (28, 0, true, 1_048_576, 1_048_576, 43_691, (0, 0)),
+    Reading {
+        opcode: 28,
+        name: 0,
+        endless: true,
+        size: 1_048_576,
+        length: 1_048_576,
+        entries: 43_691,
+        lookups: 0,
+        forgets: 0,
+    },
     // READDIRPLUS: 6,898 records of 152 bytes, and one entry that doesn't fit and is given back.
-    (44, 0, true, 1_048_576, 1_048_512, 6_899, (6_899, 1)),
+    Reading {
+        opcode: 44,
+        name: 0,
+        endless: true,
+        size: 1_048_576,
+        length: 1_048_512,
+        entries: 6_899,
+        lookups: 6_899,
+        forgets: 1,
+    },
     // An entry with a name that is longer than the largest size.
-    (44, 1_048_600, false, 1_048_576, 16, 1, (1, 1)),
+    Reading {
+        opcode: 44,
+        name: 1_048_600,
+        endless: false,
+        size: 1_048_576,
+        length: 16,
+        entries: 1,
+        lookups: 1,
+        forgets: 1,
+    },
 ];
 
 /// The calls of a reading of node 1, in which lookups find node 5, and entries of it are given back
@@ -450,14 +782,14 @@ fn reading_of(size: u32) -> [u8; 40] {
 
 /// Whether a reading comes to what is said of it.
 fn is_read(alloc: Global, reading: &Reading) -> Result<bool, Fail> {
-    let (opcode, name, endless, size, length, entries, (lookups, forgets)) = reading;
-    let room = *size as usize + 16;
-    let mut server = server_of_directory(alloc, *name, *endless, 7000)?;
-    let reply = reply_by_script(alloc, &mut server, (*opcode, 1, &reading_of(*size)), room)?;
+    let room = reading.size as usize + 16;
+    let mut server = server_of_directory(alloc, reading.name, reading.endless, 7000)?;
+    let record = reading_of(reading.size);
+    let reply = reply_by_script(alloc, &mut server, (reading.opcode, 1, &record), room)?;
     Ok(
-        is_success(&reply, *length)
-            && takings(server.fs().inner()) == Some(*entries)
-            && are_calls(server.fs(), *lookups, *forgets),
+        is_success(&reply, reading.length)
+            && takings(server.fs().inner()) == Some(reading.entries)
+            && are_calls(server.fs(), reading.lookups, reading.forgets),
     )
 }
 

@@ -15,8 +15,6 @@ mod hostile;
 #[cfg(test)]
 mod lines;
 #[cfg(test)]
-mod message;
-#[cfg(test)]
 mod messages;
 #[cfg(test)]
 mod migration;
@@ -28,6 +26,8 @@ mod segments;
 mod server;
 #[cfg(test)]
 mod session;
+#[cfg(test)]
+mod support;
 #[cfg(test)]
 mod transfers;
 #[cfg(test)]

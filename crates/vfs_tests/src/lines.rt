@@ -1,6 +1,6 @@
 //! Lines that are read and refused, and the texts of errors.
 
-use crate::message::{are, has_text};
+use crate::support::{are, has_text};
 use std::alloc::Global;
 use std::test::Fail;
 use vfs_lines::{RunError, parse_line};

@@ -62,7 +62,7 @@ enum ReadCall {
     Byte,
     /// `read_obj::<u32>`.
     Word,
-    /// `take_obj::<u32>`. That it is not whole is answered as not found.
+    /// `read_obj_if_whole::<u32>`. That it is not whole is answered as not found.
     Whole,
     /// `together` of so many bytes from this place on. That they are not is answered as not found.
     Together(usize, usize),
@@ -167,7 +167,7 @@ fn read_by(reader: &mut Reader<'_>, from: usize, call: ReadCall, buf: &mut [u8])
             Ok(x) => told(&x.to_le_bytes(), from, 4),
             Err(e) => Err(e.kind()),
         },
-        ReadCall::Whole => match reader.take_obj::<u32>() {
+        ReadCall::Whole => match reader.read_obj_if_whole::<u32>() {
             Some(x) => told(&x.to_le_bytes(), from, 4),
             None => Err(ErrorKind::NotFound),
         },

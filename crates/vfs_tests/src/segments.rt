@@ -1,8 +1,8 @@
 //! Writers over segments of all kinds, what each call answers and what is passed after it; a thousand
 //! segments, written and read.
 
-use crate::message::{are, filled, has_text};
 use crate::readers::{Answer, cleared, kind_of, numbers, read, read_exact};
+use crate::support::{are, filled, has_text};
 use std::alloc::{AllocError, Global};
 use std::io;
 use std::io::{ErrorKind, Write};
@@ -111,26 +111,28 @@ fn has_segments(writer: Writer, want: &[&[u8]]) -> bool {
     are(&writer.into_segments(), want)
 }
 
-/// The lengths of a writer's segments, its calls, and its segments afterwards.
-type WriteTest = (
-    &'static [usize],
-    &'static [WriteRow],
-    &'static [&'static [u8]],
-);
+/// What a writer does.
+struct WriteTest {
+    /// The lengths of its segments.
+    lengths: &'static [usize],
+    calls: &'static [WriteRow],
+    /// Its segments afterwards.
+    segments: &'static [&'static [u8]],
+}
 
 static WRITES: [WriteTest; 13] = [
-    (
-        &[8, 16, 18, 64],
-        &[
+    WriteTest {
+        lengths: &[8, 16, 18, 64],
+        calls: &[
             (WriteCall::UpTo(&[]), Ok(0), (106, 0, 0)),
             (WriteCall::All(&[7; 64]), Ok(64), (42, 64, 0)),
             (WriteCall::UpTo(&[7; 64]), Ok(42), (0, 106, 0)),
         ],
-        &[&[7; 8], &[7; 16], &[7; 18], &[7; 64]],
-    ),
-    (
-        &[8, 16, 18, 64],
-        &[
+        segments: &[&[7; 8], &[7; 16], &[7; 18], &[7; 64]],
+    },
+    WriteTest {
+        lengths: &[8, 16, 18, 64],
+        calls: &[
             (WriteCall::UpTo(&[7; 64]), Ok(64), (42, 64, 0)),
             (
                 WriteCall::All(&[7; 64]),
@@ -138,47 +140,47 @@ static WRITES: [WriteTest; 13] = [
                 (0, 106, 0),
             ),
         ],
-        &[&[7; 8], &[7; 16], &[7; 18], &[7; 64]],
-    ),
-    (
-        &[],
-        &[
+        segments: &[&[7; 8], &[7; 16], &[7; 18], &[7; 64]],
+    },
+    WriteTest {
+        lengths: &[],
+        calls: &[
             (WriteCall::UpTo(&[]), Ok(0), (0, 0, 0)),
             (WriteCall::Byte(0), Err(ErrorKind::WriteZero), (0, 0, 0)),
         ],
-        &[],
-    ),
-    (
-        &[64, 1, 3],
-        &[(WriteCall::All(&[5; 68]), Ok(68), (0, 68, 0))],
-        &[&[5; 64], &[5], &[5; 3]],
-    ),
-    (
-        &[1, 1, 1, 1],
-        &[(WriteCall::Word(0x1234_5678), Ok(4), (0, 4, 0))],
-        &WORD,
-    ),
-    (
-        &[16, 16, 16],
-        &[(
+        segments: &[],
+    },
+    WriteTest {
+        lengths: &[64, 1, 3],
+        calls: &[(WriteCall::All(&[5; 68]), Ok(68), (0, 68, 0))],
+        segments: &[&[5; 64], &[5], &[5; 3]],
+    },
+    WriteTest {
+        lengths: &[1, 1, 1, 1],
+        calls: &[(WriteCall::Word(0x1234_5678), Ok(4), (0, 4, 0))],
+        segments: &WORD,
+    },
+    WriteTest {
+        lengths: &[16, 16, 16],
+        calls: &[(
             WriteCall::All(&[3; 64]),
             Err(ErrorKind::WriteZero),
             (0, 48, 0),
         )],
-        &[&[3; 16], &[3; 16], &[3; 16]],
-    ),
-    (
-        &[1, 2],
-        &[(
+        segments: &[&[3; 16], &[3; 16], &[3; 16]],
+    },
+    WriteTest {
+        lengths: &[1, 2],
+        calls: &[(
             WriteCall::Word(0x0403_0201),
             Err(ErrorKind::WriteZero),
             (0, 3, 0),
         )],
-        &[&[1], &[2, 3]],
-    ),
-    (
-        &[6, 3, 2],
-        &[
+        segments: &[&[1], &[2, 3]],
+    },
+    WriteTest {
+        lengths: &[6, 3, 2],
+        calls: &[
             (WriteCall::Pair(0x0403_0201, 5), Ok(5), (6, 5, 0)),
             (WriteCall::Pair(0x0403_0201, 5), Ok(5), (1, 10, 0)),
             (
@@ -187,11 +189,11 @@ static WRITES: [WriteTest; 13] = [
                 (0, 11, 0),
             ),
         ],
-        &[&[1, 2, 3, 4, 5, 1], &[2, 3, 4], &[5, 1]],
-    ),
-    (
-        &[8, 3, 13, 4],
-        &[
+        segments: &[&[1, 2, 3, 4, 5, 1], &[2, 3, 4], &[5, 1]],
+    },
+    WriteTest {
+        lengths: &[8, 3, 13, 4],
+        calls: &[
             (
                 WriteCall::Padded(0x0403_0201, &[5, 6, 7]),
                 Ok(8),
@@ -204,39 +206,39 @@ static WRITES: [WriteTest; 13] = [
                 (0, 28, 0),
             ),
         ],
-        &[
+        segments: &[
             &[1, 2, 3, 4, 5, 6, 7, 0],
             &[1, 2, 3],
             &[4, 5, 0, 0, 0, 1, 2, 3, 4, 5, 5, 5, 5],
             &[5, 5, 5, 5],
         ],
-    ),
-    (
-        &[16, 16, 16],
-        &[
+    },
+    WriteTest {
+        lengths: &[16, 16, 16],
+        calls: &[
             (WriteCall::UpTo(&[1; 64]), Ok(48), (0, 48, 0)),
             (WriteCall::Flush, Ok(0), (0, 48, 0)),
         ],
-        &[&[1; 16], &[1; 16], &[1; 16]],
-    ),
-    (
-        &[0, 2, 0, 2],
-        &[(WriteCall::All(&[1, 2, 3]), Ok(3), (1, 3, 0))],
-        &[&[], &[1, 2], &[], &[3, 0]],
-    ),
-    (
-        &[3, 3],
-        &[
+        segments: &[&[1; 16], &[1; 16], &[1; 16]],
+    },
+    WriteTest {
+        lengths: &[0, 2, 0, 2],
+        calls: &[(WriteCall::All(&[1, 2, 3]), Ok(3), (1, 3, 0))],
+        segments: &[&[], &[1, 2], &[], &[3, 0]],
+    },
+    WriteTest {
+        lengths: &[3, 3],
+        calls: &[
             (WriteCall::Hold(2), Ok(2), (4, 2, 2)),
             (WriteCall::Hold(2), Ok(2), (2, 4, 2)),
             (WriteCall::Fill(&[1, 2]), Ok(2), (2, 4, 0)),
             (WriteCall::Hold(0), Ok(0), (2, 4, 0)),
         ],
-        &[&[0, 0, 1], &[2, 0, 0]],
-    ),
-    (
-        &[10, 10],
-        &[
+        segments: &[&[0, 0, 1], &[2, 0, 0]],
+    },
+    WriteTest {
+        lengths: &[10, 10],
+        calls: &[
             (WriteCall::Hold(16), Ok(16), (4, 16, 16)),
             (WriteCall::UpTo(&[0xaa, 0xbb]), Ok(2), (2, 18, 16)),
             (
@@ -246,11 +248,11 @@ static WRITES: [WriteTest; 13] = [
             ),
             (WriteCall::Hold(3), Err(ErrorKind::InvalidInput), (2, 18, 0)),
         ],
-        &[
+        segments: &[
             &[0, 1, 2, 3, 4, 5, 6, 7, 8, 9],
             &[10, 11, 12, 13, 14, 15, 0xaa, 0xbb, 0, 0],
         ],
-    ),
+    },
 ];
 
 /// A writer over zeros in segments of these lengths.
@@ -260,16 +262,16 @@ pub fn writer_over(alloc: Global, lengths: &[usize]) -> Result<Writer, Error> {
 
 /// Whether a writer answers so, and has these segments afterwards.
 fn is_written(alloc: Global, row: &WriteTest) -> Result<bool, Error> {
-    let mut writer = writer_over(alloc, row.0)?;
-    let answers = does_so(&mut writer, row.1);
-    Ok(has_segments(writer, row.2) && answers)
+    let mut writer = writer_over(alloc, row.lengths)?;
+    let answers = does_so(&mut writer, row.calls);
+    Ok(has_segments(writer, row.segments) && answers)
 }
 
 /// The segments of the first writer that doesn't answer so.
 fn wrong_writes(alloc: Global) -> Result<Option<&'static [usize]>, Error> {
     for row in &WRITES {
         if !is_written(alloc, row)? {
-            return Ok(Some(row.0));
+            return Ok(Some(row.lengths));
         }
     }
     Ok(None)

@@ -1,7 +1,7 @@
 //! What no clause says: that a full payload is served where there is memory; each public call once,
 //! at file systems of the tests' own; and texts.
 
-use crate::message::{
+use crate::support::{
     ScriptServer, filled, handle_by_script, has_text, joined, reply_by_script, script_server,
 };
 use bitflags::Flags;
@@ -55,44 +55,52 @@ fn a_payload_of_pairs_is_forgotten(rt: HostRuntime) -> Result<(), Fail> {
     Ok(())
 }
 
-/// A request: its node and the bytes behind its header; the lengths of its room's segments; and the
-/// bytes of the room afterwards.
-type BehindHeld<'a> = ((u8, &'a [u8]), &'a [usize], &'a [u8]);
+/// A request of a caller that holds bytes of its room.
+struct BehindHeld {
+    node: u8,
+    /// The bytes behind the header.
+    behind: &'static [u8],
+    /// The lengths of the room's segments.
+    room: &'static [usize],
+    /// The bytes of the room afterwards.
+    after: &'static [u8],
+}
 
 /// Requests of opcode 7, which is none, by a caller that holds the first 16 bytes of the room for
 /// itself: they stay, and the reply that says ENOSYS stands behind them.
-static BEHIND_HELD: [BehindHeld<'static>; 2] = [
-    (
-        (0, b""),
-        &[32],
-        b"\xaa\xaa\xaa\xaa\xaa\xaa\xaa\xaa\xaa\xaa\xaa\xaa\xaa\xaa\xaa\xaa\
+static BEHIND_HELD: [BehindHeld; 2] = [
+    BehindHeld {
+        node: 0,
+        behind: b"",
+        room: &[32],
+        after: b"\xaa\xaa\xaa\xaa\xaa\xaa\xaa\xaa\xaa\xaa\xaa\xaa\xaa\xaa\xaa\xaa\
             \x10\0\0\0\xda\xff\xff\xff\x09\0\0\0\0\0\0\0",
-    ),
-    (
-        (1, &[0; 16]),
-        &[17, 17],
-        b"\xaa\xaa\xaa\xaa\xaa\xaa\xaa\xaa\xaa\xaa\xaa\xaa\xaa\xaa\xaa\xaa\
+    },
+    BehindHeld {
+        node: 1,
+        behind: &[0; 16],
+        room: &[17, 17],
+        after: b"\xaa\xaa\xaa\xaa\xaa\xaa\xaa\xaa\xaa\xaa\xaa\xaa\xaa\xaa\xaa\xaa\
             \x10\0\0\0\xda\xff\xff\xff\x09\0\0\0\0\0\0\0\xaa\xaa",
-    ),
+    },
 ];
 
 /// Whether a request of an unknown opcode is replied so behind 16 held bytes.
 fn replies_behind_held(
     alloc: Global,
     server: &mut ScriptServer,
-    (node, behind): (u8, &[u8]),
-    room: &[usize],
-    after: &[u8],
+    row: &BehindHeld,
 ) -> Result<bool, Fail> {
-    let (replied, room) = handle_by_script(alloc, server, (7, node, behind), room, 16)?;
-    Ok(replied == 16 && room.as_slice() == after)
+    let message = (7, row.node, row.behind);
+    let (replied, room) = handle_by_script(alloc, server, message, row.room, 16)?;
+    Ok(replied == 16 && room.as_slice() == row.after)
 }
 
 #[test]
 fn a_reply_goes_behind_held_bytes(rt: HostRuntime) -> Result<(), Fail> {
-    for (request, room, after) in &BEHIND_HELD {
+    for row in &BEHIND_HELD {
         let mut server = server(rt.alloc(), FsOptions::empty())?;
-        assert!(rt; replies_behind_held(rt.alloc(), &mut server, *request, room, after)?);
+        assert!(rt; replies_behind_held(rt.alloc(), &mut server, row)?);
     }
     Ok(())
 }

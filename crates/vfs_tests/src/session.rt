@@ -1,6 +1,6 @@
 //! Sessions over files in memory: how a run ends, and the books with the calls that were made.
 
-use crate::message::server_over;
+use crate::support::server_over;
 use std::alloc::{AllocError, Global};
 use std::io;
 use std::io::{ErrorKind, Read};
@@ -36,121 +36,149 @@ const BEGUN: &str = concat!(
     "ok 0\n",
 );
 
-/// The first lines of an input and the answers to them, what stands behind them and what is
-/// answered to it, how the run ends, and the program's status then.
-static ENDS: [(&str, &str, &str, &str, Result<(), RunError>, u8); 5] = [
-    (FORGET, FORGOTTEN, "", "", Ok(()), 0),
-    (
-        FORGET,
-        FORGOTTEN,
-        "16\n",
-        "bad line 2\n",
-        Err(RunError::BadLine(2)),
-        2,
-    ),
-    (
-        FORGET,
-        FORGOTTEN,
-        "16",
-        "bad line 2\n",
-        Err(RunError::BadLine(2)),
-        2,
-    ),
-    (
-        FORGET,
-        FORGOTTEN,
-        "\n16 00\n",
-        "bad line 2\n",
-        Err(RunError::BadLine(2)),
-        2,
-    ),
-    (
-        BEGINNING,
-        BEGUN,
-        "16\n",
-        "bad line 6\n",
-        Err(RunError::BadLine(6)),
-        2,
-    ),
+/// An input, and how its run ends.
+struct Ending {
+    /// The first lines, and the answers to them.
+    lines: &'static str,
+    answers: &'static str,
+    /// What stands behind them, and what is answered to it.
+    behind: &'static str,
+    answered: &'static str,
+    end: Result<(), RunError>,
+    /// The program's status then.
+    status: u8,
+}
+
+static ENDS: [Ending; 5] = [
+    Ending {
+        lines: FORGET,
+        answers: FORGOTTEN,
+        behind: "",
+        answered: "",
+        end: Ok(()),
+        status: 0,
+    },
+    Ending {
+        lines: FORGET,
+        answers: FORGOTTEN,
+        behind: "16\n",
+        answered: "bad line 2\n",
+        end: Err(RunError::BadLine(2)),
+        status: 2,
+    },
+    Ending {
+        lines: FORGET,
+        answers: FORGOTTEN,
+        behind: "16",
+        answered: "bad line 2\n",
+        end: Err(RunError::BadLine(2)),
+        status: 2,
+    },
+    Ending {
+        lines: FORGET,
+        answers: FORGOTTEN,
+        behind: "\n16 00\n",
+        answered: "bad line 2\n",
+        end: Err(RunError::BadLine(2)),
+        status: 2,
+    },
+    Ending {
+        lines: BEGINNING,
+        answers: BEGUN,
+        behind: "16\n",
+        answered: "bad line 6\n",
+        end: Err(RunError::BadLine(6)),
+        status: 2,
+    },
 ];
 
 /// A pair of a BATCH_FORGET: one lookup of node 2.
 const PAIR: &str = "02000000000000000100000000000000";
 
-/// An input whose first line sets a limit, or would, how many pairs stand behind it, what is
-/// answered, how the run ends, and the program's status then: what INIT tells of the limit, a `len`
-/// above the greatest and at it, as many pairs of a BATCH_FORGET, and bad lines.
-static LIMITED: [(&str, usize, &str, Result<(), RunError>, u8); 10] = [
-    (
-        "limit 8192\n80 380000001a000000010000000000000000000000000000000000000000000000000000000000000007000000260000000000020000000000",
-        0,
-        "ok 80 5000000000000000010000000000000007000000260000000000020000000000fffffdbf0020000001000000020000000000000000000000000000000000000000000000000000000000000000000000\n",
-        Ok(()),
-        0,
-    ),
-    (
-        "limit 134217728\n80 380000001a000000010000000000000000000000000000000000000000000000000000000000000007000000260000000000020000000000",
-        0,
-        "ok 80 5000000000000000010000000000000007000000260000000000020000000000fffffdbf0000000801000000008000000000000000000000000000000000000000000000000000000000000000000000\n",
-        Ok(()),
-        0,
-    ),
-    (
-        "limit 8192\n16 01300000110000000200000000000000010000000000000000000000000000000000000000000000",
-        0,
-        "ok 16 10000000f4ffffff0200000000000000\n",
-        Ok(()),
-        0,
-    ),
-    (
-        "limit 8192\n96 00300000110000000200000000000000010000000000000000000000000000000000000000000000",
-        0,
-        "ok 96 600000000000000002000000000000000000000000000000000000000000000000000000000000000000000000000000000000000000000000020000ff0000000000000000000000000000000000000000000000000000000000000000000000\n",
-        Ok(()),
-        0,
-    ),
-    (
-        "limit 8192\n16 300000002a00000003000000000000000000000000000000000000000000000000000000000000000102000000000000",
-        0,
-        "ok 16 10000000f4ffffff0300000000000000\n",
-        Ok(()),
-        0,
-    ),
-    (
-        "limit 8192\n16 302000002a00000003000000000000000000000000000000000000000000000000000000000000000002000000000000",
-        512,
-        "ok 0\n",
-        Ok(()),
-        0,
-    ),
-    (
-        "limit 4095\n80 380000001a000000010000000000000000000000000000000000000000000000000000000000000007000000260000000000020000000000",
-        0,
-        "bad line 1\n",
-        Err(RunError::BadLine(1)),
-        2,
-    ),
-    (
-        "limit 134217729\n80 380000001a000000010000000000000000000000000000000000000000000000000000000000000007000000260000000000020000000000",
-        0,
-        "bad line 1\n",
-        Err(RunError::BadLine(1)),
-        2,
-    ),
-    (
-        "limit 8192\n16",
-        0,
-        "bad line 2\n",
-        Err(RunError::BadLine(2)),
-        2,
-    ),
-    (
-        "limit 8192\nlimit 8192",
-        0,
-        "bad line 2\n",
-        Err(RunError::BadLine(2)),
-        2,
-    ),
+/// An input whose first line sets a limit, or would, and how its run ends.
+struct Limited {
+    input: &'static str,
+    /// How many pairs stand behind it.
+    pairs: usize,
+    answers: &'static str,
+    end: Result<(), RunError>,
+    /// The program's status then.
+    status: u8,
+}
+
+/// What INIT tells of the limit, a `len` above the greatest and at it, as many pairs of a
+/// BATCH_FORGET, and bad lines.
+static LIMITED: [Limited; 10] = [
+    Limited {
+        input: "limit 8192\n80 380000001a000000010000000000000000000000000000000000000000000000000000000000000007000000260000000000020000000000",
+        pairs: 0,
+        answers: "ok 80 5000000000000000010000000000000007000000260000000000020000000000fffffdbf0020000001000000020000000000000000000000000000000000000000000000000000000000000000000000\n",
+        end: Ok(()),
+        status: 0,
+    },
+    Limited {
+        input: "limit 134217728\n80 380000001a000000010000000000000000000000000000000000000000000000000000000000000007000000260000000000020000000000",
+        pairs: 0,
+        answers: "ok 80 5000000000000000010000000000000007000000260000000000020000000000fffffdbf0000000801000000008000000000000000000000000000000000000000000000000000000000000000000000\n",
+        end: Ok(()),
+        status: 0,
+    },
+    Limited {
+        input: "limit 8192\n16 01300000110000000200000000000000010000000000000000000000000000000000000000000000",
+        pairs: 0,
+        answers: "ok 16 10000000f4ffffff0200000000000000\n",
+        end: Ok(()),
+        status: 0,
+    },
+    Limited {
+        input: "limit 8192\n96 00300000110000000200000000000000010000000000000000000000000000000000000000000000",
+        pairs: 0,
+        answers: "ok 96 600000000000000002000000000000000000000000000000000000000000000000000000000000000000000000000000000000000000000000020000ff0000000000000000000000000000000000000000000000000000000000000000000000\n",
+        end: Ok(()),
+        status: 0,
+    },
+    Limited {
+        input: "limit 8192\n16 300000002a00000003000000000000000000000000000000000000000000000000000000000000000102000000000000",
+        pairs: 0,
+        answers: "ok 16 10000000f4ffffff0300000000000000\n",
+        end: Ok(()),
+        status: 0,
+    },
+    Limited {
+        input: "limit 8192\n16 302000002a00000003000000000000000000000000000000000000000000000000000000000000000002000000000000",
+        pairs: 512,
+        answers: "ok 0\n",
+        end: Ok(()),
+        status: 0,
+    },
+    Limited {
+        input: "limit 4095\n80 380000001a000000010000000000000000000000000000000000000000000000000000000000000007000000260000000000020000000000",
+        pairs: 0,
+        answers: "bad line 1\n",
+        end: Err(RunError::BadLine(1)),
+        status: 2,
+    },
+    Limited {
+        input: "limit 134217729\n80 380000001a000000010000000000000000000000000000000000000000000000000000000000000007000000260000000000020000000000",
+        pairs: 0,
+        answers: "bad line 1\n",
+        end: Err(RunError::BadLine(1)),
+        status: 2,
+    },
+    Limited {
+        input: "limit 8192\n16",
+        pairs: 0,
+        answers: "bad line 2\n",
+        end: Err(RunError::BadLine(2)),
+        status: 2,
+    },
+    Limited {
+        input: "limit 8192\nlimit 8192",
+        pairs: 0,
+        answers: "bad line 2\n",
+        end: Err(RunError::BadLine(2)),
+        status: 2,
+    },
 ];
 
 /// A server over new files in memory, with a note of each of up to eleven calls.
@@ -178,14 +206,16 @@ fn ran(
 
 #[test]
 fn a_session_is_answered_up_to_its_bad_line(rt: HostRuntime) -> Result<(), Fail> {
-    for (first, answers, last, answer, end, status) in &ENDS {
-        let (ended, written) = ran(rt.alloc(), first, last)?;
-        let wanted = format!(in rt.alloc(); "{answers}{answer}")?;
+    for row in &ENDS {
+        let (ended, written) = ran(rt.alloc(), row.lines, row.behind)?;
+        let (first, last) = (row.answers, row.answered);
+        let wanted = format!(in rt.alloc(); "{first}{last}")?;
+        let behind = row.behind;
         assert!(rt;
-            ended == *end
-                && exit_status(&ended) == *status
+            ended == row.end
+                && exit_status(&ended) == row.status
                 && written.as_slice() == wanted.as_bytes(),
-            "at {last:?}"
+            "at {behind:?}"
         );
     }
     Ok(())
@@ -202,13 +232,14 @@ fn times(alloc: Global, text: &str, count: usize) -> Result<String, AllocError> 
 
 #[test]
 fn a_first_line_sets_the_limit(rt: HostRuntime) -> Result<(), Fail> {
-    for (input, pairs, answers, end, status) in &LIMITED {
-        let last = times(rt.alloc(), PAIR, *pairs)?;
-        let (ended, written) = ran(rt.alloc(), input, last.as_str())?;
+    for row in &LIMITED {
+        let last = times(rt.alloc(), PAIR, row.pairs)?;
+        let (ended, written) = ran(rt.alloc(), row.input, last.as_str())?;
+        let input = row.input;
         assert!(rt;
-            ended == *end
-                && exit_status(&ended) == *status
-                && written.as_slice() == answers.as_bytes(),
+            ended == row.end
+                && exit_status(&ended) == row.status
+                && written.as_slice() == row.answers.as_bytes(),
             "at {input:?}"
         );
     }
@@ -277,34 +308,86 @@ const ANSWERS: &str = concat!(
     "err EncodeMessage a000000000000000090000000000000003000000000000000000000000000000010000000000000001000000000000000000000000000000030000000000000000000000000000000000000000000000000000000000000000000000000000000000000000000000000000000000000000000000a4810000010000000000000000000000000000000010000000000000000000000000000000000000000000\n",
 );
 
-/// What the notes say of the calls that it makes: call, node, count, kind and value.
-static CALLS: [(u32, u64, u64, NoteKind, u64); 11] = [
-    (1, 1, 0, NoteKind::Ok, 2),
-    (1, 1, 0, NoteKind::Ok, 2),
-    (2, 2, 1, NoteKind::Nothing, 0),
-    (2, 2, 1, NoteKind::Nothing, 0),
-    (28, 1, 0, NoteKind::Ok, 0),
-    (1, 1, 0, NoteKind::Ok, 2),
-    (2, 2, 1, NoteKind::Nothing, 0),
-    (28, 1, 0, NoteKind::Ok, 0),
-    (2, 0, 1, NoteKind::Nothing, 0),
-    (35, 1, 0, NoteKind::Ok, 3),
-    (2, 3, 1, NoteKind::Nothing, 0),
+/// The notes of the calls that it makes.
+static CALLS: [Note; 11] = [
+    Note {
+        call: 1,
+        node: 1,
+        count: 0,
+        kind: NoteKind::Ok,
+        value: 2,
+    },
+    Note {
+        call: 1,
+        node: 1,
+        count: 0,
+        kind: NoteKind::Ok,
+        value: 2,
+    },
+    Note {
+        call: 2,
+        node: 2,
+        count: 1,
+        kind: NoteKind::Nothing,
+        value: 0,
+    },
+    Note {
+        call: 2,
+        node: 2,
+        count: 1,
+        kind: NoteKind::Nothing,
+        value: 0,
+    },
+    Note {
+        call: 28,
+        node: 1,
+        count: 0,
+        kind: NoteKind::Ok,
+        value: 0,
+    },
+    Note {
+        call: 1,
+        node: 1,
+        count: 0,
+        kind: NoteKind::Ok,
+        value: 2,
+    },
+    Note {
+        call: 2,
+        node: 2,
+        count: 1,
+        kind: NoteKind::Nothing,
+        value: 0,
+    },
+    Note {
+        call: 28,
+        node: 1,
+        count: 0,
+        kind: NoteKind::Ok,
+        value: 0,
+    },
+    Note {
+        call: 2,
+        node: 0,
+        count: 1,
+        kind: NoteKind::Nothing,
+        value: 0,
+    },
+    Note {
+        call: 35,
+        node: 1,
+        count: 0,
+        kind: NoteKind::Ok,
+        value: 3,
+    },
+    Note {
+        call: 2,
+        node: 3,
+        count: 1,
+        kind: NoteKind::Nothing,
+        value: 0,
+    },
 ];
-
-/// Whether these are the notes of those calls.
-fn are_noted(notes: &[Note]) -> bool {
-    if notes.len() != CALLS.len() {
-        return false;
-    }
-    for i in 0..CALLS.len() {
-        let note = &notes[i];
-        if (note.call, note.node, note.count, note.kind, note.value) != CALLS[i] {
-            return false;
-        }
-    }
-    true
-}
 
 /// The requests of the lines.
 fn requests(alloc: Global) -> Result<Vec<Line>, RunError> {
@@ -330,7 +413,11 @@ fn answers_of(
 fn is_answered(alloc: Global, server: &mut FilesServer) -> Result<bool, RunError> {
     let requests = requests(alloc)?;
     let answers = answers_of(alloc, server, &requests)?;
-    Ok(answers.as_str() == ANSWERS && are_noted(server.fs().notes()) && !server.fs().missed())
+    Ok(
+        answers.as_str() == ANSWERS
+            && server.fs().notes() == CALLS.as_slice()
+            && !server.fs().missed(),
+    )
 }
 
 #[test]

@@ -87,36 +87,68 @@ fn sent(
     Ok((answer, reader.0.available_bytes()))
 }
 
-/// A transfer out of the segments `a` and `bc`: how much its file moves a call, the call of it that
-/// fails, the count and the position, what the transfer answers, how much is left, and the position
-/// and the length of each view.
-type Transfer = (
-    usize,
-    usize,
-    usize,
-    u64,
-    Result<usize, Fault>,
-    usize,
-    &'static [(u64, usize)],
-);
+/// A transfer out of the segments `a` and `bc`.
+struct Transfer {
+    /// How many bytes its file moves a call.
+    most: usize,
+    /// The call that fails.
+    fails_at: usize,
+    count: usize,
+    off: u64,
+    answer: Result<usize, Fault>,
+    left: usize,
+    /// The position and the length of each view.
+    views: &'static [(u64, usize)],
+}
 
 const TRANSFERS: [Transfer; 4] = [
     // All that is left, by two calls.
-    (2, 0, 5, 0, Ok(3), 0, &[(0, 3), (2, 1)]),
+    Transfer {
+        most: 2,
+        fails_at: 0,
+        count: 5,
+        off: 0,
+        answer: Ok(3),
+        left: 0,
+        views: &[(0, 3), (2, 1)],
+    },
     // A fault of the second call.
-    (2, 2, 5, 0, Err(Some(Errno::EIO)), 1, &[(0, 3), (2, 1)]),
+    Transfer {
+        most: 2,
+        fails_at: 2,
+        count: 5,
+        off: 0,
+        answer: Err(Some(Errno::EIO)),
+        left: 1,
+        views: &[(0, 3), (2, 1)],
+    },
     // The position passes the largest number, with bytes still to be moved and without.
-    (1, 0, 2, u64::MAX, Err(None), 2, &[(u64::MAX, 2)]),
-    (1, 0, 1, u64::MAX, Err(None), 2, &[(u64::MAX, 1)]),
+    Transfer {
+        most: 1,
+        fails_at: 0,
+        count: 2,
+        off: u64::MAX,
+        answer: Err(None),
+        left: 2,
+        views: &[(u64::MAX, 2)],
+    },
+    Transfer {
+        most: 1,
+        fails_at: 0,
+        count: 1,
+        off: u64::MAX,
+        answer: Err(None),
+        left: 2,
+        views: &[(u64::MAX, 1)],
+    },
 ];
 
 /// The number of the first transfer that isn't made so.
 fn wrong_transfer(alloc: Global) -> Result<Option<usize>, Fail> {
     for (i, row) in TRANSFERS.iter().enumerate() {
-        let (most, fails_at, count, off, answer, left, views) = *row;
-        let mut file = Slow::new(alloc, most, fails_at);
-        let sent = sent(alloc, &[b"a", b"bc"], &mut file, count, off)?;
-        if sent != (answer, left) || file.views.as_slice() != views {
+        let mut file = Slow::new(alloc, row.most, row.fails_at);
+        let sent = sent(alloc, &[b"a", b"bc"], &mut file, row.count, row.off)?;
+        if sent != (row.answer, row.left) || file.views.as_slice() != row.views {
             return Ok(Some(i));
         }
     }

@@ -3,10 +3,10 @@
 use crate::wire::is_written_as;
 use vfs_wire::{
     AccessIn, Attr, AttrOut, BatchForgetIn, ByteValued, CopyfilerangeIn, CreateIn, Dirent,
-    EntryOut, ExtHeader, FallocateIn, FlushIn, ForgetIn, ForgetOne, FsyncIn, GetattrIn, GetxattrIn,
-    GetxattrOut, InHeader, InitInCompat, InitInExt, InitOut, Kstatfs, LinkIn, LseekIn, LseekOut,
-    MkdirIn, MknodIn, OpenIn, OpenOut, OutHeader, ReadIn, ReleaseIn, Rename2In, RenameIn, Secctx,
-    SetattrIn, SetxattrIn, SetxattrInCompat, SuppGroups, WriteIn, WriteOut,
+    Direntplus, EntryOut, ExtHeader, FallocateIn, FlushIn, ForgetIn, ForgetOne, FsyncIn, GetattrIn,
+    GetxattrIn, GetxattrOut, InHeader, InitInCompat, InitInExt, InitOut, Kstatfs, LinkIn, LseekIn,
+    LseekOut, MkdirIn, MknodIn, OpenIn, OpenOut, OutHeader, ReadIn, ReleaseIn, Rename2In, RenameIn,
+    Secctx, SetattrIn, SetxattrIn, SetxattrInCompat, SuppGroups, WriteIn, WriteOut,
 };
 use vfs_wire_more::*;
 
