@@ -1,12 +1,17 @@
 //! A server over a scripted file system, which shows the calls that it makes: for tests alone.
 //!
-//! Standard input has lines of three forms, and standard output gets the answers:
+//! Standard input has lines of four forms, and standard output gets the answers:
 //!
 //! - A request, in the form of `vfs_demo`. Its answer is written as there, and below it the calls
 //!   that it was turned into, each line with two spaces before it.
 //! - `answer N`, `answer fault N`, `answer fault none`, `answer items ITEM ..` or
 //!   `answer endless ITEM ..`: what the next call is answered, in place of what the file system's
 //!   rules say.
+//! - `corpus`: each message of a corpus of hostile ones, one for each opcode, cut, shortened and
+//!   changed, over servers of its own. A line is written for each: its name, how many forms of it
+//!   there are, how many requests these are in all cuttings, and the checksum of what the uncut
+//!   forms came to; behind it the first form that came to something else in a cutting, if one did.
+//!   The last line has the sums.
 //! - A line that begins with `#` is passed over.
 //!
 //! The first line of all may be `limit N` in place of one of these, as in `vfs_demo`.
@@ -18,6 +23,7 @@
 //! error what it takes.
 #![tactic(auto)]
 
+mod corpus;
 mod run;
 
 use std::process::ExitCode;
@@ -29,6 +35,7 @@ const PROGRAM: Program = Program {
     more_lines: "\
   answer ANSWER   What the next call is answered: N, fault N, fault none, items ITEM ..
                   or endless ITEM .., where an ITEM is INO,OFFSET,TYPE,NAME.
+  corpus          The corpus of hostile messages, cut, shortened and changed.
   # ..            Nothing.
 ",
 };

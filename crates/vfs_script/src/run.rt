@@ -1,5 +1,6 @@
 //! A session: the lines of an input, answered one after another.
 
+use crate::corpus::push_corpus;
 use std::alloc::Global;
 use std::cell::RefCell;
 use std::collections::VecDeque;
@@ -14,6 +15,9 @@ use vfs_server::server::Server;
 /// What a line with an answer begins with.
 const ANSWER: &[u8] = b"answer ";
 
+/// The line that has the corpus tried.
+const CORPUS: &[u8] = b"corpus";
+
 /// What a line of the input says.
 #[derive(Drop)]
 enum Said {
@@ -21,6 +25,8 @@ enum Said {
     Request(Line),
     /// The answer of a call that is still to come.
     Answer(Told),
+    /// The corpus of hostile messages is to be tried.
+    Corpus,
     /// Nothing to do.
     Comment,
 }
@@ -56,6 +62,7 @@ fn answer_all(alloc: Global, text: &[u8], answers: &mut String) -> Result<(), Ru
                     told.push_back(answer)?;
                 }
             }
+            Some(Said::Corpus) => push_corpus(alloc, answers)?,
             Some(Said::Comment) => {}
             None => {
                 let number = index + 1;
@@ -71,6 +78,9 @@ fn answer_all(alloc: Global, text: &[u8], answers: &mut String) -> Result<(), Ru
 fn read_line(alloc: Global, line: &[u8]) -> Result<Option<Said>, RunError> {
     if line.starts_with(b"#") {
         return Ok(Some(Said::Comment));
+    }
+    if line == CORPUS {
+        return Ok(Some(Said::Corpus));
     }
     if let Some(told) = line.strip_prefix(ANSWER) {
         return Ok(parse_told(alloc, told)?.map(Said::Answer));
