@@ -17,7 +17,7 @@ mod name;
 mod number;
 mod transfer;
 mod unserved;
-pub mod uses;
+mod uses;
 mod xattr;
 
 pub use directory::{DirEntry, DirectoryIterator};

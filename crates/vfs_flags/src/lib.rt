@@ -16,7 +16,6 @@ mod open_options;
 mod setattr_valid;
 mod setupmapping_flags;
 mod setxattr_flags;
-mod uses;
 
 pub use constants::{
     ATTR_DAX, ATTR_SUBMOUNT, DEFAULT_MAX_BUFFER, FATTR_FH, FATTR_LOCKOWNER, FSYNC_FDATASYNC,

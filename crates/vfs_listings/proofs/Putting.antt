@@ -5,8 +5,7 @@ use Rattle.std.proofs.Math.Nat.{lt_of_not-le}
 use Rattle.std.proofs.lemmas.Bool.Decides.{nat_tests}
 use Rattle.std.proofs.lemmas.List.{take_all, drop-drop}
 use Rattle.vfs_wire.specs.Fields.{bytes_of}
-use Rattle.vfs_wire.specs.Listings.{dirent}
-use Rattle.vfs_wire_more.specs.Listings.{direntplus}
+use Rattle.vfs_wire.specs.Listings.{dirent, direntplus}
 use Rattle.vfs_segments.specs.Padded.{padded_len, padding}
 use Rattle.vfs_segments.specs.Written.{Written, wrote}
 use Rattle.vfs_files.specs.Entries.{entry_out_of}

@@ -3,13 +3,12 @@
 //!
 //! Nothing here knows a reply's header: records are put where the writer stands, and the answer is
 //! how many bytes they have, or the fault that is replied in their place. No call takes memory, and
-//! each record is put into the room once. The module `uses` has examples.
+//! each record is put into the room once. The crate `vfs_uses` has examples.
 #![tactic(auto)]
 
 pub mod laws;
 mod listing;
 mod record;
-mod uses;
 
 pub use listing::{give_back, read_directory};
 pub use record::add_dirent;

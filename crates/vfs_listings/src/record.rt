@@ -12,8 +12,7 @@ use std::io;
 use vfs_files::{DirEntry, Entry};
 use vfs_flags::{Errno, Fault};
 use vfs_segments::Writer;
-use vfs_wire::{ByteValued, Dirent, EntryOut};
-use vfs_wire_more::Direntplus;
+use vfs_wire::{ByteValued, Dirent, Direntplus, EntryOut};
 
 /// How long the record of an entry with this name is, without an `EntryOut`.
 fn dirent_len(name: &[u8]) -> usize

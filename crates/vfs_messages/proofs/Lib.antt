@@ -3,4 +3,4 @@ pub mod Rooms
 pub mod Behind
 pub mod Pairs
 pub mod Refusing
-mod Blocks
+pub mod Blocks

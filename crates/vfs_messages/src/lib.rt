@@ -8,7 +8,6 @@ mod extensions;
 mod options;
 mod reply;
 mod request;
-mod uses;
 
 pub use extensions::{get_extensions, parse_security_context, parse_sup_groups};
 pub use options::{agreed_options, offered_options, read_second_flags, reply_init, reply_version};

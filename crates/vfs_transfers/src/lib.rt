@@ -7,7 +7,6 @@
 #![tactic(auto)]
 
 mod reader;
-mod uses;
 mod writer;
 
 pub use reader::ZcReader;

@@ -2,3 +2,4 @@ pub mod Callers
 pub mod SessionCallers
 pub mod DirectoryCallers
 pub mod ScriptTransfers
+pub mod SmallCallers

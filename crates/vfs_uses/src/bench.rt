@@ -8,10 +8,10 @@ ghost use Rattle.vfs_bench.specs.Directories.{GivesNext, Reading};
 ghost use Rattle.vfs_bench.specs.Notes.{told};
 ghost use Rattle.vfs_bench.specs.declared.note.NoteKind.TheVariants.{Nothing, Fault as Failed};
 
+use crate::files::forget_each;
 use std::alloc::Global;
 use vfs_bench::laws::notes_are_the_calls;
 use vfs_bench::{Recorder, Script, ScriptDirectory, ScriptEntries, ScriptFile, ScriptItem};
-use vfs_files::uses::forget_each;
 use vfs_files::{
     CStr, Context, DirectoryIterator, Entry, FileSystem, GetxattrReply, Unserved, ZeroCopyReader,
     ZeroCopyWriter,

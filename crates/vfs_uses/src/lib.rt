@@ -6,6 +6,14 @@
 #![tactic(auto)]
 
 mod bench;
+mod files;
+mod flags;
+mod listings;
 mod memory;
+mod messages;
 mod segments;
 mod server;
+mod transfers;
+mod views;
+mod wire;
+mod wire_more;

@@ -6,13 +6,13 @@ ghost use Rattle.vfs_segments.specs.Segments.{contents, flat_bytes, lengths_of};
 ghost use Rattle.vfs_segments.specs.Unread.{Unread, IsUnread};
 ghost use Rattle.vfs_wire.specs.Fields.{bytes_of, lone_number, value_of};
 
+use crate::views::{Journal, Zeros};
 use std::alloc::Global;
 use std::io::{ErrorKind, Read, Write};
 use std::{io, result};
 use vfs_flags::Fault;
 use vfs_segments::laws::{Counted, Totals, equal_bytes_answer_alike, find_segment};
 use vfs_segments::{Error, Reader, Result, Writer};
-use vfs_views::uses::{Journal, Zeros};
 
 /// A new reader of two segments has the bytes of both left, and has given none. It is refused where
 /// they are too many to count, and else only for want of memory.
@@ -107,7 +107,7 @@ fn taken_number(reader: &mut Reader<'_>) -> Option<u32>
     ensures value { result ≡ Some (value_of (lone_number 4) reader.old.left) }
     ensures left { reader.new.left ≡ drop 4 reader.old.left }
 {
-    reader.take_obj()
+    reader.read_obj_if_whole()
 }
 
 /// Where three bytes are left no number of four is taken, and the reader is as it was.
@@ -116,7 +116,7 @@ fn number_of_too_few_bytes(reader: &mut Reader<'_>) -> Option<u32>
     ensures none { result ≡ None }
     ensures same { reader.new ≡ reader.old }
 {
-    reader.take_obj()
+    reader.read_obj_if_whole()
 }
 
 /// A reader that has eight bytes left is cut after three: it keeps these and its count, and the

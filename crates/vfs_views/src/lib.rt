@@ -2,12 +2,11 @@
 //!
 //! A transfer moves bytes between segments and a file without a copy in between: a reader or a
 //! writer lends the file a view of just the bytes that are to be moved, and the file takes them
-//! from there, or puts them there, piece by piece. The module `uses` has small files.
+//! from there, or puts them there, piece by piece.
 #![tactic(auto)]
 
 mod file;
 mod span;
-pub mod uses;
 mod views;
 
 pub use file::{PositionedFile, WritevFlags};

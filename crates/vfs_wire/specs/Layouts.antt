@@ -8,7 +8,7 @@ use Rattle.vfs_wire.specs.Entries.{entry_out, forget_in, forget_one, batch_forge
 use Rattle.vfs_wire.specs.Names.{mknod_in, mkdir_in, rename_in, rename2_in, link_in, create_in, access_in}
 use Rattle.vfs_wire.specs.Files.{open_in, open_out, release_in, flush_in, read_in, write_in, write_out, fsync_in}
 use Rattle.vfs_wire.specs.Ranges.{lseek_in, lseek_out, copyfilerange_in, fallocate_in}
-use Rattle.vfs_wire.specs.Listings.{dirent, kstatfs}
+use Rattle.vfs_wire.specs.Listings.{dirent, direntplus, kstatfs}
 use Rattle.vfs_wire.specs.Xattrs.{setxattr_in, setxattr_in_compat, getxattr_in, getxattr_out}
 use Rattle.vfs_wire.specs.Extensions.{ext_header, secctx, supp_groups}
 
@@ -372,6 +372,43 @@ DirentLies = LiesAs dirent 24 (record {
   off = 0x100f0e0d0c0b0a09;
   namelen = 0x14131211;
   type_ = 0x18171615;
+})
+
+-- the 152 bytes of Direntplus
+abbrev pub DirentplusLies : Type 0
+DirentplusLies = LiesAs direntplus 152 (record {
+  entry_out = record {
+    nodeid = 0x0807060504030201;
+    generation = 0x100f0e0d0c0b0a09;
+    entry_valid = 0x1817161514131211;
+    attr_valid = 0x201f1e1d1c1b1a19;
+    entry_valid_nsec = 0x24232221;
+    attr_valid_nsec = 0x28272625;
+    attr = record {
+      ino = 0x302f2e2d2c2b2a29;
+      size = 0x3837363534333231;
+      blocks = 0x403f3e3d3c3b3a39;
+      atime = 0x4847464544434241;
+      mtime = 0x504f4e4d4c4b4a49;
+      ctime = 0x5857565554535251;
+      atimensec = 0x5c5b5a59;
+      mtimensec = 0x605f5e5d;
+      ctimensec = 0x64636261;
+      mode = 0x68676665;
+      nlink = 0x6c6b6a69;
+      uid = 0x706f6e6d;
+      gid = 0x74737271;
+      rdev = 0x78777675;
+      blksize = 0x7c7b7a79;
+      flags = 0x807f7e7d;
+    };
+  };
+  dirent = record {
+    ino = 0x8887868584838281;
+    off = 0x908f8e8d8c8b8a89;
+    namelen = 0x94939291;
+    type_ = 0x98979695;
+  };
 })
 
 -- the 80 bytes of Kstatfs

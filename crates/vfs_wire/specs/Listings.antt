@@ -1,7 +1,9 @@
 -- Directories, and a file system as a whole.
-use Rattle.std.specs.Prelude.{[], ◌∷◌, drop, slice_index}
+use Rattle.std.specs.Prelude.{[], ◌∷◌, ◌++◌, drop, slice_index}
 use Rattle.vfs_wire.specs.Fields.{Table}
+use Rattle.vfs_wire.specs.Entries.{entry_out}
 use Rattle.vfs_wire.specs.declared.listings.Dirent.{Dirent}
+use Rattle.vfs_wire.specs.declared.listings.Direntplus.{Direntplus}
 use Rattle.vfs_wire.specs.declared.listings.Kstatfs.{Kstatfs}
 
 -- Dirent: 24 bytes
@@ -14,6 +16,17 @@ dirent = record {
     off = slice_index xs 1;
     namelen = slice_index xs 2;
     type_ = slice_index xs 3;
+  };
+}
+
+-- Direntplus: 152 bytes
+abbrev pub direntplus : Table Direntplus
+direntplus = record {
+  widths = entry_out.widths ++ dirent.widths;
+  fields = λ r. entry_out.fields r.entry_out ++ dirent.fields r.dirent;
+  made = λ xs. record {
+    entry_out = entry_out.made xs;
+    dirent = dirent.made (drop 22 xs);
   };
 }
 

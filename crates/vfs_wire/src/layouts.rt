@@ -2,7 +2,7 @@
 //! numbers that a field at its offset has, and those are written as these bytes. Each function here
 //! does nothing: its contract is the law, for a caller's proof to cite.
 
-ghost use Rattle.vfs_wire.specs.Layouts.{InHeaderLies, OutHeaderLies, InitInCompatLies, InitInExtLies, InitOutLies, AttrLies, GetattrInLies, AttrOutLies, SetattrInLies, EntryOutLies, ForgetInLies, ForgetOneLies, BatchForgetInLies, MknodInLies, MkdirInLies, RenameInLies, Rename2InLies, LinkInLies, CreateInLies, AccessInLies, OpenInLies, OpenOutLies, ReleaseInLies, FlushInLies, ReadInLies, WriteInLies, WriteOutLies, FsyncInLies, LseekInLies, LseekOutLies, CopyfilerangeInLies, FallocateInLies, DirentLies, KstatfsLies, SetxattrInLies, SetxattrInCompatLies, GetxattrInLies, GetxattrOutLies, ExtHeaderLies, SecctxLies, SuppGroupsLies};
+ghost use Rattle.vfs_wire.specs.Layouts.{InHeaderLies, OutHeaderLies, InitInCompatLies, InitInExtLies, InitOutLies, AttrLies, GetattrInLies, AttrOutLies, SetattrInLies, EntryOutLies, ForgetInLies, ForgetOneLies, BatchForgetInLies, MknodInLies, MkdirInLies, RenameInLies, Rename2InLies, LinkInLies, CreateInLies, AccessInLies, OpenInLies, OpenOutLies, ReleaseInLies, FlushInLies, ReadInLies, WriteInLies, WriteOutLies, FsyncInLies, LseekInLies, LseekOutLies, CopyfilerangeInLies, FallocateInLies, DirentLies, DirentplusLies, KstatfsLies, SetxattrInLies, SetxattrInCompatLies, GetxattrInLies, GetxattrOutLies, ExtHeaderLies, SecctxLies, SuppGroupsLies};
 
 /// The headers of requests and replies.
 #[tactic(auto, unfolding(crate::specs::Fields::number, crate::specs::Fields::little))]
@@ -75,6 +75,7 @@ pub fn ranges()
 #[tactic(auto, unfolding(crate::specs::Fields::number, crate::specs::Fields::little))]
 pub fn listings()
     ensures dirent { DirentLies }
+    ensures direntplus { DirentplusLies }
     ensures kstatfs { KstatfsLies }
 {}
 

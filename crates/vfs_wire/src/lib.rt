@@ -24,7 +24,6 @@ mod numbers;
 pub mod parts;
 mod ranges;
 mod stat;
-mod uses;
 mod xattrs;
 
 pub use attributes::{Attr, AttrOut, GetattrIn, SetattrIn};
@@ -34,7 +33,7 @@ pub use files::{FlushIn, FsyncIn, OpenIn, OpenOut, ReadIn, ReleaseIn, WriteIn, W
 pub use headers::{InHeader, OutHeader};
 pub use init::{InitInCompat, InitInExt, InitOut};
 pub use laws::{bytes_have_size, put_after_take, take_after_put};
-pub use listings::{Dirent, Kstatfs};
+pub use listings::{Dirent, Direntplus, Kstatfs};
 pub use names::{AccessIn, CreateIn, LinkIn, MkdirIn, MknodIn, Rename2In, RenameIn};
 pub use ranges::{CopyfilerangeIn, FallocateIn, LseekIn, LseekOut};
 pub use stat::{Stat64, Statvfs64};

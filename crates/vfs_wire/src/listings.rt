@@ -3,11 +3,12 @@
 ghost use Rattle.std.specs.Prelude.{◌≡◌, length, refl};
 ghost use Rattle.std.proofs.Common.{ap, lit≤};
 ghost use Rattle.vfs_wire.specs.FieldLaws.{cells-is};
-ghost use Rattle.vfs_wire.specs.Listings.{dirent, kstatfs};
+ghost use Rattle.vfs_wire.specs.Listings.{dirent, direntplus, kstatfs};
 
-use crate::ByteValued;
 use crate::bytes::Field::{Eight, Four};
 use crate::bytes::{put_fields, put_from, put_front, u32_at, u64_at};
+use crate::parts::{part_at, put_first, put_rest};
+use crate::{ByteValued, EntryOut};
 
 /// An item of a directory in the reply to READDIR (`struct fuse_dirent`, 24 bytes); its name
 /// follows without a 0, then zeros up to a multiple of 8 bytes.
@@ -48,6 +49,44 @@ impl ByteValued for Dirent {
             off: u64_at(b, 8),
             namelen: u32_at(b, 16),
             type_: u32_at(b, 20),
+        }
+    }
+
+    ghost size_is = { refl };
+
+    ghost size_small = { lit≤ tt };
+
+    ghost made_fields = { λ x h. refl };
+
+    ghost fields_made = { λ b h. refl };
+}
+
+/// An item of a directory in the reply to READDIRPLUS (`struct fuse_direntplus`, 152 bytes); its
+/// name follows without a 0, then zeros up to a multiple of 8 bytes.
+#[derive(Clone, Copy, Debug, Default)]
+pub struct Direntplus {
+    /// The entry of the item's node; all zeros count no lookup.
+    pub entry_out: EntryOut,
+    /// The item.
+    pub dirent: Dirent,
+}
+
+impl ByteValued for Direntplus {
+    const SIZE: usize = 152;
+
+    ghost SIZE = { 152 };
+
+    ghost table = { direntplus };
+
+    fn put(&self, out: &mut [u8]) {
+        put_rest(out, 128, &self.dirent);
+        put_first(out, &self.entry_out);
+    }
+
+    fn take(b: &[u8]) -> Direntplus {
+        Direntplus {
+            entry_out: part_at(b, 0),
+            dirent: part_at(b, 128),
         }
     }
 

@@ -1,7 +1,7 @@
 -- The records as a compiler lays them out: what the bytes 1, 2, 3, .. of each say, field by field.
 use Rattle.std.specs.Prelude.{pos, [], ◌∷◌}
 use Rattle.vfs_wire.specs.Layouts.{LiesAs}
-use Rattle.vfs_wire_more.specs.Listings.{statfs_out, direntplus}
+use Rattle.vfs_wire_more.specs.Listings.{statfs_out}
 use Rattle.vfs_wire_more.specs.Extensions.{secctx_header}
 use Rattle.vfs_wire_more.specs.Locks.{file_lock, lk_in, lk_out, interrupt_in}
 use Rattle.vfs_wire_more.specs.Devices.{bmap_in, bmap_out, ioctl_in, ioctl_iovec, ioctl_out, poll_in, poll_out, syncfs_in}
@@ -23,43 +23,6 @@ StatfsOutLies = LiesAs statfs_out 80 (record {
     padding = 0x38373635;
     spare = 0x3c3b3a39 ∷ 0x403f3e3d ∷ 0x44434241 ∷ 0x48474645 ∷ 0x4c4b4a49 ∷
         0x504f4e4d ∷ [];
-  };
-})
-
--- the 152 bytes of Direntplus
-abbrev pub DirentplusLies : Type 0
-DirentplusLies = LiesAs direntplus 152 (record {
-  entry_out = record {
-    nodeid = 0x0807060504030201;
-    generation = 0x100f0e0d0c0b0a09;
-    entry_valid = 0x1817161514131211;
-    attr_valid = 0x201f1e1d1c1b1a19;
-    entry_valid_nsec = 0x24232221;
-    attr_valid_nsec = 0x28272625;
-    attr = record {
-      ino = 0x302f2e2d2c2b2a29;
-      size = 0x3837363534333231;
-      blocks = 0x403f3e3d3c3b3a39;
-      atime = 0x4847464544434241;
-      mtime = 0x504f4e4d4c4b4a49;
-      ctime = 0x5857565554535251;
-      atimensec = 0x5c5b5a59;
-      mtimensec = 0x605f5e5d;
-      ctimensec = 0x64636261;
-      mode = 0x68676665;
-      nlink = 0x6c6b6a69;
-      uid = 0x706f6e6d;
-      gid = 0x74737271;
-      rdev = 0x78777675;
-      blksize = 0x7c7b7a79;
-      flags = 0x807f7e7d;
-    };
-  };
-  dirent = record {
-    ino = 0x8887868584838281;
-    off = 0x908f8e8d8c8b8a89;
-    namelen = 0x94939291;
-    type_ = 0x98979695;
   };
 })
 

@@ -10,11 +10,10 @@ mod listings;
 mod locks;
 mod mappings;
 mod notifications;
-mod uses;
 
 pub use devices::{BmapIn, BmapOut, IoctlIn, IoctlIovec, IoctlOut, PollIn, PollOut, SyncfsIn};
 pub use extensions::SecctxHeader;
-pub use listings::{Direntplus, StatfsOut};
+pub use listings::StatfsOut;
 pub use locks::{FileLock, InterruptIn, LkIn, LkOut};
 pub use mappings::{RemovemappingIn, RemovemappingOne, SetupmappingIn};
 pub use notifications::{

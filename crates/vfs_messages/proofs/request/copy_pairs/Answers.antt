@@ -9,7 +9,7 @@ loop-i-init g c = rw c.in-Ok.ensures.items (copied_none _ c.args.count (c.args.c
 
 pub loop-i-preserved : goal.loop-i-preserved
 loop-i-preserved g c =
-    copied_one (λ p. (g.I.Number.value p.0, p.1)) c.loop-i.pairs.items c.push.new.self.items c.pair_of.result c.in-Some.one (pairs_of c.args.count c.args.reader.now.left) (c.args.count - c.loop-i.i) (c.args.count - (c.loop-i.i + 1)) c.loop-i.reader.left c.take_obj.new.self.left
+    copied_one (λ p. (g.I.Number.value p.0, p.1)) c.loop-i.pairs.items c.push.new.self.items c.pair_of.result c.in-Some.one (pairs_of c.args.count c.args.reader.now.left) (c.args.count - c.loop-i.i) (c.args.count - (c.loop-i.i + 1)) c.loop-i.reader.left c.read_obj_if_whole.new.self.left
     c.in-Ok-push.ensures.items (ap (λ (n : ℕ). (n, c.pair_of.result.1)) c.pair_of.ensures.node ∙ ap (λ (n : ℕ). (c.in-Some.one.nodeid, n)) c.pair_of.ensures.nlookup) c.in-Some.ensures.value (ap (λ u. u.left) c.in-Some.ensures.moved) (omega (arith, c.loop-i-test.true)) c.loop-i.invariant
 
 pub unreachable-requires : goal.unreachable-requires

@@ -1,0 +1,126 @@
+//! Records by default: each field is 0, so each byte is.
+
+ghost use Rattle.std.specs.Prelude.{◌≡◌, replicate};
+ghost use Rattle.vfs_wire.specs.Fields.{bytes_of};
+ghost use Rattle.vfs_wire_more.specs.Listings.{statfs_out};
+ghost use Rattle.vfs_wire_more.specs.Extensions.{secctx_header};
+ghost use Rattle.vfs_wire_more.specs.Locks.{file_lock, lk_in, lk_out, interrupt_in};
+ghost use Rattle.vfs_wire_more.specs.Devices.{bmap_in, bmap_out, ioctl_in, ioctl_iovec, ioctl_out, poll_in, poll_out, syncfs_in};
+ghost use Rattle.vfs_wire_more.specs.Mappings.{setupmapping_in, removemapping_in, removemapping_one};
+ghost use Rattle.vfs_wire_more.specs.Notifications.{notify_poll_wakeup_out, notify_inval_inode_out, notify_inval_entry_out, notify_delete_out, notify_store_out, notify_retrieve_out, notify_retrieve_in};
+
+use vfs_wire_more::{
+    BmapIn, BmapOut, FileLock, InterruptIn, IoctlIn, IoctlIovec, IoctlOut, LkIn, LkOut,
+    Notify_Retrieve_Out, NotifyDeleteOut, NotifyInvalEntryOut, NotifyInvalInodeOut,
+    NotifyPollWakeupOut, NotifyRetrieveIn, NotifyStoreOut, PollIn, PollOut, RemovemappingIn,
+    RemovemappingOne, SecctxHeader, SetupmappingIn, StatfsOut, SyncfsIn,
+};
+
+/// The record of a file system as a whole, with nothing set.
+#[tactic(auto, unfolding(vfs_wire::specs::Fields::little))]
+fn listings() -> StatfsOut
+    ensures { bytes_of statfs_out result ≡ replicate 80 0 }
+{
+    StatfsOut::default()
+}
+
+/// The headers of extensions, with nothing set.
+#[tactic(auto, unfolding(vfs_wire::specs::Fields::little))]
+fn extensions() -> SecctxHeader
+    ensures { bytes_of secctx_header result ≡ replicate 8 0 }
+{
+    SecctxHeader::default()
+}
+
+/// The records of locks, with nothing set.
+#[tactic(auto, unfolding(vfs_wire::specs::Fields::little))]
+fn locks() -> (FileLock, LkIn, LkOut, InterruptIn)
+    ensures file_lock { bytes_of file_lock result.0 ≡ replicate 24 0 }
+    ensures lk_in { bytes_of lk_in result.1 ≡ replicate 48 0 }
+    ensures lk_out { bytes_of lk_out result.2 ≡ replicate 24 0 }
+    ensures interrupt_in { bytes_of interrupt_in result.3 ≡ replicate 8 0 }
+{
+    (
+        FileLock::default(),
+        LkIn::default(),
+        LkOut::default(),
+        InterruptIn::default(),
+    )
+}
+
+/// The records of requests to devices, with nothing set.
+#[tactic(auto, unfolding(vfs_wire::specs::Fields::little))]
+fn devices() -> (
+    BmapIn,
+    BmapOut,
+    IoctlIn,
+    IoctlIovec,
+    IoctlOut,
+    PollIn,
+    PollOut,
+    SyncfsIn,
+)
+    ensures bmap_in { bytes_of bmap_in result.0 ≡ replicate 16 0 }
+    ensures bmap_out { bytes_of bmap_out result.1 ≡ replicate 8 0 }
+    ensures ioctl_in { bytes_of ioctl_in result.2 ≡ replicate 32 0 }
+    ensures ioctl_iovec { bytes_of ioctl_iovec result.3 ≡ replicate 16 0 }
+    ensures ioctl_out { bytes_of ioctl_out result.4 ≡ replicate 16 0 }
+    ensures poll_in { bytes_of poll_in result.5 ≡ replicate 24 0 }
+    ensures poll_out { bytes_of poll_out result.6 ≡ replicate 8 0 }
+    ensures syncfs_in { bytes_of syncfs_in result.7 ≡ replicate 8 0 }
+{
+    (
+        BmapIn::default(),
+        BmapOut::default(),
+        IoctlIn::default(),
+        IoctlIovec::default(),
+        IoctlOut::default(),
+        PollIn::default(),
+        PollOut::default(),
+        SyncfsIn::default(),
+    )
+}
+
+/// The records of mappings, with nothing set.
+#[tactic(auto, unfolding(vfs_wire::specs::Fields::little))]
+fn mappings() -> (SetupmappingIn, RemovemappingIn, RemovemappingOne)
+    ensures setupmapping_in { bytes_of setupmapping_in result.0 ≡ replicate 40 0 }
+    ensures removemapping_in { bytes_of removemapping_in result.1 ≡ replicate 4 0 }
+    ensures removemapping_one { bytes_of removemapping_one result.2 ≡ replicate 16 0 }
+{
+    (
+        SetupmappingIn::default(),
+        RemovemappingIn::default(),
+        RemovemappingOne::default(),
+    )
+}
+
+/// The records of notifications, with nothing set.
+#[tactic(auto, unfolding(vfs_wire::specs::Fields::little))]
+fn notifications() -> (
+    NotifyPollWakeupOut,
+    NotifyInvalInodeOut,
+    NotifyInvalEntryOut,
+    NotifyDeleteOut,
+    NotifyStoreOut,
+    Notify_Retrieve_Out,
+    NotifyRetrieveIn,
+)
+    ensures notify_poll_wakeup_out { bytes_of notify_poll_wakeup_out result.0 ≡ replicate 8 0 }
+    ensures notify_inval_inode_out { bytes_of notify_inval_inode_out result.1 ≡ replicate 24 0 }
+    ensures notify_inval_entry_out { bytes_of notify_inval_entry_out result.2 ≡ replicate 16 0 }
+    ensures notify_delete_out { bytes_of notify_delete_out result.3 ≡ replicate 24 0 }
+    ensures notify_store_out { bytes_of notify_store_out result.4 ≡ replicate 24 0 }
+    ensures notify_retrieve_out { bytes_of notify_retrieve_out result.5 ≡ replicate 32 0 }
+    ensures notify_retrieve_in { bytes_of notify_retrieve_in result.6 ≡ replicate 40 0 }
+{
+    (
+        NotifyPollWakeupOut::default(),
+        NotifyInvalInodeOut::default(),
+        NotifyInvalEntryOut::default(),
+        NotifyDeleteOut::default(),
+        NotifyStoreOut::default(),
+        Notify_Retrieve_Out::default(),
+        NotifyRetrieveIn::default(),
+    )
+}
