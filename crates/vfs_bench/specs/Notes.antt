@@ -2,7 +2,7 @@
 use Rattle.std.specs.Prelude.{ℕ, List, [], ◌∷◌, unwrap_or, length}
 use Rattle.vfs_files.specs.Calls.{Call, Lookup, Forget, Getattr, Setattr, Readlink, Symlink, Mknod, Mkdir, Unlink, Rmdir, Rename, Link, Open, Read, Write, Statfs, Release, Fsync, Setxattr, Getxattr, Listxattr, Removexattr, Flush, Init, Opendir, Readdir, Releasedir, Fsyncdir, Getlk, Setlk, Setlkw, Access, Create, Bmap, Destroy, Ioctl, Poll, NotifyReply, BatchForget, Fallocate, Lseek, Copyfilerange, Syncfs, Tmpfile}
 use Rattle.vfs_files.specs.Answers.{Answer, Done, Failed, Found, Created, Handed, Plain, Iterator}
-use Rattle.vfs_files.specs.Runs.{Event, Called, Opened, Taken}
+use Rattle.vfs_files.specs.Runs.{Event, Called, OpenedDirectory, Taken}
 use Rattle.vfs_bench.specs.declared.note.Note.{Note}
 use Rattle.vfs_bench.specs.declared.note.NoteKind.{NoteKind}
 use Rattle.vfs_bench.specs.declared.note.NoteKind.TheVariants as kind
@@ -96,5 +96,5 @@ note_of_handed call (Iterator it) = note_of call Done
 abbrev pub notes_of : List Event → List Note
 notes_of [] = []
 notes_of (Called call answer ∷ events) = note_of call answer ∷ notes_of events
-notes_of (Opened call ∷ events) = note_of call Done ∷ notes_of events
+notes_of (OpenedDirectory call ∷ events) = note_of call Done ∷ notes_of events
 notes_of (Taken item ∷ events) = notes_of events

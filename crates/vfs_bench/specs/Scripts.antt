@@ -3,7 +3,7 @@ use Rattle.std.specs.Prelude.{◌≡◌, ◌==◌, ◌≤◌, ◌<◌, ◌+◌, 
 use Rattle.vfs_views.specs.declared.file.WritevFlags.{WritevFlags}
 use Rattle.vfs_files.specs.Answers.{Answer, Done, Failed, Text, Handed, Plain, Iterator}
 use Rattle.vfs_files.specs.Answers.{init_answer, entry_answer, attr_answer, done_answer, opened_answer, created_answer, statistics_answer, text_answer, getxattr_answer, listxattr_answer, offset_answer, written_answer, read_answer}
-use Rattle.vfs_files.specs.Calls.{Call, Lookup, Forget, Getattr, Setattr, Readlink, Symlink, Mknod, Mkdir, Link, Open, Read, Write, Statfs, Getxattr, Listxattr, Init, Opendir, Readdir, Create, Destroy, BatchForget, Lseek, Copyfilerange, Tmpfile, no_such_call, no_memory}
+use Rattle.vfs_files.specs.Calls.{Call, Lookup, Forget, Getattr, Setattr, Readlink, Symlink, Mknod, Mkdir, Link, Open, Read, Write, Statfs, Getxattr, Listxattr, Init, Opendir, Readdir, Create, Destroy, BatchForget, Lseek, Copyfilerange, Tmpfile, no_such_call, out_of_memory}
 use Rattle.vfs_files.specs.Transfers.{Transfers, reads_of, writes_of}
 use Rattle.vfs_bench.specs.Directories.{Reading}
 use Rattle.vfs_bench.specs.declared.file.ScriptFile.{ScriptFile}
@@ -86,7 +86,7 @@ tells_text _ = false
 abbrev pub MayCopy : Answer → Handed Reading → Type 0
 MayCopy (Text bytes) handed =
     (length bytes < 2 ^ 32 - 16
-    → (handed ≡ Plain (Text bytes)) ⊎ (handed ≡ Plain (Failed no_memory)))
+    → (handed ≡ Plain (Text bytes)) ⊎ (handed ≡ Plain (Failed out_of_memory)))
     × (2 ^ 32 - 16 ≤ length bytes → handed ≡ Plain (Failed too_long))
 MayCopy set handed = handed ≡ Plain set
 
@@ -100,7 +100,7 @@ MayTell true set handed = MayCopy set handed
 -- item on, or ENOMEM where there is no memory for one; or the fault
 abbrev pub MayOpen : Result Reading (Option ℕ) → Handed Reading → Type 0
 MayOpen (Ok directory) handed =
-    (handed ≡ Iterator directory) ⊎ (handed ≡ Plain (Failed no_memory))
+    (handed ≡ Iterator directory) ⊎ (handed ≡ Plain (Failed out_of_memory))
 MayOpen (Err fault) handed = handed ≡ Plain (Failed fault)
 
 -- READ of a script's file is one transfer out of it, of no more than a reply can count; where

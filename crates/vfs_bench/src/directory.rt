@@ -1,7 +1,7 @@
 //! A directory for tests, whose items its maker lists, and whose takings are counted.
 
 ghost use Rattle.std.specs.Prelude.{◌≡◌, [], IfOk, IfErr, if◌then◌else◌};
-ghost use Rattle.vfs_files.specs.Calls.{no_memory};
+ghost use Rattle.vfs_files.specs.Calls.{out_of_memory};
 ghost use Rattle.vfs_bench.specs.Directories.{items_said};
 
 use std::alloc::Global;
@@ -62,7 +62,7 @@ impl ScriptDirectory {
           left = items_said items.items;
           again = [];
         }) }
-        ensures memory { IfErr result (λ fault. fault ≡ no_memory) }
+        ensures memory { IfErr result (λ fault. fault ≡ out_of_memory) }
     {
         ScriptDirectory::of(alloc, items, false)
     }
@@ -74,7 +74,7 @@ impl ScriptDirectory {
           left = items_said items.items;
           again = items_said items.items;
         }) }
-        ensures memory { IfErr result (λ fault. fault ≡ no_memory) }
+        ensures memory { IfErr result (λ fault. fault ≡ out_of_memory) }
     {
         ScriptDirectory::of(alloc, items, true)
     }
@@ -85,7 +85,7 @@ impl ScriptDirectory {
           left = items_said items.items;
           again = if endless then items_said items.items else [];
         }) }
-        ensures memory { IfErr result (λ fault. fault ≡ no_memory) }
+        ensures memory { IfErr result (λ fault. fault ≡ out_of_memory) }
     {
         let listing = Listing {
             items,
@@ -107,7 +107,7 @@ impl ScriptDirectory {
     /// A reading from the first item on. Want of memory is ENOMEM.
     pub fn entries(&self) -> Result<ScriptEntries, Fault>
         ensures begun { IfOk result (λ entries. entries ≡ self.now) }
-        ensures memory { IfErr result (λ fault. fault ≡ no_memory) }
+        ensures memory { IfErr result (λ fault. fault ≡ out_of_memory) }
     {
         match self.listing.clone() {
             Ok(listing) => Ok(ScriptEntries { listing, place: 0 }),

@@ -3,7 +3,7 @@
 ghost use Rattle.std.specs.Prelude.{◌≡◌, [], false, length, map, option_map, IfOk, IfErr};
 ghost use Rattle.vfs_flags.specs.Flags.{setattr_valid_bits};
 ghost use Rattle.vfs_flags.specs.Opcode.{number_of};
-ghost use Rattle.vfs_files.specs.Calls.{Getattr, Setattr, BatchForget, no_memory};
+ghost use Rattle.vfs_files.specs.Calls.{Getattr, Setattr, BatchForget, out_of_memory};
 ghost use Rattle.vfs_files.specs.Answers.{Plain, Done, attr_answer};
 ghost use Rattle.vfs_bench.specs.Notes.{told};
 ghost use Rattle.vfs_bench.specs.Recorded.{IsNoted, recorded};
@@ -61,7 +61,7 @@ impl<F> Recorder<F> {
           places = n;
           missed = false;
         }) }
-        ensures memory { IfErr result (λ fault. fault ≡ no_memory) }
+        ensures memory { IfErr result (λ fault. fault ≡ out_of_memory) }
     {
         match Vec::with_capacity(alloc, n) {
             Ok(notes) => Ok(Recorder {

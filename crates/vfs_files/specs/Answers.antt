@@ -47,7 +47,7 @@ pub data Answer : Type 0 where
   -- a place in a file
   Offset : (offset : ℕ) → Answer
   -- how many bytes were written
-  Written : (count : ℕ) → Answer
+  Wrote : (count : ℕ) → Answer
 
 -- what a call hands back: an answer, or an iterator over a directory
 pub data Handed (I : Type 0) : Type 0 where
@@ -125,7 +125,7 @@ offset_answer (Err fault) = Failed fault
 
 -- the answer of a call that answers how many bytes were written
 abbrev pub written_answer : Result ℕ (Option ℕ) → Answer
-written_answer (Ok count) = Written count
+written_answer (Ok count) = Wrote count
 written_answer (Err fault) = Failed fault
 
 -- the answer of `read`: the bytes that were put, or the fault
@@ -231,5 +231,5 @@ IsAnswer Texts (Text bytes) = FitsText bytes
 IsAnswer TextsOrCounts (Text bytes) = FitsText bytes
 IsAnswer TextsOrCounts (Count length) = length < 2 ^ 32
 IsAnswer Offsets (Offset offset) = offset < 2 ^ 64
-IsAnswer Writes (Written count) = count < 2 ^ 32
+IsAnswer Writes (Wrote count) = count < 2 ^ 32
 IsAnswer _ _ = ⊥

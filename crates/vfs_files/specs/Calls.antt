@@ -1,11 +1,12 @@
 -- Calls, which kind of answer each has, and what it answers where a file system doesn't serve it.
 -- Nothing here knows a file system's state or its iterators.
 use Rattle.std.specs.Prelude.{ℕ, List, Bool, Option, Some, None}
+use Rattle.vfs_flags.specs.Errors.{enomem, enosys}
 use Rattle.vfs_wire.specs.declared.attributes.SetattrIn.{SetattrIn}
 use Rattle.vfs_wire.specs.declared.stat.Statvfs64.{Statvfs64}
 use Rattle.vfs_files.specs.Extensions.{ExtensionValues}
 use Rattle.vfs_files.specs.declared.entry.Context.{Context}
-pub use Rattle.vfs_files.specs.Answers.{Answer, Done, Failed, Options, Found, Attributes, Put, Opened, Created, Statistics, Text, Count, Offset, Written}
+pub use Rattle.vfs_files.specs.Answers.{Answer, Done, Failed, Options, Found, Attributes, Put, Opened, Created, Statistics, Text, Count, Offset, Wrote}
 pub use Rattle.vfs_files.specs.Answers.{Handed, Plain, Iterator}
 pub use Rattle.vfs_files.specs.Answers.{init_answer, entry_answer, attr_answer, done_answer, opened_answer, created_answer, statistics_answer, text_answer, getxattr_answer, listxattr_answer, offset_answer, written_answer, read_answer, directory_answer}
 pub use Rattle.vfs_files.specs.Answers.{Kind, Quiet, Told, Untold, Data, Agreements, Entries, TimedAttributes, Openings, Creations, Capacities, Texts, TextsOrCounts, Offsets, Writes, Iterators, Faults}
@@ -124,11 +125,11 @@ kind_of Tmpfile = Faults
 
 -- the fault of a call that a file system doesn't serve: ENOSYS
 abbrev pub not_served : Option ℕ
-not_served = Some 38
+not_served = Some enosys
 
 -- the fault of a call that has no memory to answer: ENOMEM
-abbrev pub no_memory : Option ℕ
-no_memory = Some 12
+abbrev pub out_of_memory : Option ℕ
+out_of_memory = Some enomem
 
 -- the answer of a call that a file system doesn't serve, where it has no other
 abbrev pub no_such_call : Answer

@@ -8,7 +8,7 @@ use Rattle.vfs_files.specs.declared.entry.Context.{Context}
 -- iterator, and a taking from the iterator at hand
 pub data Event : Type 0 where
   Called : (call : Call) (answer : Answer) → Event
-  Opened : (call : Call) → Event
+  OpenedDirectory : (call : Call) → Event
   Taken : (item : Option Item) → Event
 
 -- an event with the iterators: the one that was opened, and the one before and after a taking
@@ -20,7 +20,7 @@ pub data Happening (I : Type 0) : Type 0 where
 -- the event, without the iterators
 abbrev pub event_of : {I : Type 0} → Happening I → Event
 event_of (Calls call answer) = Called call answer
-event_of (Opens call it) = Opened call
+event_of (Opens call it) = OpenedDirectory call
 event_of (Takes before item after) = Taken item
 
 -- the iterator at hand afterwards: the one that was opened, or that the taking left, or the one

@@ -3,7 +3,7 @@
 use Rattle.std.proofs.Common.{◌≡◌, ◌≤◌, ◌<◌, ◌+◌, ◌-◌, ◌^◌, ℕ, List, [], ◌∷◌, length, min, Option, Result, Ok, Err, IfOk, arith, refl, sym, ap, ◌∙◌, length-append}
 use Rattle.std.proofs.lemmas.List.Sums.{sum_by-cons}
 use Rattle.vfs_files.specs.Answers.{Counts}
-use Rattle.vfs_files.specs.Transfers.{Ending, Done, Stuck, Broken, Past, last_bytes, outcome, bytes_moved, count_moved, CallsFile, Goes, Ends, Transfers}
+use Rattle.vfs_files.specs.Transfers.{Ending, Finished, Stuck, Broken, Past, last_bytes, outcome, bytes_moved, count_moved, CallsFile, Goes, Ends, Transfers}
 
 -- an equation of two answers
 abbrev Same : Result ℕ (Option ℕ) → Result ℕ (Option ℕ) → Type 0
@@ -13,7 +13,7 @@ Same a b = a ≡ b
 told :
     (moved n : ℕ) (ending : Ending) → Same (outcome moved ending) (Ok n)
     → (n ≡ moved) × (length (last_bytes ending) ≡ 0)
-told moved n Done e = let same : n ≡ moved = cc in (same, refl)
+told moved n Finished e = let same : n ≡ moved = cc in (same, refl)
 told moved n Stuck e = let same : n ≡ moved = cc in (same, refl)
 told moved n (Broken fault) e = cc
 told moved n (Past part) e = cc
@@ -37,7 +37,7 @@ module _ {F : Type 0}
       (moved : ℕ) (old : F) (ending : Ending) (new : F)
       → Ends calls count left off moved old ending new
       → length (last_bytes ending) ≤ min count left - moved
-  last_within moved old Done new h = omega arith
+  last_within moved old Finished new h = omega arith
   last_within moved old Stuck new h = omega arith
   last_within moved old (Broken fault) new h = omega arith
   last_within moved old (Past part) new h = h.0.within
@@ -103,8 +103,8 @@ module _ {F : Type 0}
 
   end_of_nothing :
       (old : F) (ending : Ending) (new : F) → min count left ≡ 0
-      → Ends calls count left off 0 old ending new → (ending ≡ Done) × (new ≡ old)
-  end_of_nothing old Done new none h = (refl, h.1)
+      → Ends calls count left off 0 old ending new → (ending ≡ Finished) × (new ≡ old)
+  end_of_nothing old Finished new none h = (refl, h.1)
   end_of_nothing old Stuck new none h = let some = h.0 in absurd (omega arith)
   end_of_nothing old (Broken fault) new none h = let some = h.0 in absurd (omega arith)
   end_of_nothing old (Past part) new none h =
@@ -125,7 +125,7 @@ module _ {F : Type 0}
       (moved n : ℕ) (old : F) (ending : Ending) (new : F) → Same (Ok n) (outcome moved ending)
       → n < min count left → Ends calls count left off moved old ending new
       → CallsFile calls count left off n old (Ok []) new
-  ends_short moved n old Done new e short h =
+  ends_short moved n old Finished new e short h =
       let same : n ≡ moved = cc in
       absurd (omega (arith, h.0))
   ends_short moved n old Stuck new e short h = let same : n ≡ moved = cc in rw same h

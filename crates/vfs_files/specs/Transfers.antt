@@ -27,7 +27,7 @@ writes_of gives bytes flags before old at len (Err fault) new =
 -- why a transfer ends
 pub data Ending : Type 0 where
   -- the count is moved, or nothing is left
-  Done : Ending
+  Finished : Ending
   -- the last call moved 0
   Stuck : Ending
   -- the last call failed
@@ -37,14 +37,14 @@ pub data Ending : Type 0 where
 
 -- the bytes that the last call moved, where the ending has one that moved any
 abbrev pub last_bytes : Ending → List ℕ
-last_bytes Done = []
+last_bytes Finished = []
 last_bytes Stuck = []
 last_bytes (Broken fault) = []
 last_bytes (Past part) = part
 
 -- what a transfer answers that ends so, where the calls before moved so many bytes
 abbrev pub outcome : ℕ → Ending → Result ℕ (Option ℕ)
-outcome moved Done = Ok moved
+outcome moved Finished = Ok moved
 outcome moved Stuck = Ok moved
 outcome moved (Broken fault) = Err fault
 outcome moved (Past part) = Err None
@@ -89,7 +89,7 @@ module _ {F : Type 0}
 
   -- how they end: where nothing is to be moved any more by no call, else by one
   abbrev pub Ends : ℕ → F → Ending → F → Type 0
-  Ends moved old Done new = (view_len moved ≡ 0) × (new ≡ old)
+  Ends moved old Finished new = (view_len moved ≡ 0) × (new ≡ old)
   Ends moved old Stuck new = CallsFile moved old (Ok []) new
   Ends moved old (Broken fault) new = CallsFile moved old (Err fault) new
   Ends moved old (Past part) new =

@@ -1,7 +1,7 @@
 //! What a request may carry beside its record and its names.
 
 ghost use Rattle.std.specs.Prelude.{◌≡◌, IfOk, IfErr, Some, None};
-ghost use Rattle.vfs_files.specs.Calls.{no_memory};
+ghost use Rattle.vfs_files.specs.Calls.{out_of_memory};
 
 use crate::memory::copy_of;
 use crate::name::CString;
@@ -23,7 +23,7 @@ impl SecContext {
     /// An equal context, in memory of its own, or the fault ENOMEM where there is none.
     pub fn clone(&self, alloc: Global) -> Result<SecContext, Fault>
         ensures same { IfOk result (λ copy. context_values copy ≡ context_values self.now) }
-        ensures memory { IfErr result (λ fault. fault ≡ no_memory) }
+        ensures memory { IfErr result (λ fault. fault ≡ out_of_memory) }
     {
         let name = CString::new(alloc, self.name.as_c_str())?;
         let secctx = copy_of(alloc, &self.secctx)?;
@@ -59,7 +59,7 @@ impl Extensions {
     pub fn clone(&self, alloc: Global) -> Result<Extensions, Fault>
         ensures same { IfOk result (λ copy.
             extension_values_of copy ≡ extension_values_of self.now) }
-        ensures memory { IfErr result (λ fault. fault ≡ no_memory) }
+        ensures memory { IfErr result (λ fault. fault ≡ out_of_memory) }
     {
         let secctx = match &self.secctx {
             Some(context) => Some(context.clone(alloc)?),

@@ -102,13 +102,13 @@ impl Model for CString {
 
 impl CString {
     ghost use Rattle.std.specs.Prelude.{IfOk, IfErr};
-    ghost use Rattle.vfs_files.specs.Calls.{no_memory};
+    ghost use Rattle.vfs_files.specs.Calls.{out_of_memory};
     ghost use Rattle.vfs_files.specs.Names.{name_text};
 
     /// The same name, in memory of its own, or the fault ENOMEM where there is none.
     pub fn new(alloc: Global, name: CStr<'_>) -> Result<CString, Fault>
         ensures same { IfOk result (λ owned. owned ≡ name_text name.entry) }
-        ensures memory { IfErr result (λ fault. fault ≡ no_memory) }
+        ensures memory { IfErr result (λ fault. fault ≡ out_of_memory) }
     {
         let text = copy_of(alloc, name.to_bytes())?;
         Ok(CString { text })

@@ -51,12 +51,12 @@ setxattr_layout options =
     if bit_and options setxattr_ext == 0 then Record setxattr_in_short else Record setxattr_in
 
 -- whether a directory's records may have more bytes than the limit, or than there is room for
-abbrev pub lists_too_much : Limits → (room : ℕ) → ReadIn → Bool
-lists_too_much limits room r = nat_lt limits.max_buffer r.size || nat_lt room r.size
+abbrev pub lists_too_much : Limits → (space : ℕ) → ReadIn → Bool
+lists_too_much limits space r = nat_lt limits.max_buffer r.size || nat_lt space r.size
 
 -- the directory that is read, with entries where `plus`
-abbrev pub listing_of : (plus : Bool) → InHeader → ReadIn → (room_for_records : ℕ) → Listing
-listing_of plus h r room_for_records =
+abbrev pub listing_of : (plus : Bool) → InHeader → ReadIn → (space_for_records : ℕ) → Listing
+listing_of plus h r space_for_records =
     record {
       plus = plus;
       ctx = context_of h;
@@ -64,153 +64,153 @@ listing_of plus h r room_for_records =
       handle = r.fh;
       size = r.size;
       offset = r.offset;
-      room = room_for_records;
+      space = space_for_records;
     }
 
--- The table of the protocol: a line for each opcode, by the limits, the agreed options, the room
--- and the header. The calls that name a caller and a node name those of the header.
-abbrev pub form_of : Limits → (options room : ℕ) → InHeader → Opcode → Form
-form_of limits options room h Lookup =
+-- The table of the protocol: a line for each opcode, by the limits, the agreed options, the space for
+-- the reply, and the header. The calls that name a caller and a node name those of the header.
+abbrev pub form_of : Limits → (options space : ℕ) → InHeader → Opcode → Form
+form_of limits options space h Lookup =
     NameTail no_record unlimited (λ r name. call.Lookup (context_of h) h.nodeid name)
-form_of limits options room h Forget =
+form_of limits options space h Forget =
     NoTail (Record forget_in) unlimited (λ r. call.Forget (context_of h) h.nodeid r.nlookup)
-form_of limits options room h Getattr =
+form_of limits options space h Getattr =
     NoTail (Record getattr_in) unlimited (λ r.
     call.Getattr (context_of h) h.nodeid (if_set r.flags GETATTR_FH r.fh))
-form_of limits options room h Setattr =
+form_of limits options space h Setattr =
     NoTail (Record setattr_in) unlimited (λ r.
     call.Setattr (context_of h) h.nodeid r (if_set r.valid FATTR_FH r.fh)
     (bit_and r.valid known_setattr_valid))
-form_of limits options room h Readlink =
+form_of limits options space h Readlink =
     NoTail no_record unlimited (λ r. call.Readlink (context_of h) h.nodeid)
-form_of limits options room h Symlink =
+form_of limits options space h Symlink =
     LinkAndExtensions no_record options (λ r name text ext.
     call.Symlink (context_of h) text h.nodeid name ext)
-form_of limits options room h Mknod =
+form_of limits options space h Mknod =
     NameAndExtensions (Record mknod_in) options (λ r name ext.
     call.Mknod (context_of h) h.nodeid name r.mode r.rdev r.umask ext)
-form_of limits options room h Mkdir =
+form_of limits options space h Mkdir =
     NameAndExtensions (Record mkdir_in) options (λ r name ext.
     call.Mkdir (context_of h) h.nodeid name r.mode r.umask ext)
-form_of limits options room h Unlink =
+form_of limits options space h Unlink =
     NameTail no_record unlimited (λ r name. call.Unlink (context_of h) h.nodeid name)
-form_of limits options room h Rmdir =
+form_of limits options space h Rmdir =
     NameTail no_record unlimited (λ r name. call.Rmdir (context_of h) h.nodeid name)
-form_of limits options room h Rename =
+form_of limits options space h Rename =
     TwoNames (Record rename_in) (λ r old new.
     call.Rename (context_of h) h.nodeid old r.newdir new 0)
-form_of limits options room h Link =
+form_of limits options space h Link =
     NameTail (Record link_in) unlimited (λ r name.
     call.Link (context_of h) r.oldnodeid h.nodeid name)
-form_of limits options room h Open =
+form_of limits options space h Open =
     NoTail (Record open_in) unlimited (λ r.
     call.Open (context_of h) h.nodeid (has_flag r.open_flags OPEN_KILL_SUIDGID) r.flags)
-form_of limits options room h Read =
-    IntoRoom (Record read_in) room (λ r room_for_data.
-    call.Read (context_of h) h.nodeid r.fh room_for_data r.size r.offset
+form_of limits options space h Read =
+    IntoRoom (Record read_in) space (λ r space_for_data.
+    call.Read (context_of h) h.nodeid r.fh space_for_data r.size r.offset
     (if_set r.read_flags READ_LOCKOWNER r.lock_owner) r.flags)
-form_of limits options room h Write =
+form_of limits options space h Write =
     WithRest (Record write_in) (λ r rest.
     call.Write (context_of h) h.nodeid r.fh rest r.size r.offset
     (if_set r.write_flags WRITE_LOCKOWNER r.lock_owner) (has_flag r.write_flags WRITE_CACHE)
     (has_flag r.write_flags WRITE_KILL_PRIV) r.flags)
-form_of limits options room h Statfs =
+form_of limits options space h Statfs =
     NoTail no_record unlimited (λ r. call.Statfs (context_of h) h.nodeid)
-form_of limits options room h Release =
+form_of limits options space h Release =
     NoTail (Record release_in) unlimited (λ r.
     call.Release (context_of h) h.nodeid r.flags r.fh (has_flag r.release_flags RELEASE_FLUSH)
     (has_flag r.release_flags RELEASE_FLOCK_UNLOCK)
     (if_set r.release_flags (bit_or RELEASE_FLUSH RELEASE_FLOCK_UNLOCK) r.lock_owner))
-form_of limits options room h Fsync =
+form_of limits options space h Fsync =
     NoTail (Record fsync_in) unlimited (λ r.
     call.Fsync (context_of h) h.nodeid (has_flag r.fsync_flags FSYNC_FDATASYNC) r.fh)
-form_of limits options room h Setxattr =
+form_of limits options space h Setxattr =
     NameAndValue (setxattr_layout options) (λ r. r.size) (λ r name value.
     call.Setxattr (context_of h) h.nodeid name value r.flags
     (bit_and r.setxattr_flags known_setxattr_flags))
-form_of limits options room h Getxattr =
+form_of limits options space h Getxattr =
     NameTail (Record getxattr_in) (λ r. nat_lt limits.max_buffer r.size) (λ r name.
     call.Getxattr (context_of h) h.nodeid name r.size)
-form_of limits options room h Listxattr =
+form_of limits options space h Listxattr =
     NoTail (Record getxattr_in) (λ r. nat_lt limits.max_buffer r.size) (λ r.
     call.Listxattr (context_of h) h.nodeid r.size)
-form_of limits options room h Removexattr =
+form_of limits options space h Removexattr =
     NameTail no_record unlimited (λ r name. call.Removexattr (context_of h) h.nodeid name)
-form_of limits options room h Flush =
+form_of limits options space h Flush =
     NoTail (Record flush_in) unlimited (λ r.
     call.Flush (context_of h) h.nodeid r.fh r.lock_owner)
-form_of limits options room h Init = Versions
-form_of limits options room h Opendir =
+form_of limits options space h Init = Versions
+form_of limits options space h Opendir =
     NoTail (Record open_in) unlimited (λ r. call.Opendir (context_of h) h.nodeid r.flags)
-form_of limits options room h Readdir =
-    Directories (Record read_in) (lists_too_much limits room) room (listing_of false h)
-form_of limits options room h Releasedir =
+form_of limits options space h Readdir =
+    Directories (Record read_in) (lists_too_much limits space) space (listing_of false h)
+form_of limits options space h Releasedir =
     NoTail (Record release_in) unlimited (λ r.
     call.Releasedir (context_of h) h.nodeid r.flags r.fh)
-form_of limits options room h Fsyncdir =
+form_of limits options space h Fsyncdir =
     NoTail (Record fsync_in) unlimited (λ r.
     call.Fsyncdir (context_of h) h.nodeid (has_flag r.fsync_flags FSYNC_FDATASYNC) r.fh)
-form_of limits options room h Getlk = NoTail no_record unlimited (λ r. call.Getlk)
-form_of limits options room h Setlk = NoTail no_record unlimited (λ r. call.Setlk)
-form_of limits options room h Setlkw = NoTail no_record unlimited (λ r. call.Setlkw)
-form_of limits options room h Access =
+form_of limits options space h Getlk = NoTail no_record unlimited (λ r. call.Getlk)
+form_of limits options space h Setlk = NoTail no_record unlimited (λ r. call.Setlk)
+form_of limits options space h Setlkw = NoTail no_record unlimited (λ r. call.Setlkw)
+form_of limits options space h Access =
     NoTail (Record access_in) unlimited (λ r. call.Access (context_of h) h.nodeid r.mask)
-form_of limits options room h Create =
+form_of limits options space h Create =
     NameAndExtensions (Record create_in) options (λ r name ext.
     call.Create (context_of h) h.nodeid name r.mode (has_flag r.open_flags OPEN_KILL_SUIDGID)
     r.flags r.umask ext)
-form_of limits options room h Interrupt = Silent
-form_of limits options room h Bmap = NoTail no_record unlimited (λ r. call.Bmap)
-form_of limits options room h Destroy = NoTail no_record unlimited (λ r. call.Destroy)
-form_of limits options room h Ioctl = NoTail no_record unlimited (λ r. call.Ioctl)
-form_of limits options room h Poll = NoTail no_record unlimited (λ r. call.Poll)
-form_of limits options room h NotifyReply = NoTail no_record unlimited (λ r. call.NotifyReply)
-form_of limits options room h BatchForget =
+form_of limits options space h Interrupt = Silent
+form_of limits options space h Bmap = NoTail no_record unlimited (λ r. call.Bmap)
+form_of limits options space h Destroy = NoTail no_record unlimited (λ r. call.Destroy)
+form_of limits options space h Ioctl = NoTail no_record unlimited (λ r. call.Ioctl)
+form_of limits options space h Poll = NoTail no_record unlimited (λ r. call.Poll)
+form_of limits options space h NotifyReply = NoTail no_record unlimited (λ r. call.NotifyReply)
+form_of limits options space h BatchForget =
     Pairs (Record batch_forget_in) (λ r. nat_lt limits.max_buffer (r.count * size_of forget_one))
     (λ r. r.count) (λ r pairs. call.BatchForget (context_of h) pairs)
-form_of limits options room h Fallocate =
+form_of limits options space h Fallocate =
     NoTail (Record fallocate_in) unlimited (λ r.
     call.Fallocate (context_of h) h.nodeid r.fh r.mode r.offset r.length)
-form_of limits options room h Readdirplus =
-    Directories (Record read_in) (lists_too_much limits room) room (listing_of true h)
-form_of limits options room h Rename2 =
+form_of limits options space h Readdirplus =
+    Directories (Record read_in) (lists_too_much limits space) space (listing_of true h)
+form_of limits options space h Rename2 =
     TwoNames (Record rename2_in) (λ r old new.
     call.Rename (context_of h) h.nodeid old r.newdir new (bit_and r.flags RENAME_FLAGS))
-form_of limits options room h Lseek =
+form_of limits options space h Lseek =
     NoTail (Record lseek_in) unlimited (λ r.
     call.Lseek (context_of h) h.nodeid r.fh r.offset r.whence)
-form_of limits options room h CopyFileRange =
+form_of limits options space h CopyFileRange =
     NoTail (Record copyfilerange_in) unlimited (λ r.
     call.Copyfilerange (context_of h) h.nodeid r.fh_in r.off_in r.nodeid_out r.fh_out r.off_out
     r.len r.flags)
-form_of limits options room h SetupMapping = NotServed
-form_of limits options room h RemoveMapping = NotServed
-form_of limits options room h Syncfs =
+form_of limits options space h SetupMapping = NotServed
+form_of limits options space h RemoveMapping = NotServed
+form_of limits options space h Syncfs =
     NoTail no_record unlimited (λ r. call.Syncfs (context_of h) h.nodeid)
-form_of limits options room h TmpFile = NoTail no_record unlimited (λ r. call.Tmpfile)
+form_of limits options space h TmpFile = NoTail no_record unlimited (λ r. call.Tmpfile)
 
 -- what the bytes behind a header ask, by its opcode
-abbrev pub ask_opcode : Limits → (options room : ℕ) → Opcode → InHeader → (rest : List ℕ) → Ask
-ask_opcode limits options room opcode h rest =
-    ask_form h rest (form_of limits options room h opcode)
+abbrev pub ask_opcode : Limits → (options space : ℕ) → Opcode → InHeader → (rest : List ℕ) → Ask
+ask_opcode limits options space opcode h rest =
+    ask_form h rest (form_of limits options space h opcode)
 
 -- the same, of a number that may be no opcode
 abbrev pub ask_number :
-    Limits → (options room : ℕ) → Option Opcode → InHeader → (rest : List ℕ) → Ask
-ask_number limits options room None h rest = faulted enosys h
-ask_number limits options room (Some opcode) h rest = ask_opcode limits options room opcode h rest
+    Limits → (options space : ℕ) → Option Opcode → InHeader → (rest : List ℕ) → Ask
+ask_number limits options space None h rest = faulted enosys h
+ask_number limits options space (Some opcode) h rest = ask_opcode limits options space opcode h rest
 
 -- what a request with this header asks: a `len` above the limit is ENOMEM, whatever the opcode
-abbrev pub ask_header : Limits → (options room : ℕ) → InHeader → (rest : List ℕ) → Ask
-ask_header limits options room h rest =
+abbrev pub ask_header : Limits → (options space : ℕ) → InHeader → (rest : List ℕ) → Ask
+ask_header limits options space h rest =
     within (nat_lt (max_len limits) h.len) h
-    (ask_number limits options room (opcode_of h.opcode) h rest)
+    (ask_number limits options space (opcode_of h.opcode) h rest)
 
--- what these bytes ask, under these limits and agreed options, and where there is so much room
-abbrev pub ask : Limits → (options room : ℕ) → (bytes : List ℕ) → Ask
-ask limits options room bytes =
+-- what these bytes ask, under these limits and agreed options, and where there is so much space for the reply
+abbrev pub ask : Limits → (options space : ℕ) → (bytes : List ℕ) → Ask
+ask limits options space bytes =
     refused_or (record_of in_header bytes) (λ h.
-    ask_header limits options room h (drop (size_of in_header) bytes))
+    ask_header limits options space h (drop (size_of in_header) bytes))
 
 -- the header that a request begins with
 abbrev pub header_of : (request : List ℕ) → InHeader

@@ -7,6 +7,7 @@ use Rattle.vfs_flags.specs.declared.opcode.Opcode.{Opcode}
 use Rattle.vfs_files.specs.Calls.{Call, Lookup, Symlink, Mknod, Mkdir, Link, Create, Forget, BatchForget, Answer, Found, Created}
 use Rattle.vfs_files.specs.Runs.{Event, Called}
 use Rattle.vfs_grammar.specs.Nodes.{u32_at, u64_at, nodes_in}
+use Rattle.vfs_grammar.specs.Records.{in_header_size, out_header_size, pair_size, opcode_place, node_place, pairs_place, error_place}
 use Rattle.vfs_grammar.specs.Turn.{Turn, events_in}
 use Rattle.vfs_grammar.specs.declared.error.Error.{Error}
 use Rattle.vfs_flags.specs.declared.opcode.Opcode.TheVariants as opcode
@@ -65,32 +66,32 @@ sent n events = sum_by (sent_by n) events
 
 -- the opcode that a request's bytes have
 abbrev pub opcode_in : (request : List ℕ) → Option Opcode
-opcode_in request = opcode_of (u32_at 4 request)
+opcode_in request = opcode_of (u32_at opcode_place request)
 
 -- the nodes of the entries behind the header of a reply, by its request's opcode
 abbrev pub nodes_behind : Option Opcode → (reply : List ℕ) → List ℕ
-nodes_behind (Some opcode.Lookup) reply = u64_at 16 reply ∷ []
-nodes_behind (Some opcode.Symlink) reply = u64_at 16 reply ∷ []
-nodes_behind (Some opcode.Mknod) reply = u64_at 16 reply ∷ []
-nodes_behind (Some opcode.Mkdir) reply = u64_at 16 reply ∷ []
-nodes_behind (Some opcode.Link) reply = u64_at 16 reply ∷ []
-nodes_behind (Some opcode.Create) reply = u64_at 16 reply ∷ []
-nodes_behind (Some opcode.Readdirplus) reply = nodes_in (drop 16 reply)
+nodes_behind (Some opcode.Lookup) reply = u64_at out_header_size reply ∷ []
+nodes_behind (Some opcode.Symlink) reply = u64_at out_header_size reply ∷ []
+nodes_behind (Some opcode.Mknod) reply = u64_at out_header_size reply ∷ []
+nodes_behind (Some opcode.Mkdir) reply = u64_at out_header_size reply ∷ []
+nodes_behind (Some opcode.Link) reply = u64_at out_header_size reply ∷ []
+nodes_behind (Some opcode.Create) reply = u64_at out_header_size reply ∷ []
+nodes_behind (Some opcode.Readdirplus) reply = nodes_in (drop out_header_size reply)
 nodes_behind _ reply = []
 
 -- the nodes that a reply delivers: none where its header says an error
 abbrev pub delivered_nodes : Option Opcode → (reply : List ℕ) → List ℕ
-delivered_nodes opcode reply = if u32_at 4 reply == 0 then nodes_behind opcode reply else []
+delivered_nodes opcode reply = if u32_at error_place reply == 0 then nodes_behind opcode reply else []
 
 -- so many pairs of a node and a count, that bytes begin with
 abbrev pub pairs_at : (count : ℕ) → (bytes : List ℕ) → List (ℕ × ℕ)
 pairs_at zero bytes = []
-pairs_at (suc count) bytes = (u64_at 0 bytes, u64_at 8 bytes) ∷ pairs_at count (drop 16 bytes)
+pairs_at (suc count) bytes = (u64_at 0 bytes, u64_at 8 bytes) ∷ pairs_at count (drop pair_size bytes)
 
 -- what a request's bytes give back, by its opcode, as pairs of a node and a count
 abbrev pub forgets_in : Option Opcode → (request : List ℕ) → List (ℕ × ℕ)
-forgets_in (Some opcode.Forget) request = (u64_at 16 request, u64_at 40 request) ∷ []
-forgets_in (Some opcode.BatchForget) request = pairs_at (u32_at 40 request) (drop 48 request)
+forgets_in (Some opcode.Forget) request = (u64_at node_place request, u64_at in_header_size request) ∷ []
+forgets_in (Some opcode.BatchForget) request = pairs_at (u32_at in_header_size request) (drop pairs_place request)
 forgets_in _ request = []
 
 -- the entries of a node in a room by this outcome: in the reply that it counts, where there is one

@@ -4,10 +4,11 @@ use Rattle.std.specs.Prelude.{◌≡◌, ◌≤◌, ◌<◌, ⊤, ◌+◌, ◌^�
 use Rattle.std.specs.List.{All, flat_map}
 use Rattle.vfs_files.specs.Calls.{Failed, Readdir}
 use Rattle.vfs_files.specs.Items.{Item}
-use Rattle.vfs_files.specs.Runs.{Event, Called, Opened, Taken}
+use Rattle.vfs_files.specs.Runs.{Event, Called, OpenedDirectory, Taken}
 use Rattle.vfs_files.specs.declared.entry.Context.{Context}
 use Rattle.vfs_grammar.specs.Listing.{Line, End, At, IsGot, line_events, stop_events, line_len, line_bytes}
 use Rattle.vfs_grammar.specs.Forms.{Listing}
+use Rattle.vfs_grammar.specs.Records.{dirent_size, entry_out_size}
 use Rattle.vfs_grammar.specs.Reply.{fault_reply, body_reply}
 use Rattle.vfs_grammar.specs.Room.{IsPutOpen}
 use Rattle.vfs_grammar.specs.Turn.{Turn, IsRead}
@@ -16,13 +17,13 @@ use Rattle.vfs_grammar.specs.Turn.{Turn, IsRead}
 abbrev pub takings : List Event → List (Option Item)
 takings [] = []
 takings (Called call answer ∷ events) = takings events
-takings (Opened call ∷ events) = takings events
+takings (OpenedDirectory call ∷ events) = takings events
 takings (Taken item ∷ events) = item ∷ takings events
 
 -- how long a record is at least: for READDIR without an entry, for READDIRPLUS with one
 abbrev pub least_record : (plus : Bool) → ℕ
-least_record false = 24
-least_record true = 152
+least_record false = dirent_size
+least_record true = entry_out_size + dirent_size
 
 -- nothing here cuts a reading short: no call failed, and no item has a name of 2 ^ 32 bytes or more
 abbrev pub GoesOn : Event → Type 0
@@ -86,8 +87,8 @@ pub record CameWhole (l : Listing) (unique : ℕ) (taken : List Event) (t : Turn
 abbrev pub ComesWhole : (l : Listing) (unique : ℕ) (t : Turn) → Type 0
 ComesWhole l unique t =
     (taken : List Event)
-    → t.events ≡ Opened (Readdir l.ctx l.parent l.handle l.size l.offset) ∷ taken
-    → l.size ≤ l.room → All GoesOn taken → CameWhole l unique taken t
+    → t.events ≡ OpenedDirectory (Readdir l.ctx l.parent l.handle l.size l.offset) ∷ taken
+    → l.size ≤ l.space → All GoesOn taken → CameWhole l unique taken t
 
 -- no more items were taken than records can have been asked for, and one
 abbrev pub TakesFew : (l : Listing) (t : Turn) → Type 0

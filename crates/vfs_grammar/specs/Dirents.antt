@@ -10,16 +10,17 @@ use Rattle.vfs_files.specs.Answers.{FitsEntry}
 use Rattle.vfs_files.specs.Entries.{entry_out_of}
 use Rattle.vfs_files.specs.Items.{Item}
 use Rattle.vfs_files.specs.declared.entry.Entry.{Entry}
+use Rattle.vfs_grammar.specs.Records.{dirent_size, entry_out_size}
 
--- how long the record of an item with a name of this length is, without an entry: a `Dirent` of 24
--- bytes and the name, rounded up to a multiple of 8
+-- how long the record of an item with a name of this length is, without an entry: a `Dirent`
+-- and the name, rounded up to a multiple of 8
 abbrev pub dirent_len : ℕ → ℕ
-dirent_len n = next_multiple_of (24 + n) 8
+dirent_len n = next_multiple_of (dirent_size + n) 8
 
 -- how long the `EntryOut` of an entry is, where there is one
 abbrev pub entry_len : Option Entry → ℕ
 entry_len None = 0
-entry_len (Some entry) = 128
+entry_len (Some entry) = entry_out_size
 
 -- how long a record is
 abbrev pub record_len : Option Entry → Item → ℕ
@@ -33,7 +34,7 @@ dirent_of i = record { ino = i.ino; off = i.offset; namelen = length i.name; typ
 unfoldable pub dirent_bytes : Item → List ℕ
 dirent_bytes i =
     bytes_of dirent (dirent_of i)
-    ++ (i.name ++ replicate (dirent_len (length i.name) - (24 + length i.name)) 0)
+    ++ (i.name ++ replicate (dirent_len (length i.name) - (dirent_size + length i.name)) 0)
 
 -- the bytes of the `EntryOut` of an entry, where there is one
 abbrev pub entry_bytes : Option Entry → List ℕ
@@ -55,12 +56,12 @@ pub data Verdict : Type 0 where
   Full : Verdict
   Fails : (fault : Option ℕ) → Verdict
 
--- what becomes of a record where `max` bytes may still be put and there is room for `room`, by the
+-- what becomes of a record where `max` bytes may still be put and there is space for `space`, by the
 -- first of these that applies: a name of 2 ^ 32 bytes or more is EOVERFLOW; a record longer than
--- `max` is too long; one longer than the room is a fault of writing, which has no number
-abbrev pub verdict : (max room : ℕ) → Option Entry → Item → Verdict
-verdict max room entry i =
+-- `max` is too long; one longer than the space is a fault of writing, which has no number
+abbrev pub verdict : (max space : ℕ) → Option Entry → Item → Verdict
+verdict max space entry i =
     if nat_lt (2 ^ 32 - 1) (length i.name) then Fails (Some eoverflow)
     else if nat_lt max (record_len entry i) then Full
-    else if nat_lt room (record_len entry i) then Fails None
+    else if nat_lt space (record_len entry i) then Fails None
     else Fits

@@ -16,7 +16,7 @@ use Rattle.vfs_files.specs.Extensions.{ExtensionValues}
 use Rattle.vfs_files.specs.Names.{name_of, first_name}
 use Rattle.vfs_files.specs.declared.entry.Context.{Context}
 use Rattle.vfs_grammar.specs.Extensions.{error_or, extensions_in}
-use Rattle.vfs_grammar.specs.Options.{offered}
+use Rattle.vfs_grammar.specs.Options.{options_offered}
 use Rattle.vfs_grammar.specs.Records.{size_of, record_of}
 use Rattle.vfs_grammar.specs.Reply.{Reply, Refusal, Bytes, NoReply, Echo, echo_of, fault_reply, body_reply, version_out}
 use Rattle.vfs_grammar.specs.declared.error.Error.{Error}
@@ -24,7 +24,7 @@ use Rattle.vfs_grammar.specs.declared.error.Error.TheVariants.{DecodeMessage, En
 use Rattle.vfs_files.specs.Calls as call
 
 -- A directory that is to be read: for this caller, with an entry behind each of its items where
--- `plus`, from this offset on; and at most `size` bytes of records, for which there is this room.
+-- `plus`, from this offset on; and at most `size` bytes of records, for which there is this space.
 pub record Listing : Type 0 where
   pub plus : Bool
   pub ctx : Context
@@ -32,16 +32,16 @@ pub record Listing : Type 0 where
   pub handle : ℕ
   pub size : ℕ
   pub offset : ℕ
-  pub room : ℕ
+  pub space : ℕ
 
 -- What a request asks: to be ended without a call, by this coming back; a call, or that a directory
--- be read, whose reply repeats this of the request; or that some of its bytes be copied, for which
--- there may be no memory, and then the rest.
+-- be read, whose reply repeats this of the request; or the rest, where there is memory for a copy of
+-- some of its bytes, if one is needed.
 pub data Ask : Type 0 where
   Ends : (reply : Reply) → Ask
   Asks : (echo : Echo) (call : Call) → Ask
   Lists : (echo : Echo) (listing : Listing) → Ask
-  Copies : (rest : Ask) → Ask
+  WithMemory : (rest : Ask) → Ask
 
 -- a request that is refused with an error
 abbrev pub refused : Error → Ask
@@ -155,11 +155,11 @@ pairs_in count bytes =
     if nat_lt (length bytes) (count * size_of forget_one) then Err DecodeMessage
     else Ok (pairs_of count bytes)
 
--- the room behind the header of a reply, or the refusal of a room that is too small for the header
-abbrev pub room_behind_header : (room : ℕ) → Result ℕ Error
-room_behind_header room =
-    if nat_lt room (size_of out_header) then Err EncodeMessage
-    else Ok (room - size_of out_header)
+-- the space behind the header of a reply, or the refusal of one that is too small for the header
+abbrev pub space_behind_header : (space : ℕ) → Result ℕ Error
+space_behind_header space =
+    if nat_lt space (size_of out_header) then Err EncodeMessage
+    else Ok (space - size_of out_header)
 
 -- the word of flags in INIT's second record
 abbrev pub flags2_in : Result InitInExt Error → Result ℕ Error
@@ -181,7 +181,7 @@ ask_version h r flags2 =
     else if nat_lt r.minor MIN_KERNEL_MINOR_VERSION then faulted eproto h
     else
     Asks (record { unique = h.unique; max_readahead = r.max_readahead; ctx = context_of h })
-    (call.Init (offered r.flags flags2))
+    (call.Init (options_offered r.flags flags2))
 
 -- a request's record: none, in the place of which this stands, or one of this table
 pub data Layout (R : Type 0) : Type 0 where
@@ -214,8 +214,8 @@ unlimited r = false
 -- asks for. By the form something may follow the record: nothing; a name; two names; a name and a
 -- value of the size that the record says; a name, or a link's name and its text, and extensions;
 -- pairs of a node and a count, as many as the record says; or bytes that the call takes as they
--- are, to the end of the request. A call may want a room to put its reply's data into, and a
--- directory one for its records. `above` tells whether the record asks for more than the limits
+-- are, to the end of the request. A call may want space to put its reply's data into, and a
+-- directory some for its records. `above` tells whether the record asks for more than the limits
 -- allow, or than there is room for. INIT has a form of its own; some requests ask for nothing, and
 -- some aren't served.
 pub data Form : Type 1 where
@@ -231,58 +231,76 @@ pub data Form : Type 1 where
   Pairs : {R : Type 0} (layout : Layout R) (above : R → Bool) (count : R → ℕ)
       (call : R → List (ℕ × ℕ) → Call) → Form
   WithRest : {R : Type 0} (layout : Layout R) (call : R → (rest : List ℕ) → Call) → Form
-  IntoRoom : {R : Type 0} (layout : Layout R) (room : ℕ)
-      (call : R → (room_for_data : ℕ) → Call) → Form
-  Directories : {R : Type 0} (layout : Layout R) (above : R → Bool) (room : ℕ)
-      (listing : R → (room_for_records : ℕ) → Listing) → Form
+  IntoRoom : {R : Type 0} (layout : Layout R) (space : ℕ)
+      (call : R → (space_for_data : ℕ) → Call) → Form
+  Directories : {R : Type 0} (layout : Layout R) (above : R → Bool) (space : ℕ)
+      (listing : R → (space_for_records : ℕ) → Listing) → Form
   Versions : Form
   Silent : Form
   NotServed : Form
 
+-- For what a request may want memory: for nothing; for its tail; for its tail, and for a context among
+-- the extensions that these options have read; or for its pairs.
+pub data MemoryUse : Type 1 where
+  ForNothing : MemoryUse
+  ForTail : {R : Type 0} (layout : Layout R) → MemoryUse
+  ForTailAndContext : {R : Type 0} (layout : Layout R) (options : ℕ) → MemoryUse
+  ForPairs : {R : Type 0} (layout : Layout R) (above : R → Bool) (count : R → ℕ) → MemoryUse
+
+-- for what a request of each form may want it
+abbrev pub memory_use : Form → MemoryUse
+memory_use (NameTail layout above call) = ForTail layout
+memory_use (TwoNames layout call) = ForTail layout
+memory_use (NameAndValue layout size call) = ForTail layout
+memory_use (NameAndExtensions layout options call) = ForTailAndContext layout options
+memory_use (LinkAndExtensions layout options call) = ForTailAndContext layout options
+memory_use (Pairs layout above count call) = ForPairs layout above count
+memory_use _ = ForNothing
+
 -- What a request of each form asks, by the bytes behind its header: in which order it is refused,
--- and where memory is wanted.
+-- and where it wants memory for what it may want it for.
 abbrev pub ask_form : InHeader → (rest : List ℕ) → Form → Ask
 ask_form h rest (NoTail layout above call) =
     refused_or (layout_record layout rest) (λ r. within (above r) h (Asks (echo_of h) (call r)))
 ask_form h rest (NameTail layout above call) =
     refused_or (layout_record layout rest) (λ r.
     refused_or (tail_of h (layout_size layout) (behind layout rest)) (λ tail.
-    Copies (within (above r) h
+    WithMemory (within (above r) h
     (refused_or (name_in tail) (λ name. Asks (echo_of h) (call r name))))))
 ask_form h rest (TwoNames layout call) =
     refused_or (layout_record layout rest) (λ r.
     refused_or (tail_of h (layout_size layout) (behind layout rest)) (λ tail.
-    Copies (refused_or (names_in tail) (λ names. Asks (echo_of h) (call r names.0 names.1)))))
+    WithMemory (refused_or (names_in tail) (λ names. Asks (echo_of h) (call r names.0 names.1)))))
 ask_form h rest (NameAndValue layout size call) =
     refused_or (layout_record layout rest) (λ r.
     refused_or (tail_of h (layout_size layout) (behind layout rest)) (λ tail.
-    Copies (refused_or (value_in (size r) tail) (λ part. Asks (echo_of h) (call r part.0 part.1)))))
+    WithMemory (refused_or (value_in (size r) tail) (λ part. Asks (echo_of h) (call r part.0 part.1)))))
 ask_form h rest (NameAndExtensions layout options call) =
     refused_or (layout_record layout rest) (λ r.
     refused_or (tail_of h (layout_size layout) (behind layout rest)) (λ tail.
-    Copies (refused_or (extended_in options tail) (λ part.
+    WithMemory (refused_or (extended_in options tail) (λ part.
     Asks (echo_of h) (call r part.0 part.1)))))
 ask_form h rest (LinkAndExtensions layout options call) =
     refused_or (layout_record layout rest) (λ r.
     refused_or (tail_of h (layout_size layout) (behind layout rest)) (λ tail.
-    Copies (refused_or (link_in_tail options tail) (λ part.
+    WithMemory (refused_or (link_in_tail options tail) (λ part.
     Asks (echo_of h) (call r part.0 part.1 part.2)))))
 ask_form h rest (Pairs layout above count call) =
     refused_or (layout_record layout rest) (λ r.
     within (above r) h
     (refused_or (pairs_in (count r) (behind layout rest)) (λ pairs.
-    Copies (Asks (echo_of h) (call r pairs)))))
+    WithMemory (Asks (echo_of h) (call r pairs)))))
 ask_form h rest (WithRest layout call) =
     refused_or (layout_record layout rest) (λ r. Asks (echo_of h) (call r (behind layout rest)))
-ask_form h rest (IntoRoom layout room call) =
+ask_form h rest (IntoRoom layout space call) =
     refused_or (layout_record layout rest) (λ r.
-    refused_or (room_behind_header room) (λ room_for_data.
-    Asks (echo_of h) (call r room_for_data)))
-ask_form h rest (Directories layout above room listing) =
+    refused_or (space_behind_header space) (λ space_for_data.
+    Asks (echo_of h) (call r space_for_data)))
+ask_form h rest (Directories layout above space listing) =
     refused_or (layout_record layout rest) (λ r.
     within (above r) h
-    (refused_or (room_behind_header room) (λ room_for_records.
-    Lists (echo_of h) (listing r room_for_records))))
+    (refused_or (space_behind_header space) (λ space_for_records.
+    Lists (echo_of h) (listing r space_for_records))))
 ask_form h rest Versions =
     refused_or (record_of init_in_compat rest) (λ r.
     refused_or (second_flags r.flags (drop (size_of init_in_compat) rest)) (ask_version h r))

@@ -7,7 +7,7 @@ use Rattle.vfs_wire.specs.declared.entries.EntryOut.{EntryOut}
 use Rattle.vfs_files.specs.Calls.{Call, Readdir, Lookup, Forget, Failed, Found, Done}
 use Rattle.vfs_files.specs.Entries.{entry_out_of}
 use Rattle.vfs_files.specs.Items.{Item}
-use Rattle.vfs_files.specs.Runs.{Event, Called, Opened, Taken}
+use Rattle.vfs_files.specs.Runs.{Event, Called, OpenedDirectory, Taken}
 use Rattle.vfs_files.specs.declared.entry.Context.{Context}
 use Rattle.vfs_files.specs.declared.entry.Entry.{Entry}
 use Rattle.vfs_grammar.specs.Dirents.{Verdict, Fits, Full, Fails, verdict, record_bytes, record_len, FitsOption}
@@ -37,6 +37,10 @@ pub data Stop : Type 0 where
 abbrev pub is_dot : List ℕ → Bool
 is_dot name = bytes_eq name (codes ".") || bytes_eq name (codes "..")
 
+-- what a type of file is multiplied by in a mode, whose twelve low bits are permissions
+abbrev pub mode_per_type : ℕ
+mode_per_type = 4096
+
 -- the `EntryOut` of `.` and `..`: zeros, but for the item's number and its type as a mode
 abbrev pub dot_out : Item → EntryOut
 dot_out i = record {
@@ -56,7 +60,7 @@ dot_out i = record {
     atimensec = 0;
     mtimensec = 0;
     ctimensec = 0;
-    mode = (i.type_ * 4096) % 2 ^ 32;
+    mode = (i.type_ * mode_per_type) % 2 ^ 32;
     nlink = 0;
     uid = 0;
     gid = 0;
@@ -141,29 +145,29 @@ abbrev pub line_bytes : Line → List ℕ
 line_bytes l = bytes_got l.got l.item
 
 -- what becomes of an item that got this: one whose lookup failed fails with that fault
-abbrev pub judged : (max room : ℕ) → Got → Item → Verdict
-judged max room (Ok entry) i = verdict max room entry i
-judged max room (Err fault) i = Fails fault
+abbrev pub judged : (max space : ℕ) → Got → Item → Verdict
+judged max space (Ok entry) i = verdict max space entry i
+judged max space (Err fault) i = Fails fault
 
 -- what becomes of a line behind so many bytes of records
-abbrev pub fate : (size room written : ℕ) → Line → Verdict
-fate size room written l = judged (size - written) (room - written) l.got l.item
+abbrev pub fate : (size space written : ℕ) → Line → Verdict
+fate size space written l = judged (size - written) (space - written) l.got l.item
 
 -- ---- the whole
 
 -- these lines are written behind so many bytes of records: no stop applies to any of them
-abbrev pub AreWritten : (plus : Bool) (size room written : ℕ) → List Line → Type 0
-AreWritten plus size room written [] = ⊤
-AreWritten plus size room written (l ∷ ls) =
-    (fate size room written l ≡ Fits)
+abbrev pub AreWritten : (plus : Bool) (size space written : ℕ) → List Line → Type 0
+AreWritten plus size space written [] = ⊤
+AreWritten plus size space written (l ∷ ls) =
+    (fate size space written l ≡ Fits)
     × IsGot plus l
     × FitsGot l.got
-    × AreWritten plus size room (written + line_len l) ls
+    × AreWritten plus size space (written + line_len l) ls
 
 -- the stop applies behind so many bytes of records
-abbrev pub Stops : (plus : Bool) (size room written : ℕ) → Stop → Type 0
-Stops plus size room written End = ⊤
-Stops plus size room written (At l) = IsGot plus l × (fate size room written l ≢ Fits)
+abbrev pub Stops : (plus : Bool) (size space written : ℕ) → Stop → Type 0
+Stops plus size space written End = ⊤
+Stops plus size space written (At l) = IsGot plus l × (fate size space written l ≢ Fits)
 
 -- what is answered where an item fails behind so many bytes of records: for READDIR the fault, and
 -- for READDIRPLUS too where nothing was written, else how much was
@@ -177,26 +181,26 @@ answer_at plus written Full = Ok written
 answer_at plus written (Fails fault) = told plus written fault
 
 -- what is answered at a stop behind so many bytes of records
-abbrev pub answer_of : (plus : Bool) (size room written : ℕ) → Stop → Result ℕ (Option ℕ)
-answer_of plus size room written End = Ok written
-answer_of plus size room written (At l) = answer_at plus written (fate size room written l)
+abbrev pub answer_of : (plus : Bool) (size space written : ℕ) → Stop → Result ℕ (Option ℕ)
+answer_of plus size space written End = Ok written
+answer_of plus size space written (At l) = answer_at plus written (fate size space written l)
 
 -- A directory that is read from its iterator, for READDIR or, where `plus`, for READDIRPLUS, with
--- at most `size` bytes of records and this room for them. Lines are written whole, and then one
+-- at most `size` bytes of records and this space for them. Lines are written whole, and then one
 -- stop comes. That gives the events after `readdir`, the records, and the answer: how many bytes
 -- these have, or a fault in their place.
 pub record IsListing
-    (plus : Bool) (ctx : Context) (parent size room : ℕ)
+    (plus : Bool) (ctx : Context) (parent size space : ℕ)
     (events : List Event) (body : List ℕ) (result : Result ℕ (Option ℕ)) : Type 0 where
   pub lines : List Line
   pub stop : Stop
-  pub written : AreWritten plus size room 0 lines
-  pub stops : Stops plus size room (sum_by line_len lines) stop
+  pub written : AreWritten plus size space 0 lines
+  pub stops : Stops plus size space (sum_by line_len lines) stop
   pub events_are :
       events
       ≡ flat_map (line_events ctx parent plus) lines ++ stop_events ctx parent plus stop
   pub body_is : body ≡ flat_map line_bytes lines
-  pub answer_is : result ≡ answer_of plus size room (sum_by line_len lines) stop
+  pub answer_is : result ≡ answer_of plus size space (sum_by line_len lines) stop
 
 -- `readdir` failed: its fault is the answer, and nothing is taken
 pub record IsUnopened
@@ -209,16 +213,16 @@ pub record IsUnopened
 
 -- `readdir` handed back an iterator, and the directory is read from it
 pub record IsOpened
-    (plus : Bool) (call : Call) (ctx : Context) (parent size room : ℕ)
+    (plus : Bool) (call : Call) (ctx : Context) (parent size space : ℕ)
     (events : List Event) (body : List ℕ) (result : Result ℕ (Option ℕ)) : Type 0 where
   pub takings : List Event
-  pub events_are : events ≡ Opened call ∷ takings
-  pub listing : IsListing plus ctx parent size room takings body result
+  pub events_are : events ≡ OpenedDirectory call ∷ takings
+  pub listing : IsListing plus ctx parent size space takings body result
 
 -- a whole READDIR or, where `plus`, READDIRPLUS: its events, the records, and the answer
 abbrev pub IsDirectory :
-    (plus : Bool) (ctx : Context) (parent handle size offset room : ℕ)
+    (plus : Bool) (ctx : Context) (parent handle size offset space : ℕ)
     → List Event → List ℕ → Result ℕ (Option ℕ) → Type 0
-IsDirectory plus ctx parent handle size offset room events body result =
+IsDirectory plus ctx parent handle size offset space events body result =
     IsUnopened (Readdir ctx parent handle size offset) events body result
-    ⊎ IsOpened plus (Readdir ctx parent handle size offset) ctx parent size room events body result
+    ⊎ IsOpened plus (Readdir ctx parent handle size offset) ctx parent size space events body result

@@ -2,6 +2,7 @@
 use Rattle.std.specs.Prelude.{ℕ, zero, suc, ◌+◌, List, [], ◌∷◌, length, drop, nat_le, if◌then◌else◌}
 use Rattle.vfs_wire.specs.Fields.{number}
 use Rattle.vfs_grammar.specs.Dirents.{dirent_len}
+use Rattle.vfs_grammar.specs.Records.{entry_out_size, namelen_place}
 
 -- the number of the four bytes from this place on
 abbrev pub u32_at : ℕ → List ℕ → ℕ
@@ -11,10 +12,10 @@ u32_at place bytes = number 4 (drop place bytes)
 abbrev pub u64_at : ℕ → List ℕ → ℕ
 u64_at place bytes = number 8 (drop place bytes)
 
--- how long the record with an entry is that the bytes begin with: an `EntryOut` of 128 bytes, and a
--- `Dirent` with its name, whose length is the number at byte 16 of the `Dirent`
+-- how long the record with an entry is that the bytes begin with: an `EntryOut`, and a `Dirent` with
+-- its name, whose length stands in the `Dirent`
 abbrev pub len_at_front : List ℕ → ℕ
-len_at_front bytes = 128 + dirent_len (u32_at 144 bytes)
+len_at_front bytes = entry_out_size + dirent_len (u32_at namelen_place bytes)
 
 -- the nodes of the records that the bytes begin with, one after another, at most so many. They end
 -- where no whole record follows

@@ -4,8 +4,8 @@ use Rattle.vfs_flags.specs.Flags.{known_fs_options, supported_fs_options}
 use Rattle.vfs_files.specs.Calls.{Call, Init, Destroy, Answer, Options}
 
 -- the options that the client offers: of its two words of flags, those bits that are known
-abbrev pub offered : (flags flags2 : ℕ) → ℕ
-offered flags flags2 = bit_and (flags2 * 2 ^ 32 + flags) known_fs_options
+abbrev pub options_offered : (flags flags2 : ℕ) → ℕ
+options_offered flags flags2 = bit_and (flags2 * 2 ^ 32 + flags) known_fs_options
 
 -- the options agreed: those offered that the file system wants or the server supports
 abbrev pub agreed : (offered want : ℕ) → ℕ

@@ -20,7 +20,7 @@ use Rattle.vfs_wire.specs.declared.attributes.AttrOut.{AttrOut}
 use Rattle.vfs_wire.specs.declared.files.OpenOut.{OpenOut}
 use Rattle.vfs_wire.specs.declared.files.WriteOut.{WriteOut}
 use Rattle.vfs_wire.specs.declared.xattrs.GetxattrOut.{GetxattrOut}
-use Rattle.vfs_files.specs.Answers.{Kind, Quiet, Told, Untold, Data, Agreements, Entries, TimedAttributes, Openings, Creations, Capacities, Texts, TextsOrCounts, Offsets, Writes, Iterators, Faults, Answer, Done, Failed, Options, Found, Put, Attributes, Opened, Created, Statistics, Text, Count, Offset, Written}
+use Rattle.vfs_files.specs.Answers.{Kind, Quiet, Told, Untold, Data, Agreements, Entries, TimedAttributes, Openings, Creations, Capacities, Texts, TextsOrCounts, Offsets, Writes, Iterators, Faults, Answer, Done, Failed, Options, Found, Put, Attributes, Opened, Created, Statistics, Text, Count, Offset, Wrote}
 use Rattle.vfs_files.specs.Entries.{context_of, entry_out_of, whole_seconds, nanoseconds_beyond}
 use Rattle.vfs_files.specs.declared.entry.Context.{Context}
 use Rattle.vfs_grammar.specs.Limits.{max_pages}
@@ -144,7 +144,7 @@ body_of (Statistics statistics) = bytes_of kstatfs (kstatfs_of statistics)
 body_of (Text bytes) = bytes
 body_of (Count length) = bytes_of getxattr_out (getxattr_out_of length)
 body_of (Offset offset) = bytes_of lseek_out (record { offset = offset })
-body_of (Written count) = bytes_of write_out (write_out_of count)
+body_of (Wrote count) = bytes_of write_out (write_out_of count)
 body_of _ = []
 
 -- the reply to an answer: that of its fault, or a header and this body

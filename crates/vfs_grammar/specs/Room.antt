@@ -37,12 +37,12 @@ IsReplied NoReply room outcome room_after = (outcome ≡ Ok 0) × (room_after �
 IsReplied (Bytes reply) room outcome room_after = IsPut reply room outcome room_after
 IsReplied (OpenBehind reply) room outcome room_after = IsPutOpen reply room outcome room_after
 
--- whether what comes back fits into so much room
-abbrev pub fits : (room : ℕ) → Reply → Bool
-fits room (Bytes reply) = nat_le (length reply) room
-fits room _ = true
+-- whether what comes back fits into so much space
+abbrev pub fits : (space : ℕ) → Reply → Bool
+fits space (Bytes reply) = nat_le (length reply) space
+fits space _ = true
 
 -- the node of an entry that a client doesn't get to see: of one whose reply doesn't fit
-abbrev pub unseen : (room : ℕ) → Reply → Option ℕ → Option ℕ
-unseen room reply None = None
-unseen room reply (Some node) = if fits room reply then None else Some node
+abbrev pub unseen : (space : ℕ) → Reply → Option ℕ → Option ℕ
+unseen space reply None = None
+unseen space reply (Some node) = if fits space reply then None else Some node

@@ -4,7 +4,7 @@ use Rattle.vfs_files.specs.Calls.{Call, Answer, Found, Created, Kind, Entries, C
 use Rattle.vfs_files.specs.Runs.{Event, Called}
 use Rattle.vfs_files.specs.declared.entry.Context.{Context}
 use Rattle.vfs_grammar.specs.Listing.{IsDirectory, given_back}
-use Rattle.vfs_grammar.specs.Forms.{Listing, Ask, Ends, Asks, Lists, Copies}
+use Rattle.vfs_grammar.specs.Forms.{Listing, Ask, Ends, Asks, Lists, WithMemory}
 use Rattle.vfs_grammar.specs.Ask.{ask}
 use Rattle.vfs_grammar.specs.Options.{options_after}
 use Rattle.vfs_grammar.specs.Reply.{Reply, Refusal, reply_of}
@@ -17,7 +17,7 @@ use Rattle.vfs_grammar.specs.declared.error.Error.TheVariants.{OutOfMemory}
 -- their place
 abbrev pub IsRead : Listing → List Event → (records : List ℕ) → Result ℕ (Option ℕ) → Type 0
 IsRead l events records answer =
-    IsDirectory l.plus l.ctx l.parent l.handle l.size l.offset l.room events records answer
+    IsDirectory l.plus l.ctx l.parent l.handle l.size l.offset l.space events records answer
 
 -- a node whose lookups are counted: any but 0
 abbrev pub counted : (node : ℕ) → Option ℕ
@@ -29,13 +29,13 @@ node_answered Entries (Found entry) = counted entry.inode
 node_answered Creations (Created entry handle options) = counted entry.inode
 node_answered _ _ = None
 
--- Who tells what happened at a request: how much room there was; that the file system wasn't
+-- Who tells what happened at a request: how much space there was for the reply; that the file system wasn't
 -- called; that it was called, so, with this answer, and that one lookup of a node, if there is one,
 -- was then given back for this caller; that a directory was read, with these records and this
 -- answer; and that this came back to the client; and that there was no memory for a copy, and no
 -- call.
 pub record Witness : Type 1 where
-  pub room : ℕ
+  pub space : ℕ
   pub no_call : Type 0
   pub called : Call → Answer → Context → (back : Option ℕ) → Type 0
   pub listed : Listing → (records : List ℕ) → Result ℕ (Option ℕ) → Type 0
@@ -50,7 +50,7 @@ Follows w limits options (Ends reply) after = w.no_call × w.replied reply × (a
 Follows w limits options (Asks echo call) after =
     (answer : Answer)
     × w.called call answer echo.ctx
-    (unseen w.room (reply_of limits echo after (kind_of call) answer)
+    (unseen w.space (reply_of limits echo after (kind_of call) answer)
     (node_answered (kind_of call) answer))
     × IsAnswer (kind_of call) answer
     × w.replied (reply_of limits echo after (kind_of call) answer)
@@ -60,7 +60,7 @@ Follows w limits options (Lists echo listing) after =
     × IsAnswer (Data listing.size) (read_answer answer records)
     × w.replied (reply_of limits echo after (Data listing.size) (read_answer answer records))
     × (after ≡ options)
-Follows w limits options (Copies rest) after =
+Follows w limits options (WithMemory rest) after =
     Follows w limits options rest after
     ⊎ (w.no_memory × w.replied (Refusal OutOfMemory) × (after ≡ options))
 
@@ -75,7 +75,7 @@ pub record Turn : Type 0 where
 -- what a turn tells: by its events, its outcome and its room
 abbrev pub turn_tells : Turn → Witness
 turn_tells t = record {
-  room = length t.room;
+  space = length t.room;
   no_call = t.events ≡ [];
   called = λ call answer ctx back. t.events ≡ Called call answer ∷ given_back ctx back;
   listed = λ listing records answer. IsRead listing t.events records answer;

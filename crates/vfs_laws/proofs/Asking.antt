@@ -17,7 +17,7 @@ use Rattle.vfs_files.specs.Names.{name_of, first_name}
 use Rattle.vfs_grammar.specs.Limits.{max_len}
 use Rattle.vfs_grammar.specs.Records.{size_of, record_of}
 use Rattle.vfs_grammar.specs.Ask.{form_of, ask_number, ask_header, ask, header_of}
-use Rattle.vfs_grammar.specs.Forms.{second_or_refusal, both_or_refusal, sized_or_refusal, Listing, Ask, Ends, Asks, Lists, Copies, refused, silent, within, refused_or, tail_of, name_or_refusal, pairs_of, pairs_in, second_flags, flags2_in, ask_version, Layout, Without, Record, layout_record, Form, NoTail, NameTail, TwoNames, NameAndValue, NameAndExtensions, LinkAndExtensions, Pairs, WithRest, IntoRoom, Directories, Versions, Silent, NotServed, room_behind_header, ask_form, extended_in, link_in_tail}
+use Rattle.vfs_grammar.specs.Forms.{second_or_refusal, both_or_refusal, sized_or_refusal, Listing, Ask, Ends, Asks, Lists, WithMemory, refused, silent, within, refused_or, tail_of, name_or_refusal, pairs_of, pairs_in, second_flags, flags2_in, ask_version, Layout, Without, Record, layout_record, Form, NoTail, NameTail, TwoNames, NameAndValue, NameAndExtensions, LinkAndExtensions, Pairs, WithRest, IntoRoom, Directories, Versions, Silent, NotServed, space_behind_header, ask_form, extended_in, link_in_tail}
 use Rattle.vfs_laws.specs.Turns.{unique_of, opcode_in}
 use Rattle.vfs_grammar.specs.Reply.{Bytes, Echo, fault_reply, body_reply, version_out}
 use Rattle.vfs_grammar.specs.declared.limits.Limits.{Limits}
@@ -89,7 +89,7 @@ module _ (P : Ask → Type 0) (unique : ℕ) (each : EachCase P unique) where
   room_test false room n next test cramped p = p
 
   pub room_cases : (room : ℕ) (next : ℕ → Ask) → (room < size_of out_header → P (refused EncodeMessage))
-      → ((room_for_data : ℕ) → P (next room_for_data)) → P (refused_or (room_behind_header room) next)
+      → ((room_for_data : ℕ) → P (next room_for_data)) → P (refused_or (space_behind_header room) next)
   room_cases room next cramped p =
       room_test (nat_lt room (size_of out_header)) room (room - size_of out_header) next refl cramped (p (room - size_of out_header))
 
@@ -142,7 +142,7 @@ module _ (P : Ask → Type 0) (unique : ℕ) (each : EachCase P unique) where
       record_cases init_in_compat rest _ (λ r is.
       second_cases r.flags (drop (size_of init_in_compat) rest) (ask_version h r) (λ flags2. version_cases h r flags2 e))
 
-  module _ (copies : (a : Ask) → P a → P (Copies a)) where
+  module _ (copies : (a : Ask) → P a → P (WithMemory a)) where
     -- P holds of what a request of each form asks
     form_cases : (h : InHeader) (rest : List ℕ) (form : Form) → h.unique ≡ unique → (IsCramped form → P (refused EncodeMessage))
         → P (ask_form h rest form)

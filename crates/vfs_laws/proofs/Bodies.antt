@@ -15,7 +15,7 @@ use Rattle.vfs_wire.specs.Stat.{kstatfs_of}
 use Rattle.vfs_wire.specs.Xattrs.{getxattr_out}
 use Rattle.vfs_wire.specs.Init.{init_out}
 use Rattle.vfs_wire.specs.declared.init.InitOut.{InitOut}
-use Rattle.vfs_files.specs.Answers.{Kind, Quiet, Told, Untold, Data, Agreements, Entries, TimedAttributes, Openings, Creations, Capacities, Texts, TextsOrCounts, Offsets, Writes, Iterators, Faults, IsAnswer, Answer, Done, Failed, Options, Found, Put, Attributes, Opened, Created, Statistics, Text, Count, Offset, Written}
+use Rattle.vfs_files.specs.Answers.{Kind, Quiet, Told, Untold, Data, Agreements, Entries, TimedAttributes, Openings, Creations, Capacities, Texts, TextsOrCounts, Offsets, Writes, Iterators, Faults, IsAnswer, Answer, Done, Failed, Options, Found, Put, Attributes, Opened, Created, Statistics, Text, Count, Offset, Wrote}
 use Rattle.vfs_files.specs.Entries.{entry_out_of}
 use Rattle.vfs_files.specs.declared.entry.Entry.{Entry}
 use Rattle.vfs_grammar.specs.Reply.{Reply, NoReply, Bytes, OpenBehind, Echo, body_of, answer_reply, reply_of, fault_reply, fault_number, body_reply, attr_out_of, init_out_of, open_out_of, getxattr_out_of, write_out_of}
@@ -67,7 +67,7 @@ bodies_are_short Texts (Text bytes) a = a
 bodies_are_short TextsOrCounts (Text bytes) a = a
 bodies_are_short TextsOrCounts (Count n) a = omega (arith, length-getxattr_out n)
 bodies_are_short Offsets (Offset offset) a = omega (arith, length-lseek_out offset)
-bodies_are_short Writes (Written count) a = omega (arith, length-write_out count)
+bodies_are_short Writes (Wrote count) a = omega (arith, length-write_out count)
 bodies_are_short _ _ a = absurd a
 
 -- bytes that begin with the header of their own length, which it can say

@@ -9,7 +9,7 @@ use Rattle.vfs_files.specs.Extensions.{ExtensionValues}
 use Rattle.vfs_files.specs.Calls.{Found, Created, Done, Text}
 use Rattle.vfs_files.specs.Calls as call
 use Rattle.vfs_files.specs.Items.{Item}
-use Rattle.vfs_files.specs.Runs.{Event, Called, Opened, Taken}
+use Rattle.vfs_files.specs.Runs.{Event, Called, OpenedDirectory, Taken}
 use Rattle.vfs_grammar.specs.Listing.{given_back}
 use Rattle.vfs_grammar.specs.Turn.{Turn, events_in}
 use Rattle.vfs_grammar.specs.declared.error.Error.{Error}
@@ -227,7 +227,7 @@ item ino offset type_ name = record { ino = ino; offset = offset; type_ = type_;
 abbrev listed : Turn
 listed =
     readdirplus
-    (Opened (call.Readdir nobody 1 0 479 0) ∷ Taken (Some (item 1 1 4 (0x2e ∷ [])))
+    (OpenedDirectory (call.Readdir nobody 1 0 479 0) ∷ Taken (Some (item 1 1 4 (0x2e ∷ [])))
     ∷ Taken (Some (item 1 2 4 (0x2e ∷ 0x2e ∷ []))) ∷ Taken (Some (item 2 3 8 (0x61 ∷ [])))
     ∷ Called (call.Lookup nobody 1 (0x61 ∷ [])) (Found (node 2)) ∷ Called (call.Forget nobody 2 1) Done ∷ [])
     (record_of 0 1 1 4 (0x2e ∷ []) 7 ++ record_of 0 1 2 4 (0x2e ∷ 0x2e ∷ []) 6)

@@ -32,7 +32,7 @@ module _ (limits : Limits) (options after : ℕ) (t : Turn) (echo : Echo) (l : L
 
   few_by : (records : List ℕ) (answer : Result ℕ (Option ℕ)) → IsRead l t.events records answer → TakesFew l t
   few_by records answer (inl u) = rw u.events_are (omega arith)
-  few_by records answer (inr o) = rw o.events_are (takings_bounded l.plus l.ctx l.parent l.size l.room o.takings records answer o.listing)
+  few_by records answer (inr o) = rw o.events_are (takings_bounded l.plus l.ctx l.parent l.size l.space o.takings records answer o.listing)
 
   pub few : TakesFew l t
   few = let s = stops in few_by s.records s.answer s.stops
@@ -41,8 +41,8 @@ module _ (limits : Limits) (options after : ℕ) (t : Turn) (echo : Echo) (l : L
   whole_by s (inl u) taken opened room goes = absurd (let a = sym u.events_are ∙ opened in cc)
   whole_by s (inr o) taken opened room goes =
       let same : o.takings ≡ taken = (let a = sym o.events_are ∙ opened in cc) in
-      let is : IsListing l.plus l.ctx l.parent l.size l.room taken s.records s.answer = subst (λ es. IsListing l.plus l.ctx l.parent l.size l.room es s.records s.answer) same o.listing in
-      let whole = listing_whole l.plus l.ctx l.parent l.size l.room taken s.records s.answer is room goes in
+      let is : IsListing l.plus l.ctx l.parent l.size l.space taken s.records s.answer = subst (λ es. IsListing l.plus l.ctx l.parent l.size l.space es s.records s.answer) same o.listing in
+      let whole = listing_whole l.plus l.ctx l.parent l.size l.space taken s.records s.answer is room goes in
       record {
         records = s.records;
         whole = subst (λ r. IsWhole l.plus l.ctx l.parent l.size taken s.records r) whole.answer_is whole;

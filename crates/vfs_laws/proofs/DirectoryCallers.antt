@@ -4,7 +4,7 @@ use Rattle.vfs_flags.specs.Opcode.{opcode_of}
 use Rattle.vfs_wire.specs.Fields.{little, number}
 use Rattle.vfs_files.specs.Calls.{Call, Readdir, Answer, Failed}
 use Rattle.vfs_files.specs.Items.{Item}
-use Rattle.vfs_files.specs.Runs.{Event, Called, Opened, Taken}
+use Rattle.vfs_files.specs.Runs.{Event, Called, OpenedDirectory, Taken}
 use Rattle.vfs_grammar.specs.Directories.{takings, IsWhole, listing_reply}
 use Rattle.vfs_grammar.specs.Listing.{IsDirectory}
 use Rattle.vfs_grammar.specs.Samples.{file_a, nobody, reply_of_one_file, refused_reply, request_for_data}
@@ -23,7 +23,7 @@ echo = record { unique = 9; max_readahead = 0; ctx = nobody }
 -- the directory that is read
 abbrev pub listing : (plus : Bool) (size : ℕ) → Listing
 listing plus size =
-    record { plus = plus; ctx = nobody; parent = 1; handle = 0; size = size; offset = 0; room = size }
+    record { plus = plus; ctx = nobody; parent = 1; handle = 0; size = size; offset = 0; space = size }
 
 -- what a request asks, by its bytes and its room
 asks_by : (options room n : ℕ) (request bytes : List ℕ) (a : Ask) → request ≡ bytes → room ≡ n
@@ -85,13 +85,13 @@ module _ (room : List ℕ) (outcome : Result ℕ Error) (room_after : List ℕ) 
 
 -- two items are more than one
 pub not_two : (events : List Event) (first second : Option Item) (more : List Event) (call : Call)
-    → events ≡ Opened call ∷ Taken first ∷ Taken second ∷ more → length (takings events) ≤ 23 / 24 + 1
+    → events ≡ OpenedDirectory call ∷ Taken first ∷ Taken second ∷ more → length (takings events) ≤ 23 / 24 + 1
     → ⊥
 not_two events first second more call e few =
     let two = subst (λ (es : List Event). length (takings es) ≤ 23 / 24 + 1) e few in omega arith
 
 pub not_two_with_entries : (events : List Event) (first second : Option Item) (more : List Event) (call lookup : Call) (answer : Answer)
-    → events ≡ Opened call ∷ Taken first ∷ Called lookup answer ∷ Taken second ∷ more → length (takings events) ≤ 151 / 152 + 1
+    → events ≡ OpenedDirectory call ∷ Taken first ∷ Called lookup answer ∷ Taken second ∷ more → length (takings events) ≤ 151 / 152 + 1
     → ⊥
 not_two_with_entries events first second more call lookup answer e few =
     let two = subst (λ (es : List Event). length (takings es) ≤ 151 / 152 + 1) e few in omega arith

@@ -20,8 +20,8 @@ use Rattle.vfs_grammar.specs.Listing.{given_back}
 use Rattle.vfs_grammar.specs.Limits.{max_len}
 use Rattle.vfs_grammar.specs.Records.{size_of}
 use Rattle.vfs_grammar.specs.Ask.{form_of, ask, ask_number}
-use Rattle.vfs_grammar.specs.Forms.{Listing, Ask, Ends, Asks, Lists, Copies, refused, Form, NoTail, NameTail, TwoNames, NameAndValue, NameAndExtensions, LinkAndExtensions, Pairs, WithRest, IntoRoom, Directories, Versions, Silent, NotServed, Layout, refused_or, layout_record, layout_size, tail_of, behind, ask_form}
-use Rattle.vfs_laws.specs.Turns.{TailIsWhole, MayLackMemory, unique_of, BeginsWithHeader, AreAgreed, WantsMemory, MayLackBehind}
+use Rattle.vfs_grammar.specs.Forms.{Listing, Ask, Ends, Asks, Lists, WithMemory, refused, Form, NoTail, NameTail, TwoNames, NameAndValue, NameAndExtensions, LinkAndExtensions, Pairs, WithRest, IntoRoom, Directories, Versions, Silent, NotServed, Layout, refused_or, layout_record, layout_size, tail_of, behind, ask_form, memory_use}
+use Rattle.vfs_laws.specs.Turns.{TailIsWhole, HasWhole, unique_of, BeginsWithHeader, AreAgreed, WantsMemory, WantsMemoryBehind}
 use Rattle.vfs_grammar.specs.Options.{agreed, options_after}
 use Rattle.vfs_grammar.specs.Reply.{Reply, Echo, echo_of, Refusal, NoReply, Bytes, OpenBehind, fault_reply, body_reply, reply_of, version_out}
 use Rattle.vfs_grammar.specs.Room.{IsReplied, unseen}
@@ -63,8 +63,8 @@ nothing_follows : (limits : Limits) (options : ℕ) (a : Ask) (t : Turn) (after 
 nothing_follows limits options (Ends reply) t after e f o n = (f.0, ended_so reply t.room t.outcome t.room_after e f.1 o n, f.2)
 nothing_follows limits options (Asks echo call) t after e f o n = absurd (n (answer_error limits echo after (kind_of call) f.0 t.room t.outcome t.room_after e f.2 f.3 o))
 nothing_follows limits options (Lists echo l) t after e f o n = absurd (n (answer_error limits echo after (Data l.size) (read_answer f.1 f.0) t.room t.outcome t.room_after e f.3 f.4 o))
-nothing_follows limits options (Copies rest) t after e (inl f) o n = nothing_follows limits options rest t after e f o n
-nothing_follows limits options (Copies rest) t after e (inr f) o n = (f.0, f.1.1, f.2)
+nothing_follows limits options (WithMemory rest) t after e (inl f) o n = nothing_follows limits options rest t after e f o n
+nothing_follows limits options (WithMemory rest) t after e (inr f) o n = (f.0, f.1.1, f.2)
 
 pub nothing_changed : (limits : Limits) (options after : ℕ) (t : Turn) (e : Error) → IsTurn limits options t after → t.outcome ≡ Err e → e ≢ EncodeMessage → (t.events ≡ []) × (t.room_after ≡ t.room) × (after ≡ options)
 nothing_changed limits options after t e f o n = nothing_follows limits options (ask limits options (length t.room) t.request) t after e f o n
@@ -140,7 +140,7 @@ module _ (limits : Limits) (options after : ℕ) (t : Turn) (lacks : t.outcome �
   -- where memory may be wanted by the form, it is; behind a request of another form it isn't
   memory_tail : {R : Type 0} (h : InHeader) (rest : List ℕ) (l : Layout R) (next : R → List ℕ → Ask)
       → Gives (TailIsWhole h rest l)
-      (refused_or (layout_record l rest) (λ r. refused_or (tail_of h (layout_size l) (behind l rest)) (λ tail. Copies (next r tail))))
+      (refused_or (layout_record l rest) (λ r. refused_or (tail_of h (layout_size l) (behind l rest)) (λ tail. WithMemory (next r tail))))
   unfolding Gives
   memory_tail h rest l next =
       let Q = TailIsWhole h rest l in
@@ -148,10 +148,10 @@ module _ (limits : Limits) (options after : ℕ) (t : Turn) (lacks : t.outcome �
       layout_cases (Gives Q) h.unique all l rest _ (λ r is.
       tail_cases (Gives Q) h.unique all h _ _ _ (λ tail whole f. record { whole_record = is_ok _ r is; whole_tail = is_ok _ tail whole }))
 
-  memory_form : (h : InHeader) (rest : List ℕ) (form : Form) → Gives (MayLackMemory h rest form) (ask_form h rest form)
+  memory_form : (h : InHeader) (rest : List ℕ) (form : Form) → Gives (HasWhole h rest (memory_use form)) (ask_form h rest form)
   unfolding Gives
   memory_form h rest (NoTail l above call) =
-      let Q = MayLackMemory h rest (NoTail l above call) in
+      let Q = HasWhole h rest (memory_use (NoTail l above call)) in
       let all = each Q h.unique in
       layout_cases (Gives Q) h.unique all l rest _ (λ r is.
       within_cases (Gives Q) h.unique all (above r) h _ refl (λ no. all.asks _ _ refl))
@@ -161,7 +161,7 @@ module _ (limits : Limits) (options after : ℕ) (t : Turn) (lacks : t.outcome �
   memory_form h rest (NameAndExtensions l options call) = memory_tail h rest l _
   memory_form h rest (LinkAndExtensions l options call) = memory_tail h rest l _
   memory_form h rest (Pairs l above count call) =
-      let Q = MayLackMemory h rest (Pairs l above count call) in
+      let Q = HasWhole h rest (memory_use (Pairs l above count call)) in
       let all = each Q h.unique in
       layout_cases (Gives Q) h.unique all l rest _ (λ r is.
       within_cases (Gives Q) h.unique all (above r) h _ refl (λ no.
@@ -172,27 +172,27 @@ module _ (limits : Limits) (options after : ℕ) (t : Turn) (lacks : t.outcome �
         whole_pairs = is_ok _ pairs whole;
       })))
   memory_form h rest (WithRest l call) =
-      let Q = MayLackMemory h rest (WithRest l call) in
+      let Q = HasWhole h rest (memory_use (WithRest l call)) in
       let all = each Q h.unique in
       layout_cases (Gives Q) h.unique all l rest _ (λ r is. all.asks _ _ refl)
   memory_form h rest (IntoRoom l room call) =
-      let Q = MayLackMemory h rest (IntoRoom l room call) in
+      let Q = HasWhole h rest (memory_use (IntoRoom l room call)) in
       let all = each Q h.unique in
       layout_cases (Gives Q) h.unique all l rest _ (λ r is.
       room_cases (Gives Q) h.unique all room _ (cramped Q) (λ room_for_data. all.asks _ _ refl))
   memory_form h rest (Directories l above room listing) =
-      let Q = MayLackMemory h rest (Directories l above room listing) in
+      let Q = HasWhole h rest (memory_use (Directories l above room listing)) in
       let all = each Q h.unique in
       layout_cases (Gives Q) h.unique all l rest _ (λ r is.
       within_cases (Gives Q) h.unique all (above r) h _ refl (λ no.
       room_cases (Gives Q) h.unique all room _ (cramped Q) (λ room_for_records. all.lists (echo_of h) (listing r room_for_records) refl)))
   memory_form h rest Versions =
-      versions_cases (Gives (MayLackMemory h rest Versions)) h.unique (each (MayLackMemory h rest Versions) h.unique) h rest refl
-  memory_form h rest Silent = (each (MayLackMemory h rest Silent) h.unique).nothing
-  memory_form h rest NotServed = (each (MayLackMemory h rest NotServed) h.unique).fault (Some enosys)
+      versions_cases (Gives (HasWhole h rest (memory_use Versions))) h.unique (each (HasWhole h rest (memory_use Versions)) h.unique) h rest refl
+  memory_form h rest Silent = (each (HasWhole h rest (memory_use Silent)) h.unique).nothing
+  memory_form h rest NotServed = (each (HasWhole h rest (memory_use NotServed)) h.unique).fault (Some enosys)
 
-  memory_number : (room : ℕ) (opcode : Option Opcode) (h : InHeader) (rest : List ℕ) → Gives (MayLackBehind limits options room opcode h rest) (ask_number limits options room opcode h rest)
-  memory_number room None h rest = (each (MayLackBehind limits options room None h rest) h.unique).fault (Some enosys)
+  memory_number : (room : ℕ) (opcode : Option Opcode) (h : InHeader) (rest : List ℕ) → Gives (WantsMemoryBehind limits options room opcode h rest) (ask_number limits options room opcode h rest)
+  memory_number room None h rest = (each (WantsMemoryBehind limits options room None h rest) h.unique).fault (Some enosys)
   memory_number room (Some opcode) h rest = memory_form h rest (form_of limits options room h opcode)
 
   memory_header : (room : ℕ) (request : List ℕ) (short over : Bool) → nat_lt (length request) (size_of in_header) ≡ short → nat_lt (max_len limits) (value_of in_header request).len ≡ over
@@ -319,8 +319,8 @@ after_call limits options (Asks echo c) t after call answer f e =
     let answered : f.0 ≡ answer = cc in
     f.4 ∙ ap (λ (x : Call). options_after x f.0 options) same ∙ ap (λ (x : Answer). options_after call x options) answered
 after_call limits options (Lists echo l) t after call answer f e = f.5 ∙ sym (listed_alone l t.events f.0 f.1 call answer options f.2 e)
-after_call limits options (Copies rest) t after call answer (inl f) e = after_call limits options rest t after call answer f e
-after_call limits options (Copies rest) t after call answer (inr f) e = absurd (let a = sym f.0 ∙ e in cc)
+after_call limits options (WithMemory rest) t after call answer (inl f) e = after_call limits options rest t after call answer f e
+after_call limits options (WithMemory rest) t after call answer (inr f) e = absurd (let a = sym f.0 ∙ e in cc)
 
 pub agrees : (limits : Limits) (options after offered want : ℕ) (t : Turn) → IsTurn limits options t after → t.events ≡ Called (Init offered) (Options want) ∷ [] → AreAgreed offered after
 agrees limits options after offered want t f e =
@@ -348,8 +348,8 @@ keeps limits options (Asks echo call) t after f no_init no_destroy =
     f.4
     ∙ call_keeps call f.0 options t.events echo.ctx (length t.room) (reply_of limits echo after (kind_of call) f.0) f.1 no_init no_destroy
 keeps limits options (Lists echo l) t after f no_init no_destroy = f.5
-keeps limits options (Copies rest) t after (inl f) no_init no_destroy = keeps limits options rest t after f no_init no_destroy
-keeps limits options (Copies rest) t after (inr f) no_init no_destroy = f.2
+keeps limits options (WithMemory rest) t after (inl f) no_init no_destroy = keeps limits options rest t after f no_init no_destroy
+keeps limits options (WithMemory rest) t after (inr f) no_init no_destroy = f.2
 
 pub kept : (limits : Limits) (options after : ℕ) (t : Turn) → IsTurn limits options t after
     → ((offered want : ℕ) → t.events ≢ Called (Init offered) (Options want) ∷ []) → ((answer : Answer) → t.events ≢ Called Destroy answer ∷ [])
@@ -379,8 +379,8 @@ called_kind limits options (Asks echo c) t after call answer rest f e =
     let answered : f.0 ≡ answer = cc in
     subst (λ x. IsAnswer (kind_of x) answer) same (subst (λ x. IsAnswer (kind_of c) x) answered f.2)
 called_kind limits options (Lists echo l) t after call answer rest f e = listed_kind l t.events f.0 f.1 call answer rest f.2 e f.3
-called_kind limits options (Copies next) t after call answer rest (inl f) e = called_kind limits options next t after call answer rest f e
-called_kind limits options (Copies next) t after call answer rest (inr f) e = absurd (let a = sym f.0 ∙ e in cc)
+called_kind limits options (WithMemory next) t after call answer rest (inl f) e = called_kind limits options next t after call answer rest f e
+called_kind limits options (WithMemory next) t after call answer rest (inr f) e = absurd (let a = sym f.0 ∙ e in cc)
 
 pub of_its_kind : (limits : Limits) (options after : ℕ) (call : Call) (answer : Answer) (rest : List Event) (t : Turn) → IsTurn limits options t after
     → t.events ≡ Called call answer ∷ rest → IsAnswer (kind_of call) answer

@@ -9,10 +9,10 @@ use Rattle.vfs_wire.specs.declared.stat.Statvfs64.{Statvfs64}
 use Rattle.vfs_files.specs.declared.entry.Context.{Context}
 use Rattle.vfs_files.specs.declared.entry.Entry.{Entry}
 use Rattle.vfs_files.specs.Calls as call
-use Rattle.vfs_files.specs.Answers.{Done, Failed, Options, Found, Attributes, Put, Opened, Created, Statistics, Text, Count, Offset, Written, Agreements, Data, Entries, Told, Untold, TimedAttributes, Openings, Creations, Capacities, Texts, TextsOrCounts, Offsets, Writes, Faults}
+use Rattle.vfs_files.specs.Answers.{Done, Failed, Options, Found, Attributes, Put, Opened, Created, Statistics, Text, Count, Offset, Wrote, Agreements, Data, Entries, Told, Untold, TimedAttributes, Openings, Creations, Capacities, Texts, TextsOrCounts, Offsets, Writes, Faults}
 use Rattle.vfs_grammar.specs.Ask.{ask}
 use Rattle.vfs_grammar.specs.Extensions.{extensions_in, cut_of, no_extensions}
-use Rattle.vfs_grammar.specs.Forms.{Ask, Ends, Asks, Lists, Copies, refused, silent}
+use Rattle.vfs_grammar.specs.Forms.{Ask, Ends, Asks, Lists, WithMemory, refused, silent}
 use Rattle.vfs_grammar.specs.declared.limits.Limits.{Limits}
 use Rattle.vfs_grammar.specs.Limits.{default_limits}
 use Rattle.vfs_grammar.specs.Options.{agreed, options_after}
@@ -76,11 +76,11 @@ lookup_of_len_39 : ask usual 0 144 (header 39 1 9 1) ≡ refused InvalidHeaderLe
 unfolding number little opcode_of
 lookup_of_len_39 = refl
 
-lookup_of_nothing : ask usual 0 144 (header 40 1 9 1) ≡ Copies (refused InvalidCString)
+lookup_of_nothing : ask usual 0 144 (header 40 1 9 1) ≡ WithMemory (refused InvalidCString)
 unfolding number little opcode_of
 lookup_of_nothing = refl
 
-lookup_of_two_nuls : ask usual 0 144 (header 43 1 9 1 ++ (0x61 ∷ 0 ∷ 0 ∷ [])) ≡ Copies (refused InvalidCString)
+lookup_of_two_nuls : ask usual 0 144 (header 43 1 9 1 ++ (0x61 ∷ 0 ∷ 0 ∷ [])) ≡ WithMemory (refused InvalidCString)
 unfolding number little opcode_of
 lookup_of_two_nuls = refl
 
@@ -88,11 +88,11 @@ lookup_past_the_end : ask usual 0 144 (header 44 1 9 1 ++ (0x61 ∷ 0 ∷ [])) �
 unfolding number little opcode_of
 lookup_past_the_end = refl
 
-lookup_of_the_empty_name : ask usual 0 144 (header 41 1 9 1 ++ (0 ∷ [])) ≡ Copies (Asks (echo 9) (call.Lookup nobody 1 []))
+lookup_of_the_empty_name : ask usual 0 144 (header 41 1 9 1 ++ (0 ∷ [])) ≡ WithMemory (Asks (echo 9) (call.Lookup nobody 1 []))
 unfolding number little opcode_of
 lookup_of_the_empty_name = refl
 
-lookup_of_a : ask usual 0 144 (header 42 1 9 1 ++ (0x61 ∷ 0 ∷ [])) ≡ Copies (Asks (echo 9) (call.Lookup nobody 1 (0x61 ∷ [])))
+lookup_of_a : ask usual 0 144 (header 42 1 9 1 ++ (0x61 ∷ 0 ∷ [])) ≡ WithMemory (Asks (echo 9) (call.Lookup nobody 1 (0x61 ∷ [])))
 unfolding number little opcode_of
 lookup_of_a = refl
 
@@ -130,7 +130,7 @@ interrupt : ask usual 0 16 (header 40 36 9 1) ≡ silent
 unfolding number little opcode_of
 interrupt = refl
 
-forget_of_two : ask usual 0 0 (header 80 42 9 0 ++ ((four 2 ++ four 0) ++ (((5 ∷ zeros 7) ++ (1 ∷ zeros 7)) ++ ((6 ∷ zeros 7) ++ (2 ∷ zeros 7))))) ≡ Copies (Asks (echo 9) (call.BatchForget nobody ((5, 1) ∷ (6, 2) ∷ [])))
+forget_of_two : ask usual 0 0 (header 80 42 9 0 ++ ((four 2 ++ four 0) ++ (((5 ∷ zeros 7) ++ (1 ∷ zeros 7)) ++ ((6 ∷ zeros 7) ++ (2 ∷ zeros 7))))) ≡ WithMemory (Asks (echo 9) (call.BatchForget nobody ((5, 1) ∷ (6, 2) ∷ [])))
 unfolding number little opcode_of
 forget_of_two = refl
 
@@ -213,7 +213,7 @@ read_by_all_flags_but_that_of_the_owner = refl
 -- and only then the room by a header
 abbrev listed : (plus : Bool) → (handle size offset room : ℕ) → Ask
 listed plus handle size offset room =
-    Lists (echo 9) (record { plus = plus; ctx = nobody; parent = 1; handle = handle; size = size; offset = offset; room = room })
+    Lists (echo 9) (record { plus = plus; ctx = nobody; parent = 1; handle = handle; size = size; offset = offset; space = room })
 
 readdir : ask usual 0 112 (header 80 28 9 1 ++ (((eight 7 ++ eight 2) ++ four 96) ++ zeros 20)) ≡ listed false 7 96 2 96
 unfolding number little opcode_of
@@ -346,126 +346,126 @@ unfolding number little opcode_of
 setupmapping = refl
 
 -- UNLINK of a name, and LINK: the record's node gets a name in the header's directory
-unlink : ask usual 0 16 (header 42 10 9 1 ++ (0x61 ∷ 0 ∷ [])) ≡ Copies (Asks (echo 9) (call.Unlink nobody 1 (0x61 ∷ [])))
+unlink : ask usual 0 16 (header 42 10 9 1 ++ (0x61 ∷ 0 ∷ [])) ≡ WithMemory (Asks (echo 9) (call.Unlink nobody 1 (0x61 ∷ [])))
 unfolding number little opcode_of
 unlink = refl
 
-link : ask usual 0 144 (header 50 13 9 1 ++ (eight 5 ++ (0x61 ∷ 0 ∷ []))) ≡ Copies (Asks (echo 9) (call.Link nobody 5 1 (0x61 ∷ [])))
+link : ask usual 0 144 (header 50 13 9 1 ++ (eight 5 ++ (0x61 ∷ 0 ∷ []))) ≡ WithMemory (Asks (echo 9) (call.Link nobody 5 1 (0x61 ∷ [])))
 unfolding number little opcode_of
 link = refl
 
-link_without_a_name : ask usual 0 144 (header 48 13 9 1 ++ eight 5) ≡ Copies (refused InvalidCString)
+link_without_a_name : ask usual 0 144 (header 48 13 9 1 ++ eight 5) ≡ WithMemory (refused InvalidCString)
 unfolding number little opcode_of
 link_without_a_name = refl
 
 -- SYMLINK: the link's name stands first, and the call is told its text first
-symlink : ask usual 0 144 (header 44 6 9 1 ++ (0x6e ∷ 0 ∷ 0x74 ∷ 0 ∷ [])) ≡ Copies (Asks (echo 9) (call.Symlink nobody (0x74 ∷ []) 1 (0x6e ∷ []) no_extensions))
+symlink : ask usual 0 144 (header 44 6 9 1 ++ (0x6e ∷ 0 ∷ 0x74 ∷ 0 ∷ [])) ≡ WithMemory (Asks (echo 9) (call.Symlink nobody (0x74 ∷ []) 1 (0x6e ∷ []) no_extensions))
 unfolding number little opcode_of extensions_in
 symlink = refl
 
-symlink_of_one_text : ask usual 0 144 (header 42 6 9 1 ++ (0x6e ∷ 0 ∷ [])) ≡ Copies (refused MissingParameter)
+symlink_of_one_text : ask usual 0 144 (header 42 6 9 1 ++ (0x6e ∷ 0 ∷ [])) ≡ WithMemory (refused MissingParameter)
 unfolding number little opcode_of extensions_in
 symlink_of_one_text = refl
 
-symlink_to_a_text_without_end : ask usual 0 144 (header 43 6 9 1 ++ (0x6e ∷ 0 ∷ 0x74 ∷ [])) ≡ Copies (refused InvalidCString)
+symlink_to_a_text_without_end : ask usual 0 144 (header 43 6 9 1 ++ (0x6e ∷ 0 ∷ 0x74 ∷ [])) ≡ WithMemory (refused InvalidCString)
 unfolding number little opcode_of extensions_in
 symlink_to_a_text_without_end = refl
 
 -- MKNOD, MKDIR and CREATE: with no option agreed on, what is behind the name is ignored
-mknod : ask usual 0 144 (header 60 8 9 1 ++ ((eight 1 ++ eight 2) ++ (0x61 ∷ 0 ∷ 7 ∷ 7 ∷ []))) ≡ Copies (Asks (echo 9) (call.Mknod nobody 1 (0x61 ∷ []) 1 0 2 no_extensions))
+mknod : ask usual 0 144 (header 60 8 9 1 ++ ((eight 1 ++ eight 2) ++ (0x61 ∷ 0 ∷ 7 ∷ 7 ∷ []))) ≡ WithMemory (Asks (echo 9) (call.Mknod nobody 1 (0x61 ∷ []) 1 0 2 no_extensions))
 unfolding number little opcode_of extensions_in
 mknod = refl
 
-mknod_of_a_name_without_end : ask usual 0 144 (header 57 8 9 1 ++ (zeros 16 ++ (0x61 ∷ []))) ≡ Copies (refused InvalidCString)
+mknod_of_a_name_without_end : ask usual 0 144 (header 57 8 9 1 ++ (zeros 16 ++ (0x61 ∷ []))) ≡ WithMemory (refused InvalidCString)
 unfolding number little opcode_of extensions_in
 mknod_of_a_name_without_end = refl
 
-mknod_of_nothing : ask usual 0 144 (header 56 8 9 1 ++ zeros 16) ≡ Copies (refused MissingParameter)
+mknod_of_nothing : ask usual 0 144 (header 56 8 9 1 ++ zeros 16) ≡ WithMemory (refused MissingParameter)
 unfolding number little opcode_of extensions_in
 mknod_of_nothing = refl
 
-create : ask usual 0 160 (header 58 35 9 1 ++ ((eight 2 ++ (four 3 ++ four 1)) ++ (0x63 ∷ 0 ∷ []))) ≡ Copies (Asks (echo 9) (call.Create nobody 1 (0x63 ∷ []) 0 true 2 3 no_extensions))
+create : ask usual 0 160 (header 58 35 9 1 ++ ((eight 2 ++ (four 3 ++ four 1)) ++ (0x63 ∷ 0 ∷ []))) ≡ WithMemory (Asks (echo 9) (call.Create nobody 1 (0x63 ∷ []) 0 true 2 3 no_extensions))
 unfolding number little opcode_of extensions_in
 create = refl
 
 -- with SECURITY_CTX agreed on: a context of the name s and the value v; a block past the end, one
 -- smaller than its header, and none, which is missed also where the name has no end
 mkdir_with_a_context : ask usual 0x100000000 144 (header 69 9 9 1 ++ (zeros 8 ++ ((0x64 ∷ 0 ∷ []) ++ ((four 19 ++ four 1) ++ ((four 1 ++ zeros 4) ++ (0x73 ∷ 0 ∷ 0x76 ∷ []))))))
-    ≡ Copies (Asks (echo 9) (call.Mkdir nobody 1 (0x64 ∷ []) 0 0 (record { context = Some ((0x73 ∷ []), (0x76 ∷ [])); group = None })))
+    ≡ WithMemory (Asks (echo 9) (call.Mkdir nobody 1 (0x64 ∷ []) 0 0 (record { context = Some ((0x73 ∷ []), (0x76 ∷ [])); group = None })))
 unfolding number little opcode_of extensions_in cut_of
 mkdir_with_a_context = refl
 
-mkdir_with_a_block_past_the_end : ask usual 0x100000000 144 (header 58 9 9 1 ++ (zeros 8 ++ ((0x64 ∷ 0 ∷ []) ++ (four 9 ++ four 1)))) ≡ Copies (refused DecodeMessage)
+mkdir_with_a_block_past_the_end : ask usual 0x100000000 144 (header 58 9 9 1 ++ (zeros 8 ++ ((0x64 ∷ 0 ∷ []) ++ (four 9 ++ four 1)))) ≡ WithMemory (refused DecodeMessage)
 unfolding number little opcode_of extensions_in cut_of
 mkdir_with_a_block_past_the_end = refl
 
-mkdir_with_a_block_of_seven : ask usual 0x100000000 144 (header 58 9 9 1 ++ (zeros 8 ++ ((0x64 ∷ 0 ∷ []) ++ (four 7 ++ four 1)))) ≡ Copies (refused InvalidHeaderLength)
+mkdir_with_a_block_of_seven : ask usual 0x100000000 144 (header 58 9 9 1 ++ (zeros 8 ++ ((0x64 ∷ 0 ∷ []) ++ (four 7 ++ four 1)))) ≡ WithMemory (refused InvalidHeaderLength)
 unfolding number little opcode_of extensions_in cut_of
 mkdir_with_a_block_of_seven = refl
 
-mkdir_without_its_context : ask usual 0x100000000 144 (header 50 9 9 1 ++ (zeros 8 ++ (0x64 ∷ 0 ∷ []))) ≡ Copies (refused MissingExtension)
+mkdir_without_its_context : ask usual 0x100000000 144 (header 50 9 9 1 ++ (zeros 8 ++ (0x64 ∷ 0 ∷ []))) ≡ WithMemory (refused MissingExtension)
 unfolding number little opcode_of extensions_in cut_of
 mkdir_without_its_context = refl
 
-mkdir_without_context_or_end : ask usual 0x100000000 144 (header 49 9 9 1 ++ (zeros 8 ++ (0x64 ∷ []))) ≡ Copies (refused MissingExtension)
+mkdir_without_context_or_end : ask usual 0x100000000 144 (header 49 9 9 1 ++ (zeros 8 ++ (0x64 ∷ []))) ≡ WithMemory (refused MissingExtension)
 unfolding number little opcode_of extensions_in cut_of
 mkdir_without_context_or_end = refl
 
 -- with CREATE_SUPP_GROUP agreed on: the group 1000
 mkdir_with_a_group : ask usual 0x400000000 144 (header 66 9 9 1 ++ (zeros 8 ++ ((0x64 ∷ 0 ∷ []) ++ ((four 16 ++ four 32) ++ (four 1 ++ four 1000)))))
-    ≡ Copies (Asks (echo 9) (call.Mkdir nobody 1 (0x64 ∷ []) 0 0 (record { context = None; group = Some 1000 })))
+    ≡ WithMemory (Asks (echo 9) (call.Mkdir nobody 1 (0x64 ∷ []) 0 0 (record { context = None; group = Some 1000 })))
 unfolding number little opcode_of extensions_in cut_of
 mkdir_with_a_group = refl
 
 -- RENAME of a in node 1 to b in node 2
-rename : ask usual 0 16 (header 52 12 9 1 ++ (eight 2 ++ (0x61 ∷ 0 ∷ 0x62 ∷ 0 ∷ []))) ≡ Copies (Asks (echo 9) (call.Rename nobody 1 (0x61 ∷ []) 2 (0x62 ∷ []) 0))
+rename : ask usual 0 16 (header 52 12 9 1 ++ (eight 2 ++ (0x61 ∷ 0 ∷ 0x62 ∷ 0 ∷ []))) ≡ WithMemory (Asks (echo 9) (call.Rename nobody 1 (0x61 ∷ []) 2 (0x62 ∷ []) 0))
 unfolding number little opcode_of
 rename = refl
 
-rename_without_a_nul : ask usual 0 16 (header 50 12 9 1 ++ (eight 2 ++ (0x61 ∷ 0x62 ∷ []))) ≡ Copies (refused MissingParameter)
+rename_without_a_nul : ask usual 0 16 (header 50 12 9 1 ++ (eight 2 ++ (0x61 ∷ 0x62 ∷ []))) ≡ WithMemory (refused MissingParameter)
 unfolding number little opcode_of
 rename_without_a_nul = refl
 
-rename_to_nothing : ask usual 0 16 (header 50 12 9 1 ++ (eight 2 ++ (0x61 ∷ 0 ∷ []))) ≡ Copies (refused InvalidCString)
+rename_to_nothing : ask usual 0 16 (header 50 12 9 1 ++ (eight 2 ++ (0x61 ∷ 0 ∷ []))) ≡ WithMemory (refused InvalidCString)
 unfolding number little opcode_of
 rename_to_nothing = refl
 
-rename_to_two_names : ask usual 0 16 (header 54 12 9 1 ++ (eight 2 ++ (0x61 ∷ 0 ∷ 0x62 ∷ 0 ∷ 0x63 ∷ 0 ∷ []))) ≡ Copies (refused InvalidCString)
+rename_to_two_names : ask usual 0 16 (header 54 12 9 1 ++ (eight 2 ++ (0x61 ∷ 0 ∷ 0x62 ∷ 0 ∷ 0x63 ∷ 0 ∷ []))) ≡ WithMemory (refused InvalidCString)
 unfolding number little opcode_of
 rename_to_two_names = refl
 
 -- RENAME2 keeps bits 0 to 2 of its flags
-rename2_with_four_flags : ask usual 0 16 (header 60 45 9 1 ++ ((eight 2 ++ eight 15) ++ (0x61 ∷ 0 ∷ 0x62 ∷ 0 ∷ []))) ≡ Copies (Asks (echo 9) (call.Rename nobody 1 (0x61 ∷ []) 2 (0x62 ∷ []) 7))
+rename2_with_four_flags : ask usual 0 16 (header 60 45 9 1 ++ ((eight 2 ++ eight 15) ++ (0x61 ∷ 0 ∷ 0x62 ∷ 0 ∷ []))) ≡ WithMemory (Asks (echo 9) (call.Rename nobody 1 (0x61 ∷ []) 2 (0x62 ∷ []) 7))
 unfolding number little opcode_of
 rename2_with_four_flags = refl
 
 -- SETXATTR of the name a and the value 1 2, without SETXATTR_EXT and with it: then the record is 16 bytes
-setxattr : ask usual 0 16 (header 52 21 9 3 ++ ((four 2 ++ four 1) ++ (0x61 ∷ 0 ∷ 1 ∷ 2 ∷ []))) ≡ Copies (Asks (echo 9) (call.Setxattr nobody 3 (0x61 ∷ []) (1 ∷ 2 ∷ []) 1 0))
+setxattr : ask usual 0 16 (header 52 21 9 3 ++ ((four 2 ++ four 1) ++ (0x61 ∷ 0 ∷ 1 ∷ 2 ∷ []))) ≡ WithMemory (Asks (echo 9) (call.Setxattr nobody 3 (0x61 ∷ []) (1 ∷ 2 ∷ []) 1 0))
 unfolding number little opcode_of
 setxattr = refl
 
-setxattr_with_further_flags : ask usual 0x20000000 16 (header 60 21 9 3 ++ (((four 2 ++ four 1) ++ (four 3 ++ four 0)) ++ (0x61 ∷ 0 ∷ 1 ∷ 2 ∷ []))) ≡ Copies (Asks (echo 9) (call.Setxattr nobody 3 (0x61 ∷ []) (1 ∷ 2 ∷ []) 1 1))
+setxattr_with_further_flags : ask usual 0x20000000 16 (header 60 21 9 3 ++ (((four 2 ++ four 1) ++ (four 3 ++ four 0)) ++ (0x61 ∷ 0 ∷ 1 ∷ 2 ∷ []))) ≡ WithMemory (Asks (echo 9) (call.Setxattr nobody 3 (0x61 ∷ []) (1 ∷ 2 ∷ []) 1 1))
 unfolding number little opcode_of
 setxattr_with_further_flags = refl
 
-setxattr_of_another_size : ask usual 0 16 (header 56 21 9 1 ++ ((four 2 ++ four 0) ++ (0x75 ∷ 0x73 ∷ 0x65 ∷ 0x72 ∷ 0x2e ∷ 0x78 ∷ 0 ∷ 0x76 ∷ []))) ≡ Copies (refused (InvalidXattrSize (2, 1)))
+setxattr_of_another_size : ask usual 0 16 (header 56 21 9 1 ++ ((four 2 ++ four 0) ++ (0x75 ∷ 0x73 ∷ 0x65 ∷ 0x72 ∷ 0x2e ∷ 0x78 ∷ 0 ∷ 0x76 ∷ []))) ≡ WithMemory (refused (InvalidXattrSize (2, 1)))
 unfolding number little opcode_of
 setxattr_of_another_size = refl
 
-setxattr_whose_record_takes_its_name : ask usual 0x20000000 16 (header 56 21 9 1 ++ ((four 2 ++ four 0) ++ (0x75 ∷ 0x73 ∷ 0x65 ∷ 0x72 ∷ 0x2e ∷ 0x78 ∷ 0 ∷ 0x76 ∷ []))) ≡ Copies (refused MissingParameter)
+setxattr_whose_record_takes_its_name : ask usual 0x20000000 16 (header 56 21 9 1 ++ ((four 2 ++ four 0) ++ (0x75 ∷ 0x73 ∷ 0x65 ∷ 0x72 ∷ 0x2e ∷ 0x78 ∷ 0 ∷ 0x76 ∷ []))) ≡ WithMemory (refused MissingParameter)
 unfolding number little opcode_of
 setxattr_whose_record_takes_its_name = refl
 
 -- GETXATTR: its size is judged when the tail was read, and before the name is
-getxattr : ask usual 0 16 (header 50 22 9 1 ++ (eight 5 ++ (0x61 ∷ 0 ∷ []))) ≡ Copies (Asks (echo 9) (call.Getxattr nobody 1 (0x61 ∷ []) 5))
+getxattr : ask usual 0 16 (header 50 22 9 1 ++ (eight 5 ++ (0x61 ∷ 0 ∷ []))) ≡ WithMemory (Asks (echo 9) (call.Getxattr nobody 1 (0x61 ∷ []) 5))
 unfolding number little opcode_of
 getxattr = refl
 
-getxattr_above_the_limit : ask usual 0 16 (header 49 22 9 1 ++ ((four 0x100001 ++ zeros 4) ++ (0x61 ∷ []))) ≡ Copies (said_so ((four 16 ++ (0xf4 ∷ 0xff ∷ 0xff ∷ 0xff ∷ [])) ++ eight 9))
+getxattr_above_the_limit : ask usual 0 16 (header 49 22 9 1 ++ ((four 0x100001 ++ zeros 4) ++ (0x61 ∷ []))) ≡ WithMemory (said_so ((four 16 ++ (0xf4 ∷ 0xff ∷ 0xff ∷ 0xff ∷ [])) ++ eight 9))
 unfolding number little opcode_of
 getxattr_above_the_limit = refl
 
-getxattr_of_no_name : ask usual 0 16 (header 49 22 9 1 ++ (zeros 8 ++ (0x61 ∷ []))) ≡ Copies (refused InvalidCString)
+getxattr_of_no_name : ask usual 0 16 (header 49 22 9 1 ++ (zeros 8 ++ (0x61 ∷ []))) ≡ WithMemory (refused InvalidCString)
 unfolding number little opcode_of
 getxattr_of_no_name = refl
 
@@ -575,7 +575,7 @@ reply_of_an_offset : reply_of usual (echo 9) 0 Offsets (Offset 5) ≡ Bytes (((f
 unfolding number little
 reply_of_an_offset = refl
 
-reply_of_bytes_written : reply_of usual (echo 9) 0 Writes (Written 5) ≡ Bytes (((four 24 ++ zeros 4) ++ eight 9) ++ (four 5 ++ zeros 4))
+reply_of_bytes_written : reply_of usual (echo 9) 0 Writes (Wrote 5) ≡ Bytes (((four 24 ++ zeros 4) ++ eight 9) ++ (four 5 ++ zeros 4))
 unfolding number little
 reply_of_bytes_written = refl
 

@@ -8,8 +8,8 @@ use Rattle.vfs_wire.specs.Entries.{batch_forget_in}
 use Rattle.vfs_wire.specs.declared.entries.BatchForgetIn.{BatchForgetIn}
 use Rattle.vfs_wire.specs.declared.headers.InHeader.{InHeader}
 use Rattle.vfs_grammar.specs.Ask.{form_of, header_of}
-use Rattle.vfs_grammar.specs.Forms.{Form, NameTail, TwoNames, NameAndValue, NameAndExtensions, LinkAndExtensions, Pairs, Layout, Without, Record, tail_of, pairs_of}
-use Rattle.vfs_laws.specs.Turns.{TailIsWhole, PairsAreWhole, MayLackMemory, opcode_in, behind_header, count_of_pairs, WantsMemory, MayLackBehind}
+use Rattle.vfs_grammar.specs.Forms.{Layout, Without, Record, tail_of, pairs_of, MemoryUse, ForNothing, ForTail, ForTailAndContext, ForPairs, memory_use}
+use Rattle.vfs_laws.specs.Turns.{TailIsWhole, PairsAreWhole, HasWhole, opcode_in, behind_header, count_of_pairs, WantsMemory, WantsMemoryBehind}
 use Rattle.vfs_grammar.specs.Records.{size_of, record_of}
 use Rattle.vfs_grammar.specs.declared.limits.Limits.{Limits}
 use Rattle.vfs_grammar.specs.declared.error.Error.{Error}
@@ -44,30 +44,27 @@ whole_tail h rest (Record t) w =
     let record_is = record_len t rest w.whole_record in
     omega (arith, tail, record_is, length-drop (size_of t) rest)
 
--- the form of BATCH_FORGET
-abbrev HasPairs : Form → Type 0
-HasPairs (Pairs l above count call) = Unit {0}
-HasPairs _ = ⊥
+-- memory for pairs, as BATCH_FORGET wants it
+abbrev IsForPairs : MemoryUse → Type 0
+IsForPairs (ForPairs l above count) = Unit {0}
+IsForPairs _ = ⊥
 
-by_form : (h : InHeader) (rest : List ℕ) (form : Form) → MayLackMemory h rest form → (HasPairs form → ⊥) → h.len ≤ 40 + length rest
-by_form h rest (NameTail l above call) w other = whole_tail h rest l w
-by_form h rest (TwoNames l call) w other = whole_tail h rest l w
-by_form h rest (NameAndValue l size call) w other = whole_tail h rest l w
-by_form h rest (NameAndExtensions l options call) w other = whole_tail h rest l w
-by_form h rest (LinkAndExtensions l options call) w other = whole_tail h rest l w
-by_form h rest (Pairs l above count call) w other = absurd (other tt)
-by_form h rest _ w other = absurd w
+by_use : (h : InHeader) (rest : List ℕ) (use_of : MemoryUse) → HasWhole h rest use_of → (IsForPairs use_of → ⊥) → h.len ≤ 40 + length rest
+by_use h rest ForNothing w other = absurd w
+by_use h rest (ForTail l) w other = whole_tail h rest l w
+by_use h rest (ForTailAndContext l options) w other = whole_tail h rest l w
+by_use h rest (ForPairs l above count) w other = absurd (other tt)
 
 module _ (limits : Limits) (options room : ℕ) where
-  pairs_alone : (h : InHeader) (opcode : Opcode) → opcode ≢ BatchForget → HasPairs (form_of limits options room h opcode) → ⊥
+  pairs_alone : (h : InHeader) (opcode : Opcode) → opcode ≢ BatchForget → IsForPairs (memory_use (form_of limits options room h opcode)) → ⊥
   pairs_alone h BatchForget other p = other refl
   pairs_alone h _ other p = p
 
   by_number : (h : InHeader) (rest : List ℕ) (opcode : Option Opcode) → opcode ≢ Some BatchForget
-      → MayLackBehind limits options room opcode h rest → h.len ≤ 40 + length rest
+      → WantsMemoryBehind limits options room opcode h rest → h.len ≤ 40 + length rest
   by_number h rest None other w = absurd w
   by_number h rest (Some opcode) other w =
-      by_form h rest (form_of limits options room h opcode) w (pairs_alone h opcode (λ e. other (ap Some e)))
+      by_use h rest (memory_use (form_of limits options room h opcode)) w (pairs_alone h opcode (λ e. other (ap Some e)))
 
   module _ (request : List ℕ) where
     -- a request for which memory is wanted has as many bytes as its `len` says
@@ -80,7 +77,7 @@ module _ (limits : Limits) (options room : ℕ) where
     ThePairs = PairsAreWhole (behind_header request) (Record batch_forget_in) (λ r. nat_lt limits.max_buffer (r.count * 16)) (λ r. r.count)
 
     the_pairs : opcode_in request ≡ Some BatchForget → WantsMemory limits options room request → ThePairs
-    the_pairs is w = subst (λ (o : Option Opcode). MayLackBehind limits options room o (header_of request) (behind_header request)) is w.form
+    the_pairs is w = subst (λ (o : Option Opcode). WantsMemoryBehind limits options room o (header_of request) (behind_header request)) is w.form
 
     the_count : (p : ThePairs) → (8 ≤ length (behind_header request)) × (p.counts.count ≡ count_of_pairs request)
     the_count p =

@@ -9,7 +9,7 @@ use Rattle.vfs_wire.specs.declared.entries.EntryOut.{EntryOut}
 use Rattle.vfs_files.specs.declared.entry.Context.{Context}
 use Rattle.vfs_files.specs.Items.{Item}
 use Rattle.vfs_files.specs.Calls.{Call, Readdir, Data, read_answer}
-use Rattle.vfs_files.specs.Runs.{Event, Opened, Taken}
+use Rattle.vfs_files.specs.Runs.{Event, OpenedDirectory, Taken}
 use Rattle.vfs_laws.specs.Listings.{node_of_line}
 use Rattle.vfs_grammar.specs.Listing.{Got, Line, Stop, End, At, Gets, IsGot, is_dot, lookups, line_events, stop_events, given_back, line_len, line_bytes, AreWritten, Stops, fate, answer_at, answer_of, IsListing, IsUnopened, IsOpened, IsDirectory, node_got}
 use Rattle.vfs_laws.proofs.Takings.{lines_least}
@@ -166,12 +166,12 @@ module _ (ctx : Context) (parent n : ℕ) (some : n ≢ 0) where
 
   -- of the events only the last gives back anything
   listing_last : (plus : Bool) (size room : ℕ) (events : List Event) (body : List ℕ) (result : Result ℕ (Option ℕ)) (call : Call)
-      → IsListing plus ctx parent size room events body result → LastOnly n (Opened call ∷ events)
+      → IsListing plus ctx parent size room events body result → LastOnly n (OpenedDirectory call ∷ events)
   listing_last plus size room events body result call h =
       let lines = flat_map (line_events ctx parent plus) h.lines in
-      let front : sent n (Opened call ∷ lines) ≡ 0 = sum_by-cons (sent_by n) (Opened call) lines ∙ (let c = lines_sent plus h.lines in omega (arith, c)) in
-      let l = stop_last plus h.stop (Opened call ∷ lines) front in
-      record { front = l.front; last = l.last; are = ap (λ (es : List Event). Opened call ∷ es) h.events_are ∙ l.are; none = l.none; short = l.short }
+      let front : sent n (OpenedDirectory call ∷ lines) ≡ 0 = sum_by-cons (sent_by n) (OpenedDirectory call) lines ∙ (let c = lines_sent plus h.lines in omega (arith, c)) in
+      let l = stop_last plus h.stop (OpenedDirectory call ∷ lines) front in
+      record { front = l.front; last = l.last; are = ap (λ (es : List Event). OpenedDirectory call ∷ es) h.events_are ∙ l.are; none = l.none; short = l.short }
 
 -- ---- a fault in place of the records
 

@@ -7,7 +7,7 @@ use Rattle.vfs_files.specs.Runs.{Called}
 use Rattle.vfs_files.specs.declared.entry.Context.{Context}
 use Rattle.vfs_grammar.specs.Listing.{given_back}
 use Rattle.vfs_grammar.specs.Ask.{ask}
-use Rattle.vfs_grammar.specs.Forms.{Ask, Ends, Asks, Lists, Copies}
+use Rattle.vfs_grammar.specs.Forms.{Ask, Ends, Asks, Lists, WithMemory}
 use Rattle.vfs_grammar.specs.Reply.{Reply, Refusal, NoReply, Bytes, OpenBehind, Echo, reply_of, fault_reply, body_reply}
 use Rattle.vfs_grammar.specs.Room.{IsReplied, unseen}
 use Rattle.vfs_grammar.specs.Turn.{Turn, Follows, IsTurn, node_answered, turn_tells}
@@ -128,10 +128,10 @@ module _ (n : ℕ) (t : Turn) where
       })
       (said_back limits echo after (kind_of c) f.0 t.room t.outcome t.room_after f.3)
   ask_books some limits options (Lists echo l) after fits f =
-      directory_books n some t l.plus l.ctx l.parent l.handle l.size l.offset l.room echo.unique f.0 f.1 fits f.2
+      directory_books n some t l.plus l.ctx l.parent l.handle l.size l.offset l.space echo.unique f.0 f.1 fits f.2
       (fault_fits limits echo after (Data l.size) (read_answer f.1 f.0) f.3) f.4
-  ask_books some limits options (Copies rest) after fits (inl f) = ask_books some limits options rest after fits f
-  ask_books some limits options (Copies rest) after fits (inr f) = refused_books n t OutOfMemory f.0 f.1.0
+  ask_books some limits options (WithMemory rest) after fits (inl f) = ask_books some limits options rest after fits f
+  ask_books some limits options (WithMemory rest) after fits (inr f) = refused_books n t OutOfMemory f.0 f.1.0
 
 pub turn_books : (n : ℕ) (limits : Limits) (options : ℕ) (t : Turn) (after : ℕ) → n ≢ 0 → IsTurn limits options t after → Balances n t
 turn_books n limits options t after some turn =
@@ -143,9 +143,9 @@ ask_last : (n : ℕ) → n ≢ 0 → (limits : Limits) (options : ℕ) (a : Ask)
 ask_last n some limits options (Ends reply) t after f = no_event n t.events f.0
 ask_last n some limits options (Asks echo c) t after f =
     call_last n echo.ctx (kind_of c) c f.0 (length t.room) (reply_of limits echo after (kind_of c) f.0) t.events (are_forgets c) f.1
-ask_last n some limits options (Lists echo l) t after f = directory_last n some t l.plus l.ctx l.parent l.handle l.size l.offset l.room f.0 f.1 f.2
-ask_last n some limits options (Copies rest) t after (inl f) = ask_last n some limits options rest t after f
-ask_last n some limits options (Copies rest) t after (inr f) = no_event n t.events f.0
+ask_last n some limits options (Lists echo l) t after f = directory_last n some t l.plus l.ctx l.parent l.handle l.size l.offset l.space f.0 f.1 f.2
+ask_last n some limits options (WithMemory rest) t after (inl f) = ask_last n some limits options rest t after f
+ask_last n some limits options (WithMemory rest) t after (inr f) = no_event n t.events f.0
 
 pub turn_last : (n : ℕ) → n ≢ 0 → (limits : Limits) (options : ℕ) (t : Turn) (after : ℕ) → IsTurn limits options t after → LastOnly n t.events
 turn_last n some limits options t after turn = ask_last n some limits options (ask limits options (length t.room) t.request) t after turn

@@ -22,13 +22,13 @@ use Rattle.vfs_wire.specs.declared.headers.OutHeader.{OutHeader}
 use Rattle.vfs_wire.specs.declared.ranges.LseekOut.{LseekOut}
 use Rattle.vfs_wire.specs.declared.stat.Statvfs64.{Statvfs64}
 use Rattle.vfs_wire.specs.declared.xattrs.GetxattrOut.{GetxattrOut}
-use Rattle.vfs_files.specs.Answers.{Kind, Agreements, Data, Entries, TimedAttributes, Openings, Creations, Capacities, Texts, TextsOrCounts, Offsets, Writes, IsAnswer, Answer, Failed, Options, Found, Put, Attributes, Opened, Created, Statistics, Text, Count, Offset, Written, read_answer}
+use Rattle.vfs_files.specs.Answers.{Kind, Agreements, Data, Entries, TimedAttributes, Openings, Creations, Capacities, Texts, TextsOrCounts, Offsets, Writes, IsAnswer, Answer, Failed, Options, Found, Put, Attributes, Opened, Created, Statistics, Text, Count, Offset, Wrote, read_answer}
 use Rattle.vfs_files.specs.Calls.{Call, Init, kind_of}
 use Rattle.vfs_files.specs.Entries.{entry_out_of}
 use Rattle.vfs_files.specs.Runs.{Event, Called}
 use Rattle.vfs_files.specs.declared.entry.Entry.{Entry}
 use Rattle.vfs_grammar.specs.Ask.{ask}
-use Rattle.vfs_grammar.specs.Forms.{Listing, Ask, Ends, Asks, Lists, Copies}
+use Rattle.vfs_grammar.specs.Forms.{Listing, Ask, Ends, Asks, Lists, WithMemory}
 use Rattle.vfs_laws.specs.Turns.{IsAnswered, body_in}
 use Rattle.vfs_grammar.specs.Limits.{AreLimits, max_pages}
 use Rattle.vfs_grammar.specs.Options.{agreed, options_after}
@@ -91,8 +91,8 @@ says limits options (Asks echo c) t after call answer f e =
     let it : Says limits after f.0 t = record { kind = kind_of c; echo = echo; of_kind = f.2; replied = f.3 } in
     subst (λ (y : Answer). Says limits after y t) answered it
 says limits options (Lists echo l) t after call answer f e = listed_says limits after echo l t f.0 f.1 call answer f.2 e f.3 f.4
-says limits options (Copies rest) t after call answer (inl f) e = says limits options rest t after call answer f e
-says limits options (Copies rest) t after call answer (inr f) e = absurd (let a = sym f.0 ∙ e in cc)
+says limits options (WithMemory rest) t after call answer (inl f) e = says limits options rest t after call answer f e
+says limits options (WithMemory rest) t after call answer (inr f) e = absurd (let a = sym f.0 ∙ e in cc)
 
 answered_says : (limits : Limits) (options : ℕ) (answer : Answer) (t : Turn) (after : ℕ) → IsAnswered limits options answer t after → Says limits after answer t
 answered_says limits options answer t after a = says limits options (ask limits options (length t.room) t.request) t after a.call answer a.turn a.called
@@ -193,7 +193,7 @@ module _ (limits : Limits) (echo : Echo) (after : ℕ) (t : Turn) (len : ℕ) (f
       ap (λ (r : LseekOut). r.offset) (decoded lseek_out (record { offset = offset }) t.room_after echo.unique (a, tt) refl (said _ b))
   offset_by _ offset a b = absurd a
 
-  written_by : (kind : Kind) (count : ℕ) → IsAnswer kind (Written count) → SaidBy kind (Written count) → (value_of write_out (body_in t.room_after)).size ≡ count
+  written_by : (kind : Kind) (count : ℕ) → IsAnswer kind (Wrote count) → SaidBy kind (Wrote count) → (value_of write_out (body_in t.room_after)).size ≡ count
   unfolding SaidBy
   written_by Writes count a b =
       ap (λ (r : WriteOut). r.size) (decoded write_out (write_out_of count) t.room_after echo.unique (a, (lit< tt, tt)) refl (said _ b))
@@ -319,9 +319,9 @@ module _ (limits : Limits) (options after : ℕ) (t : Turn) where
   unfolding SaidBy
   offset_said offset a = let s = answered_says limits options (Offset offset) t after a in offset_by limits s.echo after t a.len a.fits s.kind offset s.of_kind s.replied
 
-  pub written_said : (count : ℕ) → IsAnswered limits options (Written count) t after → (value_of write_out (body_in t.room_after)).size ≡ count
+  pub written_said : (count : ℕ) → IsAnswered limits options (Wrote count) t after → (value_of write_out (body_in t.room_after)).size ≡ count
   unfolding SaidBy
-  written_said count a = let s = answered_says limits options (Written count) t after a in written_by limits s.echo after t a.len a.fits s.kind count s.of_kind s.replied
+  written_said count a = let s = answered_says limits options (Wrote count) t after a in written_by limits s.echo after t a.len a.fits s.kind count s.of_kind s.replied
 
   pub text_said : (bytes : List ℕ) → IsAnswered limits options (Text bytes) t after → take (length bytes) (body_in t.room_after) ≡ bytes
   unfolding SaidBy

@@ -14,7 +14,7 @@ use Rattle.vfs_files.specs.Calls.{Answer, Failed, Put, Data, IsAnswer, read_answ
 use Rattle.vfs_files.specs.Entries.{context_of}
 use Rattle.vfs_files.specs.declared.entry.Context.{Context}
 use Rattle.vfs_grammar.specs.Ask.{ask, ask_number, lists_too_much, listing_of, header_of}
-use Rattle.vfs_grammar.specs.Forms.{Ask, Asks, Lists, Copies, faulted, refused, refused_or, within, pairs_in, Record, Directories, ask_form}
+use Rattle.vfs_grammar.specs.Forms.{Ask, Asks, Lists, WithMemory, faulted, refused, refused_or, within, pairs_in, Record, Directories, ask_form}
 use Rattle.vfs_laws.specs.Turns.{opcode_in, behind_header, count_of_pairs, CarriesData, size_asked}
 use Rattle.vfs_grammar.specs.Limits.{max_len}
 use Rattle.vfs_grammar.specs.Reply.{Echo, echo_of, fault_reply, body_reply, reply_to}
@@ -64,7 +64,7 @@ module _ (limits : Limits) (options room : ℕ) (request : List ℕ) where
       → ask limits options room request
       ≡ within (nat_lt limits.max_buffer (count_of_pairs request * 16)) (header_of request)
       (refused_or (pairs_in (count_of_pairs request) (drop 8 (behind_header request))) (λ pairs.
-      Copies (Asks (echo_of (header_of request)) (call.BatchForget (context_of (header_of request)) pairs))))
+      WithMemory (Asks (echo_of (header_of request)) (call.BatchForget (context_of (header_of request)) pairs))))
   by_count long small is =
       len_within (omega arith) small
       ∙ ap (λ (o : Option Opcode). ask_number limits options room o (header_of request) (behind_header request)) is
@@ -74,13 +74,13 @@ module _ (limits : Limits) (options room : ℕ) (request : List ℕ) where
   pub pairs_within : 48 ≤ length request → (header_of request).len ≤ limits.max_buffer + 4096 → opcode_in request ≡ Some BatchForget → 16 * count_of_pairs request ≤ limits.max_buffer
       → ask limits options room request
       ≡ refused_or (pairs_in (count_of_pairs request) (drop 48 request)) (λ pairs.
-      Copies (Asks (echo_of (header_of request)) (call.BatchForget (context_of (header_of request)) pairs)))
+      WithMemory (Asks (echo_of (header_of request)) (call.BatchForget (context_of (header_of request)) pairs)))
   pairs_within long small is few =
       by_count long small is
       ∙ within_is (nat_lt limits.max_buffer (count_of_pairs request * 16)) (header_of request) _ (grind (arith, nat_tests))
       ∙ ap (λ (bytes : List ℕ).
       refused_or (pairs_in (count_of_pairs request) bytes) (λ pairs.
-      Copies (Asks (echo_of (header_of request)) (call.BatchForget (context_of (header_of request)) pairs)))) (drop-drop 8 40 request)
+      WithMemory (Asks (echo_of (header_of request)) (call.BatchForget (context_of (header_of request)) pairs)))) (drop-drop 8 40 request)
 
   pub pairs_above : 48 ≤ length request → (header_of request).len ≤ limits.max_buffer + 4096 → opcode_in request ≡ Some BatchForget → limits.max_buffer < 16 * count_of_pairs request
       → ask limits options room request ≡ faulted 12 (header_of request)

@@ -5,7 +5,7 @@ use Rattle.vfs_wire.specs.Fields.{bytes_of}
 use Rattle.vfs_wire.specs.Init.{init_out}
 use Rattle.vfs_files.specs.Calls.{Kind, Answer, IsAnswer, Data, kind_of, read_answer}
 use Rattle.vfs_grammar.specs.Ask.{ask}
-use Rattle.vfs_grammar.specs.Forms.{Ask, Ends, Asks, Lists, Copies}
+use Rattle.vfs_grammar.specs.Forms.{Ask, Ends, Asks, Lists, WithMemory}
 use Rattle.vfs_laws.specs.Turns.{unique_of}
 use Rattle.vfs_grammar.specs.Reply.{Reply, Refusal, NoReply, Bytes, OpenBehind, Echo, reply_of, fault_reply, body_reply, version_out}
 use Rattle.vfs_grammar.specs.Room.{IsReplied}
@@ -39,8 +39,8 @@ length_follows limits options (Asks echo call) t after f =
     replied_length (reply_of limits echo after (kind_of call) f.0) t.room t.outcome t.room_after f.3
 length_follows limits options (Lists echo l) t after f =
     replied_length (reply_of limits echo after (Data l.size) (read_answer f.1 f.0)) t.room t.outcome t.room_after f.4
-length_follows limits options (Copies rest) t after (inl f) = length_follows limits options rest t after f
-length_follows limits options (Copies rest) t after (inr f) = replied_length (Refusal OutOfMemory) t.room t.outcome t.room_after f.1
+length_follows limits options (WithMemory rest) t after (inl f) = length_follows limits options rest t after f
+length_follows limits options (WithMemory rest) t after (inr f) = replied_length (Refusal OutOfMemory) t.room t.outcome t.room_after f.1
 
 pub same_length : (limits : Limits) (options after : ℕ) (t : Turn) → IsTurn limits options t after → length t.room_after ≡ length t.room
 same_length limits options after t f = length_follows limits options (ask limits options (length t.room) t.request) t after f

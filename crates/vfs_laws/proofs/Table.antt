@@ -19,7 +19,7 @@ use Rattle.vfs_files.specs.Calls.{Call}
 use Rattle.vfs_files.specs.Calls as call
 use Rattle.vfs_files.specs.Extensions.{ExtensionValues}
 use Rattle.vfs_grammar.specs.Ask.{form_of, ask_number, ask_header, ask}
-use Rattle.vfs_grammar.specs.Forms.{Ask, Ends, Asks, Lists, Copies, refused, faulted, silent, refused_or, within, tail_of, name_in, names_in, value_in, extended_in, link_in_tail, pairs_of, pairs_in, room_behind_header, second_flags, ask_version, Layout, layout_size, layout_record, behind, Form, NoTail, NameTail, TwoNames, NameAndValue, NameAndExtensions, LinkAndExtensions, Pairs, WithRest, IntoRoom, Directories, Versions, Silent, NotServed, ask_form}
+use Rattle.vfs_grammar.specs.Forms.{Ask, Ends, Asks, Lists, WithMemory, refused, faulted, silent, refused_or, within, tail_of, name_in, names_in, value_in, extended_in, link_in_tail, pairs_of, pairs_in, space_behind_header, second_flags, ask_version, Layout, layout_size, layout_record, behind, Form, NoTail, NameTail, TwoNames, NameAndValue, NameAndExtensions, LinkAndExtensions, Pairs, WithRest, IntoRoom, Directories, Versions, Silent, NotServed, ask_form}
 use Rattle.vfs_grammar.specs.Limits.{max_len}
 use Rattle.vfs_grammar.specs.Records.{size_of, record_of}
 use Rattle.vfs_grammar.specs.Reply.{Reply, Refusal, NoReply, Bytes, OpenBehind, Echo, echo_of, body_reply, version_out}
@@ -69,7 +69,7 @@ module _ (P : Ask → Type 0) (h : InHeader) (rest : List ℕ) where
 
   module _ (refusal : (e : Error) → P (refused e))
       (fault : (number : ℕ) → 0 < number → number < 2 ^ 31 → P (faulted number h))
-      (copies : (a : Ask) → P a → P (Copies a)) where
+      (copies : (a : Ask) → P a → P (WithMemory a)) where
     part_shown : {A : Type 0} (r : Result A Error) (next : A → Ask) → ((x : A) → r ≡ Ok x → P (next x)) → P (refused_or r next)
     part_shown (Err e) next p = refusal e
     part_shown (Ok x) next p = p x refl
@@ -82,7 +82,7 @@ module _ (P : Ask → Type 0) (h : InHeader) (rest : List ℕ) where
     tail_shown : {R : Type 0} (layout : Layout R) (next : R → List ℕ → Ask)
         → ((r : R) (tail : List ℕ) → layout_record layout rest ≡ Ok r → P (next r tail))
         → P (refused_or (layout_record layout rest) (λ r.
-        refused_or (tail_of h (layout_size layout) (behind layout rest)) (λ tail. Copies (next r tail))))
+        refused_or (tail_of h (layout_size layout) (behind layout rest)) (λ tail. WithMemory (next r tail))))
     tail_shown layout next p =
         part_shown (layout_record layout rest) _ (λ r is.
         part_shown (tail_of h (layout_size layout) (behind layout rest)) _ (λ tail whole.
@@ -112,10 +112,10 @@ module _ (P : Ask → Type 0) (h : InHeader) (rest : List ℕ) where
         (part_shown (pairs_in (count r) (behind layout rest)) _ (λ pairs whole. copies _ (s (r, pairs) (is, whole)))))
     form_shown (WithRest layout call) s = part_shown (layout_record layout rest) _ (λ r is. s (r, behind layout rest) is)
     form_shown (IntoRoom layout room call) s =
-        part_shown (layout_record layout rest) _ (λ r is. part_shown (room_behind_header room) _ (λ n fits. s (r, n) is))
+        part_shown (layout_record layout rest) _ (λ r is. part_shown (space_behind_header room) _ (λ n fits. s (r, n) is))
     form_shown (Directories layout above room listing) s =
         part_shown (layout_record layout rest) _ (λ r is. limit_shown (above r) _
-        (part_shown (room_behind_header room) _ (λ n fits. s (r, n) is)))
+        (part_shown (space_behind_header room) _ (λ n fits. s (r, n) is)))
     form_shown Versions s =
         part_shown (record_of init_in_compat rest) _ (λ r is.
         part_shown (second_flags r.flags (drop (size_of init_in_compat) rest)) _ (λ flags2 found. version_shown r flags2 s))
@@ -141,7 +141,7 @@ abbrev pub AskFits : Option Opcode → (request : List ℕ) → Ask → Type 0
 AskFits opcode request (Ends reply) = ReplyFits opcode request reply
 AskFits opcode request (Asks echo c) = CallFits opcode request c
 AskFits opcode request (Lists echo l) = ListsFor l.plus opcode
-AskFits opcode request (Copies rest) = AskFits opcode request rest
+AskFits opcode request (WithMemory rest) = AskFits opcode request rest
 
 fault_fits : (opcode : Option Opcode) (request : List ℕ) (h : InHeader) (number : ℕ) → 0 < number → number < 2 ^ 31
     → AskFits opcode request (faulted number h)

@@ -8,7 +8,7 @@ use Rattle.std.proofs.lemmas.List.Sums.{sum_by-cons}
 use Rattle.std.specs.List.{All, flat_map}
 use Rattle.vfs_files.specs.Calls.{Lookup, Failed}
 use Rattle.vfs_files.specs.Items.{Item}
-use Rattle.vfs_files.specs.Runs.{Event, Called, Opened, Taken}
+use Rattle.vfs_files.specs.Runs.{Event, Called, OpenedDirectory, Taken}
 use Rattle.vfs_files.specs.declared.entry.Context.{Context}
 use Rattle.vfs_files.specs.declared.entry.Entry.{Entry}
 use Rattle.vfs_grammar.specs.Directories.{takings, least_record, GoesOn, IsWhole}
@@ -47,7 +47,7 @@ lines_least true size room written (l ∷ ls) w =
 takings-append : (xs ys : List Event) → takings (xs ++ ys) ≡ takings xs ++ takings ys
 takings-append [] ys = refl
 takings-append (Called call answer ∷ xs) ys = takings-append xs ys
-takings-append (Opened call ∷ xs) ys = takings-append xs ys
+takings-append (OpenedDirectory call ∷ xs) ys = takings-append xs ys
 takings-append (Taken item ∷ xs) ys = ap (λ l. item ∷ l) (takings-append xs ys)
 
 takings-lookup : (ctx : Context) (parent : ℕ) (name : List ℕ) (got : Got)

@@ -13,7 +13,7 @@ use Rattle.vfs_files.specs.Calls.{Call, Readdir, Answer}
 use Rattle.vfs_files.specs.Runs.{Called}
 use Rattle.vfs_grammar.specs.Records.{size_of}
 use Rattle.vfs_grammar.specs.Ask.{header_of, form_of}
-use Rattle.vfs_grammar.specs.Forms.{tail_of, pairs_in, Layout, layout_size, layout_record, behind, LinkAndExtensions, NameAndExtensions, NameAndValue, Form, NameTail, Pairs, TwoNames}
+use Rattle.vfs_grammar.specs.Forms.{tail_of, pairs_in, Layout, layout_size, layout_record, behind, MemoryUse, ForNothing, ForTail, ForTailAndContext, ForPairs, memory_use}
 use Rattle.vfs_grammar.specs.Limits.{max_len}
 use Rattle.vfs_grammar.specs.Reply.{Reply, Bytes}
 use Rattle.vfs_grammar.specs.Turn.{Witness, Turn, IsTurn, turn_tells}
@@ -53,29 +53,26 @@ pub record PairsAreWhole {R : Type 0} (rest : List ℕ) (layout : Layout R) (abo
   pub in_limit : above counts ≡ false
   pub whole_pairs : IsOk (pairs_in (count counts) (behind layout rest))
 
--- where memory may be wanted, by the form: for a tail or pairs that are whole, and for nothing else
-abbrev pub MayLackMemory : InHeader → (rest : List ℕ) → Form → Type 0
-MayLackMemory h rest (NameTail layout above call) = TailIsWhole h rest layout
-MayLackMemory h rest (TwoNames layout call) = TailIsWhole h rest layout
-MayLackMemory h rest (NameAndValue layout size call) = TailIsWhole h rest layout
-MayLackMemory h rest (NameAndExtensions layout options call) = TailIsWhole h rest layout
-MayLackMemory h rest (LinkAndExtensions layout options call) = TailIsWhole h rest layout
-MayLackMemory h rest (Pairs layout above count call) = PairsAreWhole rest layout above count
-MayLackMemory h rest _ = ⊥
+-- a request has whole what memory may be wanted for: its tail, or its pairs
+abbrev pub HasWhole : InHeader → (rest : List ℕ) → MemoryUse → Type 0
+HasWhole h rest ForNothing = ⊥
+HasWhole h rest (ForTail layout) = TailIsWhole h rest layout
+HasWhole h rest (ForTailAndContext layout options) = TailIsWhole h rest layout
+HasWhole h rest (ForPairs layout above count) = PairsAreWhole rest layout above count
 
--- memory may be wanted behind this header, by the form of its opcode
-abbrev pub MayLackBehind : Limits → (options room : ℕ) → Option Opcode → InHeader → List ℕ → Type 0
-MayLackBehind limits options room None h rest = ⊥
-MayLackBehind limits options room (Some opcode) h rest =
-    MayLackMemory h rest (form_of limits options room h opcode)
+-- memory is wanted behind this header, by the form of its opcode
+abbrev pub WantsMemoryBehind : Limits → (options space : ℕ) → Option Opcode → InHeader → List ℕ → Type 0
+WantsMemoryBehind limits options space None h rest = ⊥
+WantsMemoryBehind limits options space (Some opcode) h rest =
+    HasWhole h rest (memory_use (form_of limits options space h opcode))
 
 -- a request for which memory may be wanted: its header is whole, its `len` in the limit, and it
 -- is of a form with a tail or pairs, which are whole
-pub record WantsMemory (limits : Limits) (options room : ℕ) (request : List ℕ) : Type 0 where
+pub record WantsMemory (limits : Limits) (options space : ℕ) (request : List ℕ) : Type 0 where
   pub header : size_of in_header ≤ length request
   pub in_limit : (header_of request).len ≤ max_len limits
   pub form :
-      MayLackBehind limits options room (opcode_of (header_of request).opcode) (header_of request)
+      WantsMemoryBehind limits options space (opcode_of (header_of request).opcode) (header_of request)
       (drop (size_of in_header) request)
 
 -- what stands behind the header of a request

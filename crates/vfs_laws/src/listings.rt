@@ -28,26 +28,26 @@ pub fn records_are_aligned()
 pub fn nodes_are_found()
     ensures rows { (rows : List (Entry × Item)) → All IsRow rows →
         nodes_in (rows_bytes rows) ≡ map (λ r. r.0.inode) rows }
-    ensures listed { (ctx : Context) (parent size room : ℕ) (events : List Event) (body : List ℕ)
+    ensures listed { (ctx : Context) (parent size space : ℕ) (events : List Event) (body : List ℕ)
         (result : Outcome ℕ (Option ℕ)) →
-        (h : IsListing true ctx parent size room events body result) →
+        (h : IsListing true ctx parent size space events body result) →
         nodes_in body ≡ map node_of_line h.lines }
 {}
 
 /// A reading that answers a number answers the length of its records, which is at most `size`.
 pub fn records_are_counted()
-    ensures { (plus : Bool) (ctx : Context) (parent size room : ℕ) (events : List Event)
+    ensures { (plus : Bool) (ctx : Context) (parent size space : ℕ) (events : List Event)
         (body : List ℕ) (result : Outcome ℕ (Option ℕ)) (n : ℕ) →
-        IsListing plus ctx parent size room events body result →
+        IsListing plus ctx parent size space events body result →
         result ≡ Ok n → (n ≡ length body) × (n ≤ size) }
 {}
 
 /// A reading takes at most `size / 24 + 1` items for READDIR and `size / 152 + 1` for READDIRPLUS,
 /// also from an iterator that has no end.
 pub fn takings_are_bounded()
-    ensures { (plus : Bool) (ctx : Context) (parent size room : ℕ) (events : List Event)
+    ensures { (plus : Bool) (ctx : Context) (parent size space : ℕ) (events : List Event)
         (body : List ℕ) (result : Outcome ℕ (Option ℕ)) →
-        IsListing plus ctx parent size room events body result →
+        IsListing plus ctx parent size space events body result →
         length (takings events) ≤ size / least_record plus + 1 }
 {}
 
@@ -55,8 +55,8 @@ pub fn takings_are_bounded()
 /// records are those of all items taken but of a last one whose record would pass `size`; where
 /// there is no such one, the iterator answered its end.
 pub fn directories_are_whole()
-    ensures { (plus : Bool) (ctx : Context) (parent size room : ℕ) (events : List Event)
+    ensures { (plus : Bool) (ctx : Context) (parent size space : ℕ) (events : List Event)
         (body : List ℕ) (result : Outcome ℕ (Option ℕ)) →
-        IsListing plus ctx parent size room events body result →
-        size ≤ room → All GoesOn events → IsWhole plus ctx parent size events body result }
+        IsListing plus ctx parent size space events body result →
+        size ≤ space → All GoesOn events → IsWhole plus ctx parent size events body result }
 {}

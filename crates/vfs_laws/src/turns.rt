@@ -14,12 +14,12 @@ ghost use Rattle.vfs_wire.specs.Stat.{kstatfs_of};
 ghost use Rattle.vfs_wire.specs.Xattrs.{getxattr_out};
 ghost use Rattle.vfs_wire.specs.declared.attributes.Attr.{Attr};
 ghost use Rattle.vfs_wire.specs.declared.stat.Statvfs64.{Statvfs64};
-ghost use Rattle.vfs_files.specs.Calls.{Found, Attributes, Opened, Created, Statistics, Count, Offset, Written, Text, Put, Call, Init, Destroy, BatchForget, Answer, Options, kind_of, IsAnswer};
+ghost use Rattle.vfs_files.specs.Calls.{Found, Attributes, Opened, Created, Statistics, Count, Offset, Wrote, Text, Put, Call, Init, Destroy, BatchForget, Answer, Options, kind_of, IsAnswer};
 ghost use Rattle.vfs_files.specs.Entries.{entry_out_of, context_of};
 ghost use Rattle.vfs_files.specs.Runs.{Event, Called};
 ghost use Rattle.vfs_files.specs.declared.entry.Entry.{Entry};
 ghost use Rattle.vfs_grammar.specs.Ask.{ask, ask_number, header_of};
-ghost use Rattle.vfs_grammar.specs.Forms.{Listing, Lists, Asks, Copies, faulted, refused_or, pairs_in};
+ghost use Rattle.vfs_grammar.specs.Forms.{Listing, Lists, Asks, WithMemory, faulted, refused_or, pairs_in};
 ghost use Rattle.vfs_laws.specs.Turns.{IsAnswered, body_in, unique_of, BeginsWithHeader, AreAgreed, WantsMemory, behind_header, opcode_in, count_of_pairs, CarriesData, size_asked, cut_turn_tells, LacksRoomForHeader};
 ghost use Rattle.vfs_grammar.specs.Limits.{default_limits, AreLimits, max_len};
 ghost use Rattle.vfs_grammar.specs.Directories.{StopsForACause, ComesWhole, TakesFew};
@@ -41,27 +41,27 @@ pub fn limits_are_kept()
         IsAnswered limits options (Options want) t after →
         (value_of init_out (body_in t.room_after)).max_pages
         ≡ (limits.max_buffer - 1) / limits.page_size + 1 }
-    ensures len_within { (limits : Limits) (options room : ℕ) (request : List ℕ) →
+    ensures len_within { (limits : Limits) (options space : ℕ) (request : List ℕ) →
         40 ≤ length request → (header_of request).len ≤ limits.max_buffer + 4096 →
-        ask limits options room request
-        ≡ ask_number limits options room (opcode_in request)
+        ask limits options space request
+        ≡ ask_number limits options space (opcode_in request)
         (header_of request) (behind_header request) }
-    ensures len_above { (limits : Limits) (options room : ℕ) (request : List ℕ) →
+    ensures len_above { (limits : Limits) (options space : ℕ) (request : List ℕ) →
         40 ≤ length request → limits.max_buffer + 4096 < (header_of request).len →
-        ask limits options room request ≡ faulted 12 (header_of request) }
-    ensures pairs_within { (limits : Limits) (options room : ℕ) (request : List ℕ) →
+        ask limits options space request ≡ faulted 12 (header_of request) }
+    ensures pairs_within { (limits : Limits) (options space : ℕ) (request : List ℕ) →
         48 ≤ length request → (header_of request).len ≤ limits.max_buffer + 4096 →
         opcode_in request ≡ Some Opcode.BatchForget →
         16 * count_of_pairs request ≤ limits.max_buffer →
-        ask limits options room request
+        ask limits options space request
         ≡ refused_or (pairs_in (count_of_pairs request) (drop 48 request)) (λ pairs.
-        Copies (Asks (echo_of (header_of request))
+        WithMemory (Asks (echo_of (header_of request))
         (BatchForget (context_of (header_of request)) pairs))) }
-    ensures pairs_above { (limits : Limits) (options room : ℕ) (request : List ℕ) →
+    ensures pairs_above { (limits : Limits) (options space : ℕ) (request : List ℕ) →
         48 ≤ length request → (header_of request).len ≤ limits.max_buffer + 4096 →
         opcode_in request ≡ Some Opcode.BatchForget →
         limits.max_buffer < 16 * count_of_pairs request →
-        ask limits options room request ≡ faulted 12 (header_of request) }
+        ask limits options space request ≡ faulted 12 (header_of request) }
 {}
 
 /// The limits of a server of which nothing is said but the size of a page, in numbers: payloads of
@@ -74,25 +74,25 @@ pub fn limits_have_their_numbers()
     ensures max_write { (page_size options after want : ℕ) (t : Turn) →
         IsAnswered (default_limits page_size) options (Options want) t after →
         (value_of init_out (body_in t.room_after)).max_write ≡ 1_048_576 }
-    ensures len_within { (page_size options room : ℕ) (request : List ℕ) → 40 ≤ length request →
+    ensures len_within { (page_size options space : ℕ) (request : List ℕ) → 40 ≤ length request →
         (header_of request).len ≤ 1_052_672 →
-        ask (default_limits page_size) options room request
-        ≡ ask_number (default_limits page_size) options room (opcode_in request)
+        ask (default_limits page_size) options space request
+        ≡ ask_number (default_limits page_size) options space (opcode_in request)
         (header_of request) (behind_header request) }
-    ensures len_above { (page_size options room : ℕ) (request : List ℕ) → 40 ≤ length request →
+    ensures len_above { (page_size options space : ℕ) (request : List ℕ) → 40 ≤ length request →
         1_052_672 < (header_of request).len →
-        ask (default_limits page_size) options room request ≡ faulted 12 (header_of request) }
-    ensures pairs_within { (page_size options room : ℕ) (request : List ℕ) →
+        ask (default_limits page_size) options space request ≡ faulted 12 (header_of request) }
+    ensures pairs_within { (page_size options space : ℕ) (request : List ℕ) →
         48 ≤ length request → (header_of request).len ≤ 1_052_672 →
         opcode_in request ≡ Some Opcode.BatchForget → count_of_pairs request ≤ 65_536 →
-        ask (default_limits page_size) options room request
+        ask (default_limits page_size) options space request
         ≡ refused_or (pairs_in (count_of_pairs request) (drop 48 request)) (λ pairs.
-        Copies (Asks (echo_of (header_of request))
+        WithMemory (Asks (echo_of (header_of request))
         (BatchForget (context_of (header_of request)) pairs))) }
-    ensures pairs_above { (page_size options room : ℕ) (request : List ℕ) →
+    ensures pairs_above { (page_size options space : ℕ) (request : List ℕ) →
         48 ≤ length request → (header_of request).len ≤ 1_052_672 →
         opcode_in request ≡ Some Opcode.BatchForget → 65_536 < count_of_pairs request →
-        ask (default_limits page_size) options room request ≡ faulted 12 (header_of request) }
+        ask (default_limits page_size) options space request ≡ faulted 12 (header_of request) }
 {}
 
 /// After every error but `EncodeMessage` no call was made, the room is as it was, and the options
@@ -224,7 +224,7 @@ pub fn replies_say_what_was_answered()
         IsAnswered limits options (Offset offset) t after →
         (value_of lseek_out (body_in t.room_after)).offset ≡ offset }
     ensures written { (limits : Limits) (options after : ℕ) (t : Turn) (count : ℕ) →
-        IsAnswered limits options (Written count) t after →
+        IsAnswered limits options (Wrote count) t after →
         (value_of write_out (body_in t.room_after)).size ≡ count }
     ensures text { (limits : Limits) (options after : ℕ) (t : Turn) (bytes : List ℕ) →
         IsAnswered limits options (Text bytes) t after →

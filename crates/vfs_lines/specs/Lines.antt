@@ -25,12 +25,12 @@ is_number_text least most text =
     nat_le least (length text) && nat_le (length text) most && list_all is_ascii_digit text
 
 -- the number that a text writes in `least` to `most` decimal digits
-abbrev pub number_of : ℕ → ℕ → List ℕ → Option ℕ
-number_of least most text = if is_number_text least most text then Some (decimal_value text) else None
+abbrev pub decimal_number : ℕ → ℕ → List ℕ → Option ℕ
+decimal_number least most text = if is_number_text least most text then Some (decimal_value text) else None
 
 -- the length that a part writes, in one to seven digits
 abbrev pub length_of : List ℕ → Option ℕ
-length_of text = number_of 1 7 text
+length_of text = decimal_number 1 7 text
 
 -- the value of a result, if it has one
 abbrev pub ok_of : {A E : Type 0} → Result A E → Option A
@@ -99,7 +99,7 @@ judged_limit (Some number) =
 -- the limit that a line sets: `limit`, one space, and four to nine decimal digits within the bounds
 abbrev pub limit_of : List ℕ → Option ℕ
 limit_of text =
-    if bytes_eq (take 6 text) (codes "limit ") then judged_limit (number_of 4 9 (drop 6 text)) else None
+    if bytes_eq (take 6 text) (codes "limit ") then judged_limit (decimal_number 4 9 (drop 6 text)) else None
 
 -- the limit that the first of these lines sets, if it does
 abbrev pub first_limit_of : List (List ℕ) → Option ℕ

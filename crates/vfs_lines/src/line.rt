@@ -1,7 +1,7 @@
 //! A line of a session: the rooms for a reply, and the segments of the request.
 ghost use Rattle.std.specs.Prelude.{◌≡◌, ◌↔◌, ◌<◌, ◌≤◌, ◌==◌, length, map, sum, position, IsTrue, IfOk, IfErr, IfSome};
 ghost use Rattle.std.specs.List.{slice_split};
-ghost use Rattle.vfs_lines.specs.Lines.{parts, number_of, length_of, segment_of, values_of, line_of, lines_in, request_option, numbers_option, lists_option};
+ghost use Rattle.vfs_lines.specs.Lines.{parts, decimal_number, length_of, segment_of, values_of, line_of, lines_in, request_option, numbers_option, lists_option};
 
 use crate::error::RunError;
 use hex::FromHexError;
@@ -109,7 +109,7 @@ fn parse_length(text: &[u8]) -> Option<usize>
 /// The number that `least` to `most` decimal digits write, where a text is so many and nothing else.
 pub fn parse_number(text: &[u8], least: usize, most: usize) -> Option<u32>
     requires { most ≤ 9 }
-    ensures { result ≡ number_of least most text.now }
+    ensures { result ≡ decimal_number least most text.now }
 {
     if text.len() < least || text.len() > most {
         return None;

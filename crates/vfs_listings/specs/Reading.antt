@@ -30,15 +30,15 @@ Adds (Fails (Some number)) entry i old result new = (result ≡ Err (Some number
 
 -- what was put of a record that was not written, by what became of it: for want of room its
 -- beginning, as much as there is room for, and else nothing
-abbrev pub cut_by : Verdict → (room : ℕ) → List ℕ → List ℕ
-cut_by (Fails None) room bytes = take room bytes
-cut_by _ room bytes = []
+abbrev pub cut_by : Verdict → (space : ℕ) → List ℕ → List ℕ
+cut_by (Fails None) space bytes = take space bytes
+cut_by _ space bytes = []
 
 -- what stands behind so many bytes of records though it does not count: the beginning of the record
 -- of the last item, where the room was too small for it
-abbrev pub cut_of : (size room written : ℕ) → Stop → List ℕ
-cut_of size room written End = []
-cut_of size room written (At l) = cut_by (fate size room written l) (room - written) (line_bytes l)
+abbrev pub cut_short : (size space written : ℕ) → Stop → List ℕ
+cut_short size space written End = []
+cut_short size space written (At l) = cut_by (fate size space written l) (space - written) (line_bytes l)
 
 -- what its lookup gives an item
 abbrev pub got_of : Result Entry (Option ℕ) → Got
@@ -47,10 +47,10 @@ got_of (Err fault) = Err fault
 
 -- the record of an item that got this was added; where it got a fault, this is the answer, and
 -- nothing was put
-abbrev pub AddsGot : (max room : ℕ) → Got → Item → Written → Result ℕ (Option ℕ) → Written → Type 0
-AddsGot max room (Ok entry) i old result new =
-    Adds (verdict max room entry i) entry i old result new
-AddsGot max room (Err fault) i old result new = (result ≡ Err fault) × (new ≡ old)
+abbrev pub AddsGot : (max space : ℕ) → Got → Item → Written → Result ℕ (Option ℕ) → Written → Type 0
+AddsGot max space (Ok entry) i old result new =
+    Adds (verdict max space entry i) entry i old result new
+AddsGot max space (Err fault) i old result new = (result ≡ Err fault) × (new ≡ old)
 
 -- these bytes were put into the next bytes of the room
 pub record Puts (old : Written) (bytes : List ℕ) (new : Written) : Type 0 where
@@ -86,13 +86,13 @@ module _ {S I : Type 0} (allows : S → Call → Handed I → S → Type 0) (ctx
   -- an item, after it was taken, is looked up, added, and given back where it was not written
   pub record AddsLine
       (plus : Bool) (parent max : ℕ) (i : Item)
-      (old : S) (room : Written) (result : Result ℕ (Option ℕ)) (new : S) (left : Written) : Type 0
+      (old : S) (writer : Written) (result : Result ℕ (Option ℕ)) (new : S) (writer_after : Written) : Type 0
     where
       pub got : Got
       pub middle : S
       pub looks_up : LooksUp plus (is_dot i.name) parent i old got middle
-      pub adds : AddsGot max (length room.left) got i room result left
-      pub gives_back : GivesBack (judged max (length room.left) got i) got middle new
+      pub adds : AddsGot max (length writer.left) got i writer result writer_after
+      pub gives_back : GivesBack (judged max (length writer.left) got i) got middle new
 
 module _ {S I : Type 0}
     (allows : S → Call → Handed I → S → Type 0) (gives : I → Option Item → I → Type 0)
@@ -102,22 +102,22 @@ module _ {S I : Type 0}
   -- was too small for it.
   pub record ReadsItems
       (plus : Bool) (parent size : ℕ) (it : I)
-      (old : S) (room : Written) (result : Result ℕ (Option ℕ)) (new : S) (left : Written) : Type 0
+      (old : S) (writer : Written) (result : Result ℕ (Option ℕ)) (new : S) (writer_after : Written) : Type 0
     where
       pub run : List (Happening I × S)
       pub body : List ℕ
       pub is_run : IsRun allows gives (Some it) old run new
-      pub listing : IsListing plus ctx parent size (length room.left) (events_of run) body result
+      pub listing : IsListing plus ctx parent size (length writer.left) (events_of run) body result
       pub puts :
-          Puts room
-          (body ++ cut_of size (length room.left) (sum_by line_len listing.lines) listing.stop)
-          left
+          Puts writer
+          (body ++ cut_short size (length writer.left) (sum_by line_len listing.lines) listing.stop)
+          writer_after
 
   -- `readdir` is called. The directory is read from the iterator that it hands back; or its fault
   -- is the answer, and nothing is taken and nothing put.
   pub record ReadsDirectory
       (plus : Bool) (parent handle size offset : ℕ)
-      (old : S) (room : Written) (result : Result ℕ (Option ℕ)) (new : S) (left : Written) : Type 0
+      (old : S) (writer : Written) (result : Result ℕ (Option ℕ)) (new : S) (writer_after : Written) : Type 0
     where
       pub opened : Result I (Option ℕ)
       pub middle : S
@@ -125,20 +125,20 @@ module _ {S I : Type 0}
           allows old (Readdir ctx parent handle size offset) (directory_answer opened) middle
       pub reads :
           MatchResult opened
-          (λ it. ReadsItems plus parent size it middle room result new left)
-          (λ fault. (result ≡ Err fault) × (new ≡ middle) × (left ≡ room))
+          (λ it. ReadsItems plus parent size it middle writer result new writer_after)
+          (λ fault. (result ≡ Err fault) × (new ≡ middle) × (writer_after ≡ writer))
 
   -- the same in events: there is a run, which begins with no iterator at hand, and its events are
   -- those of a whole READDIR or READDIRPLUS. What stands behind the records isn't said
   pub record RunsDirectory
       (plus : Bool) (parent handle size offset : ℕ)
-      (old : S) (room : Written) (result : Result ℕ (Option ℕ)) (new : S) (left : Written) : Type 0
+      (old : S) (writer : Written) (result : Result ℕ (Option ℕ)) (new : S) (writer_after : Written) : Type 0
     where
       pub run : List (Happening I × S)
       pub body : List ℕ
       pub beyond : List ℕ
       pub is_run : IsRun allows gives None old run new
       pub directory :
-          IsDirectory plus ctx parent handle size offset (length room.left) (events_of run) body
+          IsDirectory plus ctx parent handle size offset (length writer.left) (events_of run) body
           result
-      pub puts : Puts room (body ++ beyond) left
+      pub puts : Puts writer (body ++ beyond) writer_after

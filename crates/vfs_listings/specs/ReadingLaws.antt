@@ -6,7 +6,7 @@ use Rattle.vfs_files.specs.Items.{Item}
 use Rattle.vfs_files.specs.Runs.{Calls, Opens, events_of}
 use Rattle.vfs_files.specs.declared.entry.Context.{Context}
 use Rattle.vfs_grammar.specs.Listing.{line_len}
-use Rattle.vfs_listings.specs.Reading.{cut_of, Puts, ReadsItems, ReadsDirectory, RunsDirectory}
+use Rattle.vfs_listings.specs.Reading.{cut_short, Puts, ReadsItems, ReadsDirectory, RunsDirectory}
 
 -- nothing is put
 pub puts_nothing : (old new : Written) → new ≡ old → Puts old [] new
@@ -19,16 +19,16 @@ puts_nothing old new e = record {
 module _ {S I : Type 0} (allows : S → Call → Handed I → S → Type 0)
     (gives : I → Option Item → I → Type 0)
     (ctx : Context) (plus : Bool) (parent handle size offset : ℕ)
-    (old : S) (room : Written) (result : Result ℕ (Option ℕ)) (new : S) (left : Written) where
+    (old : S) (writer : Written) (result : Result ℕ (Option ℕ)) (new : S) (writer_after : Written) where
   run_by : (opened : Result I (Option ℕ)) (middle : S)
       → allows old (Readdir ctx parent handle size offset) (directory_answer opened) middle
-      → MatchResult opened (λ it. ReadsItems allows gives ctx plus parent size it middle room result
-      new left) (λ fault. (result ≡ Err fault) × (new ≡ middle) × (left ≡ room))
-      → RunsDirectory allows gives ctx plus parent handle size offset old room result new left
+      → MatchResult opened (λ it. ReadsItems allows gives ctx plus parent size it middle writer result
+      new writer_after) (λ fault. (result ≡ Err fault) × (new ≡ middle) × (writer_after ≡ writer))
+      → RunsDirectory allows gives ctx plus parent handle size offset old writer result new writer_after
   run_by (Ok it) middle opens reads = record {
     run = (Opens (Readdir ctx parent handle size offset) it, middle) ∷ reads.run;
     body = reads.body;
-    beyond = cut_of size _ (sum_by line_len reads.listing.lines) reads.listing.stop;
+    beyond = cut_short size _ (sum_by line_len reads.listing.lines) reads.listing.stop;
     is_run = (opens, reads.is_run);
     directory = inr (record {
       takings = events_of reads.run;
@@ -50,11 +50,11 @@ module _ {S I : Type 0} (allows : S → Call → Handed I → S → Type 0)
       answer_is =
           fails.0;
     });
-    puts = puts_nothing room left fails.2;
+    puts = puts_nothing writer writer_after fails.2;
   }
 
   -- a directory that was read is a run
-  pub directory_runs : ReadsDirectory allows gives ctx plus parent handle size offset old room
-      result new left
-      → RunsDirectory allows gives ctx plus parent handle size offset old room result new left
+  pub directory_runs : ReadsDirectory allows gives ctx plus parent handle size offset old writer
+      result new writer_after
+      → RunsDirectory allows gives ctx plus parent handle size offset old writer result new writer_after
   directory_runs h = run_by h.opened h.middle h.opens h.reads

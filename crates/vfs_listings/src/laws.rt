@@ -12,9 +12,9 @@ use vfs_files::FileSystem;
 /// with no iterator at hand: its events are those of a whole READDIR or READDIRPLUS.
 pub fn readings_are_runs<F: FileSystem>()
     ensures { (ctx : Context) (plus : Bool) (parent handle size offset : ℕ)
-        (old : F) (room : Written) (result : Outcome ℕ (Option ℕ)) (new : F) (left : Written) →
+        (old : F) (writer : Written) (result : Outcome ℕ (Option ℕ)) (new : F) (writer_after : Written) →
         ReadsDirectory F.allows F.DirIter.gives ctx plus parent handle size offset
-        old room result new left →
+        old writer result new writer_after →
         RunsDirectory F.allows F.DirIter.gives ctx plus parent handle size offset
-        old room result new left }
+        old writer result new writer_after }
 {}

@@ -4,7 +4,7 @@ use Rattle.std.proofs.Math.Seq.{take-add}
 use Rattle.std.proofs.lemmas.List.{take_min, take_all, drop-drop, nil_from_length}
 use Rattle.std.proofs.lemmas.List.Sums.{sum_by-cons}
 use Rattle.vfs_views.specs.declared.file.WritevFlags.{WritevFlags}
-use Rattle.vfs_files.specs.Transfers.{Ending, Done, Stuck, Broken, Past, last_bytes, outcome, bytes_moved, count_moved, reads_of, writes_of, view_len, Goes, Ends, Transfers}
+use Rattle.vfs_files.specs.Transfers.{Ending, Finished, Stuck, Broken, Past, last_bytes, outcome, bytes_moved, count_moved, reads_of, writes_of, view_len, Goes, Ends, Transfers}
 use Rattle.vfs_files.specs.TransferLaws.{goes_within}
 use Rattle.vfs_memory.specs.MemFile.{part_of, Reads, most_bytes, fitting, Writes}
 
@@ -48,7 +48,7 @@ module _ (count room off : ℕ) where
       (moved : ℕ) (old : List ℕ) (ending : Ending) (new : List ℕ) → moved ≤ min count room
       → Ends (reads_of Reads) count room off moved old ending new
       → ReadEnds moved old ending new
-  read_ends moved old Done new small h =
+  read_ends moved old Finished new small h =
       let whole : moved ≡ min count room = omega (arith, h.0) in
       record {
         answered = refl;
@@ -189,7 +189,7 @@ module _ (count off : ℕ) (left : List ℕ) where
       → Writes old (take count left) off (Ok (length part)) one → middle ≡ one → m ≡ length part
       → Ends (writes_of gives left None) count (length left) off m middle ending new
       → Writes old (take count left) off (outcome m ending) new
-  after_one old part one middle new m Done w mid same e = (same ∙ w.0, e.1 ∙ mid ∙ w.1)
+  after_one old part one middle new m Finished w mid same e = (same ∙ w.0, e.1 ∙ mid ∙ w.1)
   after_one old part one middle new m Stuck w mid same e =
       let past = at_limit part m same w.0 (omega (arith, e.0)) in
       let l = later_call m middle (Ok []) new _ past e.1 in
@@ -210,7 +210,7 @@ module _ (count off : ℕ) (left : List ℕ) where
       → Goes (writes_of gives left None) count (length left) off 0 old row middle
       → Ends (writes_of gives left None) count (length left) off (count_moved row) middle ending new
       → Writes old (take count left) off (outcome (count_moved row) ending) new
-  write_cases old middle new [] Done g e =
+  write_cases old middle new [] Finished g e =
       let none : length (take count left) ≡ 0 = omega (arith, e.0, length-take count left) in
       let same : old ≡ new = sym (e.1 ∙ g) in
       rw (← same) (write_none old (take count left) off none)

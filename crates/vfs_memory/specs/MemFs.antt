@@ -7,7 +7,7 @@ use Rattle.vfs_flags.specs.Errors.{enoent, enomem, eexist, enotdir, enospc}
 use Rattle.vfs_wire.specs.declared.attributes.Attr.{Attr}
 use Rattle.vfs_files.specs.declared.entry.Entry.{Entry}
 use Rattle.vfs_files.specs.Items.{Item}
-use Rattle.vfs_files.specs.Calls.{Call, Init, Lookup, Getattr, Unlink, Read, Write, Readdir, Create, Answer, Done, Failed, Options, Found, Attributes, Put, Created, Written, Handed, Plain, Iterator, default_answer}
+use Rattle.vfs_files.specs.Calls.{Call, Init, Lookup, Getattr, Unlink, Read, Write, Readdir, Create, Answer, Done, Failed, Options, Found, Attributes, Put, Created, Wrote, Handed, Plain, Iterator, default_answer}
 use Rattle.vfs_memory.specs.MemFile.{part_of, Writes}
 
 -- a file: its node, its name and its contents
@@ -182,7 +182,7 @@ AnswersRead stock None off most answer = answer ≡ Failed (Some enoent)
 -- files stay; or there is no such file
 abbrev pub WritesInto :
     Stock → Option ℕ → (off : ℕ) → (bytes : List ℕ) → Answer → Stock → Type 0
-WritesInto old (Some place) off bytes (Written count) new =
+WritesInto old (Some place) off bytes (Wrote count) new =
     (contents : List ℕ) × Writes (contents_at old.files place) bytes off (Ok count) contents
     × (new ≡ record old { files = with_contents old.files place contents })
 WritesInto old (Some place) off bytes (Failed fault) new =

@@ -8,7 +8,7 @@ ghost use Rattle.vfs_wire.specs.Init.{init_out};
 ghost use Rattle.vfs_files.specs.Calls.{IsAnswer, Agreements, Init, init_answer};
 ghost use Rattle.vfs_grammar.specs.Forms.{second_flags};
 ghost use Rattle.vfs_grammar.specs.Limits.{AreLimits};
-ghost use Rattle.vfs_grammar.specs.Options.{offered, agreed, options_after};
+ghost use Rattle.vfs_grammar.specs.Options.{options_offered, agreed, options_after};
 ghost use Rattle.vfs_grammar.specs.Reply.{Bytes, init_out_of, body_reply, answer_reply, version_out};
 ghost use Rattle.vfs_messages.specs.Rooms.{Replies};
 
@@ -35,7 +35,7 @@ pub fn read_second_flags(flags: u32, reader: &mut Reader<'_>) -> Result<u32>
 /// The known options among those that the client offers in its two words of flags.
 #[tactic(auto, unfolding(bitflags::proofs::OnLiterals::bitflags_on_literals))]
 pub fn offered_options(flags: u32, flags2: u32) -> FsOptions
-    ensures { fs_options_bits result ≡ offered flags flags2 }
+    ensures { fs_options_bits result ≡ options_offered flags flags2 }
 {
     FsOptions::from_bits_truncate(u64::from(flags2) * (1 << 32) + u64::from(flags))
 }

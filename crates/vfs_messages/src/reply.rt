@@ -16,7 +16,7 @@ ghost use Rattle.vfs_files.specs.Answers.{IsFault, IsAnswer, FitsText, KeepsText
 ghost use Rattle.vfs_grammar.specs.Records.{size_of};
 ghost use Rattle.vfs_messages.specs.Rooms.{bytes_of_option, bytes_or_none, size_of_option, data_header, Replies, PutsBehindHeader};
 ghost use Rattle.vfs_grammar.specs.Reply.{Bytes, fault_reply, fault_number, body_reply, reply_to, attr_out_of, open_out_of, getxattr_out_of};
-ghost use Rattle.vfs_grammar.specs.Forms.{room_behind_header};
+ghost use Rattle.vfs_grammar.specs.Forms.{space_behind_header};
 
 use bitflags::Flags;
 use std::io::Write;
@@ -227,8 +227,8 @@ pub fn reply_error(fault: Fault, unique: u64, w: &mut Writer) -> Result<usize>
 /// `EncodeMessage` where there is no room for a header; then nothing changes.
 pub fn hold_header(w: &mut Writer) -> Result<()>
     ensures room { MatchResult result
-        (λ held. room_behind_header (length w.old.left) ≡ Ok (length w.new.left))
-        (λ error. room_behind_header (length w.old.left) ≡ Err error) }
+        (λ held. space_behind_header (length w.old.left) ≡ Ok (length w.new.left))
+        (λ error. space_behind_header (length w.old.left) ≡ Err error) }
     ensures held { OnOk result (w.new ≡ held_over w.old (size_of out_header)) }
     ensures enough { OnOk result (size_of out_header ≤ length w.old.left) }
     ensures refused { OnErr result (w.new ≡ w.old) }

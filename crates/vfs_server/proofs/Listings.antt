@@ -57,7 +57,7 @@ counts_by plus ctx parent size room events body (Err fault) h small = tt
 pub directory_counts : (listing : Listing) (events : List Event) (body : List ℕ) (answer : Result ℕ (Option ℕ))
     → IsRead listing events body answer → listing.size < 2 ^ 32 - 16 → Counts answer body listing.size
 directory_counts l events body answer (inl u) small = rw u.answer_is tt
-directory_counts l events body answer (inr o) small = counts_by l.plus l.ctx l.parent l.size l.room o.takings body answer o.listing small
+directory_counts l events body answer (inr o) small = counts_by l.plus l.ctx l.parent l.size l.space o.takings body answer o.listing small
 
 -- what asks for no more than the limit and than there is room for
 pub within_limit : (limits : Limits) (room : ℕ) (r : ReadIn) → lists_too_much limits room r ≡ false → r.size ≤ limits.max_buffer

@@ -10,7 +10,7 @@ use Rattle.vfs_files.specs.Runs.{Happening, Called, Calls, IsRun, events_of}
 use Rattle.vfs_files.specs.declared.entry.Context.{Context}
 use Rattle.vfs_grammar.specs.Listing.{given_back}
 use Rattle.vfs_grammar.specs.Records.{record_of, size_of}
-use Rattle.vfs_grammar.specs.Forms.{Listing, Ask, Ends, Asks, Lists, Copies, refused, refused_or}
+use Rattle.vfs_grammar.specs.Forms.{Listing, Ask, Ends, Asks, Lists, WithMemory, refused, refused_or}
 use Rattle.vfs_grammar.specs.Ask.{ask, ask_header, header_of}
 use Rattle.vfs_grammar.specs.Directories.{StopsForACause, ComesWhole, TakesFew}
 use Rattle.vfs_grammar.specs.Reply.{Echo, Reply, Refusal, NoReply, Bytes, OpenBehind, reply_of}
@@ -60,8 +60,8 @@ unfolding turn_says
 follows_less limits options after t P Q less (Ends reply) f = f
 follows_less limits options after t P Q less (Asks echo call) f = f
 follows_less limits options after t P Q less (Lists echo l) f = f
-follows_less limits options after t P Q less (Copies rest) (inl f) = inl (follows_less limits options after t P Q less rest f)
-follows_less limits options after t P Q less (Copies rest) (inr f) = inr (less f.0, f.1, f.2)
+follows_less limits options after t P Q less (WithMemory rest) (inl f) = inl (follows_less limits options after t P Q less rest f)
+follows_less limits options after t P Q less (WithMemory rest) (inr f) = inr (less f.0, f.1, f.2)
 
 module _ {S I : Type 0} (allows : S → Call → Handed I → S → Type 0) (gives : I → Option Item → I → Type 0) (old : ServerState S) (request : List ℕ) (writer : Written) (outcome : Result ℕ Error) (writer_after : Written) (new : ServerState S) where
   -- a call, and what was given back behind it, as a run
@@ -100,10 +100,10 @@ module _ {S I : Type 0} (allows : S → Call → Handed I → S → Type 0) (giv
   follow wanted (Lists echo l) h =
       let c = came (reply_of old.limits echo new.options (Data l.size) (read_answer h.1 h.0)) writer writer_after outcome h.4 in
       record { run = h.2.run; room_after = c.room_after; is_run = h.2.is_run; leaves = c.leaves; follows = (h.0, h.1, h.2.is_read, h.3, c.says, h.5); no_hold = c.no_hold }
-  follow wanted (Copies rest) (inl h) =
+  follow wanted (WithMemory rest) (inl h) =
       let f = follow wanted rest h in
       record { run = f.run; room_after = f.room_after; is_run = f.is_run; leaves = f.leaves; follows = inl f.follows; no_hold = f.no_hold }
-  follow wanted (Copies rest) (inr h) =
+  follow wanted (WithMemory rest) (inr h) =
       let c = came (Refusal OutOfMemory) writer writer_after outcome h.1 in
       record { run = []; room_after = c.room_after; is_run = h.0.0; leaves = c.leaves; follows = inr ((refl, h.0.1), c.says, h.2); no_hold = c.no_hold }
 

@@ -10,7 +10,7 @@ use Rattle.vfs_files.specs.Runs.{Happening, IsRun, events_of}
 use Rattle.vfs_files.specs.declared.entry.Context.{Context}
 use Rattle.vfs_listings.specs.Reading.{GivesBackNode}
 use Rattle.vfs_files.specs.Migrations.{MigrationCall, MigrationAnswer}
-use Rattle.vfs_grammar.specs.Forms.{Listing, Ask, Lists}
+use Rattle.vfs_grammar.specs.Forms.{Listing, Ask, Lists, memory_use}
 use Rattle.vfs_grammar.specs.Ask.{ask, ask_opcode, form_of}
 use Rattle.vfs_grammar.specs.Directories.{StopsForACause, ComesWhole, TakesFew}
 use Rattle.vfs_grammar.specs.Reply.{Echo}
@@ -18,7 +18,7 @@ use Rattle.vfs_messages.specs.Rooms.{Leaves, Replies}
 use Rattle.vfs_grammar.specs.Turn.{Witness, Follows, IsRead, Turn, IsTurn}
 use Rattle.vfs_grammar.specs.declared.limits.Limits.{Limits}
 use Rattle.vfs_grammar.specs.declared.error.Error.{Error}
-use Rattle.vfs_server.specs.Memory.{MayWantForm}
+use Rattle.vfs_server.specs.Memory.{MayWantFor}
 
 -- a server as contracts see it: the agreed options, the limits, the state of the file system
 pub record ServerState (S : Type 0) : Type 0 where
@@ -50,7 +50,7 @@ module _ {S I : Type 0} (allows : S → Call → Handed I → S → Type 0)
   abbrev pub server_tells : (wanted : Type 0) → (old : ServerState S) → (writer : Written)
       → Result ℕ Error → (writer_after : Written) → (new : ServerState S) → Witness
   server_tells wanted old writer outcome writer_after new = record {
-    room = length writer.left;
+    space = length writer.left;
     no_call = new.fs ≡ old.fs;
     called = λ call answer ctx back. CallsAndGivesBack call answer ctx back old.fs new.fs;
     listed = λ listing records answer. Reads listing old.fs records answer new.fs;
@@ -72,8 +72,8 @@ module _ {S I : Type 0} (allows : S → Call → Handed I → S → Type 0)
       → Type 0
   Serves opcode header reader old writer outcome writer_after new =
       Handles
-      (MayWantForm header reader.pieces
-      (form_of old.limits old.options (length writer.left) header opcode))
+      (MayWantFor header reader.pieces
+      (memory_use (form_of old.limits old.options (length writer.left) header opcode)))
       (ask_opcode old.limits old.options (length writer.left) opcode header reader.left)
       old writer outcome writer_after new
 

@@ -3,7 +3,7 @@
 use Rattle.std.proofs.Common.{◌≡◌, ◌≤◌, ◌<◌, ◌+◌, ◌-◌, ◌^◌, ◌⊎◌, inl, inr, ℕ, List, [], ◌∷◌, ◌++◌, length, min, Option, None, Result, Ok, Err, arith, refl, ap, ◌∙◌, append-nil}
 use Rattle.std.proofs.lemmas.Grind.{flat_map-append}
 use Rattle.std.proofs.lemmas.List.Sums.{sum_by_push, sum_by-cons}
-use Rattle.vfs_files.specs.Transfers.{Ending, Done, Stuck, Broken, Past, last_bytes, outcome, bytes_moved, count_moved, CallsFile, MovesSome, Goes, Ends, Transfers}
+use Rattle.vfs_files.specs.Transfers.{Ending, Finished, Stuck, Broken, Past, last_bytes, outcome, bytes_moved, count_moved, CallsFile, MovesSome, Goes, Ends, Transfers}
 
 -- what bytes are put into or taken from: what it is for bytes to be moved, how many may still be, and
 -- the laws of both
@@ -138,7 +138,7 @@ module _ {F S : Type 0} (side : Side S)
         {moved place : ℕ} {f : F} {now : S} → Going moved place f now → count ≤ moved
         → Ended (Ok moved) f now
     going_done {moved} {place} {f} {now} going all =
-        ended going Done (omega arith, refl) (side.nothing now)
+        ended going Finished (omega arith, refl) (side.nothing now)
 
     -- a call that moved bytes, as one of the transfer, and where it left off
     record Moved (moved place n : ℕ) (f : F) (now : S) (g : F) (new : S) : Type 0 where
@@ -216,7 +216,7 @@ module _ {F S : Type 0} (side : Side S)
         let left_is = going.left_is in
         let zero_is = none.0 in
         let empty : min count (side.left old) - moved ≡ 0 = omega arith in
-        rw (none.2, none.3) (ended going Done (empty, refl) (side.nothing now))
+        rw (none.2, none.3) (ended going Finished (empty, refl) (side.nothing now))
     going_none {moved} {place} {f} {g} {now} {new} going (inr did) =
         let nil : did.1.0 ≡ [] = no_bytes did.1.0 did.1.2 in
         ended going Stuck (made going did.0 (rw nil at did.1.1)) (rw nil at did.1.4)

@@ -14,7 +14,7 @@ use Rattle.vfs_files.specs.Items.{Item}
 use Rattle.vfs_files.specs.Answers.{Answer, Handed, Plain, Capacities}
 use Rattle.vfs_files.specs.Calls.{Call, Statfs, default_answer}
 use Rattle.vfs_files.specs.Entries.{context_of}
-use Rattle.vfs_files.specs.Runs.{Event, Called, Opened, Taken, Happening, Calls, Opens, Takes, IsRun, events_of}
+use Rattle.vfs_files.specs.Runs.{Event, Called, OpenedDirectory, Taken, Happening, Calls, Opens, Takes, IsRun, events_of}
 use Rattle.vfs_grammar.specs.Ask.{ask}
 use Rattle.vfs_grammar.specs.Forms.{Ask, Asks, within, faulted, refused}
 use Rattle.vfs_grammar.specs.Limits.{max_len}
@@ -35,7 +35,7 @@ use Rattle.vfs_uses.specs.declared.server.TheConstants.{LONG_STATFS, READ, STATF
 abbrev pub AreDefault : List Event → Type 0
 AreDefault [] = Unit {0}
 AreDefault (Called call answer ∷ events) = (answer ≡ default_answer call) × AreDefault events
-AreDefault (Opened call ∷ events) = AreDefault events
+AreDefault (OpenedDirectory call ∷ events) = AreDefault events
 AreDefault (Taken item ∷ events) = AreDefault events
 
 -- what is seen of a turn whose reply takes all of its room

@@ -25,7 +25,7 @@ use Rattle.vfs_uses.specs.Requests.{small_readdir, no_directory_reply, no_record
 use Rattle.vfs_uses.specs.declared.server.TheConstants.{READDIR}
 
 abbrev small_listing : Listing
-small_listing = record { plus = false; ctx = record { uid = 0; gid = 0; pid = pos 0 }; parent = 1; handle = 0; size = 24; offset = 0; room = 24 }
+small_listing = record { plus = false; ctx = record { uid = 0; gid = 0; pid = pos 0 }; parent = 1; handle = 0; size = 24; offset = 0; space = 24 }
 
 -- what the request asks
 ask-readdir : (limits : Limits) (options : ℕ) → 24 ≤ limits.max_buffer → ask limits options 40 READDIR ≡ Lists (echo_of (value_of in_header READDIR)) small_listing

@@ -3,7 +3,7 @@
 use Rattle.std.proofs.Common.{◌≡◌, ◌<◌, ◌+◌, ℕ, List, [], ◌∷◌, ◌++◌, length, replicate, Option, Some, None, Result, Ok, Err, refl, ap, ◌∙◌, arith}
 use Rattle.std.proofs.lemmas.List.Sums.{sum_by-cons}
 use Rattle.vfs_files.specs.Answers.{Counts, Plain, read_answer, written_answer}
-use Rattle.vfs_files.specs.Transfers.{Ending, Done, Stuck, Broken, Past, last_bytes, outcome, bytes_moved, count_moved, reads_of, writes_of, Goes, Ends}
+use Rattle.vfs_files.specs.Transfers.{Ending, Finished, Stuck, Broken, Past, last_bytes, outcome, bytes_moved, count_moved, reads_of, writes_of, Goes, Ends}
 use Rattle.vfs_bench.specs.Scripts.{ReadsScript, WritesScript, ReadsFile, WritesFile, called}
 use Rattle.vfs_bench.specs.declared.file.ScriptFile.{ScriptFile}
 
@@ -28,8 +28,8 @@ module _ (room : ℕ) (some_room : 0 < room) where
       (ending : Ending) (new : ScriptFile) → length part ≡ 1
       → Goes (reads_of ReadsScript) 1 room 0 (0 + length part) old row middle
       → Ends (reads_of ReadsScript) 1 room 0 (length part + count_moved row) middle ending new
-      → (row ≡ []) × (ending ≡ Done) × (new ≡ old)
-  then_nothing part [] old middle Done new one g e = (refl, refl, e.1 ∙ g)
+      → (row ≡ []) × (ending ≡ Finished) × (new ≡ old)
+  then_nothing part [] old middle Finished new one g e = (refl, refl, e.1 ∙ g)
   then_nothing part [] old middle Stuck new one g e = let some = e.0 in absurd (omega arith)
   then_nothing part [] old middle (Broken fault) new one g e =
       let some = e.0 in absurd (omega arith)
@@ -45,7 +45,7 @@ module _ (room : ℕ) (some_room : 0 < room) where
       → (outcome (count_moved row) ending ≡ Ok 1)
       × (bytes_moved row ++ last_bytes ending ≡ 7 ∷ [])
       × (new ≡ called (moving 1 7))
-  reads_seven [] middle Done new g e = absurd (omega (arith, e.0))
+  reads_seven [] middle Finished new g e = absurd (omega (arith, e.0))
   reads_seven [] middle Stuck new g e =
       absurd (omega (arith, number_is _ _ (rw g at e).1.answered))
   reads_seven [] middle (Broken fault) new g e = absurd (no_fault _ _ (rw g at e).1.answered)
@@ -86,7 +86,7 @@ module _ (bytes : List ℕ) (some_byte : 0 < length bytes) where
       → Goes (writes_of WritesScript bytes None) 4096 (length bytes) 0 0 (moving 0 0) row middle
       → Ends (writes_of WritesScript bytes None) 4096 (length bytes) 0 (count_moved row) middle ending new
       → (outcome (count_moved row) ending ≡ Ok 0) × (new ≡ called (moving 0 0))
-  takes_none [] middle Done new g e = absurd (omega (arith, e.0))
+  takes_none [] middle Finished new g e = absurd (omega (arith, e.0))
   takes_none [] middle Stuck new g e = (refl, (rw g at e).1.0.counted)
   takes_none [] middle (Broken fault) new g e = absurd (no_fault _ _ (rw g at e).1.answered)
   takes_none [] middle (Past part) new g e =

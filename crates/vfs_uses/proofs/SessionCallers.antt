@@ -13,11 +13,11 @@ use Rattle.vfs_files.specs.Answers as answers
 use Rattle.vfs_files.specs.Calls.{Call, Init, Lookup, Forget, default_answer}
 use Rattle.vfs_files.specs.Entries.{context_of}
 use Rattle.vfs_files.specs.declared.entry.Context.{Context}
-use Rattle.vfs_files.specs.Runs.{Event, Called, Opened, Taken, events_of}
+use Rattle.vfs_files.specs.Runs.{Event, Called, OpenedDirectory, Taken, events_of}
 use Rattle.vfs_grammar.specs.Books.{accepted, delivered, accepted_by, delivered_by, opcode_in, GivesBackWithin, KeepsBooks}
 use Rattle.vfs_grammar.specs.Turn.{events_in, Turn, IsTurn, Follows, turn_tells}
 use Rattle.vfs_grammar.specs.Ask.{ask}
-use Rattle.vfs_grammar.specs.Forms.{Ask, Asks, Copies, within}
+use Rattle.vfs_grammar.specs.Forms.{Ask, Asks, WithMemory, within}
 use Rattle.vfs_grammar.specs.Limits.{max_len}
 use Rattle.vfs_grammar.specs.Options.{options_after}
 use Rattle.vfs_grammar.specs.Reply.{Echo, echo_of, reply_of}
@@ -39,13 +39,13 @@ use Rattle.vfs_uses.specs.declared.server.session.TheConstants.{FORGET}
 default_left : (xs ys : List Event) → AreDefault (xs ++ ys) → AreDefault xs
 default_left [] ys h = tt
 default_left (Called call answer ∷ xs) ys h = (h.0, default_left xs ys h.1)
-default_left (Opened call ∷ xs) ys h = default_left xs ys h
+default_left (OpenedDirectory call ∷ xs) ys h = default_left xs ys h
 default_left (Taken item ∷ xs) ys h = default_left xs ys h
 
 default_right : (xs ys : List Event) → AreDefault (xs ++ ys) → AreDefault ys
 default_right [] ys h = h
 default_right (Called call answer ∷ xs) ys h = default_right xs ys h.1
-default_right (Opened call ∷ xs) ys h = default_right xs ys h
+default_right (OpenedDirectory call ∷ xs) ys h = default_right xs ys h
 default_right (Taken item ∷ xs) ys h = default_right xs ys h
 
 -- the requests of a session that are left behind some of it
@@ -124,7 +124,7 @@ turn-init t after s request room default =
     let Q : ℕ → Answer → Type 0 = λ o a. IsReplied (reply_of limits_of_new echo o Agreements a) t.room t.outcome t.room_after in
     seen_put t 80 init_reply 9 after (subst (λ o. Q o (Options 0)) options (subst (λ a. Q after a) answer f.3)) room refl options
 
-ask-lookup : ask limits_of_new 9 16 lookup_request ≡ Copies (Asks (echo_of (value_of in_header lookup_request)) (Lookup (context_of (value_of in_header lookup_request)) 1 (97 ∷ [])))
+ask-lookup : ask limits_of_new 9 16 lookup_request ≡ WithMemory (Asks (echo_of (value_of in_header lookup_request)) (Lookup (context_of (value_of in_header lookup_request)) 1 (97 ∷ [])))
 unfolding number opcode_of
 ask-lookup = refl
 
@@ -139,7 +139,7 @@ turn-lookup t after s request room default enough =
     let echo : Echo = echo_of (value_of in_header lookup_request) in
     let call : Call = Lookup (context_of (value_of in_header lookup_request)) 1 (97 ∷ []) in
     let P : Ask → Type 0 = λ a. Follows (turn_tells t) limits_of_new 9 a after in
-    let asks : ask limits_of_new 9 (length t.room) t.request ≡ Copies (Asks echo call) =
+    let asks : ask limits_of_new 9 (length t.room) t.request ≡ WithMemory (Asks echo call) =
     ap (λ (n : ℕ). ask limits_of_new 9 n t.request) room ∙ ap (λ (b : List ℕ). ask limits_of_new 9 16 b) request ∙ ask-lookup in
     let f = the_first (subst P asks s) (λ q. enough q.1.0) in
     let answer : f.0 ≡ Failed (Some 38) = (subst AreDefault f.1 default).0 in

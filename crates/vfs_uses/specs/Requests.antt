@@ -8,7 +8,7 @@ use Rattle.vfs_segments.specs.Unread.{Unread}
 use Rattle.vfs_segments.specs.Written.{Written}
 use Rattle.vfs_files.specs.Items.{Item}
 use Rattle.vfs_files.specs.Calls.{Call, Readdir, Failed, Handed}
-use Rattle.vfs_files.specs.Runs.{Called, Opened, Taken, Happening, IsRun, events_of}
+use Rattle.vfs_files.specs.Runs.{Called, OpenedDirectory, Taken, Happening, IsRun, events_of}
 use Rattle.vfs_grammar.specs.Directories.{takings}
 use Rattle.vfs_grammar.specs.Books.{answered, sent, NeverBelow}
 use Rattle.vfs_grammar.specs.declared.error.Error.{Error}
@@ -118,5 +118,5 @@ pub record ReadsOneRecord {S I : Type 0} (allows : S → Call → Handed I → S
       events_of run ≡ Called small_readdir (Failed (Some 20)) ∷ []
       → (outcome ≡ Ok 16) × (take 16 room_after ≡ no_directory_reply)
   pub empty :
-      events_of run ≡ Opened small_readdir ∷ Taken None ∷ []
+      events_of run ≡ OpenedDirectory small_readdir ∷ Taken None ∷ []
       → (outcome ≡ Ok 16) × (take 16 room_after ≡ no_records_reply)

@@ -3,7 +3,7 @@
 ghost use Rattle.std.specs.Prelude.{◌≡◌, ◌≤◌, ◌<◌, ◌++◌, [], ◌∷◌, true, false, length, map, vec_len};
 ghost use Rattle.std.specs.Prelude.{Some, None, Ok, Err, IfSome, IfOk, IfErr, IsOk, IsSome};
 ghost use Rattle.vfs_files.specs.Answers.{entry_answer};
-ghost use Rattle.vfs_files.specs.Calls.{no_such_call, not_served, no_memory};
+ghost use Rattle.vfs_files.specs.Calls.{no_such_call, not_served, out_of_memory};
 ghost use Rattle.vfs_bench.specs.Directories.{GivesNext, Reading};
 ghost use Rattle.vfs_bench.specs.Notes.{told};
 ghost use Rattle.vfs_bench.specs.declared.note.NoteKind.TheVariants.{Nothing, Fault as Failed};
@@ -136,7 +136,7 @@ fn what_was_set(
 /// and where it is too long for a reply ERANGE.
 fn text_that_was_set(script: &mut Script, ctx: Context, text: Vec<u8>) -> Result<Vec<u8>, Fault>
     ensures same { IfOk result (λ copy. copy.items ≡ text.items) }
-    ensures short { vec_len text < 4_294_967_280 → IfErr result (λ fault. fault ≡ no_memory) }
+    ensures short { vec_len text < 4_294_967_280 → IfErr result (λ fault. fault ≡ out_of_memory) }
     ensures long { 4_294_967_280 ≤ vec_len text → result ≡ Err (Some 34) }
 {
     script.text = Ok(text);
@@ -151,7 +151,7 @@ fn directory_that_was_set(
     directory: ScriptDirectory,
 ) -> Result<ScriptEntries, Fault>
     ensures begun { IfOk result (λ entries. entries ≡ directory) }
-    ensures memory { IfErr result (λ fault. fault ≡ no_memory) }
+    ensures memory { IfErr result (λ fault. fault ≡ out_of_memory) }
     ensures kept { script.new.directory ≡ Ok directory }
 {
     script.directory = Ok(directory);

@@ -84,8 +84,9 @@ fn read_a_page<F: FileSystem>(
 /// the answer is a fault without a number, and the beginning of the record fills the room.
 fn a_room_that_is_too_small<F: FileSystem>()
     ensures { (ctx : Context) (parent size : ℕ) (it : F.DirIter) (old new : F)
-        (room left : Written) (result : Outcome ℕ (Option ℕ)) →
-        (h : ReadsItems F.allows F.DirIter.gives ctx false parent size it old room result new left) →
-        events_of h.run ≡ Taken (Some file_a) ∷ [] → length room.left ≡ 31 → 32 ≤ size →
-        (result ≡ Err Nothing) × (left.left ≡ []) }
+        (writer writer_after : Written) (result : Outcome ℕ (Option ℕ)) →
+        (h : ReadsItems F.allows F.DirIter.gives ctx false parent size it old writer result new
+        writer_after) →
+        events_of h.run ≡ Taken (Some file_a) ∷ [] → length writer.left ≡ 31 → 32 ≤ size →
+        (result ≡ Err Nothing) × (writer_after.left ≡ []) }
 {}

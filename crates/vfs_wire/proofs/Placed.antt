@@ -5,7 +5,7 @@ use Rattle.std.specs.Prelude.{sum}
 use borrow.Rule.Slice.PartMut.{put_mid, post_of}
 use Rattle.vfs_wire.specs.declared.bytes.Field.{Field}
 use Rattle.vfs_wire.specs.FieldLaws.{numbers_at-take}
-use Rattle.vfs_wire.specs.Fields.{numbers, numbers_at, little, width_of, number_of, spelled, spelled_onto, row, row_onto}
+use Rattle.vfs_wire.specs.Fields.{numbers, numbers_at, little, width_of, field_number, spelled, spelled_onto, row, row_onto}
 
 -- the part that was written, behind what stood before it
 pub placed : (i k : ℕ) (xs ys : List ℕ) → i + k ≤ length xs → length ys ≡ k → take (i + k) (put_mid i (i + k - i) xs ys) ≡ take i xs ++ ys
@@ -16,7 +16,7 @@ placed i k xs ys long wide =
 
 pub spelled-append : (fs : List Field) (rest : List ℕ) → spelled fs ++ rest ≡ spelled_onto fs rest
 spelled-append [] rest = refl
-spelled-append (f ∷ fs) rest = append_assoc (little (width_of f) (number_of f)) (spelled fs) rest ∙ ap (λ (t : List ℕ). little (width_of f) (number_of f) ++ t) (spelled-append fs rest)
+spelled-append (f ∷ fs) rest = append_assoc (little (width_of f) (field_number f)) (spelled fs) rest ∙ ap (λ (t : List ℕ). little (width_of f) (field_number f) ++ t) (spelled-append fs rest)
 
 -- numbers read behind the first k bytes
 pub numbers_at-drop : (i k : ℕ) (ws bytes : List ℕ) → numbers_at i ws (drop k bytes) ≡ numbers_at (k + i) ws bytes

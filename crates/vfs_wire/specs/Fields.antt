@@ -54,21 +54,21 @@ width_of (Four x) = 4
 width_of (Eight x) = 8
 
 -- the number of a field
-abbrev pub number_of : Field → ℕ
-number_of (One x) = x
-number_of (Two x) = x
-number_of (Four x) = x
-number_of (Eight x) = x
+abbrev pub field_number : Field → ℕ
+field_number (One x) = x
+field_number (Two x) = x
+field_number (Four x) = x
+field_number (Eight x) = x
 
 -- the bytes of the fields, and what stands behind them
 abbrev pub spelled_onto : List Field → List ℕ → List ℕ
 spelled_onto [] rest = rest
-spelled_onto (f ∷ fs) rest = little (width_of f) (number_of f) ++ spelled_onto fs rest
+spelled_onto (f ∷ fs) rest = little (width_of f) (field_number f) ++ spelled_onto fs rest
 
 -- the bytes of the fields
 abbrev pub spelled : List Field → List ℕ
 spelled [] = []
-spelled (f ∷ fs) = little (width_of f) (number_of f) ++ spelled fs
+spelled (f ∷ fs) = little (width_of f) (field_number f) ++ spelled fs
 
 -- how many they are
 abbrev pub total : List Field → ℕ
@@ -78,7 +78,7 @@ total (f ∷ fs) = width_of f + total fs
 -- each number is within its width
 abbrev pub AllFit : List Field → Type 0
 AllFit [] = ⊤
-AllFit (f ∷ fs) = (number_of f < 256 ^ width_of f) × AllFit fs
+AllFit (f ∷ fs) = (field_number f < 256 ^ width_of f) × AllFit fs
 
 -- how the values of a type are spelled: the widths of a value's fields in bytes, the fields as
 -- numbers in order, and the value of such numbers

@@ -2,6 +2,10 @@
 
 ghost use Rattle.std.specs.Prelude.{◌≡◌, ◌≢◌, ◌≤◌, ◌+◌, ◌++◌, ℕ, List, [], ◌∷◌, Some, Ok, sum_by};
 ghost use Rattle.vfs_grammar.specs.Books.{answered, sent, delivered, accepted, opcode_in, GivesBackWithin, NeverBelow};
+ghost use Rattle.vfs_grammar.specs.Records.{size_of, in_header_size, out_header_size, entry_out_size, dirent_size, pair_size, pairs_place, namelen_place};
+ghost use Rattle.vfs_wire.specs.Entries.{batch_forget_in, entry_out, forget_one};
+ghost use Rattle.vfs_wire.specs.Headers.{in_header, out_header};
+ghost use Rattle.vfs_wire.specs.Listings.{dirent};
 ghost use Rattle.vfs_grammar.specs.Turn.{AreTurns, events_in, Turn, IsTurn};
 ghost use Rattle.vfs_grammar.specs.Samples.{reply_of_node_5, batch_of_two};
 ghost use Rattle.vfs_files.specs.Calls.{Lookup, Forget, Destroy, Answer, Found, Done};
@@ -89,3 +93,14 @@ fn no_session_begins_with_a_forget()
 {
     turns_keep_books();
 }
+
+/// The sizes and places by which bytes are read without their tables are those of the tables.
+fn sizes_are_of_the_tables()
+    ensures in_header { in_header_size ≡ size_of in_header }
+    ensures out_header { out_header_size ≡ size_of out_header }
+    ensures entry_out { entry_out_size ≡ size_of entry_out }
+    ensures dirent { dirent_size ≡ size_of dirent }
+    ensures pair { pair_size ≡ size_of forget_one }
+    ensures pairs { pairs_place ≡ size_of in_header + size_of batch_forget_in }
+    ensures namelen { namelen_place ≡ size_of entry_out + 16 }
+{}

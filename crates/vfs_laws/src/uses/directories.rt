@@ -5,7 +5,7 @@ ghost use Rattle.std.specs.Prelude.{◌≡◌, ◌≢◌, ℕ, List, [], ◌∷�
 ghost use Rattle.std.specs.Prelude.{None as Nothing};
 ghost use Rattle.vfs_files.specs.Calls.{Readdir, Lookup, Answer, Failed};
 ghost use Rattle.vfs_files.specs.Items.{Item};
-ghost use Rattle.vfs_files.specs.Runs.{Event, Called, Opened, Taken};
+ghost use Rattle.vfs_files.specs.Runs.{Event, Called, OpenedDirectory, Taken};
 ghost use Rattle.vfs_grammar.specs.Samples.{file_a, nobody, reply_of_one_file, refused_reply, request_for_data};
 ghost use Rattle.vfs_grammar.specs.Limits.{default_limits};
 ghost use Rattle.vfs_grammar.specs.Turn.{Turn, IsTurn};
@@ -17,7 +17,7 @@ use crate::turns::directories_are_read;
 fn a_reply_of_one_file()
     ensures { (options after : ℕ) (t : Turn) → IsTurn (default_limits 4096) options t after →
         t.request ≡ request_for_data 28 64 → length t.room ≡ 80 →
-        t.events ≡ Opened (Readdir nobody 1 0 64 0) ∷ Taken (Some file_a) ∷ Taken Nothing ∷ [] →
+        t.events ≡ OpenedDirectory (Readdir nobody 1 0 64 0) ∷ Taken (Some file_a) ∷ Taken Nothing ∷ [] →
         (t.outcome ≡ Ok 48) × (take 48 t.room_after ≡ reply_of_one_file) }
 {
     directories_are_read();
@@ -39,11 +39,11 @@ fn one_item_is_taken()
     ensures plain { (options after : ℕ) (t : Turn) (first second : Option Item)
         (events : List Event) → IsTurn (default_limits 4096) options t after →
         t.request ≡ request_for_data 28 23 → length t.room ≡ 39 →
-        t.events ≢ Opened (Readdir nobody 1 0 23 0) ∷ Taken first ∷ Taken second ∷ events }
+        t.events ≢ OpenedDirectory (Readdir nobody 1 0 23 0) ∷ Taken first ∷ Taken second ∷ events }
     ensures with_entries { (options after : ℕ) (t : Turn) (first second : Option Item)
         (name : List ℕ) (answer : Answer) (events : List Event) → IsTurn (default_limits 4096) options t after →
         t.request ≡ request_for_data 44 151 → length t.room ≡ 167 →
-        t.events ≢ Opened (Readdir nobody 1 0 151 0) ∷ Taken first
+        t.events ≢ OpenedDirectory (Readdir nobody 1 0 151 0) ∷ Taken first
         ∷ Called (Lookup nobody 1 name) answer ∷ Taken second ∷ events }
 {
     directories_are_read();

@@ -16,9 +16,9 @@ use crate::listings::{directories_are_whole, nodes_are_found, takings_are_bounde
 
 /// A READDIR of 240 bytes takes at most eleven items, also from a directory that never ends.
 fn endless_directory_is_left()
-    ensures { (ctx : Context) (parent room : ℕ) (events : List Event) (body : List ℕ)
+    ensures { (ctx : Context) (parent space : ℕ) (events : List Event) (body : List ℕ)
         (result : Outcome ℕ (Option ℕ)) →
-        IsListing false ctx parent 240 room events body result → length (takings events) ≤ 11 }
+        IsListing false ctx parent 240 space events body result → length (takings events) ≤ 11 }
 {
     takings_are_bounded();
 }
@@ -27,10 +27,10 @@ fn endless_directory_is_left()
 /// asked for: the body is the 32 bytes of its record, that is how many are answered, and no fewer
 /// were asked for.
 fn a_directory_of_one_file()
-    ensures { (ctx : Context) (parent size room : ℕ) (body : List ℕ)
+    ensures { (ctx : Context) (parent size space : ℕ) (body : List ℕ)
         (result : Outcome ℕ (Option ℕ)) →
-        IsListing false ctx parent size room (Taken (Some file_a) ∷ Taken Nothing ∷ []) body result →
-        size ≤ room → (body ≡ record_of_a) × (result ≡ Ok 32) × (32 ≤ size) }
+        IsListing false ctx parent size space (Taken (Some file_a) ∷ Taken Nothing ∷ []) body result →
+        size ≤ space → (body ≡ record_of_a) × (result ≡ Ok 32) × (32 ≤ size) }
 {
     directories_are_whole();
 }
@@ -38,12 +38,12 @@ fn a_directory_of_one_file()
 /// A READDIRPLUS of a directory with `.` and the file `a`, which is looked up: the body is the 160
 /// bytes of `.`, with zeros but for its inode and its mode, and the record of `a` with the entry.
 fn a_directory_with_entries()
-    ensures { (ctx : Context) (parent size room : ℕ) (entry : Entry) (body : List ℕ)
+    ensures { (ctx : Context) (parent size space : ℕ) (entry : Entry) (body : List ℕ)
         (result : Outcome ℕ (Option ℕ)) →
-        IsListing true ctx parent size room
+        IsListing true ctx parent size space
         (Taken (Some root_dot) ∷ Taken (Some file_a)
         ∷ Called (Lookup ctx parent (codes "a")) (Found entry) ∷ Taken Nothing ∷ []) body result →
-        size ≤ room →
+        size ≤ space →
         (body ≡ (entry_of_dot ++ record_of_dot) ++ record_bytes (Some entry) file_a)
         × (result ≡ Ok 320) }
 {
@@ -53,20 +53,20 @@ fn a_directory_with_entries()
 /// Where READDIRPLUS gives back a node right after it took `.`, that is node 0, nothing was put, and
 /// less than the 160 bytes of its record were asked for.
 fn a_dot_that_does_not_fit()
-    ensures { (ctx : Context) (parent size room n : ℕ) (body : List ℕ)
+    ensures { (ctx : Context) (parent size space n : ℕ) (body : List ℕ)
         (result : Outcome ℕ (Option ℕ)) →
-        IsListing true ctx parent size room
+        IsListing true ctx parent size space
         (Taken (Some root_dot) ∷ Called (Forget ctx n 1) Done ∷ []) body result →
-        size ≤ room → (n ≡ 0) × (body ≡ []) × (size < 160) }
+        size ≤ space → (n ≡ 0) × (body ≡ []) × (size < 160) }
 {
     directories_are_whole();
 }
 
 /// Where `readdir` fails with EACCES, that is the answer, and there are no records.
 fn a_directory_that_is_refused()
-    ensures { (plus : Bool) (ctx : Context) (parent handle size offset room : ℕ) (body : List ℕ)
+    ensures { (plus : Bool) (ctx : Context) (parent handle size offset space : ℕ) (body : List ℕ)
         (result : Outcome ℕ (Option ℕ)) →
-        IsDirectory plus ctx parent handle size offset room
+        IsDirectory plus ctx parent handle size offset space
         (Called (Readdir ctx parent handle size offset) (Failed (Some 13)) ∷ []) body result →
         (body ≡ []) × (result ≡ Err (Some 13)) }
 {}
@@ -74,9 +74,9 @@ fn a_directory_that_is_refused()
 /// Where the lookup of the first item fails with ENOENT, that is the answer of READDIRPLUS, and
 /// there are no records.
 fn a_first_lookup_that_fails()
-    ensures { (ctx : Context) (parent size room : ℕ) (body : List ℕ)
+    ensures { (ctx : Context) (parent size space : ℕ) (body : List ℕ)
         (result : Outcome ℕ (Option ℕ)) →
-        IsListing true ctx parent size room
+        IsListing true ctx parent size space
         (Taken (Some file_a) ∷ Called (Lookup ctx parent (codes "a")) (Failed (Some 2)) ∷ [])
         body result →
         (body ≡ []) × (result ≡ Err (Some 2)) }

@@ -29,9 +29,9 @@ use crate::turns::{
 
 /// Memory is never wanted for a GETATTR, whatever its bytes and its room: it has no tail.
 fn getattr_wants_no_memory()
-    ensures { (limits : Limits) (options room : ℕ) (request : List ℕ) →
+    ensures { (limits : Limits) (options space : ℕ) (request : List ℕ) →
         opcode_of (header_of request).opcode ≡ Some Opcode.Getattr →
-        ¬ (WantsMemory limits options room request) }
+        ¬ (WantsMemory limits options space request) }
 {}
 
 /// Memory is wanted only for what is whole and within the limits: never for a request that is
@@ -39,21 +39,21 @@ fn getattr_wants_no_memory()
 /// says, as a LOOKUP whose name lacks a byte; nor for a BATCH_FORGET that lacks some of its pairs,
 /// or whose pairs are above the limit.
 fn broken_requests_want_no_memory()
-    ensures short { (limits : Limits) (options room : ℕ) (request : List ℕ) →
-        length request < 40 → ¬ (WantsMemory limits options room request) }
-    ensures above { (limits : Limits) (options room : ℕ) (request : List ℕ) →
-        max_len limits < (header_of request).len → ¬ (WantsMemory limits options room request) }
-    ensures cut { (limits : Limits) (options room : ℕ) (request : List ℕ) →
+    ensures short { (limits : Limits) (options space : ℕ) (request : List ℕ) →
+        length request < 40 → ¬ (WantsMemory limits options space request) }
+    ensures above { (limits : Limits) (options space : ℕ) (request : List ℕ) →
+        max_len limits < (header_of request).len → ¬ (WantsMemory limits options space request) }
+    ensures cut { (limits : Limits) (options space : ℕ) (request : List ℕ) →
         opcode_in request ≢ Some Opcode.BatchForget → length request < (header_of request).len →
-        ¬ (WantsMemory limits options room request) }
-    ensures few_pairs { (limits : Limits) (options room : ℕ) (request : List ℕ) →
+        ¬ (WantsMemory limits options space request) }
+    ensures few_pairs { (limits : Limits) (options space : ℕ) (request : List ℕ) →
         opcode_in request ≡ Some Opcode.BatchForget →
         length request < 48 + 16 * count_of_pairs request →
-        ¬ (WantsMemory limits options room request) }
-    ensures many_pairs { (limits : Limits) (options room : ℕ) (request : List ℕ) →
+        ¬ (WantsMemory limits options space request) }
+    ensures many_pairs { (limits : Limits) (options space : ℕ) (request : List ℕ) →
         opcode_in request ≡ Some Opcode.BatchForget →
         limits.max_buffer < 16 * count_of_pairs request →
-        ¬ (WantsMemory limits options room request) }
+        ¬ (WantsMemory limits options space request) }
 {}
 
 /// The four bytes at the front of a reply are the answer, and its last eight of a header are the

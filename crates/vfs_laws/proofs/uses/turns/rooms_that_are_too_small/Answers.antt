@@ -5,7 +5,7 @@ use Rattle.vfs_files.specs.Calls.{Call, Lookup, Read, Answer, Entries, Found}
 use Rattle.vfs_files.specs.Runs.{Event, Called}
 use Rattle.vfs_files.specs.declared.entry.Context.{Context}
 use Rattle.vfs_grammar.specs.Ask.{ask}
-use Rattle.vfs_grammar.specs.Forms.{Ask, Asks, Copies, refused}
+use Rattle.vfs_grammar.specs.Forms.{Ask, Asks, WithMemory, refused}
 use Rattle.vfs_laws.specs.Turns.{opcode_in, CarriesData, cut_turn_tells, CutsOff}
 use Rattle.vfs_grammar.specs.Limits.{default_limits}
 use Rattle.vfs_grammar.specs.Reply.{Reply, Echo, Bytes, reply_to}
@@ -25,7 +25,7 @@ unfolding number little
 found_so = refl
 
 looked_up : (options : ℕ) (after : ℕ) (call : Call) (back : List Event) (t : Turn) → t.events ≡ Called call (Found node_5) ∷ back
-    → Follows (cut_turn_tells t) (default_limits 4096) options (Copies (Asks echo (Lookup nobody 1 (0x61 ∷ [])))) after
+    → Follows (cut_turn_tells t) (default_limits 4096) options (WithMemory (Asks echo (Lookup nobody 1 (0x61 ∷ [])))) after
     → (length t.room < 144) × (t.room_after ≡ take (length t.room) node_5_reply)
 looked_up options after call back t e (inl f) =
     let a = sym f.1 ∙ e in
