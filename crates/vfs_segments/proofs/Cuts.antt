@@ -6,7 +6,7 @@ use Rattle.std.proofs.lemmas.Bool.{cases_lt}
 use Rattle.std.specs.declared.vec.Vec.{Vec}
 use Rattle.std.specs.declared.alloc.Global.{Global}
 use Rattle.vfs_segments.specs.Segments.{contents}
-use Rattle.vfs_segments.proofs.Segments.{held_flat, held_flat-append}
+use Rattle.vfs_segments.proofs.Flat.{held_flat, held_flat-append}
 use Rattle.vfs_segments.proofs.Puts.{take-append_past, drop-append_past}
 
 split : (xs : List (Vec ℕ Global)) (i : ℕ) → held_flat xs ≡ held_flat (take i xs) ++ held_flat (drop i xs)

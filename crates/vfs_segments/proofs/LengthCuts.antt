@@ -9,7 +9,7 @@ use Rattle.std.specs.declared.vec.Vec.{Vec}
 use Rattle.std.specs.declared.alloc.Global.{Global}
 use Rattle.vfs_segments.specs.Segments.{contents, lengths_of}
 use Rattle.vfs_segments.specs.Lengths.{lengths_before, lengths_from}
-use Rattle.vfs_segments.proofs.Segments.{held_flat}
+use Rattle.vfs_segments.proofs.Flat.{held_flat}
 
 -- how many bytes each segment of a writer has
 abbrev pub held_lengths : List (Vec ℕ Global) → List ℕ

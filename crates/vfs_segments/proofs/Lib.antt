@@ -1,5 +1,5 @@
 pub mod Lists
-pub mod Segments
+pub mod Flat
 pub mod Halves
 pub mod Totals
 pub mod Places

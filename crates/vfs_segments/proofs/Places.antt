@@ -6,10 +6,10 @@ use Rattle.std.proofs.lemmas.List.{drop-take, drop-drop, take-take}
 use Rattle.std.specs.Prelude.{nat_le}
 use Rattle.vfs_segments.specs.Lengths.{lengths_before, lengths_from, lie_together}
 use Rattle.vfs_segments.specs.Reader.{IsReader, unread_of}
-use Rattle.vfs_segments.specs.Segments.{lengths_of, segments_of}
+use Rattle.std.specs.List.{concat}
+use Rattle.vfs_segments.specs.Segments.{lengths_of}
 use Rattle.vfs_segments.specs.Unread.{Unread, advanced, are_together, first_of, rest_of}
 use Rattle.vfs_segments.specs.declared.reader.Reader.TheInside.{Inside}
-use Rattle.vfs_segments.proofs.Segments.{flat}
 use Rattle.vfs_segments.proofs.Together.{before-before, from-before, from-from, together-before, together-from}
 
 -- what is left of a part, n bytes on
@@ -39,26 +39,26 @@ unread-eq e f g = rw (e, f, g)
 
 module _ (r : Inside) (ok : IsReader r) (u : Unread) (seen : unread_of r ≡ u) where
   abbrev lengths : List ℕ
-  lengths = lengths_of (segments_of r.segments.now)
+  lengths = lengths_of r.segments
 
   -- how many bytes are left
   pub length-left : length u.left ≡ r.end - r.at
   length-left =
       ap (λ (v : Unread). length v.left) (sym seen)
-      ∙ omega (arith, ok.before_end, ok.within, length-take (r.end - r.at) (drop r.at (flat r.segments.now)), length-drop r.at (flat r.segments.now))
+      ∙ omega (arith, ok.before_end, ok.within, length-take (r.end - r.at) (drop r.at (concat r.segments)), length-drop r.at (concat r.segments))
 
   -- n bytes on
   pub moved_on : (n : ℕ) → r.at + n ≤ r.end → unread_of (record r { at = r.at + n }) ≡ advanced u n
   moved_on n h =
       let t : r.at + n - r.start ≡ r.at - r.start + n = omega (arith, ok.after_start) in
-      unread-eq (left_moved (flat r.segments.now) r.at r.end n h) t (pieces_moved lengths r.at r.end n h)
+      unread-eq (left_moved (concat r.segments) r.at r.end n h) t (pieces_moved lengths r.at r.end n h)
       ∙ ap (λ v. advanced v n) seen
 
   -- cut n bytes on: what stays
   pub kept_of : (n : ℕ) → r.at + n ≤ r.end → unread_of (record r { end = r.at + n }) ≡ first_of u n
   kept_of n h =
       let m : r.at + n - r.at ≡ n = omega arith in
-      let bytes = drop r.at (flat r.segments.now) in
+      let bytes = drop r.at (concat r.segments) in
       let pieces = lengths_from r.at lengths in
       unread-eq
       (ap (λ k. take k bytes) m ∙ sym (take-take n (r.end - r.at) bytes (omega arith))) refl
@@ -70,7 +70,7 @@ module _ (r : Inside) (ok : IsReader r) (u : Unread) (seen : unread_of r ≡ u) 
       unread_of (record r { start = r.at + n; at = r.at + n }) ≡ rest_of u n
   cut_of n h =
       let t : r.at + n - (r.at + n) ≡ 0 = omega arith in
-      unread-eq (left_moved (flat r.segments.now) r.at r.end n h) t (pieces_moved lengths r.at r.end n h)
+      unread-eq (left_moved (concat r.segments) r.at r.end n h) t (pieces_moved lengths r.at r.end n h)
       ∙ ap (λ v. rest_of v n) seen
 
   -- which of the bytes left lie together

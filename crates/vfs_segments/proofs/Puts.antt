@@ -1,13 +1,14 @@
 -- Bytes that are written over a list of segments.
 use Rattle.std.proofs.Common.{◌≡◌, ℕ, ◌+◌, ◌-◌, ◌<◌, ◌≤◌, List, [], ◌∷◌, ◌++◌, zero, suc, length, take, drop, map, min, set, get_or, ap, ◌∙◌, sym, arith, append_assoc, append-nil, length-append, length-drop, length-take, take-append-drop, refl, ⊎_elim}
-use Rattle.std.proofs.lemmas.List.{take_all, drop_all, take-append-le, drop-append-le, drop-drop, take_more_set, drop-set-lt, drop_more, map-set, set-get_or, get_or-map, length-map, nil_from_length, take-map}
+use Rattle.std.proofs.lemmas.List.{take_all, drop_all, take-append-le, drop-append-le, drop-drop, take_more_set, drop-set-lt, drop_more, map-set, set-get_or, get_or-map, length-map, nil_from_length}
 use Rattle.std.proofs.lemmas.Bool.{cases_lt}
 use Rattle.std.specs.List.{concat}
 use Rattle.std.specs.declared.vec.Vec.{Vec}
 use Rattle.std.specs.declared.alloc.Global.{Global}
 use Rattle.vfs_segments.specs.Segments.{contents, lengths_of, with_bytes_at}
 use Rattle.vfs_segments.specs.SegmentLaws.{length-with_bytes_at}
-use Rattle.vfs_segments.proofs.Segments.{concat-append, concat-split, held_flat}
+use Rattle.vfs_segments.specs.Totals.{totals_of}
+use Rattle.vfs_segments.proofs.Flat.{concat-append, concat-split}
 
 pub take-append_past : (xs ys : List ℕ) (n m : ℕ) → m ≡ length xs + n → take m (xs ++ ys) ≡ xs ++ take n ys
 take-append_past [] ys n m e = let same : m ≡ n = omega arith in rw same
@@ -127,40 +128,46 @@ one_written xs i k at bs h e fits =
     ap (λ l. concat (set xs i (with_bytes_at k l s))) (sym all)
     ∙ stopped (set xs i (with_bytes_at k (take (length bs) bs) s)) (i + 1) (k - k) (drop (length bs) bs) whole none next
 
--- bytes that lie in one segment of a writer, which is `new` once they are written there
-pub put_whole : (xs : List (Vec ℕ Global)) (i k at : ℕ) (bs : List ℕ) (d new : Vec ℕ Global) → i < length xs →
-    length (held_flat (take i xs)) + k ≡ at → k + length bs ≤ length (get_or (contents xs) i []) →
-    new.items ≡ with_bytes_at k bs (get_or xs i d).items →
-    (held_flat (set xs i new) ≡ with_bytes_at at bs (held_flat xs))
-    × (lengths_of (contents (set xs i new)) ≡ lengths_of (contents xs))
-put_whole xs i k at bs d new h e whole put =
-    let items = λ (v : Vec ℕ Global). v.items in
-    let ys = contents xs in
-    let s = get_or ys i [] in
-    let listed : i < length ys = omega (arith, length-map xs items) in
-    let here : s ≡ (get_or xs i d).items = get_or-map items xs i d [] h in
-    let place : length (concat (take i ys)) + k ≡ at = ap (λ l. length (concat l) + k) (take-map items i xs) ∙ e in
-    let now : contents (set xs i new) ≡ set ys i (with_bytes_at k bs s) =
-    map-set items xs i new ∙ ap (set ys i) (put ∙ ap (with_bytes_at k bs) (sym here)) in (
-      ap concat now ∙ one_written ys i k at bs listed place whole,
-      ap lengths_of now ∙ same_lengths ys i (with_bytes_at k bs s) (length-with_bytes_at k bs s whole) listed,
+-- the same of segments that are `ys` then, which are as long as they were
+pub put_whole : (xs ys : List (List ℕ)) (i k at : ℕ) (bs : List ℕ) → i < length xs →
+    length (concat (take i xs)) + k ≡ at → k + length bs ≤ length (get_or xs i []) →
+    ys ≡ set xs i (with_bytes_at k bs (get_or xs i [])) →
+    (concat ys ≡ with_bytes_at at bs (concat xs)) × (lengths_of ys ≡ lengths_of xs)
+put_whole xs ys i k at bs h e whole put =
+    let s = get_or xs i [] in (
+      ap concat put ∙ one_written xs i k at bs h e whole,
+      ap lengths_of put ∙ same_lengths xs i (with_bytes_at k bs s) (length-with_bytes_at k bs s whole) h,
     )
 
--- bytes that lie in one segment of a writer lie in all of them
-pub one_fits : (xs : List (Vec ℕ Global)) (i k at n : ℕ) → i < length xs →
-    length (held_flat (take i xs)) + k ≡ at → k + n ≤ length (get_or (contents xs) i []) →
-    at + n ≤ length (held_flat xs)
-one_fits xs i k at n h e fits =
-    let items = λ (v : Vec ℕ Global). v.items in
-    let ys = contents xs in
-    let listed : i < length ys = omega (arith, length-map xs items) in
-    let place : length (concat (take i ys)) + k ≡ at = ap (λ l. length (concat l) + k) (take-map items i xs) ∙ e in
-    let more = ap (λ l. length (concat l)) (drop_more ys i [] listed) in
-    omega (arith, place, fits, more, length-append (get_or ys i []) (concat (drop (i + 1) ys)), ap length (concat-split ys i), length-append (concat (take i ys)) (concat (drop i ys)))
+-- ---- segment i of those that a writer holds, whose bytes are `ys`
 
--- bytes that are no more than those behind a place in their segment lie whole in it
-pub lies_whole : (xs : List (Vec ℕ Global)) (i k n : ℕ) (d : Vec ℕ Global) → i < length xs →
-    k < length (get_or (contents xs) i []) → n ≤ (get_or xs i d).len - k →
-    k + n ≤ length (get_or (contents xs) i [])
-lies_whole xs i k n d h e f =
-    omega (arith, (get_or xs i d).ok.0, ap length (get_or-map (λ (v : Vec ℕ Global). v.items) xs i d [] h))
+module _ (xs : List (Vec ℕ Global)) (ys : List (List ℕ)) (i : ℕ) (s : Vec ℕ Global) (seen : contents xs ≡ ys) (h : i < length ys) (is : s ≡ get_or xs i s) where
+  -- it is there
+  pub held_in : i < length xs
+  held_in = omega (arith, h, ap length seen, length-map xs (λ (v : Vec ℕ Global). v.items))
+
+  here : get_or ys i [] ≡ s.items
+  here =
+      ap (λ l. get_or l i []) (sym seen) ∙ get_or-map (λ (v : Vec ℕ Global). v.items) xs i s [] held_in
+      ∙ ap (λ (v : Vec ℕ Global). v.items) (sym is)
+
+  -- it is as long as its bytes
+  pub held_len : length (get_or ys i []) ≡ s.len
+  held_len = ap length here ∙ sym s.ok.0
+
+  module _ (k : ℕ) (bs : List ℕ) (new : Vec ℕ Global) (put : new.items ≡ with_bytes_at k bs s.items) where
+    -- written over, it stands in place of itself
+    pub held_put : contents (set xs i new) ≡ set ys i (with_bytes_at k bs (get_or ys i []))
+    held_put =
+        map-set (λ (v : Vec ℕ Global). v.items) xs i new
+        ∙ ap (set (contents xs) i) (put ∙ ap (with_bytes_at k bs) (sym here))
+        ∙ ap (λ l. set l i (with_bytes_at k bs (get_or ys i []))) seen
+
+    -- and the totals are what they were
+    pub held_totals : (totals : List ℕ) → k + length bs ≤ length (get_or ys i []) →
+        totals ≡ totals_of (lengths_of (contents xs)) → totals ≡ totals_of (lengths_of (contents (set xs i new)))
+    held_totals totals fits e =
+        let y = with_bytes_at k bs (get_or ys i []) in
+        e ∙ ap (λ l. totals_of (lengths_of l)) seen
+        ∙ ap totals_of (sym (same_lengths ys i y (length-with_bytes_at k bs (get_or ys i []) fits) h))
+        ∙ ap (λ l. totals_of (lengths_of l)) (sym held_put)

@@ -261,28 +261,27 @@ together-cut (k ∷ before) after at n h over =
     ∙ together-cut before after (at - k) n (omega (arith, h, all)) (omega (arith, over, all)))
     (cases_lt at k)
 
--- ---- segments of any kind, whose bytes f tells
+-- ---- the lengths of segments
 
-module _ {A : Type 0} (f : A → List ℕ) where
-  -- bytes behind the first i segments
-  behind : (xs : List A) (i skip at n : ℕ) → length (concat (map f (take i xs))) + skip ≡ at →
-      lie_together at n (map length (map f xs)) ≡ lie_together skip n (map length (map f (drop i xs)))
-  behind xs zero skip at n e = let same : at ≡ skip = omega arith in rw same refl
-  behind [] (suc i) skip at n e = refl
-  behind (x ∷ xs) (suc i) skip at n e =
-      let size = length-append (f x) (concat (map f (take i xs))) in
-      together-past at n (length (f x)) (map length (map f xs)) (omega arith)
-      ∙ behind xs i skip (at - length (f x)) n (omega arith)
+-- bytes behind the first i segments
+behind : (xs : List (List ℕ)) (i skip at n : ℕ) → length (concat (take i xs)) + skip ≡ at →
+    lie_together at n (map length xs) ≡ lie_together skip n (map length (drop i xs))
+behind xs zero skip at n e = let same : at ≡ skip = omega arith in rw same refl
+behind [] (suc i) skip at n e = refl
+behind (x ∷ xs) (suc i) skip at n e =
+    let size = length-append x (concat (take i xs)) in
+    together-past at n (length x) (map length xs) (omega arith)
+    ∙ behind xs i skip (at - length x) n (omega arith)
 
-  -- bytes that begin in segment i, of which it has enough or not
-  pub together-at : (xs : List A) (i skip at n : ℕ) (d : A) → length (concat (map f (take i xs))) + skip ≡ at →
-      i < length xs → skip < length (f (get_or xs i d)) →
-      lie_together at n (map length (map f xs)) ≡ nat_le (skip + n) (length (f (get_or xs i d)))
-  together-at xs i skip at n d e h inside =
-      let below : nat_lt skip (length (f (get_or xs i d))) ≡ true = grind (arith, nat_tests) in
-      behind xs i skip at n e
-      ∙ ap (λ l. lie_together skip n (map length (map f l))) (drop_more xs i d h) ∙ rw below refl
+-- bytes that begin in segment i, of which it has enough or not
+pub together-at : (xs : List (List ℕ)) (i skip at n : ℕ) → length (concat (take i xs)) + skip ≡ at →
+    i < length xs → skip < length (get_or xs i []) →
+    lie_together at n (map length xs) ≡ nat_le (skip + n) (length (get_or xs i []))
+together-at xs i skip at n e h inside =
+    let below : nat_lt skip (length (get_or xs i [])) ≡ true = grind (arith, nat_tests) in
+    behind xs i skip at n e
+    ∙ ap (λ (l : List (List ℕ)). lie_together skip n (map length l)) (drop_more xs i [] h) ∙ rw below refl
 
-  -- no bytes
-  pub together-end : (xs : List A) (at n : ℕ) → n ≡ 0 → lie_together at n (map length (map f xs)) ≡ true
-  together-end xs at n e = rw e (together-none at (map length (map f xs)))
+-- no bytes
+pub together-end : (xs : List (List ℕ)) (at n : ℕ) → n ≡ 0 → lie_together at n (map length xs) ≡ true
+together-end xs at n e = rw e (together-none at (map length xs))

@@ -6,7 +6,7 @@ use Rattle.vfs_segments.specs.Segments.{contents}
 use Rattle.vfs_segments.specs.Lengths.{lengths_before, lengths_from}
 use Rattle.vfs_segments.specs.Totals.{totals_from, totals_of}
 use Rattle.vfs_segments.proofs.LengthCuts.{held_lengths, lengths_before-at, lengths_before-inside, lengths_from-at, lengths_from-inside, between_lengths_before}
-use Rattle.vfs_segments.proofs.Segments.{held_flat}
+use Rattle.vfs_segments.proofs.Flat.{held_flat}
 
 -- totals that count from a later place on
 shifted : (at s : ℕ) (ns : List ℕ) → at ≤ s → map (λ t. t - at) (totals_from s ns) ≡ totals_from (s - at) ns

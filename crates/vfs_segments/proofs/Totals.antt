@@ -1,6 +1,6 @@
 -- Running totals of the lengths of segments, and the place that they tell.
 use Rattle.std.proofs.Common.{◌≡◌, ℕ, ◌+◌, ◌<◌, ◌≤◌, List, [], ◌∷◌, ◌++◌, zero, suc, length, take, map, get_or, ap, ◌∙◌, refl, arith, length-append}
-use Rattle.std.proofs.lemmas.List.{length-map, map-append, take_all, take_more}
+use Rattle.std.proofs.lemmas.List.{length-map, take_all, take_more}
 use Rattle.std.specs.List.{concat}
 use Rattle.vfs_segments.specs.Totals.{totals_from, totals_of, NeverFalls}
 
@@ -8,6 +8,10 @@ use Rattle.vfs_segments.specs.Totals.{totals_from, totals_of, NeverFalls}
 pub length-totals_from : (at : ℕ) (ns : List ℕ) → length (totals_from at ns) ≡ length ns
 length-totals_from at [] = refl
 length-totals_from at (n ∷ ns) = ap suc (length-totals_from (at + n) ns)
+
+-- and so one for each segment
+pub length-totals_of : (xs : List (List ℕ)) → length (totals_of (map length xs)) ≡ length xs
+length-totals_of xs = length-totals_from 0 (map length xs) ∙ length-map xs length
 
 -- each is at least where the first segment begins
 least : (at : ℕ) (ns : List ℕ) (j : ℕ) → j < length (totals_from at ns) → at ≤ get_or (totals_from at ns) j 0
@@ -39,73 +43,69 @@ totals_from-more at (x ∷ xs) y =
     (totals_from-more (at + length x) xs y
     ∙ ap (λ n. totals_from (at + length x) (map length xs) ++ n ∷ []) e)
 
--- segments of any kind, whose bytes f tells
-module _ {A : Type 0} (f : A → List ℕ) where
-  -- the same of the segments of a list
-  pub totals_of-more : (xs : List A) (i : ℕ) (d : A) → i < length xs →
-      totals_of (map length (map f (take (i + 1) xs)))
-      ≡ totals_of (map length (map f (take i xs)))
-      ++ (length (concat (map f (take i xs))) + length (f (get_or xs i d))) ∷ []
-  totals_of-more xs i d h =
-      let front = map f (take i xs) in
-      let s = f (get_or xs i d) in
-      let e : 0 + length (concat front) + length s ≡ length (concat front) + length s = omega arith in
-      ap (λ l. totals_of (map length (map f l))) (take_more xs i d h)
-      ∙ ap (λ l. totals_of (map length l)) (map-append f (take i xs) (get_or xs i d ∷ []))
-      ∙ totals_from-more 0 front s ∙ ap (λ n. totals_of (map length front) ++ n ∷ []) e
+-- the same of the segments of a list
+pub totals_of-more : (xs : List (List ℕ)) (i : ℕ) → i < length xs →
+    totals_of (map length (take (i + 1) xs))
+    ≡ totals_of (map length (take i xs)) ++ (length (concat (take i xs)) + length (get_or xs i [])) ∷ []
+totals_of-more xs i h =
+    let front = take i xs in
+    let s = get_or xs i [] in
+    let e : 0 + length (concat front) + length s ≡ length (concat front) + length s = omega arith in
+    ap (λ l. totals_of (map length l)) (take_more xs i [] h)
+    ∙ totals_from-more 0 front s ∙ ap (λ n. totals_of (map length front) ++ n ∷ []) e
 
-  -- a total is how many bytes the segments up to its own have
-  total-up_to : (xs : List A) (at i : ℕ) → i < length xs →
-      get_or (totals_from at (map length (map f xs))) i 0 ≡ at + length (concat (map f (take (suc i) xs)))
-  total-up_to [] at i h = absurd (omega arith)
-  total-up_to (x ∷ xs) at zero h = omega (arith, length-append (f x) [])
-  total-up_to (x ∷ xs) at (suc i) h =
-      total-up_to xs (at + length (f x)) i (omega arith)
-      ∙ omega (arith, length-append (f x) (concat (map f (take (suc i) xs))))
+-- a total is how many bytes the segments up to its own have
+total-up_to : (xs : List (List ℕ)) (at i : ℕ) → i < length xs →
+    get_or (totals_from at (map length xs)) i 0 ≡ at + length (concat (take (suc i) xs))
+total-up_to [] at i h = absurd (omega arith)
+total-up_to (x ∷ xs) at zero h = omega (arith, length-append x [])
+total-up_to (x ∷ xs) at (suc i) h =
+    total-up_to xs (at + length x) i (omega arith)
+    ∙ omega (arith, length-append x (concat (take (suc i) xs)))
 
-  -- which is those before it, and its own
-  total-at : (xs : List A) (at i : ℕ) → i < length xs →
-      get_or (totals_from at (map length (map f xs))) i 0
-      ≡ at + length (concat (map f (take i xs))) + length (get_or (map f xs) i [])
-  total-at [] at i h = absurd (omega arith)
-  total-at (x ∷ xs) at zero h = omega arith
-  total-at (x ∷ xs) at (suc i) h =
-      total-at xs (at + length (f x)) i (omega arith)
-      ∙ omega (arith, length-append (f x) (concat (map f (take i xs))))
+-- which is those before it, and its own
+total-at : (xs : List (List ℕ)) (at i : ℕ) → i < length xs →
+    get_or (totals_from at (map length xs)) i 0
+    ≡ at + length (concat (take i xs)) + length (get_or xs i [])
+total-at [] at i h = absurd (omega arith)
+total-at (x ∷ xs) at zero h = omega arith
+total-at (x ∷ xs) at (suc i) h =
+    total-at xs (at + length x) i (omega arith)
+    ∙ omega (arith, length-append x (concat (take i xs)))
 
-  -- place `at` lies in segment i, or past all of them
-  pub record IsPlaced (xs : List A) (totals : List ℕ) (at i : ℕ) : Type 0 where
-    pub count : length totals ≡ length xs
-    pub within : i ≤ length xs
-    pub begins : length (concat (map f (take i xs))) ≤ at
-    pub ends : i < length xs → get_or totals i 0 ≡ length (concat (map f (take i xs))) + length (get_or (map f xs) i [])
-    pub inside : i < length xs → at < length (concat (map f (take i xs))) + length (get_or (map f xs) i [])
-    pub past : length xs ≤ i → at ≡ length (concat (map f (take i xs)))
+-- place `at` lies in segment i, or past all of them
+pub record IsPlaced (xs : List (List ℕ)) (totals : List ℕ) (at i : ℕ) : Type 0 where
+  pub count : length totals ≡ length xs
+  pub within : i ≤ length xs
+  pub begins : length (concat (take i xs)) ≤ at
+  pub ends : i < length xs → get_or totals i 0 ≡ length (concat (take i xs)) + length (get_or xs i [])
+  pub inside : i < length xs → at < length (concat (take i xs)) + length (get_or xs i [])
+  pub past : length xs ≤ i → at ≡ length (concat (take i xs))
 
-  -- what is before the first total above a place is before the place
-  begins_by : (xs : List A) (at i : ℕ) → i ≤ length xs →
-      ((j : ℕ) → j < i → get_or (totals_of (map length (map f xs))) j 0 ≤ at) →
-      length (concat (map f (take i xs))) ≤ at
-  begins_by xs at zero w passed = omega arith
-  begins_by xs at (suc j) w passed =
-      omega (arith, passed j (omega arith), total-up_to xs 0 j (omega arith))
+-- what is before the first total above a place is before the place
+begins_by : (xs : List (List ℕ)) (at i : ℕ) → i ≤ length xs →
+    ((j : ℕ) → j < i → get_or (totals_of (map length xs)) j 0 ≤ at) →
+    length (concat (take i xs)) ≤ at
+begins_by xs at zero w passed = omega arith
+begins_by xs at (suc j) w passed =
+    omega (arith, passed j (omega arith), total-up_to xs 0 j (omega arith))
 
-  -- the first total above a place is that of the segment in which it lies
-  pub placed : (xs : List A) (totals : List ℕ) (at i : ℕ) → totals ≡ totals_of (map length (map f xs)) →
-      at ≤ length (concat (map f xs)) → i ≤ length totals →
-      ((j : ℕ) → j < i → get_or totals j 0 ≤ at) → (i < length totals → at < get_or totals i 0) →
-      IsPlaced xs totals at i
-  placed xs totals at i is fits within passed found =
-      let count : length totals ≡ length xs =
-      ap length is ∙ length-totals_from 0 (map length (map f xs)) ∙ length-map (map f xs) length ∙ length-map xs f in
-      let w : i ≤ length xs = omega arith in
-      let b = begins_by xs at i w (rw is at passed) in
-      let value : get_or totals i 0 ≡ get_or (totals_of (map length (map f xs))) i 0 = ap (λ l. get_or l i 0) is in
-      record {
-        count = count;
-        within = w;
-        begins = b;
-        ends = λ h. omega (arith, value, total-at xs 0 i h);
-        inside = λ h. omega (arith, found (omega arith), value, total-at xs 0 i h);
-        past = λ h. omega (arith, b, ap (λ l. length (concat (map f l))) (take_all i xs h));
-      }
+-- the first total above a place is that of the segment in which it lies
+pub placed : (xs : List (List ℕ)) (totals : List ℕ) (at i : ℕ) → totals ≡ totals_of (map length xs) →
+    at ≤ length (concat xs) → i ≤ length totals →
+    ((j : ℕ) → j < i → get_or totals j 0 ≤ at) → (i < length totals → at < get_or totals i 0) →
+    IsPlaced xs totals at i
+placed xs totals at i is fits within passed found =
+    let count : length totals ≡ length xs =
+    ap length is ∙ length-totals_of xs in
+    let w : i ≤ length xs = omega arith in
+    let b = begins_by xs at i w (rw is at passed) in
+    let value : get_or totals i 0 ≡ get_or (totals_of (map length xs)) i 0 = ap (λ l. get_or l i 0) is in
+    record {
+      count = count;
+      within = w;
+      begins = b;
+      ends = λ h. omega (arith, value, total-at xs 0 i h);
+      inside = λ h. omega (arith, found (omega arith), value, total-at xs 0 i h);
+      past = λ h. omega (arith, b, ap (λ l. length (concat l)) (take_all i xs h));
+    }

@@ -1,19 +1,15 @@
 -- A writer's bytes after a write.
 use Rattle.std.proofs.Common.{◌≡◌, ℕ, ◌+◌, ◌≤◌, List, [], ◌∷◌, ◌++◌, length, take, drop, map, ap, ◌∙◌, sym, refl, arith, append_assoc, length-append, length-take, take-append-drop, take_at, drop_at, append-nil, Ok, Err}
-use Rattle.std.proofs.lemmas.List.{take-append-le, drop-append-le, drop-drop, drop-take, take-take, length-map}
+use Rattle.std.proofs.lemmas.List.{take-append-le, drop-append-le, drop-drop, drop-take, take-take}
 use Rattle.std.specs.List.{concat}
-use Rattle.vfs_segments.specs.Segments.{contents, lengths_of, with_bytes_at}
+use Rattle.vfs_segments.specs.Segments.{lengths_of, with_bytes_at}
 use Rattle.vfs_segments.specs.Lengths.{lengths_before}
-use Rattle.vfs_segments.specs.Totals.{Kept, totals_of}
 use Rattle.vfs_segments.specs.Written.{Written, wrote, first_room, held_filled, held_over}
 use Rattle.vfs_segments.specs.Writer.{IsWriter, written_of, room_bytes}
 use Rattle.vfs_segments.specs.declared.writer.Writer.TheInside.{Inside}
 use Rattle.vfs_segments.specs.SegmentLaws.{length-with_bytes_at}
 use Rattle.vfs_segments.specs.Transfer.{taken_in}
 use Rattle.vfs_segments.proofs.Puts.{take-append_past, drop-append_past}
-use Rattle.vfs_segments.proofs.Totals.{length-totals_from}
-use Rattle.std.specs.declared.vec.Vec.{Vec}
-use Rattle.std.specs.declared.alloc.Global.{Global}
 
 pub same_size : (xs ys : List (List ℕ)) → map length ys ≡ map length xs →
     length (concat ys) ≡ length (concat xs)
@@ -27,7 +23,7 @@ same_size (x ∷ xs) (y ∷ ys) e =
 
 -- the lengths of a writer's segments
 abbrev pub room_lengths : Inside → List ℕ
-room_lengths w = lengths_of (contents w.segments.items)
+room_lengths w = lengths_of w.segments
 
 -- two writers are equal where their parts are
 written-eq : {a a' b b' l l' : List ℕ} {p p' n n' : ℕ} → a ≡ a' → b ≡ b' → p ≡ p' → n ≡ n' → l ≡ l' →
@@ -60,20 +56,13 @@ put_below k at bs xs h w =
     let back : drop n xs ≡ drop n (take at xs) ++ drop at xs = sym (ap (drop n) split) ∙ drop-append-le n (take at xs) (drop at xs) (omega arith) in
     rw (front, back) (simp append_assoc)
 
--- a writer has a total for each segment
-pub length-totals : (w : Inside) → IsWriter w → length w.totals.items ≡ length w.segments.items
-length-totals w ok =
-    ap length ok.totals ∙ length-totals_from 0 (room_lengths w) ∙ length-map (contents w.segments.items) length
-    ∙ length-map w.segments.items (λ (v : Vec ℕ Global). v.items)
-
 -- segments of the same lengths serve a writer
 pub still_writer : (w n : Inside) → IsWriter w → room_lengths n ≡ room_lengths w → n.end ≡ w.end →
-    n.totals ≡ w.totals → n.at ≤ w.end → n.held_at + n.held ≤ n.at → IsWriter n
-still_writer w n ok e end totals within held = record {
-  all = end ∙ ok.all ∙ sym (same_size (contents w.segments.items) (contents n.segments.items) e);
+    n.at ≤ w.end → n.held_at + n.held ≤ n.at → IsWriter n
+still_writer w n ok e end within held = record {
+  all = end ∙ ok.all ∙ sym (same_size w.segments n.segments e);
   within = rw end within;
   held_in = held;
-  totals = ap (λ (k : Kept). k.items) totals ∙ ok.totals ∙ ap totals_of (sym e);
 }
 
 pub wrote_next : (w n : Inside) (bs : List ℕ) → room_bytes n ≡ with_bytes_at w.at bs (room_bytes w) →

@@ -1,13 +1,12 @@
 -- How a writer's fields stand for what its callers see.
 use Rattle.std.specs.Prelude.{ℕ, ◌≡◌, ◌+◌, ◌≤◌, List, length, take, drop}
-use Rattle.vfs_segments.specs.Segments.{contents, flat_bytes, lengths_of}
-use Rattle.vfs_segments.specs.Totals.{totals_of}
+use Rattle.vfs_segments.specs.Segments.{flat_bytes, lengths_of}
 use Rattle.vfs_segments.specs.Written.{Written}
 use Rattle.vfs_segments.specs.declared.writer.Writer.TheInside.{Inside}
 
 -- all bytes of a writer's segments
 abbrev pub room_bytes : Inside → List ℕ
-room_bytes w = flat_bytes (contents w.segments.items)
+room_bytes w = flat_bytes w.segments
 
 -- the bytes before the place and from it on, the held place, and the segments' lengths
 abbrev pub written_of : Inside → Written
@@ -16,13 +15,11 @@ written_of w = record {
   left = drop w.at (room_bytes w);
   held_at = w.held_at;
   held = w.held;
-  lengths = lengths_of (contents w.segments.items);
+  lengths = lengths_of w.segments;
 }
 
--- The place of a writer lies in its segments, whose running totals it has, and what it holds lies
--- before the place.
+-- the place of a writer lies in its segments, and what it holds lies before the place
 pub record IsWriter (w : Inside) : Type 0 where
   pub all : w.end ≡ length (room_bytes w)
   pub within : w.at ≤ w.end
   pub held_in : w.held_at + w.held ≤ w.at
-  pub totals : w.totals.items ≡ totals_of (lengths_of (contents w.segments.items))

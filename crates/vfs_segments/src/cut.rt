@@ -5,6 +5,7 @@ ghost use Rattle.vfs_segments.specs.Segments.{contents, flat_bytes, lengths_of};
 ghost use Rattle.vfs_segments.specs.Lengths.{lengths_before, lengths_from};
 
 use crate::running::Running;
+use crate::segments::Segments;
 use std::alloc::{AllocError, Global};
 use std::mem;
 
@@ -70,5 +71,27 @@ pub(crate) fn end_totals(totals: &mut Running, at: usize, first: usize, inside: 
     totals.truncate(first);
     if inside > 0 {
         totals.push_reserved(at);
+    }
+}
+
+impl Segments<Vec<Vec<u8>>> {
+    // Cuts the segments at place `at`, and answers those from there on. Where memory is refused
+    // nothing changes.
+    pub(crate) fn split_off(&mut self, at: usize) -> Result<Segments<Vec<Vec<u8>>>, AllocError>
+        requires { at ≤ length (flat_bytes self.old) }
+        ensures front { OnOk result (flat_bytes self.new ≡ take at (flat_bytes self.old)) }
+        ensures back { IfOk result (λ rest. flat_bytes rest ≡ drop at (flat_bytes self.old)) }
+        ensures front_lengths { OnOk result
+            (lengths_of self.new ≡ lengths_before at (lengths_of self.old)) }
+        ensures back_lengths { IfOk result (λ rest.
+            lengths_of rest ≡ lengths_from at (lengths_of self.old)) }
+        ensures err { OnErr result (self.new ≡ self.old) }
+    {
+        let (first, inside) = self.place(at);
+        let alloc = *self.list.allocator();
+        let totals = totals_past(alloc, &self.totals, at, first)?;
+        let list = cut_off(&mut self.list, at, first, inside)?;
+        end_totals(&mut self.totals, at, first, inside);
+        Ok(Segments { list, totals })
     }
 }

@@ -24,11 +24,11 @@ mod gather;
 pub mod laws;
 mod lend;
 mod pair;
-mod place;
 mod reader;
 mod record;
 mod running;
 mod scatter;
+mod segments;
 mod transfer;
 mod writer;
 

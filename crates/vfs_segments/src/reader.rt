@@ -12,10 +12,7 @@ ghost use Rattle.vfs_segments.specs.Unread.{IsUnread, advanced, are_together, fi
 ghost use Rattle.vfs_wire.specs.Fields.{Fit, value_of};
 
 use crate::error::{Error, Result};
-use crate::gather::{copy_from, record_at, total_of, totals_in};
-use crate::lend::{is_one_piece, lent};
-use crate::running::Running;
-use crate::transfer::write_from;
+use crate::segments::{Segments, total_of};
 use std::alloc::Global;
 use std::io::{ErrorKind, Read};
 use std::marker::Model;
@@ -31,8 +28,7 @@ use vfs_wire::ByteValued;
 /// of segments in which those left lie.
 #[derive(Drop)]
 pub struct Reader<'a> {
-    segments: &'a [&'a [u8]],
-    totals: Running,
+    segments: Segments<&'a [&'a [u8]]>,
     start: usize,
     at: usize,
     end: usize,
@@ -68,13 +64,12 @@ impl<'a> Reader<'a> {
         ensures few { length segments.now ≤ 4 →
             length (flat_bytes (segments_of segments.now)) < 2 ^ 64 → IsOk result }
     {
-        let Some(end) = total_of(segments) else {
+        let Some(end) = total_of(&segments) else {
             return Err(Error::DescriptorChainOverflow);
         };
-        let totals = totals_in(alloc, segments)?;
+        let segments = Segments::new(alloc, segments)?;
         Ok(Reader {
             segments,
-            totals,
             start: 0,
             at: 0,
             end,
@@ -112,11 +107,10 @@ impl<'a> Reader<'a> {
         if n > self.available_bytes() {
             return Err(Error::SplitOutOfBounds(n));
         }
-        let totals = self.totals.clone()?;
+        let segments = self.segments.clone()?;
         let middle = self.at + n;
         let rest = Reader {
-            segments: self.segments,
-            totals,
+            segments,
             start: middle,
             at: middle,
             end: self.end,
@@ -132,10 +126,9 @@ impl<'a> Reader<'a> {
         ensures ok { IfOk result (λ r. r ≡ self.now) }
         ensures err { IfErr result (λ e. e ≡ Error.OutOfMemory) }
     {
-        let totals = self.totals.clone()?;
+        let segments = self.segments.clone()?;
         Ok(Reader {
-            segments: self.segments,
-            totals,
+            segments,
             start: self.start,
             at: self.at,
             end: self.end,
@@ -147,7 +140,7 @@ impl<'a> Reader<'a> {
     pub fn together(&self, at: usize, n: usize) -> bool
         ensures { result ≡ are_together self.now at n }
     {
-        is_one_piece(self.segments, &self.totals, self.at, self.end, at, n)
+        self.segments.is_one_piece(self.at, self.end, at, n)
     }
 
     /// Takes the next `n` bytes and lends them, where they are left and lie in one segment.
@@ -161,7 +154,7 @@ impl<'a> Reader<'a> {
         if n > self.available_bytes() {
             return None;
         }
-        let Some(bytes) = lent(self.segments, &self.totals, self.at, n) else {
+        let Some(bytes) = self.segments.lent(self.at, n) else {
             return None;
         };
         self.at += n;
@@ -174,7 +167,7 @@ impl<'a> Reader<'a> {
         ensures copied { buf.new ≡ take (length buf.old) self.old.left }
         ensures moved { self.new ≡ advanced self.old (length buf.old) }
     {
-        copy_from(self.segments, &self.totals, self.at, buf);
+        self.segments.copy_from(self.at, buf);
         self.at += buf.len();
     }
 
@@ -201,7 +194,7 @@ impl<'a> Reader<'a> {
         if T::SIZE > self.available_bytes() {
             return None;
         }
-        let record = record_at(self.segments, &self.totals, self.at);
+        let record = self.segments.record_at(self.at);
         self.at += T::SIZE;
         Some(record)
     }
@@ -255,7 +248,7 @@ impl<'a> Reader<'a> {
         if n == 0 {
             return Ok(0);
         }
-        match write_from(self.segments, &self.totals, self.at, n, file, off, flags) {
+        match self.segments.write_from(self.at, n, file, off, flags) {
             Ok(moved) => {
                 self.at += moved;
                 Ok(moved)

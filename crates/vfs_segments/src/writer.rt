@@ -10,15 +10,10 @@ ghost use Rattle.vfs_segments.specs.Transfer.{moved_bytes, taken_in};
 ghost use Rattle.vfs_segments.specs.Written.{unwritten, wrote, first_room, rest_room, held_over, held_filled, whole};
 ghost use Rattle.vfs_wire.specs.Fields.{Fit, bytes_of};
 
-use crate::beside::{padded_len, put_beside};
-use crate::cut::{cut_off, end_totals, totals_past};
+use crate::beside::padded_len;
 use crate::error::{Error, Result};
-use crate::pair::put_pair;
-use crate::place::place_of;
 use crate::record::LARGEST_RECORD;
-use crate::running::Running;
-use crate::scatter::{put_from, put_obj, room_of, totals_held};
-use crate::transfer::read_into;
+use crate::segments::{Segments, total_of};
 use std::alloc::Global;
 use std::io::{ErrorKind, Write};
 use std::marker::Model;
@@ -37,8 +32,7 @@ use vfs_wire::ByteValued;
 /// segments' lengths.
 #[derive(Drop)]
 pub struct Writer {
-    segments: Vec<Vec<u8>>,
-    totals: Running,
+    segments: Segments<Vec<Vec<u8>>>,
     at: usize,
     end: usize,
     held_at: usize,
@@ -75,13 +69,12 @@ impl Writer {
         ensures few { length segments.items ≤ 4 →
             length (flat_bytes (contents segments.items)) < 2 ^ 64 → IsOk result }
     {
-        let Some(end) = room_of(&segments) else {
+        let Some(end) = total_of(&segments) else {
             return Err(Error::DescriptorChainOverflow);
         };
-        let totals = totals_held(alloc, &segments)?;
+        let segments = Segments::new(alloc, segments)?;
         Ok(Writer {
             segments,
-            totals,
             at: 0,
             end,
             held_at: 0,
@@ -127,14 +120,9 @@ impl Writer {
             return Err(Error::SplitOutOfBounds(n));
         }
         let middle = self.at + n;
-        let (first, inside) = place_of(&self.segments, &self.totals, middle);
-        let alloc = *self.segments.allocator();
-        let totals = totals_past(alloc, &self.totals, middle, first)?;
-        let segments = cut_off(&mut self.segments, middle, first, inside)?;
-        end_totals(&mut self.totals, middle, first, inside);
+        let segments = self.segments.split_off(middle)?;
         let rest = Writer {
             segments,
-            totals,
             at: 0,
             end: self.end - middle,
             held_at: 0,
@@ -168,7 +156,7 @@ impl Writer {
         requires { length bytes.now ≡ self.old.held }
         ensures { self.new ≡ held_filled self.old bytes.now }
     {
-        put_from(&mut self.segments, &self.totals, self.held_at, bytes);
+        self.segments.put_from(self.held_at, bytes);
         self.held = 0;
     }
 
@@ -177,7 +165,7 @@ impl Writer {
         requires { length bytes.now ≤ length self.old.left }
         ensures { self.new ≡ wrote self.old bytes.now }
     {
-        put_from(&mut self.segments, &self.totals, self.at, bytes);
+        self.segments.put_from(self.at, bytes);
         self.at += bytes.len();
     }
 
@@ -197,7 +185,7 @@ impl Writer {
             self.write_cut(x);
             return Err(io::Error::from(ErrorKind::WriteZero));
         }
-        put_obj(&mut self.segments, &self.totals, self.at, x);
+        self.segments.put_obj(self.at, x);
         self.at += T::SIZE;
         Ok(())
     }
@@ -232,7 +220,7 @@ impl Writer {
         ensures in_range { T.in_range x }
     {
         let len = padded_len::<T>(bytes);
-        if put_beside(&mut self.segments, &self.totals, self.at, len, &x, bytes) {
+        if self.segments.put_beside(self.at, len, &x, bytes) {
             self.at += len;
             return Ok(());
         }
@@ -282,7 +270,7 @@ impl Writer {
         ensures second_in_width { Fit U.table.widths (U.table.fields second) }
         ensures second_in_range { U.in_range second }
     {
-        if put_pair(&mut self.segments, &self.totals, self.at, &first, &second) {
+        if self.segments.put_pair(self.at, &first, &second) {
             self.at += T::SIZE + U::SIZE;
             return Ok(());
         }
@@ -341,7 +329,7 @@ impl Writer {
         if n == 0 {
             return Ok(0);
         }
-        match read_into(&mut self.segments, &self.totals, self.at, n, file, off) {
+        match self.segments.read_into(self.at, n, file, off) {
             Ok(moved) => {
                 self.at += moved;
                 Ok(moved)
@@ -358,13 +346,12 @@ impl Writer {
     {
         let Writer {
             segments,
-            totals: _,
             at: _,
             end: _,
             held_at: _,
             held: _,
         } = self;
-        segments
+        segments.into_list()
     }
 }
 

@@ -3,7 +3,7 @@ use Rattle.std.proofs.lemmas.Grind.{common_steps}
 use Rattle.std.proofs.lemmas.Result.{on_ok_weaker, IfOk-weaker}
 use Rattle.std.specs.declared.vec.Vec.{Vec}
 use Rattle.std.specs.declared.alloc.Global.{Global}
-use Rattle.vfs_segments.proofs.Segments.{held_flat}
+use Rattle.vfs_segments.proofs.Flat.{held_flat}
 use Rattle.vfs_segments.proofs.Cuts.{between_front, between_back, IsListed, first_is, length-first, inside_first, inside_front, inside_back}
 use Rattle.vfs_segments.proofs.LengthCuts.{held_lengths, between_lengths_before, between_lengths_from, inside_lengths_before, inside_lengths_from}
 use Rattle.vfs_segments.proofs.cut.cut_off.Goals as goal

@@ -1,18 +1,18 @@
 use Rattle.std.proofs.Common.{arith, ap, sym, ◌+◌, ◌-◌, ◌∙◌, ◌≤◌, length, drop, length-take}
+use Rattle.std.specs.List.{concat}
 use Rattle.std.specs.Prelude.{sum}
 use Rattle.vfs_wire.specs.Fields.{value_of}
 use Rattle.vfs_wire.specs.FieldLaws.{value_of-take}
 use Rattle.vfs_segments.specs.Unread.{Unread}
 use Rattle.vfs_segments.proofs.Places.{length-left, moved_on}
-use Rattle.vfs_segments.proofs.Segments.{flat}
 use Rattle.vfs_segments.proofs.reader.Reader.read_obj_if_whole.Goals as goal
 
 pub returns-clause-value : goal.returns-clause-value
 returns-clause-value g c =
     let r = c.self.inside in
     let t = g.T.ByteValued.table in
-    let fits : sum t.widths ≤ r.end - r.at = omega (arith, g.met.T.ByteValued.size_is, c.SIZE.ensures, c.available_bytes.ensures.left, ap (λ (u : Unread). length u.left) c.self.view_is, length-take (r.end - r.at) (drop r.at (flat r.segments.now))) in
-    c.record_at-record.ensures.value ∙ sym (value_of-take t (r.end - r.at) (drop r.at (flat r.segments.now)) fits)
+    let fits : sum t.widths ≤ r.end - r.at = omega (arith, g.met.T.ByteValued.size_is, c.SIZE.ensures, c.available_bytes.ensures.left, ap (λ (u : Unread). length u.left) c.self.view_is, length-take (r.end - r.at) (drop r.at (concat r.segments))) in
+    c.record_at-record.ensures.value ∙ sym (value_of-take t (r.end - r.at) (drop r.at (concat r.segments)) fits)
     ∙ ap (λ (u : Unread). value_of t u.left) c.self.view_is
 
 pub returns-clause-moved : goal.returns-clause-moved

@@ -1,13 +1,13 @@
 use Rattle.std.proofs.Common.{arith, ap, ◌≡◌, ◌∙◌, ◌+◌, ◌≤◌, sym, rules}
 use Rattle.vfs_segments.specs.Lengths.{lie_together}
-use Rattle.vfs_segments.specs.Segments.{lengths_of, segments_of}
+use Rattle.vfs_segments.specs.Segments.{lengths_of}
 use Rattle.vfs_segments.proofs.Places.{length-left, moved_on, together_is}
 use Rattle.vfs_segments.proofs.reader.Reader.take_slice.Goals as goal
 
 pub returns-in_default-clause-variant : goal.returns-in_default-clause-variant
 returns-in_default-clause-variant c =
     let r = c.self.inside in
-    let all = lengths_of (segments_of r.segments.now) in
+    let all = lengths_of r.segments in
     let left = length-left r c.self.invariant c.args.self.now c.self.view_is in
     let at : r.at + 0 ≡ r.at = omega arith in
     let h : r.at + 0 + c.args.n ≤ r.end = omega (arith, left, c.available_bytes.ensures.left, c.self.invariant.before_end) in
@@ -17,7 +17,7 @@ returns-in_default-clause-variant c =
 pub returns-clause-variant : goal.returns-clause-variant
 returns-clause-variant c =
     let r = c.self.inside in
-    let all = lengths_of (segments_of r.segments.now) in
+    let all = lengths_of r.segments in
     let left = length-left r c.self.invariant c.args.self.now c.self.view_is in
     let at : r.at + 0 ≡ r.at = omega arith in
     let h : r.at + 0 + c.args.n ≤ r.end = omega (arith, left, c.available_bytes.ensures.left, c.self.invariant.before_end) in

@@ -1,7 +1,7 @@
 use Rattle.std.proofs.Common.{arith, ap, sym, ◌∙◌, ◌≡◌, ◌-◌, ◌+◌, ◌≤◌, min, length, take, drop}
 use Rattle.std.proofs.lemmas.List.{take-take}
 use Rattle.vfs_segments.specs.Unread.{Unread}
-use Rattle.vfs_segments.proofs.Segments.{flat}
+use Rattle.std.specs.List.{concat}
 use Rattle.vfs_segments.proofs.Places.{length-left, moved_on}
 use Rattle.vfs_segments.proofs.reader.Reader.write_to_file_at.Goals as goal
 
@@ -9,7 +9,7 @@ pub returns-in-Ok-clause-lent : goal.returns-in-Ok-clause-lent
 returns-in-Ok-clause-lent g c = λ some.
     let r = c.self.inside in
     let m = c.in-Ok.moved in
-    let bytes = flat r.segments.now in
+    let bytes = concat r.segments in
     let left = c.args.self.now.left in
     let k = min c.args.count (length left) in
     let size : length left ≡ r.end - r.at = length-left r c.self.invariant c.args.self.now c.self.view_is in

@@ -9,4 +9,4 @@ returns-clause-held c =
     let w = c.self.inside in
     let n = c.args.n in
     let fits : w.at + n ≤ length (room_bytes w) = omega (arith, c.self.invariant.all, c.self.invariant.within, ap (λ (u : Written). length u.left) c.self.view_is, length-drop w.at (room_bytes w)) in
-    holds w (record { segments = w.segments; totals = w.totals; at = w.at + n; end = w.end; held_at = w.at; held = n }) n refl fits refl refl refl refl ∙ ap (λ (u : Written). held_over u n) c.self.view_is
+    holds w (record w { at = w.at + n; held_at = w.at; held = n }) n refl fits refl refl refl refl ∙ ap (λ (u : Written). held_over u n) c.self.view_is

@@ -12,12 +12,12 @@ invariant_of-self g c =
     let room : length c.args.self.now.left ≡ w.end - w.at =
     sym (ap (λ (u : Written). length u.left) c.self.view_is) ∙ length-drop w.at (room_bytes w)
     ∙ ap (λ m. m - w.at) (sym c.self.invariant.all) in
-    still_writer w (record { segments = c.read_into.new.segments; totals = w.totals; at = w.at + c.in-Ok.moved; end = w.end; held_at = w.held_at; held = w.held }) c.self.invariant c.read_into.ensures.lengths refl refl (omega (arith, b, c.self.invariant.within)) (omega (arith, c.self.invariant.held_in))
+    still_writer w (record w { segments = c.read_into.new.self; at = w.at + c.in-Ok.moved }) c.self.invariant c.read_into.ensures.lengths refl (omega (arith, b, room, c.self.invariant.within)) (omega (arith, c.self.invariant.held_in))
 
 pub invariant_of-self-in-Err : goal.invariant_of-self-in-Err
 invariant_of-self-in-Err g c =
     let w = c.self.inside in
-    still_writer w (record { segments = c.read_into.new.segments; totals = w.totals; at = w.at; end = w.end; held_at = w.held_at; held = w.held }) c.self.invariant c.read_into.ensures.lengths refl refl c.self.invariant.within c.self.invariant.held_in
+    still_writer w (record w { segments = c.read_into.new.self }) c.self.invariant c.read_into.ensures.lengths refl c.self.invariant.within c.self.invariant.held_in
 
 pub returns-in-Ok-clause-lent : goal.returns-in-Ok-clause-lent
 returns-in-Ok-clause-lent g c = λ some.
@@ -27,7 +27,7 @@ returns-in-Ok-clause-lent g c = λ some.
     let b = c.in-Ok.ensures.bound in (
       t.0,
       t.1 ∙ n,
-      took (Option ℕ) w (record { segments = c.read_into.new.segments; totals = w.totals; at = w.at + c.in-Ok.moved; end = w.end; held_at = w.held_at; held = w.held }) c.in-Ok.moved t.0 t.2 (omega (arith, c.self.invariant.all, c.self.invariant.within)) (omega (arith, b, t.1)) refl refl refl c.read_into.ensures.lengths
+      took (Option ℕ) w (record w { segments = c.read_into.new.self; at = w.at + c.in-Ok.moved }) c.in-Ok.moved t.0 t.2 (omega (arith, c.self.invariant.all, c.self.invariant.within)) (omega (arith, b, t.1)) refl refl refl c.read_into.ensures.lengths
           ∙ ap (λ (u : Written). taken_in {E = Option ℕ} u (Ok c.in-Ok.moved) t.0) c.self.view_is,
       rw n at t.3,
     )
@@ -39,7 +39,7 @@ returns-in-Err-clause-lent g c = λ some.
     let t = c.in-Err.ensures.moved in (
       t.0,
       t.1 ∙ n,
-      took_none w (record { segments = c.read_into.new.segments; totals = w.totals; at = w.at; end = w.end; held_at = w.held_at; held = w.held }) c.in-Err.fault t.0 t.2 (omega (arith, c.self.invariant.all, c.self.invariant.within)) refl refl refl c.read_into.ensures.lengths
+      took_none w (record w { segments = c.read_into.new.self }) c.in-Err.fault t.0 t.2 (omega (arith, c.self.invariant.all, c.self.invariant.within)) refl refl refl c.read_into.ensures.lengths
           ∙ ap (λ (u : Written). taken_in u (Err c.in-Err.fault) t.0) c.self.view_is,
       rw n at t.3,
     )

@@ -1,10 +1,6 @@
 use Rattle.std.proofs.Common.{arith, ap, sym, ◌∙◌, ◌+◌, ◌≡◌, ◌++◌, refl, length, length-drop, take, take_all}
-use Rattle.std.proofs.lemmas.List.{with_items_is}
-use Rattle.std.specs.List.{concat}
-use Rattle.std.specs.Vec.{with_items}
 use Rattle.vfs_wire.specs.Fields.{bytes_of}
 use Rattle.vfs_segments.specs.Padded.{padding}
-use Rattle.vfs_segments.specs.Segments.{contents, lengths_of}
 use Rattle.vfs_segments.specs.Written.{Written, wrote}
 use Rattle.vfs_segments.specs.Writer.{room_bytes}
 use Rattle.vfs_segments.specs.declared.writer.Writer.TheInside.{Inside}
@@ -15,11 +11,9 @@ use Rattle.vfs_segments.proofs.writer.Writer.write_padded.Goals as goal
 pub invariant_of-self : goal.invariant_of-self
 invariant_of-self g c =
     let w = c.self.inside in
-    let items = with_items_is w.segments c.put_beside.new.segments (c.put_beside.auto.segments ∙ c.deref_mut.ensures.len) in
-    let lengths = rw c.deref_mut.ensures.value at c.put_beside.ensures.lengths in
-    let fits = rw c.deref_mut.ensures.value at (c.put_beside.ensures.fits c.if-put_beside.true) in
-    still_writer w (record { segments = with_items w.segments c.put_beside.new.segments; totals = w.totals; at = w.at + c.padded_len-len.result; end = w.end; held_at = w.held_at; held = w.held }) c.self.invariant
-    (ap (λ l. lengths_of (contents l)) items ∙ lengths) refl refl (omega (arith, fits, c.self.invariant.all)) (omega (arith, c.self.invariant.held_in))
+    let fits = c.put_beside.ensures.fits c.if-put_beside.true in
+    still_writer w (record w { segments = c.put_beside.new.self; at = w.at + c.padded_len-len.result }) c.self.invariant
+    c.put_beside.ensures.lengths refl (omega (arith, fits, c.self.invariant.all)) (omega (arith, c.self.invariant.held_in))
 
 pub returns-then-put_beside-clause-wrote : goal.returns-then-put_beside-clause-wrote
 returns-then-put_beside-clause-wrote g c =
@@ -29,14 +23,11 @@ returns-then-put_beside-clause-wrote g c =
     let bytes = c.args.bytes.now in
     let bs = x ++ (bytes ++ padding (g.T.ByteValued.SIZE + length bytes)) in
     let long : length bs ≡ c.padded_len-len.result = length-padded x bytes g.T.ByteValued.SIZE size ∙ sym c.padded_len-len.ensures in
-    let items = with_items_is w.segments c.put_beside.new.segments (c.put_beside.auto.segments ∙ c.deref_mut.ensures.len) in
-    let put = rw c.deref_mut.ensures.value at (c.put_beside.ensures.wrote c.if-put_beside.true) in
-    let lengths = rw c.deref_mut.ensures.value at c.put_beside.ensures.lengths in
-    let fits = rw c.deref_mut.ensures.value at (c.put_beside.ensures.fits c.if-put_beside.true) in
+    let put = c.put_beside.ensures.wrote c.if-put_beside.true in
+    let fits = c.put_beside.ensures.fits c.if-put_beside.true in
     let left = ap (λ (u : Written). length u.left) c.self.view_is in
-    let n : Inside = record { segments = with_items w.segments c.put_beside.new.segments; totals = w.totals; at = w.at + c.padded_len-len.result; end = w.end; held_at = w.held_at; held = w.held } in
+    let n : Inside = record w { segments = c.put_beside.new.self; at = w.at + c.padded_len-len.result } in
     let moved : n.at ≡ w.at + length bs = omega (arith, long) in
     let all : take (length c.args.self.now.left) bs ≡ bs = take_all (length c.args.self.now.left) bs (omega (arith, fits, long, left, length-drop w.at (room_bytes w))) in
-    wrote_next w n bs (ap (λ l. concat (contents l)) items ∙ put) (omega (arith, fits, long)) moved refl refl
-    (ap (λ l. lengths_of (contents l)) items ∙ lengths)
+    wrote_next w n bs put (omega (arith, fits, long)) moved refl refl c.put_beside.ensures.lengths
     ∙ ap (λ (u : Written). wrote u bs) c.self.view_is ∙ ap (wrote c.args.self.now) (sym all)

@@ -1,9 +1,5 @@
 use Rattle.std.proofs.Common.{arith, ap, sym, ◌∙◌, ◌+◌, ◌≡◌, ◌++◌, refl, length, length-drop, take, take_all}
-use Rattle.std.proofs.lemmas.List.{with_items_is}
-use Rattle.std.specs.List.{concat}
-use Rattle.std.specs.Vec.{with_items}
 use Rattle.vfs_wire.specs.Fields.{bytes_of}
-use Rattle.vfs_segments.specs.Segments.{contents, lengths_of}
 use Rattle.vfs_segments.specs.Written.{Written, wrote}
 use Rattle.vfs_segments.specs.Writer.{room_bytes}
 use Rattle.vfs_segments.specs.declared.writer.Writer.TheInside.{Inside}
@@ -13,25 +9,20 @@ use Rattle.vfs_segments.proofs.writer.Writer.write_pair.Goals as goal
 pub invariant_of-self : goal.invariant_of-self
 invariant_of-self g c =
     let w = c.self.inside in
-    let items = with_items_is w.segments c.put_pair.new.segments (c.put_pair.auto.segments ∙ c.deref_mut.ensures.len) in
-    let lengths = rw c.deref_mut.ensures.value at c.put_pair.ensures.lengths in
-    let fits = rw c.deref_mut.ensures.value at (c.put_pair.ensures.fits c.if-put_pair.true) in
-    still_writer w (record { segments = with_items w.segments c.put_pair.new.segments; totals = w.totals; at = w.at + (c.SIZE.result + c.SIZE-then-put_pair.result); end = w.end; held_at = w.held_at; held = w.held }) c.self.invariant
-    (ap (λ l. lengths_of (contents l)) items ∙ lengths) refl refl (omega (arith, fits, c.SIZE.ensures, c.SIZE-then-put_pair.ensures, c.self.invariant.all)) (omega (arith, c.self.invariant.held_in))
+    let fits = c.put_pair.ensures.fits c.if-put_pair.true in
+    still_writer w (record w { segments = c.put_pair.new.self; at = w.at + (c.SIZE.result + c.SIZE-then-put_pair.result) }) c.self.invariant
+    c.put_pair.ensures.lengths refl (omega (arith, fits, c.SIZE.ensures, c.SIZE-then-put_pair.ensures, c.self.invariant.all)) (omega (arith, c.self.invariant.held_in))
 
 pub returns-then-put_pair-clause-wrote : goal.returns-then-put_pair-clause-wrote
 returns-then-put_pair-clause-wrote g c =
     let w = c.self.inside in
     let bs = bytes_of g.T.ByteValued.table c.args.first ++ bytes_of g.U.ByteValued.table c.args.second in
     let size = c.put_pair.ensures.size c.if-put_pair.true in
-    let items = with_items_is w.segments c.put_pair.new.segments (c.put_pair.auto.segments ∙ c.deref_mut.ensures.len) in
-    let put = rw c.deref_mut.ensures.value at (c.put_pair.ensures.wrote c.if-put_pair.true) in
-    let lengths = rw c.deref_mut.ensures.value at c.put_pair.ensures.lengths in
-    let fits = rw c.deref_mut.ensures.value at (c.put_pair.ensures.fits c.if-put_pair.true) in
+    let put = c.put_pair.ensures.wrote c.if-put_pair.true in
+    let fits = c.put_pair.ensures.fits c.if-put_pair.true in
     let left = ap (λ (u : Written). length u.left) c.self.view_is in
-    let n : Inside = record { segments = with_items w.segments c.put_pair.new.segments; totals = w.totals; at = w.at + (c.SIZE.result + c.SIZE-then-put_pair.result); end = w.end; held_at = w.held_at; held = w.held } in
+    let n : Inside = record w { segments = c.put_pair.new.self; at = w.at + (c.SIZE.result + c.SIZE-then-put_pair.result) } in
     let moved : n.at ≡ w.at + length bs = omega (arith, size, c.SIZE.ensures, c.SIZE-then-put_pair.ensures) in
     let all : take (length c.args.self.now.left) bs ≡ bs = take_all (length c.args.self.now.left) bs (omega (arith, fits, size, left, length-drop w.at (room_bytes w))) in
-    wrote_next w n bs (ap (λ l. concat (contents l)) items ∙ put) (omega (arith, fits, size)) moved refl refl
-    (ap (λ l. lengths_of (contents l)) items ∙ lengths)
+    wrote_next w n bs put (omega (arith, fits, size)) moved refl refl c.put_pair.ensures.lengths
     ∙ ap (λ (u : Written). wrote u bs) c.self.view_is ∙ ap (wrote c.args.self.now) (sym all)

@@ -1,6 +1,0 @@
-use Rattle.std.proofs.Common.{◌≡◌, ◌+◌, length, take}
-use Rattle.vfs_segments.proofs.Segments.{flat}
-use Rattle.vfs_segments.proofs.place.walk_in.Given as goal
-
-abbrev pub invariant-loop-i : goal.invariant-loop-i
-invariant-loop-i l = length (flat (take l.i l.segments)) + l.skip ≡ l.at
