@@ -1,8 +1,6 @@
 -- A request that a server handled, with the state of its file system before and after.
 use Rattle.std.specs.Prelude.{◌≡◌, length, ℕ, List, Option, None, Some, Result}
 use Rattle.vfs_flags.specs.declared.opcode.Opcode.{Opcode}
-use Rattle.vfs_wire.specs.declared.headers.InHeader.{InHeader}
-use Rattle.vfs_segments.specs.Unread.{Unread}
 use Rattle.vfs_segments.specs.Written.{Written, Moves}
 use Rattle.vfs_files.specs.Items.{Item}
 use Rattle.vfs_files.specs.Calls.{Call, Answer, Handed, Plain, Counts, read_answer}
@@ -19,6 +17,7 @@ use Rattle.vfs_grammar.specs.Turn.{Witness, Follows, IsRead, Turn, IsTurn}
 use Rattle.vfs_grammar.specs.declared.limits.Limits.{Limits}
 use Rattle.vfs_grammar.specs.declared.error.Error.{Error}
 use Rattle.vfs_server.specs.Memory.{MayWantFor}
+use Rattle.vfs_server.specs.declared.server.request.Request.{Request}
 
 -- a server as contracts see it: the agreed options, the limits, the state of the file system
 pub record ServerState (S : Type 0) : Type 0 where
@@ -66,11 +65,12 @@ module _ {S I : Type 0} (allows : S → Call → Handed I → S → Type 0)
       old.limits old.options a new.options
       × (new.limits ≡ old.limits)
 
-  -- a request of this opcode, with this header and what the reader had left behind it, was handled
-  abbrev pub Serves : Opcode → InHeader → (reader : Unread) → (old : ServerState S)
-      → (writer : Written) → Result ℕ Error → (writer_after : Written) → (new : ServerState S)
-      → Type 0
-  Serves opcode header reader old writer outcome writer_after new =
+  -- a request of this opcode was handled
+  abbrev pub Serves : Opcode → (request : Request) → (old : ServerState S) → (writer : Written)
+      → Result ℕ Error → (writer_after : Written) → (new : ServerState S) → Type 0
+  Serves opcode request old writer outcome writer_after new =
+      let header = request.header.now in
+      let reader = request.r.now in
       Handles
       (MayWantFor header reader.pieces
       (memory_use (form_of old.limits old.options (length writer.left) header opcode)))

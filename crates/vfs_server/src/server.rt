@@ -10,6 +10,7 @@ mod locks;
 mod migration;
 mod names;
 mod others;
+mod request;
 mod session;
 mod xattrs;
 
@@ -26,6 +27,7 @@ ghost use Rattle.vfs_server.specs.Memory.{MayWant, MayWantBehind, WantsNoMemory}
 ghost use Rattle.vfs_server.specs.Session.{IsSession};
 ghost use Rattle.vfs_server.specs.Step.{IsStep, ReadsDirectories, Handles, Serves};
 
+use crate::server::request::Request;
 use bitflags::Flags;
 use std::alloc::Global;
 use std::marker::Model;
@@ -246,97 +248,89 @@ impl<F: FileSystem> Server<F> {
     {
         memory_is_wanted_for_copies();
         match read_record::<InHeader>(r) {
-            Ok(header) => self.handle_header(alloc, &header, r, w),
+            Ok(header) => {
+                let header = &header;
+                self.handle_header(Request { alloc, header, r }, w)
+            }
             Err(error) => Err(error),
         }
     }
 
     /// Handles a request by its header: a `len` above the limit and an unknown opcode are replied
     /// here.
-    fn handle_header(
-        &mut self,
-        alloc: Global,
-        header: &InHeader,
-        r: &mut Reader<'_>,
-        w: &mut Writer,
-    ) -> Result<usize>
-        ensures { Handles F.allows F.DirIter.gives
+    fn handle_header(&mut self, q: Request<'_, '_>, w: &mut Writer) -> Result<usize>
+        ensures { let header = q.entry.header.now in
+            let reader = q.entry.r.now in
+            Handles F.allows F.DirIter.gives
             (MayWantBehind self.old.limits self.old.options (length w.old.left)
-            (opcode_of header.now.opcode) header.now r.old.pieces)
-            (ask_header self.old.limits self.old.options (length w.old.left) header.now r.old.left)
+            (opcode_of header.opcode) header reader.pieces)
+            (ask_header self.old.limits self.old.options (length w.old.left) header reader.left)
             self.old w.old result w.new self.new }
     {
-        if header.len > self.limits.max_len() {
-            return reply_failed(Some(Errno::ENOMEM), header.unique, w);
+        if q.header.len > self.limits.max_len() {
+            return reply_failed(Some(Errno::ENOMEM), q.header.unique, w);
         }
-        match Opcode::try_from(header.opcode) {
-            Ok(opcode) => self.dispatch(alloc, opcode, header, r, w),
-            Err(()) => reply_failed(Some(Errno::ENOSYS), header.unique, w),
+        match Opcode::try_from(q.header.opcode) {
+            Ok(opcode) => self.dispatch(opcode, q, w),
+            Err(()) => reply_failed(Some(Errno::ENOSYS), q.header.unique, w),
         }
     }
 
     /// Handles a request by its opcode.
-    fn dispatch(
-        &mut self,
-        alloc: Global,
-        opcode: Opcode,
-        header: &InHeader,
-        r: &mut Reader<'_>,
-        w: &mut Writer,
-    ) -> Result<usize>
-        ensures { Serves F.allows F.DirIter.gives opcode header.now r.old
+    fn dispatch(&mut self, opcode: Opcode, q: Request<'_, '_>, w: &mut Writer) -> Result<usize>
+        ensures { Serves F.allows F.DirIter.gives opcode q.entry
             self.old w.old result w.new self.new }
     {
         match opcode {
-            Opcode::Lookup => self.lookup(alloc, header, r, w),
-            Opcode::Forget => self.forget(header, r, w),
-            Opcode::Getattr => self.getattr(header, r, w),
-            Opcode::Setattr => self.setattr(header, r, w),
-            Opcode::Readlink => self.readlink(header, r, w),
-            Opcode::Symlink => self.symlink(alloc, header, r, w),
-            Opcode::Mknod => self.mknod(alloc, header, r, w),
-            Opcode::Mkdir => self.mkdir(alloc, header, r, w),
-            Opcode::Unlink => self.unlink(alloc, header, r, w),
-            Opcode::Rmdir => self.rmdir(alloc, header, r, w),
-            Opcode::Rename => self.rename(alloc, header, r, w),
-            Opcode::Link => self.link(alloc, header, r, w),
-            Opcode::Open => self.open(header, r, w),
-            Opcode::Read => self.read(alloc, header, r, w),
-            Opcode::Write => self.write(alloc, header, r, w),
-            Opcode::Statfs => self.statfs(header, r, w),
-            Opcode::Release => self.release(header, r, w),
-            Opcode::Fsync => self.fsync(header, r, w),
-            Opcode::Setxattr => self.setxattr(alloc, header, r, w),
-            Opcode::Getxattr => self.getxattr(alloc, header, r, w),
-            Opcode::Listxattr => self.listxattr(header, r, w),
-            Opcode::Removexattr => self.removexattr(alloc, header, r, w),
-            Opcode::Flush => self.flush(header, r, w),
-            Opcode::Init => self.init(header, r, w),
-            Opcode::Opendir => self.opendir(header, r, w),
-            Opcode::Readdir => self.readdir(header, r, w),
-            Opcode::Releasedir => self.releasedir(header, r, w),
-            Opcode::Fsyncdir => self.fsyncdir(header, r, w),
-            Opcode::Getlk => self.getlk(header, r, w),
-            Opcode::Setlk => self.setlk(header, r, w),
-            Opcode::Setlkw => self.setlkw(header, r, w),
-            Opcode::Access => self.access(header, r, w),
-            Opcode::Create => self.create(alloc, header, r, w),
+            Opcode::Lookup => self.lookup(q, w),
+            Opcode::Forget => self.forget(q, w),
+            Opcode::Getattr => self.getattr(q, w),
+            Opcode::Setattr => self.setattr(q, w),
+            Opcode::Readlink => self.readlink(q, w),
+            Opcode::Symlink => self.symlink(q, w),
+            Opcode::Mknod => self.mknod(q, w),
+            Opcode::Mkdir => self.mkdir(q, w),
+            Opcode::Unlink => self.unlink(q, w),
+            Opcode::Rmdir => self.rmdir(q, w),
+            Opcode::Rename => self.rename(q, w),
+            Opcode::Link => self.link(q, w),
+            Opcode::Open => self.open(q, w),
+            Opcode::Read => self.read(q, w),
+            Opcode::Write => self.write(q, w),
+            Opcode::Statfs => self.statfs(q, w),
+            Opcode::Release => self.release(q, w),
+            Opcode::Fsync => self.fsync(q, w),
+            Opcode::Setxattr => self.setxattr(q, w),
+            Opcode::Getxattr => self.getxattr(q, w),
+            Opcode::Listxattr => self.listxattr(q, w),
+            Opcode::Removexattr => self.removexattr(q, w),
+            Opcode::Flush => self.flush(q, w),
+            Opcode::Init => self.init(q, w),
+            Opcode::Opendir => self.opendir(q, w),
+            Opcode::Readdir => self.readdir(q, w),
+            Opcode::Releasedir => self.releasedir(q, w),
+            Opcode::Fsyncdir => self.fsyncdir(q, w),
+            Opcode::Getlk => self.getlk(q, w),
+            Opcode::Setlk => self.setlk(q, w),
+            Opcode::Setlkw => self.setlkw(q, w),
+            Opcode::Access => self.access(q, w),
+            Opcode::Create => self.create(q, w),
             Opcode::Interrupt => Ok(0),
-            Opcode::Bmap => self.bmap(header, r, w),
-            Opcode::Destroy => self.end_session(header, r, w),
-            Opcode::Ioctl => self.ioctl(header, r, w),
-            Opcode::Poll => self.poll(header, r, w),
-            Opcode::NotifyReply => self.notify_reply(header, r, w),
-            Opcode::BatchForget => self.batch_forget(alloc, header, r, w),
-            Opcode::Fallocate => self.fallocate(header, r, w),
-            Opcode::Readdirplus => self.readdirplus(header, r, w),
-            Opcode::Rename2 => self.rename2(alloc, header, r, w),
-            Opcode::Lseek => self.lseek(header, r, w),
-            Opcode::CopyFileRange => self.copyfilerange(header, r, w),
-            Opcode::Syncfs => self.syncfs(header, r, w),
-            Opcode::TmpFile => self.tmpfile(header, r, w),
+            Opcode::Bmap => self.bmap(q, w),
+            Opcode::Destroy => self.end_session(q, w),
+            Opcode::Ioctl => self.ioctl(q, w),
+            Opcode::Poll => self.poll(q, w),
+            Opcode::NotifyReply => self.notify_reply(q, w),
+            Opcode::BatchForget => self.batch_forget(q, w),
+            Opcode::Fallocate => self.fallocate(q, w),
+            Opcode::Readdirplus => self.readdirplus(q, w),
+            Opcode::Rename2 => self.rename2(q, w),
+            Opcode::Lseek => self.lseek(q, w),
+            Opcode::CopyFileRange => self.copyfilerange(q, w),
+            Opcode::Syncfs => self.syncfs(q, w),
+            Opcode::TmpFile => self.tmpfile(q, w),
             Opcode::SetupMapping | Opcode::RemoveMapping => {
-                reply_failed(Some(Errno::ENOSYS), header.unique, w)
+                reply_failed(Some(Errno::ENOSYS), q.header.unique, w)
             }
         }
     }

@@ -9,15 +9,16 @@ ghost use Rattle.vfs_grammar.specs.Ask.{if_set};
 ghost use Rattle.vfs_server.specs.Step.{Serves, ReadsInto};
 
 use crate::server::Server;
+use crate::server::request::Request;
 use std::alloc::Global;
 use std::mem;
-use vfs_files::{Context, FileSystem, Number};
+use vfs_files::{FileSystem, Number};
 use vfs_flags::{Fault, Opcode, READ_LOCKOWNER, WRITE_CACHE, WRITE_KILL_PRIV, WRITE_LOCKOWNER};
 use vfs_grammar::Result;
 use vfs_messages::{hold_header, is_set, number_if, read_record, reply_data, reply_written};
 use vfs_segments::{Reader, Writer};
 use vfs_transfers::{ZcReader, ZcWriter};
-use vfs_wire::{InHeader, ReadIn, WriteIn};
+use vfs_wire::{ReadIn, WriteIn};
 
 /// A writer without room. It takes no memory.
 fn no_room(alloc: Global) -> Writer {
@@ -41,41 +42,35 @@ fn take_rest<'a>(alloc: Global, r: &mut Reader<'a>) -> Reader<'a>
 impl<F: FileSystem> Server<F> {
     /// READ (`struct fuse_read_in`): the data go straight into the room, behind the place of their
     /// header, which is filled in last.
-    pub(super) fn read(
-        &mut self,
-        alloc: Global,
-        header: &InHeader,
-        r: &mut Reader<'_>,
-        w: &mut Writer,
-    ) -> Result<usize>
-        ensures { Serves F.allows F.DirIter.gives Opcode.Read header.now r.old
+    pub(super) fn read(&mut self, q: Request<'_, '_>, w: &mut Writer) -> Result<usize>
+        ensures { Serves F.allows F.DirIter.gives Opcode.Read q.entry
             self.old w.old result w.new self.new }
     {
-        let read_in = read_record::<ReadIn>(r)?;
+        let read_in = read_record::<ReadIn>(q.r)?;
         hold_header(w)?;
-        let answer = self.read_into(alloc, header, &read_in, w);
-        reply_data(answer, header.unique, w)
+        let answer = self.read_into(&q, &read_in, w);
+        reply_data(answer, q.header.unique, w)
     }
 
     /// Lends the writer to the file system, which puts the data of a READ into it.
     fn read_into(
         &mut self,
-        alloc: Global,
-        header: &InHeader,
+        q: &Request<'_, '_>,
         read_in: &ReadIn,
         w: &mut Writer,
     ) -> std::result::Result<usize, Fault>
         ensures { ReadsInto F.allows
-            (Read (context_of header.now) header.now.nodeid read_in.now.fh (length w.old.left)
+            (Read (context_of q.now.header.now) q.now.header.now.nodeid read_in.now.fh
+            (length w.old.left)
             read_in.now.size read_in.now.offset
             (if_set read_in.now.read_flags READ_LOCKOWNER read_in.now.lock_owner)
             read_in.now.flags)
             read_in.now.size self.old w.old result w.new self.new }
     {
-        let mut lent = ZcWriter(mem::replace(w, no_room(alloc)));
+        let mut lent = ZcWriter(mem::replace(w, no_room(q.alloc)));
         let answer = self.fs.read(
-            Context::from(*header),
-            F::Inode::from_number(header.nodeid),
+            q.context(),
+            q.node(),
             F::Handle::from_number(read_in.fh),
             &mut lent,
             read_in.size,
@@ -89,22 +84,16 @@ impl<F: FileSystem> Server<F> {
     }
 
     /// WRITE (`struct fuse_write_in`): all bytes behind the record are passed on, as they stand.
-    pub(super) fn write(
-        &mut self,
-        alloc: Global,
-        header: &InHeader,
-        r: &mut Reader<'_>,
-        w: &mut Writer,
-    ) -> Result<usize>
-        ensures { Serves F.allows F.DirIter.gives Opcode.Write header.now r.old
+    pub(super) fn write(&mut self, q: Request<'_, '_>, w: &mut Writer) -> Result<usize>
+        ensures { Serves F.allows F.DirIter.gives Opcode.Write q.entry
             self.old w.old result w.new self.new }
     {
-        let write_in = read_record::<WriteIn>(r)?;
+        let write_in = read_record::<WriteIn>(q.r)?;
         let flags = write_in.write_flags;
-        let mut rest = ZcReader(take_rest(alloc, r));
+        let mut rest = ZcReader(take_rest(q.alloc, q.r));
         let answer = self.fs.write(
-            Context::from(*header),
-            F::Inode::from_number(header.nodeid),
+            q.context(),
+            q.node(),
             F::Handle::from_number(write_in.fh),
             &mut rest,
             write_in.size,
@@ -114,6 +103,6 @@ impl<F: FileSystem> Server<F> {
             is_set(flags, WRITE_KILL_PRIV),
             write_in.flags,
         );
-        reply_written(answer, header.unique, w)
+        reply_written(answer, q.header.unique, w)
     }
 }

@@ -7,59 +7,42 @@ ghost use Rattle.vfs_grammar.specs.Forms.{Directories, Record, ask_form};
 ghost use Rattle.vfs_server.specs.Step.{Handles, Serves};
 
 use crate::server::Server;
-use vfs_files::{Context, FileSystem, Number};
+use crate::server::request::Request;
+use vfs_files::{FileSystem, Number};
 use vfs_flags::{Errno, FSYNC_FDATASYNC, Opcode};
 use vfs_grammar::Result;
 use vfs_listings::read_directory;
 use vfs_messages::{
     hold_header, is_set, read_record, reply_data, reply_done, reply_failed, reply_opened,
 };
-use vfs_segments::{Reader, Writer};
-use vfs_wire::{FsyncIn, InHeader, OpenIn, ReadIn, ReleaseIn};
+use vfs_segments::Writer;
+use vfs_wire::{FsyncIn, OpenIn, ReadIn, ReleaseIn};
 
 impl<F: FileSystem> Server<F> {
     /// OPENDIR (`struct fuse_open_in`): opens a directory.
-    pub(super) fn opendir(
-        &mut self,
-        header: &InHeader,
-        r: &mut Reader<'_>,
-        w: &mut Writer,
-    ) -> Result<usize>
-        ensures { Serves F.allows F.DirIter.gives Opcode.Opendir header.now r.old
+    pub(super) fn opendir(&mut self, q: Request<'_, '_>, w: &mut Writer) -> Result<usize>
+        ensures { Serves F.allows F.DirIter.gives Opcode.Opendir q.entry
             self.old w.old result w.new self.new }
     {
-        let open_in = read_record::<OpenIn>(r)?;
-        let inode = F::Inode::from_number(header.nodeid);
-        let answer = self
-            .fs
-            .opendir(Context::from(*header), inode, open_in.flags);
-        reply_opened::<F::Handle>(answer, header.unique, w)
+        let open_in = read_record::<OpenIn>(q.r)?;
+        let answer = self.fs.opendir(q.context(), q.node(), open_in.flags);
+        reply_opened::<F::Handle>(answer, q.header.unique, w)
     }
 
     /// READDIR (`struct fuse_read_in`): the records of a directory's entries.
-    pub(super) fn readdir(
-        &mut self,
-        header: &InHeader,
-        r: &mut Reader<'_>,
-        w: &mut Writer,
-    ) -> Result<usize>
-        ensures { Serves F.allows F.DirIter.gives Opcode.Readdir header.now r.old
+    pub(super) fn readdir(&mut self, q: Request<'_, '_>, w: &mut Writer) -> Result<usize>
+        ensures { Serves F.allows F.DirIter.gives Opcode.Readdir q.entry
             self.old w.old result w.new self.new }
     {
-        self.list(header, false, r, w)
+        self.list(q, false, w)
     }
 
     /// READDIRPLUS (`struct fuse_read_in`): the same, each with what a LOOKUP of it answers.
-    pub(super) fn readdirplus(
-        &mut self,
-        header: &InHeader,
-        r: &mut Reader<'_>,
-        w: &mut Writer,
-    ) -> Result<usize>
-        ensures { Serves F.allows F.DirIter.gives Opcode.Readdirplus header.now r.old
+    pub(super) fn readdirplus(&mut self, q: Request<'_, '_>, w: &mut Writer) -> Result<usize>
+        ensures { Serves F.allows F.DirIter.gives Opcode.Readdirplus q.entry
             self.old w.old result w.new self.new }
     {
-        self.list(header, true, r, w)
+        self.list(q, true, w)
     }
 
     /// Whether a directory's records may have more bytes than a payload may hold, or than there is
@@ -72,64 +55,45 @@ impl<F: FileSystem> Server<F> {
 
     /// Reads a directory into the room, behind the place of the reply's header, which is filled in
     /// last.
-    fn list(
-        &mut self,
-        header: &InHeader,
-        plus: bool,
-        r: &mut Reader<'_>,
-        w: &mut Writer,
-    ) -> Result<usize>
-        ensures { Handles F.allows F.DirIter.gives ⊥
-            (ask_form header.now r.old.left
+    fn list(&mut self, q: Request<'_, '_>, plus: bool, w: &mut Writer) -> Result<usize>
+        ensures { let header = q.entry.header.now in
+            Handles F.allows F.DirIter.gives ⊥
+            (ask_form header q.entry.r.now.left
             (Directories (Record read_in) (lists_too_much self.old.limits (length w.old.left))
-            (length w.old.left) (listing_of plus header.now)))
+            (length w.old.left) (listing_of plus header)))
             self.old w.old result w.new self.new }
     {
-        let read_in = read_record::<ReadIn>(r)?;
+        let read_in = read_record::<ReadIn>(q.r)?;
         if self.is_too_much(&read_in, w) {
-            return reply_failed(Some(Errno::ENOMEM), header.unique, w);
+            return reply_failed(Some(Errno::ENOMEM), q.header.unique, w);
         }
         hold_header(w)?;
-        let answer = read_directory(&mut self.fs, header, &read_in, plus, w);
-        reply_data(answer, header.unique, w)
+        let answer = read_directory(&mut self.fs, q.header, &read_in, plus, w);
+        reply_data(answer, q.header.unique, w)
     }
 
     /// RELEASEDIR (`struct fuse_release_in`): a directory is closed.
-    pub(super) fn releasedir(
-        &mut self,
-        header: &InHeader,
-        r: &mut Reader<'_>,
-        w: &mut Writer,
-    ) -> Result<usize>
-        ensures { Serves F.allows F.DirIter.gives Opcode.Releasedir header.now r.old
+    pub(super) fn releasedir(&mut self, q: Request<'_, '_>, w: &mut Writer) -> Result<usize>
+        ensures { Serves F.allows F.DirIter.gives Opcode.Releasedir q.entry
             self.old w.old result w.new self.new }
     {
-        let release_in = read_record::<ReleaseIn>(r)?;
-        let inode = F::Inode::from_number(header.nodeid);
+        let release_in = read_record::<ReleaseIn>(q.r)?;
         let handle = F::Handle::from_number(release_in.fh);
         let answer = self
             .fs
-            .releasedir(Context::from(*header), inode, release_in.flags, handle);
-        reply_done(answer, header.unique, w)
+            .releasedir(q.context(), q.node(), release_in.flags, handle);
+        reply_done(answer, q.header.unique, w)
     }
 
     /// FSYNCDIR (`struct fuse_fsync_in`): what was changed in a directory is to be kept for good.
-    pub(super) fn fsyncdir(
-        &mut self,
-        header: &InHeader,
-        r: &mut Reader<'_>,
-        w: &mut Writer,
-    ) -> Result<usize>
-        ensures { Serves F.allows F.DirIter.gives Opcode.Fsyncdir header.now r.old
+    pub(super) fn fsyncdir(&mut self, q: Request<'_, '_>, w: &mut Writer) -> Result<usize>
+        ensures { Serves F.allows F.DirIter.gives Opcode.Fsyncdir q.entry
             self.old w.old result w.new self.new }
     {
-        let fsync_in = read_record::<FsyncIn>(r)?;
+        let fsync_in = read_record::<FsyncIn>(q.r)?;
         let datasync = is_set(fsync_in.fsync_flags, FSYNC_FDATASYNC);
-        let inode = F::Inode::from_number(header.nodeid);
         let handle = F::Handle::from_number(fsync_in.fh);
-        let answer = self
-            .fs
-            .fsyncdir(Context::from(*header), inode, datasync, handle);
-        reply_done(answer, header.unique, w)
+        let answer = self.fs.fsyncdir(q.context(), q.node(), datasync, handle);
+        reply_done(answer, q.header.unique, w)
     }
 }

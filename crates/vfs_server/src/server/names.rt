@@ -4,270 +4,198 @@ ghost use Rattle.vfs_server.specs.Step.{Serves};
 
 use crate::server::Server;
 use crate::server::entries::deliver_entry;
-use std::alloc::Global;
-use vfs_files::{Context, FileSystem, Number};
+use crate::server::request::Request;
+use vfs_files::{FileSystem, Number};
 use vfs_flags::{Errno, Opcode, RENAME_FLAGS};
 use vfs_grammar::Result;
 use vfs_messages::{
     read_extended, read_link, read_name, read_names, read_pairs, read_record, reply_done,
     reply_failed, reply_text,
 };
-use vfs_segments::{Reader, Writer};
+use vfs_segments::Writer;
 use vfs_wire::{
-    BatchForgetIn, ByteValued, ForgetIn, ForgetOne, InHeader, LinkIn, MkdirIn, MknodIn, Rename2In,
-    RenameIn,
+    BatchForgetIn, ByteValued, ForgetIn, ForgetOne, LinkIn, MkdirIn, MknodIn, Rename2In, RenameIn,
 };
 
 impl<F: FileSystem> Server<F> {
     /// LOOKUP: the node of a name, which is the request's tail.
-    pub(super) fn lookup(
-        &mut self,
-        alloc: Global,
-        header: &InHeader,
-        r: &mut Reader<'_>,
-        w: &mut Writer,
-    ) -> Result<usize>
-        ensures { Serves F.allows F.DirIter.gives Opcode.Lookup header.now r.old
+    pub(super) fn lookup(&mut self, q: Request<'_, '_>, w: &mut Writer) -> Result<usize>
+        ensures { Serves F.allows F.DirIter.gives Opcode.Lookup q.entry
             self.old w.old result w.new self.new }
     {
-        let name = read_name(alloc, header, 0, r)?;
-        let parent = F::Inode::from_number(header.nodeid);
-        let answer = self
-            .fs
-            .lookup(Context::from(*header), parent, name.as_c_str());
-        deliver_entry(&mut self.fs, header, answer, w)
+        let name = read_name(q.alloc, q.header, 0, q.r)?;
+        let answer = self.fs.lookup(q.context(), q.node(), name.as_c_str());
+        deliver_entry(&mut self.fs, q.header, answer, w)
     }
 
     /// FORGET (`struct fuse_forget_in`): lookups of a node are taken back. There is no reply.
-    pub(super) fn forget(
-        &mut self,
-        header: &InHeader,
-        r: &mut Reader<'_>,
-        w: &mut Writer,
-    ) -> Result<usize>
-        ensures { Serves F.allows F.DirIter.gives Opcode.Forget header.now r.old
+    pub(super) fn forget(&mut self, q: Request<'_, '_>, w: &mut Writer) -> Result<usize>
+        ensures { Serves F.allows F.DirIter.gives Opcode.Forget q.entry
             self.old w.old result w.new self.new }
     {
-        let forget_in = read_record::<ForgetIn>(r)?;
-        let inode = F::Inode::from_number(header.nodeid);
-        self.fs
-            .forget(Context::from(*header), inode, forget_in.nlookup);
+        let forget_in = read_record::<ForgetIn>(q.r)?;
+        self.fs.forget(q.context(), q.node(), forget_in.nlookup);
         Ok(0)
     }
 
     /// BATCH_FORGET (`struct fuse_batch_forget_in`): lookups of many nodes are taken back, as pairs
     /// behind the record say. There is no reply, but to more pairs than a payload may hold.
-    pub(super) fn batch_forget(
-        &mut self,
-        alloc: Global,
-        header: &InHeader,
-        r: &mut Reader<'_>,
-        w: &mut Writer,
-    ) -> Result<usize>
-        ensures { Serves F.allows F.DirIter.gives Opcode.BatchForget header.now r.old
+    pub(super) fn batch_forget(&mut self, q: Request<'_, '_>, w: &mut Writer) -> Result<usize>
+        ensures { Serves F.allows F.DirIter.gives Opcode.BatchForget q.entry
             self.old w.old result w.new self.new }
     {
-        let batch = read_record::<BatchForgetIn>(r)?;
+        let batch = read_record::<BatchForgetIn>(q.r)?;
         if batch.count as usize * ForgetOne::SIZE > self.limits.max_buffer as usize {
-            return reply_failed(Some(Errno::ENOMEM), header.unique, w);
+            return reply_failed(Some(Errno::ENOMEM), q.header.unique, w);
         }
-        let pairs = read_pairs::<F::Inode>(alloc, batch.count, r)?;
-        self.fs.batch_forget(Context::from(*header), pairs);
+        let pairs = read_pairs::<F::Inode>(q.alloc, batch.count, q.r)?;
+        self.fs.batch_forget(q.context(), pairs);
         Ok(0)
     }
 
     /// READLINK: the text of a symbolic link. The request has no record.
-    pub(super) fn readlink(
-        &mut self,
-        header: &InHeader,
-        r: &mut Reader<'_>,
-        w: &mut Writer,
-    ) -> Result<usize>
-        ensures { Serves F.allows F.DirIter.gives Opcode.Readlink header.now r.old
+    pub(super) fn readlink(&mut self, q: Request<'_, '_>, w: &mut Writer) -> Result<usize>
+        ensures { Serves F.allows F.DirIter.gives Opcode.Readlink q.entry
             self.old w.old result w.new self.new }
     {
-        let inode = F::Inode::from_number(header.nodeid);
-        let answer = self.fs.readlink(Context::from(*header), inode);
-        reply_text(answer, header.unique, w)
+        let answer = self.fs.readlink(q.context(), q.node());
+        reply_text(answer, q.header.unique, w)
     }
 
     /// SYMLINK: makes a symbolic link. The request has no record: the link's name and its text
     /// stand in the tail, in this order, and the call takes the text first.
-    pub(super) fn symlink(
-        &mut self,
-        alloc: Global,
-        header: &InHeader,
-        r: &mut Reader<'_>,
-        w: &mut Writer,
-    ) -> Result<usize>
-        ensures { Serves F.allows F.DirIter.gives Opcode.Symlink header.now r.old
+    pub(super) fn symlink(&mut self, q: Request<'_, '_>, w: &mut Writer) -> Result<usize>
+        ensures { Serves F.allows F.DirIter.gives Opcode.Symlink q.entry
             self.old w.old result w.new self.new }
     {
-        let (link, extensions) = read_link(alloc, self.options, header, r)?;
+        let (link, extensions) = read_link(q.alloc, self.options, q.header, q.r)?;
         let (name, text) = (link.name(), link.text());
-        let parent = F::Inode::from_number(header.nodeid);
         let answer = self
             .fs
-            .symlink(Context::from(*header), text, parent, name, extensions);
-        deliver_entry(&mut self.fs, header, answer, w)
+            .symlink(q.context(), text, q.node(), name, extensions);
+        deliver_entry(&mut self.fs, q.header, answer, w)
     }
 
     /// MKNOD (`struct fuse_mknod_in`): makes a file, a pipe, a socket or a device.
-    pub(super) fn mknod(
-        &mut self,
-        alloc: Global,
-        header: &InHeader,
-        r: &mut Reader<'_>,
-        w: &mut Writer,
-    ) -> Result<usize>
-        ensures { Serves F.allows F.DirIter.gives Opcode.Mknod header.now r.old
+    pub(super) fn mknod(&mut self, q: Request<'_, '_>, w: &mut Writer) -> Result<usize>
+        ensures { Serves F.allows F.DirIter.gives Opcode.Mknod q.entry
             self.old w.old result w.new self.new }
     {
-        let mknod_in = read_record::<MknodIn>(r)?;
-        let (name, extensions) = read_extended(alloc, self.options, header, MknodIn::SIZE, r)?;
+        let mknod_in = read_record::<MknodIn>(q.r)?;
+        let (name, extensions) = read_extended(
+            q.alloc,
+            self.options,
+            q.header,
+            MknodIn::SIZE,
+            q.r,
+        )?;
         let answer = self.fs.mknod(
-            Context::from(*header),
-            F::Inode::from_number(header.nodeid),
+            q.context(),
+            q.node(),
             name.as_c_str(),
             mknod_in.mode,
             mknod_in.rdev,
             mknod_in.umask,
             extensions,
         );
-        deliver_entry(&mut self.fs, header, answer, w)
+        deliver_entry(&mut self.fs, q.header, answer, w)
     }
 
     /// MKDIR (`struct fuse_mkdir_in`): makes a directory.
-    pub(super) fn mkdir(
-        &mut self,
-        alloc: Global,
-        header: &InHeader,
-        r: &mut Reader<'_>,
-        w: &mut Writer,
-    ) -> Result<usize>
-        ensures { Serves F.allows F.DirIter.gives Opcode.Mkdir header.now r.old
+    pub(super) fn mkdir(&mut self, q: Request<'_, '_>, w: &mut Writer) -> Result<usize>
+        ensures { Serves F.allows F.DirIter.gives Opcode.Mkdir q.entry
             self.old w.old result w.new self.new }
     {
-        let mkdir_in = read_record::<MkdirIn>(r)?;
-        let (name, extensions) = read_extended(alloc, self.options, header, MkdirIn::SIZE, r)?;
+        let mkdir_in = read_record::<MkdirIn>(q.r)?;
+        let (name, extensions) = read_extended(
+            q.alloc,
+            self.options,
+            q.header,
+            MkdirIn::SIZE,
+            q.r,
+        )?;
         let answer = self.fs.mkdir(
-            Context::from(*header),
-            F::Inode::from_number(header.nodeid),
+            q.context(),
+            q.node(),
             name.as_c_str(),
             mkdir_in.mode,
             mkdir_in.umask,
             extensions,
         );
-        deliver_entry(&mut self.fs, header, answer, w)
+        deliver_entry(&mut self.fs, q.header, answer, w)
     }
 
     /// UNLINK: takes a file's name away.
-    pub(super) fn unlink(
-        &mut self,
-        alloc: Global,
-        header: &InHeader,
-        r: &mut Reader<'_>,
-        w: &mut Writer,
-    ) -> Result<usize>
-        ensures { Serves F.allows F.DirIter.gives Opcode.Unlink header.now r.old
+    pub(super) fn unlink(&mut self, q: Request<'_, '_>, w: &mut Writer) -> Result<usize>
+        ensures { Serves F.allows F.DirIter.gives Opcode.Unlink q.entry
             self.old w.old result w.new self.new }
     {
-        let name = read_name(alloc, header, 0, r)?;
-        let parent = F::Inode::from_number(header.nodeid);
-        let answer = self
-            .fs
-            .unlink(Context::from(*header), parent, name.as_c_str());
-        reply_done(answer, header.unique, w)
+        let name = read_name(q.alloc, q.header, 0, q.r)?;
+        let answer = self.fs.unlink(q.context(), q.node(), name.as_c_str());
+        reply_done(answer, q.header.unique, w)
     }
 
     /// RMDIR: takes an empty directory away.
-    pub(super) fn rmdir(
-        &mut self,
-        alloc: Global,
-        header: &InHeader,
-        r: &mut Reader<'_>,
-        w: &mut Writer,
-    ) -> Result<usize>
-        ensures { Serves F.allows F.DirIter.gives Opcode.Rmdir header.now r.old
+    pub(super) fn rmdir(&mut self, q: Request<'_, '_>, w: &mut Writer) -> Result<usize>
+        ensures { Serves F.allows F.DirIter.gives Opcode.Rmdir q.entry
             self.old w.old result w.new self.new }
     {
-        let name = read_name(alloc, header, 0, r)?;
-        let parent = F::Inode::from_number(header.nodeid);
-        let answer = self
-            .fs
-            .rmdir(Context::from(*header), parent, name.as_c_str());
-        reply_done(answer, header.unique, w)
+        let name = read_name(q.alloc, q.header, 0, q.r)?;
+        let answer = self.fs.rmdir(q.context(), q.node(), name.as_c_str());
+        reply_done(answer, q.header.unique, w)
     }
 
     /// LINK (`struct fuse_link_in`): gives a node one more name. The header's node is the
     /// directory of the name, and the record's node gets it.
-    pub(super) fn link(
-        &mut self,
-        alloc: Global,
-        header: &InHeader,
-        r: &mut Reader<'_>,
-        w: &mut Writer,
-    ) -> Result<usize>
-        ensures { Serves F.allows F.DirIter.gives Opcode.Link header.now r.old
+    pub(super) fn link(&mut self, q: Request<'_, '_>, w: &mut Writer) -> Result<usize>
+        ensures { Serves F.allows F.DirIter.gives Opcode.Link q.entry
             self.old w.old result w.new self.new }
     {
-        let link_in = read_record::<LinkIn>(r)?;
-        let name = read_name(alloc, header, LinkIn::SIZE, r)?;
+        let link_in = read_record::<LinkIn>(q.r)?;
+        let name = read_name(q.alloc, q.header, LinkIn::SIZE, q.r)?;
         let answer = self.fs.link(
-            Context::from(*header),
+            q.context(),
             F::Inode::from_number(link_in.oldnodeid),
-            F::Inode::from_number(header.nodeid),
+            q.node(),
             name.as_c_str(),
         );
-        deliver_entry(&mut self.fs, header, answer, w)
+        deliver_entry(&mut self.fs, q.header, answer, w)
     }
 
     /// RENAME (`struct fuse_rename_in`): gives a node another name, in place of what has it.
-    pub(super) fn rename(
-        &mut self,
-        alloc: Global,
-        header: &InHeader,
-        r: &mut Reader<'_>,
-        w: &mut Writer,
-    ) -> Result<usize>
-        ensures { Serves F.allows F.DirIter.gives Opcode.Rename header.now r.old
+    pub(super) fn rename(&mut self, q: Request<'_, '_>, w: &mut Writer) -> Result<usize>
+        ensures { Serves F.allows F.DirIter.gives Opcode.Rename q.entry
             self.old w.old result w.new self.new }
     {
-        let rename_in = read_record::<RenameIn>(r)?;
-        let names = read_names(alloc, header, RenameIn::SIZE, r)?;
+        let rename_in = read_record::<RenameIn>(q.r)?;
+        let names = read_names(q.alloc, q.header, RenameIn::SIZE, q.r)?;
         let answer = self.fs.rename(
-            Context::from(*header),
-            F::Inode::from_number(header.nodeid),
+            q.context(),
+            q.node(),
             names.first(),
             F::Inode::from_number(rename_in.newdir),
             names.second(),
             0,
         );
-        reply_done(answer, header.unique, w)
+        reply_done(answer, q.header.unique, w)
     }
 
     /// RENAME2 (`struct fuse_rename2_in`): the same, with flags that say what becomes of what has
     /// the name.
-    pub(super) fn rename2(
-        &mut self,
-        alloc: Global,
-        header: &InHeader,
-        r: &mut Reader<'_>,
-        w: &mut Writer,
-    ) -> Result<usize>
-        ensures { Serves F.allows F.DirIter.gives Opcode.Rename2 header.now r.old
+    pub(super) fn rename2(&mut self, q: Request<'_, '_>, w: &mut Writer) -> Result<usize>
+        ensures { Serves F.allows F.DirIter.gives Opcode.Rename2 q.entry
             self.old w.old result w.new self.new }
     {
-        let rename2_in = read_record::<Rename2In>(r)?;
-        let names = read_names(alloc, header, Rename2In::SIZE, r)?;
+        let rename2_in = read_record::<Rename2In>(q.r)?;
+        let names = read_names(q.alloc, q.header, Rename2In::SIZE, q.r)?;
         let answer = self.fs.rename(
-            Context::from(*header),
-            F::Inode::from_number(header.nodeid),
+            q.context(),
+            q.node(),
             names.first(),
             F::Inode::from_number(rename2_in.newdir),
             names.second(),
             rename2_in.flags & RENAME_FLAGS,
         );
-        reply_done(answer, header.unique, w)
+        reply_done(answer, q.header.unique, w)
     }
 }

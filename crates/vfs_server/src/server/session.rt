@@ -4,30 +4,26 @@ ghost use Rattle.vfs_server.specs.Step.{Serves, Handles};
 ghost use Rattle.vfs_grammar.specs.Forms.{ask_version};
 
 use crate::server::Server;
-use vfs_files::{Context, FileSystem, Number};
+use crate::server::request::Request;
+use vfs_files::FileSystem;
 use vfs_flags::{Errno, KERNEL_VERSION, MIN_KERNEL_MINOR_VERSION, Opcode};
 use vfs_grammar::Result;
 use vfs_messages::{
     agreed_options, offered_options, read_record, read_second_flags, reply_done, reply_failed,
     reply_init, reply_version,
 };
-use vfs_segments::{Reader, Writer};
+use vfs_segments::Writer;
 use vfs_wire::{InHeader, InitInCompat};
 
 impl<F: FileSystem> Server<F> {
     /// INIT (`struct fuse_init_in`): reads its one or two records.
-    pub(super) fn init(
-        &mut self,
-        header: &InHeader,
-        r: &mut Reader<'_>,
-        w: &mut Writer,
-    ) -> Result<usize>
-        ensures { Serves F.allows F.DirIter.gives Opcode.Init header.now r.old
+    pub(super) fn init(&mut self, q: Request<'_, '_>, w: &mut Writer) -> Result<usize>
+        ensures { Serves F.allows F.DirIter.gives Opcode.Init q.entry
             self.old w.old result w.new self.new }
     {
-        let init_in = read_record::<InitInCompat>(r)?;
-        let flags2 = read_second_flags(init_in.flags, r)?;
-        self.init_version(header, &init_in, flags2, w)
+        let init_in = read_record::<InitInCompat>(q.r)?;
+        let flags2 = read_second_flags(init_in.flags, q.r)?;
+        self.init_version(q.header, &init_in, flags2, w)
     }
 
     /// INIT of this version: an older one is refused, a newer major one is told ours, and else
@@ -65,30 +61,19 @@ impl<F: FileSystem> Server<F> {
     }
 
     /// DESTROY: the session ends, and no options are agreed then. There is no reply.
-    pub(super) fn end_session(
-        &mut self,
-        header: &InHeader,
-        r: &mut Reader<'_>,
-        w: &mut Writer,
-    ) -> Result<usize>
-        ensures { Serves F.allows F.DirIter.gives Opcode.Destroy header.now r.old
+    pub(super) fn end_session(&mut self, q: Request<'_, '_>, w: &mut Writer) -> Result<usize>
+        ensures { Serves F.allows F.DirIter.gives Opcode.Destroy q.entry
             self.old w.old result w.new self.new }
     {
         Ok(self.destroy())
     }
 
     /// SYNCFS: all that was written is to be kept for good. The record is not looked at.
-    pub(super) fn syncfs(
-        &mut self,
-        header: &InHeader,
-        r: &mut Reader<'_>,
-        w: &mut Writer,
-    ) -> Result<usize>
-        ensures { Serves F.allows F.DirIter.gives Opcode.Syncfs header.now r.old
+    pub(super) fn syncfs(&mut self, q: Request<'_, '_>, w: &mut Writer) -> Result<usize>
+        ensures { Serves F.allows F.DirIter.gives Opcode.Syncfs q.entry
             self.old w.old result w.new self.new }
     {
-        let inode = F::Inode::from_number(header.nodeid);
-        let answer = self.fs.syncfs(Context::from(*header), inode);
-        reply_done(answer, header.unique, w)
+        let answer = self.fs.syncfs(q.context(), q.node());
+        reply_done(answer, q.header.unique, w)
     }
 }

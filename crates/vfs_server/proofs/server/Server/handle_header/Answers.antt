@@ -7,7 +7,7 @@ use Rattle.vfs_server.proofs.server.Server.handle_header.Goals as goal
 
 pub returns-in-Ok : goal.returns-in-Ok
 returns-in-Ok g c =
-    let h = c.args.header.now in
+    let h = c.args.q.header.now in
     let known : opcode_of h.opcode ≡ Some c.in-Ok.opcode = sym c.in-Ok.ensures.0 in
     let below : nat_lt (max_len c.args.self.now.limits) h.len ≡ false = grind (arith, nat_tests, c.max_len.ensures) in
     rw (below, known) c.dispatch.ensures

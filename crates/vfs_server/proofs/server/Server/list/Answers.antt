@@ -9,7 +9,7 @@ use Rattle.vfs_server.proofs.server.Server.list.Goals as goal
 
 pub returns : goal.returns
 returns g c =
-    let h = c.args.header.now in
+    let h = c.args.q.header.now in
     let r = c.in_ok-read_in.read_in in
     let w = c.args.w.now in
     let held = c.hold_header.new.w in

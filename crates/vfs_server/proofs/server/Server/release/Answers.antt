@@ -10,7 +10,7 @@ returns g c =
     rw c.in_ok-release_in.ensures.value (
       (
         done_answer c.release-answer.result,
-        rw (c.from.ensures, c.from_number-inode.ensures, c.from_number-handle.ensures, c.is_set.ensures, c.is_set-2.ensures, c.number_if-owner.ensures, ap (λ (s : ServerState g.row.F.Denot). s.fs) same) at c.release-answer.ensures,
+        rw (c.context.ensures, c.node.ensures, c.from_number-handle.ensures, c.is_set.ensures, c.is_set-2.ensures, c.number_if-owner.ensures, ap (λ (s : ServerState g.row.F.Denot). s.fs) same) at c.release-answer.ensures,
         c.reply_done.ensures.kind,
         c.reply_done.ensures.replied,
         ap (λ (s : ServerState g.row.F.Denot). s.options) same,
