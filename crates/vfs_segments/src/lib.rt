@@ -29,6 +29,7 @@ mod record;
 mod running;
 mod scatter;
 mod segments;
+mod spelled;
 mod transfer;
 mod writer;
 

@@ -1,33 +1,23 @@
 //! Copies bytes into segments.
 
-ghost use Rattle.std.specs.Prelude.{◌≡◌, ◌+◌, ◌<◌, ◌≤◌, [], length, drop, take, slice_index_or, slice_set, vec_len};
+ghost use Rattle.std.specs.Prelude.{◌≡◌, ◌+◌, ◌<◌, ◌≤◌, [], true, false, length, drop, take, slice_index_or, slice_set, vec_len};
 ghost use Rattle.vfs_segments.specs.Segments.{contents, flat_bytes, lengths_of, with_bytes_at};
 ghost use Rattle.vfs_wire.specs.Fields.{Fit, bytes_of};
 
 use crate::record::LARGEST_RECORD;
 use crate::segments::Segments;
+use crate::spelled::{Record, Spelled};
 use vfs_wire::ByteValued;
 
-// Writes the bytes over as many that stand from place `at` of a segment on.
-fn put_over(segment: &mut Vec<u8>, at: usize, bytes: &[u8])
-    requires { at + length bytes.now ≤ vec_len segment.old }
-    ensures { segment.new.items ≡ with_bytes_at at bytes.now segment.old.items }
+// Spells a value over as many bytes that stand from place `at` of a segment on: `len` of them.
+fn spell_over<S: Spelled>(segment: &mut Vec<u8>, at: usize, len: usize, x: &S)
+    requires whole { len ≡ S.size x.now }
+    requires fits { at + len ≤ vec_len segment.old }
+    ensures wrote { segment.new.items ≡ with_bytes_at at (S.bytes x.now) segment.old.items }
+    ensures long { length (S.bytes x.now) ≡ len }
+    ensures known { S.known x.now }
 {
-    segment
-        .slice_mut(at..at + bytes.len())
-        .copy_from_slice(bytes);
-}
-
-// Writes a record over as many bytes that stand from place `at` of a segment on.
-fn put_record_over<T: ByteValued + Drop>(segment: &mut Vec<u8>, at: usize, x: T)
-    requires { at + T.SIZE ≤ vec_len segment.old }
-    ensures wrote { segment.new.items ≡
-        with_bytes_at at (bytes_of T.table x) segment.old.items }
-    ensures size { length (bytes_of T.table x) ≡ T.SIZE }
-    ensures in_width { Fit T.table.widths (T.table.fields x) }
-    ensures in_range { T.in_range x }
-{
-    x.put(segment.slice_mut(at..at + T::SIZE));
+    x.spell(segment.slice_mut(at..at + len));
 }
 
 impl Segments<Vec<Vec<u8>>> {
@@ -39,27 +29,58 @@ impl Segments<Vec<Vec<u8>>> {
         list
     }
 
-    // Writes the bytes over as many that stand from place `at` of segment `i` on.
-    fn put_in(&mut self, i: usize, at: usize, bytes: &[u8])
+    // Spells a value over as many bytes that stand from place `at` of segment `i` on: `len` of them.
+    fn spell_in<S: Spelled>(&mut self, i: usize, at: usize, len: usize, x: &S)
         requires listed { i < length self.old }
-        requires fits { at + length bytes.now ≤ length (slice_index_or self.old i []) }
-        ensures { self.new ≡ slice_set self.old i
-            (with_bytes_at at bytes.now (slice_index_or self.old i [])) }
+        requires whole { len ≡ S.size x.now }
+        requires fits { at + len ≤ length (slice_index_or self.old i []) }
+        ensures wrote { self.new ≡ slice_set self.old i
+            (with_bytes_at at (S.bytes x.now) (slice_index_or self.old i [])) }
+        ensures long { length (S.bytes x.now) ≡ len }
+        ensures known { S.known x.now }
     {
-        put_over(&mut self.list[i], at, bytes);
+        spell_over(&mut self.list[i], at, len, x);
     }
 
-    // Writes a record over as many bytes that stand from place `at` of segment `i` on.
-    fn put_record<T: ByteValued + Drop>(&mut self, i: usize, at: usize, x: T)
-        requires listed { i < length self.old }
-        requires fits { at + T.SIZE ≤ length (slice_index_or self.old i []) }
-        ensures wrote { self.new ≡ slice_set self.old i
-            (with_bytes_at at (bytes_of T.table x) (slice_index_or self.old i [])) }
-        ensures size { length (bytes_of T.table x) ≡ T.SIZE }
-        ensures in_width { Fit T.table.widths (T.table.fields x) }
-        ensures in_range { T.in_range x }
+    // Spells a value over as many bytes that stand from place `at` on, `skip` bytes into segment
+    // `i`, where this has all of them. Answers whether it has, and else writes nothing.
+    #[inline(always)]
+    fn spell_at<S: Spelled>(&mut self, i: usize, skip: usize, x: &S) -> bool
+        requires { skip ≤ length (slice_index_or self.old i []) }
+        ensures wrote { result ≡ true → flat_bytes self.new ≡
+            with_bytes_at (length (flat_bytes (take i self.old)) + skip) (S.bytes x.now)
+            (flat_bytes self.old) }
+        ensures lengths { lengths_of self.new ≡ lengths_of self.old }
+        ensures fits { result ≡ true →
+            length (flat_bytes (take i self.old)) + skip + S.size x.now ≤
+            length (flat_bytes self.old) }
+        ensures kept { result ≡ false → self.new ≡ self.old }
+        ensures long { result ≡ true → length (S.bytes x.now) ≡ S.size x.now }
+        ensures known { result ≡ true → S.known x.now }
     {
-        put_record_over(&mut self.list[i], at, x);
+        let len = x.size_of();
+        if i < self.count() && len <= self.len_of(i) - skip {
+            self.spell_in(i, skip, len, x);
+            true
+        } else {
+            false
+        }
+    }
+
+    // Spells a value over as many bytes that stand from place `at` on, where one segment has all of
+    // them. Answers whether it has, and else writes nothing.
+    pub(crate) fn put_whole<S: Spelled>(&mut self, at: usize, x: &S) -> bool
+        requires { at ≤ length (flat_bytes self.old) }
+        ensures wrote { result ≡ true → flat_bytes self.new ≡
+            with_bytes_at at (S.bytes x.now) (flat_bytes self.old) }
+        ensures lengths { lengths_of self.new ≡ lengths_of self.old }
+        ensures fits { result ≡ true → at + S.size x.now ≤ length (flat_bytes self.old) }
+        ensures kept { result ≡ false → self.new ≡ self.old }
+        ensures long { result ≡ true → length (S.bytes x.now) ≡ S.size x.now }
+        ensures known { result ≡ true → S.known x.now }
+    {
+        let (first, skip) = self.place(at);
+        self.spell_at(first, skip, x)
     }
 
     // Writes the bytes over as many that follow `skip` bytes of segment `first`, piece by piece.
@@ -80,7 +101,8 @@ impl Segments<Vec<Vec<u8>>> {
             let len = self.len_of(i);
             let from = skip.min(len);
             let n = (len - from).min(bytes.len() - done);
-            self.put_in(i, from, &bytes[done..done + n]);
+            let piece = &bytes[done..done + n];
+            self.spell_in(i, from, n, &piece);
             done += n;
             skip -= from;
         }
@@ -94,15 +116,11 @@ impl Segments<Vec<Vec<u8>>> {
             with_bytes_at at bytes.now (flat_bytes self.old) }
         ensures lengths { lengths_of self.new ≡ lengths_of self.old }
     {
-        if bytes.is_empty() {
+        let (first, skip) = self.place(at);
+        if self.spell_at(first, skip, &bytes) {
             return;
         }
-        let (first, skip) = self.place(at);
-        if bytes.len() <= self.len_of(first) - skip {
-            self.put_in(first, skip, bytes);
-        } else {
-            self.scatter(first, skip, bytes);
-        }
+        self.scatter(first, skip, bytes);
     }
 
     // Spells a record over as many bytes that follow `skip` bytes of segment `first`, wherever they
@@ -137,10 +155,9 @@ impl Segments<Vec<Vec<u8>>> {
         ensures in_range { T.in_range x }
     {
         let (first, skip) = self.place(at);
-        if first < self.count() && T::SIZE <= self.len_of(first) - skip {
-            self.put_record(first, skip, x);
-        } else {
-            self.put_spelled(first, skip, x);
+        if self.spell_at(first, skip, &Record { record: &x }) {
+            return;
         }
+        self.put_spelled(first, skip, x);
     }
 }

@@ -14,6 +14,7 @@ use crate::beside::padded_len;
 use crate::error::{Error, Result};
 use crate::record::LARGEST_RECORD;
 use crate::segments::{Segments, total_of};
+use crate::spelled::{Padded, Pair};
 use std::alloc::Global;
 use std::io::{ErrorKind, Write};
 use std::marker::Model;
@@ -220,7 +221,8 @@ impl Writer {
         ensures in_range { T.in_range x }
     {
         let len = padded_len::<T>(bytes);
-        if self.segments.put_beside(self.at, len, &x, bytes) {
+        let padded = Padded { record: &x, bytes };
+        if self.segments.put_whole(self.at, &padded) {
             self.at += len;
             return Ok(());
         }
@@ -270,7 +272,11 @@ impl Writer {
         ensures second_in_width { Fit U.table.widths (U.table.fields second) }
         ensures second_in_range { U.in_range second }
     {
-        if self.segments.put_pair(self.at, &first, &second) {
+        let pair = Pair {
+            first: &first,
+            second: &second,
+        };
+        if self.segments.put_whole(self.at, &pair) {
             self.at += T::SIZE + U::SIZE;
             return Ok(());
         }

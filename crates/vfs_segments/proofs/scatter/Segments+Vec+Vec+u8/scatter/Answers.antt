@@ -29,7 +29,7 @@ loop-i-preserved c =
     let f : n ≡ min (length s - from) (length bs) = omega (arith, size, length-drop done c.args.bytes.now) in
     let cut : done + n - done ≡ n = omega arith in
     let y = with_bytes_at from (take n bs) s in
-    let wrote = c.put_in.ensures ∙ ap (λ k. set xs i (with_bytes_at from (take k bs) s)) cut in
+    let wrote = c.spell_in.ensures.wrote ∙ ap (λ k. set xs i (with_bytes_at from (take k bs) s)) cut in
     let same : length y ≡ length s = length-with_bytes_at from (take n bs) s (omega (arith, length-take n bs)) in
     record {
       within = omega (arith, length-drop done c.args.bytes.now);

@@ -2,7 +2,7 @@ use Rattle.std.proofs.Common.{ap, ◌∙◌}
 use Rattle.vfs_segments.specs.Segments.{with_bytes_at}
 use Rattle.vfs_segments.proofs.Padding.{spelled}
 use Rattle.vfs_wire.specs.Fields.{bytes_of}
-use Rattle.vfs_segments.proofs.beside.spell.Goals as goal
+use Rattle.vfs_segments.proofs.beside.spell_padded.Goals as goal
 
 pub returns-clause-wrote : goal.returns-clause-wrote
 returns-clause-wrote g c =
