@@ -1,5 +1,5 @@
 -- Bytes that lie in segments from one place to another.
-use Rattle.std.proofs.Common.{◌≡◌, ℕ, ◌+◌, ◌-◌, ◌<◌, ◌≤◌, List, [], ◌++◌, length, take, drop, get_or, ap, arith, ◌∙◌, sym, refl, length-append, length-drop, length-take}
+use Rattle.std.proofs.Common.{◌≡◌, ℕ, ◌+◌, ◌-◌, ◌<◌, ◌≤◌, List, [], ◌++◌, length, take, drop, get_or, ap, arith, ◌∙◌, length-append, length-drop, length-take}
 use Rattle.std.specs.List.{concat}
 use Rattle.vfs_segments.proofs.Flat.{length-concat-drop_more, length-concat-split}
 use Rattle.vfs_views.specs.Views.{IsSpan, room}

@@ -1,4 +1,4 @@
-use Rattle.std.proofs.Common.{arith, ap, sym, ◌∙◌, ◌≡◌, ◌+◌, ◌≤◌, length, length-take, length-drop}
+use Rattle.std.proofs.Common.{arith, ap, ◌∙◌, ◌+◌, ◌≤◌, length}
 use Rattle.vfs_segments.specs.Segments.{with_bytes_at}
 use Rattle.vfs_segments.proofs.Puts.{vec_written}
 use Rattle.vfs_segments.proofs.scatter.spell_over.Goals as goal

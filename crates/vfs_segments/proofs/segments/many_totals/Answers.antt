@@ -1,4 +1,4 @@
-use Rattle.std.proofs.Common.{arith, ◌≡◌, ◌<◌, ◌∙◌, ◌+◌, ◌++◌, ◌∷◌, ap, sym, [], ℕ, get_or, length, map, take}
+use Rattle.std.proofs.Common.{arith, ◌<◌, ◌∙◌, ◌+◌, ◌++◌, ◌∷◌, ap, sym, [], length, map, take}
 use Rattle.std.specs.List.{concat}
 use Rattle.vfs_segments.specs.Totals.{totals_of}
 use Rattle.vfs_segments.proofs.Flat.{length-concat-take_more}

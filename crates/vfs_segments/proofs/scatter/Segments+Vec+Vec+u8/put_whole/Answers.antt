@@ -1,4 +1,3 @@
-use Rattle.std.proofs.Common.{arith}
 use Rattle.vfs_segments.proofs.scatter.Segments+Vec+Vec+u8.put_whole.Goals as goal
 
 pub returns-clause-wrote : goal.returns-clause-wrote

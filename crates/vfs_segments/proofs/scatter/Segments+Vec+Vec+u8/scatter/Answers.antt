@@ -1,4 +1,4 @@
-use Rattle.std.proofs.Common.{arith, ap, ◌∙◌, ◌≡◌, ◌<◌, ◌+◌, ◌-◌, ◌≤◌, [], length, refl, take, drop, min, length-drop, length-take, get_or, set}
+use Rattle.std.proofs.Common.{arith, ap, ◌∙◌, ◌≡◌, ◌<◌, ◌+◌, ◌-◌, [], length, refl, take, drop, min, length-drop, length-take, get_or, set}
 use Rattle.std.proofs.lemmas.List.{drop-drop, drop_all, length-set}
 use Rattle.vfs_segments.specs.Segments.{with_bytes_at}
 use Rattle.vfs_segments.specs.SegmentLaws.{length-with_bytes_at}

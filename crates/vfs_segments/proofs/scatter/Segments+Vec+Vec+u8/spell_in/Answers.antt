@@ -1,4 +1,4 @@
-use Rattle.std.proofs.Common.{arith, ◌≡◌, ◌+◌, ◌≤◌, [], length, get_or}
+use Rattle.std.proofs.Common.{arith, ◌+◌, ◌≤◌, [], length, get_or}
 use Rattle.vfs_segments.proofs.Puts.{held_len, held_put, held_totals}
 use Rattle.vfs_segments.proofs.scatter.Segments+Vec+Vec+u8.spell_in.Goals as goal
 

@@ -2,7 +2,7 @@ use Rattle.std.proofs.Common.{ap, ◌∙◌, ◌≡◌, sym, refl, length, ℕ, 
 use Rattle.std.specs.List.{concat}
 use Rattle.std.specs.declared.vec.Vec.{Vec}
 use Rattle.std.specs.declared.alloc.Global.{Global}
-use Rattle.vfs_segments.specs.Segments.{contents, lengths_of, with_bytes_at}
+use Rattle.vfs_segments.specs.Segments.{contents, with_bytes_at}
 use Rattle.vfs_segments.specs.Totals.{totals_of}
 use Rattle.vfs_segments.specs.Transfer.{moved_bytes}
 use Rattle.vfs_views.specs.Views.{Room, moved, room_of, whole_of}

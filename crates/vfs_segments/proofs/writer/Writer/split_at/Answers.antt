@@ -1,4 +1,4 @@
-use Rattle.std.proofs.Common.{arith, ap, ◌∙◌, ◌+◌, ◌≤◌, refl, length, length-drop, length-take, rules}
+use Rattle.std.proofs.Common.{arith, ap, ◌∙◌, ◌+◌, refl, length, length-drop, length-take, rules}
 use Rattle.vfs_segments.specs.Written.{Written, first_room}
 use Rattle.vfs_segments.specs.Writer.{room_bytes}
 use Rattle.vfs_segments.proofs.Writers.{keeps}
