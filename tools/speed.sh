@@ -1,19 +1,18 @@
 #!/usr/bin/env bash
 # Measures what requests cost, with the library of crates/vfs_speed.
 #
-# Usage: tools/speed.sh [--beside FOLDER] [--growth] [--only TEXT] [--runs N] [--ms N]
+# Usage: tools/speed.sh [--beside [--source FOLDER]] [--growth] [--only TEXT] [--runs N] [--ms N]
 # By itself it prints, for each class of request and each cutting of it, the processor time of a
 # request in nanoseconds, the least and the middle of N runs of N milliseconds, and its allocations.
 # With --growth: how the time of many reads and writes of 16 bytes over pieces of 64 grows.
 #
-# --beside FOLDER holds virtiofsd's own Rust beside it, in one process: FOLDER has that code built as
-# a library `fast/liboracle.rlib` with a harness `mended/src/bin/oracle_bench.rs` over it, which calls
-# `nizwarf_batch`, and beside it the crates that it uses. The replies of both are compared first, and
-# nothing is timed where they differ.
-# Then trust the last column, the middle of the ratios of runs that followed each other.
+# --beside holds virtiofsd's own Rust beside it, in one process. tools/oracle/build.sh builds that from
+# Debian's package of its source, or from FOLDER. The replies of both are compared first, and nothing is
+# timed where they differ. Then trust the last column, the middle of the ratios of runs that followed
+# each other.
 #
 # It builds the library where sources are newer, with its proof, which takes minutes.
-set -eu
+set -euo pipefail
 . "$(dirname "${BASH_SOURCE[0]}")/usage.sh"
 here=$(cd "$(dirname "${BASH_SOURCE[0]}")/.." && pwd)
 crate=$here/crates/vfs_speed
@@ -27,17 +26,25 @@ need() {
     fi
 }
 
-beside= growth=
-flags=()
+beside='' growth=''
+source=() flags=()
 while [ $# -gt 0 ]; do
     case $1 in
-        --beside) beside=$(realpath "$2") && shift 2 ;;
+        --beside) beside=$here/out/oracle && shift ;;
+        --source)
+            [ -d "${2:-}" ] || { echo "--source wants a folder with virtiofsd's four files." >&2 && exit 2; }
+            source=(--source "$2") && shift 2
+            ;;
         --growth) growth=1 && shift ;;
-        --only | --runs | --ms) flags+=("$1" "$2") && shift 2 ;;
+        --only | --runs | --ms)
+            [ $# -ge 2 ] || { echo "$1 wants a value." >&2 && exit 2; }
+            flags+=("$1" "$2") && shift 2
+            ;;
         *) sed -n '2,/^set/s/^# \{0,1\}//p' "${BASH_SOURCE[0]}" >&2 && exit 2 ;;
     esac
 done
 
+[ -n "$beside" ] || [ ${#source[@]} = 0 ] || { echo "--source is of use with --beside alone." >&2 && exit 2; }
 need rt "of the Rattle toolchain, which builds the library: put its folder bin on the PATH"
 kit=$(cd "$(dirname "$(rt doc)")" && pwd)
 if [ ! -e "$library" ] ||
@@ -60,6 +67,7 @@ if [ -z "$beside" ]; then
 fi
 
 need rustc "a Rust compiler"
+"$here/tools/oracle/build.sh" "${source[@]}"
 rust=(--edition 2021 -C opt-level=3 -C target-cpu=x86-64-v2 --cap-lints allow
     -L "$beside/fast" --extern "oracle=$beside/fast/liboracle.rlib"
     -C "link-arg=$library" -C "link-arg=$kit/c/liblibc_c.a")
@@ -71,6 +79,6 @@ if [ -n "$growth" ]; then
     "$folder/growth"
     exit
 fi
-rustc "${rust[@]}" --cfg other -o "$folder/beside" "$beside/mended/src/bin/oracle_bench.rs"
+rustc "${rust[@]}" -o "$folder/beside" "$here/tools/oracle/src/bin/beside.rs"
 "$folder/beside" "${flags[@]}" --digests > "$folder/digests" || { grep DIFFER "$folder/digests" >&2 && exit 1; }
 "$folder/beside" "${flags[@]}"
