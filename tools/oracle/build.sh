@@ -146,7 +146,7 @@ need python3 "Python 3.8 or later"
 source=${given:-$out/source}
 built=$out/built
 if [ -e "$built" ] && [ "$(cat "$built")" = "$source" ] &&
-    [ -z "$(find "$here" "$source" -type f -newer "$built" -print -quit)" ]; then
+    [ -z "$(find "$here"/{build.sh,edits.py,differences.*,src,stand_ins} "$source" -type f -newer "$built" -print -quit)" ]; then
     exit
 fi
 echo "Building virtiofsd's code from ${given:-the package} .." >&2

@@ -6,9 +6,11 @@ ORACLE is the folder that build.sh made. TEXT is in the lines of the wrong bodie
 """
 import collections
 import pathlib
+import resource
 import shutil
 import subprocess
 import sys
+import threading
 from concurrent.futures import ThreadPoolExecutor
 
 import edits
@@ -16,50 +18,62 @@ import sessions
 
 HERE = pathlib.Path(__file__).resolve().parent
 STAND_INS = ["libc", "bitflags", "vm_memory", "virtio_queue", "vhost_user_backend"]
-# A right program answers all sessions in a few seconds.
-SECONDS = 120
+# How many seconds of processor time a program may take. A right one answers all sessions in ten.
+SECONDS = 60
+
+place = threading.local()
 
 
 def write_sessions(seed, count, folder):
-    """The sessions of both kinds, cut and flat."""
+    """The sessions over both file systems, cut and flat: one of each kind first, and the others behind
+    them. Answers the two folders."""
     for files in ("script", "memory"):
-        into = folder / files
-        into.mkdir()
-        made = [sessions.session(seed, files, number, size) for number, size in sessions.numbers(count // 2)]
-        made += [(f"recorded-{name}", "\n".join(lines) + "\n") for name, lines in sessions.recorded()]
-        for name, text in made:
+        for stage in ("first", "others"):
+            (folder / stage / files).mkdir(parents=True)
+        made = [(f"recorded-{name}", "\n".join(lines) + "\n") for name, lines in sessions.recorded()]
+        made += [sessions.session(seed, files, number, size) for number, size in sessions.numbers(count // 2)]
+        first = len(sessions.recorded()) + len(sessions.KINDS)
+        for at, (name, text) in enumerate(made):
+            into = folder / ("first" if at < first else "others") / files
             (into / f"{name}.cut").write_bytes(text.encode("latin-1"))
             if not name.endswith("badline"):
                 (into / f"{name}.flat").write_bytes(sessions.flat(text).encode("latin-1"))
+    return folder / "first", folder / "others"
 
 
-def answers(program, folder, into):
-    """What a program answers to all sessions: the text by session, or None where it does not end."""
+def answers(program, stage, into):
+    """What a program answers to the sessions of a folder: the text by session, or None where it does not
+    end well."""
     said = {}
-    for files, ways in (("script", ["script"]), ("memory", ["memory", "rooms"])):
-        for way in ways:
-            to = into / way
-            to.mkdir(parents=True, exist_ok=True)
-            try:
-                ran = subprocess.run([program, way, folder / files, to], timeout=SECONDS)
-            except subprocess.TimeoutExpired:
-                return None
-            if ran.returncode:
-                return None
-            said.update({f"{way}/{it.name}": it.read_bytes() for it in to.iterdir()})
+    for files, way in (("script", "script"), ("memory", "memory"), ("memory", "rooms")):
+        to = into / way
+        shutil.rmtree(to, ignore_errors=True)
+        to.mkdir(parents=True)
+        limit = lambda: resource.setrlimit(resource.RLIMIT_CPU, (SECONDS, SECONDS))
+        if subprocess.run([program, way, stage / files, to], preexec_fn=limit).returncode:
+            return None
+        said.update({f"{way}/{it.name}": it.read_bytes() for it in to.iterdir()})
     return said
 
 
+def workplace(folder):
+    """The folder of this thread, with the sources: what is compiled there again takes less time."""
+    if not hasattr(place, "folder"):
+        place.folder = folder / f"work-{threading.get_ident()}"
+        place.folder.mkdir()
+        shutil.copytree(HERE / "src", place.folder / "src")
+    return place.folder
+
+
 def build(number, source, oracle, folder):
-    """The program with a wrong body, or what the compiler said."""
-    folder.mkdir()
-    shutil.copytree(HERE / "src", folder / "src")
+    """The program with a wrong body, or what edits.py or the compiler said."""
     words = [sys.executable, "-B", HERE / "edits.py", source, folder / "src", "later", str(number)]
     ran = subprocess.run(words, stderr=subprocess.PIPE, text=True)
     if ran.returncode:
         return None, ran.stderr
     stand_ins = oracle / "build" / "stand_ins"
-    rustc = ["rustc", "--edition", "2021", "-C", "opt-level=1", "--cap-lints", "allow", "-L", stand_ins]
+    rustc = ["rustc", "--edition", "2021", "-C", "opt-level=0", "-C", f"incremental={folder}/incremental",
+             "--cap-lints", "allow", "-L", stand_ins]
     for name in STAND_INS:
         rustc += ["--extern", f"{name}={stand_ins}/lib{name}.rlib"]
     library = folder / "liboracle.rlib"
@@ -77,39 +91,37 @@ def main(args):
     if len(args) != 6:
         sys.exit(__doc__)
     seed, count, jobs, oracle, folder = args[0], int(args[1]), int(args[2]), *map(pathlib.Path, args[3:5])
-    write_sessions(seed, count, folder)
     source = pathlib.Path((oracle / "built").read_text())
-    right = answers(oracle / "later", folder, folder / "right")
-    if right is None:
+    right = {stage: answers(oracle / "later", stage, folder / "right") for stage in write_sessions(seed, count, folder)}
+    if None in right.values():
         sys.exit("The right program does not end well.")
     bodies = [(at, line) for at, (line, *_) in enumerate(edits.wrong_bodies(), 1) if args[5] in line]
 
     def attempt(body):
+        """What comes of a wrong body, and what is to be said of it."""
         number, line = body
-        place = folder / str(number)
-        program, said = build(number, source, oracle, place)
+        work = workplace(folder)
+        program, said = build(number, source, oracle, work)
         if program is None:
-            end = "not built"
-        else:
-            got = answers(program, folder, place / "answers")
-            caught = got is None or got != right
-            end = "caught" if caught else "survives"
+            return number, line, "not built", said
+        for stage, wanted in right.items():
+            got = answers(program, stage, work / "answers")
             if got is None:
-                said = "(it did not end)"
-            elif caught:
-                said = f"({sum(got[it] != right[it] for it in right)} sessions)"
-        shutil.rmtree(place)
-        return number, line, end, said
+                return number, line, "caught", "it does not end well"
+            differing = sum(got[it] != wanted[it] for it in wanted)
+            if differing:
+                return number, line, "caught", f"by {differing} of the {stage.name} {len(wanted)} sessions"
+        return number, line, "survives", ""
 
     ends = collections.Counter()
     with ThreadPoolExecutor(jobs) as pool:
-        for number, line, end, said in pool.map(attempt, bodies):
+        for at, (number, line, end, said) in enumerate(pool.map(attempt, bodies), 1):
             ends[end] += 1
             if end != "caught":
                 print(f"{end}: {line}\n{said}".rstrip(), flush=True)
-            print(f"{number} of {len(bodies)}: {end} {said.splitlines()[0] if said else ''}", file=sys.stderr, flush=True)
-    print(f"{len(bodies)} wrong bodies, {len(right)} sessions of {count:,} requests by seed {seed}: "
-          f"{ends['caught']} caught, {ends['survives']} survive, {ends['not built']} not built")
+            print(f"{at} of {len(bodies)}: {end} {said.splitlines()[0] if said else ''}", file=sys.stderr, flush=True)
+    print(f"{len(bodies)} wrong bodies, {sum(map(len, right.values()))} answered sessions of {count:,} requests by seed"
+          f" {seed}: {ends['caught']} caught, {ends['survives']} survive, {ends['not built']} not built")
     sys.exit(0 if ends["caught"] == len(bodies) else 1)
 
 

@@ -6,7 +6,7 @@
 # The wrong bodies are those of wrong-bodies.txt, or those with TEXT in their line. The sessions are of
 # COUNT requests (40,000) by SEED (1), cut and flat, half of them over each file system. It prints each
 # wrong body that survives them, or that can't be built, and their count. A body that does not end counts
-# as caught. Status 0: all are caught. It takes some ten minutes on two processors.
+# as caught. Status 0: all are caught. It takes some minutes on four processors.
 set -euo pipefail
 . "$(dirname "$0")/../usage.sh"
 here=$(cd "$(dirname "$0")" && pwd)
