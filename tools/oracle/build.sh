@@ -150,7 +150,10 @@ if [ -e "$built" ] && [ "$(cat "$built")" = "$source" ] &&
     exit
 fi
 echo "Building virtiofsd's code from ${given:-the package} .." >&2
-python3 -B "$here/edits.py" "$source" --check || echo "The edits are tried all the same." >&2
+status=0
+python3 -B "$here/edits.py" "$source" --check || status=$?
+[ "$status" != 2 ] || exit 2
+[ "$status" = 0 ] || echo "The edits are tried all the same." >&2
 rm -rf "$out/build" "$out/fast" "$built"
 
 # With overflow checks and debug assertions off, as virtiofsd is shipped.

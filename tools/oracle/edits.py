@@ -4,7 +4,7 @@
 Usage: edits.py SOURCE OUT raw|mended|later [WRONG]
 SOURCE has fuse.rs, descriptor_utils.rs, filesystem.rs and server.rs, or these names with .txt behind,
 itself or in a folder src. Status 1, with a word, where a place that is to be edited is not there as often
-as it should be. WRONG is the number of a wrong body in wrong-bodies.txt, counted from 1.
+as it should be, and 2 where one of the files isn't. WRONG is the number of a wrong body in wrong-bodies.txt, counted from 1.
 
     edits.py SOURCE --check     says which of the four differ from virtiofsd 1.13.2
 """
@@ -97,8 +97,9 @@ EDITS = {"raw": RAW, "mended": RAW + MENDED, "later": RAW + MENDED + LATER}
 TESTS = re.compile(r"^(// .*\n)?#\[cfg\((debian_)?test\)\]$", re.M)
 
 
-def stop(why):
-    sys.exit(f"edits.py: {why}")
+def stop(why, status=1):
+    print(f"edits.py: {why}", file=sys.stderr)
+    sys.exit(status)
 
 
 def read_source(folder):
@@ -108,7 +109,7 @@ def read_source(folder):
         places = [folder / part / f"{name}.rs{end}" for part in ("", "src") for end in ("", ".txt")]
         found = [place for place in places if place.is_file()]
         if not found:
-            stop(f"{folder} has no file {name}.rs")
+            stop(f"{folder} has no file {name}.rs", 2)
         texts[name] = found[0].read_text()
     return texts
 
