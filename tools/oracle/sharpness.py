@@ -20,6 +20,8 @@ HERE = pathlib.Path(__file__).resolve().parent
 STAND_INS = ["libc", "bitflags", "vm_memory", "virtio_queue", "vhost_user_backend"]
 # How many seconds of processor time a program may take. A right one answers all sessions in ten.
 SECONDS = 60
+# In which ways a program is asked, and the sessions of each.
+WAYS = {"script": "script", "memory": "memory", "rooms": "memory"}
 
 place = threading.local()
 
@@ -41,19 +43,15 @@ def write_sessions(seed, count, folder):
     return folder / "first", folder / "others"
 
 
-def answers(program, stage, into):
-    """What a program answers to the sessions of a folder: the text by session, or None where it does not
-    end well."""
-    said = {}
-    for files, way in (("script", "script"), ("memory", "memory"), ("memory", "rooms")):
-        to = into / way
-        shutil.rmtree(to, ignore_errors=True)
-        to.mkdir(parents=True)
-        limit = lambda: resource.setrlimit(resource.RLIMIT_CPU, (SECONDS, SECONDS))
-        if subprocess.run([program, way, stage / files, to], preexec_fn=limit).returncode:
-            return None
-        said.update({f"{way}/{it.name}": it.read_bytes() for it in to.iterdir()})
-    return said
+def answers(program, stage, way, into):
+    """What a program answers to the sessions of a folder, asked in one way: the text by session, or None
+    where it does not end well."""
+    shutil.rmtree(into, ignore_errors=True)
+    into.mkdir(parents=True)
+    limit = lambda: resource.setrlimit(resource.RLIMIT_CPU, (SECONDS, SECONDS))
+    if subprocess.run([program, way, stage / WAYS[way], into], preexec_fn=limit).returncode:
+        return None
+    return {it.name: it.read_bytes() for it in into.iterdir()}
 
 
 def workplace(folder):
@@ -92,7 +90,8 @@ def main(args):
         sys.exit(__doc__)
     seed, count, jobs, oracle, folder = args[0], int(args[1]), int(args[2]), *map(pathlib.Path, args[3:5])
     source = pathlib.Path((oracle / "built").read_text())
-    right = {stage: answers(oracle / "later", stage, folder / "right") for stage in write_sessions(seed, count, folder)}
+    right = {(stage, way): answers(oracle / "later", stage, way, folder / "right")
+             for stage in write_sessions(seed, count, folder) for way in WAYS}
     if None in right.values():
         sys.exit("The right program does not end well.")
     bodies = [(at, line) for at, (line, *_) in enumerate(edits.wrong_bodies(), 1) if args[5] in line]
@@ -104,13 +103,13 @@ def main(args):
         program, said = build(number, source, oracle, work)
         if program is None:
             return number, line, "not built", said
-        for stage, wanted in right.items():
-            got = answers(program, stage, work / "answers")
+        for (stage, way), wanted in right.items():
+            got = answers(program, stage, way, work / "answers")
             if got is None:
                 return number, line, "caught", "it does not end well"
             differing = sum(got[it] != wanted[it] for it in wanted)
             if differing:
-                return number, line, "caught", f"by {differing} of the {stage.name} {len(wanted)} sessions"
+                return number, line, "caught", f"by {differing} of the {stage.name} {len(wanted)} sessions, {way}"
         return number, line, "survives", ""
 
     ends = collections.Counter()
