@@ -1,5 +1,6 @@
 #!/usr/bin/env bash
-# Holds the Markdown pages of the root and of docs/ against the repository, as far as a script can.
+# Holds the Markdown pages of the root, of docs/ and of tools/oracle against the repository, as far as a
+# script can.
 #
 # Usage: tools/documents.sh
 # It prints each fault with its file and line, and ends with their count. Status 0: there is none.
@@ -26,13 +27,13 @@ kit=$(rt version) exec python3 - <<'PYTHON'
 import glob, os, re, subprocess, sys
 
 DOCUMENTS = ["README.md", "NOTICE.md", "CONTRIBUTING.md", "CHANGELOG.md",
-             *sorted(glob.glob("docs/*.md"))]
+             *sorted(glob.glob("docs/*.md")), "tools/oracle/README.md"]
 # Where no crate is named in PROTOCOL.md, it is this one, as that page says.
 CRATES = {"docs/PROTOCOL.md": ["vfs_grammar"]}
 CODE = re.compile(r"`([^`]+)`")
 NAMED = re.compile(r"((?:`[\w:]+`, )+)`([\w./]+\.(?:rt|antt))`")
 PLACE = re.compile(r"`([^`]+)` \(`([^`]+):(\d+)`\)")
-ENDING = re.compile(r"\.(rt|antt|edit|md|sh|rs|c|txt|svg|tsv)$")
+ENDING = re.compile(r"\.(rt|antt|edit|md|sh|rs|py|c|txt|svg|tsv)$")
 # virtiofsd's files, and the kernel's header.
 OUTSIDE = re.compile(r"(src/)?(fuse|descriptor_utils|filesystem|server)\.rs|fuse\.h")
 KEYWORDS = "fn|trait|struct|enum|const|mod|impl|abbrev pub|record|data"
@@ -49,7 +50,7 @@ paths = set()
 for folder, folders, files in os.walk("."):
     folders[:] = [name for name in folders if name not in (".git", "out")]
     paths |= {os.path.normpath(os.path.join(folder, name)) for name in folders + files}
-sources = {path: read(path) for path in paths if re.search(r"\.(rt|antt|sh|rs|c)$", path)}
+sources = {path: read(path) for path in paths if re.search(r"\.(rt|antt|sh|rs|py|c)$", path)}
 CRATE_NAMES = set(os.listdir("crates"))
 words = {word for text in [*paths, *sources.values()] for word in re.findall(r"\w+", text)}
 definitions = {path: set(DEFINITION.findall(text)) for path, text in sources.items()}
