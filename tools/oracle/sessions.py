@@ -153,7 +153,7 @@ class Session:
         r = self.rng
         blocks = []
         if self.options & SECURITY_CTX:
-            blocks.append(self.context_block())
+            blocks.append(self.context_block(good=r.random() >= wild / 2))
         if self.options & CREATE_SUPP_GROUP and r.random() < 0.6:
             blocks.append(self.group_block())
         r.shuffle(blocks)
