@@ -1,9 +1,9 @@
 //! A file system in memory: a root directory, and files in it.
-ghost use Rattle.std.specs.Prelude.{◌≡◌, ◌==◌, ◌<◌, ◌^◌, ◌-◌, find, position, length, Some, IfSome, IsSome, MatchResult};
+ghost use Rattle.std.specs.Prelude.{◌≡◌, ◌==◌, ◌<◌, ◌^◌, ◌-◌, find, position, length, Some, IfSome, MatchResult};
 ghost use Rattle.std.specs.Option.{option_copied};
 ghost use Rattle.std.specs.Str.{bytes_eq};
 ghost use Rattle.vfs_flags.specs.Errors.{enoent, enomem};
-ghost use Rattle.vfs_files.specs.Names.{name_of, name_text};
+ghost use Rattle.vfs_files.specs.Names.{name_text};
 ghost use Rattle.vfs_memory.specs.MemFs.{attr_of, file_attr, first_stock, IsEntryOf, AddsFile};
 
 use crate::memfile::MemFile;
@@ -82,7 +82,7 @@ impl MemFs {
     {
         let file = File {
             node: ROOT_ID + 1,
-            name: CString::new(alloc, name_in(b"a\0"))?,
+            name: CString::new(alloc, CStr::before_nul(b"a\0", 1))?,
             contents: MemFile::new(copied(alloc, b"hello")?),
         };
         let mut files = Vec::new(alloc);
@@ -114,17 +114,6 @@ impl MemFs {
             }
             Err(_) => Err(Some(Errno::ENOMEM)),
         }
-    }
-}
-
-// The name in these bytes, which end at their only 0.
-fn name_in(bytes: &[u8]) -> CStr<'_>
-    requires { IsSome (name_of bytes.now) }
-    ensures { name_of bytes.now ≡ Some (name_text result) }
-{
-    match CStr::from_bytes_with_nul(bytes) {
-        Some(name) => name,
-        None => unreachable!(),
     }
 }
 

@@ -6,7 +6,7 @@ ghost use Rattle.vfs_flags.specs.Errors.{enomem};
 ghost use Rattle.vfs_files.specs.Names.{name_text};
 ghost use Rattle.vfs_memory.specs.MemFs.{root_item, file_item, root_items, GivesFirst};
 
-use super::{File, name_in};
+use super::File;
 use std::alloc::Global;
 use std::marker::Model;
 use vfs_files::{CStr, CString, DirEntry, DirectoryIterator};
@@ -105,8 +105,8 @@ fn entry_at(alloc: Global, files: &[File], place: u64) -> Result<OwnEntry, Fault
     ensures memory { IfErr result (λ fault. fault ≡ Some enomem) }
 {
     match place {
-        0 => root_entry(alloc, 1, name_in(b".\0")),
-        1 => root_entry(alloc, 2, name_in(b"..\0")),
+        0 => root_entry(alloc, 1, CStr::before_nul(b".\0", 1)),
+        1 => root_entry(alloc, 2, CStr::before_nul(b"..\0", 2)),
         _ => file_entry(alloc, place + 1, &files[place as usize - 2]),
     }
 }
