@@ -12,5 +12,5 @@ returns-in-Ok g c =
     let below : nat_lt (max_len c.args.self.now.limits) h.len ≡ false = grind (arith, nat_tests, c.max_len.ensures) in
     rw (below, known) c.dispatch.ensures
 
-pub returns-then-header-max_len : goal.returns-then-header-max_len
-returns-then-header-max_len c = search rules
+pub returns-then-q-max_len : goal.returns-then-q-max_len
+returns-then-q-max_len c = search rules
