@@ -98,12 +98,10 @@ impl FileSystem for ScriptFs<'_> {
         name: CStr<'_>,
         ext: Extensions,
     ) -> Result<Entry, Fault> {
-        let args = [
-            ("linkname", Bytes(linkname.to_bytes())),
-            ("parent", Number(parent)),
-            ("name", Bytes(name.to_bytes())),
-        ];
-        self.called_by("symlink", &ctx, &args);
+        let link = [("linkname", Bytes(linkname.to_bytes()))];
+        self.called_by("symlink", &ctx, &link);
+        let named = [("parent", Number(parent)), ("name", Bytes(name.to_bytes()))];
+        self.notes.args(&named);
         self.notes.extensions(&ext);
         self.done_entry(&ctx, name.to_bytes())
     }
@@ -171,14 +169,17 @@ impl FileSystem for ScriptFs<'_> {
         newname: CStr<'_>,
         flags: u32,
     ) -> Result<(), Fault> {
-        let args = [
+        let old = [
             ("olddir", Number(olddir)),
             ("oldname", Bytes(oldname.to_bytes())),
+        ];
+        self.called_by("rename", &ctx, &old);
+        let new = [
             ("newdir", Number(newdir)),
             ("newname", Bytes(newname.to_bytes())),
             ("flags", Number(u64::from(flags))),
         ];
-        self.called_by("rename", &ctx, &args);
+        self.notes.args(&new);
         self.done()
     }
 
@@ -328,14 +329,14 @@ impl FileSystem for ScriptFs<'_> {
         flags: u32,
         extra: SetxattrFlags,
     ) -> Result<(), Fault> {
-        let args = [
-            ("inode", Number(inode)),
-            ("name", Bytes(name.to_bytes())),
+        let named = [("inode", Number(inode)), ("name", Bytes(name.to_bytes()))];
+        self.called_by("setxattr", &ctx, &named);
+        let set = [
             ("value", Bytes(value)),
             ("flags", Number(u64::from(flags))),
             ("extra", Number(u64::from(extra.bits()))),
         ];
-        self.called_by("setxattr", &ctx, &args);
+        self.notes.args(&set);
         self.done()
     }
 
