@@ -15,7 +15,7 @@ use Rattle.vfs_grammar.specs.Dirents.{record_len, record_bytes, verdict, Verdict
 use Rattle.vfs_grammar.specs.Listing.{Got, Line, Stop, End, At, line_events, stop_events, line_bytes, line_len, bytes_got, len_of, judged, fate, answer_at, answer_of, AreWritten, Stops}
 use Rattle.vfs_grammar.proofs.Listings.{fits_within}
 use Rattle.vfs_grammar.specs.Samples.{file_a}
-use Rattle.vfs_listings.specs.Reading.{Adds, cut_by, cut_of, ReadsItems}
+use Rattle.vfs_listings.specs.Reading.{Adds, cut_by, cut_short, ReadsItems}
 
 -- what fits is put
 pub put_whole : (max : ℕ) (entry : Option Entry) (i : Item) (old new : Written)
@@ -70,7 +70,7 @@ cut_verdict max room i one below short =
 module _ (ctx : Context) (parent size room : ℕ) (short : room ≡ 31) (asked : 32 ≤ size) where
   cut_at : (lines : List Line) (s : Stop) → AreWritten false size room 0 lines → Stops false size room (sum_by line_len lines) s
       → Taken (Some file_a) ∷ [] ≡ flat_map (line_events ctx parent false) lines ++ stop_events ctx parent false s
-      → (flat_map line_bytes lines ++ cut_of size room (sum_by line_len lines) s ≡ take 31 (record_bytes None file_a))
+      → (flat_map line_bytes lines ++ cut_short size room (sum_by line_len lines) s ≡ take 31 (record_bytes None file_a))
       × (answer_of false size room (sum_by line_len lines) s ≡ Err None)
   cut_at [] End w stops e = cc
   cut_at [] (At last) w stops e =
@@ -102,7 +102,7 @@ room_is_filled allows gives ctx parent size it old new room left result h are sh
     let l = h.listing in
     let cut = cut_at ctx parent size (length room.left) short asked l.lines l.stop l.written l.stops (sym are ∙ l.events_are) in
     let put = h.puts.wrote
-    ∙ ap (λ (b : List ℕ). wrote room (b ++ cut_of size (length room.left) (sum_by line_len l.lines) l.stop)) l.body_is
+    ∙ ap (λ (b : List ℕ). wrote room (b ++ cut_short size (length room.left) (sum_by line_len l.lines) l.stop)) l.body_is
     ∙ ap (wrote room) cut.0 in
     let some = length-take 31 (record_bytes None file_a) in
     let long = length-record_bytes None file_a in (
