@@ -4,19 +4,6 @@ use std::alloc::{AllocError, Global};
 use vfs_files::{Context, Extensions};
 use vfs_flags::Fault;
 
-/// An argument of a call.
-#[derive(Clone, Copy)]
-pub enum Arg<'a> {
-    /// A number.
-    Number(u64),
-    /// A number that need not be there.
-    Maybe(Option<u64>),
-    /// True or false.
-    Truth(bool),
-    /// Bytes.
-    Bytes(&'a [u8]),
-}
-
 /// Lines, each with two spaces before it.
 ///
 /// A call begins a line, its arguments go on with it, each as ` NAME=VALUE`, and `end` ends it; an
@@ -97,17 +84,9 @@ impl Notes {
         }
     }
 
-    /// Arguments by their names, in order.
-    pub fn args(&mut self, args: &[(&str, Arg<'_>)]) {
-        for (name, arg) in args {
-            match *arg {
-                Arg::Number(number) => self.number(name, number),
-                Arg::Maybe(number) => self.option(name, number),
-                Arg::Truth(true) => self.word(name, "true"),
-                Arg::Truth(false) => self.word(name, "false"),
-                Arg::Bytes(bytes) => self.bytes(name, bytes),
-            }
-        }
+    /// One that is true or false.
+    pub fn truth(&mut self, name: &str, value: bool) {
+        self.word(name, if value { "true" } else { "false" });
     }
 
     /// Bytes, in hex.

@@ -33,7 +33,7 @@ ghost use Rattle.vfs_files.specs.Answers.{Counts};
 
 use crate::contents::Contents;
 use crate::listing::{Listing, Seeded};
-use crate::notes::{Arg, Notes};
+use crate::notes::Notes;
 use crate::rules::{attr, bytes, entry, fault_of, handle, open_options, time, wanted_bits};
 use crate::told::{Told, bare_entry};
 use bitflags::Flags;
@@ -88,10 +88,9 @@ impl<'a> ScriptFs<'a> {
         &self.notes
     }
 
-    // Begins the note of a call with its arguments, and takes its word.
-    fn called_by(&mut self, call: &str, ctx: &Context, args: &[(&str, Arg<'_>)]) {
+    // Begins the note of a call, and takes its word.
+    fn called_by(&mut self, call: &str, ctx: &Context) {
         self.notes.call_by(call, ctx);
-        self.notes.args(args);
         self.word = ctx.pid.cast_unsigned();
     }
 

@@ -2,7 +2,6 @@
 
 use super::ScriptFs;
 use crate::listing::Listing;
-use crate::notes::Arg::{Bytes, Maybe, Number, Truth};
 use crate::rules::statistics;
 use bitflags::Flags;
 use std::time::Duration;
@@ -26,8 +25,9 @@ impl FileSystem for ScriptFs<'_> {
     ghost allows = { λ old call handed new. ⊤ };
 
     fn lookup(&mut self, ctx: Context, parent: u64, name: CStr<'_>) -> Result<Entry, Fault> {
-        let args = [("parent", Number(parent)), ("name", Bytes(name.to_bytes()))];
-        self.called_by("lookup", &ctx, &args);
+        self.called_by("lookup", &ctx);
+        self.notes.number("parent", parent);
+        self.notes.bytes("name", name.to_bytes());
         self.notes.end();
         let answer = self.found(&ctx, name.to_bytes());
         self.note_entry(&answer);
@@ -35,8 +35,9 @@ impl FileSystem for ScriptFs<'_> {
     }
 
     fn forget(&mut self, ctx: Context, inode: u64, count: u64) {
-        let args = [("inode", Number(inode)), ("count", Number(count))];
-        self.called_by("forget", &ctx, &args);
+        self.called_by("forget", &ctx);
+        self.notes.number("inode", inode);
+        self.notes.number("count", count);
         self.notes.end();
     }
 
@@ -48,8 +49,9 @@ impl FileSystem for ScriptFs<'_> {
     ) -> Result<(Attr, Duration), Fault>
         ensures { ⊤ }
     {
-        let args = [("inode", Number(inode)), ("handle", Maybe(handle))];
-        self.called_by("getattr", &ctx, &args);
+        self.called_by("getattr", &ctx);
+        self.notes.number("inode", inode);
+        self.notes.option("handle", handle);
         self.notes.end();
         let answer = self.attributes(&ctx, inode, handle);
         self.note_plain(&answer);
@@ -68,13 +70,11 @@ impl FileSystem for ScriptFs<'_> {
     {
         let mut record = [0u8; SetattrIn::SIZE];
         attr.put(&mut record);
-        let args = [
-            ("inode", Number(inode)),
-            ("attr", Bytes(&record)),
-            ("handle", Maybe(handle)),
-            ("valid", Number(u64::from(valid.bits()))),
-        ];
-        self.called_by("setattr", &ctx, &args);
+        self.called_by("setattr", &ctx);
+        self.notes.number("inode", inode);
+        self.notes.bytes("attr", &record);
+        self.notes.option("handle", handle);
+        self.notes.number("valid", u64::from(valid.bits()));
         self.notes.end();
         let nlink = if handle.is_some() { 77 } else { 1 };
         let answer = self.changed(&ctx, inode, &attr, nlink, valid.bits());
@@ -83,7 +83,8 @@ impl FileSystem for ScriptFs<'_> {
     }
 
     fn readlink(&mut self, ctx: Context, inode: u64) -> Result<Vec<u8>, Fault> {
-        self.called_by("readlink", &ctx, &[("inode", Number(inode))]);
+        self.called_by("readlink", &ctx);
+        self.notes.number("inode", inode);
         self.notes.end();
         let answer = self.text();
         self.note_plain(&answer);
@@ -98,10 +99,10 @@ impl FileSystem for ScriptFs<'_> {
         name: CStr<'_>,
         ext: Extensions,
     ) -> Result<Entry, Fault> {
-        let link = [("linkname", Bytes(linkname.to_bytes()))];
-        self.called_by("symlink", &ctx, &link);
-        let named = [("parent", Number(parent)), ("name", Bytes(name.to_bytes()))];
-        self.notes.args(&named);
+        self.called_by("symlink", &ctx);
+        self.notes.bytes("linkname", linkname.to_bytes());
+        self.notes.number("parent", parent);
+        self.notes.bytes("name", name.to_bytes());
         self.notes.extensions(&ext);
         self.done_entry(&ctx, name.to_bytes())
     }
@@ -116,14 +117,12 @@ impl FileSystem for ScriptFs<'_> {
         umask: u32,
         ext: Extensions,
     ) -> Result<Entry, Fault> {
-        let args = [
-            ("inode", Number(inode)),
-            ("name", Bytes(name.to_bytes())),
-            ("mode", Number(u64::from(mode))),
-            ("rdev", Number(u64::from(rdev))),
-            ("umask", Number(u64::from(umask))),
-        ];
-        self.called_by("mknod", &ctx, &args);
+        self.called_by("mknod", &ctx);
+        self.notes.number("inode", inode);
+        self.notes.bytes("name", name.to_bytes());
+        self.notes.number("mode", u64::from(mode));
+        self.notes.number("rdev", u64::from(rdev));
+        self.notes.number("umask", u64::from(umask));
         self.notes.extensions(&ext);
         self.done_entry(&ctx, name.to_bytes())
     }
@@ -137,26 +136,26 @@ impl FileSystem for ScriptFs<'_> {
         umask: u32,
         ext: Extensions,
     ) -> Result<Entry, Fault> {
-        let args = [
-            ("parent", Number(parent)),
-            ("name", Bytes(name.to_bytes())),
-            ("mode", Number(u64::from(mode))),
-            ("umask", Number(u64::from(umask))),
-        ];
-        self.called_by("mkdir", &ctx, &args);
+        self.called_by("mkdir", &ctx);
+        self.notes.number("parent", parent);
+        self.notes.bytes("name", name.to_bytes());
+        self.notes.number("mode", u64::from(mode));
+        self.notes.number("umask", u64::from(umask));
         self.notes.extensions(&ext);
         self.done_entry(&ctx, name.to_bytes())
     }
 
     fn unlink(&mut self, ctx: Context, parent: u64, name: CStr<'_>) -> Result<(), Fault> {
-        let args = [("parent", Number(parent)), ("name", Bytes(name.to_bytes()))];
-        self.called_by("unlink", &ctx, &args);
+        self.called_by("unlink", &ctx);
+        self.notes.number("parent", parent);
+        self.notes.bytes("name", name.to_bytes());
         self.done()
     }
 
     fn rmdir(&mut self, ctx: Context, parent: u64, name: CStr<'_>) -> Result<(), Fault> {
-        let args = [("parent", Number(parent)), ("name", Bytes(name.to_bytes()))];
-        self.called_by("rmdir", &ctx, &args);
+        self.called_by("rmdir", &ctx);
+        self.notes.number("parent", parent);
+        self.notes.bytes("name", name.to_bytes());
         self.done()
     }
 
@@ -169,17 +168,12 @@ impl FileSystem for ScriptFs<'_> {
         newname: CStr<'_>,
         flags: u32,
     ) -> Result<(), Fault> {
-        let old = [
-            ("olddir", Number(olddir)),
-            ("oldname", Bytes(oldname.to_bytes())),
-        ];
-        self.called_by("rename", &ctx, &old);
-        let new = [
-            ("newdir", Number(newdir)),
-            ("newname", Bytes(newname.to_bytes())),
-            ("flags", Number(u64::from(flags))),
-        ];
-        self.notes.args(&new);
+        self.called_by("rename", &ctx);
+        self.notes.number("olddir", olddir);
+        self.notes.bytes("oldname", oldname.to_bytes());
+        self.notes.number("newdir", newdir);
+        self.notes.bytes("newname", newname.to_bytes());
+        self.notes.number("flags", u64::from(flags));
         self.done()
     }
 
@@ -190,12 +184,10 @@ impl FileSystem for ScriptFs<'_> {
         newparent: u64,
         newname: CStr<'_>,
     ) -> Result<Entry, Fault> {
-        let args = [
-            ("inode", Number(inode)),
-            ("newparent", Number(newparent)),
-            ("newname", Bytes(newname.to_bytes())),
-        ];
-        self.called_by("link", &ctx, &args);
+        self.called_by("link", &ctx);
+        self.notes.number("inode", inode);
+        self.notes.number("newparent", newparent);
+        self.notes.bytes("newname", newname.to_bytes());
         self.done_entry(&ctx, newname.to_bytes())
     }
 
@@ -206,12 +198,10 @@ impl FileSystem for ScriptFs<'_> {
         kill_priv: bool,
         flags: u32,
     ) -> Result<(Option<u64>, OpenOptions), Fault> {
-        let args = [
-            ("inode", Number(inode)),
-            ("kill_priv", Truth(kill_priv)),
-            ("flags", Number(u64::from(flags))),
-        ];
-        self.called_by("open", &ctx, &args);
+        self.called_by("open", &ctx);
+        self.notes.number("inode", inode);
+        self.notes.truth("kill_priv", kill_priv);
+        self.notes.number("flags", u64::from(flags));
         self.done_opening()
     }
 
@@ -226,15 +216,13 @@ impl FileSystem for ScriptFs<'_> {
         lock_owner: Option<u64>,
         flags: u32,
     ) -> Result<usize, Fault> {
-        let args = [
-            ("inode", Number(inode)),
-            ("handle", Number(handle)),
-            ("size", Number(u64::from(size))),
-            ("offset", Number(offset)),
-            ("owner", Maybe(lock_owner)),
-            ("flags", Number(u64::from(flags))),
-        ];
-        self.called_by("read", &ctx, &args);
+        self.called_by("read", &ctx);
+        self.notes.number("inode", inode);
+        self.notes.number("handle", handle);
+        self.notes.number("size", u64::from(size));
+        self.notes.number("offset", offset);
+        self.notes.option("owner", lock_owner);
+        self.notes.number("flags", u64::from(flags));
         self.notes.end();
         let answer = self.read_file(w, size, offset);
         self.note_moved(&answer);
@@ -254,17 +242,15 @@ impl FileSystem for ScriptFs<'_> {
         kill_priv: bool,
         flags: u32,
     ) -> Result<u32, Fault> {
-        let args = [
-            ("inode", Number(inode)),
-            ("handle", Number(handle)),
-            ("size", Number(u64::from(size))),
-            ("offset", Number(offset)),
-            ("owner", Maybe(lock_owner)),
-            ("delayed_write", Truth(delayed_write)),
-            ("kill_priv", Truth(kill_priv)),
-            ("flags", Number(u64::from(flags))),
-        ];
-        self.called_by("write", &ctx, &args);
+        self.called_by("write", &ctx);
+        self.notes.number("inode", inode);
+        self.notes.number("handle", handle);
+        self.notes.number("size", u64::from(size));
+        self.notes.number("offset", offset);
+        self.notes.option("owner", lock_owner);
+        self.notes.truth("delayed_write", delayed_write);
+        self.notes.truth("kill_priv", kill_priv);
+        self.notes.number("flags", u64::from(flags));
         self.notes.end();
         let answer = self.write_file(r, size, offset);
         self.note_number("count", &answer);
@@ -272,7 +258,8 @@ impl FileSystem for ScriptFs<'_> {
     }
 
     fn statfs(&mut self, ctx: Context, inode: u64) -> Result<Statvfs64, Fault> {
-        self.called_by("statfs", &ctx, &[("inode", Number(inode))]);
+        self.called_by("statfs", &ctx);
+        self.notes.number("inode", inode);
         self.notes.end();
         let answer = match self.seed_or_told() {
             Ok(seed) => Ok(statistics(seed)),
@@ -292,15 +279,13 @@ impl FileSystem for ScriptFs<'_> {
         flock_release: bool,
         lock_owner: Option<u64>,
     ) -> Result<(), Fault> {
-        let args = [
-            ("inode", Number(inode)),
-            ("flags", Number(u64::from(flags))),
-            ("handle", Number(handle)),
-            ("flush", Truth(flush)),
-            ("flock_release", Truth(flock_release)),
-            ("owner", Maybe(lock_owner)),
-        ];
-        self.called_by("release", &ctx, &args);
+        self.called_by("release", &ctx);
+        self.notes.number("inode", inode);
+        self.notes.number("flags", u64::from(flags));
+        self.notes.number("handle", handle);
+        self.notes.truth("flush", flush);
+        self.notes.truth("flock_release", flock_release);
+        self.notes.option("owner", lock_owner);
         self.done()
     }
 
@@ -311,12 +296,10 @@ impl FileSystem for ScriptFs<'_> {
         datasync: bool,
         handle: u64,
     ) -> Result<(), Fault> {
-        let args = [
-            ("inode", Number(inode)),
-            ("datasync", Truth(datasync)),
-            ("handle", Number(handle)),
-        ];
-        self.called_by("fsync", &ctx, &args);
+        self.called_by("fsync", &ctx);
+        self.notes.number("inode", inode);
+        self.notes.truth("datasync", datasync);
+        self.notes.number("handle", handle);
         self.done()
     }
 
@@ -329,14 +312,12 @@ impl FileSystem for ScriptFs<'_> {
         flags: u32,
         extra: SetxattrFlags,
     ) -> Result<(), Fault> {
-        let named = [("inode", Number(inode)), ("name", Bytes(name.to_bytes()))];
-        self.called_by("setxattr", &ctx, &named);
-        let set = [
-            ("value", Bytes(value)),
-            ("flags", Number(u64::from(flags))),
-            ("extra", Number(u64::from(extra.bits()))),
-        ];
-        self.notes.args(&set);
+        self.called_by("setxattr", &ctx);
+        self.notes.number("inode", inode);
+        self.notes.bytes("name", name.to_bytes());
+        self.notes.bytes("value", value);
+        self.notes.number("flags", u64::from(flags));
+        self.notes.number("extra", u64::from(extra.bits()));
         self.done()
     }
 
@@ -347,12 +328,10 @@ impl FileSystem for ScriptFs<'_> {
         name: CStr<'_>,
         size: u32,
     ) -> Result<GetxattrReply, Fault> {
-        let args = [
-            ("inode", Number(inode)),
-            ("name", Bytes(name.to_bytes())),
-            ("size", Number(u64::from(size))),
-        ];
-        self.called_by("getxattr", &ctx, &args);
+        self.called_by("getxattr", &ctx);
+        self.notes.number("inode", inode);
+        self.notes.bytes("name", name.to_bytes());
+        self.notes.number("size", u64::from(size));
         self.notes.end();
         let answer = match self.attribute() {
             Ok((Some(text), _)) => Ok(GetxattrReply::Value(text)),
@@ -364,8 +343,9 @@ impl FileSystem for ScriptFs<'_> {
     }
 
     fn listxattr(&mut self, ctx: Context, inode: u64, size: u32) -> Result<ListxattrReply, Fault> {
-        let args = [("inode", Number(inode)), ("size", Number(u64::from(size)))];
-        self.called_by("listxattr", &ctx, &args);
+        self.called_by("listxattr", &ctx);
+        self.notes.number("inode", inode);
+        self.notes.number("size", u64::from(size));
         self.notes.end();
         let answer = match self.attribute() {
             Ok((Some(text), _)) => Ok(ListxattrReply::Names(text)),
@@ -377,8 +357,9 @@ impl FileSystem for ScriptFs<'_> {
     }
 
     fn removexattr(&mut self, ctx: Context, inode: u64, name: CStr<'_>) -> Result<(), Fault> {
-        let args = [("inode", Number(inode)), ("name", Bytes(name.to_bytes()))];
-        self.called_by("removexattr", &ctx, &args);
+        self.called_by("removexattr", &ctx);
+        self.notes.number("inode", inode);
+        self.notes.bytes("name", name.to_bytes());
         self.done()
     }
 
@@ -389,12 +370,10 @@ impl FileSystem for ScriptFs<'_> {
         handle: u64,
         lock_owner: u64,
     ) -> Result<(), Fault> {
-        let args = [
-            ("inode", Number(inode)),
-            ("handle", Number(handle)),
-            ("owner", Number(lock_owner)),
-        ];
-        self.called_by("flush", &ctx, &args);
+        self.called_by("flush", &ctx);
+        self.notes.number("inode", inode);
+        self.notes.number("handle", handle);
+        self.notes.number("owner", lock_owner);
         self.done()
     }
 
@@ -417,11 +396,9 @@ impl FileSystem for ScriptFs<'_> {
         inode: u64,
         flags: u32,
     ) -> Result<(Option<u64>, OpenOptions), Fault> {
-        let args = [
-            ("inode", Number(inode)),
-            ("flags", Number(u64::from(flags))),
-        ];
-        self.called_by("opendir", &ctx, &args);
+        self.called_by("opendir", &ctx);
+        self.notes.number("inode", inode);
+        self.notes.number("flags", u64::from(flags));
         self.done_opening()
     }
 
@@ -433,13 +410,11 @@ impl FileSystem for ScriptFs<'_> {
         size: u32,
         offset: u64,
     ) -> Result<Listing, Fault> {
-        let args = [
-            ("inode", Number(inode)),
-            ("handle", Number(handle)),
-            ("size", Number(u64::from(size))),
-            ("offset", Number(offset)),
-        ];
-        self.called_by("readdir", &ctx, &args);
+        self.called_by("readdir", &ctx);
+        self.notes.number("inode", inode);
+        self.notes.number("handle", handle);
+        self.notes.number("size", u64::from(size));
+        self.notes.number("offset", offset);
         self.notes.end();
         let answer = self.listing(offset);
         self.note_plain(&answer);
@@ -453,12 +428,10 @@ impl FileSystem for ScriptFs<'_> {
         flags: u32,
         handle: u64,
     ) -> Result<(), Fault> {
-        let args = [
-            ("inode", Number(inode)),
-            ("flags", Number(u64::from(flags))),
-            ("handle", Number(handle)),
-        ];
-        self.called_by("releasedir", &ctx, &args);
+        self.called_by("releasedir", &ctx);
+        self.notes.number("inode", inode);
+        self.notes.number("flags", u64::from(flags));
+        self.notes.number("handle", handle);
         self.done()
     }
 
@@ -469,12 +442,10 @@ impl FileSystem for ScriptFs<'_> {
         datasync: bool,
         handle: u64,
     ) -> Result<(), Fault> {
-        let args = [
-            ("inode", Number(inode)),
-            ("datasync", Truth(datasync)),
-            ("handle", Number(handle)),
-        ];
-        self.called_by("fsyncdir", &ctx, &args);
+        self.called_by("fsyncdir", &ctx);
+        self.notes.number("inode", inode);
+        self.notes.truth("datasync", datasync);
+        self.notes.number("handle", handle);
         self.done()
     }
 
@@ -491,8 +462,9 @@ impl FileSystem for ScriptFs<'_> {
     }
 
     fn access(&mut self, ctx: Context, inode: u64, mask: u32) -> Result<(), Fault> {
-        let args = [("inode", Number(inode)), ("mask", Number(u64::from(mask)))];
-        self.called_by("access", &ctx, &args);
+        self.called_by("access", &ctx);
+        self.notes.number("inode", inode);
+        self.notes.number("mask", u64::from(mask));
         self.done()
     }
 
@@ -507,15 +479,13 @@ impl FileSystem for ScriptFs<'_> {
         umask: u32,
         ext: Extensions,
     ) -> Result<(Entry, Option<u64>, OpenOptions), Fault> {
-        let args = [
-            ("parent", Number(parent)),
-            ("name", Bytes(name.to_bytes())),
-            ("mode", Number(u64::from(mode))),
-            ("kill_priv", Truth(kill_priv)),
-            ("flags", Number(u64::from(flags))),
-            ("umask", Number(u64::from(umask))),
-        ];
-        self.called_by("create", &ctx, &args);
+        self.called_by("create", &ctx);
+        self.notes.number("parent", parent);
+        self.notes.bytes("name", name.to_bytes());
+        self.notes.number("mode", u64::from(mode));
+        self.notes.truth("kill_priv", kill_priv);
+        self.notes.number("flags", u64::from(flags));
+        self.notes.number("umask", u64::from(umask));
         self.notes.extensions(&ext);
         self.notes.end();
         let answer = self.created(&ctx, name.to_bytes());
@@ -552,7 +522,7 @@ impl FileSystem for ScriptFs<'_> {
     fn batch_forget(&mut self, ctx: Context, requests: Vec<(u64, u64)>)
         ensures { ⊤ }
     {
-        self.called_by("batch_forget", &ctx, &[]);
+        self.called_by("batch_forget", &ctx);
         self.notes.pairs("requests", &requests);
         self.notes.end();
     }
@@ -566,14 +536,12 @@ impl FileSystem for ScriptFs<'_> {
         offset: u64,
         length: u64,
     ) -> Result<(), Fault> {
-        let args = [
-            ("inode", Number(inode)),
-            ("handle", Number(handle)),
-            ("mode", Number(u64::from(mode))),
-            ("offset", Number(offset)),
-            ("length", Number(length)),
-        ];
-        self.called_by("fallocate", &ctx, &args);
+        self.called_by("fallocate", &ctx);
+        self.notes.number("inode", inode);
+        self.notes.number("handle", handle);
+        self.notes.number("mode", u64::from(mode));
+        self.notes.number("offset", offset);
+        self.notes.number("length", length);
         self.done()
     }
 
@@ -585,13 +553,11 @@ impl FileSystem for ScriptFs<'_> {
         offset: u64,
         whence: u32,
     ) -> Result<u64, Fault> {
-        let args = [
-            ("inode", Number(inode)),
-            ("handle", Number(handle)),
-            ("offset", Number(offset)),
-            ("whence", Number(u64::from(whence))),
-        ];
-        self.called_by("lseek", &ctx, &args);
+        self.called_by("lseek", &ctx);
+        self.notes.number("inode", inode);
+        self.notes.number("handle", handle);
+        self.notes.number("offset", offset);
+        self.notes.number("whence", u64::from(whence));
         self.notes.end();
         let answer = match self.seed_or_told() {
             Ok(seed) if seed % 2 == 0 => Ok(offset),
@@ -614,17 +580,15 @@ impl FileSystem for ScriptFs<'_> {
         len: u64,
         flags: u64,
     ) -> Result<u32, Fault> {
-        let args = [
-            ("inode_in", Number(inode_in)),
-            ("handle_in", Number(handle_in)),
-            ("offset_in", Number(offset_in)),
-            ("inode_out", Number(inode_out)),
-            ("handle_out", Number(handle_out)),
-            ("offset_out", Number(offset_out)),
-            ("len", Number(len)),
-            ("flags", Number(flags)),
-        ];
-        self.called_by("copyfilerange", &ctx, &args);
+        self.called_by("copyfilerange", &ctx);
+        self.notes.number("inode_in", inode_in);
+        self.notes.number("handle_in", handle_in);
+        self.notes.number("offset_in", offset_in);
+        self.notes.number("inode_out", inode_out);
+        self.notes.number("handle_out", handle_out);
+        self.notes.number("offset_out", offset_out);
+        self.notes.number("len", len);
+        self.notes.number("flags", flags);
         self.notes.end();
         let answer = match self.seed_or_told() {
             Ok(seed) => Ok(u32::try_from(len).unwrap_or(seed).min(seed)),
@@ -635,7 +599,8 @@ impl FileSystem for ScriptFs<'_> {
     }
 
     fn syncfs(&mut self, ctx: Context, inode: u64) -> Result<(), Fault> {
-        self.called_by("syncfs", &ctx, &[("inode", Number(inode))]);
+        self.called_by("syncfs", &ctx);
+        self.notes.number("inode", inode);
         self.done()
     }
 
