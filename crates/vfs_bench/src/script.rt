@@ -14,7 +14,7 @@ use crate::file::ScriptFile;
 use std::time::Duration;
 use vfs_files::{
     CStr, Context, Entry, Extensions, FileSystem, GetxattrReply, ListxattrReply, ZeroCopyReader,
-    ZeroCopyWriter, defaults,
+    ZeroCopyWriter, copy_of, defaults,
 };
 use vfs_flags::{
     Errno, Fault, FsOptions, MAX_REPLY_DATA, OpenOptions, SetattrValid, SetxattrFlags,
@@ -158,10 +158,7 @@ fn same_bytes(bytes: &Vec<u8>) -> Result<Vec<u8>, Fault>
     if bytes.len() > LONGEST_TEXT {
         return Err(Some(Errno::ERANGE));
     }
-    match bytes.clone() {
-        Ok(copy) => Ok(copy),
-        Err(_) => Err(Some(Errno::ENOMEM)),
-    }
+    copy_of(*bytes.allocator(), bytes)
 }
 
 /// Moves up to `size` bytes into the file, and answers how many.

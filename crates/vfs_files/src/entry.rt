@@ -56,6 +56,15 @@ impl From<Entry> for EntryOut {
     /// The entry as a reply carries it, `struct fuse_entry_out`: each timeout in whole seconds and
     /// the nanoseconds beyond them.
     fn from(entry: Entry) -> EntryOut {
+        EntryOut::from(&entry)
+    }
+}
+
+impl<'a> From<&'a Entry> for EntryOut {
+    ghost from_gives = { λ entry out. out ≡ entry_out_of entry.now };
+
+    /// The same of an entry that is lent.
+    fn from(entry: &'a Entry) -> EntryOut {
         EntryOut {
             nodeid: entry.inode,
             generation: entry.generation,

@@ -24,6 +24,7 @@ pub use directory::{DirEntry, DirectoryIterator};
 pub use entry::{Context, Entry};
 pub use extensions::{Extensions, SecContext};
 pub use filesystem::FileSystem;
+pub use memory::copy_of;
 pub use migration::{MigrateError, SerializableFileSystem};
 pub use name::{CStr, CString, first_nul};
 pub use number::Number;

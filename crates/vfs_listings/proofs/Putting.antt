@@ -1,12 +1,12 @@
 -- A record that is put.
-use Rattle.std.proofs.Common.{◌≡◌, ◌≤◌, ◌<◌, ◌+◌, ◌-◌, ◌^◌, ℕ, false, true, nat_lt, List, ◌++◌, Option, Some, None, Result, Ok, Err, IsOk, length, take, refl, ap, ◌∙◌, arith, append_assoc, length-append}
+use Rattle.std.proofs.Common.{◌≡◌, ◌≤◌, ◌<◌, ◌+◌, ◌-◌, ◌^◌, ℕ, false, true, nat_lt, List, ◌++◌, Option, Some, None, Result, Ok, Err, IsOk, length, take, refl, replicate, ap, ◌∙◌, arith, append_assoc, length-append}
 use Rattle.std.specs.Prelude.{◌↔◌}
 use Rattle.std.proofs.Math.Nat.{lt_of_not-le}
 use Rattle.std.proofs.lemmas.Bool.Decides.{nat_tests}
 use Rattle.std.proofs.lemmas.List.{take_all, drop-drop}
 use Rattle.vfs_wire.specs.Fields.{bytes_of}
 use Rattle.vfs_wire.specs.Listings.{dirent, direntplus}
-use Rattle.vfs_segments.specs.Padded.{padded_len, padding}
+use Rattle.std.specs.Int.{next_multiple_of}
 use Rattle.vfs_segments.specs.Written.{Written, wrote}
 use Rattle.vfs_files.specs.Entries.{entry_out_of}
 use Rattle.vfs_files.specs.Items.{Item}
@@ -42,19 +42,19 @@ puts_by old new bytes n result puts whole long =
 
 -- what stands behind an `EntryOut` and a `Dirent` of 128 and 24 bytes is what stands behind the
 -- `Dirent` alone
-pub same_padding : (n : ℕ) → padded_len (152 + n) - (152 + n) ≡ dirent_len n - (24 + n)
+pub same_padding : (n : ℕ) → next_multiple_of (152 + n) 8 - (152 + n) ≡ dirent_len n - (24 + n)
 same_padding n = omega arith
 
 -- the bytes of an item whose name has this text
 pub dirent_parts : (i : Item) (name : List ℕ) → name ≡ i.name
-    → bytes_of dirent (dirent_of i) ++ (name ++ padding (24 + length name)) ≡ dirent_bytes i
+    → bytes_of dirent (dirent_of i) ++ (name ++ replicate (next_multiple_of (24 + length name) 8 - (24 + length name)) 0) ≡ dirent_bytes i
 unfolding dirent_bytes
 dirent_parts i name e = rw e refl
 
 -- the same behind an entry
 pub direntplus_parts : (entry : Entry) (i : Item) (name : List ℕ) → name ≡ i.name
     → bytes_of direntplus (record { entry_out = entry_out_of entry; dirent = dirent_of i })
-    ++ (name ++ padding (152 + length name)) ≡ record_bytes (Some entry) i
+    ++ (name ++ replicate (next_multiple_of (152 + length name) 8 - (152 + length name)) 0) ≡ record_bytes (Some entry) i
 unfolding dirent_bytes
 direntplus_parts entry i name e = rw (e, same_padding (length i.name)) (simp append_assoc)
 

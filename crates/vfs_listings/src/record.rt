@@ -3,7 +3,6 @@
 
 ghost use Rattle.std.specs.Prelude.{◌≡◌, ◌<◌, ◌^◌, length, Some, None};
 ghost use Rattle.vfs_files.specs.Answers.{FitsEntry};
-ghost use Rattle.vfs_files.specs.Entries.{entry_out_of};
 ghost use Rattle.vfs_files.specs.Items.{item};
 ghost use Rattle.vfs_grammar.specs.Dirents.{dirent_len, dirent_of, dirent_bytes, record_bytes, verdict};
 ghost use Rattle.vfs_listings.specs.Reading.{PutsBeginning, Adds};
@@ -19,6 +18,15 @@ fn dirent_len(name: &[u8]) -> usize
     ensures { result ≡ dirent_len (length name.now) }
 {
     (Dirent::SIZE + name.len()).next_multiple_of(8)
+}
+
+/// How many zeros stand behind `len` bytes of a record, up to a multiple of 8.
+fn zeros_behind(len: usize) -> usize
+    requires { len + 8 < 2 ^ 64 }
+    ensures zeros { result ≡ next_multiple_of len 8 - len }
+    ensures few { result ≤ 8 }
+{
+    len.next_multiple_of(8) - len
 }
 
 /// The `Dirent` of an entry.
@@ -39,22 +47,9 @@ fn put_dirent(w: &mut Writer, dir_entry: DirEntry<'_>) -> io::Result<()>
     requires { length dir_entry.name.bytes.now < 2 ^ 32 }
     ensures { PutsBeginning w.old (dirent_bytes (item dir_entry.entry)) result w.new }
 {
-    w.write_padded(dirent_of(dir_entry), dir_entry.name.to_bytes())
-}
-
-/// What a reply carries of an entry.
-fn entry_out(entry: &Entry) -> EntryOut
-    ensures { result ≡ entry_out_of entry.now }
-{
-    EntryOut {
-        nodeid: entry.inode,
-        generation: entry.generation,
-        entry_valid: entry.entry_timeout.as_secs(),
-        attr_valid: entry.attr_timeout.as_secs(),
-        entry_valid_nsec: entry.entry_timeout.subsec_nanos(),
-        attr_valid_nsec: entry.attr_timeout.subsec_nanos(),
-        attr: entry.attr,
-    }
+    let name = dir_entry.name.to_bytes();
+    let zeros = zeros_behind(Dirent::SIZE + name.len());
+    w.write_padded(dirent_of(dir_entry), name, zeros)
 }
 
 /// Puts a record with an `EntryOut`.
@@ -66,10 +61,12 @@ fn put_direntplus(w: &mut Writer, dir_entry: DirEntry<'_>, entry: &Entry) -> io:
     ensures fits { FitsEntry entry.now }
 {
     let record = Direntplus {
-        entry_out: entry_out(entry),
+        entry_out: EntryOut::from(entry),
         dirent: dirent_of(dir_entry),
     };
-    w.write_padded(record, dir_entry.name.to_bytes())
+    let name = dir_entry.name.to_bytes();
+    let zeros = zeros_behind(Direntplus::SIZE + name.len());
+    w.write_padded(record, name, zeros)
 }
 
 /// Adds a record without an `EntryOut`.

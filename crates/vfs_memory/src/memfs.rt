@@ -10,7 +10,7 @@ use crate::memfile::MemFile;
 use std::alloc::Global;
 use std::marker::Model;
 use std::time::Duration;
-use vfs_files::{CStr, CString, Entry};
+use vfs_files::{CStr, CString, Entry, copy_of};
 use vfs_flags::{Errno, Fault, GuestGid, GuestUid, ROOT_ID};
 use vfs_wire::Attr;
 
@@ -83,7 +83,7 @@ impl MemFs {
         let file = File {
             node: ROOT_ID + 1,
             name: CString::new(alloc, CStr::before_nul(b"a\0", 1))?,
-            contents: MemFile::new(copied(alloc, b"hello")?),
+            contents: MemFile::new(copy_of(alloc, b"hello")?),
         };
         let mut files = Vec::new(alloc);
         match files.push(file) {
@@ -114,16 +114,6 @@ impl MemFs {
             }
             Err(_) => Err(Some(Errno::ENOMEM)),
         }
-    }
-}
-
-// The bytes in memory of their own.
-fn copied(alloc: Global, bytes: &[u8]) -> Result<Vec<u8>, Fault>
-    ensures { MatchResult result (λ v. v.items ≡ bytes.now) (λ fault. fault ≡ Some enomem) }
-{
-    match Vec::from_slice(alloc, bytes) {
-        Ok(v) => Ok(v),
-        Err(_) => Err(Some(Errno::ENOMEM)),
     }
 }
 

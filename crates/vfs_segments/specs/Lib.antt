@@ -3,7 +3,6 @@ pub mod SegmentLaws
 pub mod Lengths
 pub mod Totals
 pub mod Unread
-pub mod Padded
 pub mod Written
 pub mod WrittenLaws
 pub mod Transfer

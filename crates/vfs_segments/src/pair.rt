@@ -3,9 +3,8 @@
 ghost use Rattle.std.specs.Prelude.{◌≡◌, ◌+◌, ◌++◌, length};
 ghost use Rattle.vfs_wire.specs.Fields.{Fit, bytes_of};
 
-use crate::beside::put_front;
 use vfs_wire::ByteValued;
-use vfs_wire::parts::put_rest;
+use vfs_wire::parts::{put_first, put_rest};
 
 // Writes a record, and another behind it, over all of `out`.
 pub(crate) fn spell_pair<T: ByteValued, U: ByteValued>(out: &mut [u8], first: &T, second: &U)
@@ -18,5 +17,5 @@ pub(crate) fn spell_pair<T: ByteValued, U: ByteValued>(out: &mut [u8], first: &T
     ensures second_in_range { U.in_range second.now }
 {
     put_rest(out, T::SIZE, second);
-    put_front(out, first);
+    put_first(out, first);
 }

@@ -1,10 +1,9 @@
 //! Values that are written over the bytes of one segment in one go.
 
-ghost use Rattle.std.specs.Prelude.{◌≡◌, ℕ, ◌+◌, List, ◌++◌, length, ⊤};
-ghost use Rattle.vfs_segments.specs.Padded.{padded_len, padding};
+ghost use Rattle.std.specs.Prelude.{◌≡◌, ℕ, ◌+◌, List, ◌++◌, length, replicate, ⊤};
 ghost use Rattle.vfs_wire.specs.Fields.{Fit, bytes_of};
 
-use crate::beside::{padded_len, spell_padded};
+use crate::beside::spell_padded;
 use crate::pair::spell_pair;
 use vfs_wire::ByteValued;
 
@@ -103,29 +102,30 @@ impl<'x, T: ByteValued, U: ByteValued> Spelled for Pair<'x, T, U> {
     }
 }
 
-// A record, bytes behind it, and zeros behind these up to a multiple of 8 bytes.
+// A record, bytes behind it, and so many zeros behind these.
 #[derive(Drop)]
 pub(crate) struct Padded<'x, T: ByteValued> {
     pub(crate) record: &'x T,
     pub(crate) bytes: &'x [u8],
+    pub(crate) zeros: usize,
 }
 
 impl<'x, T: ByteValued> Spelled for Padded<'x, T> {
     ghost bytes = { λ p. bytes_of T.table p.record.now
-        ++ (p.bytes.now ++ padding (T.SIZE + length p.bytes.now)) };
+        ++ (p.bytes.now ++ replicate p.zeros 0) };
 
-    ghost size = { λ p. padded_len (T.SIZE + length p.bytes.now) };
+    ghost size = { λ p. T.SIZE + length p.bytes.now + p.zeros };
 
     ghost known = { λ p.
         Fit T.table.widths (T.table.fields p.record.now) × T.in_range p.record.now };
 
     #[inline(always)]
     fn size_of(&self) -> usize {
-        padded_len::<T>(self.bytes)
+        T::SIZE + self.bytes.len() + self.zeros
     }
 
     #[inline(always)]
     fn spell(&self, out: &mut [u8]) {
-        spell_padded(out, self.record, self.bytes);
+        spell_padded(out, self.record, self.bytes, self.zeros);
     }
 }

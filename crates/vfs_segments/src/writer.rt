@@ -4,13 +4,11 @@ ghost use Rattle.std.specs.Prelude.{◌≡◌, ◌+◌, ◌^◌, ◌<◌, ◌≤
 ghost use Rattle.std.specs.IoError.{error_kind};
 ghost use Rattle.std.specs.Io.{WritesAtMost};
 ghost use Rattle.std.specs.Io.KnownBytes.{Appends, Keeps, WriteAppends};
-ghost use Rattle.vfs_segments.specs.Padded.{padded_len, padding};
 ghost use Rattle.vfs_segments.specs.Segments.{contents, flat_bytes, lengths_of};
 ghost use Rattle.vfs_segments.specs.Transfer.{moved_bytes, taken_in};
 ghost use Rattle.vfs_segments.specs.Written.{unwritten, wrote, first_room, rest_room, held_over, held_filled, whole};
 ghost use Rattle.vfs_wire.specs.Fields.{Fit, bytes_of};
 
-use crate::beside::padded_len;
 use crate::error::{Error, Result};
 use crate::record::LARGEST_RECORD;
 use crate::segments::{Segments, total_of};
@@ -206,27 +204,35 @@ impl Writer {
         self.put_next(&buf[..n]);
     }
 
-    /// Writes a record, the bytes behind it, and zeros behind these, until all of them are a
-    /// multiple of 8 bytes.
+    /// Writes a record, the bytes behind it, and so many zeros behind these, at most eight.
     ///
     /// Where fewer are left the error's kind is `WriteZero`, and the beginning of all fills them.
     #[inline(always)]
-    pub fn write_padded<T: ByteValued + Drop>(&mut self, x: T, bytes: &[u8]) -> io::Result<()>
+    pub fn write_padded<T: ByteValued + Drop>(
+        &mut self,
+        x: T,
+        bytes: &[u8],
+        zeros: usize,
+    ) -> io::Result<()>
+        requires { zeros ≤ 8 }
         ensures variant { IsOk result ↔
-            (padded_len (T.SIZE + length bytes.now) ≤ length self.old.left) }
+            (T.SIZE + length bytes.now + zeros ≤ length self.old.left) }
         ensures wrote { self.new ≡ wrote self.old (take (length self.old.left)
-            (bytes_of T.table x ++ (bytes.now ++ padding (T.SIZE + length bytes.now)))) }
+            (bytes_of T.table x ++ (bytes.now ++ replicate zeros 0))) }
         ensures full { IfErr result (λ fault. error_kind fault ≡ ErrorKind.WriteZero) }
         ensures in_width { Fit T.table.widths (T.table.fields x) }
         ensures in_range { T.in_range x }
     {
-        let len = padded_len::<T>(bytes);
-        let padded = Padded { record: &x, bytes };
+        let padded = Padded {
+            record: &x,
+            bytes,
+            zeros,
+        };
         if self.segments.put_whole(self.at, &padded) {
-            self.at += len;
+            self.at += T::SIZE + bytes.len() + zeros;
             return Ok(());
         }
-        if self.write_apart(x, bytes, len - (T::SIZE + bytes.len())) {
+        if self.write_apart(x, bytes, zeros) {
             return Ok(());
         }
         Err(io::Error::from(ErrorKind::WriteZero))

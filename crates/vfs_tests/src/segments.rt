@@ -28,7 +28,7 @@ enum WriteCall {
     Word(u32),
     /// `write_pair` of a number of four bytes and one of one byte.
     Pair(u32, u8),
-    /// `write_padded` of a number of four bytes and these bytes.
+    /// `write_padded` of a number of four bytes, these bytes, and zeros up to a multiple of 8.
     Padded(u32, &'static [u8]),
     /// `flush`.
     Flush,
@@ -74,10 +74,10 @@ fn write_by(writer: &mut Writer, call: WriteCall) -> Answer {
         WriteCall::Byte(x) => all_of(1, writer.write_obj(x)),
         WriteCall::Word(x) => all_of(4, writer.write_obj(x)),
         WriteCall::Pair(x, y) => all_of(5, writer.write_pair(x, y)),
-        WriteCall::Padded(x, bytes) => all_of(
-            (4 + bytes.len()).next_multiple_of(8),
-            writer.write_padded(x, bytes),
-        ),
+        WriteCall::Padded(x, bytes) => {
+            let len = (4 + bytes.len()).next_multiple_of(8);
+            all_of(len, writer.write_padded(x, bytes, len - (4 + bytes.len())))
+        }
         WriteCall::Flush => all_of(0, writer.flush()),
         WriteCall::Hold(n) => hold(writer, n),
         WriteCall::Fill(bytes) => fill(writer, bytes),

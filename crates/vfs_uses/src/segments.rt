@@ -363,7 +363,7 @@ fn number_and_two_bytes(writer: &mut Writer, number: u32, bytes: &[u8])
         (bytes_of (lone_number 4) number ++ (bytes.now ++ 0 ∷ 0 ∷ [])) }
     ensures left { writer.new.left ≡ drop 8 writer.old.left }
 {
-    writer.write_padded(number, bytes).unwrap();
+    writer.write_padded(number, bytes, 2).unwrap();
 }
 
 /// Zeros are read from a file into the next three of five bytes. The two behind them stay.

@@ -1,7 +1,7 @@
 //! A record at a place of a byte list.
 
-ghost use Rattle.std.specs.Prelude.{◌≡◌, ◌+◌, ◌≤◌, length, drop};
-ghost use Rattle.vfs_wire.specs.Fields.{Fit, numbers_at, row, row_onto};
+ghost use Rattle.std.specs.Prelude.{◌≡◌, ◌+◌, ◌≤◌, ◌++◌, length, drop};
+ghost use Rattle.vfs_wire.specs.Fields.{Fit, bytes_of, numbers_at, row, row_onto};
 
 use crate::ByteValued;
 
@@ -30,6 +30,8 @@ pub fn put_first<T: ByteValued>(out: &mut [u8], x: &T)
     requires { T.SIZE ≤ length out.old }
     ensures written { out.new ≡
         row_onto T.table.widths (T.table.fields x.now) (drop T.SIZE out.old) }
+    ensures bytes { out.new ≡ bytes_of T.table x.now ++ drop T.SIZE out.old }
+    ensures size { length (bytes_of T.table x.now) ≡ T.SIZE }
     ensures in_width { Fit T.table.widths (T.table.fields x.now) }
     ensures in_range { T.in_range x.now }
 {

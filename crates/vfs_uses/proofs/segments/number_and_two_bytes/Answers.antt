@@ -1,21 +1,17 @@
 use Rattle.std.proofs.Common.{◌≡◌, ◌∙◌, ◌+◌, ◌≤◌, ℕ, List, [], ◌∷◌, ◌++◌, ap, arith, drop, length, length-append, refl, take, take_all}
-use Rattle.vfs_segments.specs.Padded.{padding}
 use Rattle.vfs_segments.specs.Written.{Written, wrote}
 use Rattle.vfs_wire.specs.Fields.{bytes_of, lone_number}
 use Rattle.vfs_wire.specs.FieldLaws.{length-bytes_of}
 use Rattle.vfs_uses.proofs.segments.number_and_two_bytes.Goals as goal
 
-two_zeros : (n : ℕ) → n ≡ 2 → padding (4 + n) ≡ 0 ∷ 0 ∷ []
-two_zeros n e = rw e refl
-
 -- what fits is put
 eight_put : (old new : Written) (x bytes : List ℕ) → length x ≡ 4 → length bytes ≡ 2 → 8 ≤ length old.left →
-    new ≡ wrote old (take (length old.left) (x ++ (bytes ++ padding (4 + length bytes)))) →
+    new ≡ wrote old (take (length old.left) (x ++ (bytes ++ 0 ∷ 0 ∷ []))) →
     (length (x ++ (bytes ++ 0 ∷ 0 ∷ [])) ≡ 8) × (new ≡ wrote old (x ++ (bytes ++ 0 ∷ 0 ∷ [])))
 eight_put old new x bytes four two room put =
     let bs = x ++ (bytes ++ 0 ∷ 0 ∷ []) in
     let long : length bs ≡ 8 = length-append x (bytes ++ 0 ∷ 0 ∷ []) ∙ omega (arith, four, two, length-append bytes (0 ∷ 0 ∷ [])) in
-    (long, rw (two_zeros (length bytes) two) at put ∙ ap (wrote old) (take_all (length old.left) bs (omega (arith, long, room))))
+    (long, put ∙ ap (wrote old) (take_all (length old.left) bs (omega (arith, long, room))))
 
 pub returns-clause-wrote : goal.returns-clause-wrote
 returns-clause-wrote c =
