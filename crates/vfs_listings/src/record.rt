@@ -21,12 +21,12 @@ fn dirent_len(name: &[u8]) -> usize
 }
 
 /// How many zeros stand behind `len` bytes of a record, up to a multiple of 8.
-fn zeros_behind(len: usize) -> usize
+fn zeros_behind(len: usize) -> u8
     requires { len + 8 < 2 ^ 64 }
     ensures zeros { result ≡ next_multiple_of len 8 - len }
     ensures few { result ≤ 8 }
 {
-    len.next_multiple_of(8) - len
+    (len.next_multiple_of(8) - len) as u8
 }
 
 /// The `Dirent` of an entry.

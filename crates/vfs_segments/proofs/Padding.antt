@@ -1,5 +1,5 @@
 -- Bytes with zeros behind them.
-use Rattle.std.proofs.Common.{◌≡◌, ℕ, ◌+◌, ◌-◌, ◌≤◌, List, [], ◌++◌, length, take, drop, replicate, ap, ◌∙◌, arith, append-nil, length-append, length-take}
+use Rattle.std.proofs.Common.{◌≡◌, ℕ, ◌+◌, ◌-◌, ◌≤◌, List, [], ◌++◌, length, take, drop, replicate, ap, ◌∙◌, refl, arith, append-nil, length-append, length-take}
 use Rattle.std.proofs.lemmas.List.{drop-drop, drop-replicate, drop_all, length-replicate, take_at}
 use Rattle.vfs_segments.specs.Segments.{with_bytes_at}
 use Rattle.vfs_segments.proofs.Puts.{drop-append_past}
@@ -35,7 +35,7 @@ unfolding with_bytes_at
 spelled x bytes out cleared n zeros e long same put =
     let rest = drop n cleared in
     let front : take n (x ++ rest) ≡ x = take_at x rest n e in
-    let place : length bytes + n ≡ length out - zeros = omega arith in
+    let place : n + length bytes ≡ length out - zeros = omega arith in
     let back : drop (n + length bytes) (x ++ rest) ≡ replicate zeros 0 =
     drop-append_past x rest (length bytes) (n + length bytes) (omega (arith, e))
     ∙ drop-drop (length bytes) n cleared ∙ ap (λ k. drop k cleared) place ∙ put in

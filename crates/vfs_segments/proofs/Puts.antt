@@ -8,7 +8,8 @@ use Rattle.std.specs.declared.alloc.Global.{Global}
 use Rattle.vfs_segments.specs.Segments.{contents, lengths_of, with_bytes_at}
 use Rattle.vfs_segments.specs.SegmentLaws.{length-with_bytes_at}
 use Rattle.vfs_segments.specs.Totals.{totals_of}
-use Rattle.vfs_segments.proofs.Flat.{concat-append, concat-split}
+use Rattle.std.proofs.lemmas.List.Folds.{concat-append}
+use Rattle.vfs_segments.proofs.Flat.{concat-split}
 
 pub take-append_past : (xs ys : List ℕ) (n m : ℕ) → m ≡ length xs + n → take m (xs ++ ys) ≡ xs ++ take n ys
 take-append_past [] ys n m e = let same : m ≡ n = omega arith in rw same

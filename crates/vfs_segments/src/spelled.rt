@@ -107,7 +107,7 @@ impl<'x, T: ByteValued, U: ByteValued> Spelled for Pair<'x, T, U> {
 pub(crate) struct Padded<'x, T: ByteValued> {
     pub(crate) record: &'x T,
     pub(crate) bytes: &'x [u8],
-    pub(crate) zeros: usize,
+    pub(crate) zeros: u8,
 }
 
 impl<'x, T: ByteValued> Spelled for Padded<'x, T> {
@@ -121,11 +121,11 @@ impl<'x, T: ByteValued> Spelled for Padded<'x, T> {
 
     #[inline(always)]
     fn size_of(&self) -> usize {
-        T::SIZE + self.bytes.len() + self.zeros
+        T::SIZE + self.bytes.len() + self.zeros as usize
     }
 
     #[inline(always)]
     fn spell(&self, out: &mut [u8]) {
-        spell_padded(out, self.record, self.bytes, self.zeros);
+        spell_padded(out, self.record, self.bytes, self.zeros as usize);
     }
 }

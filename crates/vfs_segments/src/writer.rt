@@ -212,7 +212,7 @@ impl Writer {
         &mut self,
         x: T,
         bytes: &[u8],
-        zeros: usize,
+        zeros: u8,
     ) -> io::Result<()>
         requires { zeros ≤ 8 }
         ensures variant { IsOk result ↔
@@ -229,7 +229,7 @@ impl Writer {
             zeros,
         };
         if self.segments.put_whole(self.at, &padded) {
-            self.at += T::SIZE + bytes.len() + zeros;
+            self.at += T::SIZE + bytes.len() + zeros as usize;
             return Ok(());
         }
         if self.write_apart(x, bytes, zeros) {
@@ -240,7 +240,7 @@ impl Writer {
 
     // Writes a record, the bytes and so many zeros, one after another. Answers whether all fit.
     #[inline(never)]
-    fn write_apart<T: ByteValued + Drop>(&mut self, x: T, bytes: &[u8], zeros: usize) -> bool
+    fn write_apart<T: ByteValued + Drop>(&mut self, x: T, bytes: &[u8], zeros: u8) -> bool
         requires { zeros ≤ 8 }
         ensures whole { result ≡ true →
             T.SIZE + length bytes.now + zeros ≤ length self.old.left }
@@ -257,7 +257,7 @@ impl Writer {
         if self.write_all(bytes).is_err() {
             return false;
         }
-        self.write_all(&[0u8; 8][..zeros]).is_ok()
+        self.write_all(&[0u8; 8][..zeros as usize]).is_ok()
     }
 
     /// Writes two records, the second behind the first.

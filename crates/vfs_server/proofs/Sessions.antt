@@ -1,7 +1,7 @@
 -- A session that grows by one step.
 use Rattle.std.proofs.Common.{◌≡◌, ◌≢◌, ℕ, List, [], ◌∷◌, ◌++◌, Option, None, Result, Err, map, refl, ap, sym, ◌∙◌, append_assoc, subst, get_or, get_or-drop, take, drop, length, ◌+◌, ◌<◌, arith, add-zero, length-append}
 use Rattle.std.proofs.Math.ListN.{set}
-use Rattle.std.proofs.lemmas.List.{take_more, take_more_set, drop-drop, drop-set-lt}
+use Rattle.std.proofs.lemmas.List.{map-append, take_more, take_more_set, drop-drop, drop-set-lt}
 use Rattle.vfs_segments.specs.Unread.{Unread}
 use Rattle.vfs_segments.specs.Written.{Written}
 use Rattle.vfs_files.specs.Items.{Item}
@@ -16,10 +16,6 @@ use Rattle.vfs_server.specs.Step.{ServerState, IsStep, turn_over}
 use Rattle.vfs_grammar.specs.Books.{KeepsBooks}
 use Rattle.vfs_grammar.proofs.Turns.{events_in-push}
 use Rattle.vfs_server.specs.Session.{IsServed, AreServed, IsSession}
-
-map_push : {A B : Type 0} (f : A → B) (xs : List A) (x : A) → map f (xs ++ x ∷ []) ≡ map f xs ++ f x ∷ []
-map_push f [] x = refl
-map_push f (y ∷ xs) x = ap (λ ys. f y ∷ ys) (map_push f xs x)
 
 module _ (limits : Limits) where
   -- requests in order go on by one more
@@ -70,7 +66,7 @@ module _ {S I : Type 0} (allows : S → Call → Handed I → S → Type 0) (giv
         is_run = join None old.fs mid.fs new.fs s.run k.run s.is_run k.is_run;
         events = events_join s.run k.run ∙ (ap (λ es. es ++ events_of k.run) s.events ∙ sym (events_in-push s.turns t));
         served = more;
-        answered = map_push (λ (t : Turn). t.outcome) s.turns t ∙ ap (λ xs. xs ++ outcome ∷ []) s.answered;
+        answered = map-append (λ (t : Turn). t.outcome) s.turns (t ∷ []) ∙ ap (λ xs. xs ++ outcome ∷ []) s.answered;
         books = keep old.limits old.options new.options (s.turns ++ t ∷ []) (turns_of_served old.limits old.options (readers ++ reader ∷ []) (writers ++ writer ∷ []) (s.turns ++ t ∷ []) (afters ++ after ∷ []) new.options more);
         same_limits = k.same_limits ∙ s.same_limits;
       }

@@ -10,8 +10,8 @@ pub invariant_of-self : goal.invariant_of-self
 invariant_of-self g c =
     let w = c.self.inside in
     let fits = c.put_whole.ensures.fits c.if-put_whole.true in
-    still_writer w (record w { segments = c.put_whole.new.self; at = w.at + (g.T.ByteValued.SIZE + length c.args.bytes.now + c.args.zeros) }) c.self.invariant
-    c.put_whole.ensures.lengths refl (omega (arith, fits, c.self.invariant.all)) (omega (arith, c.self.invariant.held_in))
+    still_writer w (record w { segments = c.put_whole.new.self; at = w.at + (c.SIZE.result + length c.args.bytes.now + c.args.zeros) }) c.self.invariant
+    c.put_whole.ensures.lengths refl (omega (arith, fits, c.SIZE.ensures, c.self.invariant.all)) (omega (arith, c.self.invariant.held_in))
 
 pub returns-then-put_whole-clause-wrote : goal.returns-then-put_whole-clause-wrote
 returns-then-put_whole-clause-wrote g c =
@@ -19,12 +19,12 @@ returns-then-put_whole-clause-wrote g c =
     let x = bytes_of g.T.ByteValued.table c.args.x in
     let bytes = c.args.bytes.now in
     let bs = x ++ (bytes ++ replicate c.args.zeros 0) in
-    let long : length bs ≡ (g.T.ByteValued.SIZE + length c.args.bytes.now + c.args.zeros) = c.put_whole.ensures.long c.if-put_whole.true in
+    let long : length bs ≡ g.T.ByteValued.SIZE + length c.args.bytes.now + c.args.zeros = c.put_whole.ensures.long c.if-put_whole.true in
     let put = c.put_whole.ensures.wrote c.if-put_whole.true in
     let fits = c.put_whole.ensures.fits c.if-put_whole.true in
     let left = ap (λ (u : Written). length u.left) c.self.view_is in
-    let n : Inside = record w { segments = c.put_whole.new.self; at = w.at + (g.T.ByteValued.SIZE + length c.args.bytes.now + c.args.zeros) } in
-    let moved : n.at ≡ w.at + length bs = omega (arith, long) in
+    let n : Inside = record w { segments = c.put_whole.new.self; at = w.at + (c.SIZE.result + length c.args.bytes.now + c.args.zeros) } in
+    let moved : n.at ≡ w.at + length bs = omega (arith, long, c.SIZE.ensures) in
     let all : take (length c.args.self.now.left) bs ≡ bs = take_all (length c.args.self.now.left) bs (omega (arith, fits, long, left, length-drop w.at (room_bytes w))) in
-    wrote_next w n bs put (omega (arith, fits, long)) moved refl refl c.put_whole.ensures.lengths
+    wrote_next w n bs put (omega (arith, fits, long, c.SIZE.ensures)) moved refl refl c.put_whole.ensures.lengths
     ∙ ap (λ (u : Written). wrote u bs) c.self.view_is ∙ ap (wrote c.args.self.now) (sym all)
