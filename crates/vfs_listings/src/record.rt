@@ -1,7 +1,8 @@
 //! Records of a directory's entries: a `Dirent`, the name, and zeros to a multiple of 8, with an
 //! `EntryOut` in front of them for READDIRPLUS.
 
-ghost use Rattle.std.specs.Prelude.{◌≡◌, ◌<◌, ◌^◌, length, Some, None};
+ghost use Rattle.std.specs.Prelude.{◌≡◌, ◌+◌, ◌-◌, ◌<◌, ◌≤◌, ◌^◌, length, Some, None};
+ghost use Rattle.std.specs.Int.{next_multiple_of};
 ghost use Rattle.vfs_files.specs.Answers.{FitsEntry};
 ghost use Rattle.vfs_files.specs.Items.{item};
 ghost use Rattle.vfs_grammar.specs.Dirents.{dirent_len, dirent_of, dirent_bytes, record_bytes, verdict};
