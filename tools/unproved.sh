@@ -1,25 +1,32 @@
 #!/usr/bin/env bash
-# Builds a program without a proof, for tools that ask it many lines: in a minute, where the proofs of all
-# crates take half an hour.
+# Builds a program, or a static library, without a proof, for tools that ask it many lines: in a minute,
+# where the proofs of all crates take half an hour.
 #
 # Usage: tools/unproved.sh NAME
-# It leaves the program of crates/NAME as NAME in the folder `unproved` of `out`, and builds it only where
-# a source is newer. No promise stands on it: `rt run` and `rt ci` build what is proved.
+# It leaves the program of crates/NAME as NAME in the folder `unproved` of `out`, or the static library as
+# libNAME.a, and builds it only where a source is newer. No promise stands on it: `rt run`, `rt lib` and
+# `rt ci` build what is proved.
 #
 # `rt try` compiles a program without a proof, but with checks that make it a hundred times slower, and
 # does not keep it. So it is given the toolchain's folder with another clang, which keeps the module that
-# it compiles, and that is compiled again as that of a proved program is.
+# it compiles, and that is compiled again as that of a proved program is. Of a library it compiles the
+# tests, and what they call: those in the folder NAME beside this script stand behind its own sources then.
 set -euo pipefail
 . "$(dirname "$0")/usage.sh"
 . "$(dirname "$0")/program.sh"
 
-if [ $# != 1 ] || [ ! -e "$here/crates/${1:-}/src/main.rt" ]; then
-    echo "Usage: tools/unproved.sh NAME, where crates/NAME is a program." >&2
+name=${1:-}
+calls=$here/tools/unproved/$name
+if [ $# = 1 ] && [ -e "$here/crates/$name/src/main.rt" ]; then
+    out=$here/out/unproved/$name
+elif [ $# = 1 ] && [ -n "$name" ] && [ -d "$calls" ] && [ -e "$here/crates/$name/src/lib.rt" ]; then
+    out=$here/out/unproved/lib$name.a
+else
+    echo "Usage: tools/unproved.sh NAME, where crates/NAME is a program, or a library with calls in" >&2
+    echo "tools/unproved." >&2
     exit 2
 fi
-name=$1
-out=$here/out/unproved/$name
-if [ -x "$out" ] && is_newest "$out"; then
+if [ -e "$out" ] && is_newest "$out"; then
     exit
 fi
 need_toolchain "$name"
@@ -58,15 +65,47 @@ exec "$kit/toolchain/bin/clang" "\$@"
 CLANG
 chmod +x "$folder/kit/toolchain/bin/clang"
 
-(cd "$here/crates/$name" && "$folder/kit/bin/rt" try --steps 1) < /dev/null > /dev/null 2> "$folder/said" || true
+root=$here
+tests=()
+if [[ $out == *.a ]]; then
+    # The crates without what was built, since `rt` refuses links to them.
+    root=$folder/tree
+    tests=(--test)
+    for crate in "$here"/crates/*/; do
+        it=$root/crates/$(basename "$crate")
+        mkdir -p "$it"
+        cp -R "$crate/src" "$it/"
+        for part in specs proofs; do
+            [ ! -e "$crate/$part" ] || cp -R "$crate/$part" "$it/"
+        done
+    done
+    cp "$here/crates.txt" "$root/"
+    for it in "$calls"/*.tests; do
+        test=${it##*/}
+        cat "$it" >> "$root/crates/$name/src/${test%.tests}"
+    done
+fi
+(cd "$root/crates/$name" && "$folder/kit/bin/rt" try --steps 1 "${tests[@]}") < /dev/null > /dev/null 2> "$folder/said" || true
 if [ ! -e "$folder/module.bc" ]; then
     echo "\`rt try\` compiled no module of $name:" >&2
     tail -n 20 "$folder/said" >&2
     exit 2
 fi
 target=x86_64-unknown-linux-gnu
-"$kit/toolchain/bin/clang" --target=$target -march=x86-64-v2 --no-default-config -Wno-override-module \
-    -mllvm -trap-unreachable -ffunction-sections -fdata-sections -O2 -fPIE -c -x ir "$folder/module.bc" -o "$folder/module.o"
+compile=("$kit/toolchain/bin/clang" "--target=$target" -march=x86-64-v2 --no-default-config -Wno-override-module
+    -mllvm -trap-unreachable -ffunction-sections -fdata-sections)
+if [[ $out == *.a ]]; then
+    # What C calls gets its own name, and the tests' `main` is left out as no one's.
+    "${compile[@]}" -S -emit-llvm -O0 -x ir "$folder/module.bc" -o "$folder/module.ll"
+    called=$(sed -nE 's/^pub extern "C" fn (\w+)\(.*/\1/p' "$here/crates/$name"/src/*.rt | paste -sd '|')
+    sed -E -e 's/^define (.*@main\()/define internal \1/' -e "s/@\"$name::($called)\"/@\1/g" \
+        -e "s/^define internal (.*@($called)\()/define \1/" "$folder/module.ll" > "$folder/named.ll"
+    "${compile[@]}" -O2 -fPIC -c -x ir "$folder/named.ll" -o "$folder/module.o"
+    "$kit/toolchain/bin/llvm-ar" rcs "$folder/library.a" "$folder/module.o"
+    mv "$folder/library.a" "$out"
+    exit
+fi
+"${compile[@]}" -O2 -fPIE -c -x ir "$folder/module.bc" -o "$folder/module.o"
 "$kit/bin/rattle-link" --target $target --toolchain "$kit/toolchain" -o "$folder/program" \
     "$folder/module.o" "$kit/c/libos_c.a" "$kit/c/liblibc_c.a" 2> "$folder/said" || { cat "$folder/said" >&2 && exit 2; }
 mv "$folder/program" "$out"
