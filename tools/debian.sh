@@ -1,0 +1,54 @@
+# For the scripts beside it: packages of Debian, downloaded and unpacked, and never installed.
+# shellcheck shell=bash
+
+# Where the machine's own apt gets Debian from.
+debian_archive() {
+    cat /etc/apt/sources.list /etc/apt/sources.list.d/*.list /etc/apt/sources.list.d/*.sources 2> /dev/null |
+        sed -nE '/^ *#/d; s,.*[ =]([a-z+]+:/[^ ]*/debian(\.list)?/?)( .*)?$,\1,p' | sed -n 1p
+}
+
+# Sets `apt` to the options for packages of a suite, as trixie: apt gets lists of its own in the folder. Without a
+# suite they are the machine's own.
+use_suite() {
+    local suite=$1 folder=$2
+    apt=(-qq -o APT::Sandbox::User=root)
+    [ -n "$suite" ] || return 0
+    apt+=(-o Dir::Etc::sourcelist=/dev/null -o "Dir::Etc::sourceparts=$folder/sources"
+        -o "Dir::State::lists=$folder/lists" -o "Dir::State::status=$folder/status"
+        -o "Dir::Cache=$folder/cache" -o Acquire::Languages=none)
+    mkdir -p "$folder/lists/partial" "$folder/cache/archives/partial" "$folder/sources"
+    : > "$folder/status"
+    printf 'Types: deb\nURIs: %s\nSuites: %s\nComponents: main\nSigned-By: %s\n' "$(debian_archive)" "$suite" \
+        /usr/share/keyrings/debian-archive-keyring.gpg > "$folder/sources/debian.sources"
+    apt-get "${apt[@]}" update
+}
+
+# The name of the kernel that a package without one of its own stands for.
+kernel_of() {
+    local name
+    name=$(apt-cache "${apt[@]}" depends "$1" | sed -nE 's/^ *Depends: (linux-image-[^ ]+)$/\1/p' | sed -n 1p)
+    echo "${name:-$1}"
+}
+
+# Unpacks packages into a folder: unpack_packages FOLDER PACKAGE..
+unpack_packages() {
+    local folder=$1 package
+    shift
+    mkdir -p "$folder/debs"
+    (cd "$folder/debs" && apt-get "${apt[@]}" download "$@")
+    for package in "$folder/debs"/*.deb; do
+        dpkg-deb -x "$package" "$folder"
+    done
+    rm -r "$folder/debs"
+}
+
+# Runs one of these, and shows what it said where it fails, without the names of the places that were asked:
+# quietly FILE COMMAND..
+quietly() {
+    local said=$1
+    shift
+    if ! "$@" > "$said" 2>&1; then
+        sed -E 's,https?://[^ ]*,(an archive),g' "$said" >&2
+        return 1
+    fi
+}

@@ -1,0 +1,115 @@
+#!/usr/bin/env bash
+# Boots a virtual machine that mounts the file system in memory over virtio-fs, does there what a person
+# does, unmounts it and powers off.
+#
+# Usage: tools/guest.sh [KERNEL-PACKAGE[/SUITE]]
+# The kernel is Debian's package linux-image-cloud-amd64, or that of the argument; of another suite of
+# Debian than the machine's where one is named, as linux-image-cloud-amd64/trixie. Kernel and busybox are
+# downloaded by apt-get, and unpacked into the folder `guest` of `out`, where a second run finds them. The
+# guest has one processor that QEMU computes, so no /dev/kvm is wanted; its session is tools/session.sh.
+#
+# It wants QEMU (apt-get install qemu-system-x86), xz, a C compiler and the Rattle toolchain, and no root.
+# It links the proved library where that is built and no source is newer; otherwise tools/unproved.sh builds
+# it without a proof, which takes a minute. The transport is examples/c/vhost.c, which nothing is proved of.
+# Status 0: each step was right, and the guest unmounted it; 1: not so; 2: it could not start.
+set -euo pipefail
+. "$(dirname "$0")/usage.sh"
+. "$(dirname "$0")/transport.sh"
+. "$(dirname "$0")/debian.sh"
+
+if [ $# -gt 1 ]; then
+    echo "Usage: tools/guest.sh [KERNEL-PACKAGE[/SUITE]]" >&2
+    exit 2
+fi
+name=${1:-linux-image-cloud-amd64}
+package=${name%/*}
+suite=${name#"$package"}
+need qemu-system-x86_64 "Install it: apt-get install qemu-system-x86."
+for command in apt-get apt-cache dpkg-deb; do
+    need "$command" "The kernel and busybox are packages of Debian."
+done
+need xz "Install it: apt-get install xz-utils."
+build_transport vhost
+
+work=$(mktemp -d)
+trap '[ -z "${transport_id:-}" ] || kill "$transport_id" 2> /dev/null || true; rm -rf "$work"' EXIT
+
+# Downloads the kernel and busybox, where they aren't there yet.
+fetch() {
+    use_suite "" ""
+    if [ ! -e "$busybox" ]; then
+        unpack_packages "$work/busybox" busybox-static
+        mkdir -p "${busybox%/*}"
+        cp "$work/busybox"/*bin/busybox "$busybox" 2> /dev/null || cp "$work/busybox"/usr/bin/busybox "$busybox"
+    fi
+    if [ ! -e "$kernel" ]; then
+        use_suite "${suite#/}" "$work/apt"
+        unpack_packages "$work/kernel" "$(kernel_of "$package")"
+        mv "$work/kernel" "$kernel"
+    fi
+}
+
+busybox=$here/out/guest/busybox
+kernel=$here/out/guest/${name//\//-}
+if [ ! -e "$busybox" ] || [ ! -e "$kernel" ]; then
+    echo "Downloading $name .." >&2
+    mkdir -p "$here/out/guest"
+    quietly "$work/said" fetch || {
+        echo "The packages $name and busybox-static can't be had by apt-get here: try apt-get update." >&2
+        exit 2
+    }
+fi
+
+# What the guest has for its files: busybox, the modules that the kernel needs, the session.
+root=$work/root
+mkdir -p "$root"/{bin,dev,mnt,modules,proc,tmp}
+cp "$busybox" "$root/bin/"
+cp "$here/tools/session.sh" "$root/"
+modules='virtio_ring virtio virtio_pci_modern_dev virtio_pci_legacy_dev virtio_pci fuse virtiofs'
+for module in $modules; do
+    file=$(find "$kernel" -name "$module.ko" -o -name "$module.ko.xz" | sed -n 1p)
+    case $file in
+        *.xz) xz -dc "$file" > "$root/modules/$module.ko" ;;
+        *.ko) cp "$file" "$root/modules/" ;;
+    esac
+done
+cat > "$root/init" << INIT
+#!/bin/busybox sh
+/bin/busybox --install -s /bin
+export PATH=/bin
+mount -t devtmpfs dev /dev
+mount -t proc proc /proc
+exec < /dev/console > /dev/console 2>&1
+for module in $modules; do
+    [ ! -e /modules/\$module.ko ] || insmod /modules/\$module.ko
+done
+echo "Linux \$(uname -r)"
+mount -t virtiofs nizwarf /mnt && sh /session.sh /mnt
+# It forgets what it has of the files, and asks for them anew.
+echo 3 > /proc/sys/vm/drop_caches
+[ "\$(cat /mnt/a)" = Jello ] && umount /mnt && echo 'The guest unmounted it.'
+poweroff -f
+INIT
+chmod +x "$root/init"
+(cd "$root" && find . | "$busybox" cpio -o -H newc 2> /dev/null) > "$work/files"
+
+timeout 180 "$transport" "$work/socket" &
+transport_id=$!
+for _ in $(seq 100); do
+    [ ! -S "$work/socket" ] || break
+    sleep 0.05
+done
+began=$SECONDS
+timeout -k 5 170 qemu-system-x86_64 -nodefaults -no-user-config -display none -serial stdio -no-reboot \
+    -machine q35,accel=tcg -cpu max -smp 1 -m 256 \
+    -object memory-backend-memfd,id=memory,size=256M,share=on -numa node,memdev=memory \
+    -kernel "$kernel"/boot/vmlinuz-* -initrd "$work/files" -append 'console=ttyS0 quiet loglevel=3 panic=-1' \
+    -chardev "socket,id=socket,path=$work/socket" \
+    -device vhost-user-fs-pci,queue-size=1024,chardev=socket,tag=nizwarf < /dev/null | tr -d '\r' | tee "$work/console"
+status=0
+wait "$transport_id" || status=$?
+transport_id=
+echo "$((SECONDS - began)) s"
+[ "$status" = 0 ] || { echo "FAILED: the transport ended with $status." >&2 && exit 1; }
+grep -q ' steps, 0 wrong$' "$work/console" || { echo "FAILED: the session." >&2 && exit 1; }
+grep -q '^The guest unmounted it' "$work/console" || { echo "FAILED: it was not unmounted." >&2 && exit 1; }
