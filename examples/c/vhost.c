@@ -24,8 +24,9 @@
 #include <unistd.h>
 #include "nizwarf.h"
 
-/* Queues: of forgets, and of requests. The longest request and room: no request with more is served, and
- * no reply is longer, since a header and its record take less than a page. */
+/* Queues: of forgets, and of requests. What is behind the longest request is not looked at, and no longer
+ * room is lent: a header and its record take less than a page, and a guest that keeps to what INIT agreed
+ * on has a payload of at most PAYLOAD. */
 enum { QUEUES = 2, REGIONS = 8, PIECES = 1024, PAYLOAD = 1 << 20, LONGEST = PAYLOAD + 4096 };
 
 /* Messages of the front end. */
@@ -91,6 +92,11 @@ static struct {
 	unsigned char request[LONGEST];
 } chain;
 
+/* What came of the requests, by its number, and chains that were none: told at the end, since a guest that
+ * breaks the rules shall not fill a log. */
+enum { OUTCOMES = 16 };
+static unsigned long outcomes[OUTCOMES], broken;
+
 static nizwarf_server server = NIZWARF_NONE;
 static uint64_t features, protocol;
 
@@ -141,8 +147,7 @@ static void place(struct queue *q)
 		q->available = NULL;
 }
 
-/* Adds a descriptor's bytes to the chain: a request's are copied, a room's are listed. Nothing behind the
- * longest request and room is looked at. */
+/* Adds a descriptor's bytes to the chain: a request's are copied, a room's are listed. */
 static int add_piece(const struct vring_desc *d)
 {
 	unsigned char *at = bytes_at(d->addr, d->len, 0);
@@ -201,15 +206,14 @@ static uint32_t answer(const struct queue *q, uint16_t head)
 	size_t len = 0;
 
 	if (take_chain(q, head)) {
-		fprintf(stderr, "vhost: a chain that is none\n");
+		broken++;
 		return 0;
 	}
 
 	const nizwarf_segment segment = { chain.request, chain.len };
 	const int32_t code = nizwarf_message(&server, &segment, 1, chain.room, chain.rooms, &len);
 
-	if (code != NIZWARF_OK)
-		fprintf(stderr, "vhost: outcome %d\n", (int)code);
+	outcomes[code >= 0 && code < OUTCOMES ? code : 0]++;
 	return (uint32_t)len;
 }
 
@@ -457,5 +461,10 @@ int main(int count, char **words)
 		for (int i = 0; i < QUEUES; i++)
 			serve(&queue[i]);
 	}
+	for (int i = 0; i < OUTCOMES; i++)
+		if (outcomes[i])
+			fprintf(stderr, "vhost: outcome %d: %lu requests\n", i, outcomes[i]);
+	if (broken)
+		fprintf(stderr, "vhost: no chain: %lu\n", broken);
 	return nizwarf_end(&server) != NIZWARF_OK;
 }
