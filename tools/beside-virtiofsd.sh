@@ -25,6 +25,10 @@ fi
 for command in apt-get dpkg-deb; do
     need "$command" "virtiofsd is a package of Debian."
 done
+if [ "$(id -u)" != 0 ]; then
+    echo "virtiofsd is started as root: run it as root." >&2
+    exit 2
+fi
 need python3 "Install it: apt-get install python3."
 if [ "$(uname -m)" != x86_64 ]; then
     echo "It is made for x86-64 alone." >&2
@@ -59,5 +63,5 @@ if [[ $version != *1.13.2* ]]; then
     exit 2
 fi
 cc -std=c11 -O2 -Wall -Wextra -Werror -o "$work/ask" "$here/tools/beside/ask.c"
-timeout 900 python3 -B "$here/tools/beside/beside.py" "$work/ask" "$transport" "$work" "${virtiofsd[@]}" \
+python3 -B "$here/tools/beside/beside.py" "$work/ask" "$transport" "$work" "${virtiofsd[@]}" \
     --socket-path SOCKET --shared-dir SHARE --sandbox none --seccomp none --no-announce-submounts --xattr

@@ -24,6 +24,10 @@ fi
 name=${1:-linux-image-cloud-amd64}
 package=${name%/*}
 suite=${name#"$package"}
+if [ "$(uname -m)" != x86_64 ]; then
+    echo "It is made for x86-64 alone." >&2
+    exit 2
+fi
 need qemu-system-x86_64 "Install it: apt-get install qemu-system-x86."
 for command in apt-get apt-cache dpkg-deb; do
     need "$command" "The kernel and busybox are packages of Debian."
@@ -32,7 +36,8 @@ need xz "Install it: apt-get install xz-utils."
 build_transport vhost
 
 work=$(mktemp -d)
-trap '[ -z "${transport_id:-}" ] || kill "$transport_id" 2> /dev/null || true; rm -rf "$work"' EXIT
+started=()
+trap 'kill "${started[@]}" 2> /dev/null || true; rm -rf "$work"' EXIT
 
 # Downloads the kernel and busybox, where they aren't there yet.
 fetch() {
@@ -93,23 +98,34 @@ INIT
 chmod +x "$root/init"
 (cd "$root" && find . | "$busybox" cpio -o -H newc 2> /dev/null) > "$work/files"
 
+# Behind the script, so that a signal ends it at once, and them with it.
 timeout 180 "$transport" "$work/socket" &
 transport_id=$!
+started+=("$transport_id")
 for _ in $(seq 100); do
     [ ! -S "$work/socket" ] || break
     sleep 0.05
 done
 began=$SECONDS
-timeout -k 5 170 qemu-system-x86_64 -nodefaults -no-user-config -display none -serial stdio -no-reboot \
+: > "$work/console"
+timeout -k 5 170 qemu-system-x86_64 -nodefaults -no-user-config -display none -no-reboot \
     -machine q35,accel=tcg -cpu max -smp 1 -m 256 \
     -object memory-backend-memfd,id=memory,size=256M,share=on -numa node,memdev=memory \
     -kernel "$kernel"/boot/vmlinuz-* -initrd "$work/files" -append 'console=ttyS0 quiet loglevel=3 panic=-1' \
-    -chardev "socket,id=socket,path=$work/socket" \
-    -device vhost-user-fs-pci,queue-size=1024,chardev=socket,tag=nizwarf < /dev/null | tr -d '\r' | tee "$work/console"
+    -serial "file:$work/console" -chardev "socket,id=socket,path=$work/socket" \
+    -device vhost-user-fs-pci,queue-size=1024,chardev=socket,tag=nizwarf < /dev/null &
+guest_id=$!
+started+=("$guest_id")
+tail -n +1 -f -s 0.2 --pid "$guest_id" "$work/console" &
+shown_id=$!
+started+=("$shown_id")
 status=0
+wait "$guest_id" || status=$?
+wait "$shown_id" || true
 wait "$transport_id" || status=$?
-transport_id=
+started=()
 echo "$((SECONDS - began)) s"
-[ "$status" = 0 ] || { echo "FAILED: the transport ended with $status." >&2 && exit 1; }
-grep -q ' steps, 0 wrong$' "$work/console" || { echo "FAILED: the session." >&2 && exit 1; }
-grep -q '^The guest unmounted it' "$work/console" || { echo "FAILED: it was not unmounted." >&2 && exit 1; }
+[ "$status" = 0 ] || { echo "FAILED: QEMU or the transport ended with $status." >&2 && exit 1; }
+tr -d '\r' < "$work/console" > "$work/said"
+grep -q ' steps, 0 wrong$' "$work/said" || { echo "FAILED: the session." >&2 && exit 1; }
+grep -q '^The guest unmounted it' "$work/said" || { echo "FAILED: it was not unmounted." >&2 && exit 1; }

@@ -98,7 +98,11 @@ def judge(session):
 
 sessions = list(requests.sessions())
 with concurrent.futures.ThreadPoolExecutor(2) as pool:
-    judged = list(pool.map(judge, sessions))
+    try:
+        judged = list(pool.map(judge, sessions))
+    except BaseException:
+        pool.shutdown(cancel_futures=True)
+        raise
 
 kinds = collections.defaultdict(lambda: collections.defaultdict(list))
 unknown = []
