@@ -15,7 +15,7 @@ need() {
 build_transport() {
     local library=$here/crates/vfs_c/out/libvfs_c.a
     need cc "Install a C compiler: apt-get install gcc libc6-dev."
-    need_toolchain vfs_c
+    need rt "The Rattle toolchain builds the library: put its folder bin on the PATH."
     if [ -e "$library" ] && is_newest "$library"; then
         echo "The library is the proved one." >&2
     else
