@@ -7,8 +7,8 @@ debian_archive() {
         sed -nE '/^ *#/d; s,.*[ =]([a-z+]+:/[^ ]*/debian(\.list)?/?)( .*)?$,\1,p' | sed -n 1p
 }
 
-# Sets `apt` to the options for packages of a suite, as trixie: apt gets lists of its own in the folder. Without a
-# suite they are the machine's own.
+# Sets `apt` to the options for packages of a suite, as trixie, of which apt gets lists of its own in the
+# folder: use_suite SUITE FOLDER. Without a suite they are the machine's own.
 use_suite() {
     local suite=$1 folder=$2
     apt=(-qq -o APT::Sandbox::User=root)
@@ -18,8 +18,9 @@ use_suite() {
         -o "Dir::Cache=$folder/cache" -o Acquire::Languages=none)
     mkdir -p "$folder/lists/partial" "$folder/cache/archives/partial" "$folder/sources"
     : > "$folder/status"
-    printf 'Types: deb\nURIs: %s\nSuites: %s\nComponents: main\nSigned-By: %s\n' "$(debian_archive)" "$suite" \
-        /usr/share/keyrings/debian-archive-keyring.gpg > "$folder/sources/debian.sources"
+    printf 'Types: deb\nURIs: %s\nSuites: %s\nComponents: main\nSigned-By: %s\n' \
+        "$(debian_archive)" "$suite" /usr/share/keyrings/debian-archive-keyring.gpg \
+        > "$folder/sources/debian.sources"
     apt-get "${apt[@]}" update
 }
 
@@ -42,8 +43,8 @@ unpack_packages() {
     rm -r "$folder/debs"
 }
 
-# Runs one of these, and shows what it said where it fails, without the names of the places that were asked:
-# quietly FILE COMMAND..
+# Runs a command with what it says in a file, and where it fails shows that, without the names of the places
+# that it asked: quietly FILE COMMAND..
 quietly() {
     local said=$1
     shift

@@ -45,7 +45,7 @@ fetch() {
     if [ ! -e "$busybox" ]; then
         unpack_packages "$work/busybox" busybox-static
         mkdir -p "${busybox%/*}"
-        cp "$work/busybox"/*bin/busybox "$busybox" 2> /dev/null || cp "$work/busybox"/usr/bin/busybox "$busybox"
+        cp "$(find "$work/busybox" -name busybox -type f -perm /111 | sed -n 1p)" "$busybox"
     fi
     if [ ! -e "$kernel" ]; then
         use_suite "${suite#/}" "$work/apt"

@@ -10,8 +10,8 @@ need() {
     fi
 }
 
-# Builds examples/c/NAME.c with the library, and sets `transport` to it. It takes the proved library where that is
-# built and no source is newer, and says which one it took.
+# Builds examples/c/NAME.c with the library, and sets `transport` to it. It takes the proved library where
+# that is built and no source is newer, and says which one it took.
 build_transport() {
     local library=$here/crates/vfs_c/out/libvfs_c.a
     need cc "Install a C compiler: apt-get install gcc libc6-dev."

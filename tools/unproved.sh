@@ -85,15 +85,16 @@ if [[ $out == *.a ]]; then
         cat "$it" >> "$root/crates/$name/src/${test%.tests}"
     done
 fi
-(cd "$root/crates/$name" && "$folder/kit/bin/rt" try --steps 1 "${tests[@]}") < /dev/null > /dev/null 2> "$folder/said" || true
+(cd "$root/crates/$name" && "$folder/kit/bin/rt" try --steps 1 "${tests[@]}") \
+    < /dev/null > /dev/null 2> "$folder/said" || true
 if [ ! -e "$folder/module.bc" ]; then
     echo "\`rt try\` compiled no module of $name:" >&2
     tail -n 20 "$folder/said" >&2
     exit 2
 fi
 target=x86_64-unknown-linux-gnu
-compile=("$kit/toolchain/bin/clang" "--target=$target" -march=x86-64-v2 --no-default-config -Wno-override-module
-    -mllvm -trap-unreachable -ffunction-sections -fdata-sections)
+compile=("$kit/toolchain/bin/clang" "--target=$target" -march=x86-64-v2 --no-default-config
+    -Wno-override-module -mllvm -trap-unreachable -ffunction-sections -fdata-sections)
 if [[ $out == *.a ]]; then
     # What C calls gets its own name, and the tests' `main` is left out as no one's.
     "${compile[@]}" -S -emit-llvm -O0 -x ir "$folder/module.bc" -o "$folder/module.ll"

@@ -85,14 +85,14 @@ static enum outcome serve_one(int device, nizwarf_server *server)
 static enum outcome serve(int device, int signals, const char *folder, nizwarf_server *server)
 {
 	struct pollfd wait[] = { { device, POLLIN, 0 }, { signals, POLLIN, 0 } };
-	struct signalfd_siginfo signal;
+	struct signalfd_siginfo said;
 	enum outcome outcome = SERVED;
 	int asked = 0;
 
 	while (outcome == SERVED) {
 		if (poll(wait, 2, -1) < 0)
 			return failed("poll");
-		if (wait[1].revents && read(signals, &signal, sizeof(signal)) == sizeof(signal)) {
+		if (wait[1].revents && read(signals, &said, sizeof(said)) == sizeof(said)) {
 			if (asked++)
 				return UNMOUNTED;
 			if (umount2(folder, 0) && errno == EBUSY) {
@@ -126,16 +126,20 @@ int main(int count, char **words)
 	const int signals = signalfd(-1, &ending, SFD_CLOEXEC);
 	const int device = open("/dev/fuse", O_RDWR | O_NONBLOCK | O_CLOEXEC);
 
-	if (signals < 0 || device < 0)
-		return failed("/dev/fuse") == FAILED;
+	if (signals < 0 || device < 0) {
+		failed("/dev/fuse");
+		return 1;
+	}
 	if (nizwarf_new(&server, (uint32_t)sysconf(_SC_PAGESIZE), PAYLOAD) != NIZWARF_OK) {
 		fprintf(stderr, "mount: there is no server\n");
 		return 1;
 	}
 	snprintf(options, sizeof(options), "fd=%d,rootmode=40000,user_id=%u,group_id=%u,default_permissions",
 		 device, (unsigned)geteuid(), (unsigned)getegid());
-	if (mount("nizwarf", words[1], "fuse", MS_NOSUID | MS_NODEV, options))
-		return failed(words[1]) == FAILED;
+	if (mount("nizwarf", words[1], "fuse", MS_NOSUID | MS_NODEV, options)) {
+		failed(words[1]);
+		return 1;
+	}
 	outcome = serve(device, signals, words[1], &server);
 	if (outcome == FAILED)
 		umount2(words[1], MNT_DETACH);

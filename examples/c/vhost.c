@@ -98,7 +98,7 @@ enum { OUTCOMES = 16 };
 static unsigned long outcomes[OUTCOMES], broken;
 
 static nizwarf_server server = NIZWARF_NONE;
-static uint64_t features, protocol;
+static uint64_t protocol;
 
 static void fail(const char *what)
 {
@@ -226,8 +226,9 @@ static void complete(struct queue *q, uint16_t head, uint32_t len)
 	q->next++;
 	__atomic_store_n(&q->used->idx, q->next, __ATOMIC_RELEASE);
 	__atomic_thread_fence(__ATOMIC_SEQ_CST);
-	if (q->call >= 0 && !(__atomic_load_n(&q->available->flags, __ATOMIC_RELAXED) & VRING_AVAIL_F_NO_INTERRUPT) &&
-	    write(q->call, &one, sizeof(one)) < 0)
+	if (__atomic_load_n(&q->available->flags, __ATOMIC_RELAXED) & VRING_AVAIL_F_NO_INTERRUPT)
+		return;
+	if (q->call >= 0 && write(q->call, &one, sizeof(one)) < 0)
 		perror("vhost: call");
 }
 
@@ -349,9 +350,8 @@ static int obey(int socket, struct message *m)
 		reply_number(socket, GET_FEATURES, VERSION_1 | PROTOCOL_FEATURES | INDIRECT_DESCRIPTORS);
 		return 1;
 	case SET_FEATURES:
-		features = m->body.number;
 		for (int i = 0; i < QUEUES; i++)
-			queue[i].enabled |= !(features & PROTOCOL_FEATURES);
+			queue[i].enabled |= !(m->body.number & PROTOCOL_FEATURES);
 		return 0;
 	case SET_OWNER:
 	case RESET_OWNER:

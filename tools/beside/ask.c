@@ -74,7 +74,7 @@ static void tell_state(uint32_t request, uint32_t queue, uint32_t number)
 static uint64_t ask_number(uint32_t request)
 {
 	uint32_t head[3];
-	uint64_t number;
+	uint64_t number = 0;
 
 	tell(request, "", 0, -1);
 	need(recv(connection, head, sizeof(head), MSG_WAITALL) == sizeof(head) && head[2] == sizeof(number) &&
@@ -247,7 +247,8 @@ int main(int count, char **words)
 		for (long i = 0; i < times; i++)
 			need(round_trip() >= 0, "a round trip");
 		clock_gettime(CLOCK_MONOTONIC, &to);
-		printf("%.2f\n", ((double)(to.tv_sec - from.tv_sec) * 1e9 + (double)(to.tv_nsec - from.tv_nsec)) / 1e3 / (double)times);
+		printf("%.2f\n", ((double)(to.tv_sec - from.tv_sec) * 1e6 + (double)(to.tv_nsec - from.tv_nsec) / 1e3) /
+				(double)times);
 	}
 	return 0;
 }
