@@ -3,27 +3,32 @@
 # row in one of its four files.
 #
 # Usage: tools/oracle/own-words.sh [--source FOLDER] [FILE ..]
-# It reads the files that git has, or FILE .., and prints each such line with its place. Words are runs of
-# letters, digits and _, so that neither blanks nor signs nor the ends of the Rust's lines matter. The four
-# files are those that tools/oracle/build.sh has unpacked, or FOLDER's. Status 0: there is no such line.
+# It reads the files that git has or would add, or FILE .., and prints each such line with its place. Words
+# are runs of letters, digits and _, so that neither blanks nor signs nor the ends of the Rust's lines
+# matter. The four files are those that tools/oracle/build.sh has unpacked, or FOLDER's. Status 0: there is
+# no such line.
 set -euo pipefail
 . "$(dirname "$0")/../usage.sh"
-cd "$(dirname "$0")/../.."
+top=$(cd "$(dirname "$0")/../.." && pwd)
 
-source=out/oracle/source
+source=$top/out/oracle/source
 if [ "${1:-}" = --source ]; then
     [ -d "${2:-}" ] || { echo "--source wants a folder with virtiofsd's four files." >&2 && exit 2; }
-    source=$2
+    source=$(cd "$2" && pwd)
     shift 2
 elif [ ! -d "$source" ]; then
     echo "There is no $source: tools/oracle/build.sh unpacks it, or --source FOLDER names the four files." >&2
     exit 2
 fi
-if [ $# -gt 0 ]; then
-    printf '%s\0' "$@"
-else
-    git ls-files -z --cached --others --exclude-standard
-fi | python3 -B -c '
+files=()
+for file in "$@"; do
+    [ -f "$file" ] || { echo "There is no file $file." >&2 && exit 2; }
+    files+=("$(realpath --relative-to="$top" "$file")")
+done
+cd "$top"
+[ $# -gt 0 ] || mapfile -d '' files < <(git ls-files -z --cached --others --exclude-standard)
+[ ${#files[@]} -gt 0 ] || { echo "git has no files here: it wants git and a clone, or FILE .." >&2 && exit 2; }
+printf '%s\0' "${files[@]}" | python3 -B -c '
 import pathlib, re, sys
 sys.path.insert(0, "tools/oracle")
 import edits
@@ -40,7 +45,7 @@ for text in edits.read_source(pathlib.Path(sys.argv[1])).values():
     theirs.update(runs(re.findall(r"\w+", text)))
 read = found = 0
 for name in sys.stdin.read().split("\0"):
-    if name and not name.startswith("LICENSE"):
+    if pathlib.Path(name).is_file() and not name.startswith("LICENSE"):
         text = pathlib.Path(name).read_bytes().decode("latin-1")
         for number, line in enumerate(text.split("\n"), 1):
             read += 1

@@ -89,12 +89,14 @@ def main(args):
     if len(args) != 6:
         sys.exit(__doc__)
     seed, count, jobs, oracle, folder = args[0], int(args[1]), int(args[2]), *map(pathlib.Path, args[3:5])
-    source = pathlib.Path((oracle / "built").read_text())
+    source = pathlib.Path((oracle / "built").read_text().splitlines()[0])
+    bodies = [(at, line) for at, (line, *_) in enumerate(edits.wrong_bodies(), 1) if args[5] in line]
+    if not bodies:
+        sys.exit(f"No wrong body has {args[5]} in its line.")
     right = {(stage, way): answers(oracle / "later", stage, way, folder / "right")
              for stage in write_sessions(seed, count, folder) for way in WAYS}
     if None in right.values():
         sys.exit("The right program does not end well.")
-    bodies = [(at, line) for at, (line, *_) in enumerate(edits.wrong_bodies(), 1) if args[5] in line]
 
     def attempt(body):
         """What comes of a wrong body, and what is to be said of it."""
