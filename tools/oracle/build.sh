@@ -13,7 +13,8 @@
 # out/oracle/fast what tools/speed.sh links. It runs virtiofsd's own tests of its segments over the crates
 # that stand in, where the source has them, and holds the three programs against differences.txt.
 #
-# It wants rustc and Python 3, builds only what is older than its sources, and takes half a minute.
+# It wants rustc and Python 3, builds only what is older than its sources or by another compiler, and takes
+# half a minute.
 set -euo pipefail
 . "$(dirname "${BASH_SOURCE[0]}")/../usage.sh"
 here=$(cd "$(dirname "${BASH_SOURCE[0]}")" && pwd)
@@ -144,8 +145,10 @@ need python3 "Python 3.8 or later"
 
 [ -n "$given" ] || fetch
 source=${given:-$out/source}
+# What is built, and by which compiler, since its libraries are for no other.
+of=$(printf '%s\n' "$source" "$(rustc -V)")
 built=$out/built
-if [ -e "$built" ] && [ "$(cat "$built")" = "$source" ] &&
+if [ -e "$built" ] && [ "$(cat "$built")" = "$of" ] &&
     [ -z "$(find "$here"/{build.sh,edits.py,differences.*,src,stand_ins} "$source" -type f -newer "$built" -print -quit)" ]; then
     exit
 fi
@@ -175,4 +178,4 @@ flags=(--edition 2021 -C opt-level=3 -C target-cpu=x86-64-v2 --cap-lints allow)
 compile_stand_ins "$out/fast" "${flags[@]}"
 rustc "${flags[@]}" "${externs[@]}" --crate-type rlib --crate-name oracle -o "$out/fast/liboracle.rlib" \
     "$out/build/mended/src/lib.rs"
-printf '%s' "$source" > "$built"
+echo "$of" > "$built"
