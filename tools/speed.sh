@@ -11,7 +11,8 @@
 # timed where they differ. Then trust the last column, the middle of the ratios of runs that followed
 # each other.
 #
-# It builds the library where sources are newer, with its proof, which takes minutes.
+# It builds the library where sources are newer, with its proof: in a minute where the crates below are
+# proved, and in half an hour where nothing is.
 set -euo pipefail
 . "$(dirname "${BASH_SOURCE[0]}")/usage.sh"
 here=$(cd "$(dirname "${BASH_SOURCE[0]}")/.." && pwd)
@@ -47,18 +48,21 @@ done
 [ -n "$beside" ] || [ ${#source[@]} = 0 ] || { echo "--source is of use with --beside alone." >&2 && exit 2; }
 need rt "of the Rattle toolchain, which builds the library: put its folder bin on the PATH"
 kit=$(cd "$(dirname "$(rt doc)")" && pwd)
-if [ ! -e "$library" ] ||
-    [ -n "$(find "$here/crates.txt" "$here"/crates/*/{src,specs,proofs} -newer "$library" -print -quit 2> /dev/null)" ]; then
-    echo "Building $library .." >&2
-    (cd "$crate" && rt lib > out.txt 2>&1) || { tail -n 20 "$crate/out.txt" >&2 && exit 1; }
-    rm -f "$crate/out.txt"
+if [ -n "$beside" ]; then
+    need rustc "a Rust compiler"
+    "$here/tools/oracle/build.sh" "${source[@]}"
+else
+    need cc "a C compiler"
 fi
-
 folder=$(mktemp -d)
 trap 'rm -rf "$folder"' EXIT
+if [ ! -e "$library" ] ||
+    [ -n "$(find "$here/crates.txt" "$here"/crates/*/{src,specs,proofs} -newer "$library" -print -quit 2> /dev/null)" ]; then
+    echo "Building $library with its proof, which takes half an hour where nothing is proved yet .." >&2
+    (cd "$crate" && rt lib > "$folder/said" 2>&1) || { tail -n 20 "$folder/said" >&2 && exit 1; }
+fi
 
 if [ -z "$beside" ]; then
-    need cc "a C compiler"
     wraps=$(printf ' -Wl,--wrap=%s' malloc calloc realloc aligned_alloc)
     # shellcheck disable=SC2086
     cc -O2 -o "$folder/speed" "$here/tools/speed.c" "$library" "$kit/c/liblibc_c.a" $wraps
@@ -66,8 +70,6 @@ if [ -z "$beside" ]; then
     exit
 fi
 
-need rustc "a Rust compiler"
-"$here/tools/oracle/build.sh" "${source[@]}"
 rust=(--edition 2021 -C opt-level=3 -C target-cpu=x86-64-v2 --cap-lints allow
     -L "$beside/fast" --extern "oracle=$beside/fast/liboracle.rlib"
     -C "link-arg=$library" -C "link-arg=$kit/c/liblibc_c.a")
@@ -80,5 +82,8 @@ if [ -n "$growth" ]; then
     exit
 fi
 rustc "${rust[@]}" -o "$folder/beside" "$here/tools/oracle/src/bin/beside.rs"
-"$folder/beside" "${flags[@]}" --digests > "$folder/digests" || { grep DIFFER "$folder/digests" >&2 && exit 1; }
+if ! "$folder/beside" "${flags[@]}" --digests > "$folder/digests"; then
+    grep DIFFER "$folder/digests" >&2 || echo "The replies can't be compared." >&2
+    exit 1
+fi
 "$folder/beside" "${flags[@]}"
