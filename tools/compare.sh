@@ -11,8 +11,9 @@
 # The same seed and count make the same sessions.
 #
 # The proved programs run where they are built and no source is newer; otherwise tools/unproved.sh builds
-# them without a proof, which takes a minute or two. The Rust is virtiofsd 1.13.2's, mended as docs/DIFFERENCES.md says: tools/oracle/build.sh
-# gets it from Debian's package of its source, or from FOLDER. --jobs N takes N processors, and not all.
+# them without a proof, which takes some minutes. The Rust is virtiofsd 1.13.2's, mended as
+# docs/DIFFERENCES.md says: tools/oracle/build.sh gets it from Debian's package of its source, or from
+# FOLDER. --jobs N takes N processors, and not all.
 #
 # It wants the Rattle toolchain, rustc and Python 3; a million requests take some minutes on four
 # processors. Status 0: no difference; 1: there is one; 2: it could not start.
@@ -74,6 +75,6 @@ for program in vfs_script vfs_demo vfs_refusals; do
 done
 for program in "${programs[@]}"; do
     [[ $program != */unproved/* ]] || echo "${program##*/}"
-done | xargs -r -n 1 -P "$jobs" "$here/tools/unproved.sh"
-"$here/tools/oracle/build.sh" "${source[@]}"
+done | xargs -r -n 1 -P "$jobs" "$here/tools/unproved.sh" || exit 2
+"$here/tools/oracle/build.sh" "${source[@]}" || exit 2
 exec python3 -B "$here/tools/oracle/compare.py" "$seed" "$count" "$jobs" "$here/out/oracle/later" "${programs[@]}"

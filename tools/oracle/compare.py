@@ -200,7 +200,8 @@ def tell_difference(differences, folder):
     print(f"\n{len(differences)} sessions differ. The smallest request that does is line {smallest.number} of {smallest.session}"
           f" ({smallest.program}):\n  {shown(smallest.request)}")
     print(f"The program says:\n{shown(smallest.got)}\nvirtiofsd's code says:\n{shown(smallest.wanted)}")
-    print(f"The session up to it is in {file.relative_to(TOP)}.")
+    print(f"The session up to it is in {file.relative_to(TOP)}, and out/oracle/later {PROGRAMS[smallest.program][1]} answers"
+          " it as virtiofsd's code does.")
 
 
 def main(args):
@@ -217,7 +218,9 @@ def main(args):
                 if sys.stderr.isatty() or time.monotonic() - last > 20:
                     last = time.monotonic()
                     end = "\r" if sys.stderr.isatty() else "\n"
-                    print(f"{done.value:,} answers, {last - started:.0f} s", end=end, file=sys.stderr, flush=True)
+                    parts = sum(it.ready() for it in results)
+                    print(f"{parts} of {len(results)} parts, {done.value:,} answers, {last - started:.0f} s", end=end,
+                          file=sys.stderr, flush=True)
             program, some, number, found = result.get()
             counts += some
             compared[program] += number
