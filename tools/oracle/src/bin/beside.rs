@@ -62,10 +62,10 @@ struct Side {
     count: &'static AtomicU64,
     bytes: &'static AtomicU64,
 }
-const RUST: Side = Side { name: "rust", run, count: &COUNT, bytes: &BYTES };
-
-const HERE: Side = Side { name: "here", run: here::run, count: &here::COUNT, bytes: &here::BYTES };
-const SIDES: &[Side] = &[RUST, HERE];
+static SIDES: [Side; 2] = [
+    Side { name: "rust", run, count: &COUNT, bytes: &BYTES },
+    Side { name: "here", run: here::run, count: &here::COUNT, bytes: &here::BYTES },
+];
 
 mod here {
     use super::*;
@@ -356,10 +356,10 @@ fn main() {
     let mut differ = 0;
     if !has("--digests") {
         print!("{:24}{:>10}{:>10}", "class", "cutting", "segments");
-        for s in SIDES {
+        for s in &SIDES {
             print!("{:>14}{:>8}{:>8}{:>10}{:>12}", format!("{} ns", s.name), "mid", "max", "allocs", "bytes");
         }
-        println!("{}", if SIDES.len() > 1 { "   ratio  of pairs" } else { "" });
+        println!("   ratio  of pairs");
     }
     for c in chosen {
         let b = Batch::parse(&c.batch).expect("a batch");
@@ -379,7 +379,7 @@ fn main() {
                     }
                 }
             }
-            if told && SIDES.len() > 1 {
+            if told {
                 println!("  {}", first_difference(&b, &replies));
             }
             if has("--digests") {
@@ -415,11 +415,8 @@ fn main() {
                 print!("{:>10.2}{:>12.0}", each(few.0, more.0), each(few.1, more.1));
                 least.push(min);
             }
-            if SIDES.len() > 1 {
-                let [_, pairs, _] = spread(ns(1).iter().zip(ns(0)).map(|(other, rust)| other / rust).collect());
-                print!("{:>8.3}{pairs:>10.3}", least[1] / least[0]);
-            }
-            println!();
+            let [_, pairs, _] = spread(ns(1).iter().zip(ns(0)).map(|(other, rust)| other / rust).collect());
+            println!("{:>8.3}{pairs:>10.3}", least[1] / least[0]);
         }
     }
     std::process::exit((differ > 0) as i32);
