@@ -1,0 +1,4 @@
+pub mod Codes
+pub mod Files
+pub mod Handle
+pub mod Served

@@ -1,0 +1,51 @@
+-- What calls tell of the server behind a handle.
+use Rattle.std.specs.Prelude.{◌≡◌, ◌≤◌, ◌^◌, ◌⊎◌, ℕ, ℤ, List, ◌++◌, length, take, drop, Result}
+use Rattle.vfs_segments.specs.Written.{Written, whole}
+use Rattle.vfs_grammar.specs.declared.error.Error.{Error}
+use Rattle.vfs_server.specs.Step.{ServerState, IsStep, ReadsDirectories}
+use Rattle.vfs_c.specs.Files.{State, new_state, Allows, Gives}
+use Rattle.vfs_c.specs.Codes.{no_memory, too_long, number_of, length_of, shown_of}
+
+-- a new server over a new file system: no options are agreed on
+abbrev pub new_server : (page_size max_buffer : ℕ) → ServerState State
+new_server page_size max_buffer = record {
+  options = 0;
+  limits = record { page_size = page_size; max_buffer = max_buffer };
+  fs = new_state;
+}
+
+-- The server made a step, as the grammar says, with a writer that had so many bytes left; if a
+-- directory was read, it was read so. `room` has the bytes that the step left in their place, of
+-- which the first `shown` are there to be copied out.
+pub record Stepped (old : ServerState State) (request : List ℕ) (total : ℕ) (number : ℤ) (len : ℕ)
+    (room : List ℕ) (shown : ℕ) (new : ServerState State) : Type 0 where
+  pub before : Written
+  pub space : length before.left ≡ total
+  pub outcome : Result ℕ Error
+  pub after : Written
+  pub step : IsStep Allows Gives old request before outcome after new
+  pub directories : ReadsDirectories Allows Gives old request before outcome after new
+  pub numbered : number ≡ number_of outcome
+  pub counted : len ≡ length_of outcome
+  pub left : whole after ≡ before.passed ++ room
+  pub copied : shown ≡ shown_of outcome total
+
+-- The request was not handed to the server, for want of memory or since the lengths of its pieces
+-- sum past the largest count. Nothing happened, and nothing is there to be copied out.
+pub record Refused (old : ServerState State) (request : List ℕ) (number : ℤ) (len shown : ℕ)
+    (new : ServerState State) : Type 0 where
+  pub why : (number ≡ no_memory) ⊎ ((number ≡ too_long) × (2 ^ 64 ≤ length request))
+  pub no_reply : len ≡ 0
+  pub nothing : shown ≡ 0
+  pub same : new ≡ old
+
+-- a request with so many bytes of room was served: by a step, or it was not handed on
+abbrev pub Served : (old : ServerState State) → (request : List ℕ) → (total : ℕ) → (number : ℤ)
+    → (len : ℕ) → (room : List ℕ) → (shown : ℕ) → (new : ServerState State) → Type 0
+Served old request total number len room shown new =
+    Stepped old request total number len room shown new
+    ⊎ Refused old request number len shown new
+
+-- the bytes that are there to be copied out, from place `at` on
+abbrev pub part_from : (at : ℕ) → (room : List ℕ) → (shown : ℕ) → List ℕ
+part_from at room shown = drop at (take shown room)

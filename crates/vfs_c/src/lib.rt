@@ -1,0 +1,170 @@
+//! The server over a file system in memory, for a transport that is written in C or links as C does:
+//! a server lives behind a handle between calls, and each message is one call.
+//!
+//! The header is `include/nizwarf.h`. What a transport calls are the functions there, which look at
+//! pointers first, since no function here can: for a reference of the signatures below C gives a
+//! pointer to what is there, never NULL. A slice is a pointer and then a length to C, also as an
+//! element of a list of segments; `alloc` is nothing.
+//!
+//! Each promise is over the server behind the handle. C may break the conditions that the header
+//! states, and then nothing is promised.
+#![tactic(auto)]
+
+mod codes;
+mod files;
+mod handle;
+mod session;
+
+ghost use Rattle.std.specs.Prelude.{◌≡◌, ◌≢◌, ◌≤◌, ◌<◌, ◌⊎◌, ◌++◌, length, take, drop, min, IfSome, MatchOption};
+ghost use Rattle.std.specs.declared.option.Option.TheVariants.{None};
+ghost use Rattle.vfs_flags.specs.declared.constants.TheConstants.{LEAST_MAX_BUFFER, GREATEST_MAX_BUFFER};
+ghost use Rattle.vfs_segments.specs.Segments.{segments_of, flat_bytes};
+ghost use Rattle.vfs_c.specs.Codes.{ok, no_memory, no_server, wrong_size};
+ghost use Rattle.vfs_c.specs.Served.{new_server, Served, part_from};
+
+use crate::codes::{NO_SERVER, OK, OUT_OF_MEMORY, WRONG_SIZE};
+use crate::handle::Handle;
+use crate::session::Session;
+use bitflags::Flags;
+use std::alloc::Global;
+use vfs_flags::{GREATEST_MAX_BUFFER, LEAST_MAX_BUFFER};
+
+/// Puts a new server over a new file system into the handle, for this size of a page and this
+/// largest payload, both in bytes. A server that is there is ended first. Answers 0; or 10 where
+/// there is no memory, and 12 where a server can't be made for these sizes: then the handle is as
+/// it was.
+#[unsafe(no_mangle)]
+pub extern "C" fn nizwarf_new_at(
+    alloc: Global,
+    handle: &mut Handle,
+    page_size: u32,
+    max_buffer: u32,
+) -> i32
+    ensures made { result ≡ ok → MatchOption handle.new.value ⊥ (λ s.
+        (s.server ≡ new_server page_size max_buffer) × (s.shown ≡ 0)) }
+    ensures refused { result ≢ ok → handle.new.value ≡ handle.old.value }
+    ensures page { page_size < 4096 → result ≡ wrong_size }
+    ensures least { max_buffer < LEAST_MAX_BUFFER → result ≡ wrong_size }
+    ensures greatest { GREATEST_MAX_BUFFER < max_buffer → result ≡ wrong_size }
+    ensures fits { 4096 ≤ page_size → LEAST_MAX_BUFFER ≤ max_buffer →
+        max_buffer ≤ GREATEST_MAX_BUFFER → (result ≡ ok) ⊎ (result ≡ no_memory) }
+{
+    if page_size < 4096 || max_buffer < LEAST_MAX_BUFFER || max_buffer > GREATEST_MAX_BUFFER {
+        return WRONG_SIZE;
+    }
+    let Some(session) = Session::new(alloc, page_size, max_buffer) else {
+        return OUT_OF_MEMORY;
+    };
+    let Ok(made) = Box::new(alloc, session) else {
+        return OUT_OF_MEMORY;
+    };
+    let _ = nizwarf_end_at(alloc, handle);
+    handle.put(made);
+    OK
+}
+
+/// Answers the request in these segments, of which any may be empty. `room` is how many bytes there
+/// are for the reply. The reply stays with the server, for [`nizwarf_copy_at`], up to the next
+/// message; its length goes to `len`, and 0 where there is none.
+///
+/// Answers the outcome's number: 0 where the request was answered or needs no reply, else the
+/// error's, 1 to 10. After each of them the request is completed with `len`, and the session goes
+/// on. 10 is also answered where there was no memory to begin with, 13 where the lengths sum past
+/// `usize::MAX`, and 11 where the handle has no server.
+#[unsafe(no_mangle)]
+pub extern "C" fn nizwarf_message_at(
+    alloc: Global,
+    handle: &mut Handle,
+    request: &[&[u8]],
+    room: usize,
+    len: &mut usize,
+) -> i32
+    ensures none { handle.old.value ≡ None →
+        (result ≡ no_server) × (len.new ≡ 0) × (handle.new.value ≡ None) }
+    ensures served { IfSome handle.old.value (λ s. MatchOption handle.new.value ⊥ (λ t.
+        Served s.server (flat_bytes (segments_of request.now)) room
+        result len.new (drop t.start t.room.items) t.shown t.server)) }
+{
+    *len = 0;
+    let Some(mut session) = handle.take(alloc) else {
+        return NO_SERVER;
+    };
+    let (code, count) = session.answer(alloc, request, room);
+    *len = count;
+    handle.put(session);
+    code
+}
+
+/// Copies bytes that the last message left, from place `at` on, over the first ones of a piece, as
+/// many as both have. Answers how many. They are those of the reply; after EncodeMessage of the
+/// whole room, which has the beginning of the reply, unless it has less than 16 bytes; and none
+/// after another error, or where the handle has no server.
+#[unsafe(no_mangle)]
+pub extern "C" fn nizwarf_copy_at(
+    alloc: Global,
+    handle: &mut Handle,
+    at: usize,
+    piece: &mut [u8],
+) -> usize
+    ensures same { handle.new.value ≡ handle.old.value }
+    ensures none { handle.old.value ≡ None → (result ≡ 0) × (piece.new ≡ piece.old) }
+    ensures count { IfSome handle.old.value (λ s.
+        result ≡ min (length (part_from at (drop s.start s.room.items) s.shown))
+        (length piece.old)) }
+    ensures copied { IfSome handle.old.value (λ s. piece.new ≡
+        take result (part_from at (drop s.start s.room.items) s.shown)
+        ++ drop result piece.old) }
+{
+    let Some(session) = handle.take(alloc) else {
+        return 0;
+    };
+    let count = session.copy_out(at, piece);
+    handle.put(session);
+    count
+}
+
+/// The options that the last INIT agreed on, as INIT has them: `flags` are bits 0 to 31, `flags2`
+/// bits 32 to 63. 0 before an INIT, after a DESTROY, and where the handle has no server.
+#[unsafe(no_mangle)]
+pub extern "C" fn nizwarf_options_at(alloc: Global, handle: &mut Handle) -> u64
+    ensures same { handle.new.value ≡ handle.old.value }
+    ensures options { MatchOption handle.old.value (result ≡ 0) (λ s.
+        result ≡ s.server.options) }
+{
+    let Some(session) = handle.take(alloc) else {
+        return 0;
+    };
+    let options = session.server.options();
+    handle.put(session);
+    options.bits()
+}
+
+/// The largest payload of a request or a reply, in bytes, and 0 where the handle has no server.
+#[unsafe(no_mangle)]
+pub extern "C" fn nizwarf_max_buffer_at(alloc: Global, handle: &mut Handle) -> u32
+    ensures same { handle.new.value ≡ handle.old.value }
+    ensures largest { MatchOption handle.old.value (result ≡ 0) (λ s.
+        result ≡ s.server.limits.max_buffer) }
+{
+    let Some(session) = handle.take(alloc) else {
+        return 0;
+    };
+    let largest = session.server.max_buffer();
+    handle.put(session);
+    largest
+}
+
+/// Ends the server, as a DESTROY does, and gives its memory back. The handle has none from then on.
+/// Answers 0, or 11 where it had none.
+#[unsafe(no_mangle)]
+pub extern "C" fn nizwarf_end_at(alloc: Global, handle: &mut Handle) -> i32
+    ensures ended { handle.new.value ≡ None }
+    ensures code { MatchOption handle.old.value (result ≡ no_server) (λ _. result ≡ ok) }
+{
+    let Some(mut session) = handle.take(alloc) else {
+        return NO_SERVER;
+    };
+    let _ = session.server.destroy();
+    drop(session);
+    OK
+}

@@ -1,0 +1,201 @@
+//! A server and the room of its replies, as they live between calls.
+
+ghost use Rattle.std.specs.Prelude.{◌≡◌, ◌≤◌, ◌-◌, ◌++◌, ◌∷◌, [], length, take, drop, min, vec_len, IfSome};
+ghost use Rattle.vfs_flags.specs.declared.constants.TheConstants.{LEAST_MAX_BUFFER, GREATEST_MAX_BUFFER};
+ghost use Rattle.vfs_segments.specs.Segments.{segments_of, contents, flat_bytes, lengths_of};
+ghost use Rattle.vfs_segments.specs.Written.{whole};
+ghost use Rattle.vfs_c.specs.Served.{new_server, Served, part_from};
+
+use crate::codes::{OK, OUT_OF_MEMORY, TOO_LONG, told};
+use crate::files::{Files, new_files};
+use std::alloc::Global;
+use std::mem;
+use vfs_segments::{Reader, Writer};
+use vfs_server::server::Server;
+
+/// A server, and the memory in which its replies are put together.
+#[derive(Drop)]
+pub struct Session {
+    pub server: Server<Files>,
+    /// It never gets shorter, so that a room as long as an earlier one costs nothing: the last
+    /// room is its end.
+    pub room: Vec<u8>,
+    /// Where the last room begins.
+    pub start: usize,
+    /// How many bytes at the front of the last room are there to be copied out.
+    pub shown: usize,
+    /// What holds `room` while a request is handled, kept for its memory.
+    list: Vec<Vec<u8>>,
+}
+
+impl Session {
+    /// A session with a new server over a new file system. `None` where there is no memory.
+    pub fn new(alloc: Global, page_size: u32, max_buffer: u32) -> Option<Session>
+        requires page { 4096 ≤ page_size }
+        requires least { LEAST_MAX_BUFFER ≤ max_buffer }
+        requires greatest { max_buffer ≤ GREATEST_MAX_BUFFER }
+        ensures server { IfSome result (λ s. s.server ≡ new_server page_size max_buffer) }
+        ensures shown { IfSome result (λ s. s.shown ≡ 0) }
+    {
+        Some(Session {
+            server: Server::with_limit(new_files(alloc)?, page_size, max_buffer),
+            room: Vec::new(alloc),
+            start: 0,
+            shown: 0,
+            list: Vec::new(alloc),
+        })
+    }
+
+    /// Answers the request in these segments, with `total` bytes of room: the outcome's number, and
+    /// the length of the reply, 0 where there is none.
+    pub fn answer(&mut self, alloc: Global, request: &[&[u8]], total: usize) -> (i32, usize)
+        ensures { Served self.old.server (flat_bytes (segments_of request.now)) total
+            result.0 result.1 (drop self.new.start self.new.room.items) self.new.shown
+            self.new.server }
+    {
+        self.shown = 0;
+        match Reader::new(alloc, request) {
+            Ok(reader) => self.answer_reader(alloc, reader, total),
+            Err(vfs_segments::Error::DescriptorChainOverflow) => (TOO_LONG, 0),
+            Err(_) => (OUT_OF_MEMORY, 0),
+        }
+    }
+
+    // Answers the request that this reader has left.
+    fn answer_reader(&mut self, alloc: Global, reader: Reader<'_>, total: usize) -> (i32, usize)
+        requires { self.old.shown ≡ 0 }
+        ensures { Served self.old.server reader.entry.left total
+            result.0 result.1 (drop self.new.start self.new.room.items) self.new.shown
+            self.new.server }
+    {
+        let Some(mut writer) = self.lend_room(alloc, total) else {
+            return (OUT_OF_MEMORY, 0);
+        };
+        let outcome = self.server.handle_message(alloc, reader, &mut writer);
+        self.keep_room(alloc, writer.into_segments(), total);
+        match &outcome {
+            Ok(len) => {
+                self.shown = *len;
+                (OK, *len)
+            }
+            Err(error) => {
+                let (number, shown) = told(error, total);
+                self.shown = shown;
+                (number, 0)
+            }
+        }
+    }
+
+    // A writer with `total` bytes left, the last ones of the kept memory. `None` where there is no
+    // memory.
+    fn lend_room(&mut self, alloc: Global, total: usize) -> Option<Writer>
+        ensures server { self.new.server ≡ self.old.server }
+        ensures shown { self.new.shown ≡ self.old.shown }
+        ensures left { IfSome result (λ w. length w.left ≡ total) }
+        ensures one { IfSome result (λ w. length w.lengths ≡ 1) }
+    {
+        let room = mem::replace(&mut self.room, Vec::new(alloc));
+        let list = mem::replace(&mut self.list, Vec::new(alloc));
+        end_of(alloc, list, grown(room, total)?, total)
+    }
+
+    // Takes the memory back, and keeps the list that it stood in. The last room is its last `total`
+    // bytes.
+    fn keep_room(&mut self, alloc: Global, mut rooms: Vec<Vec<u8>>, total: usize)
+        requires { length (lengths_of (contents rooms.items)) ≡ 1 }
+        ensures server { self.new.server ≡ self.old.server }
+        ensures shown { self.new.shown ≡ self.old.shown }
+        ensures room { drop self.new.start self.new.room.items ≡
+            drop (length (flat_bytes (contents rooms.items)) - total)
+            (flat_bytes (contents rooms.items)) }
+    {
+        self.room = take_only(alloc, &mut rooms);
+        self.start = self.room.len().saturating_sub(total);
+        self.list = rooms;
+    }
+
+    /// Copies bytes that are there to be copied out, from place `at` on, over the first ones of a
+    /// piece, as many as both have. Answers how many.
+    pub fn copy_out(&self, at: usize, piece: &mut [u8]) -> usize
+        ensures count { result ≡ min (length
+            (part_from at (drop self.now.start self.now.room.items) self.now.shown))
+            (length piece.old) }
+        ensures copied { piece.new ≡
+            take result (part_from at (drop self.now.start self.now.room.items) self.now.shown)
+            ++ drop result piece.old }
+    {
+        let room = &self.room[self.start.min(self.room.len())..];
+        copy_first(part(room, self.shown, at), piece)
+    }
+}
+
+// The room, made longer where it has less than `total` bytes. `None` where there is no memory.
+fn grown(mut room: Vec<u8>, total: usize) -> Option<Vec<u8>>
+    ensures { IfSome result (λ room. total ≤ vec_len room) }
+{
+    if total <= room.len() {
+        return Some(room);
+    }
+    match room.resize(total, 0) {
+        Ok(()) => Some(room),
+        Err(_) => None,
+    }
+}
+
+// A writer with the last `total` bytes of the room left. `None` where there is no memory.
+#[tactic(auto, using(crate::proofs::Rooms::end_left))]
+fn end_of(alloc: Global, list: Vec<Vec<u8>>, room: Vec<u8>, total: usize) -> Option<Writer>
+    requires { total ≤ vec_len room }
+    ensures left { IfSome result (λ w. length w.left ≡ total) }
+    ensures one { IfSome result (λ w. length w.lengths ≡ 1) }
+{
+    let before = room.len() - total;
+    let Ok(mut writer) = Writer::new(alloc, list_of(list, room)?) else {
+        return None;
+    };
+    match writer.hold(before) {
+        Ok(()) => Some(writer),
+        Err(_) => None,
+    }
+}
+
+// The list with this room alone in it. `None` where there is no memory.
+fn list_of(mut list: Vec<Vec<u8>>, room: Vec<u8>) -> Option<Vec<Vec<u8>>>
+    ensures { IfSome result (λ rooms. rooms.items ≡ room ∷ []) }
+{
+    list.clear();
+    match list.push(room) {
+        Ok(()) => Some(list),
+        Err(_) => None,
+    }
+}
+
+// The only room of a list of one.
+#[tactic(auto, using(crate::proofs::Rooms::only_room))]
+fn take_only(alloc: Global, rooms: &mut Vec<Vec<u8>>) -> Vec<u8>
+    requires { length (lengths_of (contents rooms.old.items)) ≡ 1 }
+    ensures { result.items ≡ flat_bytes (contents rooms.old.items) }
+{
+    match rooms.pop() {
+        Some(room) => room,
+        None => Vec::new(alloc),
+    }
+}
+
+// The first `shown` bytes, without those before place `at`.
+fn part(room: &[u8], shown: usize, at: usize) -> &[u8]
+    ensures { result.now ≡ part_from at room.now shown }
+{
+    let front = &room[..shown.min(room.len())];
+    &front[at.min(front.len())..]
+}
+
+// Copies as many bytes as both have, and answers how many.
+fn copy_first(from: &[u8], to: &mut [u8]) -> usize
+    ensures count { result ≡ min (length from.now) (length to.old) }
+    ensures copied { to.new ≡ take result from.now ++ drop result to.old }
+{
+    let count = from.len().min(to.len());
+    to[..count].copy_from_slice(&from[..count]);
+    count
+}
