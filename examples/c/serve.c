@@ -1,0 +1,54 @@
+/* A transport in C: it answers one INIT and one LOOKUP that lie in memory, and checks the replies. A
+ * real one takes requests from a queue, and completes each with the length that it is told.
+ *
+ * tools/c-example.sh builds it and runs it. Status 0: all is as it should be. */
+#include <linux/fuse.h>
+#include <stdio.h>
+#include "nizwarf.h"
+
+#define CHECK(fact)                                                                     \
+	do {                                                                            \
+		if (!(fact)) {                                                          \
+			fprintf(stderr, "serve.c, line %d: not %s\n", __LINE__, #fact); \
+			return 1;                                                       \
+		}                                                                       \
+	} while (0)
+
+int main(void)
+{
+	struct {
+		struct fuse_in_header header;
+		struct fuse_init_in body;
+	} init = { .header = { .len = sizeof(init), .opcode = FUSE_INIT, .unique = 1 },
+		   .body = { .major = 7, .minor = 38, .flags = FUSE_DO_READDIRPLUS } };
+	struct fuse_in_header lookup = { .len = sizeof(lookup) + 2, .opcode = FUSE_LOOKUP,
+					 .unique = 2, .nodeid = FUSE_ROOT_ID };
+	struct fuse_out_header header;
+	struct fuse_init_out agreed;
+	struct fuse_entry_out entry;
+	nizwarf_server server = NIZWARF_NONE;
+	size_t len;
+
+	/* INIT: one segment, and a room of two pieces. */
+	const nizwarf_segment asked[] = { { &init, sizeof(init) } };
+	const nizwarf_room told[] = { { &header, sizeof(header) }, { &agreed, sizeof(agreed) } };
+
+	CHECK(nizwarf_message(&server, asked, 1, told, 2, &len) == NIZWARF_NO_SERVER && len == 0);
+	CHECK(nizwarf_new(&server, 100, 1 << 20) == NIZWARF_WRONG_SIZE);
+	CHECK(nizwarf_new(&server, 4096, 1 << 20) == NIZWARF_OK);
+	CHECK(nizwarf_message(&server, asked, 1, told, 2, &len) == NIZWARF_OK && len == 80);
+	CHECK(header.len == len && header.error == 0 && header.unique == 1 && agreed.minor == 38);
+	CHECK(nizwarf_options(&server) == agreed.flags && agreed.max_write == 1 << 20);
+
+	/* LOOKUP of `a`, cut in its name. */
+	const nizwarf_segment name[] = { { &lookup, sizeof(lookup) }, { "a", 1 }, { "", 1 } };
+	const nizwarf_room found[] = { { &header, sizeof(header) }, { &entry, sizeof(entry) } };
+
+	CHECK(nizwarf_message(&server, name, 3, found, 2, &len) == NIZWARF_OK && len == 144);
+	CHECK(header.len == len && header.error == 0 && header.unique == 2 && entry.nodeid == 2);
+	CHECK(nizwarf_message(&server, name, 3, found, 1, &len) == NIZWARF_ENCODE_MESSAGE && len == 0);
+	CHECK(header.len == 144 && nizwarf_message(NULL, name, 3, found, 2, &len) == NIZWARF_NULL);
+	CHECK(nizwarf_end(&server) == NIZWARF_OK && nizwarf_end(&server) == NIZWARF_NO_SERVER);
+	puts("INIT and LOOKUP were answered.");
+	return 0;
+}

@@ -1,0 +1,159 @@
+/* Holds the library for transports in C against its header: a session of INIT, LOOKUP and GETATTR, in
+ * which each allocation is refused in turn; codes of what can't be done; what stays in the rooms.
+ *
+ * tools/c-example.sh links it with --wrap=malloc, --wrap=realloc and --wrap=free. Status 0: all is as
+ * it should be, and no memory is left behind. */
+#include <linux/fuse.h>
+#include <stdio.h>
+#include <stdlib.h>
+#include <string.h>
+#include "nizwarf.h"
+
+#define CHECK(fact)                                                                       \
+	do {                                                                              \
+		if (!(fact)) {                                                            \
+			fprintf(stderr, "c-example.c, line %d: not %s (allocation %ld)\n", \
+				__LINE__, #fact, refused);                                \
+			exit(1);                                                          \
+		}                                                                         \
+	} while (0)
+
+void *__real_malloc(size_t size);
+void *__real_realloc(void *at, size_t size);
+void __real_free(void *at);
+
+static long asked, refused, live;
+
+void *__wrap_malloc(size_t size)
+{
+	void *at = ++asked == refused ? NULL : __real_malloc(size);
+
+	live += at != NULL;
+	return at;
+}
+
+void *__wrap_realloc(void *old, size_t size)
+{
+	void *at = ++asked == refused ? NULL : __real_realloc(old, size);
+
+	live += !old && at;
+	return at;
+}
+
+void __wrap_free(void *at)
+{
+	live -= at != NULL;
+	__real_free(at);
+}
+
+static struct {
+	struct fuse_in_header header;
+	struct fuse_init_in body;
+} init = { .header = { .len = sizeof(init), .opcode = FUSE_INIT, .unique = 1 },
+	   .body = { .major = 7, .minor = 38 } };
+static struct {
+	struct fuse_in_header header;
+	char name[2];
+} lookup = { .header = { .len = 42, .opcode = FUSE_LOOKUP, .unique = 2, .nodeid = 1 }, .name = "a" };
+static struct {
+	struct fuse_in_header header;
+	struct fuse_getattr_in body;
+} getattr = { .header = { .len = sizeof(getattr), .opcode = FUSE_GETATTR, .unique = 3, .nodeid = 2 } };
+
+static uint8_t reply[1 << 16];
+
+/* Asks with a request in two pieces, of which the first has so many bytes, behind so many empty ones,
+ * and with two pieces of room. What is refused for want of memory is asked again, and the outcome told. */
+static int ask(nizwarf_server *server, void *request, size_t cut, size_t empty, size_t space, size_t *len)
+{
+	size_t total = ((struct fuse_in_header *)request)->len, i;
+	nizwarf_segment pieces[8];
+	const nizwarf_room room[] = { { reply, 16 }, { reply + 16, space - 16 } };
+	int code, again;
+
+	for (i = 0; i < empty; i++)
+		pieces[i] = (nizwarf_segment){ request, 0 };
+	pieces[empty] = (nizwarf_segment){ request, cut };
+	pieces[empty + 1] = (nizwarf_segment){ (char *)request + cut, total - cut };
+	for (again = 0; again < 2; again++) {
+		memset(reply, 0xaa, sizeof(reply));
+		code = nizwarf_message(server, pieces, empty + 2, room, 2, len);
+		if (code != NIZWARF_OUT_OF_MEMORY)
+			break;
+		CHECK(refused && again == 0 && *len == 0 && reply[0] == 0xaa);
+	}
+	for (i = *len; i < sizeof(reply); i++)
+		CHECK(code == NIZWARF_ENCODE_MESSAGE || reply[i] == 0xaa);
+	return code;
+}
+
+static void session(void)
+{
+	nizwarf_server server = NIZWARF_NONE;
+	struct fuse_out_header *header = (struct fuse_out_header *)reply;
+	int code = nizwarf_new(&server, 4096, 4096);
+	size_t len;
+
+	if (code == NIZWARF_OUT_OF_MEMORY) {
+		CHECK(refused && !server.at);
+		code = nizwarf_new(&server, 4096, 4096);
+	}
+	CHECK(code == NIZWARF_OK && nizwarf_max_buffer(&server) == 4096 && nizwarf_options(&server) == 0);
+	CHECK(ask(&server, &init, 40, 0, 80, &len) == NIZWARF_OK && len == 80 && header->len == 80);
+	CHECK(ask(&server, &getattr, 56, 0, 8192, &len) == NIZWARF_OK && len == 120 && header->unique == 3);
+	CHECK(ask(&server, &lookup, 41, 5, 144, &len) == NIZWARF_OK && len == 144 && header->error == 0);
+	CHECK(ask(&server, &getattr, 50, 6, 1 << 16, &len) == NIZWARF_OK && len == 120 && header->unique == 3);
+	CHECK(ask(&server, &lookup, 40, 0, 20, &len) == NIZWARF_ENCODE_MESSAGE && len == 0);
+	CHECK(header->len == 144 && reply[16] == 2 && reply[20] == 0xaa);
+	CHECK(ask(&server, &getattr, 39, 1, 120, &len) == NIZWARF_OK && len == 120);
+	CHECK(nizwarf_end(&server) == NIZWARF_OK && !server.at && live == 0);
+}
+
+/* What needs no session: NULL, no server, sizes out of bounds, lengths that sum past SIZE_MAX. */
+static void codes(void)
+{
+	nizwarf_server server = NIZWARF_NONE;
+	const nizwarf_segment huge[] = { { &init, SIZE_MAX / 2 }, { &init, SIZE_MAX / 2 }, { &init, 2 } };
+	const nizwarf_segment whole = { &init, sizeof(init) }, null = { NULL, 0 };
+	const nizwarf_room nowhere = { NULL, 0 }, small = { reply, 15 };
+	const nizwarf_room wide[] = { { reply, SIZE_MAX }, { reply, 1 } };
+	size_t len = 1;
+
+	CHECK(nizwarf_new(NULL, 4096, 4096) == NIZWARF_NULL && nizwarf_end(NULL) == NIZWARF_NULL);
+	CHECK(nizwarf_options(NULL) == 0 && nizwarf_max_buffer(NULL) == 0);
+	CHECK(nizwarf_options(&server) == 0 && nizwarf_max_buffer(&server) == 0);
+	CHECK(nizwarf_end(&server) == NIZWARF_NO_SERVER);
+	CHECK(nizwarf_message(&server, &whole, 1, NULL, 0, &len) == NIZWARF_NO_SERVER && len == 0);
+	CHECK(nizwarf_new(&server, 4095, 4096) == NIZWARF_WRONG_SIZE);
+	CHECK(nizwarf_new(&server, 4096, 4095) == NIZWARF_WRONG_SIZE);
+	CHECK(nizwarf_new(&server, 4096, 134217729) == NIZWARF_WRONG_SIZE && !server.at);
+	CHECK(nizwarf_new(&server, 4096, 4096) == NIZWARF_OK && nizwarf_new(&server, 4096, 8192) == NIZWARF_OK);
+	CHECK(nizwarf_max_buffer(&server) == 8192);
+	CHECK(nizwarf_message(&server, NULL, 1, NULL, 0, &len) == NIZWARF_NULL && len == 0);
+	CHECK(nizwarf_message(&server, &null, 1, NULL, 0, &len) == NIZWARF_NULL);
+	CHECK(nizwarf_message(&server, &whole, 1, &nowhere, 1, &len) == NIZWARF_NULL);
+	CHECK(nizwarf_message(&server, &whole, 1, NULL, 1, &len) == NIZWARF_NULL);
+	CHECK(nizwarf_message(&server, &whole, 1, NULL, 0, NULL) == NIZWARF_NULL);
+	CHECK(nizwarf_message(&server, &whole, 1, wide, 2, &len) == NIZWARF_TOO_LONG && len == 0);
+	CHECK(nizwarf_message(&server, huge, 3, NULL, 0, &len) == NIZWARF_TOO_LONG && len == 0);
+	CHECK(nizwarf_message(&server, NULL, 0, NULL, 0, &len) == NIZWARF_DECODE_MESSAGE);
+	memset(reply, 0xaa, sizeof(reply));
+	CHECK(nizwarf_message(&server, &whole, 1, &small, 1, &len) == NIZWARF_ENCODE_MESSAGE && reply[0] == 0xaa);
+	CHECK(nizwarf_end(&server) == NIZWARF_OK && live == 0);
+}
+
+int main(void)
+{
+	long all;
+
+	codes();
+	asked = 0;
+	session();
+	all = asked;
+	for (refused = 1; refused <= all; refused++) {
+		asked = 0;
+		session();
+	}
+	printf("Each of %ld allocations of a session was refused, and each session went on.\n", all);
+	return 0;
+}
