@@ -33,7 +33,7 @@ CRATES = {"docs/PROTOCOL.md": ["vfs_grammar"]}
 CODE = re.compile(r"`([^`]+)`")
 NAMED = re.compile(r"((?:`[\w:]+`, )+)`([\w./]+\.(?:rt|antt))`")
 PLACE = re.compile(r"`([^`]+)` \(`([^`]+):(\d+)`\)")
-ENDING = re.compile(r"\.(rt|antt|edit|md|sh|rs|py|c|txt|svg|tsv)$")
+ENDING = re.compile(r"\.(rt|antt|edit|md|sh|rs|py|c|h|a|txt|svg|tsv)$")
 # virtiofsd's files, and the kernel's header.
 OUTSIDE = re.compile(r"(src/)?(fuse|descriptor_utils|filesystem|server)\.rs|fuse\.h")
 KEYWORDS = "fn|trait|struct|enum|const|mod|impl|abbrev pub|record|data"
@@ -50,7 +50,7 @@ paths = set()
 for folder, folders, files in os.walk("."):
     folders[:] = [name for name in folders if name not in (".git", "out")]
     paths |= {os.path.normpath(os.path.join(folder, name)) for name in folders + files}
-sources = {path: read(path) for path in paths if re.search(r"\.(rt|antt|sh|rs|py|c)$", path)}
+sources = {path: read(path) for path in paths if re.search(r"\.(rt|antt|sh|rs|py|c|h)$", path)}
 CRATE_NAMES = set(os.listdir("crates"))
 words = {word for text in [*paths, *sources.values()] for word in re.findall(r"\w+", text)}
 definitions = {path: set(DEFINITION.findall(text)) for path, text in sources.items()}
@@ -191,7 +191,7 @@ for document in DOCUMENTS:
                 fault(f"{command} is no file that can be run")
         else:
             if line.startswith("#"):
-                crates = re.findall(r"\bvfs_\w+", line) or CRATES.get(document, [])
+                crates = [it for it in re.findall(r"\w+", line) if it in CRATE_NAMES] or CRATES.get(document, [])
             check_line(fault, document, crates, line)
             comment = line
 for crate, edit in sorted(edits - named_edits):
