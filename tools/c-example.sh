@@ -1,46 +1,39 @@
 #!/usr/bin/env bash
-# Builds the library for transports in C, compiles examples/c/serve.c against include/nizwarf.h, and
-# runs it: it answers an INIT and a LOOKUP, and checks the replies. Then tools/c-example.c holds the
-# library against what the header says, also where each allocation is refused in turn, and under the
-# sanitizers of the compiler, if it has them. Last, all names that the library defines begin with
-# `nizwarf_`. Status 0: all is as it should be.
+# Compiles examples/c/serve.c against include/nizwarf.h, links the library for C, and runs it: it answers
+# an INIT and a LOOKUP, and checks the replies. Then tools/c-example.c holds the library against what the
+# header says, also where each allocation is refused in turn, and under the sanitizers of the compiler, if
+# it has them. Last, all names that the library defines begin with `nizwarf_`.
 #
-# Usage: tools/c-example.sh
-# It builds the library where sources are newer, with its proof, which takes minutes; over lower crates
-# that were proved before, one or two.
+# Usage: tools/c-example.sh [--prove]
+# It takes the proved library where that is built and no source is newer; otherwise tools/unproved.sh
+# builds it without a proof, which takes a minute. With --prove it is proved first, as crates/vfs_c/out has
+# it then: a minute or two, and half an hour where no lower crate was proved before.
+# Status 0: all is as it should be; 1: not so; 2: it could not start.
 set -euo pipefail
-. "$(dirname "${BASH_SOURCE[0]}")/usage.sh"
-here=$(cd "$(dirname "${BASH_SOURCE[0]}")/.." && pwd)
-crate=$here/crates/vfs_c
-library=$crate/out/libvfs_c.a
+. "$(dirname "$0")/usage.sh"
+. "$(dirname "$0")/transport.sh"
 
-# Stops where a command is not there.
-need() {
-    if ! command -v "$1" > /dev/null; then
-        echo "Missing: the command \`$1\`, $2." >&2
-        exit 2
-    fi
-}
-
-need rt "of the Rattle toolchain, which builds the library: put its folder bin on the PATH"
-need cc "a C compiler"
-kit=$(cd "$(dirname "$(rt doc)")" && pwd)
-if [ ! -e "$library" ] ||
-    [ -n "$(find "$here/crates.txt" "$here"/crates/*/{src,specs,proofs} -newer "$library" -print -quit 2> /dev/null)" ]; then
-    echo "Building $library .." >&2
-    (cd "$crate" && rt lib > out.txt 2>&1) || { tail -n 20 "$crate/out.txt" >&2 && exit 1; }
-    rm -f "$crate/out.txt"
-fi
+case $# in
+    0) ;;
+    1) [ "$1" = --prove ] ;;
+    *) false ;;
+esac || { echo "Usage: tools/c-example.sh [--prove]" >&2 && exit 2; }
 
 folder=$(mktemp -d)
 trap 'rm -rf "$folder"' EXIT
+if [ $# = 1 ]; then
+    need_toolchain
+    echo "Proving and building the library .." >&2
+    (cd "$here/crates/vfs_c" && rt lib) > "$folder/said" 2>&1 || { tail -n 20 "$folder/said" >&2 && exit 1; }
+fi
+find_library
 
 # Compiles and links a source of here, with flags behind it.
 compile() {
     local source=$1
     shift
     cc -std=c11 -Wall -Wextra -Werror -I "$here/include" -o "$folder/program" "$here/$source" \
-        "$library" "$kit/c/liblibc_c.a" "$@"
+        "${library[@]}" "$@"
 }
 
 counted=(-Wl,--wrap=malloc -Wl,--wrap=realloc -Wl,--wrap=free)
@@ -57,7 +50,7 @@ if echo 'int main(void) { return 0; }' | cc -x c "${sanitized[@]}" -o "$folder/p
     echo "The sanitizers found nothing."
 fi
 
-others=$(nm --defined-only --extern-only "$library" | awk 'NF == 3 && $3 !~ /^nizwarf_/ { print $3 }')
+others=$(nm --defined-only --extern-only "${library[0]}" | awk 'NF == 3 && $3 !~ /^nizwarf_/ { print $3 }')
 if [ -n "$others" ]; then
     echo "Names of the library that do not begin with nizwarf_:" $others >&2
     exit 1

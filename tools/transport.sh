@@ -1,4 +1,4 @@
-# For the scripts beside it that run a transport of examples/c: builds it with the library.
+# For the scripts beside it that link the library for C.
 # shellcheck shell=bash
 . "$(dirname "${BASH_SOURCE[0]}")/program.sh"
 
@@ -10,21 +10,27 @@ need() {
     fi
 }
 
-# Builds examples/c/NAME.c with the library, and sets `transport` to it. It takes the proved library where
-# that is built and no source is newer, and says which one it took.
-build_transport() {
-    local library=$here/crates/vfs_c/out/libvfs_c.a
+# Sets `library` to the library and what it stands on. That is the proved one where it is built and no
+# source is newer; otherwise tools/unproved.sh builds it without a proof. It says which one it is.
+find_library() {
+    local built=$here/crates/vfs_c/out/libvfs_c.a
     need cc "Install a C compiler: apt-get install gcc libc6-dev."
     need rt "The Rattle toolchain builds the library: put its folder bin on the PATH."
-    if [ -e "$library" ] && is_newest "$library"; then
+    if [ -e "$built" ] && is_newest "$built"; then
         echo "The library is the proved one." >&2
     else
-        library=$here/out/unproved/libvfs_c.a
+        built=$here/out/unproved/libvfs_c.a
         "$here/tools/unproved.sh" vfs_c
-        echo "The library is built without a proof (\`rt lib\` in crates/vfs_c proves it)." >&2
+        echo "The library is built without a proof (\`tools/c-example.sh --prove\` proves it)." >&2
     fi
+    library=("$built" "$(dirname "$(rt doc)")/c/liblibc_c.a")
+}
+
+# Builds examples/c/NAME.c with the library, and sets `transport` to it.
+build_transport() {
+    find_library
     mkdir -p "$here/out/c"
     transport=$here/out/c/$1
     cc -std=c11 -O2 -Wall -Wextra -Werror -I "$here/include" -o "$transport" "$here/examples/c/$1.c" \
-        "$library" "$(dirname "$(rt doc)")/c/liblibc_c.a"
+        "${library[@]}"
 }
