@@ -5,8 +5,8 @@
  *
  * A read of the device is one request. The kernel copies it into `request`, so nothing changes it while
  * it is answered. A write is one reply: the library copies it into `room`, and the kernel takes it.
- * SIGINT and SIGTERM unmount. Where the folder is in use then, it goes when the last user does, or at a
- * second signal.
+ * SIGINT, SIGTERM and SIGHUP unmount. Where the folder is in use then, it goes when the last user does, or
+ * at a second signal.
  *
  * Status 0: it was unmounted; 1: something failed, and standard error says what. */
 #define _GNU_SOURCE
@@ -121,6 +121,7 @@ int main(int count, char **words)
 	sigemptyset(&ending);
 	sigaddset(&ending, SIGINT);
 	sigaddset(&ending, SIGTERM);
+	sigaddset(&ending, SIGHUP);
 	sigprocmask(SIG_BLOCK, &ending, NULL);
 
 	const int signals = signalfd(-1, &ending, SFD_CLOEXEC);
