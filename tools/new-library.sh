@@ -1,0 +1,22 @@
+#!/usr/bin/env bash
+# Makes a library for transports in C over a file system of your own: a copy of crates/vfs_c under
+# another name, with the same functions behind the same header. docs/LIBRARY.md says what to change
+# in it then.
+#
+# Usage: tools/new-library.sh NAME
+# NAME is lowercase letters, digits and _. It writes crates/NAME, and a line of crates.txt.
+set -euo pipefail
+. "$(dirname "$0")/usage.sh"
+cd "$(dirname "$0")/.."
+
+name=${1:-}
+if ! [[ $# = 1 && $name =~ ^[a-z][a-z0-9_]*$ ]] || [ -e "crates/$name" ]; then
+    echo "Usage: tools/new-library.sh NAME, where there is no crates/NAME yet." >&2
+    exit 2
+fi
+mkdir "crates/$name"
+cp -R crates/vfs_c/{src,specs,proofs,must-fail} "crates/$name/"
+grep -rl vfs_c "crates/$name" | xargs sed -i "s/\bvfs_c\b/$name/g"
+sed -i "/^vfs_c staticlib:/{p;s/^vfs_c/$name/}" crates.txt
+echo "Now change crates/$name/src/files.rt and crates/$name/specs/Files.antt, and in crates.txt, on the"
+echo "line of $name, vfs_memory to the crate of your file system."
