@@ -3,7 +3,6 @@
 ghost use Rattle.std.specs.Prelude.{◌≡◌, ◌≤◌, ◌-◌, ◌++◌, ◌∷◌, [], length, take, drop, min, vec_len, IfSome};
 ghost use Rattle.vfs_flags.specs.declared.constants.TheConstants.{LEAST_MAX_BUFFER, GREATEST_MAX_BUFFER};
 ghost use Rattle.vfs_segments.specs.Segments.{segments_of, contents, flat_bytes, lengths_of};
-ghost use Rattle.vfs_segments.specs.Written.{whole};
 ghost use Rattle.vfs_c.specs.Served.{new_server, Served, part_from};
 
 use crate::codes::{OK, OUT_OF_MEMORY, TOO_LONG, told};
