@@ -76,7 +76,10 @@ fn write_by(writer: &mut Writer, call: WriteCall) -> Answer {
         WriteCall::Pair(x, y) => all_of(5, writer.write_pair(x, y)),
         WriteCall::Padded(x, bytes) => {
             let len = (4 + bytes.len()).next_multiple_of(8);
-            all_of(len, writer.write_padded(x, bytes, (len - (4 + bytes.len())) as u8))
+            all_of(
+                len,
+                writer.write_padded(x, bytes, (len - (4 + bytes.len())) as u8),
+            )
         }
         WriteCall::Flush => all_of(0, writer.flush()),
         WriteCall::Hold(n) => hold(writer, n),
