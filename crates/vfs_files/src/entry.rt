@@ -63,7 +63,9 @@ impl From<Entry> for EntryOut {
 impl<'a> From<&'a Entry> for EntryOut {
     ghost from_gives = { λ entry out. out ≡ entry_out_of entry.now };
 
-    /// The same of an entry that is lent.
+    /// The same of an entry that is lent. It is inlined, so that an entry that was made just before is
+    /// not put together in memory first.
+    #[inline(always)]
     fn from(entry: &'a Entry) -> EntryOut {
         EntryOut {
             nodeid: entry.inode,
