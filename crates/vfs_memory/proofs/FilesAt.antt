@@ -2,8 +2,9 @@
 use Rattle.std.proofs.Common.{◌≡◌, ◌<◌, ℕ, zero, suc, List, [], ◌∷◌, length, get_or, set, Some, Result, Ok, Err, Option, refl, sym, ap, ◌∙◌, arith, length-take}
 use Rattle.std.proofs.lemmas.List.{get_or-map, set-get_or}
 use Rattle.vfs_files.specs.Calls.{Counts, Put, read_answer, written_answer}
-use Rattle.vfs_memory.specs.MemFile.{Writes, part_of}
-use Rattle.vfs_memory.specs.MemFs.{Stored, Stock, contents_at, with_contents, most_put, PutsPart, AnswersRead, WritesInto}
+use Rattle.vfs_bytes.specs.Bytes.{part_of, most_put, PutsPart}
+use Rattle.vfs_memory.specs.MemFile.{Writes}
+use Rattle.vfs_memory.specs.MemFs.{Stored, Stock, contents_at, with_contents, AnswersRead, WritesInto}
 
 -- files, and the node of the next one
 abbrev pub stock_of : List Stored → ℕ → Stock
@@ -42,17 +43,15 @@ module _ (old : Stock) (files : List Stored) (next place : ℕ) (file : Stored)
       ∙ contents_at_is files place file within is
 
   -- what was put of the file in its place is what the call answers
-  pub answers_read : (room size off : ℕ) (result : Result ℕ (Option ℕ)) (bytes new : List ℕ)
-      → PutsPart file.contents room size off result bytes new
+  pub answers_read : (room size off : ℕ) (result : Result ℕ (Option ℕ)) (bytes : List ℕ)
+      → PutsPart file.contents room size off result bytes
       → Counts result bytes size
       × AnswersRead old (Some place) off (most_put room size) (read_answer result bytes)
-      × (stock_of (set files place (record file { contents = new })) next ≡ old)
-  answers_read room size off result bytes new p =
+  answers_read room size off result bytes p =
       let long = ap length p.part ∙ length-take (most_put room size) _ in
       rw (p.answered) (
         (refl, omega (arith, long), omega (arith, long)),
         ap (λ b. Put b) (p.part ∙ ap (λ b. part_of b off (most_put room size)) (sym held)),
-        ap (λ fs. stock_of fs next) (set-same files place file new is p.same) ∙ whole,
       )
 
   -- a write of the file in its place is one of the files

@@ -1,24 +1,11 @@
--- A file in memory, seen as its bytes: what is read of it, and what a write leaves.
-use Rattle.std.specs.Prelude.{◌≡◌, ◌≤◌, ◌<◌, ◌+◌, ◌-◌, ℕ, List, [], ◌∷◌, ◌++◌, length, take, drop, replicate, Option, Some, Result, Ok, Err}
+-- A file in memory, seen as its bytes: what a write leaves. What is read of it, `vfs_bytes` says.
+use Rattle.std.specs.Prelude.{◌≡◌, ◌<◌, ◌+◌, ◌-◌, ℕ, List, [], ◌∷◌, ◌++◌, length, take, replicate, Option, Some, Result, Ok, Err}
 use Rattle.vfs_flags.specs.Errors.{enomem}
 use Rattle.vfs_views.specs.Segments.{with_bytes_at}
 
 -- how many bytes a file has at most
 abbrev pub most_bytes : ℕ
 most_bytes = 65536
-
--- the bytes from place off on, at most so many
-abbrev pub part_of : List ℕ → (off most : ℕ) → List ℕ
-part_of bytes off most = take most (drop off bytes)
-
--- a read of at most so many bytes from off on, of a file within its limit: those that are there are
--- moved, all of them, and the file stays
-pub record Reads
-    (old : List ℕ) (off room : ℕ) (answer : Result ℕ (Option ℕ)) (moved new : List ℕ) : Type 0 where
-  pub answered : answer ≡ Ok (length moved)
-  pub there : moved ≡ part_of old off room
-  pub small : length old ≤ most_bytes
-  pub same : new ≡ old
 
 -- the beginning of these bytes that ends within a file's limit, where the first goes to off
 abbrev pub fitting : (off : ℕ) → List ℕ → List ℕ

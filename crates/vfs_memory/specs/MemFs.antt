@@ -1,5 +1,5 @@
 -- The file system in memory: its files in order of creation, and what its calls answer of them.
-use Rattle.std.specs.Prelude.{◌≡◌, ℕ, zero, suc, ◌==◌, ◌+◌, ◌-◌, ◌^◌, ◌||◌, nat_le, not, List, [], ◌∷◌, ◌++◌, length, map, min, take, drop, slice_index_or, find, position, remove, codes, Option, Some, None, is_some, Result, Ok, Err, if◌then◌else◌}
+use Rattle.std.specs.Prelude.{◌≡◌, ℕ, zero, suc, ◌==◌, ◌+◌, ◌-◌, ◌^◌, ◌||◌, nat_le, not, List, [], ◌∷◌, ◌++◌, length, map, take, drop, slice_index_or, find, position, remove, codes, Option, Some, None, is_some, Result, Ok, Err, if◌then◌else◌}
 use Rattle.std.specs.Str.{bytes_eq}
 use Rattle.std.specs.Duration.{as_nanos}
 use Rattle.std.specs.declared.time.Duration.{Duration}
@@ -8,7 +8,8 @@ use Rattle.vfs_wire.specs.declared.attributes.Attr.{Attr}
 use Rattle.vfs_files.specs.declared.entry.Entry.{Entry}
 use Rattle.vfs_files.specs.Items.{Item}
 use Rattle.vfs_files.specs.Calls.{Call, Init, Lookup, Getattr, Unlink, Read, Write, Readdir, Create, Answer, Done, Failed, Options, Found, Attributes, Put, Created, Wrote, Handed, Plain, Iterator, default_answer}
-use Rattle.vfs_memory.specs.MemFile.{part_of, Writes}
+use Rattle.vfs_bytes.specs.Bytes.{part_of, most_put}
+use Rattle.vfs_memory.specs.MemFile.{Writes}
 
 -- a file: its node, its name and its contents
 pub record Stored : Type 0 where
@@ -156,20 +157,6 @@ abbrev pub with_contents : List Stored → (place : ℕ) → List ℕ → List S
 with_contents [] place bytes = []
 with_contents (file ∷ files) zero bytes = record file { contents = bytes } ∷ files
 with_contents (file ∷ files) (suc place) bytes = file ∷ with_contents files place bytes
-
--- how many bytes are put into a reply at most: so many are asked for, there is room for so many,
--- and the length of the reply has its place in the header
-abbrev pub most_put : (room size : ℕ) → ℕ
-most_put room size = min (min size (2 ^ 32 - 17)) room
-
--- bytes of a file were put into a reply: all that are there from off on, as many as may be put; and
--- the file stays
-pub record PutsPart
-    (old : List ℕ) (room size off : ℕ) (result : Result ℕ (Option ℕ)) (bytes new : List ℕ)
-    : Type 0 where
-  pub answered : result ≡ Ok (length bytes)
-  pub part : bytes ≡ part_of old off (most_put room size)
-  pub same : new ≡ old
 
 -- bytes of the file at this place are put into a reply, from off on and at most so many: all of
 -- these that are there; or there is no such file

@@ -5,10 +5,10 @@ ghost use Rattle.std.specs.Prelude.{drop, length, min, take, vec_len};
 ghost use Rattle.std.specs.List.{concat};
 ghost use Rattle.vfs_flags.specs.Errors.{enomem};
 ghost use Rattle.vfs_views.specs.Segments.{with_bytes_at};
-ghost use Rattle.vfs_views.specs.Views.{IsSameRoom};
 ghost use Rattle.vfs_memory.specs.MemFile.{lengthened};
 
 use std::marker::Model;
+use vfs_bytes::Bytes;
 use vfs_flags::{Errno, Fault};
 use vfs_views::{PositionedFile, Slices, SlicesMut, WritevFlags};
 
@@ -49,10 +49,18 @@ impl MemFile {
     {
         self.bytes.len()
     }
+
+    /// Its bytes.
+    pub fn bytes(&self) -> &[u8]
+        ensures { result.now ≡ self.now }
+    {
+        &self.bytes
+    }
 }
 
 impl PositionedFile for MemFile {
-    ghost use Rattle.vfs_memory.specs.MemFile.{Reads, Writes};
+    ghost use Rattle.vfs_bytes.specs.Bytes.{Reads};
+    ghost use Rattle.vfs_memory.specs.MemFile.{Writes};
 
     ghost write_gives = { λ old bytes off flags answer new. Writes old bytes off answer new };
 
@@ -76,21 +84,9 @@ impl PositionedFile for MemFile {
     }
 
     fn read_vectored_at(&mut self, view: &mut SlicesMut<'_>, off: u64) -> Result<usize, Fault> {
-        let bytes = part(&self.bytes, off, view.total());
-        put_pieces(view, bytes);
-        Ok(bytes.len())
+        let mut file = Bytes::new(&self.bytes);
+        file.read_vectored_at(view, off)
     }
-}
-
-// The bytes from place `off` on, at most so many.
-fn part(bytes: &[u8], off: u64, most: usize) -> &[u8]
-    ensures { result.now ≡ take most (drop off bytes.now) }
-{
-    if off >= bytes.len() as u64 {
-        return &[];
-    }
-    let rest = &bytes[off as usize..];
-    &rest[..most.min(rest.len())]
 }
 
 // Fills up with zeros to `end` what ends before it. ENOMEM where there is no memory for them.
@@ -127,18 +123,6 @@ fn take_pieces(room: &mut [u8], view: &Slices<'_>)
     let mut done = 0;
     for i in 0..view.count() {
         done += fill_front(&mut room[done..], view.get(i));
-    }
-}
-
-// Writes the bytes over the beginning of the room that is lent.
-fn put_pieces(view: &mut SlicesMut<'_>, bytes: &[u8])
-    requires { length bytes.now ≤ length (concat view.old.pieces) }
-    ensures same_room { IsSameRoom view.old view.new }
-    ensures put { take (length bytes.now) (concat view.new.pieces) ≡ bytes.now }
-{
-    let mut done = 0;
-    for i in 0..view.count() {
-        done += fill_front(view.get_mut(i), &bytes[done..]);
     }
 }
 

@@ -6,13 +6,14 @@ ghost use Rattle.vfs_files.specs.Calls.{attr_answer, no_such_call};
 ghost use Rattle.vfs_memory.specs.MemFs.{MemFsAllows, AnswersAttr, attr_at};
 
 use super::entries::Entries;
-use super::transfers::{read_into, write_from};
+use super::transfers::write_from;
 use super::{
     MOST_FILES, MemFs, ROOT_MODE, TIMEOUT_SECONDS, attr, entry, find_name, find_node, make_attr,
     not_found, place_of, place_of_node,
 };
 use bitflags::Flags;
 use std::time::Duration;
+use vfs_bytes::read_bytes;
 use vfs_files::{
     CStr, Context, Entry, Extensions, FileSystem, GetxattrReply, ListxattrReply, ZeroCopyReader,
     ZeroCopyWriter, defaults,
@@ -179,8 +180,8 @@ impl FileSystem for MemFs {
         let Some(place) = place_of_node(&self.files, inode) else {
             return Err(not_found());
         };
-        let file = &mut self.files[place];
-        read_into(&mut file.contents, w, size, offset)
+        let file = &self.files[place];
+        read_bytes(file.contents.bytes(), w, size, offset)
     }
 
     fn write<R: ZeroCopyReader>(

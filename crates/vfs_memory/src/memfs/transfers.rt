@@ -1,25 +1,11 @@
-//! Transfers between a file in memory and a reply's room, or a request's bytes.
+//! A transfer of the bytes of a request into a file in memory.
 
 ghost use Rattle.std.specs.Prelude.{List, ℕ, take};
 ghost use Rattle.vfs_memory.specs.MemFile.{Writes};
-ghost use Rattle.vfs_memory.specs.MemFs.{PutsPart};
 
 use crate::memfile::MemFile;
-use vfs_files::{ZeroCopyReader, ZeroCopyWriter};
-use vfs_flags::{Fault, MAX_REPLY_DATA};
-
-/// Puts up to `size` bytes of the file, from `offset` on, into `w`, and answers how many.
-pub(super) fn read_into<W: ZeroCopyWriter>(
-    file: &mut MemFile,
-    w: &mut W,
-    size: u32,
-    offset: u64,
-) -> Result<usize, Fault>
-    ensures { (bytes : List ℕ) × W.puts w.old bytes w.new
-        × PutsPart file.old (W.room w.old) size offset result bytes file.new }
-{
-    w.read_from_file_at(file, size.min(MAX_REPLY_DATA) as usize, offset)
-}
+use vfs_files::ZeroCopyReader;
+use vfs_flags::Fault;
 
 /// Takes up to `size` bytes from `r`, puts those into the file that fit, from `offset` on, and
 /// answers how many.

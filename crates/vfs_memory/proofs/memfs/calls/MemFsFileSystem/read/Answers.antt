@@ -27,7 +27,7 @@ returns g c =
       contents = c.file.inside.contents;
     } in
     let is : file ≡ get_or files place file =
-    c.file.view_is ∙ c.index_mut-file.ensures.value
+    c.file.view_is ∙ c.index-file.ensures
     ∙ ap (get_or files place) (sym c.file.view_is) in
     let within : place < length files = omega (
       arith,
@@ -38,8 +38,9 @@ returns g c =
     ap (λ s. node_place s c.args.inode) (sym c.self.view_is)
     ∙ ap (position (λ (file : Stored). file.node == c.args.inode)) (sym c.deref.ensures.value)
     ∙ sym c.in-Some.ensures.place in
-    let t = c.read_into.ensures in
+    let same = c.bytes.ensures in
+    let t = rw same at c.read_bytes.ensures in
     let a =
     answers_read c.args.self.now files c.self.inside.next place file c.self.view_is within is
-    _ _ _ _ _ _ t.2 in
-    (t.0, t.1, a.0, (rw some (a.1), a.2))
+    _ _ _ _ _ t.2 in
+    (t.0, t.1, a.0, (rw some (a.1), refl))

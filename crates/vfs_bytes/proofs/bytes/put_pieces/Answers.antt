@@ -4,8 +4,8 @@ use Rattle.std.proofs.lemmas.List.{take_all, take_rest}
 use Rattle.std.specs.List.{concat}
 use Rattle.vfs_views.specs.Views.{with_any_piece}
 use Rattle.vfs_views.specs.ViewLaws.{concat-take-set, IsSameRoom-count, IsSameRoom-total, IsSameRoom-then_piece, pieces-with_any_piece}
-use Rattle.vfs_memory.proofs.Pieces.{take_piece}
-use Rattle.vfs_memory.proofs.memfile.put_pieces.Goals as goal
+use Rattle.vfs_bytes.proofs.Pieces.{take_piece}
+use Rattle.vfs_bytes.proofs.bytes.put_pieces.Goals as goal
 
 pub loop-i-preserved : goal.loop-i-preserved
 loop-i-preserved c =

@@ -1,7 +1,7 @@
 use Rattle.std.proofs.Common.{◌≡◌, length, min, take}
 use Rattle.std.specs.List.{concat}
 use Rattle.vfs_views.specs.Views.{IsSameRoom}
-use Rattle.vfs_memory.proofs.memfile.put_pieces.Given as goal
+use Rattle.vfs_bytes.proofs.bytes.put_pieces.Given as goal
 
 abbrev pub invariant-loop-i : goal.invariant-loop-i
 invariant-loop-i l = record {
