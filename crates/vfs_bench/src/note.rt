@@ -1,5 +1,10 @@
 //! What is noted of a call.
 
+ghost use Rattle.std.specs.Prelude.{◌≡◌};
+ghost use Rattle.vfs_flags.specs.Opcode.{opcode_of};
+
+use vfs_flags::Opcode;
+
 /// How a call ended.
 #[derive(Clone, Copy, Debug, PartialEq, Eq)]
 pub enum NoteKind {
@@ -26,4 +31,13 @@ pub struct Note {
     /// The node of the entry that was answered, or the number of the error (0 where the fault has
     /// none), else 0.
     pub value: u64,
+}
+
+impl Note {
+    /// The opcode of the call. Each note that a recorder made has one.
+    pub fn opcode(&self) -> Option<Opcode>
+        ensures { result ≡ opcode_of self.now.call }
+    {
+        Opcode::try_from(self.call).ok()
+    }
 }

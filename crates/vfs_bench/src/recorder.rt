@@ -95,6 +95,27 @@ impl<F> Recorder<F> {
         &self.inner
     }
 
+    /// The file system inside; the notes are gone.
+    pub fn into_inner(self) -> F
+        ensures { result ≡ self.inner }
+    {
+        let Recorder {
+            inner,
+            notes: _,
+            places: _,
+            missed: _,
+        } = self;
+        inner
+    }
+
+    /// Forgets the notes, and that a call was missed: there are as many places as at the beginning.
+    pub fn clear(&mut self)
+        ensures { self.new ≡ record self.old { notes = []; missed = false } }
+    {
+        self.notes.clear();
+        self.missed = false;
+    }
+
     /// Notes a call, where there is a place.
     fn note(&mut self, note: Note)
         ensures inner { self.new.inner ≡ self.old.inner }
