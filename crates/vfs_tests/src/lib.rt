@@ -23,6 +23,8 @@ mod readers;
 #[cfg(test)]
 mod segments;
 #[cfg(test)]
+mod served_tree;
+#[cfg(test)]
 mod server;
 #[cfg(test)]
 mod session;

@@ -1,0 +1,14 @@
+//! File systems that are only read. Whoever has a tree of directories and files states its tables
+//! and gives its [`ReadTree`]; [`ReadOnly`] makes a file system of it.
+#![tactic(auto)]
+
+mod listing;
+mod read_only;
+mod tree;
+
+pub use listing::Listing;
+pub use read_only::ReadOnly;
+pub use tree::{
+    DT_DIR, DT_REG, ReadTree, S_IFDIR, S_IFREG, TreeItem, directory_attr, directory_item,
+    file_attr, file_item, name_in,
+};
