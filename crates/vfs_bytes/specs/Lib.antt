@@ -1,2 +1,4 @@
 pub mod Bytes
+pub mod BytesMut
 pub mod ReadingLaws
+pub mod WritingLaws

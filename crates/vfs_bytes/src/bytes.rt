@@ -82,7 +82,7 @@ fn put_pieces(view: &mut SlicesMut<'_>, bytes: &[u8])
 }
 
 // Copies as many bytes to the front of `piece` as both have, and answers how many.
-fn fill_front(piece: &mut [u8], bytes: &[u8]) -> usize
+pub(crate) fn fill_front(piece: &mut [u8], bytes: &[u8]) -> usize
     ensures count { result ≡ min (length piece.old) (length bytes.now) }
     ensures copied { piece.new ≡ take result bytes.now ++ drop result piece.old }
 {

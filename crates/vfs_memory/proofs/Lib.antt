@@ -1,4 +1,2 @@
-mod FileTransfers
 mod FilesAt
-mod Pieces
 mod RootItems

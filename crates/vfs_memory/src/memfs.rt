@@ -31,7 +31,6 @@ const MOST_FILES: usize = 1000;
 
 mod calls;
 mod entries;
-mod transfers;
 
 /// A file of the root.
 #[derive(Debug, Drop)]

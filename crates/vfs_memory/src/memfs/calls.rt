@@ -6,7 +6,6 @@ ghost use Rattle.vfs_files.specs.Calls.{attr_answer, no_such_call};
 ghost use Rattle.vfs_memory.specs.MemFs.{MemFsAllows, AnswersAttr, attr_at};
 
 use super::entries::Entries;
-use super::transfers::write_from;
 use super::{
     MOST_FILES, MemFs, ROOT_MODE, TIMEOUT_SECONDS, attr, entry, find_name, find_node, make_attr,
     not_found, place_of, place_of_node,
@@ -201,7 +200,7 @@ impl FileSystem for MemFs {
             return Err(not_found());
         };
         let file = &mut self.files[place];
-        write_from(&mut file.contents, r, size, offset)
+        file.contents.write_from(r, size, offset)
     }
 
     fn statfs(&mut self, _ctx: Context, _inode: u64) -> Result<Statvfs64, Fault> {

@@ -1,8 +1,8 @@
 use Rattle.std.proofs.Common.{◌≡◌, ◌-◌, length, take, arith, rules, ap, ◌∙◌, length-take}
 use Rattle.std.specs.List.{concat}
 use Rattle.vfs_views.specs.Segments.{with_bytes_at}
-use Rattle.vfs_memory.proofs.Pieces.{vec_written}
-use Rattle.vfs_memory.proofs.memfile.overwrite.Goals as goal
+use Rattle.vfs_bytes.proofs.Pieces.{vec_written}
+use Rattle.vfs_bytes.proofs.bytes_mut.overwrite.Goals as goal
 
 pub returns : goal.returns
 returns c =

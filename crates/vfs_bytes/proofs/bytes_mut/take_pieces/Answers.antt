@@ -2,9 +2,9 @@ use Rattle.std.proofs.Common.{◌≡◌, ◌<◌, ◌+◌, ◌-◌, ◌++◌, �
 use Rattle.std.proofs.lemmas.List.{take-append-le}
 use Rattle.std.specs.List.{concat}
 use Rattle.vfs_views.specs.ViewLaws.{concat-take_more}
-use Rattle.vfs_memory.proofs.Pieces.{room_filled}
+use Rattle.vfs_bytes.proofs.Pieces.{room_filled}
 use borrow.Rule.Slice.PartMut.{put_mid, post_of, same_len_mid}
-use Rattle.vfs_memory.proofs.memfile.take_pieces.Goals as goal
+use Rattle.vfs_bytes.proofs.bytes_mut.take_pieces.Goals as goal
 
 pub loop-i-preserved : goal.loop-i-preserved
 loop-i-preserved c =

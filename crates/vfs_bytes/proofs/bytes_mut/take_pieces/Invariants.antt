@@ -1,6 +1,6 @@
 use Rattle.std.proofs.Common.{◌≡◌, length, min, take}
 use Rattle.std.specs.List.{concat}
-use Rattle.vfs_memory.proofs.memfile.take_pieces.Given as goal
+use Rattle.vfs_bytes.proofs.bytes_mut.take_pieces.Given as goal
 
 abbrev pub invariant-loop-i : goal.invariant-loop-i
 invariant-loop-i l = record {
