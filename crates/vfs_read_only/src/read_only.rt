@@ -1,6 +1,6 @@
 //! The calls of a tree's file system, in the trait's order.
 
-ghost use Rattle.std.specs.Prelude.{◌≡◌, ◌==◌, Err, Some, if◌then◌else◌};
+ghost use Rattle.std.specs.Prelude.{◌≡◌, ◌==◌, Some, if◌then◌else◌};
 ghost use Rattle.vfs_flags.specs.Errors.{enoent, erofs};
 ghost use Rattle.vfs_files.specs.Answers.{Failed, attr_answer};
 ghost use Rattle.vfs_read_only.specs.ReadOnly.{AnswersAttr, IsEntryOf, refusal_of, lookup_refusal};
@@ -57,13 +57,6 @@ impl<T: ReadTree> ReadOnly<T> {
             self.refusal(parent, Errno::ENOTDIR)
         }
     }
-}
-
-// The fault EROFS: nothing can be changed.
-fn refuse<A>() -> Result<A, Fault>
-    ensures { result ≡ Err (Some erofs) }
-{
-    Err(Some(Errno::EROFS))
 }
 
 // The entry of a node with these attributes.
@@ -132,7 +125,7 @@ impl<T: ReadTree> FileSystem for ReadOnly<T> {
         ensures answer { attr_answer result ≡ Failed (Some erofs) }
         ensures same { self.new ≡ self.old }
     {
-        refuse::<(Attr, Duration)>()
+        Err(Some(Errno::EROFS))
     }
 
     fn readlink(&mut self, _ctx: Context, _inode: u64) -> Result<Vec<u8>, Fault> {
@@ -147,7 +140,7 @@ impl<T: ReadTree> FileSystem for ReadOnly<T> {
         _name: CStr<'_>,
         _ext: Extensions,
     ) -> Result<Entry, Fault> {
-        refuse::<Entry>()
+        Err(Some(Errno::EROFS))
     }
 
     fn mknod(
@@ -160,7 +153,7 @@ impl<T: ReadTree> FileSystem for ReadOnly<T> {
         _umask: u32,
         _ext: Extensions,
     ) -> Result<Entry, Fault> {
-        refuse::<Entry>()
+        Err(Some(Errno::EROFS))
     }
 
     fn mkdir(
@@ -172,15 +165,15 @@ impl<T: ReadTree> FileSystem for ReadOnly<T> {
         _umask: u32,
         _ext: Extensions,
     ) -> Result<Entry, Fault> {
-        refuse::<Entry>()
+        Err(Some(Errno::EROFS))
     }
 
     fn unlink(&mut self, _ctx: Context, _parent: u64, _name: CStr<'_>) -> Result<(), Fault> {
-        refuse::<()>()
+        Err(Some(Errno::EROFS))
     }
 
     fn rmdir(&mut self, _ctx: Context, _parent: u64, _name: CStr<'_>) -> Result<(), Fault> {
-        refuse::<()>()
+        Err(Some(Errno::EROFS))
     }
 
     fn rename(
@@ -192,7 +185,7 @@ impl<T: ReadTree> FileSystem for ReadOnly<T> {
         _newname: CStr<'_>,
         _flags: u32,
     ) -> Result<(), Fault> {
-        refuse::<()>()
+        Err(Some(Errno::EROFS))
     }
 
     fn link(
@@ -202,7 +195,7 @@ impl<T: ReadTree> FileSystem for ReadOnly<T> {
         _newparent: u64,
         _newname: CStr<'_>,
     ) -> Result<Entry, Fault> {
-        refuse::<Entry>()
+        Err(Some(Errno::EROFS))
     }
 
     fn open(
@@ -213,7 +206,7 @@ impl<T: ReadTree> FileSystem for ReadOnly<T> {
         flags: u32,
     ) -> Result<(Option<u64>, OpenOptions), Fault> {
         if flags & FOR_WRITING != 0 {
-            return refuse::<(Option<u64>, OpenOptions)>();
+            return Err(Some(Errno::EROFS));
         }
         defaults::open::<u64>()
     }
@@ -248,7 +241,7 @@ impl<T: ReadTree> FileSystem for ReadOnly<T> {
         _kill_priv: bool,
         _flags: u32,
     ) -> Result<u32, Fault> {
-        refuse::<u32>()
+        Err(Some(Errno::EROFS))
     }
 
     fn statfs(&mut self, _ctx: Context, _inode: u64) -> Result<Statvfs64, Fault> {
@@ -287,7 +280,7 @@ impl<T: ReadTree> FileSystem for ReadOnly<T> {
         _flags: u32,
         _extra: SetxattrFlags,
     ) -> Result<(), Fault> {
-        refuse::<()>()
+        Err(Some(Errno::EROFS))
     }
 
     fn getxattr(
@@ -310,7 +303,7 @@ impl<T: ReadTree> FileSystem for ReadOnly<T> {
     }
 
     fn removexattr(&mut self, _ctx: Context, _inode: u64, _name: CStr<'_>) -> Result<(), Fault> {
-        refuse::<()>()
+        Err(Some(Errno::EROFS))
     }
 
     fn flush(
@@ -388,7 +381,7 @@ impl<T: ReadTree> FileSystem for ReadOnly<T> {
 
     fn access(&mut self, _ctx: Context, _inode: u64, mask: u32) -> Result<(), Fault> {
         if mask & MAY_WRITE != 0 {
-            return refuse::<()>();
+            return Err(Some(Errno::EROFS));
         }
         Ok(())
     }
@@ -404,7 +397,7 @@ impl<T: ReadTree> FileSystem for ReadOnly<T> {
         _umask: u32,
         _ext: Extensions,
     ) -> Result<(Entry, Option<u64>, OpenOptions), Fault> {
-        refuse::<(Entry, Option<u64>, OpenOptions)>()
+        Err(Some(Errno::EROFS))
     }
 
     fn bmap(&mut self) -> Result<(), Fault> {
@@ -440,7 +433,7 @@ impl<T: ReadTree> FileSystem for ReadOnly<T> {
         _offset: u64,
         _length: u64,
     ) -> Result<(), Fault> {
-        refuse::<()>()
+        Err(Some(Errno::EROFS))
     }
 
     fn lseek(
@@ -466,7 +459,7 @@ impl<T: ReadTree> FileSystem for ReadOnly<T> {
         _len: u64,
         _flags: u64,
     ) -> Result<u32, Fault> {
-        refuse::<u32>()
+        Err(Some(Errno::EROFS))
     }
 
     fn syncfs(&mut self, _ctx: Context, _inode: u64) -> Result<(), Fault> {
