@@ -1,6 +1,9 @@
--- Attributes and items, most of whose numbers are 0.
-use Rattle.std.specs.Prelude.{ℕ, List}
+-- Attributes, entries and items, most of whose numbers are 0.
+use Rattle.std.specs.Prelude.{◌≡◌, ℕ, List}
+use Rattle.std.specs.Duration.{as_nanos}
+use Rattle.std.specs.declared.time.Duration.{Duration}
 use Rattle.vfs_wire.specs.declared.attributes.Attr.{Attr}
+use Rattle.vfs_files.specs.declared.entry.Entry.{Entry}
 use Rattle.vfs_read_only.specs.Tables.{Named}
 
 -- the attributes of a node of this kind and permissions, with so many names and bytes
@@ -32,6 +35,18 @@ directory_attr node nlink = attr_of node 0o40555 nlink 0
 -- the attributes of a file of so many bytes that all may read, with one name
 abbrev pub file_attr : (node size : ℕ) → Attr
 file_attr node size = attr_of node 0o100444 1 size
+
+-- one second
+abbrev pub IsSecond : Duration → Type 0
+IsSecond time = as_nanos time ≡ 1_000_000_000
+
+-- the entry of this node, with these attributes
+pub record IsEntryOf (node : ℕ) (attr : Attr) (entry : Entry) : Type 0 where
+  pub inode : entry.inode ≡ node
+  pub generation : entry.generation ≡ 0
+  pub attr_is : entry.attr ≡ attr
+  pub attr_timeout : IsSecond entry.attr_timeout
+  pub entry_timeout : IsSecond entry.entry_timeout
 
 -- a directory of this name
 abbrev pub directory_item : (node : ℕ) (name : List ℕ) → Named

@@ -1,14 +1,12 @@
 -- The file system that is made of a tree which is only read: what its calls answer.
 use Rattle.std.specs.Prelude.{◌≡◌, ℕ, ◌+◌, ◌==◌, bit_and, Bool, true, false, List, [], ◌∷◌, drop, Option, Some, None, is_some, if◌then◌else◌}
-use Rattle.std.specs.Duration.{as_nanos}
-use Rattle.std.specs.declared.time.Duration.{Duration}
 use Rattle.vfs_flags.specs.Errors.{enoent, enotdir, eisdir, erofs}
 use Rattle.vfs_wire.specs.declared.attributes.Attr.{Attr}
-use Rattle.vfs_files.specs.declared.entry.Entry.{Entry}
 use Rattle.vfs_files.specs.Items.{Item}
 use Rattle.vfs_files.specs.Calls.{Call, Lookup, Getattr, Setattr, Symlink, Mknod, Mkdir, Unlink, Rmdir, Rename, Link, Open, Read, Write, Setxattr, Removexattr, Readdir, Access, Create, Fallocate, Copyfilerange, Tmpfile, Answer, Done, Failed, Found, Attributes, Put, Handed, Plain, Iterator, default_opening, default_answer}
 use Rattle.vfs_bytes.specs.Bytes.{part_of, most_put}
 use Rattle.vfs_read_only.specs.Tables.{Named, Tables}
+use Rattle.vfs_read_only.specs.Makers.{IsSecond, IsEntryOf}
 
 -- why a node is refused that is not of the kind that is wanted: there is no such node, or it is of
 -- the other kind, for which this number stands
@@ -19,18 +17,6 @@ refusal_of t node other = if is_some (t.attr node) then other else enoent
 abbrev pub lookup_refusal : Tables → (parent : ℕ) → ℕ
 lookup_refusal t parent =
     if is_some (t.items parent) then enoent else refusal_of t parent enotdir
-
--- one second
-abbrev pub IsSecond : Duration → Type 0
-IsSecond time = as_nanos time ≡ 1_000_000_000
-
--- the entry of this node, with these attributes
-pub record IsEntryOf (node : ℕ) (attr : Attr) (entry : Entry) : Type 0 where
-  pub inode : entry.inode ≡ node
-  pub generation : entry.generation ≡ 0
-  pub attr_is : entry.attr ≡ attr
-  pub attr_timeout : IsSecond entry.attr_timeout
-  pub entry_timeout : IsSecond entry.entry_timeout
 
 -- the entry of a node with these attributes is answered, or that there is no such node
 abbrev pub AnswersEntry : (node : ℕ) → Option Attr → Answer → Type 0

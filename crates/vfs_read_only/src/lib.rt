@@ -3,12 +3,14 @@
 #![tactic(auto)]
 
 mod listing;
+mod makers;
 mod read_only;
 mod tree;
 
 pub use listing::Listing;
-pub use read_only::ReadOnly;
-pub use tree::{
-    DT_DIR, DT_REG, ReadTree, S_IFDIR, S_IFREG, TreeItem, directory_attr, directory_item,
-    file_attr, file_item, name_in,
+pub use makers::{
+    directory_attr, directory_item, file_attr, file_item, name_in, name_position, node_attr,
+    node_entry,
 };
+pub use read_only::ReadOnly;
+pub use tree::{DT_DIR, DT_REG, ReadTree, S_IFDIR, S_IFREG, TreeItem};

@@ -3,9 +3,10 @@
 ghost use Rattle.std.specs.Prelude.{◌≡◌, ◌==◌, Some, if◌then◌else◌};
 ghost use Rattle.vfs_flags.specs.Errors.{enoent, erofs};
 ghost use Rattle.vfs_files.specs.Answers.{Failed, attr_answer};
-ghost use Rattle.vfs_read_only.specs.ReadOnly.{AnswersAttr, IsEntryOf, refusal_of, lookup_refusal};
+ghost use Rattle.vfs_read_only.specs.ReadOnly.{AnswersAttr, refusal_of, lookup_refusal};
 
 use crate::listing::Listing;
+use crate::makers::{TIMEOUT_SECONDS, node_entry};
 use crate::tree::ReadTree;
 use std::time::Duration;
 use vfs_bytes::read_bytes;
@@ -15,9 +16,6 @@ use vfs_files::{
 };
 use vfs_flags::{Errno, Fault, FsOptions, OpenOptions, SetattrValid, SetxattrFlags};
 use vfs_wire::{Attr, SetattrIn, Statvfs64};
-
-/// How long a client may rely on an answer.
-const TIMEOUT_SECONDS: u64 = 1;
 
 /// In `flags` of an open: that it is for writing (`O_WRONLY` or `O_RDWR`).
 const FOR_WRITING: u32 = 3;
@@ -59,19 +57,6 @@ impl<T: ReadTree> ReadOnly<T> {
     }
 }
 
-// The entry of a node with these attributes.
-fn entry(node: u64, attr: Attr) -> Entry
-    ensures { IsEntryOf node attr result }
-{
-    Entry {
-        inode: node,
-        generation: 0,
-        attr,
-        attr_timeout: Duration::from_secs(TIMEOUT_SECONDS),
-        entry_timeout: Duration::from_secs(TIMEOUT_SECONDS),
-    }
-}
-
 impl<T: ReadTree> FileSystem for ReadOnly<T> {
     ghost use Rattle.std.specs.Prelude.{◌≡◌};
     ghost use Rattle.vfs_read_only.specs.ReadOnly.{TreeHands};
@@ -88,7 +73,7 @@ impl<T: ReadTree> FileSystem for ReadOnly<T> {
     fn lookup(&mut self, _ctx: Context, parent: u64, name: CStr<'_>) -> Result<Entry, Fault> {
         match self.tree.child(parent, name.to_bytes()) {
             Some(node) => match self.tree.attr(node) {
-                Some(attr) => Ok(entry(node, attr)),
+                Some(attr) => Ok(node_entry(node, attr)),
                 None => Err(Some(Errno::ENOENT)),
             },
             None => Err(self.lookup_refusal(parent)),

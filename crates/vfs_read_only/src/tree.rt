@@ -1,14 +1,10 @@
-//! What a tree tells of its nodes, and makers of what it tells.
+//! What a tree tells of its nodes.
 
-ghost use Rattle.std.specs.Prelude.{◌≡◌, ◌↔◌, ◌-◌, ◌<◌, ◌^◌, Some, IsSome, IfSome, IsTrue};
-ghost use Rattle.std.specs.Prelude.{slice_get};
+ghost use Rattle.std.specs.Prelude.{◌≡◌, ◌↔◌, ◌-◌, ◌<◌, ◌^◌, IsSome, IfSome, IsTrue, slice_get};
 ghost use Rattle.std.specs.Option.{option_copied};
-ghost use Rattle.vfs_files.specs.Names.{name_of, name_text};
 ghost use Rattle.vfs_read_only.specs.Tables.{Tables, items_of, found_item};
-ghost use Rattle.vfs_read_only.specs.Makers as makers;
 
 use vfs_files::CStr;
-use vfs_flags::{GuestGid, GuestUid};
 use vfs_wire::Attr;
 
 /// In `mode` of attributes: the node is a directory.
@@ -64,83 +60,4 @@ pub trait ReadTree: Copy {
     fn item(&self, node: u64, place: u64) -> Option<TreeItem<'_>>
         ensures item { found_item result ≡ slice_get (items_of (tables self.now) node) place }
         ensures few { IfSome result (λ _. place < 2 ^ 64 - 1) };
-}
-
-/// The name in these bytes, which are its text and a 0.
-pub fn name_in(bytes: &[u8]) -> CStr<'_>
-    requires { IsSome (name_of bytes.now) }
-    ensures { name_of bytes.now ≡ Some (name_text result) }
-{
-    match CStr::from_bytes_with_nul(bytes) {
-        Some(name) => name,
-        None => unreachable!(),
-    }
-}
-
-/// A directory of this name, which stands in `name` with a 0 behind it.
-pub fn directory_item(node: u64, name: &[u8]) -> TreeItem<'_>
-    requires { IsSome (name_of name.now) }
-    ensures node { result.node ≡ node }
-    ensures kind { result.kind ≡ 4 }
-    ensures name { name_of name.now ≡ Some (name_text result.name) }
-{
-    TreeItem {
-        node,
-        kind: DT_DIR,
-        name: name_in(name),
-    }
-}
-
-/// A file of this name, which stands in `name` with a 0 behind it.
-pub fn file_item(node: u64, name: &[u8]) -> TreeItem<'_>
-    requires { IsSome (name_of name.now) }
-    ensures node { result.node ≡ node }
-    ensures kind { result.kind ≡ 8 }
-    ensures name { name_of name.now ≡ Some (name_text result.name) }
-{
-    TreeItem {
-        node,
-        kind: DT_REG,
-        name: name_in(name),
-    }
-}
-
-/// The attributes of a directory that all may read and search, with so many names: 2, and one more
-/// for each directory in it.
-pub fn directory_attr(node: u64, nlink: u32) -> Attr
-    ensures { result ≡ makers.directory_attr node nlink }
-{
-    attr(node, S_IFDIR | 0o555, nlink, 0)
-}
-
-/// The attributes of a file of so many bytes that all may read, with one name.
-pub fn file_attr(node: u64, size: u64) -> Attr
-    ensures { result ≡ makers.file_attr node size }
-{
-    attr(node, S_IFREG | 0o444, 1, size)
-}
-
-// The attributes of a node of this kind and permissions, with so many names and bytes. It belongs
-// to user and group 0, and all its times are 0.
-fn attr(node: u64, mode: u32, nlink: u32, size: u64) -> Attr
-    ensures { result ≡ makers.attr_of node mode nlink size }
-{
-    Attr {
-        ino: node,
-        size,
-        blocks: 0,
-        atime: 0,
-        mtime: 0,
-        ctime: 0,
-        atimensec: 0,
-        mtimensec: 0,
-        ctimensec: 0,
-        mode,
-        nlink,
-        uid: GuestUid::from(0),
-        gid: GuestGid::from(0),
-        rdev: 0,
-        blksize: 4096,
-        flags: 0,
-    }
 }
