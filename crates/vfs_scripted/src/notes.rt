@@ -1,8 +1,29 @@
 //! The notes of the calls, as text.
 
 use std::alloc::{AllocError, Global};
-use vfs_files::{Context, Extensions};
+use vfs_files::{CStr, Context, Extensions};
 use vfs_flags::Fault;
+
+/// An argument of a call: its name, and its value.
+#[derive(Clone, Copy)]
+pub enum Arg<'a> {
+    /// A number.
+    Number(&'a str, u64),
+    /// A number of 32 bits.
+    Small(&'a str, u32),
+    /// A number that need not be there.
+    Maybe(&'a str, Option<u64>),
+    /// True or false.
+    Truth(&'a str, bool),
+    /// Bytes, shown in hex.
+    Bytes(&'a str, &'a [u8]),
+    /// A name, likewise.
+    Name(&'a str, CStr<'a>),
+    /// Pairs of a node and a count, joined by commas.
+    Pairs(&'a str, &'a [(u64, u64)]),
+    /// The extensions of a request: the name and the value of its security context, and its group.
+    Extensions(&'a Extensions),
+}
 
 /// Lines, each with two spaces before it.
 ///
@@ -50,12 +71,33 @@ impl Notes {
     /// Begins the line of a call, with its caller's user, group and process. The process is shown
     /// without a sign, as the request's header has it.
     pub fn call_by(&mut self, name: &str, ctx: &Context) {
-        self.call(name);
         let uid = ctx.uid.into_inner();
         let gid = ctx.gid.into_inner();
         let pid = ctx.pid.cast_unsigned();
-        let noted = write!(self.text, " ctx={uid},{gid},{pid}");
+        let noted = write!(self.text, "  call {name} ctx={uid},{gid},{pid}");
         self.keep(noted);
+    }
+
+    /// Arguments of the call, in this order.
+    pub fn args(&mut self, args: &[Arg<'_>]) {
+        for arg in args {
+            self.arg(*arg);
+        }
+    }
+
+    // An argument.
+    fn arg(&mut self, arg: Arg<'_>) {
+        match arg {
+            Arg::Number(name, value) => self.number(name, value),
+            Arg::Small(name, value) => self.number(name, u64::from(value)),
+            Arg::Maybe(name, value) => self.option(name, value),
+            Arg::Truth(name, true) => self.word(name, "true"),
+            Arg::Truth(name, false) => self.word(name, "false"),
+            Arg::Bytes(name, value) => self.bytes(name, value),
+            Arg::Name(name, value) => self.bytes(name, value.to_bytes()),
+            Arg::Pairs(name, value) => self.pairs(name, value),
+            Arg::Extensions(ext) => self.extensions(ext),
+        }
     }
 
     /// An argument or a part of an answer that is a word.
@@ -82,11 +124,6 @@ impl Notes {
             Some(number) => self.number(name, number),
             None => self.word(name, "none"),
         }
-    }
-
-    /// One that is true or false.
-    pub fn truth(&mut self, name: &str, value: bool) {
-        self.word(name, if value { "true" } else { "false" });
     }
 
     /// Bytes, in hex.

@@ -33,16 +33,16 @@ ghost use Rattle.vfs_files.specs.Answers.{Counts};
 
 use crate::contents::Contents;
 use crate::listing::{Listing, Seeded};
-use crate::notes::Notes;
-use crate::rules::{attr, bytes, entry, fault_of, handle, open_options, time, wanted_bits};
-use crate::told::{Told, bare_entry};
+use crate::notes::{Arg, Notes};
+use crate::rules::{attr, bytes, fault_of, time, wanted_bits};
+use crate::told::{Source, Told};
 use bitflags::Flags;
 use std::alloc::{AllocError, Global};
 use std::cell::RefCell;
 use std::collections::VecDeque;
 use std::mem;
 use std::time::Duration;
-use vfs_files::{Context, Entry, ZeroCopyReader, ZeroCopyWriter};
+use vfs_files::{CStr, Context, Entry, ZeroCopyReader, ZeroCopyWriter};
 use vfs_flags::{Errno, Fault, FsOptions, OpenOptions};
 use vfs_wire::{Attr, SetattrIn};
 
@@ -89,9 +89,16 @@ impl<'a> ScriptFs<'a> {
     }
 
     // Begins the note of a call, and takes its word.
-    fn called_by(&mut self, call: &str, ctx: &Context) {
+    fn begin(&mut self, call: &str, ctx: &Context) {
         self.notes.call_by(call, ctx);
         self.word = ctx.pid.cast_unsigned();
+    }
+
+    // Notes a call, and takes its word.
+    fn called(&mut self, call: &str, ctx: &Context, args: &[Arg<'_>]) {
+        self.begin(call, ctx);
+        self.notes.args(args);
+        self.notes.end();
     }
 
     // The answer that is told for this call, if one is.
@@ -102,106 +109,143 @@ impl<'a> ScriptFs<'a> {
         }
     }
 
-    // What the answer hangs on, or the fault that is the answer.
-    fn seed(&self) -> Result<u32, Fault> {
+    // The seed, or the fault that is the answer.
+    fn seed(&self) -> Result<Source, Fault> {
         let seed = self.word / 8;
         if self.word % 8 == 7 {
             Err(fault_of(seed % 160))
         } else {
-            Ok(seed)
+            Ok(Source::Seed(seed))
+        }
+    }
+
+    // What the answer hangs on, or the fault that is the answer.
+    fn source(&self) -> Result<Source, Fault> {
+        match self.next_told() {
+            Some(told) => told.source(),
+            None => self.seed(),
         }
     }
 
     // The seed, or what the input tells in its place.
     fn seed_or_told(&self) -> Result<u32, Fault> {
-        match self.next_told() {
-            Some(told) => told.seed(),
-            None => self.seed(),
+        match self.source() {
+            Ok(source) => Ok(source.as_seed()),
+            Err(fault) => Err(fault),
         }
     }
 
     // The options that are wanted.
     fn wanted(&self) -> Result<FsOptions, Fault> {
-        let bits = match self.next_told() {
-            Some(told) => told.value()?,
-            None => wanted_bits(self.seed()?),
+        let bits = match self.source()? {
+            Source::Told(bits) => bits,
+            Source::Seed(seed) => wanted_bits(seed),
         };
         Ok(FsOptions::from_bits_truncate(bits))
     }
 
     // What LOOKUP finds.
-    fn found(&self, ctx: &Context, name: &[u8]) -> Result<Entry, Fault> {
-        if let Some(told) = self.next_told() {
-            return Ok(bare_entry(told.value()?));
-        }
-        match name.first() {
-            Some(b'x') => Err(Some(Errno::ENOENT)),
-            Some(b'y') => Err(None),
-            _ => Ok(entry(self.seed()?, ctx, name)),
-        }
+    fn found(&mut self, ctx: &Context, name: CStr<'_>) -> Result<Entry, Fault> {
+        let source = match self.next_told() {
+            Some(told) => told.source(),
+            None => match name.to_bytes().first() {
+                Some(b'x') => Err(Some(Errno::ENOENT)),
+                Some(b'y') => Err(None),
+                _ => self.seed(),
+            },
+        };
+        self.entry_of(source, ctx, name)
     }
 
     // The entry of a node that is made or gets a name.
-    fn made(&self, ctx: &Context, name: &[u8]) -> Result<Entry, Fault> {
-        match self.next_told() {
-            Some(told) => Ok(bare_entry(told.value()?)),
-            None => Ok(entry(self.seed()?, ctx, name)),
+    fn made(&mut self, ctx: &Context, name: CStr<'_>) -> Result<Entry, Fault> {
+        let source = self.source();
+        self.entry_of(source, ctx, name)
+    }
+
+    // The entry by what it hangs on, which is noted.
+    fn entry_of(
+        &mut self,
+        source: Result<Source, Fault>,
+        ctx: &Context,
+        name: CStr<'_>,
+    ) -> Result<Entry, Fault> {
+        let answer = match source {
+            Ok(source) => Ok(source.entry(ctx, name.to_bytes())),
+            Err(fault) => Err(fault),
+        };
+        self.notes.answer(&answer);
+        if let Ok(entry) = &answer {
+            self.notes.number("node", entry.inode);
         }
+        self.notes.end();
+        answer
     }
 
     // What is opened.
-    fn opened(&self) -> Result<(Option<u64>, OpenOptions), Fault> {
-        if let Some(told) = self.next_told() {
-            return Ok((Some(told.value()?), OpenOptions::empty()));
+    fn opened(&mut self) -> Result<(Option<u64>, OpenOptions), Fault> {
+        let answer = match self.source() {
+            Ok(source) => Ok(source.opening()),
+            Err(fault) => Err(fault),
+        };
+        self.notes.answer(&answer);
+        if let Ok((handle, options)) = &answer {
+            self.note_opening(*handle, *options);
         }
-        let seed = self.seed()?;
-        Ok((handle(seed), open_options(seed)))
+        self.notes.end();
+        answer
     }
 
     // The node that is made, and what is opened of it.
     fn created(
-        &self,
+        &mut self,
         ctx: &Context,
-        name: &[u8],
+        name: CStr<'_>,
     ) -> Result<(Entry, Option<u64>, OpenOptions), Fault> {
-        if let Some(told) = self.next_told() {
-            return Ok((bare_entry(told.value()?), None, OpenOptions::empty()));
+        let answer = match self.source() {
+            Ok(source) => Ok(source.creation(ctx, name.to_bytes())),
+            Err(fault) => Err(fault),
+        };
+        self.notes.answer(&answer);
+        if let Ok((entry, handle, options)) = &answer {
+            self.notes.number("node", entry.inode);
+            self.note_opening(*handle, *options);
         }
-        let seed = self.seed()?;
-        Ok((entry(seed, ctx, name), handle(seed), open_options(seed)))
+        self.notes.end();
+        answer
     }
 
     // A reading of a directory from this place on.
     fn listing(&self, place: u64) -> Result<Listing, Fault> {
-        let seed = match self.next_told() {
+        let source = match self.next_told() {
             Some(Told::Directory(directory)) => return Ok(Listing::Told(directory.entries()?)),
-            Some(told) => told.seed()?,
+            Some(told) => told.source()?,
             None => self.seed()?,
         };
-        Ok(Listing::Seeded(Seeded::new(seed, place)))
+        Ok(Listing::Seeded(Seeded::new(source.as_seed(), place)))
     }
 
-    // The attributes of a node.
+    // The attributes of a node. The answer is noted.
     fn attributes(
-        &self,
+        &mut self,
         ctx: &Context,
         inode: u64,
         handle: Option<u64>,
     ) -> Result<(Attr, Duration), Fault> {
-        let t = u64::from(self.seed_or_told()?) + inode % 1000 + handle.unwrap_or(0) % 7;
+        let t = u64::from(self.seed_noted()?) + inode % 1000 + handle.unwrap_or(0) % 7;
         Ok((attr(t, inode, ctx), time(t)))
     }
 
-    // The attributes of a node, where those of the record are set.
+    // The attributes of a node, where those of the record are set. The answer is noted.
     fn changed(
-        &self,
+        &mut self,
         ctx: &Context,
         inode: u64,
         set: &SetattrIn,
         nlink: u32,
         flags: u32,
     ) -> Result<(Attr, Duration), Fault> {
-        let t = u64::from(self.seed_or_told()?);
+        let t = u64::from(self.seed_noted()?);
         let attr = Attr {
             size: set.size,
             atime: set.atime,
@@ -281,48 +325,31 @@ impl<'a> ScriptFs<'a> {
         }
     }
 
-    // The fault of a call that always fails.
-    fn refusal(&self) -> Fault {
-        match self.seed_or_told() {
-            Ok(_) => Some(Errno::ENOSYS),
-            Err(fault) => fault,
-        }
+    // Notes a call that answers only whether it is done, and its answer.
+    fn done(&mut self, call: &str, ctx: &Context, args: &[Arg<'_>]) -> Result<(), Fault> {
+        self.called(call, ctx, args);
+        self.done_noted()
     }
 
-    // Ends the note of a call that answers only whether it is done, and notes the answer.
-    fn done(&mut self) -> Result<(), Fault> {
-        self.notes.end();
-        let answer = match self.seed_or_told() {
-            Ok(_) => Ok(()),
-            Err(fault) => Err(fault),
-        };
-        self.note_plain(&answer);
-        answer
-    }
-
-    // Notes a call that is told nothing, and its answer.
+    // The same of a call that is told nothing.
     fn done_untold(&mut self, call: &str) -> Result<(), Fault> {
         self.notes.call(call);
-        self.done()
+        self.notes.end();
+        self.done_noted()
     }
 
-    // Ends the note of a call that makes a node, and notes the answer.
-    fn done_entry(&mut self, ctx: &Context, name: &[u8]) -> Result<Entry, Fault> {
-        self.notes.end();
-        let answer = self.made(ctx, name);
-        self.note_entry(&answer);
-        answer
-    }
-
-    // Ends the note of a call that opens something, and notes the answer.
-    fn done_opening(&mut self) -> Result<(Option<u64>, OpenOptions), Fault> {
-        self.notes.end();
-        let answer = self.opened();
-        self.notes.answer(&answer);
-        if let Ok((handle, options)) = &answer {
-            self.note_opening(*handle, *options);
+    // That a call is done, which is noted.
+    fn done_noted(&mut self) -> Result<(), Fault> {
+        match self.seed_noted() {
+            Ok(_) => Ok(()),
+            Err(fault) => Err(fault),
         }
-        self.notes.end();
+    }
+
+    // The seed, or what the input tells in its place, noted as an answer of which nothing is shown.
+    fn seed_noted(&mut self) -> Result<u32, Fault> {
+        let answer = self.seed_or_told();
+        self.note_plain(&answer);
         answer
     }
 
@@ -335,15 +362,6 @@ impl<'a> ScriptFs<'a> {
     // Notes an answer of which nothing is shown.
     fn note_plain<T>(&mut self, answer: &Result<T, Fault>) {
         self.notes.answer(answer);
-        self.notes.end();
-    }
-
-    // Notes an answer that is an entry.
-    fn note_entry(&mut self, answer: &Result<Entry, Fault>) {
-        self.notes.answer(answer);
-        if let Ok(entry) = answer {
-            self.notes.number("node", entry.inode);
-        }
         self.notes.end();
     }
 

@@ -1,11 +1,13 @@
 //! Answers that the input tells, for the calls of the requests that follow.
 
+use crate::rules::{entry, handle, open_options};
+use bitflags::Flags;
 use hex::FromHexError;
 use std::alloc::{AllocError, Global};
 use std::time::Duration;
 use vfs_bench::{ScriptDirectory, ScriptItem};
-use vfs_files::{CStr, CString, Entry};
-use vfs_flags::{Errno, Fault};
+use vfs_files::{CStr, CString, Context, Entry};
+use vfs_flags::{Errno, Fault, OpenOptions};
 use vfs_wire::Attr;
 
 /// An answer that a line tells.
@@ -23,23 +25,61 @@ pub enum Told {
 }
 
 impl Told {
-    /// The number that is told, or the fault.
-    pub fn value(&self) -> Result<u64, Fault> {
+    /// What an answer hangs on that is told, or the fault.
+    pub fn source(&self) -> Result<Source, Fault> {
         match self {
-            Told::Value(value) => Ok(*value),
+            Told::Value(value) => Ok(Source::Told(*value)),
             Told::Fault(fault) => Err(*fault),
-            Told::Directory(_) => Ok(0),
+            Told::Directory(_) => Ok(Source::Told(0)),
         }
-    }
-
-    /// The number that is told for the seed, or the fault.
-    pub fn seed(&self) -> Result<u32, Fault> {
-        Ok((self.value()? % 4_294_967_296) as u32)
     }
 }
 
-/// The entry of a node that is told.
-pub fn bare_entry(inode: u64) -> Entry {
+/// What an answer that is no fault hangs on.
+#[derive(Clone, Copy)]
+pub enum Source {
+    /// A number that the input tells.
+    Told(u64),
+    /// The seed.
+    Seed(u32),
+}
+
+impl Source {
+    /// The seed, or what is told in its place.
+    pub fn as_seed(self) -> u32 {
+        match self {
+            Source::Told(value) => (value % 4_294_967_296) as u32,
+            Source::Seed(seed) => seed,
+        }
+    }
+
+    /// The entry of a name, or of the node that is told.
+    pub fn entry(self, ctx: &Context, name: &[u8]) -> Entry {
+        match self {
+            Source::Told(inode) => bare_entry(inode),
+            Source::Seed(seed) => entry(seed, ctx, name),
+        }
+    }
+
+    /// A handle, and how to use what was opened.
+    pub fn opening(self) -> (Option<u64>, OpenOptions) {
+        match self {
+            Source::Told(handle) => (Some(handle), OpenOptions::empty()),
+            Source::Seed(seed) => (handle(seed), open_options(seed)),
+        }
+    }
+
+    /// The entry of a name that is made, and what is opened of it; of a node that is told, no handle.
+    pub fn creation(self, ctx: &Context, name: &[u8]) -> (Entry, Option<u64>, OpenOptions) {
+        match self {
+            Source::Told(inode) => (bare_entry(inode), None, OpenOptions::empty()),
+            Source::Seed(seed) => (entry(seed, ctx, name), handle(seed), open_options(seed)),
+        }
+    }
+}
+
+// The entry of a node that is told.
+fn bare_entry(inode: u64) -> Entry {
     Entry {
         inode,
         generation: 0,
@@ -51,36 +91,37 @@ pub fn bare_entry(inode: u64) -> Entry {
 
 /// Reads what stands behind `answer `. It is `None` where that has none of the forms.
 pub fn parse_told(alloc: Global, text: &[u8]) -> Result<Option<Told>, AllocError> {
-    if let Some(fault) = text.strip_prefix(b"fault ") {
+    let Ok(text) = std::str::from_utf8(text) else {
+        return Ok(None);
+    };
+    if let Some(fault) = text.strip_prefix("fault ") {
         return Ok(parse_fault(fault).map(Told::Fault));
     }
-    if let Some(items) = text.strip_prefix(b"items ") {
+    if let Some(items) = text.strip_prefix("items ") {
         return parse_directory(alloc, items, false);
     }
-    if let Some(items) = text.strip_prefix(b"endless ") {
+    if let Some(items) = text.strip_prefix("endless ") {
         return parse_directory(alloc, items, true);
     }
     Ok(parse_number(text).map(Told::Value))
 }
 
 // The fault of a number, or of none.
-fn parse_fault(text: &[u8]) -> Option<Fault> {
-    if text == b"none".as_slice() {
+fn parse_fault(text: &str) -> Option<Fault> {
+    if text == "none" {
         return Some(None);
     }
-    let number = i32::try_from(parse_number(text)?).ok()?;
-    Some(Some(Errno::new(number)?))
+    Some(Some(Errno::new(text.parse::<i32>().ok()?)?))
 }
 
 // The directory of items joined by spaces.
-fn parse_directory(alloc: Global, text: &[u8], endless: bool) -> Result<Option<Told>, AllocError> {
+fn parse_directory(alloc: Global, text: &str, endless: bool) -> Result<Option<Told>, AllocError> {
     let mut items = Vec::new(alloc);
-    let pieces: Vec<&[u8]> = text.split(|b| *b == b' ').collect(alloc)?;
-    for piece in &pieces {
-        let Some(item) = parse_item(alloc, piece)? else {
-            return Ok(None);
-        };
-        items.push(item)?;
+    for piece in text.split(' ') {
+        match parse_item(alloc, piece)? {
+            Some(item) => items.push(item)?,
+            None => return Ok(None),
+        }
     }
     let directory = if endless {
         ScriptDirectory::endless(alloc, items)
@@ -94,32 +135,33 @@ fn parse_directory(alloc: Global, text: &[u8], endless: bool) -> Result<Option<T
 }
 
 // An item, its four parts joined by commas.
-fn parse_item(alloc: Global, text: &[u8]) -> Result<Option<ScriptItem>, AllocError> {
-    let parts: Vec<&[u8]> = text.split(|b| *b == b',').collect(alloc)?;
-    let [ino, offset, type_, name] = parts.as_slice() else {
+fn parse_item(alloc: Global, text: &str) -> Result<Option<ScriptItem>, AllocError> {
+    let Some((ino, offset, type_, name)) = parts_of(text) else {
         return Ok(None);
     };
-    let (Some(ino), Some(offset), Some(type_)) = (
-        parse_number(ino),
-        parse_number(offset),
-        parse_number(type_),
-    ) else {
-        return Ok(None);
-    };
-    let (Ok(type_), Some(name)) = (u32::try_from(type_), parse_name(alloc, name)?) else {
-        return Ok(None);
-    };
-    Ok(Some(ScriptItem {
-        ino,
-        offset,
-        type_,
-        name,
-    }))
+    match parse_name(alloc, name)? {
+        Some(name) => Ok(Some(ScriptItem {
+            ino,
+            offset,
+            type_,
+            name,
+        })),
+        None => Ok(None),
+    }
+}
+
+// The three numbers of an item, and the text of its name.
+fn parts_of(text: &str) -> Option<(u64, u64, u32, &str)> {
+    let (ino, rest) = text.split_once(',')?;
+    let (offset, rest) = rest.split_once(',')?;
+    let (type_, name) = rest.split_once(',')?;
+    let type_ = type_.parse::<u32>().ok()?;
+    Some((parse_number(ino)?, parse_number(offset)?, type_, name))
 }
 
 // The name whose bytes a text writes in hex.
-fn parse_name(alloc: Global, text: &[u8]) -> Result<Option<CString>, AllocError> {
-    let mut bytes = match hex::decode(alloc, text) {
+fn parse_name(alloc: Global, text: &str) -> Result<Option<CString>, AllocError> {
+    let mut bytes = match hex::decode(alloc, text.as_bytes()) {
         Ok(bytes) => bytes,
         Err(FromHexError::OutOfMemory) => return Err(AllocError),
         Err(_) => return Ok(None),
@@ -135,6 +177,6 @@ fn parse_name(alloc: Global, text: &[u8]) -> Result<Option<CString>, AllocError>
 }
 
 // The number that decimal digits write.
-fn parse_number(text: &[u8]) -> Option<u64> {
-    std::str::from_utf8(text).ok()?.parse::<u64>().ok()
+fn parse_number(text: &str) -> Option<u64> {
+    text.parse::<u64>().ok()
 }

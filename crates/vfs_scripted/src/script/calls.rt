@@ -2,6 +2,7 @@
 
 use super::ScriptFs;
 use crate::listing::Listing;
+use crate::notes::Arg;
 use crate::rules::statistics;
 use bitflags::Flags;
 use std::time::Duration;
@@ -9,10 +10,12 @@ use vfs_files::{
     CStr, Context, Entry, Extensions, FileSystem, GetxattrReply, ListxattrReply, ZeroCopyReader,
     ZeroCopyWriter,
 };
-use vfs_flags::{Fault, FsOptions, OpenOptions, SetattrValid, SetxattrFlags};
+use vfs_flags::{Errno, Fault, FsOptions, OpenOptions, SetattrValid, SetxattrFlags};
 use vfs_wire::{Attr, ByteValued, SetattrIn, Statvfs64};
 
-// Each call notes itself, finds its answer, and notes that. Its relation allows every answer.
+// Each call notes itself, finds its answer, and notes that. Its relation allows every answer. Two
+// references of a caller's, as two names, go into no list of arguments: the borrow checker does not
+// follow both.
 impl FileSystem for ScriptFs<'_> {
     ghost use Rattle.std.specs.Prelude.{⊤};
 
@@ -25,20 +28,20 @@ impl FileSystem for ScriptFs<'_> {
     ghost allows = { λ old call handed new. ⊤ };
 
     fn lookup(&mut self, ctx: Context, parent: u64, name: CStr<'_>) -> Result<Entry, Fault> {
-        self.called_by("lookup", &ctx);
-        self.notes.number("parent", parent);
-        self.notes.bytes("name", name.to_bytes());
-        self.notes.end();
-        let answer = self.found(&ctx, name.to_bytes());
-        self.note_entry(&answer);
-        answer
+        self.called(
+            "lookup",
+            &ctx,
+            &[Arg::Number("parent", parent), Arg::Name("name", name)],
+        );
+        self.found(&ctx, name)
     }
 
     fn forget(&mut self, ctx: Context, inode: u64, count: u64) {
-        self.called_by("forget", &ctx);
-        self.notes.number("inode", inode);
-        self.notes.number("count", count);
-        self.notes.end();
+        self.called(
+            "forget",
+            &ctx,
+            &[Arg::Number("inode", inode), Arg::Number("count", count)],
+        );
     }
 
     fn getattr(
@@ -49,13 +52,12 @@ impl FileSystem for ScriptFs<'_> {
     ) -> Result<(Attr, Duration), Fault>
         ensures { ⊤ }
     {
-        self.called_by("getattr", &ctx);
-        self.notes.number("inode", inode);
-        self.notes.option("handle", handle);
-        self.notes.end();
-        let answer = self.attributes(&ctx, inode, handle);
-        self.note_plain(&answer);
-        answer
+        self.called(
+            "getattr",
+            &ctx,
+            &[Arg::Number("inode", inode), Arg::Maybe("handle", handle)],
+        );
+        self.attributes(&ctx, inode, handle)
     }
 
     fn setattr(
@@ -70,22 +72,22 @@ impl FileSystem for ScriptFs<'_> {
     {
         let mut record = [0u8; SetattrIn::SIZE];
         attr.put(&mut record);
-        self.called_by("setattr", &ctx);
-        self.notes.number("inode", inode);
-        self.notes.bytes("attr", &record);
-        self.notes.option("handle", handle);
-        self.notes.number("valid", u64::from(valid.bits()));
-        self.notes.end();
+        self.called(
+            "setattr",
+            &ctx,
+            &[
+                Arg::Number("inode", inode),
+                Arg::Bytes("attr", &record),
+                Arg::Maybe("handle", handle),
+                Arg::Small("valid", valid.bits()),
+            ],
+        );
         let nlink = if handle.is_some() { 77 } else { 1 };
-        let answer = self.changed(&ctx, inode, &attr, nlink, valid.bits());
-        self.note_plain(&answer);
-        answer
+        self.changed(&ctx, inode, &attr, nlink, valid.bits())
     }
 
     fn readlink(&mut self, ctx: Context, inode: u64) -> Result<Vec<u8>, Fault> {
-        self.called_by("readlink", &ctx);
-        self.notes.number("inode", inode);
-        self.notes.end();
+        self.called("readlink", &ctx, &[Arg::Number("inode", inode)]);
         let answer = self.text();
         self.note_plain(&answer);
         answer
@@ -99,12 +101,17 @@ impl FileSystem for ScriptFs<'_> {
         name: CStr<'_>,
         ext: Extensions,
     ) -> Result<Entry, Fault> {
-        self.called_by("symlink", &ctx);
-        self.notes.bytes("linkname", linkname.to_bytes());
-        self.notes.number("parent", parent);
-        self.notes.bytes("name", name.to_bytes());
-        self.notes.extensions(&ext);
-        self.done_entry(&ctx, name.to_bytes())
+        self.called(
+            "symlink",
+            &ctx,
+            &[
+                Arg::Name("linkname", linkname),
+                Arg::Number("parent", parent),
+                Arg::Name("name", name),
+                Arg::Extensions(&ext),
+            ],
+        );
+        self.made(&ctx, name)
     }
 
     fn mknod(
@@ -117,14 +124,19 @@ impl FileSystem for ScriptFs<'_> {
         umask: u32,
         ext: Extensions,
     ) -> Result<Entry, Fault> {
-        self.called_by("mknod", &ctx);
-        self.notes.number("inode", inode);
-        self.notes.bytes("name", name.to_bytes());
-        self.notes.number("mode", u64::from(mode));
-        self.notes.number("rdev", u64::from(rdev));
-        self.notes.number("umask", u64::from(umask));
-        self.notes.extensions(&ext);
-        self.done_entry(&ctx, name.to_bytes())
+        self.called(
+            "mknod",
+            &ctx,
+            &[
+                Arg::Number("inode", inode),
+                Arg::Name("name", name),
+                Arg::Small("mode", mode),
+                Arg::Small("rdev", rdev),
+                Arg::Small("umask", umask),
+                Arg::Extensions(&ext),
+            ],
+        );
+        self.made(&ctx, name)
     }
 
     fn mkdir(
@@ -136,27 +148,34 @@ impl FileSystem for ScriptFs<'_> {
         umask: u32,
         ext: Extensions,
     ) -> Result<Entry, Fault> {
-        self.called_by("mkdir", &ctx);
-        self.notes.number("parent", parent);
-        self.notes.bytes("name", name.to_bytes());
-        self.notes.number("mode", u64::from(mode));
-        self.notes.number("umask", u64::from(umask));
-        self.notes.extensions(&ext);
-        self.done_entry(&ctx, name.to_bytes())
+        self.called(
+            "mkdir",
+            &ctx,
+            &[
+                Arg::Number("parent", parent),
+                Arg::Name("name", name),
+                Arg::Small("mode", mode),
+                Arg::Small("umask", umask),
+                Arg::Extensions(&ext),
+            ],
+        );
+        self.made(&ctx, name)
     }
 
     fn unlink(&mut self, ctx: Context, parent: u64, name: CStr<'_>) -> Result<(), Fault> {
-        self.called_by("unlink", &ctx);
-        self.notes.number("parent", parent);
-        self.notes.bytes("name", name.to_bytes());
-        self.done()
+        self.done(
+            "unlink",
+            &ctx,
+            &[Arg::Number("parent", parent), Arg::Name("name", name)],
+        )
     }
 
     fn rmdir(&mut self, ctx: Context, parent: u64, name: CStr<'_>) -> Result<(), Fault> {
-        self.called_by("rmdir", &ctx);
-        self.notes.number("parent", parent);
-        self.notes.bytes("name", name.to_bytes());
-        self.done()
+        self.done(
+            "rmdir",
+            &ctx,
+            &[Arg::Number("parent", parent), Arg::Name("name", name)],
+        )
     }
 
     fn rename(
@@ -168,13 +187,14 @@ impl FileSystem for ScriptFs<'_> {
         newname: CStr<'_>,
         flags: u32,
     ) -> Result<(), Fault> {
-        self.called_by("rename", &ctx);
+        self.begin("rename", &ctx);
         self.notes.number("olddir", olddir);
         self.notes.bytes("oldname", oldname.to_bytes());
         self.notes.number("newdir", newdir);
         self.notes.bytes("newname", newname.to_bytes());
         self.notes.number("flags", u64::from(flags));
-        self.done()
+        self.notes.end();
+        self.done_noted()
     }
 
     fn link(
@@ -184,11 +204,16 @@ impl FileSystem for ScriptFs<'_> {
         newparent: u64,
         newname: CStr<'_>,
     ) -> Result<Entry, Fault> {
-        self.called_by("link", &ctx);
-        self.notes.number("inode", inode);
-        self.notes.number("newparent", newparent);
-        self.notes.bytes("newname", newname.to_bytes());
-        self.done_entry(&ctx, newname.to_bytes())
+        self.called(
+            "link",
+            &ctx,
+            &[
+                Arg::Number("inode", inode),
+                Arg::Number("newparent", newparent),
+                Arg::Name("newname", newname),
+            ],
+        );
+        self.made(&ctx, newname)
     }
 
     fn open(
@@ -198,11 +223,16 @@ impl FileSystem for ScriptFs<'_> {
         kill_priv: bool,
         flags: u32,
     ) -> Result<(Option<u64>, OpenOptions), Fault> {
-        self.called_by("open", &ctx);
-        self.notes.number("inode", inode);
-        self.notes.truth("kill_priv", kill_priv);
-        self.notes.number("flags", u64::from(flags));
-        self.done_opening()
+        self.called(
+            "open",
+            &ctx,
+            &[
+                Arg::Number("inode", inode),
+                Arg::Truth("kill_priv", kill_priv),
+                Arg::Small("flags", flags),
+            ],
+        );
+        self.opened()
     }
 
     fn read<W: ZeroCopyWriter>(
@@ -216,14 +246,18 @@ impl FileSystem for ScriptFs<'_> {
         lock_owner: Option<u64>,
         flags: u32,
     ) -> Result<usize, Fault> {
-        self.called_by("read", &ctx);
-        self.notes.number("inode", inode);
-        self.notes.number("handle", handle);
-        self.notes.number("size", u64::from(size));
-        self.notes.number("offset", offset);
-        self.notes.option("owner", lock_owner);
-        self.notes.number("flags", u64::from(flags));
-        self.notes.end();
+        self.called(
+            "read",
+            &ctx,
+            &[
+                Arg::Number("inode", inode),
+                Arg::Number("handle", handle),
+                Arg::Small("size", size),
+                Arg::Number("offset", offset),
+                Arg::Maybe("owner", lock_owner),
+                Arg::Small("flags", flags),
+            ],
+        );
         let answer = self.read_file(w, size, offset);
         self.note_moved(&answer);
         answer
@@ -242,31 +276,31 @@ impl FileSystem for ScriptFs<'_> {
         kill_priv: bool,
         flags: u32,
     ) -> Result<u32, Fault> {
-        self.called_by("write", &ctx);
-        self.notes.number("inode", inode);
-        self.notes.number("handle", handle);
-        self.notes.number("size", u64::from(size));
-        self.notes.number("offset", offset);
-        self.notes.option("owner", lock_owner);
-        self.notes.truth("delayed_write", delayed_write);
-        self.notes.truth("kill_priv", kill_priv);
-        self.notes.number("flags", u64::from(flags));
-        self.notes.end();
+        self.called(
+            "write",
+            &ctx,
+            &[
+                Arg::Number("inode", inode),
+                Arg::Number("handle", handle),
+                Arg::Small("size", size),
+                Arg::Number("offset", offset),
+                Arg::Maybe("owner", lock_owner),
+                Arg::Truth("delayed_write", delayed_write),
+                Arg::Truth("kill_priv", kill_priv),
+                Arg::Small("flags", flags),
+            ],
+        );
         let answer = self.write_file(r, size, offset);
         self.note_number("count", &answer);
         answer
     }
 
     fn statfs(&mut self, ctx: Context, inode: u64) -> Result<Statvfs64, Fault> {
-        self.called_by("statfs", &ctx);
-        self.notes.number("inode", inode);
-        self.notes.end();
-        let answer = match self.seed_or_told() {
+        self.called("statfs", &ctx, &[Arg::Number("inode", inode)]);
+        match self.seed_noted() {
             Ok(seed) => Ok(statistics(seed)),
             Err(fault) => Err(fault),
-        };
-        self.note_plain(&answer);
-        answer
+        }
     }
 
     fn release(
@@ -279,14 +313,18 @@ impl FileSystem for ScriptFs<'_> {
         flock_release: bool,
         lock_owner: Option<u64>,
     ) -> Result<(), Fault> {
-        self.called_by("release", &ctx);
-        self.notes.number("inode", inode);
-        self.notes.number("flags", u64::from(flags));
-        self.notes.number("handle", handle);
-        self.notes.truth("flush", flush);
-        self.notes.truth("flock_release", flock_release);
-        self.notes.option("owner", lock_owner);
-        self.done()
+        self.done(
+            "release",
+            &ctx,
+            &[
+                Arg::Number("inode", inode),
+                Arg::Small("flags", flags),
+                Arg::Number("handle", handle),
+                Arg::Truth("flush", flush),
+                Arg::Truth("flock_release", flock_release),
+                Arg::Maybe("owner", lock_owner),
+            ],
+        )
     }
 
     fn fsync(
@@ -296,11 +334,15 @@ impl FileSystem for ScriptFs<'_> {
         datasync: bool,
         handle: u64,
     ) -> Result<(), Fault> {
-        self.called_by("fsync", &ctx);
-        self.notes.number("inode", inode);
-        self.notes.truth("datasync", datasync);
-        self.notes.number("handle", handle);
-        self.done()
+        self.done(
+            "fsync",
+            &ctx,
+            &[
+                Arg::Number("inode", inode),
+                Arg::Truth("datasync", datasync),
+                Arg::Number("handle", handle),
+            ],
+        )
     }
 
     fn setxattr(
@@ -312,13 +354,14 @@ impl FileSystem for ScriptFs<'_> {
         flags: u32,
         extra: SetxattrFlags,
     ) -> Result<(), Fault> {
-        self.called_by("setxattr", &ctx);
+        self.begin("setxattr", &ctx);
         self.notes.number("inode", inode);
         self.notes.bytes("name", name.to_bytes());
         self.notes.bytes("value", value);
         self.notes.number("flags", u64::from(flags));
         self.notes.number("extra", u64::from(extra.bits()));
-        self.done()
+        self.notes.end();
+        self.done_noted()
     }
 
     fn getxattr(
@@ -328,39 +371,45 @@ impl FileSystem for ScriptFs<'_> {
         name: CStr<'_>,
         size: u32,
     ) -> Result<GetxattrReply, Fault> {
-        self.called_by("getxattr", &ctx);
-        self.notes.number("inode", inode);
-        self.notes.bytes("name", name.to_bytes());
-        self.notes.number("size", u64::from(size));
-        self.notes.end();
-        let answer = match self.attribute() {
+        self.called(
+            "getxattr",
+            &ctx,
+            &[
+                Arg::Number("inode", inode),
+                Arg::Name("name", name),
+                Arg::Small("size", size),
+            ],
+        );
+        let found = self.attribute();
+        self.note_plain(&found);
+        match found {
             Ok((Some(text), _)) => Ok(GetxattrReply::Value(text)),
             Ok((None, count)) => Ok(GetxattrReply::Count(count)),
             Err(fault) => Err(fault),
-        };
-        self.note_plain(&answer);
-        answer
+        }
     }
 
     fn listxattr(&mut self, ctx: Context, inode: u64, size: u32) -> Result<ListxattrReply, Fault> {
-        self.called_by("listxattr", &ctx);
-        self.notes.number("inode", inode);
-        self.notes.number("size", u64::from(size));
-        self.notes.end();
-        let answer = match self.attribute() {
+        self.called(
+            "listxattr",
+            &ctx,
+            &[Arg::Number("inode", inode), Arg::Small("size", size)],
+        );
+        let found = self.attribute();
+        self.note_plain(&found);
+        match found {
             Ok((Some(text), _)) => Ok(ListxattrReply::Names(text)),
             Ok((None, count)) => Ok(ListxattrReply::Count(count)),
             Err(fault) => Err(fault),
-        };
-        self.note_plain(&answer);
-        answer
+        }
     }
 
     fn removexattr(&mut self, ctx: Context, inode: u64, name: CStr<'_>) -> Result<(), Fault> {
-        self.called_by("removexattr", &ctx);
-        self.notes.number("inode", inode);
-        self.notes.bytes("name", name.to_bytes());
-        self.done()
+        self.done(
+            "removexattr",
+            &ctx,
+            &[Arg::Number("inode", inode), Arg::Name("name", name)],
+        )
     }
 
     fn flush(
@@ -370,11 +419,15 @@ impl FileSystem for ScriptFs<'_> {
         handle: u64,
         lock_owner: u64,
     ) -> Result<(), Fault> {
-        self.called_by("flush", &ctx);
-        self.notes.number("inode", inode);
-        self.notes.number("handle", handle);
-        self.notes.number("owner", lock_owner);
-        self.done()
+        self.done(
+            "flush",
+            &ctx,
+            &[
+                Arg::Number("inode", inode),
+                Arg::Number("handle", handle),
+                Arg::Number("owner", lock_owner),
+            ],
+        )
     }
 
     fn init(&mut self, capable: FsOptions) -> Result<FsOptions, Fault> {
@@ -396,10 +449,12 @@ impl FileSystem for ScriptFs<'_> {
         inode: u64,
         flags: u32,
     ) -> Result<(Option<u64>, OpenOptions), Fault> {
-        self.called_by("opendir", &ctx);
-        self.notes.number("inode", inode);
-        self.notes.number("flags", u64::from(flags));
-        self.done_opening()
+        self.called(
+            "opendir",
+            &ctx,
+            &[Arg::Number("inode", inode), Arg::Small("flags", flags)],
+        );
+        self.opened()
     }
 
     fn readdir(
@@ -410,12 +465,16 @@ impl FileSystem for ScriptFs<'_> {
         size: u32,
         offset: u64,
     ) -> Result<Listing, Fault> {
-        self.called_by("readdir", &ctx);
-        self.notes.number("inode", inode);
-        self.notes.number("handle", handle);
-        self.notes.number("size", u64::from(size));
-        self.notes.number("offset", offset);
-        self.notes.end();
+        self.called(
+            "readdir",
+            &ctx,
+            &[
+                Arg::Number("inode", inode),
+                Arg::Number("handle", handle),
+                Arg::Small("size", size),
+                Arg::Number("offset", offset),
+            ],
+        );
         let answer = self.listing(offset);
         self.note_plain(&answer);
         answer
@@ -428,11 +487,15 @@ impl FileSystem for ScriptFs<'_> {
         flags: u32,
         handle: u64,
     ) -> Result<(), Fault> {
-        self.called_by("releasedir", &ctx);
-        self.notes.number("inode", inode);
-        self.notes.number("flags", u64::from(flags));
-        self.notes.number("handle", handle);
-        self.done()
+        self.done(
+            "releasedir",
+            &ctx,
+            &[
+                Arg::Number("inode", inode),
+                Arg::Small("flags", flags),
+                Arg::Number("handle", handle),
+            ],
+        )
     }
 
     fn fsyncdir(
@@ -442,11 +505,15 @@ impl FileSystem for ScriptFs<'_> {
         datasync: bool,
         handle: u64,
     ) -> Result<(), Fault> {
-        self.called_by("fsyncdir", &ctx);
-        self.notes.number("inode", inode);
-        self.notes.truth("datasync", datasync);
-        self.notes.number("handle", handle);
-        self.done()
+        self.done(
+            "fsyncdir",
+            &ctx,
+            &[
+                Arg::Number("inode", inode),
+                Arg::Truth("datasync", datasync),
+                Arg::Number("handle", handle),
+            ],
+        )
     }
 
     fn getlk(&mut self) -> Result<(), Fault> {
@@ -462,10 +529,11 @@ impl FileSystem for ScriptFs<'_> {
     }
 
     fn access(&mut self, ctx: Context, inode: u64, mask: u32) -> Result<(), Fault> {
-        self.called_by("access", &ctx);
-        self.notes.number("inode", inode);
-        self.notes.number("mask", u64::from(mask));
-        self.done()
+        self.done(
+            "access",
+            &ctx,
+            &[Arg::Number("inode", inode), Arg::Small("mask", mask)],
+        )
     }
 
     fn create(
@@ -479,23 +547,20 @@ impl FileSystem for ScriptFs<'_> {
         umask: u32,
         ext: Extensions,
     ) -> Result<(Entry, Option<u64>, OpenOptions), Fault> {
-        self.called_by("create", &ctx);
-        self.notes.number("parent", parent);
-        self.notes.bytes("name", name.to_bytes());
-        self.notes.number("mode", u64::from(mode));
-        self.notes.truth("kill_priv", kill_priv);
-        self.notes.number("flags", u64::from(flags));
-        self.notes.number("umask", u64::from(umask));
-        self.notes.extensions(&ext);
-        self.notes.end();
-        let answer = self.created(&ctx, name.to_bytes());
-        self.notes.answer(&answer);
-        if let Ok((entry, handle, options)) = &answer {
-            self.notes.number("node", entry.inode);
-            self.note_opening(*handle, *options);
-        }
-        self.notes.end();
-        answer
+        self.called(
+            "create",
+            &ctx,
+            &[
+                Arg::Number("parent", parent),
+                Arg::Name("name", name),
+                Arg::Small("mode", mode),
+                Arg::Truth("kill_priv", kill_priv),
+                Arg::Small("flags", flags),
+                Arg::Small("umask", umask),
+                Arg::Extensions(&ext),
+            ],
+        );
+        self.created(&ctx, name)
     }
 
     fn bmap(&mut self) -> Result<(), Fault> {
@@ -522,9 +587,7 @@ impl FileSystem for ScriptFs<'_> {
     fn batch_forget(&mut self, ctx: Context, requests: Vec<(u64, u64)>)
         ensures { ⊤ }
     {
-        self.called_by("batch_forget", &ctx);
-        self.notes.pairs("requests", &requests);
-        self.notes.end();
+        self.called("batch_forget", &ctx, &[Arg::Pairs("requests", &requests)]);
     }
 
     fn fallocate(
@@ -536,13 +599,17 @@ impl FileSystem for ScriptFs<'_> {
         offset: u64,
         length: u64,
     ) -> Result<(), Fault> {
-        self.called_by("fallocate", &ctx);
-        self.notes.number("inode", inode);
-        self.notes.number("handle", handle);
-        self.notes.number("mode", u64::from(mode));
-        self.notes.number("offset", offset);
-        self.notes.number("length", length);
-        self.done()
+        self.done(
+            "fallocate",
+            &ctx,
+            &[
+                Arg::Number("inode", inode),
+                Arg::Number("handle", handle),
+                Arg::Small("mode", mode),
+                Arg::Number("offset", offset),
+                Arg::Number("length", length),
+            ],
+        )
     }
 
     fn lseek(
@@ -553,12 +620,16 @@ impl FileSystem for ScriptFs<'_> {
         offset: u64,
         whence: u32,
     ) -> Result<u64, Fault> {
-        self.called_by("lseek", &ctx);
-        self.notes.number("inode", inode);
-        self.notes.number("handle", handle);
-        self.notes.number("offset", offset);
-        self.notes.number("whence", u64::from(whence));
-        self.notes.end();
+        self.called(
+            "lseek",
+            &ctx,
+            &[
+                Arg::Number("inode", inode),
+                Arg::Number("handle", handle),
+                Arg::Number("offset", offset),
+                Arg::Small("whence", whence),
+            ],
+        );
         let answer = match self.seed_or_told() {
             Ok(seed) if seed % 2 == 0 => Ok(offset),
             Ok(seed) => Ok(u64::from(seed)),
@@ -580,16 +651,20 @@ impl FileSystem for ScriptFs<'_> {
         len: u64,
         flags: u64,
     ) -> Result<u32, Fault> {
-        self.called_by("copyfilerange", &ctx);
-        self.notes.number("inode_in", inode_in);
-        self.notes.number("handle_in", handle_in);
-        self.notes.number("offset_in", offset_in);
-        self.notes.number("inode_out", inode_out);
-        self.notes.number("handle_out", handle_out);
-        self.notes.number("offset_out", offset_out);
-        self.notes.number("len", len);
-        self.notes.number("flags", flags);
-        self.notes.end();
+        self.called(
+            "copyfilerange",
+            &ctx,
+            &[
+                Arg::Number("inode_in", inode_in),
+                Arg::Number("handle_in", handle_in),
+                Arg::Number("offset_in", offset_in),
+                Arg::Number("inode_out", inode_out),
+                Arg::Number("handle_out", handle_out),
+                Arg::Number("offset_out", offset_out),
+                Arg::Number("len", len),
+                Arg::Number("flags", flags),
+            ],
+        );
         let answer = match self.seed_or_told() {
             Ok(seed) => Ok(u32::try_from(len).unwrap_or(seed).min(seed)),
             Err(fault) => Err(fault),
@@ -599,15 +674,16 @@ impl FileSystem for ScriptFs<'_> {
     }
 
     fn syncfs(&mut self, ctx: Context, inode: u64) -> Result<(), Fault> {
-        self.called_by("syncfs", &ctx);
-        self.notes.number("inode", inode);
-        self.done()
+        self.done("syncfs", &ctx, &[Arg::Number("inode", inode)])
     }
 
     fn tmpfile(&mut self) -> Fault {
         self.notes.call("tmpfile");
         self.notes.end();
-        let fault = self.refusal();
+        let fault = match self.seed_or_told() {
+            Ok(_) => Some(Errno::ENOSYS),
+            Err(fault) => fault,
+        };
         self.notes.fault(&fault);
         self.notes.end();
         fault
