@@ -1,10 +1,12 @@
 #!/usr/bin/env bash
 # Runs the program vfs_demo on its stored session, and shows each request with its answer.
 #
+# Usage: tools/demo.sh
 # It runs the proved program where that is built and no source is newer, and otherwise builds the
 # program without a proof, which takes some ten seconds. Status 0: each answer is the stored one.
 set -eu
 . "$(dirname "$0")/usage.sh"
+take_none "$@"
 . "$(dirname "$0")/program.sh"
 
 # What a request is, by the opcode in its header.

@@ -21,6 +21,9 @@
 #   pictures            are those that tools/pictures.sh draws
 set -eu
 . "$(dirname "$0")/usage.sh"
+take_none "$@"
+need rt "Put the folder bin of the Rattle toolchain on the PATH."
+need python3 "Install it: apt-get install python3."
 cd "$(dirname "$0")/.."
 
 kit=$(rt version) exec python3 - <<'PYTHON'

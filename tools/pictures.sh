@@ -12,6 +12,11 @@
 #   ratios.svg   the ratios of the table in docs/SPEED.md
 set -eu
 . "$(dirname "$0")/usage.sh"
+case $#,${1:-} in
+    0, | 1,--check) ;;
+    *) echo "Usage: tools/pictures.sh [--check]" >&2 && exit 2 ;;
+esac
+need python3 "Install it: apt-get install python3."
 cd "$(dirname "$0")/.."
 
 exec python3 - "$@" <<'PYTHON'

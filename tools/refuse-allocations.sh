@@ -25,6 +25,9 @@
 # Python, and takes seconds. Status 0: all runs ended so, and their counts are printed.
 set -eu
 . "$(dirname "$0")/usage.sh"
+take_none "$@"
+need "${CC:-cc}" "Install a C compiler: apt-get install gcc libc6-dev."
+need python3 "Install it: apt-get install python3."
 cd "$(dirname "$0")/.."
 
 folder=$(mktemp -d)
@@ -51,8 +54,9 @@ def built(name):
                for it in glob.glob(f"crates/*/{kind}/**", recursive=True) if os.path.isfile(it)]
     newest = max(os.path.getmtime(it) for it in ["crates.txt", *sources])
     if not os.path.exists(path) or os.path.getmtime(path) < newest:
-        sys.exit(f"There is no {path} of today's sources. `rt ci` builds it, and so does "
-                 f"`rt run < stdin` in crates/{name}.")
+        print(f"There is no {path} of today's sources. `rt ci` builds it, and so does "
+              f"`rt run < stdin` in crates/{name}.", file=sys.stderr)
+        sys.exit(2)
     return path
 
 

@@ -7,6 +7,16 @@
 # file `a` holds `hello`; files of at most 64 KiB; nothing sets a mode, a time or a size; no folder, no
 # link and no new name is made. Status 0: each step came to that.
 # shellcheck disable=SC2016
+case ${1:-} in
+    -h | --help)
+        sed -n '2,${/^#/!q;s/^# \{0,1\}//p}' "$0"
+        exit 0
+        ;;
+esac
+if [ $# != 1 ] || [ ! -d "$1" ]; then
+    echo "Usage: tools/session.sh FOLDER, which is there" >&2
+    exit 2
+fi
 export LC_ALL=C
 steps=0
 wrong=0

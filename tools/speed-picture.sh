@@ -7,6 +7,7 @@
 # first line names the columns.
 set -eu
 . "$(dirname "${BASH_SOURCE[0]}")/usage.sh"
+take_none "$@"
 folder=$(cd "$(dirname "${BASH_SOURCE[0]}")/../docs/speed" && pwd)
 
 awk -F '\t' '

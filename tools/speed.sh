@@ -19,14 +19,6 @@ here=$(cd "$(dirname "${BASH_SOURCE[0]}")/.." && pwd)
 crate=$here/crates/vfs_speed
 library=$crate/out/libvfs_speed.a
 
-# Stops where a command is not there.
-need() {
-    if ! command -v "$1" > /dev/null; then
-        echo "Missing: the command \`$1\`, $2." >&2
-        exit 2
-    fi
-}
-
 beside='' growth=''
 source=() flags=()
 while [ $# -gt 0 ]; do
@@ -46,13 +38,13 @@ while [ $# -gt 0 ]; do
 done
 
 [ -n "$beside" ] || [ ${#source[@]} = 0 ] || { echo "--source is of use with --beside alone." >&2 && exit 2; }
-need rt "of the Rattle toolchain, which builds the library: put its folder bin on the PATH"
+need rt "The Rattle toolchain builds the library: put its folder bin on the PATH."
 kit=$(cd "$(dirname "$(rt doc)")" && pwd)
 if [ -n "$beside" ]; then
-    need rustc "a Rust compiler"
+    need rustc "Install a Rust compiler: apt-get install rustc."
     "$here/tools/oracle/build.sh" "${source[@]}"
 else
-    need cc "a C compiler"
+    need cc "Install a C compiler: apt-get install gcc libc6-dev."
 fi
 folder=$(mktemp -d)
 trap 'rm -rf "$folder"' EXIT

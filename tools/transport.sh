@@ -1,14 +1,6 @@
-# For the scripts beside it that link the library for C.
+# For the scripts beside it that link the library for C; they source usage.sh first.
 # shellcheck shell=bash
 . "$(dirname "${BASH_SOURCE[0]}")/program.sh"
-
-# Stops where a command is not there: need COMMAND "what to do".
-need() {
-    if ! command -v "$1" > /dev/null; then
-        echo "Missing: the command \`$1\`. $2" >&2
-        exit 2
-    fi
-}
 
 # Sets `library` to the library and what it stands on. That is the proved one where it is built and no
 # source is newer; otherwise tools/unproved.sh builds it without a proof. It says which one it is.

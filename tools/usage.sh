@@ -1,7 +1,24 @@
 # Sourced by the tools: one that is asked for help prints the comment at the head of its file.
+# shellcheck shell=bash
 case ${1:-} in
     -h | --help)
         sed -n '2,${/^#/!q;s/^# \{0,1\}//p}' "$0"
         exit 0
         ;;
 esac
+
+# Stops where a command is not there: need COMMAND "what to do".
+need() {
+    if ! command -v "$1" > /dev/null; then
+        echo "Missing: the command \`$1\`. $2" >&2
+        exit 2
+    fi
+}
+
+# Stops a tool that takes no arguments where it was given some: take_none "$@".
+take_none() {
+    if [ $# != 0 ]; then
+        echo "Usage: tools/${0##*/}" >&2
+        exit 2
+    fi
+}
