@@ -1,6 +1,8 @@
 -- The headers of requests and replies.
-use Rattle.std.specs.Prelude.{[], ◌∷◌, slice_index}
+use Rattle.std.specs.Prelude.{ℕ, [], ◌∷◌, slice_index}
 use Rattle.std.specs.Int.{w32, cast_signed, cast_unsigned}
+use Rattle.vfs_flags.specs.Opcode.{number_of}
+use Rattle.vfs_flags.specs.declared.opcode.Opcode.{Opcode}
 use Rattle.vfs_wire.specs.Fields.{Table}
 use Rattle.vfs_wire.specs.declared.headers.InHeader.{InHeader}
 use Rattle.vfs_wire.specs.declared.headers.OutHeader.{OutHeader}
@@ -22,6 +24,20 @@ in_header = record {
     total_extlen = slice_index xs 7;
     padding = slice_index xs 8;
   };
+}
+
+-- the header of a request with this length, of the user and the group 0 and of no process
+abbrev pub request_header : (len : ℕ) → Opcode → (unique nodeid : ℕ) → InHeader
+request_header len opcode unique nodeid = record {
+  len = len;
+  opcode = number_of opcode;
+  unique = unique;
+  nodeid = nodeid;
+  uid = 0;
+  gid = 0;
+  pid = 0;
+  total_extlen = 0;
+  padding = 0;
 }
 
 -- OutHeader: 16 bytes

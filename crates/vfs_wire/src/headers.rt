@@ -1,17 +1,17 @@
 //! The headers of requests and replies.
 
-ghost use Rattle.std.specs.Prelude.{drop, refl, FitsSigned};
+ghost use Rattle.std.specs.Prelude.{◌≡◌, drop, refl, FitsSigned};
 ghost use Rattle.std.specs.Int.{w32};
 ghost use Rattle.std.proofs.Common.{ap, lit≤};
 ghost use Rattle.std.proofs.lemmas.Int.{of_z-to_z, to_z-of_z};
 ghost use Rattle.vfs_wire.specs.Fields.{number};
 ghost use Rattle.vfs_wire.specs.FieldLaws.{AreBytes-drop, number-lt};
-ghost use Rattle.vfs_wire.specs.Headers.{in_header, out_header};
+ghost use Rattle.vfs_wire.specs.Headers.{in_header, request_header, out_header};
 
 use crate::ByteValued;
 use crate::bytes::Field::{Eight, Four, Two};
 use crate::bytes::{put_fields, u16_at, u32_at, u64_at};
-use vfs_flags::{GuestGid, GuestUid};
+use vfs_flags::{GuestGid, GuestUid, Opcode};
 
 /// The header that each request begins with (`struct fuse_in_header`, 40 bytes).
 #[derive(Clone, Copy, Debug, Default)]
@@ -34,6 +34,22 @@ pub struct InHeader {
     pub total_extlen: u16,
     /// Not used; a sender writes 0.
     pub padding: u16,
+}
+
+impl InHeader {
+    /// The header of a request of `len` bytes in all, by the user and the group 0 and no process, and
+    /// without extensions.
+    pub fn new(len: u32, opcode: Opcode, unique: u64, nodeid: u64) -> InHeader
+        ensures { result ≡ request_header len opcode unique nodeid }
+    {
+        InHeader {
+            len,
+            opcode: opcode as u32,
+            unique,
+            nodeid,
+            ..InHeader::default()
+        }
+    }
 }
 
 impl ByteValued for InHeader {
