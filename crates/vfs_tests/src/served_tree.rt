@@ -3,7 +3,7 @@
 use crate::support::handle;
 use example_tree::Docs;
 use std::test::Fail;
-use vfs_read_only::ReadOnly;
+use vfs_read_only::{ReadOnly, name_position};
 use vfs_server::server::Server;
 
 /// What stands behind the header of a READ of 100 bytes from place 7 on.
@@ -34,5 +34,13 @@ fn a_tree_is_served(rt: HostRuntime) -> Result<(), Fail> {
     // An UNLINK, of opcode 10, is refused by EROFS, which is 30 and comes negated.
     let (len, reply) = handle(alloc, &mut server, (10, 1, b"hello.txt\0"), &[16], 0)?;
     assert!(rt; len == 16 && has(&reply, 4, b"\xe2\xff\xff\xff"));
+    Ok(())
+}
+
+#[test]
+fn a_name_is_at_its_first_place(rt: HostRuntime) -> Result<(), Fail> {
+    let names = [b"a".as_slice(), b"b".as_slice(), b"b".as_slice()];
+    assert_eq!(rt; name_position(&names, b"b"), Some(1));
+    assert_eq!(rt; name_position(&names, b"c"), None);
     Ok(())
 }
