@@ -106,9 +106,8 @@ fn cuttings_of(
 // The bytes of a form of a message.
 fn bytes_of(alloc: Global, bytes: &[u8], form: Form) -> Result<Vec<u8>, AllocError> {
     let mut all = Vec::from_slice(alloc, bytes)?;
-    for (place, byte) in all.iter_mut().take(4).zip(form.len.to_le_bytes()) {
-        *place = byte;
-    }
+    let written = all.len().min(4);
+    all[..written].copy_from_slice(&form.len.to_le_bytes()[..written]);
     all.truncate(form.taken);
     Ok(all)
 }
