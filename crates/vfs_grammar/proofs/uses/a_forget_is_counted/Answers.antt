@@ -1,3 +1,4 @@
+use Rattle.std.proofs.Common.{rules}
 use Rattle.std.proofs.Common.{◌≡◌, ℕ, List, Result, Ok, refl, ap, ◌∙◌}
 use Rattle.vfs_flags.specs.Opcode.{opcode_of}
 use Rattle.vfs_wire.specs.Fields.{number}
@@ -16,3 +17,6 @@ returns-clause-accepted c = λ t request outcome.
     ap (λ (r : List ℕ). accepted_by 7 r t.outcome) request
     ∙ ap (λ (o : Result ℕ Error). accepted_by 7 batch_of_two o) outcome
     ∙ batch_accepts_7
+
+pub returns-clause-refused : goal.returns-clause-refused
+returns-clause-refused c = search rules
