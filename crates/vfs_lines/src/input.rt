@@ -10,15 +10,8 @@ use std::alloc::Global;
 use std::io;
 use vfs_memory::MemFs;
 
-/// Reads all of `input`, answers the lines before the first bad one, and then writes the answers to
-/// `output`, a line each, as [`answers_to`] gives them: what the program `vfs_demo` does with its
-/// standard input and output.
-///
-/// The lines are one session of a server over a new [`MemFs`], with no options agreed and of the
-/// limit that [`server_for`] gives it by the first line. A line that sets the limit has no answer.
-/// For a bad line `bad line N` is written after the answers of those before it, where N counts all
-/// lines, and [`RunError::BadLine`] answered. An input without a byte has no line. How much was
-/// written before another error is open.
+/// Reads all of `input` and answers its lines as [`run_text`] does: what the program `vfs_demo` does
+/// with its standard input and output.
 pub fn run<R: io::Read, W: io::Write>(
     alloc: Global,
     input: &mut R,
@@ -27,8 +20,22 @@ pub fn run<R: io::Read, W: io::Write>(
     ensures { IfSome (R.remaining input.old) (λ text. EndsSession (lines_in text) result) }
 {
     let text = read_all(alloc, input)?;
+    run_text(alloc, &text, output)
+}
+
+/// Answers the lines of `text` before the first bad one, and then writes the answers to `output`, a
+/// line each, as [`answers_to`] gives them.
+///
+/// The lines are one session of a server over a new [`MemFs`], with no options agreed and of the
+/// limit that [`server_for`] gives it by the first line. A line that sets the limit has no answer.
+/// For a bad line `bad line N` is written after the answers of those before it, where N counts all
+/// lines, and [`RunError::BadLine`] answered. A text without a byte has no line. How much was
+/// written before another error is open.
+pub fn run_text<W: io::Write>(alloc: Global, text: &[u8], output: &mut W) -> Result<(), RunError>
+    ensures { EndsSession (lines_in text.now) result }
+{
     let mut answers = String::new(alloc);
-    let outcome = answer_all(alloc, &text, &mut answers);
+    let outcome = answer_all(alloc, text, &mut answers);
     write_all(output, answers.as_str())?;
     outcome
 }

@@ -14,9 +14,11 @@ mod uses;
 
 pub use answer::answer_line;
 pub use error::{RunError, exit_status, report};
-pub use input::run;
+pub use input::{run, run_text};
 pub use limit::{PAGE_SIZE, first_limit, lines_before_requests, parse_limit, server_for};
 pub use line::{Line, MOST_ROOM, lines_of, parse_line};
 pub use session::{answer_to, answers_to, read_all, write_all};
-pub use usage::{Program, USAGE_STATUS, print_usage, refuses_arguments, report_session};
+pub use usage::{
+    Program, USAGE_STATUS, greet_terminal, print_usage, refuses_arguments, report_session,
+};
 pub use vfs_memory::{MemFile, MemFs};

@@ -45,6 +45,31 @@ pub fn parse_line(alloc: Global, line: &[u8]) -> Result<Option<Line>, RunError>
     Ok(Some(Line { rooms, segments }))
 }
 
+/// What is wrong with a line that [`parse_line`] does not read, in words.
+pub fn why_bad(line: &[u8]) -> &'static str {
+    let Some(space) = first_space(line) else {
+        return "it has no space between the rooms and the segments";
+    };
+    match &line[..space] {
+        b"limit" => return "a limit is 4096 to 134217728 in 4 to 9 digits, in the first line alone",
+        b"answer" => return "an answer is of the forms in the usage of vfs_script, which takes it",
+        _ => {}
+    }
+    let mut rooms = line[..space].split(|b| *b == b'+');
+    if rooms.any(|room| parse_length(room).is_none()) {
+        return "the length of a room is not one to seven decimal digits";
+    }
+    for segment in line[space + 1..].split(|b| *b == b'+') {
+        if !segment.iter().all(u8::is_ascii_hexdigit) {
+            return "a segment has a byte that is no hex digit";
+        }
+        if segment.len() % 2 == 1 {
+            return "a segment has an odd number of hex digits";
+        }
+    }
+    "its rooms have more than 2097152 bytes together"
+}
+
 // Where the first space of a line is.
 fn first_space(line: &[u8]) -> Option<usize>
     ensures place { result ≡ position (λ b. b == 32) line.now }

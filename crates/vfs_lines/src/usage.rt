@@ -1,8 +1,10 @@
 //! What a program over a session tells a person who starts it wrongly.
 
 use crate::error::{RunError, report};
+use crate::line::why_bad;
 use std::env::FillError;
 use std::io;
+use std::io::IsTerminal;
 use std::rt::Env;
 
 /// The status of a program that was given an argument: that of a bad line.
@@ -45,15 +47,38 @@ pub fn refuses_arguments(rt: &(impl Env + Eprint), program: Program) -> bool {
     true
 }
 
-/// Prints what the answers of a session don't say: the usage of a program, where the first line is
-/// bad, and an error that is no bad line, as [`report`] does.
+/// Tells a person at a terminal, on standard error, how long a program reads.
+pub fn greet_terminal(
+    rt: &impl Eprint,
+    input: &impl IsTerminal,
+    program: Program,
+) -> io::Result<()> {
+    if !input.is_terminal() {
+        return Ok(());
+    }
+    let name = program.name;
+    eprintln!(rt;
+        "{name} reads lines to the end of its input, and answers them then (--help: which)"
+    )
+}
+
+/// Prints what the answers to the lines of `text` don't say: on standard error what is wrong with a
+/// bad line, and the usage of a program where that is the first; and an error that is no bad line,
+/// as [`report`] does.
 pub fn report_session(
     rt: &(impl Print + Eprint),
+    text: &[u8],
     outcome: &Result<(), RunError>,
     program: Program,
 ) -> io::Result<()> {
-    match outcome {
-        Err(RunError::BadLine(1)) => print_usage(rt, program),
-        outcome => report(rt, outcome),
+    let Err(RunError::BadLine(number)) = outcome else {
+        return report(rt, outcome);
+    };
+    let mut lines = text.split(|b| *b == b'\n');
+    let why = why_bad(lines.nth(number.saturating_sub(1)).unwrap_or(b""));
+    eprintln!(rt; "bad line {number}: {why}")?;
+    if *number == 1 {
+        return print_usage(rt, program);
     }
+    Ok(())
 }

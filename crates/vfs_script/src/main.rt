@@ -20,20 +20,22 @@
 //! `vfs_scripted`, so that any request can be made to meet any answer, and another implementation of
 //! the protocol with the same file system must write the same lines. The program takes no arguments
 //! and opens no file; one that is started otherwise, or whose first line is bad, prints to standard
-//! error what it takes.
+//! error what it takes. What is wrong with a bad line goes there too, and at a terminal that the
+//! program reads to the end of its input.
 #![tactic(auto)]
 
 mod corpus;
 mod run;
 
 use std::process::ExitCode;
-use vfs_lines::{Program, USAGE_STATUS, exit_status, refuses_arguments, report_session};
+use vfs_lines::{
+    Program, USAGE_STATUS, exit_status, greet_terminal, read_all, refuses_arguments, report_session,
+};
 
 /// What the program's usage says of it.
 const PROGRAM: Program = Program {
     name: "vfs_script",
-    more_lines: "\
-  answer ANSWER   What the next call is answered: N, fault N, fault none, items ITEM ..
+    more_lines: "  answer ANSWER   What the next call is answered: N, fault N, fault none, items ITEM ..
                   or endless ITEM .., where an ITEM is INO,OFFSET,TYPE,NAME.
   corpus          The corpus of hostile messages, cut, shortened and changed.
   # ..            Nothing.
@@ -44,7 +46,15 @@ fn main(rt: HostRuntime) -> ExitCode {
     if refuses_arguments(&rt, PROGRAM) {
         return ExitCode::from(USAGE_STATUS);
     }
-    let outcome = run::run(rt.alloc(), &mut rt.stdin(), &mut rt.stdout());
-    let _ = report_session(&rt, &outcome, PROGRAM);
+    let _ = greet_terminal(&rt, &rt.stdin(), PROGRAM);
+    let alloc = rt.alloc();
+    let (text, outcome) = match read_all(alloc, &mut rt.stdin()) {
+        Ok(text) => {
+            let outcome = run::run(alloc, &text, &mut rt.stdout());
+            (text, outcome)
+        }
+        Err(error) => (Vec::new(alloc), Err(error)),
+    };
+    let _ = report_session(&rt, &text, &outcome, PROGRAM);
     ExitCode::from(exit_status(&outcome))
 }

@@ -1,4 +1,4 @@
-//! A session: the lines of an input, answered one after another.
+//! A session: the lines of a text, answered one after another.
 
 use crate::corpus::push_corpus;
 use std::alloc::Global;
@@ -6,8 +6,7 @@ use std::cell::RefCell;
 use std::collections::VecDeque;
 use std::io;
 use vfs_lines::{
-    Line, RunError, answer_to, lines_before_requests, lines_of, parse_line, read_all, server_for,
-    write_all,
+    Line, RunError, answer_to, lines_before_requests, lines_of, parse_line, server_for, write_all,
 };
 use vfs_scripted::{ScriptFs, Told, parse_told};
 use vfs_server::server::Server;
@@ -31,17 +30,12 @@ enum Said {
     Comment,
 }
 
-/// Reads all of `input`, answers each line before the first bad one, and then writes the answers
-/// and the calls to `output`. The first line may set the server's limit, and has no answer then. For
-/// a bad line `bad line N` is written after them, where N counts all lines, and [`RunError::BadLine`] answered.
-pub fn run<R: io::Read, W: io::Write>(
-    alloc: Global,
-    input: &mut R,
-    output: &mut W,
-) -> Result<(), RunError> {
-    let text = read_all(alloc, input)?;
+/// Answers each line of `text` before the first bad one, and then writes the answers and the calls
+/// to `output`. The first line may set the server's limit, and has no answer then. For a bad line
+/// `bad line N` is written after them, where N counts all lines, and [`RunError::BadLine`] answered.
+pub fn run<W: io::Write>(alloc: Global, text: &[u8], output: &mut W) -> Result<(), RunError> {
     let mut answers = String::new(alloc);
-    let outcome = answer_all(alloc, &text, &mut answers);
+    let outcome = answer_all(alloc, text, &mut answers);
     write_all(output, answers.as_str())?;
     outcome
 }
