@@ -49,6 +49,7 @@ pub fn give_back<F: FileSystem>(fs: &mut F, header: &InHeader, node: u64)
 
 /// Adds the record of a directory's entry with what it got, and gives that back where the record
 /// isn't written.
+#[inline(always)]
 fn add_got<F: FileSystem>(
     fs: &mut F,
     header: &InHeader,
@@ -75,6 +76,7 @@ fn add_got<F: FileSystem>(
 
 /// Adds the record of a directory's entry with what its `lookup` answered; a fault of that is the
 /// answer.
+#[inline(always)]
 fn add_found<F: FileSystem>(
     fs: &mut F,
     header: &InHeader,

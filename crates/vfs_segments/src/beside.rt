@@ -23,6 +23,7 @@ fn clear_end(out: &mut [u8], n: usize)
 
 // Writes a record, the bytes and so many zeros over all of `out`. The zeros are written first, with
 // some bytes in front of them that are then written over.
+#[inline(always)]
 pub(crate) fn spell_padded<T: ByteValued>(out: &mut [u8], x: &T, bytes: &[u8], zeros: usize)
     requires { length out.old ≡ T.SIZE + length bytes.now + zeros }
     ensures wrote { out.new ≡ bytes_of T.table x.now ++ (bytes.now ++ replicate zeros 0) }

@@ -10,6 +10,7 @@ use crate::spelled::{Record, Spelled};
 use vfs_wire::ByteValued;
 
 // Spells a value over as many bytes that stand from place `at` of a segment on: `len` of them.
+#[inline(always)]
 fn spell_over<S: Spelled>(segment: &mut Vec<u8>, at: usize, len: usize, x: &S)
     requires whole { len ≡ S.size x.now }
     requires fits { at + len ≤ vec_len segment.old }
@@ -30,6 +31,7 @@ impl Segments<Vec<Vec<u8>>> {
     }
 
     // Spells a value over as many bytes that stand from place `at` of segment `i` on: `len` of them.
+    #[inline(always)]
     fn spell_in<S: Spelled>(&mut self, i: usize, at: usize, len: usize, x: &S)
         requires listed { i < length self.old }
         requires whole { len ≡ S.size x.now }
@@ -69,6 +71,7 @@ impl Segments<Vec<Vec<u8>>> {
 
     // Spells a value over as many bytes that stand from place `at` on, where one segment has all of
     // them. Answers whether it has, and else writes nothing.
+    #[inline(always)]
     pub(crate) fn put_whole<S: Spelled>(&mut self, at: usize, x: &S) -> bool
         requires { at ≤ length (flat_bytes self.old) }
         ensures wrote { result ≡ true → flat_bytes self.new ≡
