@@ -607,13 +607,16 @@ fn is_noted(recorder: &mut Recorder<Script>, noted: usize, missed: bool) -> bool
     recorder.getlk().is_ok() && recorder.notes().len() == noted && recorder.missed() == missed
 }
 
+/// How many calls are noted in two places after each of four calls, and whether one was missed.
+static NOTED_AND_MISSED: [(usize, bool); 4] = [(1, false), (2, false), (2, true), (2, true)];
+
 #[test]
 fn a_call_without_a_place_is_missed_and_answered(rt: HostRuntime) -> Result<(), Fail> {
     let mut script = Script::new();
     script.done = Ok(());
     let mut recorder = script_server(rt.alloc(), script, 2)?.into_fs();
-    for (noted, missed) in [(1, false), (2, false), (2, true), (2, true)] {
-        assert!(rt; is_noted(&mut recorder, noted, missed));
+    for (noted, missed) in &NOTED_AND_MISSED {
+        assert!(rt; is_noted(&mut recorder, *noted, *missed));
     }
     assert!(rt; recorder.inner().done.is_ok());
     Ok(())
@@ -741,23 +744,24 @@ fn takings(script: &Script) -> Option<u64> {
     }
 }
 
-/// Whether all of these notes are this one.
-fn are_all(notes: Option<&[Note]>, note: &Note) -> bool {
-    match notes {
-        Some(notes) => notes.iter().all(|noted| noted == note),
-        None => false,
-    }
-}
-
 /// Whether the calls are a `readdir`, so many lookups, and so many forgets.
 fn are_calls(recorder: &Recorder<Script>, lookups: u16, forgets: u16) -> bool {
-    let notes = recorder.notes();
-    let behind = 1 + usize::from(lookups);
-    are_all(notes.get(..1), &READ)
-        && are_all(notes.get(1..behind), &LOOKED_UP)
-        && are_all(notes.get(behind..), &GIVEN_BACK)
-        && notes.len() == behind + usize::from(forgets)
-        && !recorder.missed()
+    let lookups = usize::from(lookups);
+    let mut place = 0usize;
+    for noted in recorder.notes() {
+        let want = if place == 0 {
+            &READ
+        } else if place <= lookups {
+            &LOOKED_UP
+        } else {
+            &GIVEN_BACK
+        };
+        if noted != want {
+            return false;
+        }
+        place = place.saturating_add(1);
+    }
+    place == 1 + lookups + usize::from(forgets) && !recorder.missed()
 }
 
 /// The header of a successful reply of so many bytes.

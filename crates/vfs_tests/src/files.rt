@@ -62,10 +62,13 @@ fn names_are_equal_where_their_bytes_are(rt: HostRuntime) {
     assert!(rt; are_equal(b"ab\0", b"abc\0") == Some(false));
 }
 
+/// Numbers of nodes and handles.
+static NUMBERS: [u64; 4] = [0, 1, 0x0123_4567_89ab_cdef, u64::MAX];
+
 #[test]
 fn a_number_comes_back(rt: HostRuntime) {
-    for n in [0, 1, 0x0123_4567_89ab_cdef, u64::MAX] {
-        assert_eq!(rt; u64::from_number(n).number(), n);
+    for n in &NUMBERS {
+        assert!(rt; u64::from_number(*n).number() == *n);
     }
 }
 

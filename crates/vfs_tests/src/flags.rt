@@ -30,21 +30,11 @@ const ERRORS: [(Errno, i32, &str); 20] = [
     (Errno::EOPNOTSUPP, 95, "EOPNOTSUPP (95)"),
 ];
 
-/// The first number that is another error's.
-fn wrong_error() -> Option<i32> {
-    for (e, n, _) in ERRORS {
-        if e.get() != n || Errno::new(n) != Some(e) {
-            return Some(n);
-        }
-    }
-    None
-}
-
-/// The first number whose error is shown otherwise.
-fn wrongly_shown(alloc: Global) -> Result<Option<i32>, AllocError> {
-    for (e, n, text) in ERRORS {
-        if !has_text(alloc, &e, text)? {
-            return Ok(Some(n));
+/// The first number that is another error's, or whose error is shown otherwise.
+fn wrong_error(alloc: Global) -> Result<Option<i32>, AllocError> {
+    for (e, n, text) in &ERRORS {
+        if e.get() != *n || Errno::new(*n) != Some(*e) || !has_text(alloc, e, text)? {
+            return Ok(Some(*n));
         }
     }
     Ok(None)
@@ -58,23 +48,18 @@ fn is_shown_by_number(alloc: Global) -> Result<bool, AllocError> {
     }
 }
 
-#[test]
-fn errors_are_shown_by_name_and_number(rt: HostRuntime) -> Result<(), Fail> {
-    assert!(rt; wrongly_shown(rt.alloc())?.is_none());
-    assert!(rt; is_shown_by_number(rt.alloc())?);
-    Ok(())
-}
-
 /// The numbers of no error, from 0 down.
-const NO_ERRORS: [i32; 3] = [0, -1, i32::MIN];
+static NO_ERRORS: [i32; 3] = [0, -1, i32::MIN];
 
 #[test]
-fn error_numbers(rt: HostRuntime) {
-    assert!(rt; wrong_error().is_none());
-    for n in NO_ERRORS {
-        assert!(rt; Errno::new(n).is_none(), "at {n}");
+fn errors_have_their_numbers_and_texts(rt: HostRuntime) -> Result<(), Fail> {
+    assert!(rt; wrong_error(rt.alloc())?.is_none());
+    assert!(rt; is_shown_by_number(rt.alloc())?);
+    for n in &NO_ERRORS {
+        assert!(rt; Errno::new(*n).is_none());
     }
     assert!(rt; matches!(Errno::new(i32::MAX), Some(e) if e.get() == i32::MAX));
+    Ok(())
 }
 
 /// An id of each kind that is made of a number, as a number again.
@@ -108,7 +93,7 @@ fn opcodes_have_their_numbers(rt: HostRuntime) {
         } else {
             None
         };
-        assert_eq!(rt; known(n), want);
+        assert!(rt; known(n) == want);
     }
 }
 

@@ -1,6 +1,6 @@
 //! Lines that are read and refused, and the texts of errors.
 
-use crate::support::{are, has_text};
+use crate::support::{are, have_texts};
 use std::alloc::Global;
 use std::test::Fail;
 use vfs_lines::{RunError, parse_line};
@@ -89,8 +89,6 @@ static TEXTS: [(RunError, &str); 3] = [
 
 #[test]
 fn each_end_of_a_run_has_a_text(rt: HostRuntime) -> Result<(), Fail> {
-    for (error, text) in &TEXTS {
-        assert!(rt; has_text(rt.alloc(), error, text)?, "at {text}");
-    }
+    assert!(rt; have_texts(rt.alloc(), &TEXTS)?);
     Ok(())
 }

@@ -1,7 +1,6 @@
 //! The state of a file system that serves nothing.
 
-use crate::support::has_text;
-use std::alloc::{AllocError, Global};
+use crate::support::have_texts;
 use std::process::Abort;
 use std::test::Fail;
 use vfs_files::Unserved;
@@ -42,18 +41,8 @@ const TEXTS: [(MigrateError, &str); 3] = [
     ),
 ];
 
-/// Whether each is shown so.
-fn are_shown(alloc: Global) -> Result<bool, AllocError> {
-    for (error, text) in TEXTS {
-        if !has_text(alloc, &error, text)? {
-            return Ok(false);
-        }
-    }
-    Ok(true)
-}
-
 #[test]
 fn errors_of_migration_have_texts(rt: HostRuntime) -> Result<(), Fail> {
-    assert!(rt; are_shown(rt.alloc())?);
+    assert!(rt; have_texts(rt.alloc(), &TEXTS)?);
     Ok(())
 }

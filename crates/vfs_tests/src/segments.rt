@@ -2,7 +2,7 @@
 //! segments, written and read.
 
 use crate::readers::{Answer, cleared, kind_of, numbers, read, read_exact};
-use crate::support::{are, filled, has_text};
+use crate::support::{are, filled, have_texts};
 use std::alloc::{AllocError, Global};
 use std::io;
 use std::io::{ErrorKind, Write};
@@ -11,9 +11,6 @@ use vfs_segments::{DescriptorType, Error, Reader, Writer};
 
 /// How many bytes the largest write of a client has.
 const LARGEST_WRITE: usize = 65_536;
-
-/// The bytes of 0x12345678, each a segment.
-const WORD: [&[u8]; 4] = [&[0x78], &[0x56], &[0x34], &[0x12]];
 
 /// A call of a writer.
 #[derive(Clone, Copy)]
@@ -161,7 +158,7 @@ static WRITES: [WriteTest; 13] = [
     WriteTest {
         lengths: &[1, 1, 1, 1],
         calls: &[(WriteCall::Word(0x1234_5678), Ok(4), (0, 4, 0))],
-        segments: &WORD,
+        segments: &[&[0x78], &[0x56], &[0x34], &[0x12]],
     },
     WriteTest {
         lengths: &[16, 16, 16],
@@ -299,7 +296,7 @@ fn split(writer: &mut Writer, at: usize) -> Result<Writer, Error> {
 }
 
 /// Where a writer over 16, 16 and 96 bytes is split, and the room of both parts.
-const WRITER_SPLITS: [(usize, usize, usize); 4] = [
+static WRITER_SPLITS: [(usize, usize, usize); 4] = [
     (0, 0, 128),
     (24, 24, 104),
     (32, 32, 96),
@@ -324,9 +321,9 @@ fn is_writer_split(
 
 #[test]
 fn a_writer_is_split_at_the_cuts_and_between_them(rt: HostRuntime) -> Result<(), Fail> {
-    for row in WRITER_SPLITS {
+    for row in &WRITER_SPLITS {
         let mut writer = writer_over(rt.alloc(), &[16, 16, 96])?;
-        assert!(rt; is_writer_split(&mut writer, row)?);
+        assert!(rt; is_writer_split(&mut writer, *row)?);
     }
     Ok(())
 }
@@ -409,24 +406,6 @@ fn slices_of(alloc: Global, segments: &[Vec<u8>]) -> Result<Vec<&[u8]>, AllocErr
     Ok(slices)
 }
 
-/// What is read of four segments of one byte that a number was written over.
-fn number_again(alloc: Global, x: u32) -> Result<Option<u32>, Error> {
-    let mut writer = writer_over(alloc, &[1, 1, 1, 1])?;
-    if writer.write_obj(x).is_err() {
-        return Ok(None);
-    }
-    let segments = writer.into_segments();
-    let slices = slices_of(alloc, &segments)?;
-    let mut reader = Reader::new(alloc, &slices)?;
-    Ok(reader.read_obj().ok())
-}
-
-#[test]
-fn a_number_over_four_segments_comes_back(rt: HostRuntime) -> Result<(), Fail> {
-    assert!(rt; number_again(rt.alloc(), 0x1234_5678)? == Some(0x1234_5678));
-    Ok(())
-}
-
 /// Whether a clone of a reader reads all bytes into a buffer of as many.
 fn clone_reads_all(reader: &Reader<'_>, buf: &mut [u8]) -> Result<bool, Error> {
     let mut clone = reader.clone()?;
@@ -492,8 +471,6 @@ static TEXTS: [(Error, &str); 4] = [
 
 #[test]
 fn each_error_has_a_text(rt: HostRuntime) -> Result<(), Fail> {
-    for (error, text) in &TEXTS {
-        assert!(rt; has_text(rt.alloc(), error, text)?, "at {text}");
-    }
+    assert!(rt; have_texts(rt.alloc(), &TEXTS)?);
     Ok(())
 }

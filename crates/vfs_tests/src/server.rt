@@ -2,7 +2,7 @@
 //! at file systems of the tests' own; and texts.
 
 use crate::support::{
-    ScriptServer, filled, handle_by_script, has_text, joined, reply_by_script, script_server,
+    ScriptServer, filled, handle_by_script, have_texts, joined, reply_by_script, script_server,
 };
 use bitflags::Flags;
 use std::alloc::{AllocError, Global};
@@ -211,8 +211,6 @@ static TEXTS: [(Error, &str); 10] = [
 
 #[test]
 fn each_error_has_a_text(rt: HostRuntime) -> Result<(), Fail> {
-    for (error, text) in &TEXTS {
-        assert!(rt; has_text(rt.alloc(), error, text)?, "at {text}");
-    }
+    assert!(rt; have_texts(rt.alloc(), &TEXTS)?);
     Ok(())
 }

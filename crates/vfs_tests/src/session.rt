@@ -271,13 +271,19 @@ fn ends_by_output(alloc: Global, room: usize) -> Result<bool, AllocError> {
     Ok(end == Err(RunError::Io))
 }
 
+/// What an input gives before it fails.
+static BEFORE_A_FAULT: [&str; 3] = ["", "0", FORGET];
+
+/// How many bytes an output takes before it fails.
+static ROOMS: [usize; 3] = [0, 1, 4];
+
 #[test]
 fn a_fault_of_input_or_output_ends_the_run(rt: HostRuntime) -> Result<(), Fail> {
-    for bytes in [b"".as_slice(), b"0".as_slice(), FORGET.as_bytes()] {
-        assert!(rt; ends_by_input(rt.alloc(), bytes));
+    for text in &BEFORE_A_FAULT {
+        assert!(rt; ends_by_input(rt.alloc(), text.as_bytes()));
     }
-    for room in [0, 1, 4] {
-        assert!(rt; ends_by_output(rt.alloc(), room)?, "a room of {room}");
+    for room in &ROOMS {
+        assert!(rt; ends_by_output(rt.alloc(), *room)?);
     }
     Ok(())
 }

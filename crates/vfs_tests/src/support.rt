@@ -62,6 +62,16 @@ pub fn has_text<E: Display>(alloc: Global, error: &E, text: &str) -> Result<bool
     Ok(shown.as_str() == text)
 }
 
+/// Whether each error has its text.
+pub fn have_texts<E: Display>(alloc: Global, rows: &[(E, &str)]) -> Result<bool, AllocError> {
+    for (error, text) in rows {
+        if !has_text(alloc, error, text)? {
+            return Ok(false);
+        }
+    }
+    Ok(true)
+}
+
 /// A message: its opcode, its node, and the bytes behind its header.
 pub type Message<'a> = (u8, u8, &'a [u8]);
 
