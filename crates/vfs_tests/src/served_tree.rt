@@ -1,39 +1,69 @@
-//! The tree of three files, served: requests as bytes, and what their replies say.
+//! The tree of three files, served: a client's requests, handed over by the simplest transport.
 
-use crate::support::handle;
+use crate::support::{handle, have_texts};
+use example_client::{data, lookup, read, said};
 use example_tree::Docs;
 use std::test::Fail;
+use vfs_flags::Errno;
 use vfs_read_only::{ReadOnly, name_position};
+use vfs_serve::{ServeError, serve};
 use vfs_server::server::Server;
-
-/// What stands behind the header of a READ of 100 bytes from place 7 on.
-const READ: [u8; 40] = *b"\
-    \0\0\0\0\0\0\0\0\x07\0\0\0\0\0\0\0\x64\0\0\0\0\0\0\0\0\0\0\0\0\0\0\0\0\0\0\0\0\0\0\0";
-
-/// Whether a reply has these bytes from a place on.
-fn has(reply: &[u8], from: usize, bytes: &[u8]) -> bool {
-    match reply.get(from..) {
-        Some(rest) => rest.starts_with(bytes),
-        None => false,
-    }
-}
+use vfs_wire::EntryOut;
 
 #[test]
 fn a_tree_is_served(rt: HostRuntime) -> Result<(), Fail> {
     let alloc = rt.alloc();
     let mut server = Server::new(ReadOnly { tree: Docs }, 4096);
 
-    // A LOOKUP, of opcode 1, in node 1: behind a header of 16 bytes stands the node, 2.
-    let (len, reply) = handle(alloc, &mut server, (1, 1, b"hello.txt\0"), &[144], 0)?;
-    assert!(rt; len == 144 && has(&reply, 16, b"\x02\0\0\0\0\0\0\0"));
+    // Request 1 is a LOOKUP in node 1. The answer is node 2.
+    let request = lookup(alloc, 1, 1, b"hello.txt")?;
+    let reply = serve(alloc, &mut server, &request, 144)?;
+    let entry = said::<EntryOut>(&reply).ok_or("cut short")?;
+    assert_eq!(rt; entry.map(|entry| entry.nodeid), Ok(2));
 
-    // A READ, of opcode 15, of node 2.
-    let (len, reply) = handle(alloc, &mut server, (15, 2, &READ), &[116], 0)?;
-    assert!(rt; len == 22 && has(&reply, 16, b"world\n"));
+    // Request 2 is a READ of node 2, from place 7 on and of at most 100 bytes.
+    let reply = serve(alloc, &mut server, &read(2, 2, 7, 100), 116)?;
+    assert!(rt; data(&reply) == Some(Ok(b"world\n".as_slice())));
 
-    // An UNLINK, of opcode 10, is refused by EROFS, which is 30 and comes negated.
+    // There is no such name: ENOENT is 2, and comes negated.
+    let request = lookup(alloc, 3, 1, b"hello")?;
+    let reply = serve(alloc, &mut server, &request, 144)?;
+    assert!(rt; data(&reply) == Some(Err(-2)));
+
+    // An UNLINK, of opcode 10, is refused by EROFS, which is 30.
     let (len, reply) = handle(alloc, &mut server, (10, 1, b"hello.txt\0"), &[16], 0)?;
-    assert!(rt; len == 16 && has(&reply, 4, b"\xe2\xff\xff\xff"));
+    assert!(rt; len == 16 && data(&reply) == Some(Err(-30)));
+    Ok(())
+}
+
+#[test]
+fn a_transport_tells_why_there_is_no_reply(rt: HostRuntime) -> Result<(), Fail> {
+    let alloc = rt.alloc();
+    let mut server = Server::new(ReadOnly { tree: Docs }, 4096);
+    let request = lookup(alloc, 1, 1, b"hello.txt")?;
+    let refused = serve(alloc, &mut server, &request, 143);
+    assert!(rt;
+        matches!(
+            refused,
+            Err(ServeError::Server(vfs_server::Error::EncodeMessage))
+        )
+    );
+    let rows = [
+        (ServeError::OutOfMemory, "out of memory"),
+        (
+            ServeError::Segments(vfs_segments::Error::SplitOutOfBounds(3)),
+            "a place 3 bytes on is past what is left",
+        ),
+        (
+            ServeError::Server(vfs_server::Error::EncodeMessage),
+            "the reply is longer than the room for it",
+        ),
+        (
+            ServeError::FileSystem(Some(Errno::ENOMEM)),
+            "the file system could not be made",
+        ),
+    ];
+    assert!(rt; have_texts(alloc, &rows)?);
     Ok(())
 }
 
