@@ -1,10 +1,11 @@
 #!/usr/bin/env bash
-# Refuses each request for memory of the built programs vfs_refusals and vfs_demo, one a run, and
+# Refuses each request for memory of the built programs vfs_script and vfs_demo, one a run, and
 # looks at how that run ends: until one meets no refusal.
 #
-# vfs_refusals makes calls one after another, each in a part of its own (its src/main.rt has their
-# form). Of the allocations of a part one is refused. That part is right where it ends in one of
-# these ways, and all others where they are those of a run that is refused nothing:
+# Behind its line `refusals` vfs_script makes calls one after another, each in a part of its own
+# (crates/vfs_corpus/src/refusals.rt has their form). Of the allocations of a part one is refused.
+# That part is right where it ends in one of these ways, and all others where they are those of a
+# run that is refused nothing:
 #
 # - a reader or a writer: `OutOfMemory`, with the same counts as before;
 # - the server: `OutOfMemory`, with no call, and with room and options as before; in a session that
@@ -89,7 +90,7 @@ def refused(program, stdin, part, clean):
 
 
 def parts_of(output):
-    """The parts of what vfs_refusals wrote."""
+    """The parts of what vfs_script wrote behind its line `refusals`."""
     parts = []
     for text in output.split("request ")[1:]:
         head, answered, *lines = text.splitlines()
@@ -144,7 +145,7 @@ def wrong(what, it):
 
 
 class Refusals:
-    """The runs of vfs_refusals on some lines."""
+    """The runs of vfs_script on some lines behind the line `refusals`."""
 
     def __init__(self, program, lines):
         self.program, self.lines = program, lines
@@ -153,10 +154,10 @@ class Refusals:
         self.first_line = len(self.parts) - len(lines)
         self.counts = self.clean.counts[1:]
         if self.clean.status or len(self.counts) != len(self.parts):
-            raise ValueError("vfs_refusals, refused nothing, does not end well")
+            raise ValueError("vfs_script, refused nothing, does not end well")
 
     def stdin(self, but=None):
-        return b"".join(line for at, line in enumerate(self.lines) if at != but)
+        return b"".join([b"refusals\n", *(line for at, line in enumerate(self.lines) if at != but)])
 
     def wanted(self, at):
         """The parts behind this one, where it was refused."""
@@ -173,7 +174,7 @@ class Refusals:
         for it in refused(self.program, self.stdin(), at + 1, self.clean):
             endings.append(self.ending(at, behind, it))
             if endings[-1] is None:
-                wrong(f"vfs_refusals, allocation {len(endings)} of {self.parts[at].name}", it)
+                wrong(f"vfs_script, allocation {len(endings)} of {self.parts[at].name}", it)
         return endings
 
     def ending(self, at, behind, it):
@@ -230,7 +231,7 @@ def tell(what, endings):
     print(f"{what}: {len(endings)} allocations refused in turn; answered by {told}", flush=True)
 
 
-refusals, demo = built("vfs_refusals"), built("vfs_demo")
+script, demo = built("vfs_script"), built("vfs_demo")
 with open("crates/vfs_demo/stdin", "rb") as file:
     lines = file.readlines()
 with open("crates/vfs_demo/stdout") as file:
@@ -238,15 +239,15 @@ with open("crates/vfs_demo/stdout") as file:
 header = next(it[1] for it in (re.match(rb"(144 2a00000001[0-9a-f]*)61\+00\n", it) for it in lines) if it)
 lookups = [header + b"+6100\n", header + b"61+00\n"]
 
-tried = Refusals(refusals, lines + lookups)
+tried = Refusals(script, lines + lookups)
 with ThreadPoolExecutor(os.cpu_count()) as pool:
     endings = list(pool.map(tried.endings, range(len(tried.parts))))
 if endings[-2:] != [[], ["the server"]]:
     faults.append("LOOKUP of a")
     print(f"LOOKUP of a, cut behind its header and in its name: {endings[-2:]}", file=sys.stderr)
 wanting = sum(len(it) > 0 for it in endings)
-print(f"vfs_refusals: {len(endings)} calls, of which {wanting} want memory")
-tell("vfs_refusals", sum(endings, []))
+print(f"vfs_script: {len(endings)} calls, of which {wanting} want memory")
+tell("vfs_script", sum(endings, []))
 tell("vfs_demo", try_demo(demo, lines, stored))
 sys.exit(1 if faults else 0)
 PYTHON

@@ -5,10 +5,11 @@ Usage: compare.py SEED COUNT JOBS ORACLE PROGRAM ..
 Each session goes to a program as it is cut, and with each request in one segment and one room:
 
     script sessions   to vfs_script: answers and calls
-    memory sessions   to vfs_demo: answers; and, where they are of a form that it reads, to vfs_refusals:
-                      outcomes, whole rooms and the options that are agreed behind each request
+    memory sessions   to vfs_demo: answers; and, where they are of a form that it reads, to vfs_script behind
+                      its line `refusals`: outcomes, whole rooms and the options that are agreed behind each
+                      request
 
-and the oracle says what must come. PROGRAM .. are the paths of the three.
+and the oracle says what must come. PROGRAM .. are the paths of the two.
 """
 import collections
 import multiprocessing
@@ -22,9 +23,10 @@ import time
 import sessions
 
 TOP = pathlib.Path(__file__).resolve().parents[2]
-# For each program: the sessions that it gets, and how the oracle is asked.
-PROGRAMS = {"vfs_script": ("script", "script"), "vfs_demo": ("memory", "memory"), "vfs_refusals": ("memory", "rooms")}
-# Kinds with lines that vfs_refusals does not read, or more calls than it can note.
+# For each way of asking: the program, the sessions that it gets, and how the oracle is asked.
+WAYS = {"vfs_script": ("vfs_script", "script", "script"), "vfs_demo": ("vfs_demo", "memory", "memory"),
+        "refusals": ("vfs_script", "memory", "rooms")}
+# Kinds with lines that are not read behind the line `refusals`, or more calls than are noted there.
 NO_ROOMS = ("badline", "limits", "full")
 # How many sessions a task has, at most.
 SESSIONS = 48
@@ -39,15 +41,15 @@ OUTCOMES = {"reply": "reply", "error": "error", "none": "none", "EncodeMessage":
 PART = re.compile(r"^request of a line; .*\nanswered\n(.*\nroom .*\nnow .*\n)", re.M)
 
 # A difference: the line of the request, where it stands, what the program said and what the oracle did.
-Difference = collections.namedtuple("Difference", "request program session number text got wanted")
+Difference = collections.namedtuple("Difference", "request way session number text got wanted")
 
 FORK = multiprocessing.get_context("fork")
 done = FORK.Value("L", 0)
 
 
-def blocks_of(program, output):
+def blocks_of(way, output):
     """What was said to each request."""
-    if program == "vfs_refusals":
+    if way == "refusals":
         return PART.findall(output)
     blocks = []
     for line in output.splitlines():
@@ -58,17 +60,17 @@ def blocks_of(program, output):
     return blocks
 
 
-def wanted_blocks(program, output):
-    if program != "vfs_refusals":
-        return blocks_of(program, output)
+def wanted_blocks(way, output):
+    if way != "refusals":
+        return blocks_of(way, output)
     lines = output.splitlines()
     return ["".join(f"{line}\n" for line in lines[at:at + 3]) for at in range(0, len(lines), 3)]
 
 
-def ask(program, session):
+def ask(way, program, session):
     """The status and the output of a program for a session."""
-    with open(session, "rb") as lines:
-        ran = subprocess.run([program], stdin=lines, stdout=subprocess.PIPE, stderr=subprocess.DEVNULL, timeout=600)
+    lines = (b"refusals\n" if way == "refusals" else b"") + session.read_bytes()
+    ran = subprocess.run([program], input=lines, stdout=subprocess.PIPE, stderr=subprocess.DEVNULL, timeout=600)
     return ran.returncode, ran.stdout.decode("latin-1")
 
 
@@ -101,16 +103,16 @@ def count(counts, lines, blocks):
         counts["bad line" if outcome == "bad line" else opcode_of(line), outcome] += 1
 
 
-def write_sessions(program, seed, chosen, folder):
+def write_sessions(way, seed, chosen, folder):
     """Writes the sessions of a task, cut and flat: the text of each file."""
-    files, _ = PROGRAMS[program]
+    _, files, _ = WAYS[way]
     texts = {}
     for number, size in chosen:
         if isinstance(number, int):
             name, text = sessions.session(seed, files, number, size)
         else:
             name, text = number, size
-        if program == "vfs_refusals" and name.endswith(NO_ROOMS):
+        if way == "refusals" and name.endswith(NO_ROOMS):
             continue
         texts[f"{name}.cut"] = text
         if not name.endswith("badline"):
@@ -120,60 +122,59 @@ def write_sessions(program, seed, chosen, folder):
     return texts
 
 
-def differences_of(program, name, text, status, got, wanted):
+def differences_of(way, name, text, status, got, wanted):
     """The first difference of a session, if there is one."""
     bad = wanted.rpartition("\nbad line ")[1] or wanted.startswith("bad line ")
     wanted_status = 2 if bad else 0
-    theirs, ours = wanted_blocks(program, wanted), blocks_of(program, got)
+    theirs, ours = wanted_blocks(way, wanted), blocks_of(way, got)
     lines = text.splitlines()
     before = 1 if lines[0].startswith("limit ") and theirs[0] != "bad line 1\n" else 0
     for at, block in enumerate(theirs):
         mine = ours[at] if at < len(ours) else f"no answer, status {status}\n"
         if mine != block:
-            return [Difference(lines[at + before], program, name, at + before + 1, text, mine, block)]
+            return [Difference(lines[at + before], way, name, at + before + 1, text, mine, block)]
     if len(ours) != len(theirs) or status != wanted_status:
         mine = f"{len(ours)} answers, status {status}\n"
         block = f"{len(theirs)} answers, status {wanted_status}\n"
-        return [Difference(lines[-1], program, name, len(lines), text, mine, block)]
+        return [Difference(lines[-1], way, name, len(lines), text, mine, block)]
     return []
 
 
 def work(task):
     """Compares the sessions of a task: counts by opcode and outcome, how many answers were compared, and
     the differences."""
-    program, path, seed, chosen, oracle = task
+    way, path, seed, chosen, oracle = task
     counts, compared, differences = collections.Counter(), 0, []
     with tempfile.TemporaryDirectory(prefix="compare-") as folder:
         asked, answers = pathlib.Path(folder) / "asked", pathlib.Path(folder) / "answers"
         asked.mkdir()
         answers.mkdir()
-        texts = write_sessions(program, seed, chosen, asked)
-        subprocess.run([oracle, PROGRAMS[program][1], asked, answers], check=True)
+        texts = write_sessions(way, seed, chosen, asked)
+        subprocess.run([oracle, WAYS[way][2], asked, answers], check=True)
         for name, text in texts.items():
-            status, got = ask(path, asked / name)
+            status, got = ask(way, path, asked / name)
             wanted = (answers / name).read_text()
-            blocks = wanted_blocks(program, wanted)
+            blocks = wanted_blocks(way, wanted)
             compared += len(blocks)
-            differences += differences_of(program, name, text, status, got, wanted)
-            if name.endswith(".cut") and program != "vfs_refusals":
+            differences += differences_of(way, name, text, status, got, wanted)
+            if name.endswith(".cut") and way != "refusals":
                 lines = text.splitlines()
                 count(counts, lines[len(lines) - len(blocks):] if lines[0].startswith("limit ") else lines, blocks)
             with done.get_lock():
                 done.value += len(blocks)
-    return program, counts, compared, differences
+    return way, counts, compared, differences
 
 
 def tasks_for(seed, total, oracle, paths):
-    """The tasks: some sessions for one program each."""
+    """The tasks: some sessions for one program each, asked in one way."""
     halves = {"script": (total + 1) // 2, "memory": total // 2}
     tasks = []
-    for path in paths:
-        program = pathlib.Path(path).name
-        files, _ = PROGRAMS[program]
+    path_of = {pathlib.Path(path).name: path for path in paths}
+    for way, (program, files, _) in WAYS.items():
         chosen = sessions.numbers(halves[files])
         chosen += [(f"recorded-{name}", "\n".join(lines) + "\n") for name, lines in sessions.recorded()]
         parts = len(chosen) // SESSIONS + 1
-        tasks += [(program, path, seed, chosen[at::parts], oracle) for at in range(parts)]
+        tasks += [(way, path_of[program], seed, chosen[at::parts], oracle) for at in range(parts)]
     return tasks
 
 
@@ -198,14 +199,14 @@ def tell_difference(differences, folder):
     file = folder / "difference.lines"
     file.write_text("\n".join(smallest.text.splitlines()[:smallest.number]) + "\n")
     print(f"\n{len(differences)} sessions differ. The smallest request that does is line {smallest.number} of {smallest.session}"
-          f" ({smallest.program}):\n  {shown(smallest.request)}")
+          f" ({smallest.way}):\n  {shown(smallest.request)}")
     print(f"The program says:\n{shown(smallest.got)}\nvirtiofsd's code says:\n{shown(smallest.wanted)}")
-    print(f"The session up to it is in {file.relative_to(TOP)}, and out/oracle/later {PROGRAMS[smallest.program][1]} answers"
+    print(f"The session up to it is in {file.relative_to(TOP)}, and out/oracle/later {WAYS[smallest.way][2]} answers"
           " it as virtiofsd's code does.")
 
 
 def main(args):
-    if len(args) != 7:
+    if len(args) != 6:
         sys.exit(__doc__)
     seed, total, jobs, oracle, *paths = args[0], int(args[1]), int(args[2]), *args[3:]
     started = last = time.monotonic()
@@ -221,14 +222,14 @@ def main(args):
                     parts = sum(it.ready() for it in results)
                     print(f"{parts} of {len(results)} parts, {done.value:,} answers, {last - started:.0f} s", end=end,
                           file=sys.stderr, flush=True)
-            program, some, number, found = result.get()
+            way, some, number, found = result.get()
             counts += some
-            compared[program] += number
+            compared[way] += number
             differences += found
     tell_counts(counts)
     asked = sum(counts.values())
     print(f"\nSeed {seed}: {asked:,} requests, cut and flat: {sum(compared.values()):,} answers compared in"
-          f" {time.monotonic() - started:.0f} s, of {', '.join(f'{program} {n:,}' for program, n in compared.items())}.")
+          f" {time.monotonic() - started:.0f} s, of {', '.join(f'{way} {n:,}' for way, n in compared.items())}.")
     if differences:
         tell_difference(differences, TOP / "out" / "compare")
         sys.exit(1)

@@ -1,6 +1,6 @@
 //! A server over a scripted file system, which shows the calls that it makes: for tests alone.
 //!
-//! Standard input has lines of four forms, and standard output gets the answers:
+//! Standard input has lines of five forms, and standard output gets the answers:
 //!
 //! - A request, in the form of `vfs_demo`. Its answer is written as there, and below it the calls
 //!   that it was turned into, each line with two spaces before it.
@@ -12,6 +12,8 @@
 //!   there are, how many requests these are in all cuttings, and the checksum of what the uncut
 //!   forms came to; behind it the first form that came to something else in a cutting, if one did.
 //!   The last line has the sums.
+//! - `refusals`: calls that ask for memory, each with what came of it, the requests of all lines
+//!   behind this one last. `try_calls` of `vfs_corpus` says what is written; it is written at once.
 //! - A line that begins with `#` is passed over.
 //!
 //! The first line of all may be `limit N` in place of one of these, as in `vfs_demo`.
@@ -38,6 +40,7 @@ const PROGRAM: Program = Program {
     more_lines: "  answer ANSWER   What the next call is answered: N, fault N, fault none, items ITEM ..
                   or endless ITEM .., where an ITEM is INO,OFFSET,TYPE,NAME.
   corpus          The corpus of hostile messages, cut, shortened and changed.
+  refusals        Calls that ask for memory; the lines behind it are requests of such calls.
   # ..            Nothing.
 ",
 };
@@ -50,7 +53,7 @@ fn main(rt: HostRuntime) -> ExitCode {
     let alloc = rt.alloc();
     let (text, outcome) = match read_all(alloc, &mut rt.stdin()) {
         Ok(text) => {
-            let outcome = run::run(alloc, &text, &mut rt.stdout());
+            let outcome = run::run(alloc, &text, rt.stdout());
             (text, outcome)
         }
         Err(error) => (Vec::new(alloc), Err(error)),

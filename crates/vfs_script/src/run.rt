@@ -5,6 +5,7 @@ use std::alloc::Global;
 use std::cell::RefCell;
 use std::collections::VecDeque;
 use std::io;
+use vfs_corpus::try_calls;
 use vfs_lines::{
     Line, RunError, answer_to, lines_before_requests, lines_of, parse_line, server_for, write_all,
 };
@@ -16,6 +17,9 @@ const ANSWER: &[u8] = b"answer ";
 
 /// The line that has the corpus tried.
 const CORPUS: &[u8] = b"corpus";
+
+/// The line behind which all others are requests to which memory can be refused.
+const REFUSALS: &[u8] = b"refusals";
 
 /// What a line of the input says.
 #[derive(Drop)]
@@ -30,22 +34,39 @@ enum Said {
     Comment,
 }
 
-/// Answers each line of `text` before the first bad one, and then writes the answers and the calls
-/// to `output`. The first line may set the server's limit, and has no answer then. For a bad line
-/// `bad line N` is written after them, where N counts all lines, and [`RunError::BadLine`] answered.
-pub fn run<W: io::Write>(alloc: Global, text: &[u8], output: &mut W) -> Result<(), RunError> {
+/// Answers each line of `text` before the first bad one, or before the line `refusals`, and then
+/// writes the answers and the calls to `output`. The first line may set the server's limit, and has
+/// no answer then. For a bad line `bad line N` is written after them, where N counts all lines, and
+/// [`RunError::BadLine`] answered. Behind the line `refusals` comes what `try_calls` writes.
+pub fn run<W: io::Write + Drop>(alloc: Global, text: &[u8], mut output: W) -> Result<(), RunError> {
+    let lines = lines_of(alloc, text)?;
+    let (session, rest) = before_refusals(&lines);
     let mut answers = String::new(alloc);
-    let outcome = answer_all(alloc, text, &mut answers);
-    write_all(output, answers.as_str())?;
-    outcome
+    let outcome = answer_all(alloc, session, &mut answers);
+    write_all(&mut output, answers.as_str())?;
+    outcome?;
+    match rest {
+        Some(rest) => try_calls(alloc, rest, session.len().saturating_add(1), output),
+        None => Ok(()),
+    }
 }
 
-// Answers each line of a text before the first bad one.
-fn answer_all(alloc: Global, text: &[u8], answers: &mut String) -> Result<(), RunError> {
+// The lines before the line `refusals`, and those behind it, if there is one.
+fn before_refusals<'l, 'a>(lines: &'l [&'a [u8]]) -> (&'l [&'a [u8]], Option<&'l [&'a [u8]]>) {
+    match lines.iter().position(|line| *line == REFUSALS) {
+        Some(at) => match lines.split_at_checked(at) {
+            Some((session, rest)) => (session, rest.get(1..)),
+            None => (lines, None),
+        },
+        None => (lines, None),
+    }
+}
+
+// Answers each line before the first bad one.
+fn answer_all(alloc: Global, lines: &[&[u8]], answers: &mut String) -> Result<(), RunError> {
     let told = RefCell::new(VecDeque::new(alloc));
-    let lines = lines_of(alloc, text)?;
-    let mut server = server_for(ScriptFs::new(alloc, &told), &lines);
-    let before = lines_before_requests(&lines);
+    let mut server = server_for(ScriptFs::new(alloc, &told), lines);
+    let before = lines_before_requests(lines);
     for (index, line) in lines.iter().enumerate().skip(before) {
         match read_line(alloc, line)? {
             Some(Said::Request(request)) => {

@@ -125,7 +125,7 @@ impl Answer {
         }
     }
 
-    /// The outcome and the whole room, as `vfs_refusals` writes them.
+    /// The outcome and the whole room, as `vfs_script` writes them behind its line `refusals`.
     pub fn whole(&self) -> String {
         let outcome = match &self.outcome {
             Outcome::Ok(n) => format!("Ok({n})"),

@@ -3,7 +3,7 @@
 //! - `script` answers as `vfs_script` does, with the calls of the scripted file system below each answer;
 //! - `memory` answers as `vfs_demo` does, over files in memory;
 //! - `rooms` the same files, but for each request its outcome, its whole room and the options that are
-//!   agreed behind it, as `vfs_refusals` does.
+//!   agreed behind it, as `vfs_script` does behind its line `refusals`.
 //!
 //! By itself it answers standard input. With two folders it answers each file of IN, by a server of its
 //! own, into a file of the same name in OUT. A bad line ends a session, with status 2 of the first form.

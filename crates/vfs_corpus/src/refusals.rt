@@ -12,36 +12,30 @@
 //!
 //! The parts are `Reader::new`, `Writer::new`, `split_at` and `clone`; each message of the corpus,
 //! whole, cut behind its header, before its last byte and in single bytes, by `handle_message`, and
-//! three times in a row by `handle_session`; and each line of standard input, in the form of
-//! `vfs_demo` and over files in memory as there, by `handle_message`. The bytes of a room are zeros
-//! before a request. The program takes no arguments and opens no file.
-#![tactic(auto)]
+//! three times in a row by `handle_session`; and each of the lines, in the form of `vfs_demo` and
+//! over files in memory as there, by `handle_message`. The bytes of a room are zeros before a
+//! request.
 
 mod lines;
 mod messages;
 mod parts;
 mod segments;
 
-use crate::parts::Parts;
+use crate::refusals::parts::Parts;
 use std::alloc::Global;
 use std::io;
-use std::process::ExitCode;
-use vfs_lines::{RunError, exit_status, report};
+use vfs_lines::RunError;
 
-// Makes all calls.
-fn run<R: io::Read, W: io::Write + Drop>(
+/// Makes all calls, with the requests of these lines at the end. The first of them has the number
+/// that comes next after `before`, which tells a bad one.
+pub fn try_calls<W: io::Write + Drop>(
     alloc: Global,
-    input: &mut R,
+    requests: &[&[u8]],
+    before: usize,
     output: W,
 ) -> Result<(), RunError> {
     let mut parts = Parts::new(alloc, output);
     segments::try_all(alloc, &mut parts)?;
     messages::try_all(alloc, &mut parts)?;
-    lines::try_all(alloc, input, &mut parts)
-}
-
-fn main(rt: HostRuntime) -> ExitCode {
-    let outcome = run(rt.alloc(), &mut rt.stdin(), rt.stdout());
-    let _ = report(&rt, &outcome);
-    ExitCode::from(exit_status(&outcome))
+    lines::try_all(alloc, requests, before, &mut parts)
 }

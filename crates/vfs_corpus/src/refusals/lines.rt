@@ -1,29 +1,32 @@
 //! The lines of a session, over files in memory.
 
-use crate::parts::Parts;
+use crate::cuttings::{Served, Watch, bytes_of};
+use crate::refusals::parts::Parts;
 use std::alloc::Global;
 use std::io;
 use vfs_bench::Recorder;
-use vfs_corpus::{Served, Watch, bytes_of};
-use vfs_lines::{Line, MemFs, PAGE_SIZE, RunError, lines_of, parse_line, read_all};
+use vfs_lines::{Line, MemFs, PAGE_SIZE, RunError, parse_line};
 use vfs_segments::{Reader, Writer};
 use vfs_server::server::Server;
 
 /// How many calls can be noted.
 const PLACES: usize = 4096;
 
-/// Handles each line of an input, up to the first bad one, by one server.
-pub fn try_all<R: io::Read, W: io::Write + Drop>(
+/// Handles each line, up to the first bad one, by one server. The first has the number that comes
+/// next after `before`.
+pub fn try_all<W: io::Write + Drop>(
     alloc: Global,
-    input: &mut R,
+    lines: &[&[u8]],
+    before: usize,
     parts: &mut Parts<W>,
 ) -> Result<(), RunError> {
-    let text = read_all(alloc, input)?;
+    let mut number = before;
     let mut server = Server::new(recorder(alloc)?, PAGE_SIZE);
-    for (index, line) in lines_of(alloc, &text)?.iter().enumerate() {
+    for line in lines {
+        number = number.saturating_add(1);
         match parse_line(alloc, line)? {
             Some(line) => try_line(alloc, parts, &mut server, &line)?,
-            None => return Err(RunError::BadLine(index + 1)),
+            None => return Err(RunError::BadLine(number)),
         }
     }
     Ok(())

@@ -1,9 +1,9 @@
 //! The parts of the output, each about one call.
 
+use crate::cuttings::{Served, Watch};
 use bitflags::Flags;
 use std::alloc::Global;
 use std::io;
-use vfs_corpus::{Served, Watch};
 use vfs_flags::FsOptions;
 use vfs_lines::{RunError, write_all};
 

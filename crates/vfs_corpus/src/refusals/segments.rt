@@ -1,6 +1,6 @@
 //! The calls of a reader and a writer that ask for memory.
 
-use crate::parts::Parts;
+use crate::refusals::parts::Parts;
 use std::alloc::{AllocError, Global};
 use std::io;
 use vfs_lines::RunError;

@@ -1,9 +1,10 @@
 //! The messages of the corpus, over the scripted file system.
 
-use crate::parts::Parts;
+use crate::cuttings::{Cut, Cutting, Way, serve};
+use crate::refusals::parts::Parts;
+use crate::table::{Message, messages};
 use std::alloc::Global;
 use std::io;
-use vfs_corpus::{Cut, Cutting, Message, Way, messages, serve};
 use vfs_lines::RunError;
 
 /// How many bytes the header of a request has.
