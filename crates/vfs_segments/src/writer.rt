@@ -238,8 +238,9 @@ impl Writer {
         Err(io::Error::from(ErrorKind::WriteZero))
     }
 
-    // Writes a record, the bytes and so many zeros, one after another. Answers whether all fit.
-    #[inline(never)]
+    // Writes a record, the bytes and so many zeros, one after another. Answers whether all fit. The
+    // record is spelled out in each place that calls it, so that it lies in memory on this path alone.
+    #[inline(always)]
     fn write_apart<T: ByteValued + Drop>(&mut self, x: T, bytes: &[u8], zeros: u8) -> bool
         requires { zeros ≤ 8 }
         ensures whole { result ≡ true →
@@ -251,7 +252,23 @@ impl Writer {
         ensures in_width { Fit T.table.widths (T.table.fields x) }
         ensures in_range { T.in_range x }
     {
-        if self.write_obj(x).is_err() {
+        let mut buf = [0u8; LARGEST_RECORD];
+        x.put(&mut buf[..T::SIZE]);
+        self.write_rows(&buf[..T::SIZE], bytes, zeros)
+    }
+
+    // Writes some bytes, others and so many zeros, one after another. Answers whether all fit.
+    #[inline(never)]
+    fn write_rows(&mut self, front: &[u8], bytes: &[u8], zeros: u8) -> bool
+        requires { zeros ≤ 8 }
+        ensures whole { result ≡ true →
+            length front.now + length bytes.now + zeros ≤ length self.old.left }
+        ensures cut { result ≡ false →
+            length self.old.left < length front.now + length bytes.now + zeros }
+        ensures wrote { self.new ≡ wrote self.old (take (length self.old.left)
+            (front.now ++ (bytes.now ++ replicate zeros 0))) }
+    {
+        if self.write_all(front).is_err() {
             return false;
         }
         if self.write_all(bytes).is_err() {

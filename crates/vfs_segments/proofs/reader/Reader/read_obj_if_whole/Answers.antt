@@ -1,4 +1,4 @@
-use Rattle.std.proofs.Common.{arith, ap, sym, ◌+◌, ◌-◌, ◌∙◌, ◌≤◌, length, drop, length-take}
+use Rattle.std.proofs.Common.{rules, arith, ap, sym, ◌+◌, ◌-◌, ◌∙◌, ◌≤◌, length, drop, length-take}
 use Rattle.std.specs.List.{concat}
 use Rattle.std.specs.Prelude.{sum}
 use Rattle.vfs_wire.specs.Fields.{value_of}
@@ -23,3 +23,6 @@ returns-clause-moved g c =
     let left = length-left r c.self.invariant c.args.self.now c.self.view_is in
     let h : r.at + n ≤ r.end = omega (arith, c.SIZE.ensures, c.available_bytes.ensures.left, left, c.self.invariant.before_end) in
     rw size (moved_on r c.self.invariant c.args.self.now c.self.view_is n h)
+
+pub returns-then-SIZE-available_bytes-clause-none : goal.returns-then-SIZE-available_bytes-clause-none
+returns-then-SIZE-available_bytes-clause-none g c = search rules

@@ -1,4 +1,4 @@
-use Rattle.std.proofs.Common.{arith, ap, sym, ◌∙◌, ◌≡◌, ◌-◌, ◌+◌, ◌≤◌, min, length, take, drop}
+use Rattle.std.proofs.Common.{arith, ap, refl, sym, ◌∙◌, ◌≡◌, ◌-◌, ◌+◌, ◌≤◌, min, length, take, drop}
 use Rattle.std.proofs.lemmas.List.{take-take}
 use Rattle.vfs_segments.specs.Unread.{Unread}
 use Rattle.std.specs.List.{concat}
@@ -22,3 +22,16 @@ returns-in-Ok-clause-lent g c = λ some.
       moved_on r c.self.invariant c.args.self.now c.self.view_is m h,
       rw is at c.in-Ok.ensures.gives,
     )
+
+pub returns-in-Err-clause-lent : goal.returns-in-Err-clause-lent
+returns-in-Err-clause-lent g c = λ some.
+    let r = c.self.inside in
+    let bytes = concat r.segments in
+    let left = c.args.self.now.left in
+    let k = min c.args.count (length left) in
+    let size : length left ≡ r.end - r.at = length-left r c.self.invariant c.args.self.now c.self.view_is in
+    let n : c.min-n.result ≡ k = omega (arith, c.min-n.ensures, c.available_bytes.ensures) in
+    let is : take c.min-n.result (drop r.at bytes) ≡ take k left =
+    ap (λ j. take j (drop r.at bytes)) n ∙ sym (take-take k (r.end - r.at) (drop r.at bytes) (omega (arith, size)))
+    ∙ ap (λ (u : Unread). take k u.left) c.self.view_is in
+    (refl, rw is at c.in-Err.ensures.gives)
