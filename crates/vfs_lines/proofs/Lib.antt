@@ -1,3 +1,3 @@
 pub mod ValueLemmas
 mod LineLemmas
-mod RunLemmas
+mod SessionLemmas

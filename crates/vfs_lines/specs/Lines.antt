@@ -146,6 +146,18 @@ abbrev pub ending : Option ℕ → Result (Unit {0}) RunError
 ending None = Ok tt
 ending (Some number) = Err (BadLine number)
 
+-- the lines before the first bad one, where that has this number, if there is one, and so many lines
+-- were counted before these
+abbrev pub before_bad : ℕ → Option ℕ → List (List ℕ) → List (List ℕ)
+before_bad counted None lines = lines
+before_bad counted (Some number) lines = take (number - counted - 1) lines
+
+-- the lines of a session's requests before its first bad line, where that has this number, if there
+-- is one
+abbrev pub session_before_bad : Option ℕ → List (List ℕ) → List (List ℕ)
+session_before_bad bad lines =
+    before_bad (before_requests lines) bad (drop (before_requests lines) lines)
+
 -- the faults that no line is to blame for
 abbrev pub IsFault : RunError → Type 0
 IsFault (BadLine number) = ⊥

@@ -4,7 +4,6 @@ ghost use Rattle.vfs_lines.specs.Status.{status_of};
 ghost use Rattle.vfs_lines.specs.declared.error.RunError.TheVariants.{OutOfMemory};
 
 use std::alloc::{AllocError, AllocFailed};
-use std::io;
 use thiserror::Error;
 
 /// Why a run ended before it had answered every line of its input.
@@ -50,13 +49,5 @@ pub fn exit_status(outcome: &Result<(), RunError>) -> u8
         Err(RunError::BadLine(_)) => 2,
         Err(RunError::Io) => 3,
         Err(RunError::OutOfMemory) => 4,
-    }
-}
-
-/// Prints an error that the answers do not say, where it can still be printed.
-pub fn report(rt: &impl Print, outcome: &Result<(), RunError>) -> io::Result<()> {
-    match outcome {
-        Err(RunError::BadLine(_)) | Ok(()) => Ok(()),
-        Err(error) => println!(rt; "{error}"),
     }
 }

@@ -6,10 +6,6 @@ ghost use Rattle.vfs_lines.specs.Lines.{limit_of, first_limit_of, or_default, be
 
 use crate::line::parse_number;
 use vfs_flags::{DEFAULT_MAX_BUFFER, GREATEST_MAX_BUFFER, LEAST_MAX_BUFFER};
-use vfs_server::server::Server;
-
-/// The page size of a session's server, in bytes.
-pub const PAGE_SIZE: u32 = 4096;
 
 /// What a line that sets a limit begins with.
 const WORD: &[u8] = b"limit ";
@@ -57,20 +53,14 @@ pub fn lines_before_requests(lines: &[&[u8]]) -> usize
     usize::from(first_limit(lines).is_some())
 }
 
-/// A server over `fs` for a session of these lines: with the limit that the first line sets, or
-/// [`DEFAULT_MAX_BUFFER`], and no options agreed.
-pub fn server_for<F>(fs: F, lines: &[&[u8]]) -> Server<F>
-    ensures { result ≡ record {
-      options = 0;
-      limits = record {
-        page_size = PAGE_SIZE;
-        max_buffer = or_default (first_limit_of (map (λ line. line.now) lines.now));
-      };
-      fs = fs;
-    } }
+/// The largest payload in bytes of the server of a session: the limit that the first of these lines
+/// sets, or else [`DEFAULT_MAX_BUFFER`].
+pub fn max_buffer_for(lines: &[&[u8]]) -> u32
+    ensures limit { result ≡ or_default (first_limit_of (map (λ line. line.now) lines.now)) }
+    ensures within { (LEAST_MAX_BUFFER ≤ result) × (result ≤ GREATEST_MAX_BUFFER) }
 {
     match first_limit(lines) {
-        Some(limit) => Server::with_limit(fs, PAGE_SIZE, limit),
-        None => Server::with_limit(fs, PAGE_SIZE, DEFAULT_MAX_BUFFER),
+        Some(limit) => limit,
+        None => DEFAULT_MAX_BUFFER,
     }
 }

@@ -1,14 +1,13 @@
 //! What callers know of lines by the contracts alone, as examples.
 
-ghost use Rattle.std.specs.Prelude.{◌≡◌, [], ◌∷◌, ℕ, Some, None, IfOk, MatchResult};
-ghost use Rattle.vfs_lines.specs.Lines.{request_option};
+ghost use Rattle.std.specs.Prelude.{◌≡◌, [], ◌∷◌, map, Some, None, Ok, IfOk};
+ghost use Rattle.vfs_lines.specs.Lines.{request, request_option};
 
 use crate::error::{RunError, exit_status};
-use crate::input::run;
-use crate::limit::parse_limit;
+use crate::limit::{max_buffer_for, parse_limit};
 use crate::line::{Line, parse_line};
+use crate::requests::{end_session, read_session};
 use std::alloc::Global;
-use std::io;
 
 /// Two rooms of 1 and 20 bytes, and a request of two segments, the second without a byte.
 #[tactic(auto, unfolding(hex::specs::Hex::decode_pairs))]
@@ -61,6 +60,20 @@ fn a_limit_has_nine_digits_at_most() -> Option<u32>
     parse_limit(b"limit 0000008192")
 }
 
+/// The server of a session has the limit that the first line sets.
+fn a_server_has_the_first_lines_limit() -> u32
+    ensures { result ≡ 8192 }
+{
+    max_buffer_for(&[b"limit 8192".as_slice(), b"0 ".as_slice()])
+}
+
+/// The server of a session whose first line sets none has the default limit.
+fn a_server_has_a_limit_by_default() -> u32
+    ensures { result ≡ 1048576 }
+{
+    max_buffer_for(&[b"0 ".as_slice(), b"limit 8192".as_slice()])
+}
+
 /// The status after a bad line, whatever its number.
 fn a_bad_line_has_its_status(number: usize) -> u8
     ensures { result ≡ 2 }
@@ -68,40 +81,23 @@ fn a_bad_line_has_its_status(number: usize) -> u8
     exit_status(&Err(RunError::BadLine(number)))
 }
 
-/// A run over three lines, of which the second and the third are bad: it doesn't end well, and the
-/// only line that it may name is the second.
-fn a_run_names_the_first_bad_line<W: io::Write>(
-    alloc: Global,
-    output: &mut W,
-) -> Result<(), RunError>
-    ensures { MatchResult result
-        (λ done. ⊥)
-        (λ e. (number : ℕ) → e ≡ RunError.BadLine number → number ≡ 2) }
+/// A session that was read to its end ends well.
+fn a_session_without_a_bad_line() -> Result<(), RunError>
+    ensures { result ≡ Ok tt }
 {
-    run(alloc, &mut b"0 \n16\n17".as_slice(), output)
+    end_session(None)
 }
 
-/// A run whose first line sets the limit, and whose second one is bad: the line of the limit is
-/// counted.
-fn a_run_counts_the_line_of_the_limit<W: io::Write>(
+/// A session of which the third line is bad, behind the limit and a request, may name no other line,
+/// and what it asks is the request.
+fn a_session_ends_at_its_first_bad_line(
     alloc: Global,
-    output: &mut W,
-) -> Result<(), RunError>
-    ensures { MatchResult result
-        (λ done. ⊥)
-        (λ e. (number : ℕ) → e ≡ RunError.BadLine number → number ≡ 2) }
+) -> Result<(Vec<Line>, Option<usize>), RunError>
+    ensures { IfOk result (λ read.
+        (read.1 ≡ Some 3) ×
+        (map request read.0.items ≡ record { rooms = 0 ∷ []; segments = [] ∷ [] } ∷ [])) }
 {
-    run(alloc, &mut b"limit 8192\n16".as_slice(), output)
-}
-
-/// A line that sets a limit is bad behind the first one.
-fn a_run_takes_no_limit_in_its_second_line<W: io::Write>(
-    alloc: Global,
-    output: &mut W,
-) -> Result<(), RunError>
-    ensures { MatchResult result
-        (λ done. ⊥)
-        (λ e. (number : ℕ) → e ≡ RunError.BadLine number → number ≡ 2) }
-{
-    run(alloc, &mut b"0 \nlimit 8192".as_slice(), output)
+    let lines = [b"limit 8192".as_slice(), b"0 ".as_slice(), b"16".as_slice()];
+    let read = read_session(alloc, &lines)?;
+    Ok(read)
 }

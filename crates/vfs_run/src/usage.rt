@@ -1,11 +1,10 @@
 //! What a program over a session tells a person who starts it wrongly.
 
-use crate::error::{RunError, report};
-use crate::line::why_bad;
 use std::env::FillError;
 use std::io;
 use std::io::IsTerminal;
 use std::rt::Env;
+use vfs_lines::{RunError, why_bad};
 
 /// The status of a program that was given an argument: that of a bad line.
 pub const USAGE_STATUS: u8 = 2;
@@ -63,8 +62,8 @@ pub fn greet_terminal(
 }
 
 /// Prints what the answers to the lines of `text` don't say: on standard error what is wrong with a
-/// bad line, and the usage of a program where that is the first; and an error that is no bad line,
-/// as [`report`] does.
+/// bad line, and the usage of a program where that is the first; and on standard output an error that
+/// is no bad line.
 pub fn report_session(
     rt: &(impl Print + Eprint),
     text: &[u8],
@@ -81,4 +80,12 @@ pub fn report_session(
         return print_usage(rt, program);
     }
     Ok(())
+}
+
+// Prints an error that the answers do not say, where it can still be printed.
+fn report(rt: &impl Print, outcome: &Result<(), RunError>) -> io::Result<()> {
+    match outcome {
+        Err(RunError::BadLine(_)) | Ok(()) => Ok(()),
+        Err(error) => println!(rt; "{error}"),
+    }
 }

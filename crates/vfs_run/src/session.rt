@@ -1,18 +1,35 @@
-//! One request of a session, and the input and output of a whole one.
+//! The server of a session, one request of it, and the input and output of a whole one.
 
-ghost use Rattle.std.specs.Prelude.{◌≡◌, length, vec_len, IfOk, IfErr, IfSome, OnOk};
+ghost use Rattle.std.specs.Prelude.{◌≡◌, length, map, vec_len, IfOk, IfErr, IfSome, OnOk};
 ghost use Rattle.std.specs.Io.KnownBytes.{Appends};
-ghost use Rattle.vfs_lines.specs.Lines.{IsFault};
+ghost use Rattle.vfs_lines.specs.Lines.{first_limit_of, or_default, IsFault};
 
 use crate::answer::answer_line;
-use crate::error::RunError;
-use crate::line::Line;
 use std::alloc::{AllocError, Global};
 use std::io::ErrorKind;
 use std::{io, slice};
 use vfs_files::FileSystem;
+use vfs_lines::{Line, RunError, max_buffer_for};
 use vfs_segments::{Reader, Writer};
 use vfs_server::server::Server;
+
+/// The page size of a session's server, in bytes.
+pub const PAGE_SIZE: u32 = 4096;
+
+/// A server over `fs` for a session of these lines: with the limit that [`max_buffer_for`] gives, and
+/// no options agreed.
+pub fn server_for<F>(fs: F, lines: &[&[u8]]) -> Server<F>
+    ensures { result ≡ record {
+      options = 0;
+      limits = record {
+        page_size = PAGE_SIZE;
+        max_buffer = or_default (first_limit_of (map (λ line. line.now) lines.now));
+      };
+      fs = fs;
+    } }
+{
+    Server::with_limit(fs, PAGE_SIZE, max_buffer_for(lines))
+}
 
 /// All bytes of an input.
 pub fn read_all<R: io::Read>(alloc: Global, input: &mut R) -> Result<Vec<u8>, RunError>

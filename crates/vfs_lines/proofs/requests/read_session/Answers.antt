@@ -1,5 +1,5 @@
 use Rattle.std.proofs.lemmas.List.{drop-map, take_rest}
-use Rattle.vfs_lines.proofs.input.read_session.Goals as goal
+use Rattle.vfs_lines.proofs.requests.read_session.Goals as goal
 
 pub returns-clause-read : goal.returns-clause-read
 returns-clause-read c =
