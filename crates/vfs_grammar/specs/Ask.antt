@@ -10,13 +10,13 @@ use Rattle.vfs_wire.specs.Fields.{Table, value_of}
 use Rattle.vfs_wire.specs.Headers.{in_header}
 use Rattle.vfs_wire.specs.Attributes.{getattr_in, setattr_in}
 use Rattle.vfs_wire.specs.Entries.{forget_in, forget_one, batch_forget_in}
-use Rattle.vfs_wire.specs.Files.{open_in, release_in, flush_in, fsync_in, read_in, write_in}
-use Rattle.vfs_wire.specs.Names.{access_in, create_in, link_in, mkdir_in, mknod_in, rename_in, rename2_in}
-use Rattle.vfs_wire.specs.Ranges.{lseek_in, copyfilerange_in, fallocate_in}
-use Rattle.vfs_wire.specs.Xattrs.{getxattr_in, setxattr_in}
-use Rattle.vfs_wire.specs.declared.files.ReadIn.{ReadIn}
+use Rattle.vfs_wire_more.specs.Files.{open_in, release_in, flush_in, fsync_in, read_in, write_in}
+use Rattle.vfs_wire_more.specs.Names.{access_in, create_in, link_in, mkdir_in, mknod_in, rename_in, rename2_in}
+use Rattle.vfs_wire_more.specs.Ranges.{lseek_in, copyfilerange_in, fallocate_in}
+use Rattle.vfs_wire_more.specs.Xattrs.{getxattr_in, setxattr_in}
+use Rattle.vfs_wire_more.specs.declared.files.ReadIn.{ReadIn}
 use Rattle.vfs_wire.specs.declared.headers.InHeader.{InHeader}
-use Rattle.vfs_wire.specs.declared.xattrs.SetxattrIn.{SetxattrIn}
+use Rattle.vfs_wire_more.specs.declared.xattrs.SetxattrIn.{SetxattrIn}
 use Rattle.vfs_files.specs.Entries.{context_of}
 use Rattle.vfs_grammar.specs.Limits.{max_len}
 use Rattle.vfs_grammar.specs.Records.{size_of, record_of}

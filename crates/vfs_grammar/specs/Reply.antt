@@ -8,18 +8,18 @@ use Rattle.vfs_wire.specs.Headers.{out_header}
 use Rattle.vfs_wire.specs.Init.{init_out}
 use Rattle.vfs_wire.specs.Attributes.{attr_out}
 use Rattle.vfs_wire.specs.Entries.{entry_out}
-use Rattle.vfs_wire.specs.Files.{open_out, write_out}
+use Rattle.vfs_wire_more.specs.Files.{open_out, write_out}
 use Rattle.vfs_wire.specs.Listings.{kstatfs}
-use Rattle.vfs_wire.specs.Ranges.{lseek_out}
+use Rattle.vfs_wire_more.specs.Ranges.{lseek_out}
 use Rattle.vfs_wire.specs.Stat.{kstatfs_of}
-use Rattle.vfs_wire.specs.Xattrs.{getxattr_out}
+use Rattle.vfs_wire_more.specs.Xattrs.{getxattr_out}
 use Rattle.vfs_wire.specs.declared.headers.InHeader.{InHeader}
 use Rattle.vfs_wire.specs.declared.init.InitOut.{InitOut}
 use Rattle.vfs_wire.specs.declared.attributes.Attr.{Attr}
 use Rattle.vfs_wire.specs.declared.attributes.AttrOut.{AttrOut}
-use Rattle.vfs_wire.specs.declared.files.OpenOut.{OpenOut}
-use Rattle.vfs_wire.specs.declared.files.WriteOut.{WriteOut}
-use Rattle.vfs_wire.specs.declared.xattrs.GetxattrOut.{GetxattrOut}
+use Rattle.vfs_wire_more.specs.declared.files.OpenOut.{OpenOut}
+use Rattle.vfs_wire_more.specs.declared.files.WriteOut.{WriteOut}
+use Rattle.vfs_wire_more.specs.declared.xattrs.GetxattrOut.{GetxattrOut}
 use Rattle.vfs_files.specs.Answers.{Kind, Quiet, Told, Untold, Data, Agreements, Entries, TimedAttributes, Openings, Creations, Capacities, Texts, TextsOrCounts, Offsets, Writes, Iterators, Faults, Answer, Done, Failed, Options, Found, Put, Attributes, Opened, Created, Statistics, Text, Count, Offset, Wrote}
 use Rattle.vfs_files.specs.Entries.{context_of, entry_out_of, whole_seconds, nanoseconds_beyond}
 use Rattle.vfs_files.specs.declared.entry.Context.{Context}

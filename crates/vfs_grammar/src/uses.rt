@@ -1,12 +1,15 @@
 //! Small callers of the definitions, as examples: what the books count of one call and of one
-//! request. Each follows from the definitions, and from nothing else.
+//! request, and which options are agreed on. Each follows from the definitions, and from nothing
+//! else.
 
 ghost use Rattle.std.specs.Prelude.{◌≡◌, ◌∷◌, [], ℕ, false, Some, None, Ok, Err};
+ghost use Rattle.std.specs.Int.{bit_at};
 ghost use Rattle.vfs_flags.specs.declared.opcode.Opcode.{Opcode};
 ghost use Rattle.vfs_files.specs.Calls.{Create, Mkdir, Found, Created};
 ghost use Rattle.vfs_files.specs.Runs.{Called};
 ghost use Rattle.vfs_grammar.specs.Books.{answered, accepted, delivered_nodes};
 ghost use Rattle.vfs_grammar.specs.Extensions.{no_extensions};
+ghost use Rattle.vfs_grammar.specs.Options.{AreAgreed};
 ghost use Rattle.vfs_grammar.specs.Samples.{nobody, node_5, node_5_reply, batch_of_two};
 ghost use Rattle.vfs_grammar.specs.Turn.{Turn};
 ghost use Rattle.vfs_grammar.specs.declared.error.Error.{Error};
@@ -27,4 +30,13 @@ fn a_forget_is_counted()
         accepted 7 t ≡ 3 }
     ensures refused { (t : Turn) (error : Error) → t.request ≡ batch_of_two →
         t.outcome ≡ Err error → accepted 7 t ≡ 0 }
+{}
+
+/// Of options that are agreed on, one that the server supports by itself is among them where it was
+/// offered, as bit 40 is; and none is that wasn't offered.
+fn a_supported_option_is_agreed()
+    ensures supported { (offered options : ℕ) → AreAgreed offered options →
+        bit_at offered 40 ≡ 1 → bit_at options 40 ≡ 1 }
+    ensures unoffered { (offered options k : ℕ) → AreAgreed offered options →
+        bit_at offered k ≡ 0 → bit_at options k ≡ 0 }
 {}

@@ -8,11 +8,11 @@ use Rattle.vfs_wire.specs.declared.headers.OutHeader.{OutHeader}
 use Rattle.vfs_wire.specs.FieldLaws.{length-little, length-bytes_of}
 use Rattle.vfs_wire.specs.Attributes.{attr_out}
 use Rattle.vfs_wire.specs.Entries.{entry_out}
-use Rattle.vfs_wire.specs.Files.{open_out, write_out}
+use Rattle.vfs_wire_more.specs.Files.{open_out, write_out}
 use Rattle.vfs_wire.specs.Listings.{kstatfs}
-use Rattle.vfs_wire.specs.Ranges.{lseek_out}
+use Rattle.vfs_wire_more.specs.Ranges.{lseek_out}
 use Rattle.vfs_wire.specs.Stat.{kstatfs_of}
-use Rattle.vfs_wire.specs.Xattrs.{getxattr_out}
+use Rattle.vfs_wire_more.specs.Xattrs.{getxattr_out}
 use Rattle.vfs_wire.specs.Init.{init_out}
 use Rattle.vfs_wire.specs.declared.init.InitOut.{InitOut}
 use Rattle.vfs_files.specs.Answers.{Kind, Quiet, Told, Untold, Data, Agreements, Entries, TimedAttributes, Openings, Creations, Capacities, Texts, TextsOrCounts, Offsets, Writes, Iterators, Faults, IsAnswer, Answer, Done, Failed, Options, Found, Put, Attributes, Opened, Created, Statistics, Text, Count, Offset, Wrote}

@@ -21,8 +21,8 @@ use Rattle.vfs_grammar.specs.Limits.{max_len}
 use Rattle.vfs_grammar.specs.Records.{size_of}
 use Rattle.vfs_grammar.specs.Ask.{form_of, ask, ask_number}
 use Rattle.vfs_grammar.specs.Forms.{Listing, Ask, Ends, Asks, Lists, WithMemory, refused, Form, NoTail, NameTail, TwoNames, NameAndValue, NameAndExtensions, LinkAndExtensions, Pairs, WithRest, IntoRoom, Directories, Versions, Silent, NotServed, Layout, refused_or, layout_record, layout_size, tail_of, behind, ask_form, memory_use}
-use Rattle.vfs_laws.specs.Turns.{TailIsWhole, HasWhole, unique_of, BeginsWithHeader, AreAgreed, WantsMemory, WantsMemoryBehind}
-use Rattle.vfs_grammar.specs.Options.{agreed, options_after}
+use Rattle.vfs_laws.specs.Turns.{TailIsWhole, HasWhole, unique_of, BeginsWithHeader, WantsMemory, WantsMemoryBehind}
+use Rattle.vfs_grammar.specs.Options.{AreAgreed, agreed, options_after}
 use Rattle.vfs_grammar.specs.Reply.{Reply, Echo, echo_of, Refusal, NoReply, Bytes, OpenBehind, fault_reply, body_reply, reply_of, version_out}
 use Rattle.vfs_grammar.specs.Room.{IsReplied, unseen}
 use Rattle.vfs_grammar.specs.Turn.{Turn, Follows, IsRead, IsTurn, IsTurnWithMemory, node_answered, turn_tells, turn_with_memory_tells}

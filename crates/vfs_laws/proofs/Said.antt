@@ -9,19 +9,19 @@ use Rattle.vfs_wire.specs.Fields.{Table, Fit, little, number, row, numbers_at, b
 use Rattle.vfs_wire.specs.FieldLaws.{length-little, number-little, length-bytes_of, value_of-bytes_of-then}
 use Rattle.vfs_wire.specs.Attributes.{attr_out}
 use Rattle.vfs_wire.specs.Entries.{entry_out}
-use Rattle.vfs_wire.specs.Files.{open_out, write_out}
+use Rattle.vfs_wire_more.specs.Files.{open_out, write_out}
 use Rattle.vfs_wire.specs.Headers.{out_header}
 use Rattle.vfs_wire.specs.Init.{init_out}
 use Rattle.vfs_wire.specs.Listings.{kstatfs}
-use Rattle.vfs_wire.specs.Ranges.{lseek_out}
+use Rattle.vfs_wire_more.specs.Ranges.{lseek_out}
 use Rattle.vfs_wire.specs.Stat.{kstatfs_of}
-use Rattle.vfs_wire.specs.Xattrs.{getxattr_out}
+use Rattle.vfs_wire_more.specs.Xattrs.{getxattr_out}
 use Rattle.vfs_wire.specs.declared.attributes.Attr.{Attr}
-use Rattle.vfs_wire.specs.declared.files.WriteOut.{WriteOut}
+use Rattle.vfs_wire_more.specs.declared.files.WriteOut.{WriteOut}
 use Rattle.vfs_wire.specs.declared.headers.OutHeader.{OutHeader}
-use Rattle.vfs_wire.specs.declared.ranges.LseekOut.{LseekOut}
+use Rattle.vfs_wire_more.specs.declared.ranges.LseekOut.{LseekOut}
 use Rattle.vfs_wire.specs.declared.stat.Statvfs64.{Statvfs64}
-use Rattle.vfs_wire.specs.declared.xattrs.GetxattrOut.{GetxattrOut}
+use Rattle.vfs_wire_more.specs.declared.xattrs.GetxattrOut.{GetxattrOut}
 use Rattle.vfs_files.specs.Answers.{Kind, Agreements, Data, Entries, TimedAttributes, Openings, Creations, Capacities, Texts, TextsOrCounts, Offsets, Writes, IsAnswer, Answer, Failed, Options, Found, Put, Attributes, Opened, Created, Statistics, Text, Count, Offset, Wrote, read_answer}
 use Rattle.vfs_files.specs.Calls.{Call, Init, kind_of}
 use Rattle.vfs_files.specs.Entries.{entry_out_of}

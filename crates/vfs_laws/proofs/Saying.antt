@@ -3,7 +3,7 @@ use Rattle.std.proofs.Common.{◌≡◌, ◌<◌, ◌^◌, ℕ, Bool, true, fals
 use Rattle.vfs_wire.specs.Fields.{little, number, bytes_of}
 use Rattle.vfs_wire.specs.FieldLaws.{number-little}
 use Rattle.vfs_wire.specs.Entries.{entry_out}
-use Rattle.vfs_wire.specs.Files.{open_out}
+use Rattle.vfs_wire_more.specs.Files.{open_out}
 use Rattle.vfs_wire.specs.Init.{init_out}
 use Rattle.vfs_files.specs.declared.entry.Entry.{Entry}
 use Rattle.vfs_files.specs.Entries.{entry_out_of}

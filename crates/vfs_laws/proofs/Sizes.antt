@@ -7,7 +7,7 @@ use Rattle.vfs_flags.specs.declared.opcode.Opcode.{Opcode}
 use Rattle.vfs_flags.specs.declared.opcode.Opcode.TheVariants.{Read, Readdir, Readdirplus, BatchForget}
 use Rattle.vfs_wire.specs.Fields.{value_of}
 use Rattle.vfs_wire.specs.Entries.{batch_forget_in}
-use Rattle.vfs_wire.specs.Files.{read_in}
+use Rattle.vfs_wire_more.specs.Files.{read_in}
 use Rattle.vfs_wire.specs.declared.headers.InHeader.{InHeader}
 use Rattle.vfs_files.specs.Calls as call
 use Rattle.vfs_files.specs.Calls.{Answer, Failed, Put, Data, IsAnswer, read_answer}

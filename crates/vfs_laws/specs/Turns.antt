@@ -1,14 +1,12 @@
 -- The words of the laws of turns.
 use Rattle.std.specs.Prelude.{◌≡◌, ◌<◌, ◌^◌, ℕ, ℤ, List, take, Bool, false, Ok, IsOk, ◌≤◌, [], ◌∷◌, length, drop, Option, Some, None}
-use Rattle.std.specs.Int.{bit_at}
-use Rattle.vfs_flags.specs.Flags.{supported_fs_options}
 use Rattle.vfs_flags.specs.Opcode.{opcode_of}
 use Rattle.vfs_flags.specs.declared.opcode.Opcode.{Opcode}
 use Rattle.vfs_wire.specs.Fields.{bytes_of, value_of}
 use Rattle.vfs_wire.specs.Headers.{out_header, in_header}
 use Rattle.vfs_wire.specs.declared.headers.InHeader.{InHeader}
 use Rattle.vfs_wire.specs.Entries.{batch_forget_in}
-use Rattle.vfs_wire.specs.Files.{read_in}
+use Rattle.vfs_wire_more.specs.Files.{read_in}
 use Rattle.vfs_files.specs.Calls.{Call, Readdir, Answer}
 use Rattle.vfs_files.specs.Runs.{Called}
 use Rattle.vfs_grammar.specs.Records.{size_of}
@@ -32,12 +30,6 @@ pub record BeginsWithHeader (len unique : ℕ) (bytes : List ℕ) : Type 0 where
   pub header :
       take (size_of out_header) bytes
       ≡ bytes_of out_header (record { len = len; error = error; unique = unique })
-
--- each option is one that was offered, and each one offered that the server supports is among them
-pub record AreAgreed (offered options : ℕ) : Type 0 where
-  pub offered_only : (k : ℕ) → bit_at options k ≡ 1 → bit_at offered k ≡ 1
-  pub supported_too :
-      (k : ℕ) → bit_at offered k ≡ 1 → bit_at supported_fs_options k ≡ 1 → bit_at options k ≡ 1
 
 -- a tail that is whole, behind a record that is whole
 pub record TailIsWhole {R : Type 0} (h : InHeader) (rest : List ℕ) (layout : Layout R)
