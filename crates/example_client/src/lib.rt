@@ -15,7 +15,8 @@ mod uses;
 use std::alloc::{AllocError, Global};
 use vfs_flags::Opcode;
 use vfs_wire::parts::part_at;
-use vfs_wire::{ByteValued, InHeader, OutHeader, ReadIn};
+use vfs_wire::{ByteValued, InHeader, OutHeader};
+use vfs_wire_more::ReadIn;
 
 /// A LOOKUP of a name, which has no nul in it, in the directory `parent`.
 pub fn lookup(alloc: Global, unique: u64, parent: u64, name: &[u8]) -> Result<Vec<u8>, AllocError>

@@ -8,7 +8,7 @@ use Rattle.vfs_flags.specs.declared.open_options.OpenOptions.{OpenOptions}
 use Rattle.vfs_wire.specs.Fields.{Fit}
 use Rattle.vfs_wire.specs.Attributes.{attr, attr_out}
 use Rattle.vfs_wire.specs.Entries.{entry_out}
-use Rattle.vfs_wire.specs.Files.{open_out}
+use Rattle.vfs_wire_more.specs.Files.{open_out}
 use Rattle.vfs_wire.specs.Listings.{kstatfs}
 use Rattle.vfs_wire.specs.Stat.{kstatfs_of}
 use Rattle.vfs_wire.specs.declared.attributes.Attr.{Attr}

@@ -9,3 +9,7 @@ pub mod RunLaws
 pub mod Transfers
 pub mod TransferLaws
 pub mod Migrations
+pub mod Bytes
+pub mod BytesMut
+pub mod ReadingLaws
+pub mod WritingLaws

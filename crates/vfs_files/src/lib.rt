@@ -2,9 +2,12 @@
 //!
 //! [`FileSystem`] is what a file system implements and the server calls. This crate knows nothing
 //! of requests and replies as bytes, but for the records that an [`Entry`] and a [`Context`] are
-//! turned into and made from.
+//! turned into and made from. For a file system that holds contents as bytes it has the transfers
+//! of a READ and a WRITE.
 #![tactic(auto)]
 
+mod bytes;
+mod bytes_mut;
 pub mod defaults;
 mod directory;
 mod entry;
@@ -20,6 +23,8 @@ mod unserved;
 mod uses;
 mod xattr;
 
+pub use bytes::{Bytes, read_bytes};
+pub use bytes_mut::{BytesMut, write_bytes};
 pub use directory::{DirEntry, DirectoryIterator};
 pub use entry::{Context, Entry};
 pub use extensions::{Extensions, SecContext};

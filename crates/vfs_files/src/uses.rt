@@ -1,9 +1,10 @@
-//! A small caller, with what follows for it from the public contracts alone. The others stand in
-//! `vfs_uses`; this one is here since an edit of this crate must be refused at it.
+//! Small callers, with what follows for them from the public contracts alone. The others stand in
+//! `vfs_uses`; these are here since an edit of this crate must be refused at the first, and the
+//! second is beside what it calls.
 
-ghost use Rattle.std.specs.Prelude.{◌≡◌, ◌≤◌, ◌+◌, IfOk};
+ghost use Rattle.std.specs.Prelude.{◌≡◌, ◌≤◌, ◌+◌, [], ◌∷◌, ◌++◌, codes, IfOk, OnOk};
 
-use crate::{Context, FileSystem, Number, ZeroCopyWriter};
+use crate::{Context, FileSystem, Number, ZeroCopyReader, ZeroCopyWriter, write_bytes};
 use vfs_flags::Fault;
 
 /// A READ of any file system, whatever room it has: as many bytes are told as were put, no more
@@ -21,4 +22,15 @@ fn bytes_of_a_read<F: FileSystem, W: ZeroCopyWriter>(
     let inode = F::Inode::from_number(9);
     let handle = F::Handle::from_number(5);
     fs.read(ctx, inode, handle, w, size, 0, None, 0)
+}
+
+/// Three bytes from place 2 on, where one is there and the limit is 4: two are written, behind a
+/// zero in the gap.
+fn two_of_three<R: ZeroCopyReader>(bytes: &mut Vec<u8>, r: &mut R) -> Result<u32, Fault>
+    requires held { bytes.old.items ≡ codes "a" }
+    requires left { R.left r.old ≡ codes "bcd" }
+    ensures count { IfOk result (λ n. n ≡ 2) }
+    ensures wrote { OnOk result (bytes.new.items ≡ codes "a" ++ 0 ∷ codes "bc") }
+{
+    write_bytes(bytes, r, 3, 2, 4)
 }

@@ -13,7 +13,8 @@ use std::time::Duration;
 use vfs_files::{Context, DirEntry, DirectoryIterator, Entry, FileSystem, Number};
 use vfs_flags::Fault;
 use vfs_segments::Writer;
-use vfs_wire::{Attr, InHeader, ReadIn};
+use vfs_wire::{Attr, InHeader};
+use vfs_wire_more::ReadIn;
 
 /// Whether a name is `.` or `..`.
 fn is_dot(name: &[u8]) -> bool

@@ -2,7 +2,7 @@
 use Rattle.std.proofs.Common.{◌≡◌, ◌<◌, ℕ, zero, suc, List, [], ◌∷◌, length, get_or, set, Some, Result, Ok, Err, Option, refl, sym, ap, ◌∙◌, arith, length-take}
 use Rattle.std.proofs.lemmas.List.{get_or-map, set-get_or}
 use Rattle.vfs_files.specs.Calls.{Counts, Put, read_answer, written_answer}
-use Rattle.vfs_bytes.specs.Bytes.{part_of, most_put, PutsPart}
+use Rattle.vfs_files.specs.Bytes.{part_of, most_put, PutsPart}
 use Rattle.vfs_memory.specs.MemFile.{Writes}
 use Rattle.vfs_memory.specs.MemFs.{Stored, Stock, contents_at, with_contents, AnswersRead, WritesInto}
 

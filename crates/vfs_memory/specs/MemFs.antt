@@ -8,7 +8,7 @@ use Rattle.vfs_wire.specs.declared.attributes.Attr.{Attr}
 use Rattle.vfs_files.specs.declared.entry.Entry.{Entry}
 use Rattle.vfs_files.specs.Items.{Item}
 use Rattle.vfs_files.specs.Calls.{Call, Init, Lookup, Getattr, Unlink, Read, Write, Readdir, Create, Answer, Done, Failed, Options, Found, Attributes, Put, Created, Wrote, Handed, Plain, Iterator, default_answer}
-use Rattle.vfs_bytes.specs.Bytes.{part_of, most_put}
+use Rattle.vfs_files.specs.Bytes.{part_of, most_put}
 use Rattle.vfs_memory.specs.MemFile.{Writes}
 
 -- a file: its node, its name and its contents

@@ -4,8 +4,7 @@ ghost use Rattle.std.specs.Prelude.{◌≡◌, ◌≤◌, ℕ, List, length, tak
 ghost use Rattle.vfs_memory.specs.MemFile.{Writes};
 
 use std::marker::Model;
-use vfs_bytes::{Bytes, BytesMut, write_bytes};
-use vfs_files::ZeroCopyReader;
+use vfs_files::{Bytes, BytesMut, ZeroCopyReader, write_bytes};
 use vfs_flags::Fault;
 use vfs_views::{PositionedFile, Slices, SlicesMut, WritevFlags};
 
@@ -71,7 +70,7 @@ impl MemFile {
 }
 
 impl PositionedFile for MemFile {
-    ghost use Rattle.vfs_bytes.specs.Bytes.{Reads};
+    ghost use Rattle.vfs_files.specs.Bytes.{Reads};
     ghost use Rattle.vfs_memory.specs.MemFile.{Writes};
 
     ghost write_gives = { λ old bytes off flags answer new. Writes old bytes off answer new };

@@ -7,7 +7,7 @@
 ghost use Rattle.std.specs.Prelude.{◌≡◌, ◌≢◌, ◌≤◌, ◌<◌, ◌↔◌, ◌+◌, ◌-◌, ◌^◌, ◌%◌, ◌++◌, ◌-ℤ◌, pos, take, length, ℕ, List, [], nat_le, if◌then◌else◌, Ok, Err, IfSome, option_map, IfOk, IfErr, IsOk, OnOk, OnErr, MatchResult};
 ghost use Rattle.vfs_wire.specs.Fields.{Fit, bytes_of};
 ghost use Rattle.vfs_wire.specs.Headers.{out_header};
-ghost use Rattle.vfs_wire.specs.Xattrs.{getxattr_out};
+ghost use Rattle.vfs_wire_more.specs.Xattrs.{getxattr_out};
 ghost use Rattle.vfs_flags.specs.Flags.{open_options_bits};
 ghost use Rattle.vfs_segments.specs.declared.record.TheConstants.{LARGEST_RECORD};
 ghost use Rattle.vfs_segments.specs.Written.{Written, wrote, held_over, held_filled};
@@ -25,10 +25,8 @@ use vfs_files::{Entry, GetxattrReply, ListxattrReply, Number};
 use vfs_flags::{Errno, Fault, OpenOptions};
 use vfs_grammar::{Error, Result};
 use vfs_segments::Writer;
-use vfs_wire::{
-    Attr, AttrOut, ByteValued, EntryOut, GetxattrOut, Kstatfs, LseekOut, OpenOut, OutHeader,
-    Statvfs64, WriteOut,
-};
+use vfs_wire::{Attr, AttrOut, ByteValued, EntryOut, Kstatfs, OutHeader, Statvfs64};
+use vfs_wire_more::{GetxattrOut, LseekOut, OpenOut, WriteOut};
 
 /// Puts a header, as much of it as there is room for.
 fn put_header(header: OutHeader, w: &mut Writer)

@@ -20,7 +20,8 @@ use vfs_files::{CStr, Extensions, Number, first_nul};
 use vfs_flags::{FsOptions, SetattrValid, SetxattrFlags};
 use vfs_grammar::{Error, Result};
 use vfs_segments::Reader;
-use vfs_wire::{ByteValued, ForgetOne, InHeader, SetxattrIn, SetxattrInCompat};
+use vfs_wire::{ByteValued, ForgetOne, InHeader};
+use vfs_wire_more::{SetxattrIn, SetxattrInCompat};
 
 /// The next record of a request. `DecodeMessage` where it isn't whole.
 #[inline(always)]

@@ -4,7 +4,7 @@ use Rattle.vfs_flags.specs.Errors.{enoent, enotdir, eisdir, erofs}
 use Rattle.vfs_wire.specs.declared.attributes.Attr.{Attr}
 use Rattle.vfs_files.specs.Items.{Item}
 use Rattle.vfs_files.specs.Calls.{Call, Lookup, Getattr, Setattr, Symlink, Mknod, Mkdir, Unlink, Rmdir, Rename, Link, Open, Read, Write, Setxattr, Removexattr, Readdir, Access, Create, Fallocate, Copyfilerange, Tmpfile, Answer, Done, Failed, Found, Attributes, Put, Handed, Plain, Iterator, default_opening, default_answer}
-use Rattle.vfs_bytes.specs.Bytes.{part_of, most_put}
+use Rattle.vfs_files.specs.Bytes.{part_of, most_put}
 use Rattle.vfs_read_only.specs.Tables.{Named, Tables}
 use Rattle.vfs_read_only.specs.Makers.{IsSecond, IsEntryOf}
 

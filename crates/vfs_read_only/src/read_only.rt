@@ -9,10 +9,9 @@ use crate::listing::Listing;
 use crate::makers::{TIMEOUT_SECONDS, node_entry};
 use crate::tree::ReadTree;
 use std::time::Duration;
-use vfs_bytes::read_bytes;
 use vfs_files::{
     CStr, Context, Entry, Extensions, FileSystem, GetxattrReply, ListxattrReply, ZeroCopyReader,
-    ZeroCopyWriter, defaults,
+    ZeroCopyWriter, defaults, read_bytes,
 };
 use vfs_flags::{Errno, Fault, FsOptions, OpenOptions, SetattrValid, SetxattrFlags};
 use vfs_wire::{Attr, SetattrIn, Statvfs64};

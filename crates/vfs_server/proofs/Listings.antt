@@ -3,7 +3,7 @@
 use Rattle.std.proofs.Common.{◌≡◌, ◌≤◌, ◌<◌, ◌-◌, ◌^◌, ℕ, Bool, false, List, [], ◌++◌, length, Option, None, Result, Ok, Err, inl, inr, refl, subst, arith, append-nil, length-drop}
 use Rattle.std.proofs.lemmas.Bool.Decides.{nat_tests}
 use Rattle.vfs_segments.specs.Written.{Written, Moves, held_over}
-use Rattle.vfs_wire.specs.declared.files.ReadIn.{ReadIn}
+use Rattle.vfs_wire_more.specs.declared.files.ReadIn.{ReadIn}
 use Rattle.vfs_files.specs.declared.entry.Context.{Context}
 use Rattle.vfs_files.specs.Answers.{Handed, Counts}
 use Rattle.vfs_files.specs.Calls.{Call}

@@ -1,3 +1,5 @@
 pub mod Memory
 pub mod Step
 pub mod Session
+pub mod ServeErrors
+pub mod Served

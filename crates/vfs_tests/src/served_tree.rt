@@ -6,8 +6,8 @@ use example_tree::Docs;
 use std::test::Fail;
 use vfs_flags::Errno;
 use vfs_read_only::{ReadOnly, name_position};
-use vfs_serve::{ServeError, serve};
 use vfs_server::server::Server;
+use vfs_server::transport::{ServeError, serve};
 use vfs_wire::EntryOut;
 
 #[test]

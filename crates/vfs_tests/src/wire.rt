@@ -4,6 +4,7 @@ ghost use Rattle.std.specs.Prelude.{◌≡◌, length};
 
 use vfs_flags::{Errno, GuestGid, GuestUid};
 use vfs_wire::*;
+use vfs_wire_more::*;
 
 /// The bytes of a record, with zeros behind them.
 fn bytes_of<T: ByteValued + Drop>(x: &T) -> [u8; 152] {

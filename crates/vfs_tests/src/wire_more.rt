@@ -2,11 +2,9 @@
 
 use crate::wire::is_written_as;
 use vfs_wire::{
-    AccessIn, Attr, AttrOut, BatchForgetIn, ByteValued, CopyfilerangeIn, CreateIn, Dirent,
-    Direntplus, EntryOut, ExtHeader, FallocateIn, FlushIn, ForgetIn, ForgetOne, FsyncIn, GetattrIn,
-    GetxattrIn, GetxattrOut, InHeader, InitInCompat, InitInExt, InitOut, Kstatfs, LinkIn, LseekIn,
-    LseekOut, MkdirIn, MknodIn, OpenIn, OpenOut, OutHeader, ReadIn, ReleaseIn, Rename2In, RenameIn,
-    Secctx, SetattrIn, SetxattrIn, SetxattrInCompat, SuppGroups, WriteIn, WriteOut,
+    Attr, AttrOut, BatchForgetIn, ByteValued, Dirent, Direntplus, EntryOut, ExtHeader, ForgetIn,
+    ForgetOne, GetattrIn, InHeader, InitInCompat, InitInExt, InitOut, Kstatfs, OutHeader, Secctx,
+    SetattrIn, SuppGroups,
 };
 use vfs_wire_more::*;
 

@@ -13,7 +13,8 @@ use vfs_files::{CStr, DirEntry, FileSystem, Unserved};
 use vfs_flags::Fault;
 use vfs_listings::{add_dirent, read_directory};
 use vfs_segments::Writer;
-use vfs_wire::{InHeader, ReadIn};
+use vfs_wire::InHeader;
+use vfs_wire_more::ReadIn;
 
 /// Adds `.` of the root, whose record has 32 bytes, where 32 may still be put.
 fn add_dot(w: &mut Writer, dot: CStr<'_>) -> Result<usize, Fault>

@@ -3,12 +3,8 @@ pub mod Entries
 pub mod Extensions
 pub mod FieldLaws
 pub mod Fields
-pub mod Files
 pub mod Headers
 pub mod Init
 pub mod Layouts
 pub mod Listings
-pub mod Names
-pub mod Ranges
 pub mod Stat
-pub mod Xattrs

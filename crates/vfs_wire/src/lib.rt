@@ -13,31 +13,23 @@ mod attributes;
 pub mod bytes;
 mod entries;
 mod extensions;
-mod files;
 mod headers;
 mod init;
 mod laws;
 pub mod layouts;
 mod listings;
-mod names;
 mod numbers;
 pub mod parts;
-mod ranges;
 mod stat;
-mod xattrs;
 
 pub use attributes::{Attr, AttrOut, GetattrIn, SetattrIn};
 pub use entries::{BatchForgetIn, EntryOut, ForgetIn, ForgetOne};
 pub use extensions::{ExtHeader, Secctx, SuppGroups};
-pub use files::{FlushIn, FsyncIn, OpenIn, OpenOut, ReadIn, ReleaseIn, WriteIn, WriteOut};
 pub use headers::{InHeader, OutHeader};
 pub use init::{InitInCompat, InitInExt, InitOut};
 pub use laws::{bytes_have_size, put_after_take, take_after_put};
 pub use listings::{Dirent, Direntplus, Kstatfs};
-pub use names::{AccessIn, CreateIn, LinkIn, MkdirIn, MknodIn, Rename2In, RenameIn};
-pub use ranges::{CopyfilerangeIn, FallocateIn, LseekIn, LseekOut};
 pub use stat::{Stat64, Statvfs64};
-pub use xattrs::{GetxattrIn, GetxattrOut, SetxattrIn, SetxattrInCompat};
 
 /// A value that a fixed number of bytes stand for: its fields in order, each little endian in its
 /// width. Values and byte lists of that length correspond one to one (`take_after_put`,

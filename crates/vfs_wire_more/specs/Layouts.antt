@@ -1,12 +1,207 @@
 -- The records as a compiler lays them out: what the bytes 1, 2, 3, .. of each say, field by field.
 use Rattle.std.specs.Prelude.{pos, [], ◌∷◌}
 use Rattle.vfs_wire.specs.Layouts.{LiesAs}
+use Rattle.vfs_wire_more.specs.Files.{open_in, open_out, release_in, flush_in, read_in, write_in, write_out, fsync_in}
+use Rattle.vfs_wire_more.specs.Names.{mknod_in, mkdir_in, rename_in, rename2_in, link_in, create_in, access_in}
+use Rattle.vfs_wire_more.specs.Ranges.{lseek_in, lseek_out, copyfilerange_in, fallocate_in}
+use Rattle.vfs_wire_more.specs.Xattrs.{setxattr_in, setxattr_in_compat, getxattr_in, getxattr_out}
 use Rattle.vfs_wire_more.specs.Listings.{statfs_out}
 use Rattle.vfs_wire_more.specs.Extensions.{secctx_header}
 use Rattle.vfs_wire_more.specs.Locks.{file_lock, lk_in, lk_out, interrupt_in}
 use Rattle.vfs_wire_more.specs.Devices.{bmap_in, bmap_out, ioctl_in, ioctl_iovec, ioctl_out, poll_in, poll_out, syncfs_in}
 use Rattle.vfs_wire_more.specs.Mappings.{setupmapping_in, removemapping_in, removemapping_one}
 use Rattle.vfs_wire_more.specs.Notifications.{notify_poll_wakeup_out, notify_inval_inode_out, notify_inval_entry_out, notify_delete_out, notify_store_out, notify_retrieve_out, notify_retrieve_in}
+
+-- the 16 bytes of MknodIn
+abbrev pub MknodInLies : Type 0
+MknodInLies = LiesAs mknod_in 16 (record {
+  mode = 0x04030201;
+  rdev = 0x08070605;
+  umask = 0x0c0b0a09;
+  padding = 0x100f0e0d;
+})
+
+-- the 8 bytes of MkdirIn
+abbrev pub MkdirInLies : Type 0
+MkdirInLies = LiesAs mkdir_in 8 (record {
+  mode = 0x04030201;
+  umask = 0x08070605;
+})
+
+-- the 8 bytes of RenameIn
+abbrev pub RenameInLies : Type 0
+RenameInLies = LiesAs rename_in 8 (record {
+  newdir = 0x0807060504030201;
+})
+
+-- the 16 bytes of Rename2In
+abbrev pub Rename2InLies : Type 0
+Rename2InLies = LiesAs rename2_in 16 (record {
+  newdir = 0x0807060504030201;
+  flags = 0x0c0b0a09;
+  padding = 0x100f0e0d;
+})
+
+-- the 8 bytes of LinkIn
+abbrev pub LinkInLies : Type 0
+LinkInLies = LiesAs link_in 8 (record {
+  oldnodeid = 0x0807060504030201;
+})
+
+-- the 16 bytes of CreateIn
+abbrev pub CreateInLies : Type 0
+CreateInLies = LiesAs create_in 16 (record {
+  flags = 0x04030201;
+  mode = 0x08070605;
+  umask = 0x0c0b0a09;
+  open_flags = 0x100f0e0d;
+})
+
+-- the 8 bytes of AccessIn
+abbrev pub AccessInLies : Type 0
+AccessInLies = LiesAs access_in 8 (record {
+  mask = 0x04030201;
+  padding = 0x08070605;
+})
+
+-- the 8 bytes of OpenIn
+abbrev pub OpenInLies : Type 0
+OpenInLies = LiesAs open_in 8 (record {
+  flags = 0x04030201;
+  open_flags = 0x08070605;
+})
+
+-- the 16 bytes of OpenOut
+abbrev pub OpenOutLies : Type 0
+OpenOutLies = LiesAs open_out 16 (record {
+  fh = 0x0807060504030201;
+  open_flags = 0x0c0b0a09;
+  padding = 0x100f0e0d;
+})
+
+-- the 24 bytes of ReleaseIn
+abbrev pub ReleaseInLies : Type 0
+ReleaseInLies = LiesAs release_in 24 (record {
+  fh = 0x0807060504030201;
+  flags = 0x0c0b0a09;
+  release_flags = 0x100f0e0d;
+  lock_owner = 0x1817161514131211;
+})
+
+-- the 24 bytes of FlushIn
+abbrev pub FlushInLies : Type 0
+FlushInLies = LiesAs flush_in 24 (record {
+  fh = 0x0807060504030201;
+  unused = 0x0c0b0a09;
+  padding = 0x100f0e0d;
+  lock_owner = 0x1817161514131211;
+})
+
+-- the 40 bytes of ReadIn
+abbrev pub ReadInLies : Type 0
+ReadInLies = LiesAs read_in 40 (record {
+  fh = 0x0807060504030201;
+  offset = 0x100f0e0d0c0b0a09;
+  size = 0x14131211;
+  read_flags = 0x18171615;
+  lock_owner = 0x201f1e1d1c1b1a19;
+  flags = 0x24232221;
+  padding = 0x28272625;
+})
+
+-- the 40 bytes of WriteIn
+abbrev pub WriteInLies : Type 0
+WriteInLies = LiesAs write_in 40 (record {
+  fh = 0x0807060504030201;
+  offset = 0x100f0e0d0c0b0a09;
+  size = 0x14131211;
+  write_flags = 0x18171615;
+  lock_owner = 0x201f1e1d1c1b1a19;
+  flags = 0x24232221;
+  padding = 0x28272625;
+})
+
+-- the 8 bytes of WriteOut
+abbrev pub WriteOutLies : Type 0
+WriteOutLies = LiesAs write_out 8 (record {
+  size = 0x04030201;
+  padding = 0x08070605;
+})
+
+-- the 16 bytes of FsyncIn
+abbrev pub FsyncInLies : Type 0
+FsyncInLies = LiesAs fsync_in 16 (record {
+  fh = 0x0807060504030201;
+  fsync_flags = 0x0c0b0a09;
+  padding = 0x100f0e0d;
+})
+
+-- the 24 bytes of LseekIn
+abbrev pub LseekInLies : Type 0
+LseekInLies = LiesAs lseek_in 24 (record {
+  fh = 0x0807060504030201;
+  offset = 0x100f0e0d0c0b0a09;
+  whence = 0x14131211;
+  padding = 0x18171615;
+})
+
+-- the 8 bytes of LseekOut
+abbrev pub LseekOutLies : Type 0
+LseekOutLies = LiesAs lseek_out 8 (record {
+  offset = 0x0807060504030201;
+})
+
+-- the 56 bytes of CopyfilerangeIn
+abbrev pub CopyfilerangeInLies : Type 0
+CopyfilerangeInLies = LiesAs copyfilerange_in 56 (record {
+  fh_in = 0x0807060504030201;
+  off_in = 0x100f0e0d0c0b0a09;
+  nodeid_out = 0x1817161514131211;
+  fh_out = 0x201f1e1d1c1b1a19;
+  off_out = 0x2827262524232221;
+  len = 0x302f2e2d2c2b2a29;
+  flags = 0x3837363534333231;
+})
+
+-- the 32 bytes of FallocateIn
+abbrev pub FallocateInLies : Type 0
+FallocateInLies = LiesAs fallocate_in 32 (record {
+  fh = 0x0807060504030201;
+  offset = 0x100f0e0d0c0b0a09;
+  length = 0x1817161514131211;
+  mode = 0x1c1b1a19;
+  padding = 0x201f1e1d;
+})
+
+-- the 16 bytes of SetxattrIn
+abbrev pub SetxattrInLies : Type 0
+SetxattrInLies = LiesAs setxattr_in 16 (record {
+  size = 0x04030201;
+  flags = 0x08070605;
+  setxattr_flags = 0x0c0b0a09;
+  padding = 0x100f0e0d;
+})
+
+-- the 8 bytes of SetxattrInCompat
+abbrev pub SetxattrInCompatLies : Type 0
+SetxattrInCompatLies = LiesAs setxattr_in_compat 8 (record {
+  size = 0x04030201;
+  flags = 0x08070605;
+})
+
+-- the 8 bytes of GetxattrIn
+abbrev pub GetxattrInLies : Type 0
+GetxattrInLies = LiesAs getxattr_in 8 (record {
+  size = 0x04030201;
+  padding = 0x08070605;
+})
+
+-- the 8 bytes of GetxattrOut
+abbrev pub GetxattrOutLies : Type 0
+GetxattrOutLies = LiesAs getxattr_out 8 (record {
+  size = 0x04030201;
+  padding = 0x08070605;
+})
 
 -- the 80 bytes of StatfsOut
 abbrev pub StatfsOutLies : Type 0

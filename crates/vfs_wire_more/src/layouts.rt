@@ -2,7 +2,50 @@
 //! numbers that a field at its offset has, and those are written as these bytes. Each function here
 //! does nothing: its contract is the law, for a caller's proof to cite.
 
-ghost use Rattle.vfs_wire_more.specs.Layouts.{StatfsOutLies, SecctxHeaderLies, FileLockLies, LkInLies, LkOutLies, InterruptInLies, BmapInLies, BmapOutLies, IoctlInLies, IoctlIovecLies, IoctlOutLies, PollInLies, PollOutLies, SyncfsInLies, SetupmappingInLies, RemovemappingInLies, RemovemappingOneLies, NotifyPollWakeupOutLies, NotifyInvalInodeOutLies, NotifyInvalEntryOutLies, NotifyDeleteOutLies, NotifyStoreOutLies, NotifyRetrieveOutLies, NotifyRetrieveInLies};
+ghost use Rattle.vfs_wire_more.specs.Layouts.{MknodInLies, MkdirInLies, RenameInLies, Rename2InLies, LinkInLies, CreateInLies, AccessInLies, OpenInLies, OpenOutLies, ReleaseInLies, FlushInLies, ReadInLies, WriteInLies, WriteOutLies, FsyncInLies, LseekInLies, LseekOutLies, CopyfilerangeInLies, FallocateInLies, SetxattrInLies, SetxattrInCompatLies, GetxattrInLies, GetxattrOutLies, StatfsOutLies, SecctxHeaderLies, FileLockLies, LkInLies, LkOutLies, InterruptInLies, BmapInLies, BmapOutLies, IoctlInLies, IoctlIovecLies, IoctlOutLies, PollInLies, PollOutLies, SyncfsInLies, SetupmappingInLies, RemovemappingInLies, RemovemappingOneLies, NotifyPollWakeupOutLies, NotifyInvalInodeOutLies, NotifyInvalEntryOutLies, NotifyDeleteOutLies, NotifyStoreOutLies, NotifyRetrieveOutLies, NotifyRetrieveInLies};
+
+/// The records of requests on open files.
+#[tactic(auto, unfolding(vfs_wire::specs::Fields::number, vfs_wire::specs::Fields::little))]
+pub fn files()
+    ensures open_in { OpenInLies }
+    ensures open_out { OpenOutLies }
+    ensures release_in { ReleaseInLies }
+    ensures flush_in { FlushInLies }
+    ensures read_in { ReadInLies }
+    ensures write_in { WriteInLies }
+    ensures write_out { WriteOutLies }
+    ensures fsync_in { FsyncInLies }
+{}
+
+/// The records of requests on names.
+#[tactic(auto, unfolding(vfs_wire::specs::Fields::number, vfs_wire::specs::Fields::little))]
+pub fn names()
+    ensures mknod_in { MknodInLies }
+    ensures mkdir_in { MkdirInLies }
+    ensures rename_in { RenameInLies }
+    ensures rename2_in { Rename2InLies }
+    ensures link_in { LinkInLies }
+    ensures create_in { CreateInLies }
+    ensures access_in { AccessInLies }
+{}
+
+/// The records of ranges of a file.
+#[tactic(auto, unfolding(vfs_wire::specs::Fields::number, vfs_wire::specs::Fields::little))]
+pub fn ranges()
+    ensures lseek_in { LseekInLies }
+    ensures lseek_out { LseekOutLies }
+    ensures copyfilerange_in { CopyfilerangeInLies }
+    ensures fallocate_in { FallocateInLies }
+{}
+
+/// The records of extended attributes.
+#[tactic(auto, unfolding(vfs_wire::specs::Fields::number, vfs_wire::specs::Fields::little))]
+pub fn xattrs()
+    ensures setxattr_in { SetxattrInLies }
+    ensures setxattr_in_compat { SetxattrInCompatLies }
+    ensures getxattr_in { GetxattrInLies }
+    ensures getxattr_out { GetxattrOutLies }
+{}
 
 /// The record of a file system as a whole.
 #[tactic(auto, unfolding(vfs_wire::specs::Fields::number, vfs_wire::specs::Fields::little))]

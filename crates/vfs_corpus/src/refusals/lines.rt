@@ -5,7 +5,8 @@ use crate::refusals::parts::Parts;
 use std::alloc::Global;
 use std::io;
 use vfs_bench::Recorder;
-use vfs_lines::{Line, MemFs, PAGE_SIZE, RunError, parse_line};
+use vfs_lines::{Line, RunError, parse_line};
+use vfs_run::{MemFs, PAGE_SIZE};
 use vfs_segments::{Reader, Writer};
 use vfs_server::server::Server;
 

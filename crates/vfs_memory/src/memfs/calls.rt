@@ -12,10 +12,9 @@ use super::{
 };
 use bitflags::Flags;
 use std::time::Duration;
-use vfs_bytes::read_bytes;
 use vfs_files::{
     CStr, Context, Entry, Extensions, FileSystem, GetxattrReply, ListxattrReply, ZeroCopyReader,
-    ZeroCopyWriter, defaults,
+    ZeroCopyWriter, defaults, read_bytes,
 };
 use vfs_flags::{Errno, Fault, FsOptions, OpenOptions, ROOT_ID, SetattrValid, SetxattrFlags};
 use vfs_wire::{Attr, SetattrIn, Statvfs64};

@@ -9,7 +9,8 @@ use vfs_flags::{FATTR_FH, GETATTR_FH, Opcode};
 use vfs_grammar::Result;
 use vfs_messages::{handle_if, known_valid, read_record, reply_attr, reply_done, reply_statistics};
 use vfs_segments::Writer;
-use vfs_wire::{AccessIn, GetattrIn, SetattrIn};
+use vfs_wire::{GetattrIn, SetattrIn};
+use vfs_wire_more::AccessIn;
 
 impl<F: FileSystem> Server<F> {
     /// GETATTR (`struct fuse_getattr_in`): the attributes of a node, through a handle where the

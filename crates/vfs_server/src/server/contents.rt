@@ -18,7 +18,7 @@ use vfs_grammar::Result;
 use vfs_messages::{hold_header, is_set, number_if, read_record, reply_data, reply_written};
 use vfs_segments::{Reader, Writer};
 use vfs_transfers::{ZcReader, ZcWriter};
-use vfs_wire::{ReadIn, WriteIn};
+use vfs_wire_more::{ReadIn, WriteIn};
 
 /// A writer without room. It takes no memory.
 fn no_room(alloc: Global) -> Writer {

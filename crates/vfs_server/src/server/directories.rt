@@ -1,7 +1,7 @@
 //! Open directories, and what is read of them.
 
 ghost use Rattle.std.specs.Prelude.{◌≡◌, length};
-ghost use Rattle.vfs_wire.specs.Files.{read_in};
+ghost use Rattle.vfs_wire_more.specs.Files.{read_in};
 ghost use Rattle.vfs_grammar.specs.Ask.{listing_of, lists_too_much};
 ghost use Rattle.vfs_grammar.specs.Forms.{Directories, Record, ask_form};
 ghost use Rattle.vfs_server.specs.Step.{Handles, Serves};
@@ -16,7 +16,7 @@ use vfs_messages::{
     hold_header, is_set, read_record, reply_data, reply_done, reply_failed, reply_opened,
 };
 use vfs_segments::Writer;
-use vfs_wire::{FsyncIn, OpenIn, ReadIn, ReleaseIn};
+use vfs_wire_more::{FsyncIn, OpenIn, ReadIn, ReleaseIn};
 
 impl<F: FileSystem> Server<F> {
     /// OPENDIR (`struct fuse_open_in`): opens a directory.

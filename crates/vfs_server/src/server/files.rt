@@ -13,9 +13,9 @@ use vfs_messages::{
     reply_opened, reply_written,
 };
 use vfs_segments::Writer;
-use vfs_wire::{
-    ByteValued, CopyfilerangeIn, CreateIn, FallocateIn, FlushIn, FsyncIn, LseekIn, OpenIn,
-    ReleaseIn,
+use vfs_wire::ByteValued;
+use vfs_wire_more::{
+    CopyfilerangeIn, CreateIn, FallocateIn, FlushIn, FsyncIn, LseekIn, OpenIn, ReleaseIn,
 };
 
 impl<F: FileSystem> Server<F> {

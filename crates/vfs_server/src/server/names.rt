@@ -13,9 +13,8 @@ use vfs_messages::{
     reply_failed, reply_text,
 };
 use vfs_segments::Writer;
-use vfs_wire::{
-    BatchForgetIn, ByteValued, ForgetIn, ForgetOne, LinkIn, MkdirIn, MknodIn, Rename2In, RenameIn,
-};
+use vfs_wire::{BatchForgetIn, ByteValued, ForgetIn, ForgetOne};
+use vfs_wire_more::{LinkIn, MkdirIn, MknodIn, Rename2In, RenameIn};
 
 impl<F: FileSystem> Server<F> {
     /// LOOKUP: the node of a name, which is the request's tail.

@@ -12,7 +12,8 @@ use vfs_messages::{
     reply_done, reply_failed, reply_names, reply_value, setxattr_size,
 };
 use vfs_segments::Writer;
-use vfs_wire::{ByteValued, GetxattrIn};
+use vfs_wire::ByteValued;
+use vfs_wire_more::GetxattrIn;
 
 impl<F: FileSystem> Server<F> {
     /// LISTXATTR (`struct fuse_getxattr_in`): the names of a node's extended attributes, or how

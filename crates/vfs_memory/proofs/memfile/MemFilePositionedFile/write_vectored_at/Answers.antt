@@ -1,5 +1,5 @@
 use Rattle.std.proofs.Common.{arith}
-use Rattle.vfs_bytes.specs.WritingLaws.{length-Writes}
+use Rattle.vfs_files.specs.WritingLaws.{length-Writes}
 use Rattle.vfs_memory.specs.MemFile.{most_bytes}
 use Rattle.vfs_memory.proofs.memfile.MemFilePositionedFile.write_vectored_at.Goals as goal
 

@@ -1,4 +1,0 @@
-pub mod Bytes
-pub mod BytesMut
-pub mod ReadingLaws
-pub mod WritingLaws
