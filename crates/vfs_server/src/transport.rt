@@ -11,11 +11,10 @@ ghost use Rattle.vfs_server.specs.Served.{Served, room_of};
 ghost use Rattle.vfs_server.specs.declared.transport.error.ServeError.TheVariants.{OutOfMemory};
 
 use crate::server::Server;
+pub use crate::transport::error::ServeError;
 use std::alloc::Global;
 use vfs_files::FileSystem;
 use vfs_segments::{Reader, Writer};
-
-pub use crate::transport::error::ServeError;
 
 /// Has the server handle the request of these bytes, and gives the bytes of its reply: at most
 /// `room`, and none where there is no reply, as to a FORGET.

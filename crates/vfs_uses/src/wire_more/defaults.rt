@@ -16,8 +16,8 @@ ghost use Rattle.vfs_wire_more.specs.Notifications.{notify_poll_wakeup_out, noti
 use vfs_wire_more::{
     AccessIn, BmapIn, BmapOut, CopyfilerangeIn, CreateIn, FallocateIn, FileLock, FlushIn, FsyncIn,
     GetxattrIn, GetxattrOut, InterruptIn, IoctlIn, IoctlIovec, IoctlOut, LinkIn, LkIn, LkOut,
-    LseekIn, LseekOut, MkdirIn, MknodIn, NotifyDeleteOut, NotifyInvalEntryOut, NotifyInvalInodeOut,
-    NotifyPollWakeupOut, NotifyRetrieveIn, NotifyStoreOut, Notify_Retrieve_Out, OpenIn, OpenOut,
+    LseekIn, LseekOut, MkdirIn, MknodIn, Notify_Retrieve_Out, NotifyDeleteOut, NotifyInvalEntryOut,
+    NotifyInvalInodeOut, NotifyPollWakeupOut, NotifyRetrieveIn, NotifyStoreOut, OpenIn, OpenOut,
     PollIn, PollOut, ReadIn, ReleaseIn, RemovemappingIn, RemovemappingOne, Rename2In, RenameIn,
     SecctxHeader, SetupmappingIn, SetxattrIn, SetxattrInCompat, StatfsOut, SyncfsIn, WriteIn,
     WriteOut,
