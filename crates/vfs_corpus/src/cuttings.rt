@@ -137,22 +137,61 @@ pub fn serve<W: Watch>(
     let mut server = Server::new(fs, PAGE_SIZE);
     agree(alloc, &mut server, message)?;
     let noted = server.fs().notes().text().len();
+    let (outcomes, rooms) = hand_over(alloc, &mut server, bytes, room, cuttings, way, watch)?;
+    Ok(Served {
+        outcomes,
+        rooms,
+        options: server.options(),
+        calls: calls_from(alloc, server.fs().notes(), noted)?,
+    })
+}
+
+// Hands over the bytes of a request in each of these cuttings. The outcomes, and the bytes of the
+// rooms afterwards.
+fn hand_over<W: Watch>(
+    alloc: Global,
+    server: &mut Server<ScriptFs<'_>>,
+    bytes: &[u8],
+    room: usize,
+    cuttings: &[Cutting],
+    way: Way,
+    watch: &mut W,
+) -> Result<(Vec<vfs_server::Result<usize>>, Vec<Vec<u8>>), RunError> {
     let (pieces, counts) = cut_each(alloc, bytes, cuttings)?;
     let readers = readers_over(alloc, &pieces, &counts)?;
     let mut writers = writers_for(alloc, room, cuttings)?;
     let mut outcomes = vec![in alloc; Ok(0); cuttings.len()]?;
+    handle_all(
+        alloc,
+        server,
+        readers,
+        &mut writers,
+        &mut outcomes,
+        way,
+        watch,
+    )?;
+    Ok((outcomes, bytes_of(alloc, writers)?))
+}
+
+// Handles requests in order, and says so right before and right behind that.
+fn handle_all<W: Watch>(
+    alloc: Global,
+    server: &mut Server<ScriptFs<'_>>,
+    readers: Vec<Reader<'_>>,
+    writers: &mut [Writer],
+    outcomes: &mut [vfs_server::Result<usize>],
+    way: Way,
+    watch: &mut W,
+) -> Result<(), RunError>
+    requires writers { vec_len readers ≡ length writers.old }
+    requires outcomes { vec_len readers ≡ length outcomes.old }
+{
     watch.before(server.options())?;
     match way {
-        Way::Messages => handle_each(alloc, &mut server, readers, &mut writers, &mut outcomes),
-        Way::Session => server.handle_session(alloc, readers, &mut writers, &mut outcomes),
+        Way::Messages => handle_each(alloc, server, readers, writers, outcomes),
+        Way::Session => server.handle_session(alloc, readers, writers, outcomes),
     }
-    watch.after()?;
-    Ok(Served {
-        outcomes,
-        rooms: bytes_of(alloc, writers)?,
-        options: server.options(),
-        calls: calls_from(alloc, server.fs().notes(), noted)?,
-    })
+    watch.after()
 }
 
 // Handles requests in order, each as a message.

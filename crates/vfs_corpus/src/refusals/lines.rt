@@ -2,7 +2,7 @@
 
 use crate::cuttings::{Served, Watch, bytes_of};
 use crate::refusals::parts::Parts;
-use std::alloc::Global;
+use std::alloc::{AllocError, Global};
 use std::io;
 use vfs_bench::Recorder;
 use vfs_lines::{Line, RunError, parse_line};
@@ -52,24 +52,12 @@ fn try_line<W: io::Write + Drop>(
     line: &Line,
 ) -> Result<(), RunError> {
     let noted = server.fs().notes().len();
-    let mut segments = Vec::new(alloc);
-    for segment in &line.segments {
-        segments.push(segment.as_slice())?;
-    }
-    let mut rooms = Vec::new(alloc);
-    for length in &line.rooms {
-        rooms.push(vec![in alloc; 0u8; *length]?)?;
-    }
+    let segments = segments_of(alloc, line)?;
     let Ok(reader) = Reader::new(alloc, &segments) else {
         return Err(RunError::OutOfMemory);
     };
-    let Ok(mut writer) = Writer::new(alloc, rooms) else {
-        return Err(RunError::OutOfMemory);
-    };
-    parts.call_next(String::from_str(alloc, "of a line")?);
-    parts.before(server.options())?;
-    let outcome = server.handle_message(alloc, reader, &mut writer);
-    parts.after()?;
+    let mut writer = writer_for(alloc, line)?;
+    let outcome = handle(alloc, parts, server, reader, &mut writer)?;
     let served = Served {
         outcomes: Vec::from_array(alloc, [outcome])?,
         rooms: bytes_of(alloc, Vec::from_array(alloc, [writer])?)?,
@@ -77,6 +65,42 @@ fn try_line<W: io::Write + Drop>(
         calls: calls_from(alloc, server.fs(), noted)?,
     };
     parts.tell_served(&served)
+}
+
+// The segments of a line's request.
+fn segments_of(alloc: Global, line: &Line) -> Result<Vec<&[u8]>, AllocError> {
+    let mut segments = Vec::new(alloc);
+    for segment in &line.segments {
+        segments.push(segment.as_slice())?;
+    }
+    Ok(segments)
+}
+
+// A writer over a line's rooms, with zeros in them.
+fn writer_for(alloc: Global, line: &Line) -> Result<Writer, RunError> {
+    let mut rooms = Vec::new(alloc);
+    for length in &line.rooms {
+        rooms.push(vec![in alloc; 0u8; *length]?)?;
+    }
+    match Writer::new(alloc, rooms) {
+        Ok(writer) => Ok(writer),
+        Err(_) => Err(RunError::OutOfMemory),
+    }
+}
+
+// Handles a request, where memory may be refused.
+fn handle<W: io::Write + Drop>(
+    alloc: Global,
+    parts: &mut Parts<W>,
+    server: &mut Server<Recorder<MemFs>>,
+    reader: Reader<'_>,
+    writer: &mut Writer,
+) -> Result<vfs_server::Result<usize>, RunError> {
+    parts.call_next(String::from_str(alloc, "of a line")?);
+    parts.before(server.options())?;
+    let outcome = server.handle_message(alloc, reader, writer);
+    parts.after()?;
+    Ok(outcome)
 }
 
 // The calls behind the first ones, a line each.
