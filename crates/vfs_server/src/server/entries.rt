@@ -25,7 +25,8 @@ fn give_back_unfit<F: FileSystem>(fs: &mut F, header: &InHeader, node: u64, outc
     ensures { GivesBackNode F.allows (context_of header.now)
         (if is_err outcome.now then counted node else None) fs.old fs.new }
 {
-    if outcome.is_err() && node != 0 {
+    let is_counted = node != 0;
+    if outcome.is_err() && is_counted {
         give_back(fs, header, node);
     }
 }

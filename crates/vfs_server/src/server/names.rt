@@ -1,5 +1,8 @@
 //! Names, and the lookups that the kernel counts.
 
+ghost use Rattle.std.specs.Prelude.{◌≡◌, ◌*◌, nat_lt};
+ghost use Rattle.vfs_wire.specs.Entries.{forget_one};
+ghost use Rattle.vfs_grammar.specs.Records.{size_of};
 ghost use Rattle.vfs_server.specs.Step.{Serves};
 
 use crate::server::Server;
@@ -37,6 +40,14 @@ impl<F: FileSystem> Server<F> {
         Ok(0)
     }
 
+    /// Whether the pairs of a BATCH_FORGET are more than a payload may hold.
+    fn has_too_many(&self, batch: &BatchForgetIn) -> bool
+        ensures { result ≡
+            nat_lt self.now.limits.max_buffer (batch.now.count * size_of forget_one) }
+    {
+        batch.count as usize * ForgetOne::SIZE > self.limits.max_buffer as usize
+    }
+
     /// BATCH_FORGET (`struct fuse_batch_forget_in`): lookups of many nodes are taken back, as pairs
     /// behind the record say. There is no reply, but to more pairs than a payload may hold.
     pub(super) fn batch_forget(&mut self, q: Request<'_, '_>, w: &mut Writer) -> Result<usize>
@@ -44,7 +55,7 @@ impl<F: FileSystem> Server<F> {
             self.old w.old result w.new self.new }
     {
         let batch = read_record::<BatchForgetIn>(q.r)?;
-        if batch.count as usize * ForgetOne::SIZE > self.limits.max_buffer as usize {
+        if self.has_too_many(&batch) {
             return reply_failed(Some(Errno::ENOMEM), q.header.unique, w);
         }
         let pairs = read_pairs::<F::Inode>(q.alloc, batch.count, q.r)?;
