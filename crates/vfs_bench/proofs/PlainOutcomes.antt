@@ -16,7 +16,6 @@ use Rattle.vfs_files.specs.Calls.{Readdir}
 use Rattle.vfs_files.specs.declared.entry.Context.{Context}
 use Rattle.vfs_bench.specs.Notes.{note_of_handed}
 use Rattle.vfs_bench.specs.Outcomes.{outcome_of, plain_outcome}
-use Rattle.vfs_bench.specs.declared.outcome.Outcome.{Outcome}
 
 -- of a call that answers only whether it was done
 pub plain_outcome-done : (r : Result (Unit {0}) (Option ℕ)) → plain_outcome r ≡ outcome_of (done_answer r)
@@ -88,11 +87,11 @@ plain_outcome-read (Ok count) bytes = refl
 plain_outcome-read (Err fault) bytes = refl
 
 -- the note of a directory that was opened, or of the fault
-pub noted-directory : {I : Type 0} (ctx : Context) (inode handle size offset : ℕ) (r : Result I (Option ℕ)) (outcome : Outcome) → outcome ≡ plain_outcome r
-    → note_of_handed (Readdir ctx inode handle size offset) (directory_answer r) ≡ record { call = 28; node = inode; count = 0; kind = outcome.kind; value = outcome.value }
+pub noted-directory : {I : Type 0} (ctx : Context) (inode handle size offset : ℕ) (r : Result I (Option ℕ))
+    → note_of_handed (Readdir ctx inode handle size offset) (directory_answer r) ≡ record { call = 28; node = inode; count = 0; kind = (plain_outcome r).kind; value = (plain_outcome r).value }
 unfolding plain_outcome
-noted-directory ctx inode handle size offset (Ok it) outcome e = rw e refl
-noted-directory ctx inode handle size offset (Err fault) outcome e = rw e refl
+noted-directory ctx inode handle size offset (Ok it) = refl
+noted-directory ctx inode handle size offset (Err fault) = refl
 
 -- all of them but that of attributes, whose type of answer a search does not match
 pub ruleset plain_outcomes = (plain_outcome-done, plain_outcome-init, plain_outcome-opened, plain_outcome-statistics, plain_outcome-text, plain_outcome-getxattr, plain_outcome-listxattr, plain_outcome-offset, plain_outcome-written, plain_outcome-read)

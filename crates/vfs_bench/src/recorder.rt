@@ -4,8 +4,9 @@ ghost use Rattle.std.specs.Prelude.{◌≡◌, [], false, length, map, option_ma
 ghost use Rattle.vfs_flags.specs.Flags.{setattr_valid_bits};
 ghost use Rattle.vfs_flags.specs.Opcode.{number_of};
 ghost use Rattle.vfs_files.specs.Calls.{Getattr, Setattr, BatchForget, out_of_memory};
-ghost use Rattle.vfs_files.specs.Answers.{Plain, Done, attr_answer};
-ghost use Rattle.vfs_bench.specs.Notes.{told};
+ghost use Rattle.vfs_files.specs.Answers.{Plain, Done, attr_answer, entry_answer};
+ghost use Rattle.vfs_bench.specs.Notes.{asked, told};
+ghost use Rattle.vfs_bench.specs.Outcomes.{plain_outcome};
 ghost use Rattle.vfs_bench.specs.Recorded.{IsNoted, recorded};
 
 use crate::note::Note;
@@ -153,6 +154,29 @@ impl<F> Recorder<F> {
         self.note_call(opcode, node, 0, outcome);
     }
 
+    /// Notes a call whose answer names no node.
+    fn note_answer<T>(&mut self, opcode: Opcode, node: u64, answer: &Result<T, Fault>)
+        ensures inner { self.new.inner ≡ self.old.inner }
+        ensures noted { IsNoted self.old (record {
+          call = number_of opcode;
+          node = node;
+          count = 0;
+          kind = (plain_outcome answer.now).kind;
+          value = (plain_outcome answer.now).value;
+        }) self.new }
+    {
+        self.note_call(opcode, node, 0, Outcome::of(answer));
+    }
+
+    /// Notes a call that answers an entry.
+    fn note_entry(&mut self, opcode: Opcode, node: u64, answer: &Result<Entry, Fault>)
+        ensures inner { self.new.inner ≡ self.old.inner }
+        ensures noted { IsNoted self.old (asked (number_of opcode) node
+            (entry_answer answer.now)) self.new }
+    {
+        self.note_call(opcode, node, 0, Outcome::of_entry(answer));
+    }
+
     /// Notes a call.
     fn note_call(&mut self, opcode: Opcode, node: u64, count: u64, outcome: Outcome)
         ensures inner { self.new.inner ≡ self.old.inner }
@@ -187,7 +211,7 @@ impl<F: FileSystem> FileSystem for Recorder<F> {
     fn lookup(&mut self, ctx: Context, parent: F::Inode, name: CStr<'_>) -> Result<Entry, Fault> {
         let node = parent.number();
         let answer = self.inner.lookup(ctx, parent, name);
-        self.note_asked(Opcode::Lookup, node, Outcome::of_entry(&answer));
+        self.note_entry(Opcode::Lookup, node, &answer);
         answer
     }
 
@@ -210,7 +234,7 @@ impl<F: FileSystem> FileSystem for Recorder<F> {
     {
         let node = inode.number();
         let answer = self.inner.getattr(ctx, inode, handle);
-        self.note_asked(Opcode::Getattr, node, Outcome::of(&answer));
+        self.note_answer(Opcode::Getattr, node, &answer);
         answer
     }
 
@@ -230,14 +254,14 @@ impl<F: FileSystem> FileSystem for Recorder<F> {
     {
         let node = inode.number();
         let answer = self.inner.setattr(ctx, inode, attr, handle, valid);
-        self.note_asked(Opcode::Setattr, node, Outcome::of(&answer));
+        self.note_answer(Opcode::Setattr, node, &answer);
         answer
     }
 
     fn readlink(&mut self, ctx: Context, inode: F::Inode) -> Result<Vec<u8>, Fault> {
         let node = inode.number();
         let answer = self.inner.readlink(ctx, inode);
-        self.note_asked(Opcode::Readlink, node, Outcome::of(&answer));
+        self.note_answer(Opcode::Readlink, node, &answer);
         answer
     }
 
@@ -251,7 +275,7 @@ impl<F: FileSystem> FileSystem for Recorder<F> {
     ) -> Result<Entry, Fault> {
         let node = parent.number();
         let answer = self.inner.symlink(ctx, linkname, parent, name, ext);
-        self.note_asked(Opcode::Symlink, node, Outcome::of_entry(&answer));
+        self.note_entry(Opcode::Symlink, node, &answer);
         answer
     }
 
@@ -267,7 +291,7 @@ impl<F: FileSystem> FileSystem for Recorder<F> {
     ) -> Result<Entry, Fault> {
         let node = inode.number();
         let answer = self.inner.mknod(ctx, inode, name, mode, rdev, umask, ext);
-        self.note_asked(Opcode::Mknod, node, Outcome::of_entry(&answer));
+        self.note_entry(Opcode::Mknod, node, &answer);
         answer
     }
 
@@ -282,21 +306,21 @@ impl<F: FileSystem> FileSystem for Recorder<F> {
     ) -> Result<Entry, Fault> {
         let node = parent.number();
         let answer = self.inner.mkdir(ctx, parent, name, mode, umask, ext);
-        self.note_asked(Opcode::Mkdir, node, Outcome::of_entry(&answer));
+        self.note_entry(Opcode::Mkdir, node, &answer);
         answer
     }
 
     fn unlink(&mut self, ctx: Context, parent: F::Inode, name: CStr<'_>) -> Result<(), Fault> {
         let node = parent.number();
         let answer = self.inner.unlink(ctx, parent, name);
-        self.note_asked(Opcode::Unlink, node, Outcome::of(&answer));
+        self.note_answer(Opcode::Unlink, node, &answer);
         answer
     }
 
     fn rmdir(&mut self, ctx: Context, parent: F::Inode, name: CStr<'_>) -> Result<(), Fault> {
         let node = parent.number();
         let answer = self.inner.rmdir(ctx, parent, name);
-        self.note_asked(Opcode::Rmdir, node, Outcome::of(&answer));
+        self.note_answer(Opcode::Rmdir, node, &answer);
         answer
     }
 
@@ -313,7 +337,7 @@ impl<F: FileSystem> FileSystem for Recorder<F> {
         let answer = self
             .inner
             .rename(ctx, olddir, oldname, newdir, newname, flags);
-        self.note_asked(Opcode::Rename, node, Outcome::of(&answer));
+        self.note_answer(Opcode::Rename, node, &answer);
         answer
     }
 
@@ -326,7 +350,7 @@ impl<F: FileSystem> FileSystem for Recorder<F> {
     ) -> Result<Entry, Fault> {
         let node = inode.number();
         let answer = self.inner.link(ctx, inode, newparent, newname);
-        self.note_asked(Opcode::Link, node, Outcome::of_entry(&answer));
+        self.note_entry(Opcode::Link, node, &answer);
         answer
     }
 
@@ -339,7 +363,7 @@ impl<F: FileSystem> FileSystem for Recorder<F> {
     ) -> Result<(Option<F::Handle>, OpenOptions), Fault> {
         let node = inode.number();
         let answer = self.inner.open(ctx, inode, kill_priv, flags);
-        self.note_asked(Opcode::Open, node, Outcome::of(&answer));
+        self.note_answer(Opcode::Open, node, &answer);
         answer
     }
 
@@ -358,7 +382,7 @@ impl<F: FileSystem> FileSystem for Recorder<F> {
         let answer = self
             .inner
             .read(ctx, inode, handle, w, size, offset, lock_owner, flags);
-        self.note_asked(Opcode::Read, node, Outcome::of(&answer));
+        self.note_answer(Opcode::Read, node, &answer);
         answer
     }
 
@@ -388,14 +412,14 @@ impl<F: FileSystem> FileSystem for Recorder<F> {
             kill_priv,
             flags,
         );
-        self.note_asked(Opcode::Write, node, Outcome::of(&answer));
+        self.note_answer(Opcode::Write, node, &answer);
         answer
     }
 
     fn statfs(&mut self, ctx: Context, inode: F::Inode) -> Result<Statvfs64, Fault> {
         let node = inode.number();
         let answer = self.inner.statfs(ctx, inode);
-        self.note_asked(Opcode::Statfs, node, Outcome::of(&answer));
+        self.note_answer(Opcode::Statfs, node, &answer);
         answer
     }
 
@@ -419,7 +443,7 @@ impl<F: FileSystem> FileSystem for Recorder<F> {
             flock_release,
             lock_owner,
         );
-        self.note_asked(Opcode::Release, node, Outcome::of(&answer));
+        self.note_answer(Opcode::Release, node, &answer);
         answer
     }
 
@@ -432,7 +456,7 @@ impl<F: FileSystem> FileSystem for Recorder<F> {
     ) -> Result<(), Fault> {
         let node = inode.number();
         let answer = self.inner.fsync(ctx, inode, datasync, handle);
-        self.note_asked(Opcode::Fsync, node, Outcome::of(&answer));
+        self.note_answer(Opcode::Fsync, node, &answer);
         answer
     }
 
@@ -447,7 +471,7 @@ impl<F: FileSystem> FileSystem for Recorder<F> {
     ) -> Result<(), Fault> {
         let node = inode.number();
         let answer = self.inner.setxattr(ctx, inode, name, value, flags, extra);
-        self.note_asked(Opcode::Setxattr, node, Outcome::of(&answer));
+        self.note_answer(Opcode::Setxattr, node, &answer);
         answer
     }
 
@@ -460,7 +484,7 @@ impl<F: FileSystem> FileSystem for Recorder<F> {
     ) -> Result<GetxattrReply, Fault> {
         let node = inode.number();
         let answer = self.inner.getxattr(ctx, inode, name, size);
-        self.note_asked(Opcode::Getxattr, node, Outcome::of(&answer));
+        self.note_answer(Opcode::Getxattr, node, &answer);
         answer
     }
 
@@ -472,14 +496,14 @@ impl<F: FileSystem> FileSystem for Recorder<F> {
     ) -> Result<ListxattrReply, Fault> {
         let node = inode.number();
         let answer = self.inner.listxattr(ctx, inode, size);
-        self.note_asked(Opcode::Listxattr, node, Outcome::of(&answer));
+        self.note_answer(Opcode::Listxattr, node, &answer);
         answer
     }
 
     fn removexattr(&mut self, ctx: Context, inode: F::Inode, name: CStr<'_>) -> Result<(), Fault> {
         let node = inode.number();
         let answer = self.inner.removexattr(ctx, inode, name);
-        self.note_asked(Opcode::Removexattr, node, Outcome::of(&answer));
+        self.note_answer(Opcode::Removexattr, node, &answer);
         answer
     }
 
@@ -492,13 +516,13 @@ impl<F: FileSystem> FileSystem for Recorder<F> {
     ) -> Result<(), Fault> {
         let node = inode.number();
         let answer = self.inner.flush(ctx, inode, handle, lock_owner);
-        self.note_asked(Opcode::Flush, node, Outcome::of(&answer));
+        self.note_answer(Opcode::Flush, node, &answer);
         answer
     }
 
     fn init(&mut self, capable: FsOptions) -> Result<FsOptions, Fault> {
         let answer = self.inner.init(capable);
-        self.note_asked(Opcode::Init, 0, Outcome::of(&answer));
+        self.note_answer(Opcode::Init, 0, &answer);
         answer
     }
 
@@ -510,7 +534,7 @@ impl<F: FileSystem> FileSystem for Recorder<F> {
     ) -> Result<(Option<F::Handle>, OpenOptions), Fault> {
         let node = inode.number();
         let answer = self.inner.opendir(ctx, inode, flags);
-        self.note_asked(Opcode::Opendir, node, Outcome::of(&answer));
+        self.note_answer(Opcode::Opendir, node, &answer);
         answer
     }
 
@@ -524,7 +548,7 @@ impl<F: FileSystem> FileSystem for Recorder<F> {
     ) -> Result<F::DirIter, Fault> {
         let node = inode.number();
         let answer = self.inner.readdir(ctx, inode, handle, size, offset);
-        self.note_asked(Opcode::Readdir, node, Outcome::of(&answer));
+        self.note_answer(Opcode::Readdir, node, &answer);
         answer
     }
 
@@ -537,7 +561,7 @@ impl<F: FileSystem> FileSystem for Recorder<F> {
     ) -> Result<(), Fault> {
         let node = inode.number();
         let answer = self.inner.releasedir(ctx, inode, flags, handle);
-        self.note_asked(Opcode::Releasedir, node, Outcome::of(&answer));
+        self.note_answer(Opcode::Releasedir, node, &answer);
         answer
     }
 
@@ -550,32 +574,32 @@ impl<F: FileSystem> FileSystem for Recorder<F> {
     ) -> Result<(), Fault> {
         let node = inode.number();
         let answer = self.inner.fsyncdir(ctx, inode, datasync, handle);
-        self.note_asked(Opcode::Fsyncdir, node, Outcome::of(&answer));
+        self.note_answer(Opcode::Fsyncdir, node, &answer);
         answer
     }
 
     fn getlk(&mut self) -> Result<(), Fault> {
         let answer = self.inner.getlk();
-        self.note_asked(Opcode::Getlk, 0, Outcome::of(&answer));
+        self.note_answer(Opcode::Getlk, 0, &answer);
         answer
     }
 
     fn setlk(&mut self) -> Result<(), Fault> {
         let answer = self.inner.setlk();
-        self.note_asked(Opcode::Setlk, 0, Outcome::of(&answer));
+        self.note_answer(Opcode::Setlk, 0, &answer);
         answer
     }
 
     fn setlkw(&mut self) -> Result<(), Fault> {
         let answer = self.inner.setlkw();
-        self.note_asked(Opcode::Setlkw, 0, Outcome::of(&answer));
+        self.note_answer(Opcode::Setlkw, 0, &answer);
         answer
     }
 
     fn access(&mut self, ctx: Context, inode: F::Inode, mask: u32) -> Result<(), Fault> {
         let node = inode.number();
         let answer = self.inner.access(ctx, inode, mask);
-        self.note_asked(Opcode::Access, node, Outcome::of(&answer));
+        self.note_answer(Opcode::Access, node, &answer);
         answer
     }
 
@@ -600,7 +624,7 @@ impl<F: FileSystem> FileSystem for Recorder<F> {
 
     fn bmap(&mut self) -> Result<(), Fault> {
         let answer = self.inner.bmap();
-        self.note_asked(Opcode::Bmap, 0, Outcome::of(&answer));
+        self.note_answer(Opcode::Bmap, 0, &answer);
         answer
     }
 
@@ -611,19 +635,19 @@ impl<F: FileSystem> FileSystem for Recorder<F> {
 
     fn ioctl(&mut self) -> Result<(), Fault> {
         let answer = self.inner.ioctl();
-        self.note_asked(Opcode::Ioctl, 0, Outcome::of(&answer));
+        self.note_answer(Opcode::Ioctl, 0, &answer);
         answer
     }
 
     fn poll(&mut self) -> Result<(), Fault> {
         let answer = self.inner.poll();
-        self.note_asked(Opcode::Poll, 0, Outcome::of(&answer));
+        self.note_answer(Opcode::Poll, 0, &answer);
         answer
     }
 
     fn notify_reply(&mut self) -> Result<(), Fault> {
         let answer = self.inner.notify_reply();
-        self.note_asked(Opcode::NotifyReply, 0, Outcome::of(&answer));
+        self.note_answer(Opcode::NotifyReply, 0, &answer);
         answer
     }
 
@@ -651,7 +675,7 @@ impl<F: FileSystem> FileSystem for Recorder<F> {
         let answer = self
             .inner
             .fallocate(ctx, inode, handle, mode, offset, length);
-        self.note_asked(Opcode::Fallocate, node, Outcome::of(&answer));
+        self.note_answer(Opcode::Fallocate, node, &answer);
         answer
     }
 
@@ -665,7 +689,7 @@ impl<F: FileSystem> FileSystem for Recorder<F> {
     ) -> Result<u64, Fault> {
         let node = inode.number();
         let answer = self.inner.lseek(ctx, inode, handle, offset, whence);
-        self.note_asked(Opcode::Lseek, node, Outcome::of(&answer));
+        self.note_answer(Opcode::Lseek, node, &answer);
         answer
     }
 
@@ -685,14 +709,14 @@ impl<F: FileSystem> FileSystem for Recorder<F> {
         let answer = self.inner.copyfilerange(
             ctx, inode_in, handle_in, offset_in, inode_out, handle_out, offset_out, len, flags,
         );
-        self.note_asked(Opcode::CopyFileRange, node, Outcome::of(&answer));
+        self.note_answer(Opcode::CopyFileRange, node, &answer);
         answer
     }
 
     fn syncfs(&mut self, ctx: Context, inode: F::Inode) -> Result<(), Fault> {
         let node = inode.number();
         let answer = self.inner.syncfs(ctx, inode);
-        self.note_asked(Opcode::Syncfs, node, Outcome::of(&answer));
+        self.note_answer(Opcode::Syncfs, node, &answer);
         answer
     }
 
