@@ -141,6 +141,30 @@ fn with_reply(digest: u64, job: &Job<'_>, replies: &mut [u8]) -> u64 {
     digest
 }
 
+// Serves the first jobs once, and the others in as many rounds as are wanted. `None` where there is no
+// memory.
+fn serve_rounds<F: FileSystem>(
+    side: Side,
+    server: &mut Server<F>,
+    setup: &mut [Job<'_>],
+    measured: &mut [Job<'_>],
+) -> Option<()> {
+    serve_all(side.alloc, server, setup)?;
+    for _ in 0..side.rounds {
+        serve_all(side.alloc, server, measured)?;
+    }
+    Some(())
+}
+
+// Copies the replies of the last round to their places, and answers their digest.
+fn with_replies(measured: &[Job<'_>], replies: &mut [u8]) -> u64 {
+    let mut digest = DIGEST_START;
+    for job in measured.iter() {
+        digest = with_reply(digest, job, replies);
+    }
+    digest
+}
+
 /// Serves a batch over `fs`, copies the replies of the last round to their places, and answers its
 /// digest. `None` where there is no memory.
 pub fn drive<F: FileSystem + Drop>(
@@ -152,15 +176,9 @@ pub fn drive<F: FileSystem + Drop>(
     let mut jobs = jobs(side, &batch.asks)?;
     let (setup, measured) = jobs.as_mut_slice().split_at_mut_checked(batch.setup)?;
     let mut server = Server::new(fs, PAGE_SIZE);
-    serve_all(side.alloc, &mut server, setup)?;
-    for _ in 0..side.rounds {
-        serve_all(side.alloc, &mut server, measured)?;
+    serve_rounds(side, &mut server, setup, measured)?;
+    if side.rounds == 0 {
+        return Some(DIGEST_START);
     }
-    let mut digest = DIGEST_START;
-    if side.rounds > 0 {
-        for job in measured.iter() {
-            digest = with_reply(digest, job, replies);
-        }
-    }
-    Some(digest)
+    Some(with_replies(measured, replies))
 }
