@@ -19,7 +19,6 @@ mod migration;
 mod name;
 mod number;
 mod transfer;
-mod unserved;
 mod uses;
 mod xattr;
 
@@ -34,5 +33,4 @@ pub use migration::{MigrateError, SerializableFileSystem};
 pub use name::{CStr, CString, first_nul};
 pub use number::Number;
 pub use transfer::{ZeroCopyReader, ZeroCopyWriter};
-pub use unserved::{NoEntries, Unserved};
 pub use xattr::{GetxattrReply, ListxattrReply};

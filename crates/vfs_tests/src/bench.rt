@@ -10,9 +10,10 @@ use std::alloc::{AllocError, Global};
 use std::test::Fail;
 use std::time::Duration;
 use vfs_bench::{Note, NoteKind, Recorder, Script, ScriptDirectory, ScriptFile, ScriptItem};
-use vfs_files::{CStr, CString, Entry, FileSystem, GetxattrReply, ListxattrReply, Unserved};
+use vfs_files::{CStr, CString, Entry, FileSystem, GetxattrReply, ListxattrReply};
 use vfs_flags::{Errno, Fault, OpenOptions};
 use vfs_server::server::Server;
+use vfs_unserved::Unserved;
 use vfs_wire::Attr;
 
 /// The record of a request in which all is 0. What lies behind a record isn't looked at.

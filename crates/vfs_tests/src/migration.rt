@@ -3,10 +3,10 @@
 use crate::support::have_texts;
 use std::process::Abort;
 use std::test::Fail;
-use vfs_files::Unserved;
 use vfs_flags::Errno;
 use vfs_server::filesystem::{MigrateError, SerializableFileSystem};
 use vfs_server::server::Server;
+use vfs_unserved::Unserved;
 
 #[test]
 fn state_that_is_not_served_is_not_carried_over(rt: HostRuntime) -> Result<(), Fail> {

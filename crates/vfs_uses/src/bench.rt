@@ -13,10 +13,11 @@ use std::alloc::Global;
 use vfs_bench::laws::notes_are_the_calls;
 use vfs_bench::{Recorder, Script, ScriptDirectory, ScriptEntries, ScriptFile, ScriptItem};
 use vfs_files::{
-    CStr, Context, DirectoryIterator, Entry, FileSystem, GetxattrReply, Unserved, ZeroCopyReader,
+    CStr, Context, DirectoryIterator, Entry, FileSystem, GetxattrReply, ZeroCopyReader,
     ZeroCopyWriter,
 };
 use vfs_flags::{Errno, Fault};
+use vfs_unserved::Unserved;
 
 /// Looks a name up in node 9 of a file system that serves nothing: one note more says so.
 fn lookup_is_noted(

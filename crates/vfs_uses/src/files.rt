@@ -14,10 +14,10 @@ use std::time::Duration;
 use vfs_files::laws::runs_join;
 use vfs_files::{
     CStr, CString, Context, Entry, Extensions, FileSystem, GetxattrReply, ListxattrReply,
-    MigrateError, Number, SecContext, SerializableFileSystem, Unserved, ZeroCopyWriter, defaults,
-    first_nul,
+    MigrateError, Number, SecContext, SerializableFileSystem, ZeroCopyWriter, defaults, first_nul,
 };
 use vfs_flags::{Fault, GuestGid};
+use vfs_unserved::Unserved;
 use vfs_views::PositionedFile;
 use vfs_wire::{Attr, EntryOut, InHeader};
 

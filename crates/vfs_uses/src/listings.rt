@@ -9,10 +9,11 @@ ghost use Rattle.vfs_files.specs.declared.entry.Context.{Context};
 ghost use Rattle.vfs_grammar.specs.Samples.{record_of_dot, file_a};
 ghost use Rattle.vfs_listings.specs.Reading.{ReadsItems};
 
-use vfs_files::{CStr, DirEntry, FileSystem, Unserved};
+use vfs_files::{CStr, DirEntry, FileSystem};
 use vfs_flags::Fault;
 use vfs_listings::{add_dirent, read_directory};
 use vfs_segments::Writer;
+use vfs_unserved::Unserved;
 use vfs_wire::InHeader;
 use vfs_wire_more::ReadIn;
 

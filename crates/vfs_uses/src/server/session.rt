@@ -5,10 +5,11 @@ ghost use Rattle.vfs_segments.specs.Written.{whole};
 ghost use Rattle.vfs_uses.specs.Requests.{init_request, init_reply, lookup_request, lookup_reply, statfs_request, statfs_reply, in_one_segment, AreRooms, SendsThreeBack};
 
 use std::alloc::Global;
-use vfs_files::{FileSystem, Unserved};
+use vfs_files::FileSystem;
 use vfs_grammar::Result;
 use vfs_segments::{Reader, Writer};
 use vfs_server::server::Server;
+use vfs_unserved::Unserved;
 
 /// Asks a server over a file system that serves nothing for three things in one session: INIT, a
 /// LOOKUP of `a` whose bytes lie in one segment, and STATFS. It tells what they are answered, to the

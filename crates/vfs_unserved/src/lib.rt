@@ -1,15 +1,17 @@
-//! A file system that serves nothing: each call has its default answer.
+//! A file system that serves nothing: each call has its default answer. It is what a file system of
+//! your own may begin with.
+#![tactic(auto)]
 
 ghost use Rattle.vfs_files.specs.Calls.{Getattr, Setattr, BatchForget, default_answer};
 ghost use Rattle.vfs_files.specs.Answers.{Done, attr_answer};
 ghost use Rattle.vfs_flags.specs.Flags.{setattr_valid_bits};
 
-use crate::{
+use std::io;
+use std::time::Duration;
+use vfs_files::{
     CStr, Context, DirEntry, DirectoryIterator, Entry, Extensions, FileSystem, GetxattrReply,
     ListxattrReply, MigrateError, SerializableFileSystem, ZeroCopyReader, ZeroCopyWriter, defaults,
 };
-use std::io;
-use std::time::Duration;
 use vfs_flags::{Fault, FsOptions, OpenOptions, SetattrValid, SetxattrFlags};
 use vfs_wire::{Attr, SetattrIn, Statvfs64};
 
