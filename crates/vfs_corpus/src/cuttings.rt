@@ -133,8 +133,7 @@ pub fn serve<W: Watch>(
     watch: &mut W,
 ) -> Result<Served, RunError> {
     let told = RefCell::new(VecDeque::new(alloc));
-    let fs = ScriptFs::with_room(alloc, &told, NOTES)?;
-    let mut server = Server::new(fs, PAGE_SIZE);
+    let mut server = Server::new(ScriptFs::with_room(alloc, &told, NOTES)?, PAGE_SIZE);
     agree(alloc, &mut server, message)?;
     let noted = server.fs().notes().text().len();
     let (outcomes, rooms) = hand_over(alloc, &mut server, bytes, room, cuttings, way, watch)?;

@@ -30,10 +30,15 @@ const ERRORS: [(Errno, i32, &str); 20] = [
     (Errno::EOPNOTSUPP, 95, "EOPNOTSUPP (95)"),
 ];
 
+/// Whether this is the error of this number.
+fn is_error(e: Errno, n: i32) -> bool {
+    e.get() == n && Errno::new(n) == Some(e)
+}
+
 /// The first number that is another error's, or whose error is shown otherwise.
 fn wrong_error(alloc: Global) -> Result<Option<i32>, AllocError> {
     for (e, n, text) in &ERRORS {
-        if e.get() != *n || Errno::new(*n) != Some(*e) || !has_text(alloc, e, text)? {
+        if !is_error(*e, *n) || !has_text(alloc, e, text)? {
             return Ok(Some(*n));
         }
     }

@@ -3,12 +3,35 @@
 use crate::support::{handle, have_texts};
 use example_client::{data, lookup, read, said};
 use example_tree::Docs;
+use std::alloc::Global;
 use std::test::Fail;
 use vfs_flags::Errno;
 use vfs_read_only::{ReadOnly, name_position};
 use vfs_server::server::Server;
 use vfs_server::transport::{ServeError, serve};
 use vfs_wire::EntryOut;
+
+/// A server of the three files.
+type DocsServer = Server<ReadOnly<Docs>>;
+
+/// Whether request 2, a READ of node 2 from place 7 on and of at most 100 bytes, is served.
+fn reads(alloc: Global, server: &mut DocsServer) -> Result<bool, Fail> {
+    let reply = serve(alloc, server, &read(2, 2, 7, 100), 116)?;
+    Ok(data(&reply) == Some(Ok(b"world\n".as_slice())))
+}
+
+/// Whether request 3, a LOOKUP of a name that isn't there, fails: ENOENT is 2, and comes negated.
+fn misses(alloc: Global, server: &mut DocsServer) -> Result<bool, Fail> {
+    let request = lookup(alloc, 3, 1, b"hello")?;
+    let reply = serve(alloc, server, &request, 144)?;
+    Ok(data(&reply) == Some(Err(-2)))
+}
+
+/// Whether an UNLINK, of opcode 10, is refused by EROFS, which is 30.
+fn refuses(alloc: Global, server: &mut DocsServer) -> Result<bool, Fail> {
+    let (len, reply) = handle(alloc, server, (10, 1, b"hello.txt\0"), &[16], 0)?;
+    Ok(len == 16 && data(&reply) == Some(Err(-30)))
+}
 
 #[test]
 fn a_tree_is_served(rt: HostRuntime) -> Result<(), Fail> {
@@ -21,18 +44,9 @@ fn a_tree_is_served(rt: HostRuntime) -> Result<(), Fail> {
     let entry = said::<EntryOut>(&reply).ok_or("cut short")?;
     assert_eq!(rt; entry.map(|entry| entry.nodeid), Ok(2));
 
-    // Request 2 is a READ of node 2, from place 7 on and of at most 100 bytes.
-    let reply = serve(alloc, &mut server, &read(2, 2, 7, 100), 116)?;
-    assert!(rt; data(&reply) == Some(Ok(b"world\n".as_slice())));
-
-    // There is no such name: ENOENT is 2, and comes negated.
-    let request = lookup(alloc, 3, 1, b"hello")?;
-    let reply = serve(alloc, &mut server, &request, 144)?;
-    assert!(rt; data(&reply) == Some(Err(-2)));
-
-    // An UNLINK, of opcode 10, is refused by EROFS, which is 30.
-    let (len, reply) = handle(alloc, &mut server, (10, 1, b"hello.txt\0"), &[16], 0)?;
-    assert!(rt; len == 16 && data(&reply) == Some(Err(-30)));
+    assert!(rt; reads(alloc, &mut server)?);
+    assert!(rt; misses(alloc, &mut server)?);
+    assert!(rt; refuses(alloc, &mut server)?);
     Ok(())
 }
 

@@ -88,6 +88,13 @@ pub fn handle<F: FileSystem>(
     handle_request(alloc, server, &request, room, held)
 }
 
+/// A writer over a room of segments of these lengths, of which the first `held` bytes are held.
+fn writer_over(alloc: Global, room: &[usize], held: usize) -> Result<Writer, Fail> {
+    let mut writer = Writer::new(alloc, filled(alloc, room, 0xaa)?)?;
+    writer.hold(held)?;
+    Ok(writer)
+}
+
 /// The same of a request.
 fn handle_request<F: FileSystem>(
     alloc: Global,
@@ -98,8 +105,7 @@ fn handle_request<F: FileSystem>(
 ) -> Result<Outcome, Fail> {
     let pieces = [request];
     let reader = Reader::new(alloc, &pieces)?;
-    let mut writer = Writer::new(alloc, filled(alloc, room, 0xaa)?)?;
-    writer.hold(held)?;
+    let mut writer = writer_over(alloc, room, held)?;
     let len = server.handle_message(alloc, reader, &mut writer)?;
     Ok((len, joined(alloc, &writer.into_segments())?))
 }

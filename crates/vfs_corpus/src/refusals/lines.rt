@@ -58,13 +58,24 @@ fn try_line<W: io::Write + Drop>(
     };
     let mut writer = writer_for(alloc, line)?;
     let outcome = handle(alloc, parts, server, reader, &mut writer)?;
-    let served = Served {
+    let served = served_by(alloc, server, noted, outcome, writer)?;
+    parts.tell_served(&served)
+}
+
+// What came of a request: this outcome, in this writer's room, and the calls behind the first ones.
+fn served_by(
+    alloc: Global,
+    server: &Server<Recorder<MemFs>>,
+    noted: usize,
+    outcome: vfs_server::Result<usize>,
+    writer: Writer,
+) -> Result<Served, RunError> {
+    Ok(Served {
         outcomes: Vec::from_array(alloc, [outcome])?,
         rooms: bytes_of(alloc, Vec::from_array(alloc, [writer])?)?,
         options: server.options(),
         calls: calls_from(alloc, server.fs(), noted)?,
-    };
-    parts.tell_served(&served)
+    })
 }
 
 // The segments of a line's request.

@@ -50,16 +50,22 @@ impl<W: io::Write + Drop> Parts<W> {
 
     /// Writes what came of requests.
     pub fn tell_served(&mut self, served: &Served) -> Result<(), RunError> {
-        let mut text = String::new(self.alloc);
-        for (outcome, room) in served.outcomes.iter().zip(&served.rooms) {
-            let room = hex::encode(self.alloc, room)?;
-            writeln!(text, "{outcome:?}\nroom {room}")?;
-        }
-        let options = served.options.bits();
-        let calls = served.calls.as_str();
-        write!(text, "now options 0x{options:x}\n{calls}")?;
+        let text = text_of(self.alloc, served)?;
         self.tell(text.as_str())
     }
+}
+
+// The outcomes and the rooms, the options then, and the calls.
+fn text_of(alloc: Global, served: &Served) -> Result<String, RunError> {
+    let mut text = String::new(alloc);
+    for (outcome, room) in served.outcomes.iter().zip(&served.rooms) {
+        let room = hex::encode(alloc, room)?;
+        writeln!(text, "{outcome:?}\nroom {room}")?;
+    }
+    let options = served.options.bits();
+    let calls = served.calls.as_str();
+    write!(text, "now options 0x{options:x}\n{calls}")?;
+    Ok(text)
 }
 
 // A server's part begins with its options.
