@@ -25,12 +25,23 @@ pub fn try_all<W: io::Write + Drop>(
     let mut server = Server::new(recorder(alloc)?, PAGE_SIZE);
     for line in lines {
         number = number.saturating_add(1);
-        match parse_line(alloc, line)? {
-            Some(line) => try_line(alloc, parts, &mut server, &line)?,
-            None => return Err(RunError::BadLine(number)),
-        }
+        try_text(alloc, parts, &mut server, line, number)?;
     }
     Ok(())
+}
+
+// Handles the line of this text, which has this number.
+fn try_text<W: io::Write + Drop>(
+    alloc: Global,
+    parts: &mut Parts<W>,
+    server: &mut Server<Recorder<MemFs>>,
+    text: &[u8],
+    number: usize,
+) -> Result<(), RunError> {
+    match parse_line(alloc, text)? {
+        Some(line) => try_line(alloc, parts, server, &line),
+        None => Err(RunError::BadLine(number)),
+    }
 }
 
 // New files in memory, with a note of each call.
@@ -52,12 +63,8 @@ fn try_line<W: io::Write + Drop>(
     line: &Line,
 ) -> Result<(), RunError> {
     let noted = server.fs().notes().len();
-    let segments = segments_of(alloc, line)?;
-    let Ok(reader) = Reader::new(alloc, &segments) else {
-        return Err(RunError::OutOfMemory);
-    };
     let mut writer = writer_for(alloc, line)?;
-    let outcome = handle(alloc, parts, server, reader, &mut writer)?;
+    let outcome = handle_line(alloc, parts, server, line, &mut writer)?;
     let served = served_by(alloc, server, noted, outcome, writer)?;
     parts.tell_served(&served)
 }
@@ -95,6 +102,21 @@ fn writer_for(alloc: Global, line: &Line) -> Result<Writer, RunError> {
     }
     match Writer::new(alloc, rooms) {
         Ok(writer) => Ok(writer),
+        Err(_) => Err(RunError::OutOfMemory),
+    }
+}
+
+// Handles a line's request.
+fn handle_line<W: io::Write + Drop>(
+    alloc: Global,
+    parts: &mut Parts<W>,
+    server: &mut Server<Recorder<MemFs>>,
+    line: &Line,
+    writer: &mut Writer,
+) -> Result<vfs_server::Result<usize>, RunError> {
+    let segments = segments_of(alloc, line)?;
+    match Reader::new(alloc, &segments) {
+        Ok(reader) => handle(alloc, parts, server, reader, writer),
         Err(_) => Err(RunError::OutOfMemory),
     }
 }

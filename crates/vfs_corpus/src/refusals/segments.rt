@@ -34,18 +34,37 @@ fn try_new<W: io::Write + Drop>(alloc: Global, parts: &mut Parts<W>) -> Result<(
     end(alloc, parts, made.err(), (0, 0))
 }
 
-// Splits a reader, and clones it.
+// Clones a reader, and splits it.
 fn try_reader<W: io::Write + Drop>(alloc: Global, parts: &mut Parts<W>) -> Result<(), RunError> {
-    let Ok(mut reader) = Reader::new(alloc, &SEGMENTS) else {
-        return Err(RunError::OutOfMemory);
-    };
-    begin(alloc, parts, "clone", counts_of(&reader))?;
-    let clone = reader.clone();
-    end(alloc, parts, clone.err(), counts_of(&reader))?;
+    match Reader::new(alloc, &SEGMENTS) {
+        Ok(mut reader) => {
+            try_clone(alloc, parts, &reader)?;
+            try_split(alloc, parts, &mut reader)
+        }
+        Err(_) => Err(RunError::OutOfMemory),
+    }
+}
 
-    begin(alloc, parts, "split_at of a reader", counts_of(&reader))?;
+// Clones a reader.
+fn try_clone<W: io::Write + Drop>(
+    alloc: Global,
+    parts: &mut Parts<W>,
+    reader: &Reader<'_>,
+) -> Result<(), RunError> {
+    begin(alloc, parts, "clone", counts_of(reader))?;
+    let clone = reader.clone();
+    end(alloc, parts, clone.err(), counts_of(reader))
+}
+
+// Splits a reader.
+fn try_split<W: io::Write + Drop>(
+    alloc: Global,
+    parts: &mut Parts<W>,
+    reader: &mut Reader<'_>,
+) -> Result<(), RunError> {
+    begin(alloc, parts, "split_at of a reader", counts_of(reader))?;
     let rest = reader.split_at(MIDDLE);
-    end(alloc, parts, rest.err(), counts_of(&reader))
+    end(alloc, parts, rest.err(), counts_of(reader))
 }
 
 // Splits a writer.
