@@ -1,3 +1,4 @@
+pub mod Lending
 pub mod Memory
 pub mod Step
 pub mod Session

@@ -15,6 +15,7 @@ mod session;
 mod xattrs;
 
 ghost use Rattle.std.specs.Prelude.{◌≡◌, ◌≢◌, ◌≤◌, length, vec_len, Err};
+ghost use Rattle.std.specs.Borrow.{sem};
 ghost use Rattle.vfs_flags.specs.Flags.{fs_options_bits};
 ghost use Rattle.vfs_flags.specs.Opcode.{opcode_of};
 ghost use Rattle.vfs_flags.specs.declared.constants.TheConstants.{LEAST_MAX_BUFFER, GREATEST_MAX_BUFFER};
@@ -23,6 +24,7 @@ ghost use Rattle.vfs_files.specs.Calls.{Destroy};
 ghost use Rattle.vfs_files.specs.Answers.{Plain, Done};
 ghost use Rattle.vfs_grammar.specs.Ask.{ask_header};
 ghost use Rattle.vfs_grammar.specs.declared.error.Error.{Error};
+ghost use Rattle.vfs_server.specs.Lending.{LendsFs};
 ghost use Rattle.vfs_server.specs.Memory.{MayWant, MayWantBehind, WantsNoMemory};
 ghost use Rattle.vfs_server.specs.Session.{IsSession};
 ghost use Rattle.vfs_server.specs.Step.{IsStep, ReadsDirectories, Handles, Serves};
@@ -132,6 +134,15 @@ impl<F> Server<F> {
         ensures { result.now ≡ self.now.fs }
     {
         &self.fs
+    }
+
+    /// The file system, to be changed between requests: what a client does not see of it, as what time
+    /// it is. The options and the limits stay.
+    pub fn fs_mut(&mut self) -> &mut F
+        ensures* writes_back { sem 𝓛 (LendsFs F.row self.entry result) }
+        ensures value { result.now ≡ self.old.fs }
+    {
+        &mut self.fs
     }
 
     /// The file system, of a server that is no longer wanted.

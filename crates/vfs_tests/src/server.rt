@@ -55,6 +55,16 @@ fn a_payload_of_pairs_is_forgotten(rt: HostRuntime) -> Result<(), Fail> {
     Ok(())
 }
 
+#[test]
+fn a_server_lends_its_file_system(rt: HostRuntime) -> Result<(), Fail> {
+    let mut server = server(rt.alloc(), FsOptions::empty())?;
+    let reply = reply_by_script(rt.alloc(), &mut server, (17, 1, b""), 96)?;
+    assert!(rt; !reply.is_empty() && server.fs().notes().len() == 1);
+    server.fs_mut().clear();
+    assert!(rt; server.fs().notes().is_empty());
+    Ok(())
+}
+
 /// A request of a caller that holds bytes of its room.
 struct BehindHeld {
     node: u8,

@@ -318,3 +318,12 @@ fn state_that_is_not_served<W: io::Write>(
 {
     server.serialize(w)
 }
+
+/// Puts another file system behind a server, which goes on with its options and limits.
+fn exchange<F: Drop>(server: &mut Server<F>, fs: F)
+    ensures fs { server.new.fs ≡ fs }
+    ensures options { server.new.options ≡ server.old.options }
+    ensures limits { server.new.limits ≡ server.old.limits }
+{
+    *server.fs_mut() = fs;
+}
