@@ -1,0 +1,26 @@
+use Rattle.std.proofs.Common.{◌+◌, ◌/◌, ap, ◌∙◌, nat_cmp, nat_lt, length, filter, arith, length-take}
+use Rattle.std.specs.declared.ops.Bound.TheVariants.{Excluded, Unbounded}
+use Rattle.std.specs.BTreeMap.Range.{entries_between}
+use Rattle.vfs_tree.specs.Tree.{dot_items}
+use Rattle.vfs_tree.proofs.Listings.{listing_begins}
+use Rattle.vfs_tree.proofs.listing.Listing.new.Goals as goal
+
+pub loop-place-init : goal.loop-place-init
+loop-place-init c =
+    let most = c.args.size / 24 + 1 in
+    let items = c.in_ok-entries.entries.items in
+    let dots = c.in_ok-entries.ensures.ok in
+    let parent = c.args.directory.now.parent in
+    let links =
+    c.into_iter-place-iterator.ensures.into_iter_gives ∙ c.range-place-items.ensures.between tt
+    ∙ ap (entries_between nat_cmp (Excluded c.args.offset) Unbounded) c.links.ensures in
+    record {
+      listed = listing_begins c.args.number c.args.offset most c.args.directory.now items
+          c.into_iter-place-iterator.result dots links;
+      short = omega (
+        arith,
+        ap length dots,
+        length-take most
+            (filter (λ item. nat_lt c.args.offset item.offset) (dot_items c.args.number parent)),
+      );
+    }

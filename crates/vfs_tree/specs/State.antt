@@ -1,0 +1,99 @@
+-- The state of the file system: its nodes by number.
+use Rattle.std.specs.Prelude.{ℕ, ◌+◌, ◌-◌, ◌==◌, ◌&&◌, List, length, Option, Some, None, if◌then◌else◌}
+use Rattle.std.specs.Ordering.{nat_cmp}
+use Rattle.std.specs.Map.{lookup, set_value, remove_entry}
+use Rattle.std.specs.BTreeMap.{insert_entry, is_at}
+use Rattle.vfs_tree.specs.Children.{Children, child_named}
+use Rattle.vfs_tree.specs.Node.{weight}
+use Rattle.vfs_tree.specs.declared.children.Child.{Child}
+use Rattle.vfs_tree.specs.declared.fs.Limits.{Limits}
+use Rattle.vfs_tree.specs.declared.node.Node.{Node}
+use Rattle.vfs_tree.specs.declared.node.Time.{Time}
+
+-- the nodes in order of their numbers, the number of the next one, how many bytes the nodes take, how
+-- much there may be at most, and the time
+pub record State : Type 0 where
+  pub nodes : List (ℕ × Node)
+  pub next : ℕ
+  pub used : ℕ
+  pub limits : Limits
+  pub now : Time
+
+-- the node of this number
+abbrev pub node_at : State → (number : ℕ) → Option Node
+node_at s n = lookup (is_at (nat_cmp n)) s.nodes
+
+-- how many nodes there are
+abbrev pub count_of : State → ℕ
+count_of s = length s.nodes
+
+-- how many more bytes the nodes may take
+abbrev pub room_of : State → ℕ
+room_of s = s.limits.bytes - s.used
+
+-- the node of this number is this one
+abbrev pub with_node : State → (number : ℕ) → Node → State
+with_node s n node = record s { nodes = set_value (is_at (nat_cmp n)) s.nodes node }
+
+-- so many bytes, where one node took some and takes others now
+abbrev pub reweighed : (used before after : ℕ) → ℕ
+reweighed used before after = used + (after - before) - (before - after)
+
+-- the node of this number is this one, which may take more bytes or fewer
+abbrev pub with_resized : State → (number : ℕ) → (old new : Node) → State
+with_resized s n old new =
+    record (with_node s n new) { used = reweighed s.used (weight old) (weight new) }
+
+-- one node more, under the next number
+abbrev pub with_new : State → Node → State
+with_new s node = record s {
+  nodes = insert_entry nat_cmp s.nodes s.next node;
+  next = s.next + 1;
+  used = s.used + weight node;
+}
+
+-- without the node of this number
+abbrev pub without_node : State → (number : ℕ) → Node → State
+without_node s n node = record s {
+  nodes = remove_entry (is_at (nat_cmp n)) s.nodes;
+  used = s.used - weight node;
+}
+
+-- a node that no name leads to and of which no lookup is held is gone
+abbrev pub settled : State → (number : ℕ) → Node → State
+settled s n node =
+    if node.names == 0 && node.lookups == 0 then without_node s n node else with_node s n node
+
+-- a node is changed, where there is one
+abbrev pub changed : State → (number : ℕ) → (Node → Node) → Option Node → State
+changed s n change None = s
+changed s n change (Some node) = with_node s n (change node)
+
+abbrev pub change : State → (number : ℕ) → (Node → Node) → State
+change s n f = changed s n f (node_at s n)
+
+-- the names of a directory are changed, now
+abbrev pub with_names : State → (directory : ℕ) → (Children → Children) → State
+with_names s n f =
+    change s n (λ node. record node { children = f node.children; mtime = s.now; ctime = s.now })
+
+-- one name less leads to a node
+abbrev pub unnamed : State → (number : ℕ) → Option Node → State
+unnamed s n None = s
+unnamed s n (Some node) = settled s n (record node { names = node.names - 1; ctime = s.now })
+
+-- where a name of a node leads
+abbrev pub child_of : Option Node → (name : List ℕ) → Option Child
+child_of None name = None
+child_of (Some node) name = child_named node.children name
+
+abbrev pub node_of : State → Option Child → Option Node
+node_of s None = None
+node_of s (Some child) = node_at s child.node
+
+abbrev pub child_at : State → (parent : ℕ) → (name : List ℕ) → Option Child
+child_at s parent name = child_of (node_at s parent) name
+
+-- the node that a name of a directory leads to
+abbrev pub node_named : State → (parent : ℕ) → (name : List ℕ) → Option Node
+node_named s parent name = node_of s (child_at s parent name)

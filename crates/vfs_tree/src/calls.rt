@@ -1,0 +1,503 @@
+//! The calls of the file system, in the trait's order. Those that are not served have their default
+//! answers.
+
+ghost use Rattle.std.specs.Prelude.{◌≡◌, map};
+ghost use Rattle.vfs_files.specs.Calls.{attr_answer};
+ghost use Rattle.vfs_flags.specs.Flags.{setattr_valid_bits};
+ghost use Rattle.vfs_tree.specs.State.{node_at};
+ghost use Rattle.vfs_tree.specs.Tree.{AnswersAttr, SetsOrNot, all_forgotten};
+
+use crate::changes::{check_contents, write_into};
+use crate::fs::TreeFs;
+use crate::kind::Kind;
+use crate::listing::Listing;
+use crate::naming::directory;
+use crate::node::TIMEOUT_SECONDS;
+use bitflags::Flags;
+use std::time::Duration;
+use vfs_files::{
+    CStr, Context, Entry, Extensions, FileSystem, GetxattrReply, ListxattrReply, ZeroCopyReader,
+    ZeroCopyWriter, defaults,
+};
+use vfs_flags::{Errno, Fault, FsOptions, OpenOptions, SetattrValid, SetxattrFlags};
+use vfs_wire::{Attr, SetattrIn, Statvfs64};
+
+/// The most bytes of a text that is answered: with the 16 of a header they are below 2 ^ 32.
+const MOST_TEXT: u64 = 0xffff_ffef;
+
+/// In how many bytes the file system counts.
+const BLOCK: u64 = 4096;
+
+/// The bits of a mode that say what a node is.
+const KIND_BITS: u32 = 0o170000;
+
+/// Those of a file with contents.
+const PLAIN_FILE: u32 = 0o100000;
+
+impl FileSystem for TreeFs {
+    ghost use Rattle.vfs_tree.specs.Tree.{TreeAllows};
+
+    type Inode = u64;
+
+    type Handle = u64;
+
+    type DirIter = Listing;
+
+    ghost allows = { TreeAllows };
+
+    #[tactic(auto, using(std::proofs::lemmas::Map::Steps::set_value_same))]
+    fn lookup(&mut self, _ctx: Context, parent: u64, name: CStr<'_>) -> Result<Entry, Fault> {
+        let above = directory(&self.nodes, parent, name.to_bytes())?;
+        let Some(child) = above.children.get(name.to_bytes()) else {
+            return Err(Some(Errno::ENOENT));
+        };
+        let Some(node) = self.nodes.get_mut(&child.node) else {
+            return Err(Some(Errno::ENOENT));
+        };
+        if node.lookups == u64::MAX {
+            return Err(Some(Errno::EOVERFLOW));
+        }
+        let entry = node.entry(child.node);
+        node.lookups += 1;
+        Ok(entry)
+    }
+
+    fn forget(&mut self, _ctx: Context, inode: u64, count: u64) {
+        self.take_back(inode, count);
+    }
+
+    fn getattr(
+        &mut self,
+        _ctx: Context,
+        inode: u64,
+        _handle: Option<u64>,
+    ) -> Result<(Attr, Duration), Fault>
+        ensures answer { AnswersAttr inode (node_at self.old inode) (attr_answer result) }
+        ensures same { self.new ≡ self.old }
+    {
+        match self.nodes.get(&inode) {
+            Some(node) => Ok((node.attr(inode), Duration::from_secs(TIMEOUT_SECONDS))),
+            None => Err(Some(Errno::ENOENT)),
+        }
+    }
+
+    #[tactic(auto, using(std::proofs::lemmas::Map::Steps::set_value_same))]
+    fn setattr(
+        &mut self,
+        _ctx: Context,
+        inode: u64,
+        attr: SetattrIn,
+        _handle: Option<u64>,
+        valid: SetattrValid,
+    ) -> Result<(Attr, Duration), Fault>
+        ensures { SetsOrNot self.old inode attr (setattr_valid_bits valid)
+            (attr_answer result) self.new }
+    {
+        self.check_set_attr(inode, &attr, valid)?;
+        let now = self.now;
+        let Some(node) = self.nodes.get_mut(&inode) else {
+            unreachable!()
+        };
+        let before = node.weight();
+        node.set_attr(now, attr, valid)?;
+        let after = node.weight();
+        let attr = node.attr(inode);
+        self.reweigh(before, after);
+        Ok((attr, Duration::from_secs(TIMEOUT_SECONDS)))
+    }
+
+    fn readlink(&mut self, _ctx: Context, inode: u64) -> Result<Vec<u8>, Fault> {
+        let Some(node) = self.nodes.get(&inode) else {
+            return Err(Some(Errno::ENOENT));
+        };
+        if !node.kind.is_link() || node.contents.len() > MOST_TEXT {
+            return Err(Some(Errno::EINVAL));
+        }
+        node.contents.copy(self.alloc)
+    }
+
+    fn symlink(
+        &mut self,
+        ctx: Context,
+        linkname: CStr<'_>,
+        parent: u64,
+        name: CStr<'_>,
+        _ext: Extensions,
+    ) -> Result<Entry, Fault> {
+        self.make(ctx, Kind::Link, 0o777, parent, name, linkname.to_bytes())
+    }
+
+    fn mknod(
+        &mut self,
+        ctx: Context,
+        parent: u64,
+        name: CStr<'_>,
+        mode: u32,
+        _rdev: u32,
+        _umask: u32,
+        _ext: Extensions,
+    ) -> Result<Entry, Fault> {
+        if mode & KIND_BITS != 0 && mode & KIND_BITS != PLAIN_FILE {
+            return Err(Some(Errno::EPERM));
+        }
+        self.make(ctx, Kind::File, mode, parent, name, &[])
+    }
+
+    fn mkdir(
+        &mut self,
+        ctx: Context,
+        parent: u64,
+        name: CStr<'_>,
+        mode: u32,
+        _umask: u32,
+        _ext: Extensions,
+    ) -> Result<Entry, Fault> {
+        self.make(ctx, Kind::Directory, mode, parent, name, &[])
+    }
+
+    fn unlink(&mut self, _ctx: Context, parent: u64, name: CStr<'_>) -> Result<(), Fault> {
+        let above = directory(&self.nodes, parent, name.to_bytes())?;
+        let Some(child) = above.children.get(name.to_bytes()) else {
+            return Err(Some(Errno::ENOENT));
+        };
+        let Some(node) = self.nodes.get(&child.node) else {
+            return Err(Some(Errno::ENOENT));
+        };
+        if node.kind.is_directory() {
+            return Err(Some(Errno::EISDIR));
+        }
+        self.take_out(parent, name.to_bytes(), child);
+        Ok(())
+    }
+
+    fn rmdir(&mut self, _ctx: Context, parent: u64, name: CStr<'_>) -> Result<(), Fault> {
+        let above = directory(&self.nodes, parent, name.to_bytes())?;
+        let Some(child) = above.children.get(name.to_bytes()) else {
+            return Err(Some(Errno::ENOENT));
+        };
+        let Some(node) = self.nodes.get(&child.node) else {
+            return Err(Some(Errno::ENOENT));
+        };
+        if !node.kind.is_directory() {
+            return Err(Some(Errno::ENOTDIR));
+        }
+        if !node.children.is_empty() {
+            return Err(Some(Errno::ENOTEMPTY));
+        }
+        self.take_out(parent, name.to_bytes(), child);
+        Ok(())
+    }
+
+    fn rename(
+        &mut self,
+        _ctx: Context,
+        olddir: u64,
+        oldname: CStr<'_>,
+        newdir: u64,
+        newname: CStr<'_>,
+        flags: u32,
+    ) -> Result<(), Fault> {
+        self.move_name(olddir, oldname, newdir, newname, flags)
+    }
+
+    fn link(
+        &mut self,
+        _ctx: Context,
+        inode: u64,
+        newparent: u64,
+        newname: CStr<'_>,
+    ) -> Result<Entry, Fault> {
+        self.add_link(inode, newparent, newname)
+    }
+
+    fn open(
+        &mut self,
+        _ctx: Context,
+        inode: u64,
+        _kill_priv: bool,
+        flags: u32,
+    ) -> Result<(Option<u64>, OpenOptions), Fault> {
+        let now = self.now;
+        let Some(node) = self.nodes.get_mut(&inode) else {
+            return Err(Some(Errno::ENOENT));
+        };
+        let before = node.weight();
+        node.open(now, flags);
+        let after = node.weight();
+        self.reweigh(before, after);
+        defaults::open::<u64>()
+    }
+
+    fn read<W: ZeroCopyWriter>(
+        &mut self,
+        _ctx: Context,
+        inode: u64,
+        _handle: u64,
+        w: &mut W,
+        size: u32,
+        offset: u64,
+        _lock_owner: Option<u64>,
+        _flags: u32,
+    ) -> Result<usize, Fault> {
+        let Some(node) = self.nodes.get(&inode) else {
+            return Err(Some(Errno::ENOENT));
+        };
+        check_contents(node)?;
+        node.contents.read_into(w, size, offset)
+    }
+
+    #[tactic(auto, using(std::proofs::lemmas::Map::Steps::set_value_same))]
+    fn write<R: ZeroCopyReader>(
+        &mut self,
+        _ctx: Context,
+        inode: u64,
+        _handle: u64,
+        r: &mut R,
+        size: u32,
+        offset: u64,
+        _lock_owner: Option<u64>,
+        _delayed_write: bool,
+        _kill_priv: bool,
+        _flags: u32,
+    ) -> Result<u32, Fault> {
+        let most = self.check_write(inode, offset, size)?;
+        let now = self.now;
+        let Some(node) = self.nodes.get_mut(&inode) else {
+            unreachable!()
+        };
+        let before = node.weight();
+        let count = write_into(node, now, r, size, offset, most)?;
+        let after = node.weight();
+        self.reweigh(before, after);
+        Ok(count)
+    }
+
+    fn statfs(&mut self, _ctx: Context, _inode: u64) -> Result<Statvfs64, Fault> {
+        Ok(Statvfs64 {
+            f_bsize: BLOCK,
+            f_frsize: BLOCK,
+            f_blocks: self.limits.bytes / BLOCK,
+            f_bfree: self.room() / BLOCK,
+            f_bavail: self.room() / BLOCK,
+            f_files: self.limits.nodes,
+            f_ffree: self.limits.nodes.saturating_sub(self.nodes.len() as u64),
+            f_namemax: 255,
+        })
+    }
+
+    fn release(
+        &mut self,
+        _ctx: Context,
+        _inode: u64,
+        _flags: u32,
+        _handle: u64,
+        _flush: bool,
+        _flock_release: bool,
+        _lock_owner: Option<u64>,
+    ) -> Result<(), Fault> {
+        Ok(())
+    }
+
+    fn fsync(
+        &mut self,
+        _ctx: Context,
+        _inode: u64,
+        _datasync: bool,
+        _handle: u64,
+    ) -> Result<(), Fault> {
+        Ok(())
+    }
+
+    fn setxattr(
+        &mut self,
+        _ctx: Context,
+        inode: u64,
+        name: CStr<'_>,
+        value: &[u8],
+        flags: u32,
+        _extra: SetxattrFlags,
+    ) -> Result<(), Fault> {
+        self.set_xattr(inode, name, value, flags)
+    }
+
+    fn getxattr(
+        &mut self,
+        _ctx: Context,
+        inode: u64,
+        name: CStr<'_>,
+        size: u32,
+    ) -> Result<GetxattrReply, Fault> {
+        self.xattr(inode, name.to_bytes(), size)
+    }
+
+    fn listxattr(&mut self, _ctx: Context, inode: u64, size: u32) -> Result<ListxattrReply, Fault> {
+        self.xattr_names(inode, size)
+    }
+
+    fn removexattr(&mut self, _ctx: Context, inode: u64, name: CStr<'_>) -> Result<(), Fault> {
+        self.remove_xattr(inode, name.to_bytes())
+    }
+
+    fn flush(
+        &mut self,
+        _ctx: Context,
+        _inode: u64,
+        _handle: u64,
+        _lock_owner: u64,
+    ) -> Result<(), Fault> {
+        Ok(())
+    }
+
+    fn init(&mut self, _capable: FsOptions) -> Result<FsOptions, Fault> {
+        Ok(FsOptions::DO_READDIRPLUS)
+    }
+
+    fn opendir(
+        &mut self,
+        _ctx: Context,
+        _inode: u64,
+        _flags: u32,
+    ) -> Result<(Option<u64>, OpenOptions), Fault> {
+        defaults::opendir::<u64>()
+    }
+
+    fn readdir(
+        &mut self,
+        _ctx: Context,
+        inode: u64,
+        _handle: u64,
+        size: u32,
+        offset: u64,
+    ) -> Result<Listing, Fault> {
+        let Some(node) = self.nodes.get(&inode) else {
+            return Err(Some(Errno::ENOENT));
+        };
+        if !node.kind.is_directory() {
+            return Err(Some(Errno::ENOTDIR));
+        }
+        Listing::new(self.alloc, inode, node, offset, size)
+    }
+
+    fn releasedir(
+        &mut self,
+        _ctx: Context,
+        _inode: u64,
+        _flags: u32,
+        _handle: u64,
+    ) -> Result<(), Fault> {
+        Ok(())
+    }
+
+    fn fsyncdir(
+        &mut self,
+        _ctx: Context,
+        _inode: u64,
+        _datasync: bool,
+        _handle: u64,
+    ) -> Result<(), Fault> {
+        Ok(())
+    }
+
+    fn getlk(&mut self) -> Result<(), Fault> {
+        defaults::no_such_call::<()>()
+    }
+
+    fn setlk(&mut self) -> Result<(), Fault> {
+        defaults::no_such_call::<()>()
+    }
+
+    fn setlkw(&mut self) -> Result<(), Fault> {
+        defaults::no_such_call::<()>()
+    }
+
+    fn access(&mut self, _ctx: Context, _inode: u64, _mask: u32) -> Result<(), Fault> {
+        defaults::no_such_call::<()>()
+    }
+
+    fn create(
+        &mut self,
+        ctx: Context,
+        parent: u64,
+        name: CStr<'_>,
+        mode: u32,
+        _kill_priv: bool,
+        _flags: u32,
+        _umask: u32,
+        _ext: Extensions,
+    ) -> Result<(Entry, Option<u64>, OpenOptions), Fault> {
+        let entry = self.make(ctx, Kind::File, mode, parent, name, &[])?;
+        Ok((entry, None, OpenOptions::empty()))
+    }
+
+    fn bmap(&mut self) -> Result<(), Fault> {
+        defaults::no_such_call::<()>()
+    }
+
+    fn destroy(&mut self) {
+        defaults::destroy()
+    }
+
+    fn ioctl(&mut self) -> Result<(), Fault> {
+        defaults::no_such_call::<()>()
+    }
+
+    fn poll(&mut self) -> Result<(), Fault> {
+        defaults::no_such_call::<()>()
+    }
+
+    fn notify_reply(&mut self) -> Result<(), Fault> {
+        defaults::no_such_call::<()>()
+    }
+
+    fn batch_forget(&mut self, _ctx: Context, requests: Vec<(u64, u64)>)
+        ensures { self.new ≡ all_forgotten self.old (map (λ p. (p.0, p.1)) requests.items) }
+    {
+        self.take_back_all(&requests);
+    }
+
+    fn fallocate(
+        &mut self,
+        _ctx: Context,
+        inode: u64,
+        _handle: u64,
+        mode: u32,
+        offset: u64,
+        length: u64,
+    ) -> Result<(), Fault> {
+        self.allocate(inode, mode, offset, length)
+    }
+
+    fn lseek(
+        &mut self,
+        _ctx: Context,
+        _inode: u64,
+        _handle: u64,
+        _offset: u64,
+        _whence: u32,
+    ) -> Result<u64, Fault> {
+        defaults::no_such_call::<u64>()
+    }
+
+    fn copyfilerange(
+        &mut self,
+        _ctx: Context,
+        _inode_in: u64,
+        _handle_in: u64,
+        _offset_in: u64,
+        _inode_out: u64,
+        _handle_out: u64,
+        _offset_out: u64,
+        _len: u64,
+        _flags: u64,
+    ) -> Result<u32, Fault> {
+        defaults::no_such_call::<u32>()
+    }
+
+    fn syncfs(&mut self, _ctx: Context, _inode: u64) -> Result<(), Fault> {
+        defaults::no_such_call::<()>()
+    }
+
+    fn tmpfile(&mut self) -> Fault {
+        defaults::tmpfile()
+    }
+}

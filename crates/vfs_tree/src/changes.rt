@@ -1,0 +1,322 @@
+//! Changes of a node: its contents and its extended attributes.
+
+ghost use Rattle.std.specs.Prelude.{◌≡◌, ◌+◌, ℕ, List, length, max, take, IfSome, Some, None, IfOk, IfErr, OnOk};
+ghost use Rattle.vfs_flags.specs.Flags.{setattr_valid_bits};
+ghost use Rattle.vfs_files.specs.Names.{name_text};
+ghost use Rattle.vfs_files.specs.Calls.{Done, KeepsTextShort, done_answer, getxattr_answer, listxattr_answer};
+ghost use Rattle.vfs_tree.specs.Rename.{Unless};
+ghost use Rattle.vfs_tree.specs.State.{node_at};
+ghost use Rattle.vfs_tree.specs.Tree.{contents_refusal, size_refusal, fallocate_refusal, Grows};
+ghost use Rattle.vfs_tree.specs.Tree.{setattr_refusal, write_refusal, most_size, Overwrites};
+ghost use Rattle.vfs_tree.specs.Tree.{setxattr_refusal, SetsXattr, removexattr_refusal, xattr_removed};
+ghost use Rattle.vfs_tree.specs.Tree.{TellsXattr, TellsNames};
+
+use crate::fs::TreeFs;
+use crate::node::{Node, Time};
+use bitflags::Flags;
+use vfs_files::{CStr, GetxattrReply, ListxattrReply, ZeroCopyReader, copy_of};
+use vfs_flags::{Errno, Fault, SetattrValid};
+use vfs_wire::SetattrIn;
+
+/// The flag by which an extended attribute that is there is not set.
+const XATTR_CREATE: u32 = 1;
+
+/// The flag by which one that is not there is not set.
+const XATTR_REPLACE: u32 = 2;
+
+/// The error EFBIG: a file would be longer than one may be.
+pub(crate) fn too_big() -> Errno
+    ensures { result ≡ 27 }
+{
+    match Errno::new(27) {
+        Some(errno) => errno,
+        None => unreachable!(),
+    }
+}
+
+// The error ENODEV: it is no file with contents.
+fn no_device() -> Errno
+    ensures { result ≡ 19 }
+{
+    match Errno::new(19) {
+        Some(errno) => errno,
+        None => unreachable!(),
+    }
+}
+
+/// Whether a node has contents that can be read and written.
+pub(crate) fn check_contents(node: &Node) -> Result<(), Errno>
+    ensures ok { OnOk result (contents_refusal (Some node.now) ≡ None) }
+    ensures err { IfErr result (λ errno. contents_refusal (Some node.now) ≡ Some errno) }
+{
+    if node.kind.is_directory() {
+        return Err(Errno::EISDIR);
+    }
+    if !node.kind.is_file() {
+        return Err(Errno::EINVAL);
+    }
+    Ok(())
+}
+
+/// Whether a node's contents can be of this size, where a file has at most `most` bytes and there is
+/// room for `room` more.
+pub(crate) fn check_size(node: &Node, size: u64, most: u64, room: u64) -> Result<(), Errno>
+    ensures ok { OnOk result (size_refusal most room node.now size ≡ None) }
+    ensures err { IfErr result (λ errno. size_refusal most room node.now size ≡ Some errno) }
+{
+    if size > most {
+        return Err(too_big());
+    }
+    if size.saturating_sub(node.contents.len()) > room {
+        return Err(Errno::ENOSPC);
+    }
+    Ok(())
+}
+
+/// Writes up to `size` bytes of `r` over those of a file, from `offset` on, as far as they end
+/// within `most`, and answers how many. ENOMEM where there is no memory for them, and all stays.
+pub(crate) fn write_into<R: ZeroCopyReader>(
+    node: &mut Node,
+    now: Time,
+    r: &mut R,
+    size: u32,
+    offset: u64,
+    most: u64,
+) -> Result<u32, Fault>
+    ensures { (taken : List ℕ) × R.takes r.old taken r.new
+        × Overwrites most now node.old offset (take size (R.left r.old)) result node.new }
+{
+    let count = node.contents.write_from(r, size, offset, most as usize)?;
+    if count > 0 {
+        node.mtime = now;
+        node.ctime = now;
+    }
+    Ok(count)
+}
+
+impl TreeFs {
+    /// Whether attributes of a node can be set.
+    pub(crate) fn check_set_attr(
+        &self,
+        inode: u64,
+        attr: &SetattrIn,
+        valid: SetattrValid,
+    ) -> Result<(), Errno>
+        ensures ok { OnOk result (setattr_refusal self.entry.now (node_at self.entry.now inode)
+            attr.now (setattr_valid_bits valid) ≡ None) }
+        ensures err { IfErr result (λ errno. setattr_refusal self.entry.now
+            (node_at self.entry.now inode) attr.now (setattr_valid_bits valid) ≡ Some errno) }
+    {
+        let Some(node) = self.nodes.get(&inode) else {
+            return Err(Errno::ENOENT);
+        };
+        if !valid.contains(SetattrValid::SIZE) {
+            return Ok(());
+        }
+        check_contents(node)?;
+        check_size(node, attr.size, self.limits.file, self.room())
+    }
+
+    /// Whether so many bytes can be written into a file from `offset` on, and how long it may become.
+    pub(crate) fn check_write(&self, inode: u64, offset: u64, size: u32) -> Result<u64, Errno>
+        ensures ok { OnOk result (write_refusal self.entry.now (node_at self.entry.now inode)
+            offset size ≡ None) }
+        ensures most { IfOk result (λ most. IfSome (node_at self.entry.now inode) (λ node.
+            most ≡ most_size self.entry.now node)) }
+        ensures err { IfErr result (λ errno. write_refusal self.entry.now
+            (node_at self.entry.now inode) offset size ≡ Some errno) }
+    {
+        let Some(node) = self.nodes.get(&inode) else {
+            return Err(Errno::ENOENT);
+        };
+        check_contents(node)?;
+        let most = node.contents.len().saturating_add(self.room());
+        let most = self.limits.file.min(most);
+        if size > 0 && offset >= self.limits.file {
+            return Err(too_big());
+        }
+        if size > 0 && offset >= most {
+            return Err(Errno::ENOSPC);
+        }
+        Ok(most)
+    }
+
+    /// Makes a file at least `offset + length` bytes long.
+    #[tactic(auto, using(std::proofs::lemmas::Map::Steps::set_value_same))]
+    pub(crate) fn allocate(
+        &mut self,
+        inode: u64,
+        mode: u32,
+        offset: u64,
+        length: u64,
+    ) -> Result<(), Fault>
+        ensures { Unless (fallocate_refusal self.old (node_at self.old inode) mode offset length)
+            self.old (done_answer result) self.new
+            (Grows self.old inode (node_at self.old inode) (offset + length)
+            (done_answer result) self.new) }
+    {
+        let size = self.check_allocate(inode, mode, offset, length)?;
+        let now = self.now;
+        let Some(node) = self.nodes.get_mut(&inode) else {
+            unreachable!()
+        };
+        let before = node.weight();
+        node.contents.resize(size as usize)?;
+        node.mtime = now;
+        node.ctime = now;
+        let after = node.weight();
+        self.reweigh(before, after);
+        Ok(())
+    }
+
+    // Whether a file can be made at least `offset + len` bytes long, and how long it is then.
+    fn check_allocate(&self, inode: u64, mode: u32, offset: u64, len: u64) -> Result<u64, Errno>
+        ensures ok { OnOk result (fallocate_refusal self.entry.now (node_at self.entry.now inode)
+            mode offset len ≡ None) }
+        ensures size { IfOk result (λ size. IfSome (node_at self.entry.now inode) (λ node.
+            size ≡ max (offset + len) (length node.contents))) }
+        ensures err { IfErr result (λ errno. fallocate_refusal self.entry.now
+            (node_at self.entry.now inode) mode offset len ≡ Some errno) }
+    {
+        let Some(node) = self.nodes.get(&inode) else {
+            return Err(Errno::ENOENT);
+        };
+        if mode != 0 {
+            return Err(Errno::EOPNOTSUPP);
+        }
+        if !node.kind.is_file() {
+            return Err(no_device());
+        }
+        if len == 0 {
+            return Err(Errno::EINVAL);
+        }
+        let most = self.limits.file;
+        let Some(size) = offset.checked_add(len) else {
+            return Err(too_big());
+        };
+        check_size(node, size, most, self.room())?;
+        Ok(size.max(node.contents.len()))
+    }
+
+    /// Sets an extended attribute.
+    #[tactic(auto, using(std::proofs::lemmas::Map::Steps::set_value_same))]
+    pub(crate) fn set_xattr(
+        &mut self,
+        inode: u64,
+        name: CStr<'_>,
+        value: &[u8],
+        flags: u32,
+    ) -> Result<(), Fault>
+        ensures { Unless (setxattr_refusal self.old (node_at self.old inode)
+            (name_text name.entry) value.now flags) self.old (done_answer result) self.new
+            (SetsXattr self.old inode (node_at self.old inode) (name_text name.entry) value.now
+            (done_answer result) self.new) }
+    {
+        self.check_set_xattr(inode, name.to_bytes(), value, flags)?;
+        let (alloc, now) = (self.alloc, self.now);
+        let Some(node) = self.nodes.get_mut(&inode) else {
+            unreachable!()
+        };
+        let before = node.weight();
+        node.xattrs.set(alloc, name, value)?;
+        node.ctime = now;
+        let after = node.weight();
+        self.reweigh(before, after);
+        Ok(())
+    }
+
+    // Whether an extended attribute can be set.
+    fn check_set_xattr(
+        &self,
+        inode: u64,
+        name: &[u8],
+        value: &[u8],
+        flags: u32,
+    ) -> Result<(), Errno>
+        ensures ok { OnOk result (setxattr_refusal self.entry.now
+            (node_at self.entry.now inode) name.now value.now flags ≡ None) }
+        ensures err { IfErr result (λ errno. setxattr_refusal self.entry.now
+            (node_at self.entry.now inode) name.now value.now flags ≡ Some errno) }
+    {
+        let Some(node) = self.nodes.get(&inode) else {
+            return Err(Errno::ENOENT);
+        };
+        let is_there = node.xattrs.get(name).is_some();
+        if flags & XATTR_CREATE == XATTR_CREATE && is_there {
+            return Err(Errno::EEXIST);
+        }
+        if flags & XATTR_REPLACE == XATTR_REPLACE && !is_there {
+            return Err(Errno::ENODATA);
+        }
+        let Some(bytes) = node.xattrs.bytes_with(name, value) else {
+            return Err(Errno::ENOSPC);
+        };
+        if bytes.saturating_sub(node.xattrs.bytes()) > self.room() {
+            return Err(Errno::ENOSPC);
+        }
+        Ok(())
+    }
+
+    /// Takes an extended attribute away.
+    pub(crate) fn remove_xattr(&mut self, inode: u64, name: &[u8]) -> Result<(), Fault>
+        ensures { Unless (removexattr_refusal (node_at self.old inode) name.now)
+            self.old (done_answer result) self.new
+            ((done_answer result ≡ Done)
+            × (self.new ≡ xattr_removed self.old inode name.now (node_at self.old inode))) }
+    {
+        let Some(node) = self.nodes.get(&inode) else {
+            return Err(Some(Errno::ENOENT));
+        };
+        if node.xattrs.get(name).is_none() {
+            return Err(Some(Errno::ENODATA));
+        }
+        let before = node.weight();
+        let now = self.now;
+        let Some(node) = self.nodes.get_mut(&inode) else {
+            unreachable!()
+        };
+        node.xattrs.remove(name);
+        node.ctime = now;
+        let after = node.weight();
+        self.reweigh(before, after);
+        Ok(())
+    }
+
+    /// The value of an extended attribute, or its length.
+    pub(crate) fn xattr(&self, inode: u64, name: &[u8], size: u32) -> Result<GetxattrReply, Fault>
+        ensures told { TellsXattr (node_at self.entry.now inode) name.now size (getxattr_answer result) }
+        ensures short { KeepsTextShort (getxattr_answer result) }
+    {
+        let Some(node) = self.nodes.get(&inode) else {
+            return Err(Some(Errno::ENOENT));
+        };
+        let Some(value) = node.xattrs.get(name) else {
+            return Err(Some(Errno::ENODATA));
+        };
+        if size == 0 {
+            return Ok(GetxattrReply::Count(value.len() as u32));
+        }
+        if value.len() > size as usize {
+            return Err(Some(Errno::ERANGE));
+        }
+        Ok(GetxattrReply::Value(copy_of(self.alloc, value)?))
+    }
+
+    /// The names of the extended attributes, or their length.
+    pub(crate) fn xattr_names(&self, inode: u64, size: u32) -> Result<ListxattrReply, Fault>
+        ensures told { TellsNames (node_at self.entry.now inode) size (listxattr_answer result) }
+        ensures short { KeepsTextShort (listxattr_answer result) }
+    {
+        let Some(node) = self.nodes.get(&inode) else {
+            return Err(Some(Errno::ENOENT));
+        };
+        let length = node.xattrs.names_len();
+        if size == 0 {
+            return Ok(ListxattrReply::Count(length));
+        }
+        if length > size {
+            return Err(Some(Errno::ERANGE));
+        }
+        Ok(ListxattrReply::Names(node.xattrs.names(self.alloc)?))
+    }
+}

@@ -1,0 +1,242 @@
+//! Names in directories: how they are added, taken out, and made to lead elsewhere.
+
+ghost use Rattle.std.specs.Prelude.{◌≡◌, ℕ, ◌<◌, ◌^◌, ◌-◌, false, IsSome, IfSome, Some, None, IfOk, IfErr, OnOk};
+ghost use Rattle.std.specs.Ordering.{nat_cmp};
+ghost use Rattle.std.specs.Map.{set_value};
+ghost use Rattle.std.specs.BTreeMap.{get, is_at};
+ghost use Rattle.vfs_flags.specs.Errors.{enomem};
+ghost use Rattle.vfs_files.specs.Names.{name_text};
+ghost use Rattle.vfs_files.specs.Calls.{entry_answer};
+ghost use Rattle.vfs_tree.specs.Children.{with_child, without_child, with_other_child};
+ghost use Rattle.vfs_tree.specs.Node.{IsEntryOf};
+ghost use Rattle.vfs_tree.specs.Rename.{Unless, directory_refusal, is_crowded, moved_into};
+ghost use Rattle.vfs_tree.specs.State.{child_of, child_at, node_at, with_names, with_node, unnamed};
+ghost use Rattle.vfs_tree.specs.Tree.{Links, linked, link_refusal, taken_out};
+
+use crate::children::Child;
+use crate::fs::TreeFs;
+use crate::node::{Node, Time};
+use std::alloc::Global;
+use std::collections::BTreeMap;
+use vfs_files::{CStr, Entry};
+use vfs_flags::{Errno, Fault};
+
+/// The most bytes of a name.
+const MOST_NAME: usize = 255;
+
+/// The most names that lead to a file.
+const MOST_LINKS: u32 = 65_000;
+
+/// The directory of this number, in which this name may be looked for.
+pub(crate) fn directory<'a>(
+    nodes: &'a BTreeMap<u64, Node>,
+    number: u64,
+    name: &[u8],
+) -> Result<&'a Node, Errno>
+    ensures found { IfOk result (λ node. get nat_cmp nodes.now number ≡ Some node.now) }
+    ensures ok { OnOk result (directory_refusal (get nat_cmp nodes.now number) name.now ≡ None) }
+    ensures err { IfErr result (λ errno.
+        directory_refusal (get nat_cmp nodes.now number) name.now ≡ Some errno) }
+{
+    let Some(node) = nodes.get(&number) else {
+        return Err(Errno::ENOENT);
+    };
+    if !node.kind.is_directory() {
+        return Err(Errno::ENOTDIR);
+    }
+    if name.len() > MOST_NAME {
+        return Err(name_too_long());
+    }
+    Ok(node)
+}
+
+// The error ENAMETOOLONG.
+fn name_too_long() -> Errno
+    ensures { result ≡ 36 }
+{
+    match Errno::new(36) {
+        Some(errno) => errno,
+        None => unreachable!(),
+    }
+}
+
+/// Adds a name to a directory that is there. ENOMEM where there is no memory for it, and all stays.
+#[tactic(auto, using(std::proofs::lemmas::Map::Steps::set_value_same, crate::proofs::Nodes::still_free))]
+pub(crate) fn add_name(
+    alloc: Global,
+    nodes: &mut BTreeMap<u64, Node>,
+    now: Time,
+    number: u64,
+    name: CStr<'_>,
+    child: Child,
+) -> Result<(), Fault>
+    requires directory { IsSome (get nat_cmp nodes.old number) }
+    requires free { child_of (get nat_cmp nodes.old number) (name_text name) ≡ None }
+    requires place { is_crowded (get nat_cmp nodes.old number) ≡ false }
+    ensures ok { OnOk result (IfSome (get nat_cmp nodes.old number) (λ node.
+        nodes.new.entries ≡ set_value (is_at (nat_cmp number)) nodes.old.entries (record node {
+          children = with_child node.children (name_text name.entry) child;
+          mtime = now;
+          ctime = now;
+        }))) }
+    ensures err { IfErr result (λ fault.
+        (fault ≡ Some enomem) × (nodes.new.entries ≡ nodes.old.entries)) }
+    ensures free { (n : ℕ) → get nat_cmp nodes.old n ≡ None → get nat_cmp nodes.new n ≡ None }
+{
+    let Some(node) = nodes.get_mut(&number) else {
+        unreachable!()
+    };
+    node.children.add(alloc, name, child)?;
+    node.mtime = now;
+    node.ctime = now;
+    Ok(())
+}
+
+impl TreeFs {
+    /// Adds a name to a directory. ENOMEM where there is no memory for it, and all stays.
+    pub(crate) fn add_name(
+        &mut self,
+        number: u64,
+        name: CStr<'_>,
+        child: Child,
+    ) -> Result<(), Fault>
+        requires directory { IsSome (node_at self.old number) }
+        requires free { child_at self.old number (name_text name) ≡ None }
+        requires place { is_crowded (node_at self.old number) ≡ false }
+        ensures ok { OnOk result (self.new ≡
+            with_names self.old number (λ c. with_child c (name_text name.entry) child)) }
+        ensures err { IfErr result (λ fault. (fault ≡ Some enomem) × (self.new ≡ self.old)) }
+    {
+        add_name(self.alloc, &mut self.nodes, self.now, number, name, child)
+    }
+
+    /// Takes a name out of a directory.
+    pub(crate) fn remove_name(&mut self, number: u64, name: &[u8])
+        ensures { self.new ≡ with_names self.old number (λ c. without_child c name.now) }
+    {
+        let now = self.now;
+        let Some(node) = self.nodes.get_mut(&number) else {
+            return;
+        };
+        node.children.remove(name);
+        node.mtime = now;
+        node.ctime = now;
+    }
+
+    /// Lets a name of a directory lead elsewhere.
+    pub(crate) fn replace_name(&mut self, number: u64, name: &[u8], child: Child)
+        ensures { self.new ≡ with_names self.old number (λ c. with_other_child c name.now child) }
+    {
+        let now = self.now;
+        let Some(node) = self.nodes.get_mut(&number) else {
+            return;
+        };
+        node.children.replace(name, child);
+        node.mtime = now;
+        node.ctime = now;
+    }
+
+    /// One name less leads to a node, which is dropped where none is left and no lookup is held.
+    pub(crate) fn lose_name(&mut self, number: u64)
+        ensures { self.new ≡ unnamed self.old number (node_at self.old number) }
+    {
+        let Some(node) = self.nodes.get(&number) else {
+            return;
+        };
+        let left = node.names.saturating_sub(1);
+        if left == 0 && node.lookups == 0 {
+            let weight = node.weight();
+            self.drop_node(number, weight);
+            return;
+        }
+        let now = self.now;
+        if let Some(node) = self.nodes.get_mut(&number) {
+            node.names = left;
+            node.ctime = now;
+        }
+    }
+
+    /// Says in which directory a node lies.
+    pub(crate) fn move_into(&mut self, number: u64, directory: u64)
+        ensures { self.new ≡ moved_into self.old number directory }
+    {
+        let now = self.now;
+        if let Some(node) = self.nodes.get_mut(&number) {
+            node.parent = directory;
+            node.ctime = now;
+        }
+    }
+
+    /// Takes a name out of a directory; one name less leads to the node behind it.
+    pub(crate) fn take_out(&mut self, parent: u64, name: &[u8], child: Child)
+        ensures { self.new ≡ taken_out self.old parent name.now (Some child) }
+    {
+        self.remove_name(parent, name);
+        self.lose_name(child.node);
+    }
+
+    /// Lets one more name lead to a node, and counts a lookup of it.
+    #[tactic(auto, using(crate::proofs::Nodes::kinds_apart))]
+    pub(crate) fn add_link(
+        &mut self,
+        number: u64,
+        parent: u64,
+        name: CStr<'_>,
+    ) -> Result<Entry, Fault>
+        ensures { Unless (link_refusal self.old (node_at self.old number) parent
+            (name_text name.entry)) self.old (entry_answer result) self.new
+            (Links self.old number (node_at self.old number) parent (name_text name.entry)
+            (entry_answer result) self.new) }
+    {
+        let Some(node) = self.nodes.get(&number) else {
+            return Err(Some(Errno::ENOENT));
+        };
+        let above = directory(&self.nodes, parent, name.to_bytes())?;
+        if above.names == 0 {
+            return Err(Some(Errno::ENOENT));
+        }
+        if above.children.get(name.to_bytes()).is_some() {
+            return Err(Some(Errno::EEXIST));
+        }
+        if node.kind.is_directory() {
+            return Err(Some(Errno::EPERM));
+        }
+        if node.names == 0 {
+            return Err(Some(Errno::ENOENT));
+        }
+        if node.names >= MOST_LINKS {
+            return Err(Errno::new(31));
+        }
+        if node.lookups == u64::MAX {
+            return Err(Some(Errno::EOVERFLOW));
+        }
+        if !above.children.has_place() {
+            return Err(Some(Errno::ENOSPC));
+        }
+        let child = Child {
+            node: number,
+            kind: node.kind,
+        };
+        self.add_name(parent, name, child)?;
+        Ok(self.count_link(number))
+    }
+
+    // Counts one name and one lookup more of a node that is there, and gives its entry.
+    fn count_link(&mut self, number: u64) -> Entry
+        requires there { IsSome (node_at self.old number) }
+        requires names { IfSome (node_at self.old number) (λ node. node.names < MOST_LINKS) }
+        requires lookups { IfSome (node_at self.old number) (λ node. node.lookups < 2 ^ 64 - 1) }
+        ensures { IfSome (node_at self.old number) (λ node.
+            IsEntryOf number (linked self.old node) result
+            × (self.new ≡ with_node self.old number (linked self.old node))) }
+    {
+        let now = self.now;
+        let Some(node) = self.nodes.get_mut(&number) else {
+            unreachable!()
+        };
+        node.names += 1;
+        node.lookups += 1;
+        node.ctime = now;
+        node.entry(number)
+    }
+}

@@ -1,0 +1,189 @@
+//! A node: a directory, a file or a symbolic link.
+
+ghost use Rattle.std.specs.Prelude.{◌≡◌, if◌then◌else◌, Some, OnOk, IfErr};
+ghost use Rattle.vfs_flags.specs.Errors.{enomem};
+ghost use Rattle.vfs_flags.specs.Flags.{setattr_valid_bits};
+ghost use Rattle.vfs_tree.specs.Node.{attr_of, nlink_of, IsEntryOf, weight};
+ghost use Rattle.vfs_tree.specs.Tree.{opened, set_attr};
+
+use crate::children::Children;
+use crate::contents::Contents;
+use crate::kind::Kind;
+use crate::xattrs::Xattrs;
+use bitflags::Flags;
+use std::time::Duration;
+use vfs_files::Entry;
+use vfs_flags::{Fault, GuestGid, GuestUid, SetattrValid};
+use vfs_wire::{Attr, SetattrIn};
+
+/// How long a client may rely on an answer.
+pub(crate) const TIMEOUT_SECONDS: u64 = 1;
+
+/// The flag of `open(2)` that takes the bytes of a file.
+const O_TRUNC: u32 = 0o1000;
+
+/// A point in time.
+#[derive(Clone, Copy, Debug, PartialEq, Eq)]
+pub struct Time {
+    /// Whole seconds since 1970.
+    pub seconds: u64,
+    /// Nanoseconds beyond them.
+    pub nanoseconds: u32,
+}
+
+/// A node.
+#[derive(Debug, Drop)]
+pub(crate) struct Node {
+    /// What it is.
+    pub(crate) kind: Kind,
+    /// Its permission bits.
+    pub(crate) permissions: u32,
+    /// Its owner.
+    pub(crate) uid: GuestUid,
+    /// Its group.
+    pub(crate) gid: GuestGid,
+    /// When it was last read.
+    pub(crate) atime: Time,
+    /// When its bytes or names were last changed.
+    pub(crate) mtime: Time,
+    /// When its attributes were last changed.
+    pub(crate) ctime: Time,
+    /// Of a directory: the directory that it lies in.
+    pub(crate) parent: u64,
+    /// Of a directory: its names.
+    pub(crate) children: Children,
+    /// The bytes of a file, or the text of a symbolic link.
+    pub(crate) contents: Contents,
+    /// Its extended attributes.
+    pub(crate) xattrs: Xattrs,
+    /// How many names lead to it. The root has one.
+    pub(crate) names: u32,
+    /// How many lookups of it the guest holds.
+    pub(crate) lookups: u64,
+}
+
+impl Node {
+    /// How many links it shows.
+    pub(crate) fn nlink(&self) -> u32
+        ensures { result ≡ nlink_of self.now }
+    {
+        if !self.kind.is_directory() {
+            return self.names;
+        }
+        if self.names == 0 {
+            return 0;
+        }
+        // (what it holds and the other two are in one file system's memory)
+        match self.children.directories().checked_add(2) {
+            Some(links) => links.min(u32::MAX as u64) as u32,
+            None => u32::MAX,
+        }
+    }
+
+    /// Its attributes.
+    pub(crate) fn attr(&self, number: u64) -> Attr
+        ensures { result ≡ attr_of number self.now }
+    {
+        let size = self.contents.len();
+        Attr {
+            ino: number,
+            size,
+            blocks: size.div_ceil(512),
+            atime: self.atime.seconds,
+            mtime: self.mtime.seconds,
+            ctime: self.ctime.seconds,
+            atimensec: self.atime.nanoseconds,
+            mtimensec: self.mtime.nanoseconds,
+            ctimensec: self.ctime.nanoseconds,
+            mode: self.kind.bits() | (self.permissions & 0o7777),
+            nlink: self.nlink(),
+            uid: self.uid,
+            gid: self.gid,
+            rdev: 0,
+            blksize: 4096,
+            flags: 0,
+        }
+    }
+
+    /// Its entry.
+    pub(crate) fn entry(&self, number: u64) -> Entry
+        ensures { IsEntryOf number self.now result }
+    {
+        Entry {
+            inode: number,
+            generation: 0,
+            attr: self.attr(number),
+            attr_timeout: Duration::from_secs(TIMEOUT_SECONDS),
+            entry_timeout: Duration::from_secs(TIMEOUT_SECONDS),
+        }
+    }
+
+    /// How many bytes of the file system's it takes.
+    pub(crate) fn weight(&self) -> u64
+        ensures { result ≡ weight self.now }
+    {
+        self.contents.len() + self.xattrs.bytes()
+    }
+
+    /// Sets the attributes that the request names. ENOMEM where there is no memory for a longer
+    /// file, and all stays.
+    pub(crate) fn set_attr(
+        &mut self,
+        now: Time,
+        attr: SetattrIn,
+        valid: SetattrValid,
+    ) -> Result<(), Fault>
+        ensures ok { OnOk result (self.new ≡
+            set_attr now self.old attr (setattr_valid_bits valid)) }
+        ensures err { IfErr result (λ fault. (fault ≡ Some enomem) × (self.new ≡ self.old)) }
+    {
+        let resizes = valid.contains(SetattrValid::SIZE);
+        if resizes {
+            self.contents.resize(attr.size as usize)?;
+        }
+        let atime = Time {
+            seconds: attr.atime,
+            nanoseconds: attr.atimensec,
+        };
+        let mtime = Time {
+            seconds: attr.mtime,
+            nanoseconds: attr.mtimensec,
+        };
+        let ctime = Time {
+            seconds: attr.ctime,
+            nanoseconds: attr.ctimensec,
+        };
+        self.permissions = pick(
+            valid.contains(SetattrValid::MODE),
+            attr.mode,
+            self.permissions,
+        );
+        self.uid = pick(valid.contains(SetattrValid::UID), attr.uid, self.uid);
+        self.gid = pick(valid.contains(SetattrValid::GID), attr.gid, self.gid);
+        let read = pick(valid.contains(SetattrValid::ATIME), atime, self.atime);
+        self.atime = pick(valid.contains(SetattrValid::ATIME_NOW), now, read);
+        let resized = pick(resizes, now, self.mtime);
+        let written = pick(valid.contains(SetattrValid::MTIME), mtime, resized);
+        self.mtime = pick(valid.contains(SetattrValid::MTIME_NOW), now, written);
+        self.ctime = pick(valid.contains(SetattrValid::CTIME), ctime, now);
+        Ok(())
+    }
+
+    /// Opens it: O_TRUNC takes the bytes of a file.
+    pub(crate) fn open(&mut self, now: Time, flags: u32)
+        ensures { self.new ≡ opened now self.old flags }
+    {
+        if flags & O_TRUNC == O_TRUNC && self.kind.is_file() {
+            self.contents.clear();
+            self.mtime = now;
+            self.ctime = now;
+        }
+    }
+}
+
+// The new value where it is set, or else the old one.
+fn pick<T: Copy>(set: bool, new: T, old: T) -> T
+    ensures { result ≡ (if set then new else old) }
+{
+    if set { new } else { old }
+}

@@ -1,0 +1,283 @@
+//! RENAME: a name leads elsewhere, in one directory or from one to another.
+
+ghost use Rattle.std.specs.Prelude.{◌≡◌, false, IsSome, Some, None, IfErr, OnOk};
+ghost use Rattle.std.specs.Option.{option_copied};
+ghost use Rattle.vfs_flags.specs.Errors.{enomem};
+ghost use Rattle.vfs_files.specs.Names.{name_text};
+ghost use Rattle.vfs_files.specs.Calls.{done_answer};
+ghost use Rattle.vfs_tree.specs.Rename.{Unless, Does, is_below, is_own_child, parent_of, same_node};
+ghost use Rattle.vfs_tree.specs.Rename.{names_refusal, place_refusal, rename_refusal};
+ghost use Rattle.vfs_tree.specs.Rename.{is_crowded, is_nameless, replace_refusal, renamed};
+ghost use Rattle.vfs_tree.specs.Rename.{moved_to_free, moved_over, exchanged};
+ghost use Rattle.vfs_tree.specs.State.{child_at, count_of, node_at, node_of};
+
+use crate::children::Child;
+use crate::fs::TreeFs;
+use crate::naming::directory;
+use crate::node::Node;
+use vfs_files::CStr;
+use vfs_flags::{Errno, Fault, ROOT_ID};
+
+/// The flag by which a name that is there is not replaced.
+const RENAME_NOREPLACE: u32 = 1;
+
+/// The flag by which two names are exchanged.
+const RENAME_EXCHANGE: u32 = 2;
+
+impl TreeFs {
+    /// Lets `newname` lead to the node of `oldname`, which leads nowhere any more, or by
+    /// `RENAME_EXCHANGE` to that of `newname`.
+    pub(crate) fn move_name(
+        &mut self,
+        olddir: u64,
+        oldname: CStr<'_>,
+        newdir: u64,
+        newname: CStr<'_>,
+        flags: u32,
+    ) -> Result<(), Fault>
+        ensures { Unless (rename_refusal self.old olddir (name_text oldname.entry) newdir
+            (name_text newname.entry) flags) self.old (done_answer result) self.new
+            (Does self.old (renamed self.old olddir (name_text oldname.entry) newdir
+            (name_text newname.entry) flags) (done_answer result) self.new) }
+    {
+        let from = directory(&self.nodes, olddir, oldname.to_bytes())?;
+        let to = directory(&self.nodes, newdir, newname.to_bytes())?;
+        let moved = from.children.get(oldname.to_bytes());
+        let target = to.children.get(newname.to_bytes());
+        self.check_names(olddir, newdir, flags, moved, target)?;
+        self.check_place(newdir, flags, moved, target)?;
+        let Some(child) = moved else {
+            return Err(Some(Errno::ENOENT));
+        };
+        let Some(other) = target else {
+            return self.move_to_free(olddir, oldname, newdir, newname, child);
+        };
+        if child.node == other.node {
+            return Ok(());
+        }
+        if flags == RENAME_EXCHANGE {
+            self.exchange(olddir, oldname, newdir, newname, child, other);
+        } else {
+            self.move_over(olddir, oldname, newdir, newname, child, other);
+        }
+        Ok(())
+    }
+
+    // Whether what is asked of two names can be done.
+    fn check_names(
+        &self,
+        olddir: u64,
+        newdir: u64,
+        flags: u32,
+        moved: Option<Child>,
+        target: Option<Child>,
+    ) -> Result<(), Errno>
+        requires { IsSome (node_at self.now newdir) }
+        ensures ok { OnOk result
+            (names_refusal self.entry.now olddir newdir flags moved target ≡ None) }
+        ensures err { IfErr result (λ errno.
+            names_refusal self.entry.now olddir newdir flags moved target ≡ Some errno) }
+    {
+        if flags > RENAME_EXCHANGE {
+            return Err(Errno::EINVAL);
+        }
+        if self.node_of(moved).is_none() {
+            return Err(Errno::ENOENT);
+        }
+        if self.is_nameless(newdir) {
+            return Err(Errno::ENOENT);
+        }
+        if flags == RENAME_NOREPLACE && target.is_some() {
+            return Err(Errno::EEXIST);
+        }
+        if flags == RENAME_EXCHANGE && self.node_of(target).is_none() {
+            return Err(Errno::ENOENT);
+        }
+        if self.is_own_child(moved, newdir) {
+            return Err(Errno::EINVAL);
+        }
+        if flags == RENAME_EXCHANGE && self.is_own_child(target, olddir) {
+            return Err(Errno::EINVAL);
+        }
+        Ok(())
+    }
+
+    // Whether a node can take the place of another, or a free name has one.
+    fn check_place(
+        &self,
+        newdir: u64,
+        flags: u32,
+        moved: Option<Child>,
+        target: Option<Child>,
+    ) -> Result<(), Errno>
+        requires { IsSome (node_at self.now newdir) }
+        ensures ok { OnOk result
+            (place_refusal self.entry.now newdir flags moved target ≡ None) }
+        ensures err { IfErr result (λ errno.
+            place_refusal self.entry.now newdir flags moved target ≡ Some errno) }
+    {
+        if target.is_none() {
+            return match self.nodes.get(&newdir) {
+                Some(node) if !node.children.has_place() => Err(Errno::ENOSPC),
+                _ => Ok(()),
+            };
+        }
+        if flags == RENAME_EXCHANGE || is_same(moved, target) {
+            return Ok(());
+        }
+        check_replace(self.node_of(moved), self.node_of(target))
+    }
+
+    // The node that a name leads to.
+    fn node_of(&self, child: Option<Child>) -> Option<&Node>
+        ensures { option_copied result ≡ node_of self.entry.now child }
+    {
+        self.nodes.get(&child?.node)
+    }
+
+    // Whether no name leads to a node, or there is none.
+    fn is_nameless(&self, number: u64) -> bool
+        ensures { result ≡ is_nameless (node_at self.entry.now number) }
+    {
+        match self.nodes.get(&number) {
+            Some(node) => node.names == 0,
+            None => true,
+        }
+    }
+
+    // Whether a directory would come to lie in itself.
+    fn is_own_child(&self, child: Option<Child>, number: u64) -> bool
+        ensures { result ≡ is_own_child self.entry.now child number }
+    {
+        let Some(child) = child else {
+            return false;
+        };
+        match self.nodes.get(&child.node) {
+            Some(node) if node.kind.is_directory() => self.is_below(child.node, number),
+            _ => false,
+        }
+    }
+
+    // Whether a directory is a node or lies below it.
+    fn is_below(&self, number: u64, start: u64) -> bool
+        ensures { result ≡ is_below self.entry.now (count_of self.entry.now) number start }
+    {
+        let mut at = start;
+        for _ in 0..self.nodes.len() {
+            if at == number {
+                return true;
+            }
+            if at == ROOT_ID {
+                return false;
+            }
+            at = self.parent_of(at);
+        }
+        true
+    }
+
+    // The directory that a directory lies in.
+    fn parent_of(&self, number: u64) -> u64
+        ensures { result ≡ parent_of (node_at self.entry.now number) }
+    {
+        match self.nodes.get(&number) {
+            Some(node) => node.parent,
+            None => ROOT_ID,
+        }
+    }
+
+    // A free name leads to a node from now on. ENOMEM where there is no memory for it, and all stays.
+    fn move_to_free(
+        &mut self,
+        olddir: u64,
+        oldname: CStr<'_>,
+        newdir: u64,
+        newname: CStr<'_>,
+        child: Child,
+    ) -> Result<(), Fault>
+        requires directory { IsSome (node_at self.old newdir) }
+        requires free { child_at self.old newdir (name_text newname) ≡ None }
+        requires place { is_crowded (node_at self.old newdir) ≡ false }
+        ensures ok { OnOk result (self.new ≡ moved_to_free self.old olddir
+            (name_text oldname.entry) newdir (name_text newname.entry) child) }
+        ensures err { IfErr result (λ fault. (fault ≡ Some enomem) × (self.new ≡ self.old)) }
+    {
+        self.add_name(newdir, newname, child)?;
+        self.remove_name(olddir, oldname.to_bytes());
+        self.move_into(child.node, newdir);
+        Ok(())
+    }
+
+    // A name leads to a node from now on, and its own has one name less.
+    fn move_over(
+        &mut self,
+        olddir: u64,
+        oldname: CStr<'_>,
+        newdir: u64,
+        newname: CStr<'_>,
+        child: Child,
+        target: Child,
+    )
+        ensures { self.new ≡ moved_over self.old olddir (name_text oldname.entry) newdir
+            (name_text newname.entry) child target }
+    {
+        self.replace_name(newdir, newname.to_bytes(), child);
+        self.remove_name(olddir, oldname.to_bytes());
+        self.move_into(child.node, newdir);
+        self.lose_name(target.node);
+    }
+
+    // Each of two names leads where the other did.
+    fn exchange(
+        &mut self,
+        olddir: u64,
+        oldname: CStr<'_>,
+        newdir: u64,
+        newname: CStr<'_>,
+        child: Child,
+        target: Child,
+    )
+        ensures { self.new ≡ exchanged self.old olddir (name_text oldname.entry) newdir
+            (name_text newname.entry) child target }
+    {
+        self.replace_name(newdir, newname.to_bytes(), child);
+        self.replace_name(olddir, oldname.to_bytes(), target);
+        self.move_into(child.node, newdir);
+        self.move_into(target.node, olddir);
+    }
+}
+
+// Whether two names lead to one node.
+fn is_same(a: Option<Child>, b: Option<Child>) -> bool
+    ensures { result ≡ same_node a b }
+{
+    match (a, b) {
+        (Some(a), Some(b)) => a.node == b.node,
+        _ => false,
+    }
+}
+
+// Whether a node can take the place of another.
+fn check_replace(moved: Option<&Node>, target: Option<&Node>) -> Result<(), Errno>
+    ensures ok { OnOk result (replace_refusal (option_copied moved.entry)
+        (option_copied target.entry) ≡ None) }
+    ensures err { IfErr result (λ errno. replace_refusal (option_copied moved.entry)
+        (option_copied target.entry) ≡ Some errno) }
+{
+    let Some(target) = target else {
+        return Ok(());
+    };
+    let moves_directory = match moved {
+        Some(node) => node.kind.is_directory(),
+        None => false,
+    };
+    if target.kind.is_directory() && !moves_directory {
+        return Err(Errno::EISDIR);
+    }
+    if moves_directory && !target.kind.is_directory() {
+        return Err(Errno::ENOTDIR);
+    }
+    if !target.children.is_empty() {
+        return Err(Errno::ENOTEMPTY);
+    }
+    Ok(())
+}
