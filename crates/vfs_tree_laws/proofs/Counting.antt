@@ -1,0 +1,298 @@
+-- Lookups over runs.
+use Rattle.std.proofs.Common.{rules, tests, ◌≡◌, ◌≢◌, ◌≤◌, ◌<◌, ◌+◌, ◌-◌, ◌==◌, ℕ, zero, suc, List, [], ◌∷◌, ◌++◌, take, Option, Some, None, IsSome, IfSome, refl, sym, ap, subst, ◌∙◌, arith, if◌then◌else◌}
+use Rattle.vfs_files.specs.Items.{Item}
+use Rattle.vfs_files.specs.Calls.{Call, Lookup, Forget, BatchForget, Getattr, Setattr, Symlink, Readlink, Open, Unlink, Rmdir, Rename, Link, Mknod, Mkdir, Create, Read, Write, Fallocate, Setxattr, Getxattr, Listxattr, Removexattr, Statfs, Release, Fsync, Flush, Init, Opendir, Readdir, Releasedir, Fsyncdir, Getlk, Setlk, Setlkw, Access, Bmap, Destroy, Ioctl, Poll, NotifyReply, Lseek, Copyfilerange, Syncfs, Tmpfile, Answer, Done, Failed, Options, Found, Attributes, Created, Text, Count, Put, Wrote, Statistics, Opened, Offset, Plain}
+use Rattle.vfs_files.specs.Runs.{Event, Called, OpenedDirectory, Taken, Happening, Calls, Opens, Takes, IsRun, at_hand, event_of, events_of}
+use Rattle.vfs_grammar.specs.Books.{answered, sent, answered_by, sent_by, answered_nodes, node_of, forgets_of, times, counts, NeverBelow, KeepsBooks, accepted, delivered}
+use Rattle.vfs_grammar.specs.Turn.{Turn, events_in}
+use Rattle.vfs_tree_laws.specs.Laws.{IsTree, IsHeld, lookups_in, lookups_of, names_of, gives, given, takes_back, taken_back, CallsKeepTrees, ReadingsChangeNothing}
+use Rattle.vfs_tree.specs.Listing.{GivesFirst}
+use Rattle.vfs_tree.specs.State.{State, node_at}
+use Rattle.vfs_tree.specs.declared.node.Node.{Node}
+use Rattle.vfs_tree.specs.Tree.{TreeAllows}
+use Rattle.vfs_tree_laws.specs.Runs.{RunsKeepTrees, KeepsTree, GivesAllBack, LeavesNone}
+use Rattle.std.proofs.lemmas.List.Sums.{sum_by-append}
+
+-- what an answer gives of a node is how often its entry is the node's
+pub given_times : (n : ℕ) (answer : Answer) → times n (node_of answer) ≡ given n answer
+given_times n Done = refl
+given_times n (Failed x) = refl
+given_times n (Options x) = refl
+given_times n (Found x) = omega arith
+given_times n (Attributes x y) = refl
+given_times n (Put x) = refl
+given_times n (Opened x y) = refl
+given_times n (Created x y z) = omega arith
+given_times n (Statistics x) = refl
+given_times n (Text x) = refl
+given_times n (Count x) = refl
+given_times n (Offset x) = refl
+given_times n (Wrote x) = refl
+
+pub gives_answered : (n : ℕ) (call : Call) (answer : Answer)
+    → times n (answered_nodes call answer) ≡ gives n call answer
+gives_answered n (Lookup _ _ _) answer = given_times n answer
+gives_answered n (Forget _ _ _) answer = refl
+gives_answered n (Getattr _ _ _) answer = refl
+gives_answered n (Setattr _ _ _ _ _) answer = refl
+gives_answered n (Readlink _ _) answer = refl
+gives_answered n (Symlink _ _ _ _ _) answer = given_times n answer
+gives_answered n (Mknod _ _ _ _ _ _ _) answer = given_times n answer
+gives_answered n (Mkdir _ _ _ _ _ _) answer = given_times n answer
+gives_answered n (Unlink _ _ _) answer = refl
+gives_answered n (Rmdir _ _ _) answer = refl
+gives_answered n (Rename _ _ _ _ _ _) answer = refl
+gives_answered n (Link _ _ _ _) answer = given_times n answer
+gives_answered n (Open _ _ _ _) answer = refl
+gives_answered n (Read _ _ _ _ _ _ _ _) answer = refl
+gives_answered n (Write _ _ _ _ _ _ _ _ _ _) answer = refl
+gives_answered n (Statfs _ _) answer = refl
+gives_answered n (Release _ _ _ _ _ _ _) answer = refl
+gives_answered n (Fsync _ _ _ _) answer = refl
+gives_answered n (Setxattr _ _ _ _ _ _) answer = refl
+gives_answered n (Getxattr _ _ _ _) answer = refl
+gives_answered n (Listxattr _ _ _) answer = refl
+gives_answered n (Removexattr _ _ _) answer = refl
+gives_answered n (Flush _ _ _ _) answer = refl
+gives_answered n (Init _) answer = refl
+gives_answered n (Opendir _ _ _) answer = refl
+gives_answered n (Readdir _ _ _ _ _) answer = refl
+gives_answered n (Releasedir _ _ _ _) answer = refl
+gives_answered n (Fsyncdir _ _ _ _) answer = refl
+gives_answered n Getlk answer = refl
+gives_answered n Setlk answer = refl
+gives_answered n Setlkw answer = refl
+gives_answered n (Access _ _ _) answer = refl
+gives_answered n (Create _ _ _ _ _ _ _ _) answer = given_times n answer
+gives_answered n Bmap answer = refl
+gives_answered n Destroy answer = refl
+gives_answered n Ioctl answer = refl
+gives_answered n Poll answer = refl
+gives_answered n NotifyReply answer = refl
+gives_answered n (BatchForget _ _) answer = refl
+gives_answered n (Fallocate _ _ _ _ _ _) answer = refl
+gives_answered n (Lseek _ _ _ _ _) answer = refl
+gives_answered n (Copyfilerange _ _ _ _ _ _ _ _ _) answer = refl
+gives_answered n (Syncfs _ _) answer = refl
+gives_answered n Tmpfile answer = refl
+
+pub takes_sent : (n : ℕ) (call : Call) → counts n (forgets_of call) ≡ takes_back n call
+takes_sent n (Lookup _ _ _) = refl
+takes_sent n (Forget _ _ _) = refl
+takes_sent n (Getattr _ _ _) = refl
+takes_sent n (Setattr _ _ _ _ _) = refl
+takes_sent n (Readlink _ _) = refl
+takes_sent n (Symlink _ _ _ _ _) = refl
+takes_sent n (Mknod _ _ _ _ _ _ _) = refl
+takes_sent n (Mkdir _ _ _ _ _ _) = refl
+takes_sent n (Unlink _ _ _) = refl
+takes_sent n (Rmdir _ _ _) = refl
+takes_sent n (Rename _ _ _ _ _ _) = refl
+takes_sent n (Link _ _ _ _) = refl
+takes_sent n (Open _ _ _ _) = refl
+takes_sent n (Read _ _ _ _ _ _ _ _) = refl
+takes_sent n (Write _ _ _ _ _ _ _ _ _ _) = refl
+takes_sent n (Statfs _ _) = refl
+takes_sent n (Release _ _ _ _ _ _ _) = refl
+takes_sent n (Fsync _ _ _ _) = refl
+takes_sent n (Setxattr _ _ _ _ _ _) = refl
+takes_sent n (Getxattr _ _ _ _) = refl
+takes_sent n (Listxattr _ _ _) = refl
+takes_sent n (Removexattr _ _ _) = refl
+takes_sent n (Flush _ _ _ _) = refl
+takes_sent n (Init _) = refl
+takes_sent n (Opendir _ _ _) = refl
+takes_sent n (Readdir _ _ _ _ _) = refl
+takes_sent n (Releasedir _ _ _ _) = refl
+takes_sent n (Fsyncdir _ _ _ _) = refl
+takes_sent n Getlk = refl
+takes_sent n Setlk = refl
+takes_sent n Setlkw = refl
+takes_sent n (Access _ _ _) = refl
+takes_sent n (Create _ _ _ _ _ _ _ _) = refl
+takes_sent n Bmap = refl
+takes_sent n Destroy = refl
+takes_sent n Ioctl = refl
+takes_sent n Poll = refl
+takes_sent n NotifyReply = refl
+takes_sent n (BatchForget _ _) = refl
+takes_sent n (Fallocate _ _ _ _ _ _) = refl
+takes_sent n (Lseek _ _ _ _ _) = refl
+takes_sent n (Copyfilerange _ _ _ _ _ _ _ _ _) = refl
+takes_sent n (Syncfs _ _) = refl
+takes_sent n Tmpfile = refl
+
+-- no call gives lookups and takes some back
+takes_alone : (n held : ℕ) (call : Call) (answer : Answer)
+    → takes_back n call ≤ held + gives n call answer → takes_back n call ≤ held
+takes_alone n held (Lookup _ _ _) answer within = omega arith
+takes_alone n held (Forget _ _ _) answer within = omega (arith, within)
+takes_alone n held (Getattr _ _ _) answer within = omega arith
+takes_alone n held (Setattr _ _ _ _ _) answer within = omega arith
+takes_alone n held (Readlink _ _) answer within = omega arith
+takes_alone n held (Symlink _ _ _ _ _) answer within = omega arith
+takes_alone n held (Mknod _ _ _ _ _ _ _) answer within = omega arith
+takes_alone n held (Mkdir _ _ _ _ _ _) answer within = omega arith
+takes_alone n held (Unlink _ _ _) answer within = omega arith
+takes_alone n held (Rmdir _ _ _) answer within = omega arith
+takes_alone n held (Rename _ _ _ _ _ _) answer within = omega arith
+takes_alone n held (Link _ _ _ _) answer within = omega arith
+takes_alone n held (Open _ _ _ _) answer within = omega arith
+takes_alone n held (Read _ _ _ _ _ _ _ _) answer within = omega arith
+takes_alone n held (Write _ _ _ _ _ _ _ _ _ _) answer within = omega arith
+takes_alone n held (Statfs _ _) answer within = omega arith
+takes_alone n held (Release _ _ _ _ _ _ _) answer within = omega arith
+takes_alone n held (Fsync _ _ _ _) answer within = omega arith
+takes_alone n held (Setxattr _ _ _ _ _ _) answer within = omega arith
+takes_alone n held (Getxattr _ _ _ _) answer within = omega arith
+takes_alone n held (Listxattr _ _ _) answer within = omega arith
+takes_alone n held (Removexattr _ _ _) answer within = omega arith
+takes_alone n held (Flush _ _ _ _) answer within = omega arith
+takes_alone n held (Init _) answer within = omega arith
+takes_alone n held (Opendir _ _ _) answer within = omega arith
+takes_alone n held (Readdir _ _ _ _ _) answer within = omega arith
+takes_alone n held (Releasedir _ _ _ _) answer within = omega arith
+takes_alone n held (Fsyncdir _ _ _ _) answer within = omega arith
+takes_alone n held Getlk answer within = omega arith
+takes_alone n held Setlk answer within = omega arith
+takes_alone n held Setlkw answer within = omega arith
+takes_alone n held (Access _ _ _) answer within = omega arith
+takes_alone n held (Create _ _ _ _ _ _ _ _) answer within = omega arith
+takes_alone n held Bmap answer within = omega arith
+takes_alone n held Destroy answer within = omega arith
+takes_alone n held Ioctl answer within = omega arith
+takes_alone n held Poll answer within = omega arith
+takes_alone n held NotifyReply answer within = omega arith
+takes_alone n held (BatchForget _ _) answer within = omega (arith, within)
+takes_alone n held (Fallocate _ _ _ _ _ _) answer within = omega arith
+takes_alone n held (Lseek _ _ _ _ _) answer within = omega arith
+takes_alone n held (Copyfilerange _ _ _ _ _ _ _ _ _) answer within = omega arith
+takes_alone n held (Syncfs _ _) answer within = omega arith
+takes_alone n held Tmpfile answer within = omega arith
+
+-- ---- events one by one
+
+answered_more : (n : ℕ) (e : Event) (es : List Event)
+    → answered n (e ∷ es) ≡ answered_by n e + answered n es
+answered_more n e es = omega (arith, sum_by-append (answered_by n) (e ∷ []) es)
+
+sent_more : (n : ℕ) (e : Event) (es : List Event) → sent n (e ∷ es) ≡ sent_by n e + sent n es
+sent_more n e es = omega (arith, sum_by-append (sent_by n) (e ∷ []) es)
+
+-- no more are sent back than were held and answered, after each event
+abbrev Enough : (n held : ℕ) → List Event → Type 0
+Enough n held events =
+    (k : ℕ) → sent n (take k events) ≤ held + answered n (take k events)
+
+-- the first event sends no more back than were held and it answers
+first_enough : (n held : ℕ) (e : Event) (es : List Event) → Enough n held (e ∷ es)
+    → sent_by n e ≤ held + answered_by n e
+first_enough n held e es enough = omega (arith, enough 1, sent_more n e [], answered_more n e [])
+
+-- and so it goes on with what is held then
+rest_enough : (n held now : ℕ) (e : Event) (es : List Event) → Enough n held (e ∷ es)
+    → now + sent_by n e ≡ held + answered_by n e → Enough n now es
+rest_enough n held now e es enough is k =
+    omega (arith, enough (suc k), sent_more n e (take k es), answered_more n e (take k es), is)
+
+-- ---- runs
+
+-- a tree, in which of each node so many lookups are held
+pub record Counted (old new : State) (events : List Event) : Type 0 where
+  pub tree : IsTree new
+  pub lookups : (n : ℕ) → Enough n (lookups_of old n) events
+      → lookups_of new n + sent n events ≡ lookups_of old n + answered n events
+
+-- one event, and then the others
+counted_more : (old mid new : State) (e : Event) (es : List Event)
+    → ((n : ℕ) → sent_by n e ≤ lookups_of old n + answered_by n e
+    → lookups_of mid n + sent_by n e ≡ lookups_of old n + answered_by n e)
+    → Counted mid new es → Counted old new (e ∷ es)
+counted_more old mid new e es first rest = record {
+  tree = rest.tree;
+  lookups = λ n enough.
+      let one = first n (first_enough n (lookups_of old n) e es enough) in
+      let others = rest.lookups n
+      (rest_enough n (lookups_of old n) (lookups_of mid n) e es enough one) in
+      omega (arith, one, others, sent_more n e es, answered_more n e es);
+}
+
+module _ (law : CallsKeepTrees) (readings : ReadingsChangeNothing) where
+  -- a call
+  call_counts : (old mid : State) (call : Call) (answer : Answer) → IsTree old
+      → TreeAllows old call (Plain answer) mid → (n : ℕ)
+      → counts n (forgets_of call) ≤ lookups_of old n + times n (answered_nodes call answer)
+      → lookups_of mid n + counts n (forgets_of call)
+      ≡ lookups_of old n + times n (answered_nodes call answer)
+  call_counts old mid call answer tree allowed n within =
+      let took = takes_sent n call in
+      let gave = gives_answered n call answer in
+      let held : takes_back n call ≤ lookups_of old n =
+      takes_alone n (lookups_of old n) call answer (omega (arith, took, gave, within)) in
+      omega (arith, took, gave, (law old mid call answer tree allowed).2 n held)
+
+  pub counted : (it : Option (List Item)) (old new : State)
+      (run : List (Happening (List Item) × State)) → IsTree old
+      → IsRun TreeAllows GivesFirst it old run new → Counted old new (events_of run)
+  counted it old new [] tree ran =
+      subst (λ s. Counted old s []) (sym ran)
+      (record { tree = tree; lookups = λ n enough. refl })
+  counted it old new ((Calls call answer, mid) ∷ hs) tree ran =
+      counted_more old mid new (Called call answer) (events_of hs)
+      (call_counts old mid call answer tree ran.0)
+      (counted it mid new hs (law old mid call answer tree ran.0).0 ran.1)
+  counted it old new ((Opens call opened, mid) ∷ hs) tree ran =
+      let same = readings old mid call opened ran.0 in
+      counted_more old mid new (OpenedDirectory call) (events_of hs)
+      (λ n within. ap (λ s. lookups_of s n + 0) same)
+      (counted (Some opened) mid new hs (subst IsTree (sym same) tree) ran.1)
+  counted it old new ((Takes before item after, mid) ∷ hs) tree ran =
+      let same = ran.0.1 in
+      counted_more old mid new (Taken item) (events_of hs)
+      (λ n within. ap (λ s. lookups_of s n + 0) same)
+      (counted (Some after) mid new hs (subst IsTree (sym same) tree) ran.1)
+
+  pub runs_keep_trees : RunsKeepTrees
+  runs_keep_trees it old new run tree ran =
+      let c = counted it old new run tree ran in
+      (c.tree, λ n never. c.lookups n (λ k. omega (arith, never k)))
+
+-- ---- sessions
+
+module _ (old new : State) (turns : List Turn) (run : List (Happening (List Item) × State))
+    (runs : RunsKeepTrees) (tree : IsTree old)
+    (ran : IsRun TreeAllows GivesFirst None old run new)
+    (events : events_of run ≡ events_in turns) (books : KeepsBooks turns) where
+  counts_events : (n : ℕ) → NeverBelow n (events_in turns)
+      → lookups_of new n + sent n (events_in turns)
+      ≡ lookups_of old n + answered n (events_in turns)
+  counts_events n =
+      subst (λ es. NeverBelow n es
+      → lookups_of new n + sent n es ≡ lookups_of old n + answered n es) events
+      ((runs None old new run tree ran).1 n)
+
+  pub keeps_tree : KeepsTree old turns new
+  keeps_tree = record {
+    tree = (runs None old new run tree ran).0;
+    lookups = λ n some within.
+        let balanced = books.balanced n some in
+        let counts = counts_events n (books.never_below n some within) in
+        omega (arith, balanced, counts);
+  }
+
+-- a node that is held by no lookup has a name
+named : (o : Option Node) → IfSome o IsHeld → lookups_in o ≡ 0 → IsSome o → 0 < names_of o
+named None held none some = cc some
+named (Some node) held none some = by (node.names) refl
+  where
+    by : (names : ℕ) → node.names ≡ names → 0 < names
+    by zero is = absurd (omega (arith, held is, none))
+    by (suc k) is = omega arith
+
+pub leaves_none : (old new : State) (turns : List Turn) → KeepsTree old turns new
+    → LeavesNone old turns new
+leaves_none old new turns keeps n some client there =
+    let lookups = keeps.lookups n some client.within in
+    let none : lookups_of new n ≡ 0 =
+    omega (arith, lookups, client.nothing, client.all) in
+    named (node_at new n) (keeps.tree.sound.held n) none there

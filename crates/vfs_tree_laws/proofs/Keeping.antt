@@ -1,0 +1,170 @@
+-- Changes that keep a state sound and all lookups that are held.
+use Rattle.std.proofs.Common.{rules, tests, ◌≡◌, ◌≢◌, ◌≤◌, ◌<◌, ◌+◌, ◌-◌, ◌==◌, ℕ, Bool, true, false, List, [], ◌∷◌, Option, Some, None, IsSome, IfSome, is_some, refl, sym, ap, subst, ◌∙◌, arith, if◌then◌else◌}
+use Rattle.vfs_tree.specs.Children.{Children, with_child, without_child, with_other_child}
+use Rattle.vfs_tree_laws.specs.Laws.{lookups_in, lookups_of, IsHeld, IsSound}
+use Rattle.vfs_tree.specs.Rename.{moved_into, moved_to_free, moved_over, exchanged, renamed, renamed_to}
+use Rattle.vfs_tree.specs.State.{State, node_at, with_node, with_resized, settled, changed, change, with_names, unnamed, child_at}
+use Rattle.vfs_tree.specs.Tree.{taken_out}
+use Rattle.vfs_tree.specs.declared.children.Child.{Child}
+use Rattle.vfs_tree.specs.declared.node.Node.{Node}
+use Rattle.vfs_tree.proofs.Nodes.{node_at-with_node, node_at-with_node_other}
+use Rattle.vfs_tree_laws.proofs.Held.{at, lookups_here, lookups_other, sound-with_node, Settles, settles}
+
+pub record Keeps (old new : State) : Type 0 where
+  pub sound : IsSound new
+  pub lookups : (m : ℕ) → lookups_of new m ≡ lookups_of old m
+
+pub keeps_itself : (s : State) → IsSound s → Keeps s s
+keeps_itself s sound = record { sound = sound; lookups = λ m. refl }
+
+pub keeps_both : (a b c : State) → Keeps a b → (IsSound b → Keeps b c) → Keeps a c
+keeps_both a b c first more =
+    let second = more first.sound in
+    record { sound = second.sound; lookups = λ m. second.lookups m ∙ first.lookups m }
+
+-- the lookups of one node are so many, and of others as they were
+lookups_at : (s : State) (n m : ℕ) (new : State) (o : Option Node) → node_at s n ≡ o
+    → lookups_of new n ≡ lookups_in o → (m ≢ n → lookups_of new m ≡ lookups_of s m)
+    → lookups_of new m ≡ lookups_of s m
+lookups_at s n m new o is here other =
+    at n m (lookups_of new m ≡ lookups_of s m)
+    (λ e. subst (λ k. lookups_of new k ≡ lookups_of s k) e (here ∙ sym (ap lookups_in is))) other
+
+-- a change that touches neither names nor lookups
+abbrev pub IsPlain : (Node → Node) → Type 0
+IsPlain f = (node : Node) → ((f node).lookups ≡ node.lookups) × ((f node).names ≡ node.names)
+
+held_plainly : (f : Node → Node) → IsPlain f → (node : Node) → IsHeld node → IsHeld (f node)
+held_plainly f plain node held zero =
+    let some : 0 < node.lookups = held (sym (plain node).1 ∙ zero) in
+    omega (arith, some, (plain node).0)
+
+module _ (s : State) (n : ℕ) (f : Node → Node) (plain : IsPlain f) (sound : IsSound s) where
+  held_before : (node : Node) → node_at s n ≡ Some node → IsHeld node
+  held_before node is = subst (λ o. IfSome o IsHeld) is (sound.held n)
+
+  keeps-with_node : (node : Node) → node_at s n ≡ Some node → Keeps s (with_node s n (f node))
+  keeps-with_node node is = record {
+    sound = sound-with_node s n node (f node) is sound
+        (held_plainly f plain node (held_before node is));
+    lookups = λ m. lookups_at s n m (with_node s n (f node)) (Some node) is
+        (lookups_here s n node (f node) is ∙ (plain node).0)
+        (lookups_other s n node (f node) is m);
+  }
+
+  keeps-changed : (o : Option Node) → node_at s n ≡ o → Keeps s (changed s n f o)
+  keeps-changed None is = keeps_itself s sound
+  keeps-changed (Some node) is = keeps-with_node node is
+
+  pub keeps-change : Keeps s (change s n f)
+  keeps-change = keeps-changed (node_at s n) refl
+
+-- a node that is there is there after a change
+there-with_node : (s : State) (n m : ℕ) (was node : Node) → node_at s n ≡ Some was
+    → IsSome (node_at s m) → IsSome (node_at (with_node s n node) m)
+there-with_node s n m was node is some =
+    at n m (IsSome (node_at (with_node s n node) m))
+    (λ e. subst (λ k. IsSome (node_at (with_node s n node) k)) e
+    (ap is_some (node_at-with_node s n n node was is)))
+    (λ apart. ap is_some (node_at-with_node_other s n m node apart) ∙ some)
+
+there-changed : (s : State) (n m : ℕ) (f : Node → Node) (o : Option Node) → node_at s n ≡ o
+    → IsSome (node_at s m) → IsSome (node_at (changed s n f o) m)
+there-changed s n m f None is some = some
+there-changed s n m f (Some node) is some = there-with_node s n m node (f node) is some
+
+pub there-change : (s : State) (n m : ℕ) (f : Node → Node) → IsSome (node_at s m)
+    → IsSome (node_at (change s n f) m)
+there-change s n m f some = there-changed s n m f (node_at s n) refl some
+
+-- other bytes may be in use
+pub keeps_used : (s : State) (used : ℕ) → IsSound s → Keeps s (record s { used = used })
+keeps_used s used sound = record {
+  sound = record { ordered = sound.ordered; held = sound.held };
+  lookups = λ m. refl;
+}
+
+pub keeps-with_resized : (s : State) (n : ℕ) (f : Node → Node) → IsPlain f → IsSound s
+    → (node : Node) → node_at s n ≡ Some node → Keeps s (with_resized s n node (f node))
+keeps-with_resized s n f plain sound node is =
+    keeps_both s (with_node s n (f node)) (with_resized s n node (f node))
+    (keeps-with_node s n f plain sound node is)
+    (keeps_used (with_node s n (f node)) _)
+
+pub keeps-with_names : (s : State) (d : ℕ) (f : Children → Children) → IsSound s
+    → Keeps s (with_names s d f)
+keeps-with_names s d f sound = keeps-change s d _ (λ node. (refl, refl)) sound
+
+pub keeps-moved_into : (s : State) (n d : ℕ) → IsSound s → Keeps s (moved_into s n d)
+keeps-moved_into s n d sound = keeps-change s n _ (λ node. (refl, refl)) sound
+
+pub keeps-unnamed : (s : State) (n : ℕ) (o : Option Node) → node_at s n ≡ o → IsSound s
+    → Keeps s (unnamed s n o)
+keeps-unnamed s n None is sound = keeps_itself s sound
+keeps-unnamed s n (Some node) is sound =
+    let new = unnamed s n (Some node) in
+    let done = settles s n node (record node { names = node.names - 1; ctime = s.now }) is sound in
+    record {
+      sound = done.stays;
+      lookups = λ m. lookups_at s n m new (Some node) is done.here (done.other m);
+    }
+
+pub keeps-taken_out : (s : State) (parent : ℕ) (name : List ℕ) (child : Option Child)
+    → IsSound s → Keeps s (taken_out s parent name child)
+keeps-taken_out s parent name None sound = keeps_itself s sound
+keeps-taken_out s parent name (Some child) sound =
+    let rest = with_names s parent (λ c. without_child c name) in
+    keeps_both s rest (taken_out s parent name (Some child))
+    (keeps-with_names s parent _ sound)
+    (keeps-unnamed rest child.node (node_at rest child.node) refl)
+
+-- ---- RENAME
+
+module _ (s : State) (od : ℕ) (on : List ℕ) (nd : ℕ) (nn : List ℕ) (sound : IsSound s) where
+  -- two changes of names, and then another of the state
+  keeps_names : (f g : Children → Children) (last : State)
+      → (IsSound (with_names (with_names s nd f) od g)
+      → Keeps (with_names (with_names s nd f) od g) last)
+      → Keeps s last
+  keeps_names f g last more =
+      keeps_both s (with_names (with_names s nd f) od g) last
+      (keeps_both s (with_names s nd f) (with_names (with_names s nd f) od g)
+      (keeps-with_names s nd f sound) (keeps-with_names (with_names s nd f) od g))
+      more
+
+  keeps_free : (child : Child) → Keeps s (moved_to_free s od on nd nn child)
+  keeps_free child =
+      keeps_names (λ c. with_child c nn child) (λ c. without_child c on)
+      (moved_to_free s od on nd nn child) (keeps-moved_into _ child.node nd)
+
+  keeps_over : (child target : Child) → Keeps s (moved_over s od on nd nn child target)
+  keeps_over child target =
+      keeps_names (λ c. with_other_child c nn child) (λ c. without_child c on)
+      (moved_over s od on nd nn child target)
+      (λ sound. keeps_both _ _ _ (keeps-moved_into _ child.node nd sound)
+      (keeps-unnamed _ target.node _ refl))
+
+  keeps_exchange : (child target : Child) → Keeps s (exchanged s od on nd nn child target)
+  keeps_exchange child target =
+      keeps_names (λ c. with_other_child c nn child) (λ c. with_other_child c on target)
+      (exchanged s od on nd nn child target)
+      (λ sound. keeps_both _ _ _ (keeps-moved_into _ child.node nd sound)
+      (keeps-moved_into _ target.node od))
+
+  keeps-renamed_to : (flags : ℕ) (moved target : Option Child)
+      → Keeps s (renamed_to s od on nd nn flags moved target)
+  keeps-renamed_to flags None target = keeps_itself s sound
+  keeps-renamed_to flags (Some child) None = keeps_free child
+  keeps-renamed_to flags (Some child) (Some target) =
+      by (child.node == target.node) (flags == 2)
+    where
+      by : (same exchanges : Bool)
+          → Keeps s (if same then s
+          else if exchanges then exchanged s od on nd nn child target
+          else moved_over s od on nd nn child target)
+      by true exchanges = keeps_itself s sound
+      by false true = keeps_exchange child target
+      by false false = keeps_over child target
+
+  pub keeps-renamed : (flags : ℕ) → Keeps s (renamed s od on nd nn flags)
+  keeps-renamed flags = keeps-renamed_to flags (child_at s od on) (child_at s nd nn)

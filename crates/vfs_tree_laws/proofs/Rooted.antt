@@ -1,0 +1,534 @@
+-- Calls keep the way up to the root.
+use Rattle.std.proofs.Common.{◌≡◌, ◌≢◌, ◌<◌, ◌+◌, ◌-◌, ◌==◌, ◌&&◌, ◌||◌, ◌^◌, nat_le, nat_lt, not, ℕ, zero, suc, Bool, true, false, List, [], ◌∷◌, length, Option, Some, None, IsSome, is_some, is_none, refl, sym, ap, subst, ◌∙◌, arith, if◌then◌else◌, ◌⊎◌, inl, inr, ⊎_elim}
+use Rattle.std.proofs.lemmas.Bool.{both_ways, not-false, eqb-false, and_cases}
+use Rattle.std.proofs.lemmas.Option.{none-some, same_Some}
+use Rattle.vfs_flags.specs.Errors.{eperm, enoent, eexist, enotdir, einval, enospc, eoverflow}
+use Rattle.vfs_files.specs.declared.entry.Context.{Context}
+use Rattle.vfs_tree.specs.Children.{Children, is_directory, with_child, without_child, with_other_child}
+use Rattle.vfs_tree_laws.specs.Laws.{IsSound, IsLinked, IsRooted, CallsKeepTheWayUp, above}
+use Rattle.vfs_tree.specs.Rename.{enametoolong, first_of, or_else, directory_refusal, is_directory_at, is_nameless, is_crowded, is_below, is_own_child, names_refusal, place_refusal, parent_of, rename_refusal, moved_into, moved_over, exchanged, renamed_to}
+use Rattle.vfs_tree.specs.State.{State, node_at, node_of, count_of, room_of, with_node, with_resized, with_new, without_node, settled, changed, change, with_names, unnamed, child_at}
+use Rattle.vfs_tree.specs.Tree.{emlink, most_links, made, linked, forgotten, all_forgotten, taken_out, new_node, make_refusal, link_refusal}
+use Rattle.vfs_tree.specs.declared.children.Child.{Child}
+use Rattle.vfs_tree.specs.declared.kind.Kind.{Kind}
+use Rattle.vfs_tree.specs.declared.node.Node.{Node}
+use Rattle.vfs_tree_laws.proofs.Ascending.{gone-remove_entry, none_from}
+use Rattle.vfs_tree_laws.proofs.Cases.{Covers, are_not, or_none, calls_covered}
+use Rattle.vfs_tree_laws.proofs.Held.{at, settles}
+use Rattle.vfs_tree_laws.proofs.Keeping.{keeps-with_names, keeps-moved_into, there-change}
+use Rattle.vfs_tree.proofs.Nodes.{node_at-with_node, node_at-with_node_other, node_at-without_node_other, node_at-with_new, node_at-with_new_other, kinds_apart}
+use Rattle.vfs_tree_laws.proofs.WayUp.{IsPlaced, Goes, rooted_from, goes_from, placed_from, names_place, name_leads, rooted_ways, goes_still, avoids_from, goes_on}
+
+-- ---- directories that lie where they lay
+
+-- a directory that has a name had one and lies where it lay; what is gone leads to the root
+record Follows (s new : State) : Type 0 where
+  pub from : (m : ℕ) → IsPlaced new m → IsPlaced s m
+  pub parents : (m : ℕ)
+      → (parent_of (node_at new m) ≡ parent_of (node_at s m)) ⊎ (parent_of (node_at new m) ≡ 1)
+
+-- the same of nodes none of which is gone
+record Stays (s new : State) : Type 0 where
+  pub from : (m : ℕ) → IsPlaced new m → IsPlaced s m
+  pub parents : (m : ℕ) → parent_of (node_at new m) ≡ parent_of (node_at s m)
+
+stays_itself : (s : State) → Stays s s
+stays_itself s = record { from = λ m there. there; parents = λ m. refl }
+
+stays_both : (a b c : State) → Stays a b → Stays b c → Stays a c
+stays_both a b c first more = record {
+  from = λ m there. first.from m (more.from m there);
+  parents = λ m. more.parents m ∙ first.parents m;
+}
+
+follows_stays : (s new : State) → Stays s new → Follows s new
+follows_stays s new stays = record { from = stays.from; parents = λ m. inl (stays.parents m) }
+
+follows_both : (a b c : State) → Follows a b → Follows b c → Follows a c
+follows_both a b c first more = record {
+  from = λ m there. first.from m (more.from m there);
+  parents = λ m. ⊎_elim
+      (λ same. ⊎_elim (λ was. inl (same ∙ was)) (λ root. inr (same ∙ root)) (first.parents m))
+      (λ root. inr root)
+      (more.parents m);
+}
+
+goes-follows : (s new : State) → Follows s new → (k n : ℕ) → above s k n ≡ 1 → Goes new n
+goes-follows s new f zero n e = (0, e)
+goes-follows s new f (suc k) n e =
+    let rest = goes-follows s new f k (parent_of (node_at s n)) e in
+    ⊎_elim
+    (λ same. (suc rest.0, ap (above new rest.0) same ∙ rest.1))
+    (λ root. (1, root))
+    (f.parents n)
+
+rooted-follows : (s new : State) → Follows s new → IsRooted s → IsRooted new
+rooted-follows s new f rooted =
+    rooted_from new
+    (λ n there. let way = goes_from s rooted n (f.from n there) in
+    goes-follows s new f way.0 n way.1)
+
+-- ---- a node that is changed
+
+-- a node that lies where another lay, and has a name as a directory where that had one
+record Likes (was node : Node) : Type 0 where
+  pub kind : node.kind ≡ was.kind
+  pub parent : node.parent ≡ was.parent
+  pub named : is_directory was.kind ≡ true → 0 < node.names → 0 < was.names
+
+-- what is found at a number is this node
+placed_at : (s : State) (n : ℕ) (node : Node) → node_at s n ≡ Some node → IsPlaced s n
+    → (is_directory node.kind ≡ true) × (0 < node.names)
+placed_at s n node is there =
+    let same : there.node ≡ node = same_Some there.node node (sym there.is ∙ is) in (
+      subst (λ x. is_directory x.kind ≡ true) same there.directory,
+      subst (λ x. 0 < x.names) same there.named,
+    )
+
+module _ (s : State) (n : ℕ) (was node : Node) (is : node_at s n ≡ Some was)
+    (named : is_directory was.kind ≡ true → 0 < node.names → 0 < was.names)
+    (kind : node.kind ≡ was.kind) where
+  from_here : IsPlaced (with_node s n node) n → IsPlaced s n
+  from_here there =
+      let facts = placed_at (with_node s n node) n node
+      (node_at-with_node s n n node was is) there in
+      let directory = ap is_directory (sym kind) ∙ facts.0 in
+      record { node = was; is = is; directory = directory; named = named directory facts.1 }
+
+  from-with_node : (m : ℕ) → IsPlaced (with_node s n node) m → IsPlaced s m
+  from-with_node m there =
+      at n m (IsPlaced s m)
+      (λ e. subst (λ k. IsPlaced s k) e
+      (from_here (subst (λ k. IsPlaced (with_node s n node) k) (sym e) there)))
+      (λ apart. record {
+        node = there.node;
+        is = sym (node_at-with_node_other s n m node apart) ∙ there.is;
+        directory = there.directory;
+        named = there.named;
+      })
+
+module _ (s : State) (n : ℕ) (was node : Node) (is : node_at s n ≡ Some was)
+    (likes : Likes was node) where
+  stays-with_node : Stays s (with_node s n node)
+  stays-with_node =
+      let new = with_node s n node in
+      record {
+        from = from-with_node s n was node is likes.named likes.kind;
+        parents = λ m. at n m (parent_of (node_at new m) ≡ parent_of (node_at s m))
+            (λ e. subst (λ k. parent_of (node_at new k) ≡ parent_of (node_at s k)) e
+            (ap parent_of (node_at-with_node s n n node was is) ∙ likes.parent
+            ∙ sym (ap parent_of is)))
+            (λ apart. ap parent_of (node_at-with_node_other s n m node apart));
+      }
+
+  follows-without_node : IsSound s → Follows s (without_node s n node)
+  follows-without_node sound =
+      let new = without_node s n node in
+      let gone : node_at new n ≡ None = gone-remove_entry 1 s.next n s.nodes sound.ordered in
+      record {
+        from = λ m there. at n m (IsPlaced s m)
+            (λ e. absurd (none-some there.node
+            (sym gone ∙ ap (node_at new) e ∙ there.is)))
+            (λ apart. record {
+              node = there.node;
+              is = sym (node_at-without_node_other s n m node apart) ∙ there.is;
+              directory = there.directory;
+              named = there.named;
+            });
+        parents = λ m. at n m
+            ((parent_of (node_at new m) ≡ parent_of (node_at s m)) ⊎ (parent_of (node_at new m) ≡ 1))
+            (λ e. inr (ap (λ k. parent_of (node_at new k)) (sym e) ∙ ap parent_of gone))
+            (λ apart. inl (ap parent_of (node_at-without_node_other s n m node apart)));
+      }
+
+  follows-settled : IsSound s → Follows s (settled s n node)
+  follows-settled sound = by (node.names == 0 && node.lookups == 0)
+    where
+      by : (t : Bool) → Follows s (if t then without_node s n node else with_node s n node)
+      by true = follows-without_node sound
+      by false = follows_stays s (with_node s n node) stays-with_node
+
+-- ---- changes
+
+stays-changed : (s : State) (n : ℕ) (f : Node → Node) → ((node : Node) → Likes node (f node))
+    → (o : Option Node) → node_at s n ≡ o → Stays s (changed s n f o)
+stays-changed s n f likes None is = stays_itself s
+stays-changed s n f likes (Some node) is = stays-with_node s n node (f node) is (likes node)
+
+stays-with_names : (s : State) (d : ℕ) (f : Children → Children) → Stays s (with_names s d f)
+stays-with_names s d f =
+    stays-changed s d _ (λ node. record { kind = refl; parent = refl; named = λ dir some. some })
+    (node_at s d) refl
+
+follows-with_resized : (s : State) (n : ℕ) (was node : Node) → node_at s n ≡ Some was
+    → Likes was node → Follows s (with_resized s n was node)
+follows-with_resized s n was node is likes =
+    let stays = stays-with_node s n was node is likes in
+    record {
+      from = λ m there. stays.from m (record {
+        node = there.node;
+        is = there.is;
+        directory = there.directory;
+        named = there.named;
+      });
+      parents = λ m. inl (stays.parents m);
+    }
+
+follows-unnamed : (s : State) (n : ℕ) (o : Option Node) → node_at s n ≡ o → IsSound s
+    → Follows s (unnamed s n o)
+follows-unnamed s n None is sound = follows_stays s s (stays_itself s)
+follows-unnamed s n (Some node) is sound =
+    follows-settled s n node (record node { names = node.names - 1; ctime = s.now }) is
+    (record { kind = refl; parent = refl; named = λ dir some. omega (arith, some) }) sound
+
+follows-all_forgotten : (s : State) (pairs : List (ℕ × ℕ)) → IsSound s
+    → Follows s (all_forgotten s pairs)
+follows-all_forgotten s [] sound = follows_stays s s (stays_itself s)
+follows-all_forgotten s (r ∷ rs) sound =
+    by (node_at s r.0) refl (λ mid there. follows-all_forgotten mid rs there)
+  where
+    by : (o : Option Node) → node_at s r.0 ≡ o
+        → ((mid : State) → IsSound mid → Follows mid (all_forgotten mid rs))
+        → Follows s (all_forgotten (forgotten s r.0 r.1 o) rs)
+    by None is more = more s sound
+    by (Some node) is more =
+        let left : Node = record node { lookups = node.lookups - r.1 } in
+        let mid = settled s r.0 left in
+        follows_both s mid (all_forgotten mid rs)
+        (follows-settled s r.0 node left is
+        (record { kind = refl; parent = refl; named = λ dir some. some }) sound)
+        (more mid (settles s r.0 node left is sound).stays)
+
+follows-taken_out : (s : State) (parent : ℕ) (name : List ℕ) (child : Option Child) → IsSound s
+    → Follows s (taken_out s parent name child)
+follows-taken_out s parent name None sound = follows_stays s s (stays_itself s)
+follows-taken_out s parent name (Some child) sound =
+    let rest = with_names s parent (λ c. without_child c name) in
+    follows_both s rest (taken_out s parent name (Some child))
+    (follows_stays s rest (stays-with_names s parent _))
+    (follows-unnamed rest child.node (node_at rest child.node) refl
+    (keeps-with_names s parent (λ c. without_child c name) sound).sound)
+
+-- ---- refusals
+
+directory_there : (o : Option Node) (name : List ℕ) → directory_refusal o name ≡ None
+    → is_directory_at o ≡ true
+directory_there o name none =
+    let facts = are_not ((is_none o, enoent) ∷ (not (is_directory_at o), enotdir)
+    ∷ (nat_lt 255 (length name), enametoolong) ∷ []) none in
+    not-false (is_directory_at o) facts.1.0
+
+-- what RENAME has asked of the directories, where it goes on
+record Grants (s : State) (od nd flags : ℕ) (moved target : Option Child) : Type 0 where
+  placed : IsPlaced s nd
+  there : is_own_child s moved nd ≡ false
+  back : (flags == 2 && is_own_child s target od) ≡ false
+
+grants : (s : State) (od : ℕ) (on : List ℕ) (nd : ℕ) (nn : List ℕ) (flags : ℕ)
+    → rename_refusal s od on nd nn flags ≡ None
+    → Grants s od nd flags (child_at s od on) (child_at s nd nn)
+grants s od on nd nn flags none =
+    let moved = child_at s od on in
+    let target = child_at s nd nn in
+    let names = names_refusal s od nd flags moved target in
+    let place = place_refusal s nd flags moved target in
+    let first = or_none (directory_refusal (node_at s od) on)
+    (or_else (directory_refusal (node_at s nd) nn) (or_else names place)) none in
+    let second = or_none (directory_refusal (node_at s nd) nn) (or_else names place) first.1 in
+    let facts = are_not
+    ((nat_lt 2 flags, einval)
+    ∷ (is_none (node_of s moved), enoent)
+    ∷ (is_nameless (node_at s nd), enoent)
+    ∷ (flags == 1 && is_some target, eexist)
+    ∷ (flags == 2 && is_none (node_of s target), enoent)
+    ∷ (is_own_child s moved nd, einval)
+    ∷ (flags == 2 && is_own_child s target od, einval) ∷ [])
+    (or_none names place second.1).0 in
+    record {
+      placed = placed_from s nd (directory_there (node_at s nd) nn second.0) facts.1.1.0;
+      there = facts.1.1.1.1.1.0;
+      back = facts.1.1.1.1.1.1.0;
+    }
+
+not_below : (s : State) (child : Child) (d : ℕ) → is_own_child s (Some child) d ≡ false
+    → IsPlaced s child.node → is_below s (count_of s) child.node d ≡ false
+not_below s child d none there =
+    let is_one = is_directory_at (node_at s child.node) in
+    ⊎_elim
+    (λ no. absurd (both_ways is_one no (ap is_directory_at there.is ∙ there.directory)))
+    (λ not. not)
+    (and_cases is_one (is_below s (count_of s) child.node d) none)
+
+-- ---- a node that comes to lie in another directory
+
+record Moves (s new : State) (n d : ℕ) : Type 0 where
+  pub from : (m : ℕ) → IsPlaced new m → IsPlaced s m
+  pub here : IsSome (node_at s n) → parent_of (node_at new n) ≡ d
+  pub other : (m : ℕ) → m ≢ n → parent_of (node_at new m) ≡ parent_of (node_at s m)
+
+moves-moved_into : (s : State) (n d : ℕ) → Moves s (moved_into s n d) n d
+moves-moved_into s n d = by (node_at s n) refl
+  where
+    by : (o : Option Node) → node_at s n ≡ o
+        → Moves s (changed s n (λ node. record node { parent = d; ctime = s.now }) o) n d
+    by None is = record {
+      from = λ m there. there;
+      here = λ some. let none = ap is_some is in cc (some, none);
+      other = λ m apart. refl;
+    }
+    by (Some node) is =
+        let moved : Node = record node { parent = d; ctime = s.now } in
+        record {
+          from = from-with_node s n node moved is (λ dir some. some) refl;
+          here = λ some. ap parent_of (node_at-with_node s n n moved node is);
+          other = λ m apart. ap parent_of (node_at-with_node_other s n m moved apart);
+        }
+
+there_placed : (s : State) (n : ℕ) → IsPlaced s n → IsSome (node_at s n)
+there_placed s n there = ap is_some there.is
+
+module _ (s : State) (sound : IsSound s) (linked : IsLinked s) (new : State) (c d : ℕ)
+    (placed : IsPlaced s d)
+    (turns : (m : ℕ) → IsPlaced s m → m ≢ 1 → m ≢ c
+    → (parent_of (node_at new m) ≡ parent_of (node_at s m)) ⊎ (parent_of (node_at s m) ≡ d)) where
+  goes_moved : is_below s (count_of s) c d ≡ false → parent_of (node_at new c) ≡ d → Goes new c
+  goes_moved not_below here =
+      let way = avoids_from s c (count_of s) d not_below in
+      let goes = goes_on s new sound linked c d turns (way.0 + 1) way.0 (omega arith) placed way.1 in
+      (suc goes.0, ap (above new goes.0) here ∙ goes.1)
+
+module _ (s : State) (od : ℕ) (on : List ℕ) (nd : ℕ) (nn : List ℕ) (sound : IsSound s)
+    (linked : IsLinked s) (rooted : IsRooted s) (placed : IsPlaced s nd) (f g : Children → Children)
+    (child : Child) (leads : child_at s od on ≡ Some child)
+    (apart : is_own_child s (Some child) nd ≡ false) where
+  -- the names are changed
+  abbrev renames : State
+  renames = with_names (with_names s nd f) od g
+
+  stays : Stays s renames
+  stays =
+      stays_both s (with_names s nd f) renames
+      (stays-with_names s nd f) (stays-with_names (with_names s nd f) od g)
+
+  there : (m : ℕ) → IsPlaced s m → IsSome (node_at renames m)
+  there m placed =
+      there-change (with_names s nd f) od m _ (there-change s nd m _ (there_placed s m placed))
+
+  sound-renames : IsSound renames
+  sound-renames =
+      (keeps-with_names (with_names s nd f) od g (keeps-with_names s nd f sound).sound).sound
+
+  -- and a node is moved
+  abbrev once : State
+  once = moved_into renames child.node nd
+
+  moves : Moves renames once child.node nd
+  moves = moves-moved_into renames child.node nd
+
+  sound-once : IsSound once
+  sound-once = (keeps-moved_into renames child.node nd sound-renames).sound
+
+  rooted-once : IsRooted once
+  rooted-once =
+      let c = child.node in
+      let other : (m : ℕ) → m ≢ c → parent_of (node_at once m) ≡ parent_of (node_at s m) =
+      λ m apart. moves.other m apart ∙ stays.parents m in
+      let goes : IsPlaced s c → Goes once c =
+      λ placed_c. goes_moved s sound linked once c nd placed
+      (λ m placed_m root apart. inl (other m apart))
+      (not_below s child nd apart placed_c) (moves.here (there c placed_c)) in
+      rooted_ways s once sound linked rooted
+      (λ m placed_m. inl (stays.from m (moves.from m placed_m)))
+      (λ m placed_m root.
+      at c m ((parent_of (node_at once m) ≡ parent_of (node_at s m)) ⊎ Goes once m)
+      (λ e. inr (subst (λ k. Goes once k) e (goes (subst (λ k. IsPlaced s k) (sym e) placed_m))))
+      (λ apart. inl (other m apart)))
+
+  -- or two are
+  module _ (target : Child) (leads_target : child_at s nd nn ≡ Some target)
+      (apart_target : is_own_child s (Some target) od ≡ false) (two : child.node ≢ target.node) where
+    abbrev twice : State
+    twice = moved_into once target.node od
+
+    rooted-twice : IsRooted twice
+    rooted-twice =
+        let c = child.node in
+        let t = target.node in
+        let more = moves-moved_into once t od in
+        let Other : ℕ → Type 0 = λ m. parent_of (node_at twice m) ≡ parent_of (node_at s m) in
+        let other : (m : ℕ) → m ≢ c → m ≢ t → Other m =
+        λ m not_c not_t. more.other m not_t ∙ moves.other m not_c ∙ stays.parents m in
+        let goes_c : IsPlaced s c → Goes twice c =
+        λ placed_c. goes_moved s sound linked twice c nd placed
+        (λ m placed_m root not_c. at t m (Other m ⊎ (parent_of (node_at s m) ≡ nd))
+        (λ e. inr (subst (λ k. parent_of (node_at s k) ≡ nd) e
+        (name_leads s linked nd nn target leads_target
+        (subst (λ k. IsPlaced s k) (sym e) placed_m))))
+        (λ not_t. inl (other m not_c not_t)))
+        (not_below s child nd apart placed_c)
+        (more.other c two ∙ moves.here (there c placed_c)) in
+        let goes_t : IsPlaced s t → Goes twice t =
+        λ placed_t. goes_moved s sound linked twice t od (names_place s linked od on child leads)
+        (λ m placed_m root not_t. at c m (Other m ⊎ (parent_of (node_at s m) ≡ od))
+        (λ e. inr (subst (λ k. parent_of (node_at s k) ≡ od) e
+        (name_leads s linked od on child leads
+        (subst (λ k. IsPlaced s k) (sym e) placed_m))))
+        (λ not_c. inl (other m not_c not_t)))
+        (not_below s target od apart_target placed_t)
+        (more.here (there-change renames c t _ (there t placed_t))) in
+        rooted_ways s twice sound linked rooted
+        (λ m placed_m. inl (stays.from m (moves.from m (more.from m placed_m))))
+        (λ m placed_m root.
+        at c m (Other m ⊎ Goes twice m)
+        (λ e. inr (subst (λ k. Goes twice k) e (goes_c (subst (λ k. IsPlaced s k) (sym e) placed_m))))
+        (λ not_c. at t m (Other m ⊎ Goes twice m)
+        (λ e. inr (subst (λ k. Goes twice k) e (goes_t (subst (λ k. IsPlaced s k) (sym e) placed_m))))
+        (λ not_t. inl (other m not_c not_t))))
+
+module _ (s : State) (od : ℕ) (on : List ℕ) (nd : ℕ) (nn : List ℕ) (flags : ℕ) (sound : IsSound s)
+    (linked : IsLinked s) (rooted : IsRooted s) where
+  rooted-renamed_to : (moved target : Option Child) → child_at s od on ≡ moved
+      → child_at s nd nn ≡ target → Grants s od nd flags moved target
+      → IsRooted (renamed_to s od on nd nn flags moved target)
+  rooted-renamed_to None target moves_from leads granted = rooted
+  rooted-renamed_to (Some child) None moves_from leads granted =
+      rooted-once s od on nd nn sound linked rooted granted.placed
+      (λ c. with_child c nn child) (λ c. without_child c on) child moves_from granted.there
+  rooted-renamed_to (Some child) (Some target) moves_from leads granted =
+      by (child.node == target.node) refl (flags == 2) granted.back
+    where
+      by : (same : Bool) → (child.node == target.node) ≡ same → (exchanges : Bool)
+          → (exchanges && is_own_child s (Some target) od) ≡ false
+          → IsRooted (if same then s
+          else if exchanges then exchanged s od on nd nn child target
+          else moved_over s od on nd nn child target)
+      by true is exchanges back = rooted
+      by false is true back =
+          rooted-twice s od on nd nn sound linked rooted granted.placed
+          (λ c. with_other_child c nn child) (λ c. with_other_child c on target)
+          child moves_from granted.there
+          target leads back (eqb-false child.node target.node is)
+      by false is false back =
+          let f : Children → Children = λ c. with_other_child c nn child in
+          let g : Children → Children = λ c. without_child c on in
+          let mid = moved_into (with_names (with_names s nd f) od g) child.node nd in
+          rooted-follows mid (moved_over s od on nd nn child target)
+          (follows-unnamed mid target.node (node_at mid target.node) refl
+          (sound-once s od on nd nn sound linked rooted granted.placed f g
+          child moves_from granted.there))
+          (rooted-once s od on nd nn sound linked rooted granted.placed f g
+          child moves_from granted.there)
+
+-- ---- the calls
+
+module _ (old : State) (sound : IsSound old) (links : IsLinked old) (rooted : IsRooted old) where
+  after : (new : State) → Follows old new → IsRooted new
+  after new follows = rooted-follows old new follows rooted
+
+  -- a node that is new, in a directory that has a name
+  module _ (node : Node) (placed : IsPlaced old node.parent) where
+    free : node_at old old.next ≡ None
+    free = none_from 1 old.next old.next old.nodes sound.ordered (omega arith)
+
+    other : (m : ℕ) → IsPlaced old m → m ≢ 1
+        → (parent_of (node_at (with_new old node) m) ≡ parent_of (node_at old m))
+        ⊎ Goes (with_new old node) m
+    other m there root =
+        inl (ap parent_of (node_at-with_new_other old m node
+        (λ e. none-some there.node (sym free ∙ ap (node_at old) (sym e) ∙ there.is))))
+
+    goes_new : Goes (with_new old node) old.next
+    goes_new =
+        let way = goes_still old (with_new old node) sound links rooted other node.parent placed in
+        let here = ap parent_of (node_at-with_new old old.next node) in
+        (suc way.0, ap (above (with_new old node) way.0) here ∙ way.1)
+
+    rooted-with_new : IsRooted (with_new old node)
+    rooted-with_new =
+        rooted_ways old (with_new old node) sound links rooted
+        (λ m there. at old.next m (IsPlaced old m ⊎ Goes (with_new old node) m)
+        (λ e. inr (subst (λ k. Goes (with_new old node) k) e goes_new))
+        (λ apart. inl (record {
+          node = there.node;
+          is = sym (node_at-with_new_other old m node apart) ∙ there.is;
+          directory = there.directory;
+          named = there.named;
+        })))
+        other
+
+  makes : (ctx : Context) (kind : Kind) (permissions parent : ℕ) (name contents : List ℕ)
+      → make_refusal old parent name (length contents) ≡ None
+      → IsRooted (made old parent name (new_node old ctx kind permissions parent contents))
+  makes ctx kind permissions parent name contents none =
+      let node = new_node old ctx kind permissions parent contents in
+      let mid = with_new old node in
+      let rs : List (Bool × ℕ) = (is_nameless (node_at old parent), enoent)
+      ∷ (is_some (child_at old parent name), eexist)
+      ∷ (
+        nat_le old.limits.nodes (count_of old) || old.next == 2 ^ 64 - 1
+            || is_crowded (node_at old parent) || nat_lt (room_of old) (length contents),
+        enospc,
+      )
+      ∷ [] in
+      let parts = or_none (directory_refusal (node_at old parent) name) (first_of rs) none in
+      let above_it : IsPlaced old parent =
+      placed_from old parent (directory_there (node_at old parent) name parts.0)
+      (are_not rs parts.1).0 in
+      rooted-follows mid (made old parent name node)
+      (follows_stays mid (made old parent name node) (stays-with_names mid parent _))
+      (rooted-with_new node above_it)
+
+  adds_name : (n : ℕ) (node : Node) (parent : ℕ) (name : List ℕ) → node_at old n ≡ Some node
+      → link_refusal old (Some node) parent name ≡ None
+      → IsRooted (change (with_names old parent
+      (λ c. with_child c name (record { node = n; kind = node.kind }))) n (linked old))
+  adds_name n node parent name is none =
+      let child : Child = record { node = n; kind = node.kind } in
+      let f : Children → Children = λ c. with_child c name child in
+      let mid = with_names old parent f in
+      let rs : List (Bool × ℕ) = (is_nameless (node_at old parent), enoent)
+      ∷ (is_some (child_at old parent name), eexist)
+      ∷ (is_directory node.kind, eperm)
+      ∷ (node.names == 0, enoent)
+      ∷ (nat_le most_links node.names, emlink)
+      ∷ (node.lookups == 2 ^ 64 - 1, eoverflow)
+      ∷ (is_crowded (node_at old parent), enospc) ∷ [] in
+      let parts = or_none (directory_refusal (node_at old parent) name) (first_of rs) none in
+      let none_of = (are_not rs parts.1).1.1.0 in
+      let found : node_at mid n ≡ Some node =
+      kinds_apart old n parent f (ap is_directory_at is ∙ none_of)
+      (directory_there (node_at old parent) name parts.0) ∙ is in
+      let last = with_node mid n (linked old node) in
+      subst IsRooted (sym (ap (changed mid n (linked old)) found))
+      (after last (follows_stays old last
+      (stays_both old mid last (stays-with_names old parent f)
+      (stays-with_node mid n node (linked old node) found
+      (record {
+        kind = refl;
+        parent = refl;
+        named = λ directory some. absurd (both_ways (is_directory node.kind) none_of directory);
+      })))))
+
+  covers : Covers old IsRooted
+  covers = record {
+    same = rooted;
+    looked_up = λ n node is. after _ (follows_stays old _
+        (stays-with_node old n node (record node { lookups = node.lookups + 1 }) is
+        (record { kind = refl; parent = refl; named = λ directory some. some })));
+    all_forgot = λ pairs. after _ (follows-all_forgotten old pairs sound);
+    resizes = λ n was now is r. after _ (follows-with_resized old n was now is
+        (record { kind = r.kind; parent = r.parent; named = λ dir some. omega (arith, r.names, some) }));
+    makes = makes;
+    links = adds_name;
+    unlinks = λ parent name none.
+        after _ (follows-taken_out old parent name (child_at old parent name) sound);
+    removes = λ parent name none.
+        after _ (follows-taken_out old parent name (child_at old parent name) sound);
+    renames = λ od on nd nn flags none.
+        rooted-renamed_to old od on nd nn flags sound links rooted
+        (child_at old od on) (child_at old nd nn) refl refl (grants old od on nd nn flags none);
+  }
+
+pub calls_keep_the_way_up : CallsKeepTheWayUp
+calls_keep_the_way_up old new call answer sound links rooted allowed =
+    calls_covered old new IsRooted (covers old sound links rooted) call answer allowed

@@ -1,0 +1,193 @@
+-- What holds of every state of a tree that can be reached, and what a call does to the lookups that are
+-- held.
+use Rattle.std.specs.Prelude.{◌≡◌, ◌≤◌, ◌<◌, ℕ, zero, suc, ◌+◌, ◌==◌, max, Bool, true, false, List, [], ◌∷◌, map, Option, Some, None, IfSome, sum_by, count_by, if◌then◌else◌}
+use Rattle.std.specs.List.{All, IsDistinct}
+use Rattle.std.specs.Map.{values_of}
+use Rattle.std.specs.Str.{bytes_eq}
+use Rattle.vfs_files.specs.Items.{Item}
+use Rattle.vfs_files.specs.Calls as call
+use Rattle.vfs_files.specs.Calls.{Call, Lookup, Symlink, Mknod, Mkdir, Create, Forget, BatchForget, Answer, Found, Created, Handed, Plain, Iterator}
+use Rattle.vfs_tree.specs.Children.{Link, is_directory}
+use Rattle.vfs_tree.specs.Node.{weight}
+use Rattle.vfs_tree.specs.Rename.{parent_of}
+use Rattle.vfs_tree.specs.State.{State, node_at, count_of}
+use Rattle.vfs_tree.specs.Tree.{TreeAllows, first_state}
+use Rattle.vfs_tree.specs.declared.children.Child.{Child}
+use Rattle.vfs_tree.specs.declared.fs.Limits.{Limits}
+use Rattle.vfs_tree.specs.declared.node.Node.{Node}
+use Rattle.vfs_tree.specs.declared.node.Time.{Time}
+
+-- how many lookups of a node are held
+abbrev pub lookups_in : Option Node → ℕ
+lookups_in None = 0
+lookups_in (Some node) = node.lookups
+
+abbrev pub lookups_of : State → (number : ℕ) → ℕ
+lookups_of s n = lookups_in (node_at s n)
+
+-- a node that no name leads to is held by a lookup
+abbrev pub IsHeld : Node → Type 0
+IsHeld node = node.names ≡ 0 → 0 < node.lookups
+
+-- entries in order of their numbers, which are at least the first one and below the last
+abbrev pub Ascend : (from : ℕ) → List (ℕ × Node) → (to : ℕ) → Type 0
+Ascend from [] to = from ≤ to
+Ascend from (e ∷ es) to = (from ≤ e.0) × Ascend (e.0 + 1) es to
+
+-- The nodes stand in order of their numbers, from 1 to below the next one, and of each a name leads to
+-- it or a lookup is held.
+pub record IsSound (s : State) : Type 0 where
+  pub ordered : Ascend 1 s.nodes s.next
+  pub held : (n : ℕ) → IfSome (node_at s n) IsHeld
+
+-- the lookups of a node that a call takes back
+abbrev pub taken_back : (number : ℕ) → List (ℕ × ℕ) → ℕ
+taken_back n pairs = sum_by (λ pair. if pair.0 == n then pair.1 else 0) pairs
+
+abbrev pub takes_back : (number : ℕ) → Call → ℕ
+takes_back n (Forget _ inode count) = taken_back n ((inode, count) ∷ [])
+takes_back n (BatchForget _ requests) = taken_back n requests
+takes_back n _ = 0
+
+-- the lookups of a node that an answer gives: one, where it has the node's entry
+abbrev pub given : (number : ℕ) → Answer → ℕ
+given n (Found entry) = if entry.inode == n then 1 else 0
+given n (Created entry _ _) = if entry.inode == n then 1 else 0
+given n _ = 0
+
+-- the lookups of a node that a call gives: one, where it is one of these and answers the node's entry
+abbrev pub gives : (number : ℕ) → Call → Answer → ℕ
+gives n (Lookup _ _ _) answer = given n answer
+gives n (Symlink _ _ _ _ _) answer = given n answer
+gives n (Mknod _ _ _ _ _ _ _) answer = given n answer
+gives n (Mkdir _ _ _ _ _ _) answer = given n answer
+gives n (call.Link _ _ _ _) answer = given n answer
+gives n (Create _ _ _ _ _ _ _ _) answer = given n answer
+gives n _ answer = 0
+
+-- A call keeps a sound state sound. Of a node of which it takes back no more lookups than are held, so
+-- many are held then as were, with those that it gives and without those that it takes back.
+abbrev pub CallsAreSound : Type 0
+CallsAreSound =
+    (old new : State) (call : Call) (answer : Answer)
+    → IsSound old → TreeAllows old call (Plain answer) new
+    → IsSound new
+    × ((n : ℕ) → takes_back n call ≤ lookups_of old n
+    → lookups_of new n + takes_back n call ≡ lookups_of old n + gives n call answer)
+
+-- a reading that begins changes nothing
+abbrev pub ReadingsChangeNothing : Type 0
+ReadingsChangeNothing =
+    (old new : State) (call : Call) (items : List Item)
+    → TreeAllows old call (Iterator items) new → new ≡ old
+
+-- ---- what is in use
+
+-- The bytes that are in use are those of the nodes; they and the nodes are within the limits, but for the
+-- root, which is always there.
+pub record IsWithin (s : State) : Type 0 where
+  pub used : s.used ≡ sum_by weight (values_of s.nodes)
+  pub bytes : s.used ≤ s.limits.bytes
+  pub count : count_of s ≤ max 1 s.limits.nodes
+
+-- a call keeps a state within its limits, which stay
+abbrev pub CallsStayWithin : Type 0
+CallsStayWithin =
+    (old new : State) (call : Call) (answer : Answer)
+    → IsSound old → IsWithin old → TreeAllows old call (Plain answer) new
+    → IsWithin new × (new.limits ≡ old.limits)
+
+-- ---- names
+
+-- how many names of a directory lead to a node
+abbrev pub names_in : (number : ℕ) → List (ℕ × Link) → ℕ
+names_in n links = count_by (λ link. link.1.child.node == n) links
+
+-- how many names of all directories do
+abbrev pub names_to : State → (number : ℕ) → ℕ
+names_to s n = sum_by (λ node. names_in n node.children.links) (values_of s.nodes)
+
+-- how many lead to it as it says
+abbrev pub names_of : Option Node → ℕ
+names_of None = 0
+names_of (Some node) = node.names
+
+-- no name stands twice
+abbrev pub AreApart : List (ℕ × Link) → Type 0
+AreApart links = IsDistinct bytes_eq (map (λ link. link.1.name) links)
+
+-- a name of this directory leads to a node that is there; it says what that is, and where that is a
+-- directory, it lies in this one
+abbrev pub Leads : State → (directory : ℕ) → Child → Option Node → Type 0
+Leads s d child None = ⊥
+Leads s d child (Some node) =
+    (child.kind ≡ node.kind) × (is_directory node.kind ≡ true → node.parent ≡ d)
+
+-- The names of a node: it has as many as lead to it, the root one more. It holds names only where it is a
+-- directory that has a name itself, none of them twice, each leading where it says; and a directory has
+-- one name at most.
+pub record IsNamed (s : State) (n : ℕ) (node : Node) : Type 0 where
+  pub apart : AreApart node.children.links
+  pub leads : All (λ link. Leads s n link.1.child (node_at s link.1.child.node)) node.children.links
+  pub files : is_directory node.kind ≡ false → node.children.links ≡ []
+  pub nameless : node.names ≡ 0 → node.children.links ≡ []
+  pub single : is_directory node.kind ≡ true → node.names ≤ 1
+
+-- Every name leads to a node that is there, and as many lead to a node as it says; the root is a
+-- directory, which one more keeps, that no directory has, and which lies in itself.
+pub record IsLinked (s : State) : Type 0 where
+  pub root : IfSome (node_at s 1) (λ node. is_directory node.kind ≡ true)
+  pub top : parent_of (node_at s 1) ≡ 1
+  pub counted : (n : ℕ) → names_of (node_at s n) ≡ names_to s n + (if n == 1 then 1 else 0)
+  pub named : (n : ℕ) → IfSome (node_at s n) (IsNamed s n)
+
+abbrev pub CallsKeepLinks : Type 0
+CallsKeepLinks =
+    (old new : State) (call : Call) (answer : Answer)
+    → IsSound old → IsLinked old → TreeAllows old call (Plain answer) new → IsLinked new
+
+-- ---- the way up
+
+-- the directory so many steps above a node
+abbrev pub above : State → (steps number : ℕ) → ℕ
+above s zero n = n
+above s (suc k) n = above s k (parent_of (node_at s n))
+
+-- a directory that has a name leads up to the root: so none lies in itself
+abbrev pub IsRooted : State → Type 0
+IsRooted s =
+    (n : ℕ) → IfSome (node_at s n) (λ node. is_directory node.kind ≡ true → 0 < node.names
+    → (k : ℕ) × (above s k n ≡ 1))
+
+abbrev pub CallsKeepTheWayUp : Type 0
+CallsKeepTheWayUp =
+    (old new : State) (call : Call) (answer : Answer)
+    → IsSound old → IsLinked old → IsRooted old → TreeAllows old call (Plain answer) new
+    → IsRooted new
+
+-- ---- trees
+
+-- a tree: what a new one is, and calls keep
+pub record IsTree (s : State) : Type 0 where
+  pub sound : IsSound s
+  pub within : IsWithin s
+  pub linked : IsLinked s
+  pub rooted : IsRooted s
+
+-- a new one, of which no lookup is held
+abbrev pub NewOnesAreTrees : Type 0
+NewOnesAreTrees =
+    (uid gid : ℕ) (limits : Limits) (now : Time)
+    → IsTree (first_state uid gid limits now)
+    × ((n : ℕ) → lookups_of (first_state uid gid limits now) n ≡ 0)
+
+-- A call keeps a tree one, whatever it asks, and its limits. Of a node of which it takes back no more
+-- lookups than are held, so many are held then as were, with those that it gives and without those that
+-- it takes back.
+abbrev pub CallsKeepTrees : Type 0
+CallsKeepTrees =
+    (old new : State) (call : Call) (answer : Answer)
+    → IsTree old → TreeAllows old call (Plain answer) new
+    → IsTree new × (new.limits ≡ old.limits)
+    × ((n : ℕ) → takes_back n call ≤ lookups_of old n
+    → lookups_of new n + takes_back n call ≡ lookups_of old n + gives n call answer)

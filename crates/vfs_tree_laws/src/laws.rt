@@ -1,0 +1,29 @@
+//! Laws of the relation of a tree's calls.
+
+ghost use Rattle.vfs_tree_laws.specs.Laws.{CallsKeepTrees, NewOnesAreTrees, ReadingsChangeNothing};
+ghost use Rattle.vfs_tree_laws.specs.Runs.{RunsKeepTrees};
+
+/// A new tree is one: each name leads to a node that is there, as many as a node says lead to it, each
+/// directory leads up to the root, and what is in use is within the limits. No lookup is held.
+pub fn new_ones_are_trees()
+    ensures { NewOnesAreTrees }
+{}
+
+/// A call keeps a tree one, whatever it asks. Lookups of a node are held as before, with those that the
+/// call gives and without those that it takes back.
+pub fn calls_keep_trees()
+    ensures { CallsKeepTrees }
+{}
+
+/// A reading of a directory that begins changes nothing.
+pub fn readings_change_nothing()
+    ensures { ReadingsChangeNothing }
+{}
+
+/// A run keeps a tree one, and counts lookups likewise.
+pub fn runs_keep_trees()
+    ensures { RunsKeepTrees }
+{
+    calls_keep_trees();
+    readings_change_nothing();
+}

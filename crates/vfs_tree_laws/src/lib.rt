@@ -1,0 +1,5 @@
+//! What holds of a tree in memory over calls, runs and sessions.
+#![tactic(auto)]
+
+pub mod laws;
+pub mod session;

@@ -1,0 +1,40 @@
+//! A session with a tree, and what its books say of the tree.
+
+ghost use Rattle.std.specs.Prelude.{◌≡◌, length, vec_len};
+ghost use Rattle.vfs_server.specs.Session.{IsSession};
+ghost use Rattle.vfs_tree.specs.Listing.{GivesFirst};
+ghost use Rattle.vfs_tree.specs.Tree.{TreeAllows};
+ghost use Rattle.vfs_tree_laws.specs.Laws.{IsTree};
+ghost use Rattle.vfs_tree_laws.specs.Runs.{KeepsTree, LeavesNone};
+
+use crate::laws::runs_keep_trees;
+use std::alloc::Global;
+use vfs_grammar::Result;
+use vfs_segments::{Reader, Writer};
+use vfs_server::server::Server;
+use vfs_tree::TreeFs;
+
+/// Handles requests in order, as [`Server::handle_session`] does, with a tree.
+///
+/// A tree stays one, whatever the client asks. Of each node the lookups that are held afterwards are those that were held,
+/// with those that were delivered to the client and without those that it gave back, if it never gave back
+/// more than it had. So a client that gives back all that it had leaves no node but those that names lead
+/// to.
+pub fn handle_session(
+    server: &mut Server<TreeFs>,
+    alloc: Global,
+    readers: Vec<Reader<'_>>,
+    writers: &mut [Writer],
+    outcomes: &mut [Result<usize>],
+)
+    requires writers { length writers.old ≡ vec_len readers }
+    requires outcomes { length outcomes.old ≡ vec_len readers }
+    ensures { IsTree server.old.fs →
+        (session : IsSession TreeAllows GivesFirst server.old readers.entry.items writers.old
+        outcomes.new writers.new server.new)
+        × KeepsTree server.old.fs session.turns server.new.fs
+        × LeavesNone server.old.fs session.turns server.new.fs }
+{
+    runs_keep_trees();
+    server.handle_session(alloc, readers, writers, outcomes);
+}
