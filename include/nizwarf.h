@@ -90,6 +90,7 @@ enum {
 /* The functions of the library. No pointer is NULL here, and that to a list without pieces may point
  * anywhere. A program that isn't in C links these. Their contracts: crates/vfs_c/src/lib.rt. */
 int32_t nizwarf_new_at(nizwarf_server *server, uint32_t page_size, uint32_t max_buffer);
+int32_t nizwarf_tell_time_at(nizwarf_server *server, uint64_t seconds, uint32_t nanoseconds);
 int32_t nizwarf_message_at(nizwarf_server *server, const nizwarf_segment *request, size_t segments,
 			   size_t room, size_t *len);
 size_t nizwarf_copy_at(nizwarf_server *server, size_t at, uint8_t *piece, size_t piece_len);
@@ -103,6 +104,13 @@ int32_t nizwarf_end_at(nizwarf_server *server);
 static inline int32_t nizwarf_new(nizwarf_server *server, uint32_t page_size, uint32_t max_buffer)
 {
 	return server ? nizwarf_new_at(server, page_size, max_buffer) : NIZWARF_NULL;
+}
+
+/* Tells the file system the time since 1970: what is made or changed from now on bears it. It is 0 until
+ * then. */
+static inline int32_t nizwarf_tell_time(nizwarf_server *server, uint64_t seconds, uint32_t nanoseconds)
+{
+	return server ? nizwarf_tell_time_at(server, seconds, nanoseconds) : NIZWARF_NULL;
 }
 
 /* Answers one request. The first `*len` bytes of the rooms, in order, are the reply, and the others are

@@ -1,8 +1,9 @@
-/* Holds the library for transports in C against its header: a session of INIT, LOOKUP and GETATTR, in
+/* Holds the library for transports in C against its header: a session of INIT, MKDIR, LOOKUP and GETATTR, in
  * which each allocation is refused in turn; codes of what can't be done; what stays in the rooms.
  *
  * tools/c-example.sh links it with --wrap=malloc, --wrap=realloc and --wrap=free. Status 0: all is as
  * it should be, and no memory is left behind. */
+#include <errno.h>
 #include <linux/fuse.h>
 #include <stdio.h>
 #include <stdlib.h>
@@ -53,6 +54,12 @@ static struct {
 	   .body = { .major = 7, .minor = 38 } };
 static struct {
 	struct fuse_in_header header;
+	struct fuse_mkdir_in body;
+	char name[2];
+} make = { .header = { .len = 50, .opcode = FUSE_MKDIR, .unique = 4, .nodeid = 1 },
+	   .body = { .mode = 0755 }, .name = "a" };
+static struct {
+	struct fuse_in_header header;
 	char name[2];
 } lookup = { .header = { .len = 42, .opcode = FUSE_LOOKUP, .unique = 2, .nodeid = 1 }, .name = "a" };
 static struct {
@@ -63,9 +70,11 @@ static struct {
 static uint8_t reply[1 << 16];
 
 /* Asks with a request in two pieces, of which the first has so many bytes, behind so many empty ones,
- * and with two pieces of room. What is refused for want of memory is asked again, and the outcome told. */
+ * and with two pieces of room. What is refused for want of memory, by the server or in the file system's
+ * reply, is asked again, and the outcome told. */
 static int ask(nizwarf_server *server, void *request, size_t cut, size_t empty, size_t space, size_t *len)
 {
+	const struct fuse_out_header *header = (const struct fuse_out_header *)reply;
 	size_t total = ((struct fuse_in_header *)request)->len, i;
 	nizwarf_segment pieces[8];
 	const nizwarf_room room[] = { { reply, 16 }, { reply + 16, space - 16 } };
@@ -78,6 +87,10 @@ static int ask(nizwarf_server *server, void *request, size_t cut, size_t empty, 
 	for (again = 0; again < 2; again++) {
 		memset(reply, 0xaa, sizeof(reply));
 		code = nizwarf_message(server, pieces, empty + 2, room, 2, len);
+		if (code == NIZWARF_OK && *len == 16 && header->error == -ENOMEM) {
+			CHECK(refused && again == 0);
+			continue;
+		}
 		if (code != NIZWARF_OUT_OF_MEMORY)
 			break;
 		CHECK(refused && again == 0 && *len == 0 && reply[0] == 0xaa);
@@ -100,7 +113,10 @@ static void session(void)
 	}
 	CHECK(code == NIZWARF_OK && nizwarf_max_buffer(&server) == 4096 && nizwarf_options(&server) == 0);
 	CHECK(ask(&server, &init, 40, 0, 80, &len) == NIZWARF_OK && len == 80 && header->len == 80);
+	CHECK(nizwarf_tell_time(&server, 7, 9) == NIZWARF_OK);
+	CHECK(ask(&server, &make, 49, 2, 144, &len) == NIZWARF_OK && len == 144 && header->error == 0);
 	CHECK(ask(&server, &getattr, 56, 0, 8192, &len) == NIZWARF_OK && len == 120 && header->unique == 3);
+	CHECK(((struct fuse_attr_out *)(reply + 16))->attr.mtime == 7);
 	CHECK(ask(&server, &lookup, 41, 5, 144, &len) == NIZWARF_OK && len == 144 && header->error == 0);
 	CHECK(ask(&server, &getattr, 50, 6, 1 << 16, &len) == NIZWARF_OK && len == 120 && header->unique == 3);
 	CHECK(ask(&server, &lookup, 40, 0, 20, &len) == NIZWARF_ENCODE_MESSAGE && len == 0);
@@ -120,6 +136,8 @@ static void codes(void)
 	size_t len = 1;
 
 	CHECK(nizwarf_new(NULL, 4096, 4096) == NIZWARF_NULL && nizwarf_end(NULL) == NIZWARF_NULL);
+	CHECK(nizwarf_tell_time(NULL, 1, 0) == NIZWARF_NULL);
+	CHECK(nizwarf_tell_time(&server, 1, 0) == NIZWARF_NO_SERVER);
 	CHECK(nizwarf_options(NULL) == 0 && nizwarf_max_buffer(NULL) == 0);
 	CHECK(nizwarf_options(&server) == 0 && nizwarf_max_buffer(&server) == 0);
 	CHECK(nizwarf_end(&server) == NIZWARF_NO_SERVER);

@@ -90,9 +90,10 @@ for module in $modules; do
 done
 echo "Linux \$(uname -r)"
 mount -t virtiofs nizwarf /mnt && sh /session.sh /mnt
-# It forgets what it has of the files, and asks for them anew.
+# It forgets what it has of a file, and asks for it anew.
+echo again > /mnt/a
 echo 3 > /proc/sys/vm/drop_caches
-[ "\$(cat /mnt/a)" = Jello ] && umount /mnt && echo 'The guest unmounted it.'
+[ "\$(cat /mnt/a)" = again ] && umount /mnt && echo 'The guest unmounted it.'
 poweroff -f
 INIT
 chmod +x "$root/init"

@@ -19,4 +19,4 @@ cp -R crates/vfs_c/{src,specs,proofs,must-fail} "crates/$name/"
 grep -rl vfs_c "crates/$name" | xargs sed -i "s/\bvfs_c\b/$name/g"
 sed -i "/^vfs_c staticlib:/{p;s/^vfs_c/$name/}" crates.txt
 echo "Now change crates/$name/src/files.rt and crates/$name/specs/Files.antt, and in crates.txt, on the"
-echo "line of $name, vfs_memory to the crate of your file system."
+echo "line of $name, vfs_tree to the crate of your file system."

@@ -3,9 +3,8 @@
 #
 # Usage: tools/session.sh FOLDER
 # FOLDER is a mount that nothing was done with. tools/mount.sh runs it, and tools/guest.sh in the guest,
-# by busybox. What must come is written by hand, from what that file system is: one folder, in which a
-# file `a` holds `hello`; files of at most 64 KiB; nothing sets a mode, a time or a size; no folder, no
-# link and no new name is made. Status 0: each step came to that.
+# by busybox. What must come is written by hand, from what POSIX says. Where git is there, a repository is
+# cloned into it too. Status 0: each step came to that.
 # shellcheck disable=SC2016
 case ${1:-} in
     -h | --help)
@@ -55,60 +54,85 @@ cd "$1" || exit 2
 other=$(mktemp -d)
 trap 'rm -rf "$other"' EXIT
 
-works 'a' 'ls'
+# An empty directory, and files in it: written, written to their end, written over.
+works '' 'ls'
+works 'drwxr-xr-x 2' 'stat -c "%A %h" .'
+works '' 'umask 022; echo hello > a'
+works '-rw-r--r-- 6 1' 'stat -c "%A %s %h" a'
 works 'hello' 'cat a'
-works '-rw-r--r-- 5' 'stat -c "%A %s" a'
-works 'drwxr-xr-x' 'stat -c %A .'
-works './a' 'find . -type f'
-
-# Written, written to its end, written over.
-works '' 'echo new > b'
-works 'new' 'cat b'
-works '' 'echo more >> b'
-works 'new
-more' 'cat b'
+works '' 'echo more >> a'
+works 'hello
+more' 'cat a'
 works '' 'printf J | dd of=a conv=notrunc 2> /dev/null'
-works 'Jello' 'cat a'
+works 'Jello
+more' 'cat a'
+works '' ': > a'
+works '0' 'stat -c %s a'
 
-# Copied, up to the size that a file may have.
-works '' 'cp b c && cmp b c'
-works '' 'cp b "$other/b" && cmp b "$other/b"'
-works '' 'dd if=/dev/urandom of="$other/full" bs=4096 count=16 2> /dev/null'
+# Sizes, permissions, owners and times.
+works '' 'echo hello > a && truncate -s 2 a && truncate -s 4 a'
+works '68 65 00 00' 'od -An -tx1 a | sed "s/^ *//;s/ *$//"'
+works '-rw------- 7 8' 'chmod 600 a && chown 7:8 a && stat -c "%A %u %g" a'
+works '1577836800 946684800' 'touch -m -d "2020-01-01 00:00:00" a && touch -a -d "2000-01-01 00:00:00" a && TZ=UTC stat -c "%Y %X" a'
+works 'now' 'touch a; d=$(( $(date +%s) - $(stat -c %Y a) )); [ "$d" -ge -1 ] && [ "$d" -le 5 ] && echo now'
+
+# Directories.
+works '' 'mkdir d d/e && echo in > d/f'
+works '3' 'stat -c %h d'
+works 'in' 'cat d/e/../f'
+fails 'Directory not empty' 'rmdir d'
+fails 'File exists' 'mkdir d'
+fails 'Not a directory' 'ls a/x'
+fails 'No such file or directory' 'cat d/x'
+fails 'File name too long' 'cat $(printf "%0256d" 0)'
+works '0' 'cat $(printf "%0255d" 0) 2> /dev/null; echo $(( $? - 1 ))'
+
+# Names: moved, replaced, a second one, a symbolic link.
+works '' 'mv d/f g && mv g d/e/h'
+works 'in' 'cat d/e/h'
+works '' 'echo one > x && echo two > y && mv -f x y'
+works 'one' 'cat y'
+fails '' 'mv d d/e/d'
+works '2' 'ln y z && stat -c %h y'
+works 'one' 'rm y && cat z'
+works 'd/e/h' 'ln -s d/e/h s && readlink s'
+works 'in' 'cat s'
+works '' 'rm s'
+works 'in' 'cat d/e/h'
+
+# A file that is open and has no name is there until it is closed.
+works 'late' 'exec 3<> z && rm z && echo late >&3 && exec 3>&- 3< /dev/null && echo late'
+fails 'No such file or directory' 'cat z'
+
+# Copied, and compared.
+works '' 'dd if=/dev/urandom of="$other/full" bs=4096 count=500 2> /dev/null'
 works '' 'cp "$other/full" full && cmp "$other/full" full'
-works '65536' 'stat -c %s full'
-# What stands behind 64 KiB is not taken, and the kernel says EIO of it.
-fails 'Input/output error' 'cat a >> full'
-works '' 'cmp "$other/full" full'
+works '2048000' 'stat -c %s full'
+works '' 'cp full "$other/back" && cmp "$other/full" "$other/back" && rm full'
 works '' 'sync'
+works '' 'mkdir t && cp -R d t/ && tar cf t.tar t && rm -r t && tar xf t.tar && diff -r d t/d'
+works '' 'rm -r t t.tar'
 
-works './a
-./b
-./c
-./full' 'find . -type f | sort'
-works './b' 'find . -name b'
-works '4' 'ls | wc -l'
+# A directory in several pieces, of which names go while it is read.
+works '' 'mkdir many && for i in $(seq 500); do echo $i > many/n$i || exit 1; done'
+works '500' 'ls many | wc -l'
+works '150' 'cat many/n150'
+works './d/e/h' 'find . -name h'
+works '' 'rm -r many'
 
-# Removed.
-works '' 'rm b c full'
-works 'a' 'ls'
-fails 'No such file or directory' 'cat b'
-fails 'No such file or directory' 'rm b'
+# A repository, where there is git.
+if command -v git > /dev/null; then
+    works '' 'git init -q "$other/from" && cd "$other/from" && seq 5000 > file && git add file &&
+        git -c user.name=n -c user.email=e commit -qm one'
+    works '' 'git clone -q "$other/from" clone && cd clone && git fsck 2> /dev/null'
+    works '' 'cd clone && git status --short && cmp file "$other/from/file"'
+    works '' 'rm -rf clone'
+fi
 
-# A folder in several pieces.
-works '' 'for i in $(seq 200); do echo $i > n$i || exit 1; done'
-works '201' 'ls | wc -l'
-works '150' 'cat n150'
-works '' 'rm n*'
-works 'a' 'ls'
-
-# What this file system does not do. Of a second name some kernels say EPERM.
-fails '' 'ln a h'
-fails 'Function not implemented' 'mkdir d'
-fails 'Function not implemented' 'ln -s a s'
-fails 'Function not implemented' 'mv a e'
-fails 'Function not implemented' 'chmod 600 a'
-fails 'Function not implemented' 'truncate -s 2 a'
-works 'Jello' 'cat a'
+# Nothing is left but what has a name.
+works 'a
+d' 'ls'
+works '' 'rm -r a d && ls'
 
 cd / || exit 2
 echo "$steps steps, $wrong wrong"

@@ -19,6 +19,7 @@
 #include <string.h>
 #include <sys/mount.h>
 #include <sys/signalfd.h>
+#include <time.h>
 #include <unistd.h>
 #include "nizwarf.h"
 
@@ -55,6 +56,7 @@ static enum outcome serve_one(int device, nizwarf_server *server)
 {
 	const ssize_t got = read(device, request, sizeof(request));
 	struct fuse_in_header asked;
+	struct timespec now;
 	size_t len;
 	int32_t code;
 
@@ -68,6 +70,9 @@ static enum outcome serve_one(int device, nizwarf_server *server)
 		return failed("read");
 	}
 	memcpy(&asked, request, sizeof(asked));
+
+	clock_gettime(CLOCK_REALTIME, &now);
+	nizwarf_tell_time(server, (uint64_t)now.tv_sec, (uint32_t)now.tv_nsec);
 
 	const nizwarf_segment segment = { request, (size_t)got };
 	const nizwarf_room whole = { room, sizeof(room) };

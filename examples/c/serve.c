@@ -1,4 +1,4 @@
-/* A transport in C: it answers one INIT and one LOOKUP that lie in memory, and checks the replies. A
+/* A transport in C: it answers an INIT, a MKDIR and a LOOKUP that lie in memory, and checks the replies. A
  * real one takes requests from a queue, and completes each with the length that it is told.
  *
  * tools/c-example.sh builds it and runs it. Status 0: all is as it should be. */
@@ -21,8 +21,14 @@ int main(void)
 		struct fuse_init_in body;
 	} init = { .header = { .len = sizeof(init), .opcode = FUSE_INIT, .unique = 1 },
 		   .body = { .major = 7, .minor = 38, .flags = FUSE_DO_READDIRPLUS } };
+	struct {
+		struct fuse_in_header header;
+		struct fuse_mkdir_in body;
+	} make = { .header = { .len = sizeof(make) + 2, .opcode = FUSE_MKDIR, .unique = 2,
+			       .nodeid = FUSE_ROOT_ID },
+		   .body = { .mode = 0755 } };
 	struct fuse_in_header lookup = { .len = sizeof(lookup) + 2, .opcode = FUSE_LOOKUP,
-					 .unique = 2, .nodeid = FUSE_ROOT_ID };
+					 .unique = 3, .nodeid = FUSE_ROOT_ID };
 	struct fuse_out_header header;
 	struct fuse_init_out agreed;
 	struct fuse_entry_out entry;
@@ -40,15 +46,23 @@ int main(void)
 	CHECK(header.len == len && header.error == 0 && header.unique == 1 && agreed.minor == 38);
 	CHECK(nizwarf_options(&server) == agreed.flags && agreed.max_write == 1 << 20);
 
-	/* LOOKUP of `a`, cut in its name. */
-	const nizwarf_segment name[] = { { &lookup, sizeof(lookup) }, { "a", 1 }, { "", 1 } };
+	/* MKDIR of `a`, at second 7. */
+	const nizwarf_segment made[] = { { &make, sizeof(make) }, { "a", 2 } };
 	const nizwarf_room found[] = { { &header, sizeof(header) }, { &entry, sizeof(entry) } };
 
-	CHECK(nizwarf_message(&server, name, 3, found, 2, &len) == NIZWARF_OK && len == 144);
+	CHECK(nizwarf_tell_time(&server, 7, 0) == NIZWARF_OK);
+	CHECK(nizwarf_message(&server, made, 2, found, 2, &len) == NIZWARF_OK && len == 144);
 	CHECK(header.len == len && header.error == 0 && header.unique == 2 && entry.nodeid == 2);
+	CHECK(entry.attr.mode == 040755 && entry.attr.mtime == 7);
+
+	/* LOOKUP of it, cut in its name; and with too small a room. */
+	const nizwarf_segment name[] = { { &lookup, sizeof(lookup) }, { "a", 1 }, { "", 1 } };
+
+	CHECK(nizwarf_message(&server, name, 3, found, 2, &len) == NIZWARF_OK && len == 144);
+	CHECK(header.len == len && header.error == 0 && header.unique == 3 && entry.nodeid == 2);
 	CHECK(nizwarf_message(&server, name, 3, found, 1, &len) == NIZWARF_ENCODE_MESSAGE && len == 0);
 	CHECK(header.len == 144 && nizwarf_message(NULL, name, 3, found, 2, &len) == NIZWARF_NULL);
 	CHECK(nizwarf_end(&server) == NIZWARF_OK && nizwarf_end(&server) == NIZWARF_NO_SERVER);
-	puts("INIT and LOOKUP were answered.");
+	puts("INIT, MKDIR and LOOKUP were answered.");
 	return 0;
 }

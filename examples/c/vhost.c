@@ -21,6 +21,7 @@
 #include <sys/socket.h>
 #include <sys/stat.h>
 #include <sys/un.h>
+#include <time.h>
 #include <unistd.h>
 #include "nizwarf.h"
 
@@ -203,6 +204,7 @@ static int take_chain(const struct queue *q, uint16_t head)
  * a reply, as FORGET, INTERRUPT and DESTROY. These are completed too, or the guest waits for ever. */
 static uint32_t answer(const struct queue *q, uint16_t head)
 {
+	struct timespec now;
 	size_t len = 0;
 
 	if (take_chain(q, head)) {
@@ -211,6 +213,9 @@ static uint32_t answer(const struct queue *q, uint16_t head)
 	}
 
 	const nizwarf_segment segment = { chain.request, chain.len };
+	clock_gettime(CLOCK_REALTIME, &now);
+	nizwarf_tell_time(&server, (uint64_t)now.tv_sec, (uint32_t)now.tv_nsec);
+
 	const int32_t code = nizwarf_message(&server, &segment, 1, chain.room, chain.rooms, &len);
 
 	outcomes[code >= 0 && code < OUTCOMES ? code : 0]++;

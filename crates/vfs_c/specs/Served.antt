@@ -3,7 +3,7 @@ use Rattle.std.specs.Prelude.{◌≡◌, ◌≤◌, ◌^◌, ◌⊎◌, ℕ, ℤ
 use Rattle.vfs_segments.specs.Written.{Written, whole}
 use Rattle.vfs_grammar.specs.declared.error.Error.{Error}
 use Rattle.vfs_server.specs.Step.{ServerState, IsStep, ReadsDirectories}
-use Rattle.vfs_c.specs.Files.{State, new_state, Allows, Gives}
+use Rattle.vfs_c.specs.Files.{State, new_state, told, Allows, Gives}
 use Rattle.vfs_c.specs.Codes.{no_memory, too_long, number_of, length_of, shown_of}
 
 -- a new server over a new file system: no options are agreed on
@@ -13,6 +13,11 @@ new_server page_size max_buffer = record {
   limits = record { page_size = page_size; max_buffer = max_buffer };
   fs = new_state;
 }
+
+-- a server over a file system that was told the time
+abbrev pub told_time : ServerState State → (seconds nanoseconds : ℕ) → ServerState State
+told_time server seconds nanoseconds =
+    record server { fs = told server.fs seconds nanoseconds }
 
 -- The server made a step, as the grammar says, with a writer that had so many bytes left; if a
 -- directory was read, it was read so. `room` has the bytes that the step left in their place, of

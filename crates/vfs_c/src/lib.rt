@@ -16,11 +16,11 @@ mod handle;
 mod session;
 
 ghost use Rattle.std.specs.Prelude.{◌≡◌, ◌≢◌, ◌≤◌, ◌<◌, ◌⊎◌, ◌++◌, length, take, drop, min, IfSome, MatchOption};
-ghost use Rattle.std.specs.declared.option.Option.TheVariants.{None};
+ghost use Rattle.std.specs.declared.option.Option.TheVariants.{None, Some};
 ghost use Rattle.vfs_flags.specs.declared.constants.TheConstants.{LEAST_MAX_BUFFER, GREATEST_MAX_BUFFER};
 ghost use Rattle.vfs_segments.specs.Segments.{segments_of, flat_bytes};
 ghost use Rattle.vfs_c.specs.Codes.{ok, no_memory, no_server, wrong_size};
-ghost use Rattle.vfs_c.specs.Served.{new_server, Served, part_from};
+ghost use Rattle.vfs_c.specs.Served.{new_server, told_time, Served, part_from};
 
 use crate::codes::{NO_SERVER, OK, OUT_OF_MEMORY, WRONG_SIZE};
 use crate::handle::Handle;
@@ -60,6 +60,27 @@ pub extern "C" fn nizwarf_new_at(
     };
     let _ = nizwarf_end_at(alloc, handle);
     handle.put(made);
+    OK
+}
+
+/// Tells the file system the time since 1970: what is made or changed from now on bears it. Answers 0, or
+/// 11 where the handle has no server.
+#[unsafe(no_mangle)]
+pub extern "C" fn nizwarf_tell_time_at(
+    alloc: Global,
+    handle: &mut Handle,
+    seconds: u64,
+    nanoseconds: u32,
+) -> i32
+    ensures none { handle.old.value ≡ None → (result ≡ no_server) × (handle.new.value ≡ None) }
+    ensures told { IfSome handle.old.value (λ s. (result ≡ ok)
+        × (handle.new.value ≡ Some (record s { server = told_time s.server seconds nanoseconds }))) }
+{
+    let Some(mut session) = handle.take(alloc) else {
+        return NO_SERVER;
+    };
+    session.tell_time(seconds, nanoseconds);
+    handle.put(session);
     OK
 }
 

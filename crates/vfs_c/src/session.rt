@@ -3,10 +3,10 @@
 ghost use Rattle.std.specs.Prelude.{◌≡◌, ◌≤◌, ◌-◌, ◌++◌, ◌∷◌, [], length, take, drop, min, vec_len, IfSome};
 ghost use Rattle.vfs_flags.specs.declared.constants.TheConstants.{LEAST_MAX_BUFFER, GREATEST_MAX_BUFFER};
 ghost use Rattle.vfs_segments.specs.Segments.{segments_of, contents, flat_bytes, lengths_of};
-ghost use Rattle.vfs_c.specs.Served.{new_server, Served, part_from};
+ghost use Rattle.vfs_c.specs.Served.{new_server, told_time, Served, part_from};
 
 use crate::codes::{OK, OUT_OF_MEMORY, TOO_LONG, told};
-use crate::files::{Files, new_files};
+use crate::files::{Files, new_files, tell_time};
 use std::alloc::Global;
 use std::mem;
 use vfs_segments::{Reader, Writer};
@@ -43,6 +43,13 @@ impl Session {
             shown: 0,
             list: Vec::new(alloc),
         })
+    }
+
+    /// Tells the file system the time.
+    pub fn tell_time(&mut self, seconds: u64, nanoseconds: u32)
+        ensures { self.new ≡ record self.old { server = told_time self.old.server seconds nanoseconds } }
+    {
+        tell_time(self.server.fs_mut(), seconds, nanoseconds);
     }
 
     /// Answers the request in these segments, with `total` bytes of room: the outcome's number, and
