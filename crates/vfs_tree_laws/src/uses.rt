@@ -1,0 +1,249 @@
+//! Small callers, as examples: what comes of a few calls of a new tree, by the relation alone.
+
+ghost use Rattle.std.specs.Prelude.{◌≡◌, codes, true, Err, Some, IfOk, IfSome};
+ghost use Rattle.vfs_flags.specs.Errors.{enoent, eisdir};
+ghost use Rattle.vfs_files.specs.Answers.{Count, value_or_count};
+ghost use Rattle.vfs_tree.specs.Tree.{dot_items};
+ghost use Rattle.vfs_tree_laws.specs.Samples.{small_tree};
+
+use bitflags::Flags;
+use std::alloc::Global;
+use vfs_files::{CStr, Context, Entry, Extensions, FileSystem, GetxattrReply};
+use vfs_flags::{Fault, GuestGid, GuestUid, SetattrValid, SetxattrFlags};
+use vfs_tree::{Limits, Listing, Time, TreeFs};
+use vfs_wire::SetattrIn;
+
+/// A new tree of at most a hundred nodes and a thousand bytes. `None` where there is no memory.
+fn new_tree(alloc: Global) -> Option<TreeFs>
+    ensures { IfSome result (λ tree. tree ≡ small_tree) }
+{
+    let limits = Limits {
+        nodes: 100,
+        bytes: 1000,
+        file: 1000,
+    };
+    let now = Time {
+        seconds: 7,
+        nanoseconds: 0,
+    };
+    TreeFs::new(alloc, GuestUid::from(0), GuestGid::from(0), limits, now).ok()
+}
+
+/// Of a new tree no name leads anywhere.
+fn nothing_is_there(tree: &mut TreeFs, ctx: Context) -> Result<Entry, Fault>
+    requires { tree.old ≡ small_tree }
+    ensures answer { result ≡ Err (Some enoent) }
+    ensures same { tree.new ≡ tree.old }
+{
+    tree.lookup(ctx, 1, CStr::before_nul(b"d\0", 1))
+}
+
+/// A first directory is node 2, and has two links.
+fn first_directory(tree: &mut TreeFs, ctx: Context) -> Result<Entry, Fault>
+    requires { tree.old ≡ small_tree }
+    ensures node { IfOk result (λ entry. entry.inode ≡ 2) }
+    ensures mode { IfOk result (λ entry. entry.attr.mode ≡ 0o40755) }
+    ensures links { IfOk result (λ entry. entry.attr.nlink ≡ 2) }
+    ensures time { IfOk result (λ entry. entry.attr.mtime ≡ 7) }
+{
+    let plain = Extensions {
+        secctx: None,
+        sup_gid: None,
+    };
+    tree.mkdir(ctx, 1, CStr::before_nul(b"d\0", 1), 0o755, 0, plain)
+}
+
+/// The caller of user and group 0.
+fn root() -> Context {
+    Context {
+        uid: GuestUid::from(0),
+        gid: GuestGid::from(0),
+        pid: 1,
+    }
+}
+
+/// What is made is found, by its number.
+fn made_and_found(tree: &mut TreeFs) -> Result<Entry, Fault>
+    requires { tree.old ≡ small_tree }
+    ensures { IfOk result (λ entry. entry.inode ≡ 2) }
+{
+    let none = Extensions {
+        secctx: None,
+        sup_gid: None,
+    };
+    tree.mkdir(root(), 1, CStr::before_nul(b"d\0", 1), 0o755, 0, none)?;
+    tree.lookup(root(), 1, CStr::before_nul(b"d\0", 1))
+}
+
+/// A name is not given twice: `Ok` only where there was no memory for the first.
+fn made_twice(tree: &mut TreeFs) -> Result<Entry, Fault>
+    requires { tree.old ≡ small_tree }
+    ensures { IfOk result (λ entry. ⊥) }
+{
+    let first = Extensions {
+        secctx: None,
+        sup_gid: None,
+    };
+    let second = Extensions {
+        secctx: None,
+        sup_gid: None,
+    };
+    tree.mkdir(root(), 1, CStr::before_nul(b"d\0", 1), 0o755, 0, first)?;
+    tree.mkdir(root(), 1, CStr::before_nul(b"d\0", 1), 0o755, 0, second)
+}
+
+/// A directory is no file.
+fn directory_is_no_file(tree: &mut TreeFs) -> Option<Fault>
+    requires { tree.old ≡ small_tree }
+    ensures { IfSome result (λ fault. fault ≡ Some eisdir) }
+{
+    let none = Extensions {
+        secctx: None,
+        sup_gid: None,
+    };
+    tree.mkdir(root(), 1, CStr::before_nul(b"d\0", 1), 0o755, 0, none)
+        .ok()?;
+    tree.unlink(root(), 1, CStr::before_nul(b"d\0", 1)).err()
+}
+
+/// A directory that was taken out is gone once its lookup is given back.
+fn taken_out_and_forgotten(tree: &mut TreeFs) -> Option<bool>
+    requires { tree.old ≡ small_tree }
+    ensures { IfSome result (λ gone. gone ≡ true) }
+{
+    let none = Extensions {
+        secctx: None,
+        sup_gid: None,
+    };
+    tree.mkdir(root(), 1, CStr::before_nul(b"d\0", 1), 0o755, 0, none)
+        .ok()?;
+    tree.rmdir(root(), 1, CStr::before_nul(b"d\0", 1)).ok()?;
+    tree.forget(root(), 2, 1);
+    Some(tree.getattr(root(), 2, None).is_err())
+}
+
+/// A second name of a file.
+fn second_name(tree: &mut TreeFs) -> Result<Entry, Fault>
+    requires { tree.old ≡ small_tree }
+    ensures { IfOk result (λ entry. entry.attr.nlink ≡ 2) }
+{
+    let none = Extensions {
+        secctx: None,
+        sup_gid: None,
+    };
+    tree.create(
+        root(),
+        1,
+        CStr::before_nul(b"f\0", 1),
+        0o644,
+        false,
+        0,
+        0,
+        none,
+    )?;
+    tree.link(root(), 2, 1, CStr::before_nul(b"g\0", 1))
+}
+
+/// Under its old name a directory that was moved is not found.
+fn moved(tree: &mut TreeFs) -> Result<Entry, Fault>
+    requires { tree.old ≡ small_tree }
+    ensures { IfOk result (λ entry. ⊥) }
+{
+    let none = Extensions {
+        secctx: None,
+        sup_gid: None,
+    };
+    tree.mkdir(root(), 1, CStr::before_nul(b"d\0", 1), 0o755, 0, none)?;
+    tree.rename(
+        root(),
+        1,
+        CStr::before_nul(b"d\0", 1),
+        1,
+        CStr::before_nul(b"e\0", 1),
+        0,
+    )?;
+    tree.lookup(root(), 1, CStr::before_nul(b"d\0", 1))
+}
+
+/// Of a new tree 99 nodes are free.
+fn free_nodes(tree: &mut TreeFs) -> u64
+    requires { tree.old ≡ small_tree }
+    ensures { result ≡ 99 }
+{
+    match tree.statfs(root(), 1) {
+        Ok(statistics) => statistics.f_ffree,
+        Err(_) => 99,
+    }
+}
+
+/// A file that was cut to ten bytes has ten.
+fn ten_bytes(tree: &mut TreeFs) -> Option<u64>
+    requires { tree.old ≡ small_tree }
+    ensures { IfSome result (λ size. size ≡ 10) }
+{
+    let none = Extensions {
+        secctx: None,
+        sup_gid: None,
+    };
+    let name = CStr::before_nul(b"f\0", 1);
+    tree.create(root(), 1, name, 0o644, false, 0, 0, none).ok()?;
+    let wanted = SetattrIn {
+        size: 10,
+        ..SetattrIn::default()
+    };
+    tree.setattr(root(), 2, wanted, None, SetattrValid::SIZE)
+        .ok()?;
+    let (attr, _) = tree.getattr(root(), 2, None).ok()?;
+    Some(attr.size)
+}
+
+/// A symbolic link has its text.
+fn text_of_a_link(tree: &mut TreeFs) -> Option<Vec<u8>>
+    requires { tree.old ≡ small_tree }
+    ensures { IfSome result (λ text. text.items ≡ codes "to") }
+{
+    let none = Extensions {
+        secctx: None,
+        sup_gid: None,
+    };
+    let text = CStr::before_nul(b"to\0", 2);
+    tree.symlink(root(), text, 1, CStr::before_nul(b"l\0", 1), none)
+        .ok()?;
+    tree.readlink(root(), 2).ok()
+}
+
+/// A file whose name was taken out is there, without a link, while its lookup is held.
+fn held_without_a_name(tree: &mut TreeFs) -> Option<u32>
+    requires { tree.old ≡ small_tree }
+    ensures { IfSome result (λ links. links ≡ 0) }
+{
+    let none = Extensions {
+        secctx: None,
+        sup_gid: None,
+    };
+    let name = CStr::before_nul(b"f\0", 1);
+    tree.create(root(), 1, name, 0o644, false, 0, 0, none).ok()?;
+    tree.unlink(root(), 1, CStr::before_nul(b"f\0", 1)).ok()?;
+    let (attr, _) = tree.getattr(root(), 2, None).ok()?;
+    Some(attr.nlink)
+}
+
+/// The value of an extended attribute of the root.
+fn value_of_an_attribute(tree: &mut TreeFs) -> Option<GetxattrReply>
+    requires { tree.old ≡ small_tree }
+    ensures { IfSome result (λ reply. value_or_count reply ≡ Count 2) }
+{
+    let none = SetxattrFlags::empty();
+    tree.setxattr(root(), 1, CStr::before_nul(b"user.a\0", 6), b"on", 0, none)
+        .ok()?;
+    tree.getxattr(root(), 1, CStr::before_nul(b"user.a\0", 6), 0)
+        .ok()
+}
+
+/// What is read of a new tree's root: itself, twice.
+fn root_is_read(tree: &mut TreeFs) -> Option<Listing>
+    requires { tree.old ≡ small_tree }
+    ensures { IfSome result (λ items. items ≡ dot_items 1 1) }
+{
+    tree.readdir(root(), 1, 0, 4096, 0).ok()
+}
