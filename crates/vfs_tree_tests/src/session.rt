@@ -1,4 +1,5 @@
-//! A person's session with a tree: messages, and what is replied to them.
+//! A person's session with a tree: messages, and what is replied to them. It is in parts, since a table is
+//! gone through whole where it is named.
 
 use crate::support::Message;
 
@@ -14,8 +15,8 @@ pub struct Step {
     pub says: &'static [(usize, &'static [u8])],
 }
 
-/// The session, with a tree of at most 64 nodes and 103 bytes, 64 in a file, at second 7.
-pub static STEPS: [Step; 87] = [
+/// A directory, and a file in it that is written and read.
+pub static FIRST: [Step; 15] = [
     // A new root.
     Step {
         why: "a new root",
@@ -174,6 +175,10 @@ pub static STEPS: [Step; 87] = [
         length: 25,
         says: &[(16, b"hello\0\0\0!")],
     },
+];
+
+/// Its length, permissions and times.
+pub static SECOND: [Step; 15] = [
     // Its length and blocks.
     Step {
         why: "its length and blocks",
@@ -338,6 +343,10 @@ pub static STEPS: [Step; 87] = [
         length: 16,
         says: &[],
     },
+];
+
+/// A link, a second name, other nodes; readings; names that move.
+pub static THIRD: [Step; 15] = [
     // A symbolic link.
     Step {
         why: "a symbolic link",
@@ -487,6 +496,10 @@ pub static STEPS: [Step; 87] = [
         length: 16,
         says: &[],
     },
+];
+
+/// Names that are exchanged, and directories that move.
+pub static FOURTH: [Step; 15] = [
     // In exchange.
     Step {
         why: "in exchange",
@@ -618,6 +631,10 @@ pub static STEPS: [Step; 87] = [
         length: 16,
         says: &[],
     },
+];
+
+/// Extended attributes; names that go.
+pub static FIFTH: [Step; 15] = [
     // Another is not.
     Step {
         why: "another is not",
@@ -746,6 +763,10 @@ pub static STEPS: [Step; 87] = [
         length: 16,
         says: &[],
     },
+];
+
+/// What is full, and what is gone.
+pub static SIXTH: [Step; 12] = [
     // As much as a file has at most.
     Step {
         why: "as much as a file has at most",

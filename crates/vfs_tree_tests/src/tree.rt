@@ -1,6 +1,6 @@
 //! What a person does with a tree.
 
-use crate::session::{STEPS, Step};
+use crate::session::{FIFTH, FIRST, FOURTH, SECOND, SIXTH, Step, THIRD};
 use crate::support::{reply, server_over};
 use std::alloc::Global;
 use std::test::Fail;
@@ -30,13 +30,43 @@ fn is_replied(alloc: Global, server: &mut Server<TreeFs>, step: &Step) -> Result
 }
 
 /// The first step that is replied to otherwise.
-fn first_wrong(alloc: Global, server: &mut Server<TreeFs>) -> Result<Option<&'static str>, Fail> {
-    for step in &STEPS {
+fn first_wrong(
+    alloc: Global,
+    server: &mut Server<TreeFs>,
+    steps: &[Step],
+) -> Result<Option<&'static str>, Fail> {
+    for step in steps {
         if !is_replied(alloc, server, step)? {
             return Ok(Some(step.why));
         }
     }
     Ok(None)
+}
+
+/// Whether the first parts of the session are replied to so.
+fn begins(alloc: Global, server: &mut Server<TreeFs>) -> Result<Option<&'static str>, Fail> {
+    let wrong = first_wrong(alloc, server, &FIRST)?;
+    if wrong.is_some() {
+        return Ok(wrong);
+    }
+    let wrong = first_wrong(alloc, server, &SECOND)?;
+    if wrong.is_some() {
+        return Ok(wrong);
+    }
+    first_wrong(alloc, server, &THIRD)
+}
+
+/// Whether the others are.
+fn goes_on(alloc: Global, server: &mut Server<TreeFs>) -> Result<Option<&'static str>, Fail> {
+    let wrong = first_wrong(alloc, server, &FOURTH)?;
+    if wrong.is_some() {
+        return Ok(wrong);
+    }
+    let wrong = first_wrong(alloc, server, &FIFTH)?;
+    if wrong.is_some() {
+        return Ok(wrong);
+    }
+    first_wrong(alloc, server, &SIXTH)
 }
 
 #[test]
@@ -47,6 +77,7 @@ fn a_person_has_a_session(rt: HostRuntime) -> Result<(), Fail> {
         file: 64,
     };
     let mut server = server_over(rt.alloc(), limits)?;
-    assert_eq!(rt; first_wrong(rt.alloc(), &mut server)?, None);
+    assert_eq!(rt; begins(rt.alloc(), &mut server)?, None);
+    assert_eq!(rt; goes_on(rt.alloc(), &mut server)?, None);
     Ok(())
 }
