@@ -1,6 +1,7 @@
 //! What a person does with a tree.
 
-use crate::session::{FIFTH, FIRST, FOURTH, SECOND, SIXTH, Step, THIRD};
+use crate::session::rest::{FIFTH, FOURTH, SIXTH};
+use crate::session::{FIRST, SECOND, Step, THIRD};
 use crate::support::{reply, server_over};
 use std::alloc::Global;
 use std::test::Fail;
