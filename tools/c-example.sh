@@ -1,6 +1,6 @@
 #!/usr/bin/env bash
 # Compiles examples/c/serve.c against include/nizwarf.h, links the library for C, and runs it: it answers
-# an INIT and a LOOKUP, and checks the replies. Then tools/c-example.c holds the library against what the
+# an INIT, a MKDIR and a LOOKUP, and checks the replies. Then tools/c-example.c holds the library against what the
 # header says, also where each allocation is refused in turn, and under the sanitizers of the compiler, if
 # it has them. Last, all names that the library defines begin with `nizwarf_`.
 #

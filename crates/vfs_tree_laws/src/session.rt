@@ -16,10 +16,10 @@ use vfs_tree::TreeFs;
 
 /// Handles requests in order, as [`Server::handle_session`] does, with a tree.
 ///
-/// A tree stays one, whatever the client asks. Of each node the lookups that are held afterwards are those that were held,
-/// with those that were delivered to the client and without those that it gave back, if it never gave back
-/// more than it had. So a client that gives back all that it had leaves no node but those that names lead
-/// to.
+/// A tree stays one, whatever the client asks. Of each node the lookups that are held afterwards are
+/// those that were held, with those that were delivered to the client and without those that it gave
+/// back, if it never gave back more than it had. So a client that gives back all that it had leaves no
+/// node but those that names lead to.
 pub fn handle_session(
     server: &mut Server<TreeFs>,
     alloc: Global,
