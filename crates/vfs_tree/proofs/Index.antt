@@ -8,7 +8,8 @@ use Rattle.std.specs.BTreeMap.{insert_entry, is_at}
 use Rattle.std.specs.List.{AllByRecursion}
 use Rattle.std.proofs.lemmas.Bool.{cases_Bool, cond-true, cond-false, not_from_true, not_from_false}
 use Rattle.std.proofs.lemmas.Option.{none-some, same_Some}
-use Rattle.vfs_tree.specs.Children.{Link, is_named, is_directory, directories_of, IsBehind, AreInOrder, relinked}
+use Rattle.vfs_tree.specs.Children.{Link, is_named, is_directory, directories_of, relinked}
+use Rattle.vfs_tree.specs.Index.{IsBehind, AreInOrder}
 use Rattle.vfs_tree.specs.declared.children.Child.{Child}
 use Rattle.vfs_tree.proofs.Finds.{every_push, every_filter, every_map, every_weaker, every_found, found_here, found_later, none_passes, filter_all, map_all}
 use Rattle.vfs_tree.proofs.Places.{same_name, turned_name, relinked_place, relinked_name}

@@ -4,7 +4,8 @@ use Rattle.std.specs.Cmp.Lexicographic.{slice_cmp}
 use Rattle.std.specs.Map.{lookup, remove_entry, set_value}
 use Rattle.std.specs.BTreeMap.{UpdatesBy, insert_entry, is_at}
 use Rattle.std.proofs.lemmas.Option.{none-some, same_Some}
-use Rattle.vfs_tree.specs.Children.{Link, AreIndexed, is_named, place_of, directories_of, relinked}
+use Rattle.vfs_tree.specs.Children.{Link, is_named, directories_of, relinked}
+use Rattle.vfs_tree.specs.Index.{AreIndexed, place_of}
 use Rattle.vfs_tree.specs.declared.children.Child.{Child}
 use Rattle.vfs_tree.proofs.Finds.{every_filter}
 use Rattle.vfs_tree.proofs.Index.{inserted_last, removed_last, found_by_place, removed_by_place, set_by_place, order_added, order_filtered, order_relinked, before_added, before_relinked, fewer_links, one_for, one_at_most, directories_some, directories_added, directories_removed, directories_set}

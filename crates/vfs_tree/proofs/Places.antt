@@ -6,7 +6,8 @@ use Rattle.std.specs.Map.{lookup, KeepsOthers}
 use Rattle.std.specs.BTreeMap.{UpdatesBy}
 use Rattle.std.proofs.lemmas.Bool.{cases_Bool}
 use Rattle.std.proofs.lemmas.Map.Text.{is_eq-slice_cmp}
-use Rattle.vfs_tree.specs.Children.{Link, is_named, place_of, place_named, relinked}
+use Rattle.vfs_tree.specs.Children.{Link, is_named, relinked}
+use Rattle.vfs_tree.specs.Index.{place_of, place_named}
 use Rattle.vfs_tree.specs.declared.children.Child.{Child}
 use Rattle.vfs_tree.proofs.Finds.{find_pushed, find_push_other, find_filtered, find_filter_other, find_map}
 

@@ -9,9 +9,10 @@ use Rattle.vfs_files.specs.Bytes.{fitting, written}
 use Rattle.vfs_files.specs.WritingLaws.{length-Writes}
 use Rattle.vfs_tree.specs.Bytes.{resized}
 use Rattle.vfs_tree.specs.Node.{weight}
-use Rattle.vfs_tree.specs.Rename.{or_else}
+use Rattle.vfs_tree.specs.Outcome.{or_else, refusal_of}
 use Rattle.vfs_tree.specs.State.{State, node_at, room_of}
-use Rattle.vfs_tree.specs.Tree.{setattr_refusal, size_refusal, resize_refusal, contents_refusal, set_attr, overwritten, most_size, Overwrites}
+use Rattle.vfs_tree.specs.Tree.{setattr_refusal, size_refusal, contents_refusal, set_attr, overwritten, most_size}
+use Rattle.vfs_tree.specs.Writing.{Overwrites}
 use Rattle.vfs_tree.specs.declared.node.Node.{Node}
 use Rattle.vfs_tree.specs.declared.node.Time.{Time}
 use Rattle.vfs_tree.specs.Xattrs.{Xattr, bytes_of, is_called, xattr_bytes, without_place, without_xattr}
@@ -62,15 +63,16 @@ size_fits : (most room : ℕ) (node : Node) (size : ℕ) → size_refusal most r
     → size - length node.contents ≤ room
 size_fits most room node size free = grind (arith, nat_tests)
 
-resize_fits : (s : State) (node : Node) (size : ℕ) → resize_refusal s (Some node) size ≡ None
+resize_fits : (s : State) (node : Node) (size : ℕ)
+    → or_else (contents_refusal node) (size_refusal s.limits.file (room_of s) node size) ≡ None
     → size - length node.contents ≤ room_of s
 resize_fits s node size free =
     size_fits s.limits.file (room_of s) node size
-    (none_after (contents_refusal (Some node)) (size_refusal s.limits.file (room_of s) node size) free)
+    (none_after (contents_refusal node) (size_refusal s.limits.file (room_of s) node size) free)
 
 -- so does a node whose attributes are set
 pub set_attr_fits : (s : State) (n : ℕ) (node : Node) (attr : SetattrIn) (valid : ℕ)
-    → node_at s n ≡ Some node → setattr_refusal s (node_at s n) attr valid ≡ None
+    → node_at s n ≡ Some node → refusal_of (node_at s n) (setattr_refusal s attr valid) ≡ None
     → weight (set_attr s.now node attr valid) - weight node ≤ room_of s
 set_attr_fits s n node attr valid is free =
     let fits : (bit_and valid 8 == 8) ≡ true → attr.size - length node.contents ≤ room_of s = λ cut.

@@ -1,10 +1,6 @@
 -- What a directory holds: names in order of their places, and where each of them leads.
-use Rattle.std.specs.Prelude.{◌≡◌, ℕ, ◌+◌, ◌<◌, Bool, true, false, not, ⊤, List, [], ◌∷◌, ◌++◌, length, map, Option, option_map, find, if◌then◌else◌, Vec}
-use Rattle.std.specs.List.{filter, AllByRecursion}
-use Rattle.std.specs.Ordering.{nat_cmp}
-use Rattle.std.specs.Cmp.Lexicographic.{slice_cmp}
-use Rattle.std.specs.BTreeMap.{BTreeMap, get_by}
-use Rattle.std.specs.declared.alloc.Global.{Global}
+use Rattle.std.specs.Prelude.{ℕ, ◌+◌, Bool, true, false, not, List, [], ◌∷◌, ◌++◌, length, map, Option, option_map, find, if◌then◌else◌}
+use Rattle.std.specs.List.{filter}
 use Rattle.std.specs.Str.{bytes_eq}
 use Rattle.vfs_tree.specs.declared.children.Child.{Child}
 use Rattle.vfs_tree.specs.declared.kind.Kind.{Kind}
@@ -51,33 +47,6 @@ directories_of links = length (filter (λ link. is_directory link.1.child.kind) 
 
 abbrev pub directories_in : Children → ℕ
 directories_in children = directories_of children.links
-
--- the place of a name
-abbrev pub place_named : List (ℕ × Link) → (name : List ℕ) → Option ℕ
-place_named links name = option_map (λ link. link.0) (find (is_named name) links)
-
--- the place that the index has for a name
-abbrev pub place_of : BTreeMap (Vec ℕ Global) ℕ → (name : List ℕ) → Option ℕ
-place_of places name = get_by (λ key. slice_cmp nat_cmp name key.items) places
-
--- a link that lies behind a place and has another name
-abbrev pub IsBehind : (place : ℕ) → (name : List ℕ) → (ℕ × Link) → Type 0
-IsBehind place name link = (place < link.0) × (is_named name link ≡ false)
-
--- links in order of their places, and no name twice
-abbrev pub AreInOrder : List (ℕ × Link) → Type 0
-AreInOrder [] = ⊤
-AreInOrder (link ∷ links) = AllByRecursion (IsBehind link.0 link.1.name) links × AreInOrder links
-
--- what holds of the links and the index of a directory: the places are in order and before that of
--- the next name, the index has each name that is there and no other, and directories are counted
-pub record AreIndexed
-    (links : List (ℕ × Link)) (places : BTreeMap (Vec ℕ Global) ℕ) (next directories : ℕ)
-    : Type 0 where
-  pub order : AreInOrder links
-  pub before : AllByRecursion (λ link. link.0 < next) links
-  pub index : (name : List ℕ) → place_of places name ≡ place_named links name
-  pub count : directories ≡ directories_of links
 
 -- with one name more, behind the others
 abbrev pub with_child : Children → (name : List ℕ) → Child → Children

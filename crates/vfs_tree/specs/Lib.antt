@@ -1,8 +1,11 @@
 pub mod Bytes
 pub mod Children
+pub mod Index
 pub mod Listing
 pub mod Node
+pub mod Outcome
 pub mod Rename
 pub mod State
 pub mod Tree
+pub mod Writing
 pub mod Xattrs

@@ -1,35 +1,13 @@
--- Refusals, and what RENAME does, in steps, each from the state that the one before it left: so the two
--- directories may be one.
+-- What RENAME does, in steps, each from the state that the one before it left: so the two directories may
+-- be one.
 use Rattle.std.specs.Prelude.{◌≡◌, ℕ, zero, suc, ◌^◌, ◌-◌, ◌==◌, ◌&&◌, ◌||◌, nat_lt, not, Bool, true, false, List, [], ◌∷◌, length, Option, Some, None, is_some, is_none, if◌then◌else◌}
-use Rattle.vfs_flags.specs.Errors.{enoent, enomem, eexist, enotdir, eisdir, enospc, enotempty, einval}
-use Rattle.vfs_files.specs.Calls.{Answer, Done, Failed}
+use Rattle.vfs_flags.specs.Errors.{enoent, eexist, enotdir, eisdir, enospc, enotempty, einval}
 use Rattle.vfs_tree.specs.Children.{is_directory, with_child, without_child, with_other_child}
+use Rattle.vfs_files.specs.Calls.{Done}
+use Rattle.vfs_tree.specs.Outcome.{Just, Outcome, Tried, first_of, or_else, unless}
 use Rattle.vfs_tree.specs.State.{State, node_at, count_of, change, with_names, unnamed, child_at, node_of}
 use Rattle.vfs_tree.specs.declared.children.Child.{Child}
 use Rattle.vfs_tree.specs.declared.node.Node.{Node}
-
--- ---- refusals
-
--- the error of the first line that holds
-abbrev pub first_of : List (Bool × ℕ) → Option ℕ
-first_of [] = None
-first_of (r ∷ rs) = if r.0 then Some r.1 else first_of rs
-
--- the first error, if there is one, and else the second
-abbrev pub or_else : Option ℕ → Option ℕ → Option ℕ
-or_else (Some error) more = Some error
-or_else None more = more
-
--- refused with this error, and nothing is changed; or, where there is none, done
-abbrev pub Unless : Option ℕ → State → Answer → State → Type 0 → Type 0
-Unless (Some error) old answer new does = (answer ≡ Failed (Some error)) × (new ≡ old)
-Unless None old answer new does = does
-
--- done, and the state is this; or there was no memory, and nothing is changed
-abbrev pub Does : State → State → Answer → State → Type 0
-Does old done Done new = new ≡ done
-Does old done (Failed fault) new = (fault ≡ Some enomem) × (new ≡ old)
-Does old done _ new = ⊥
 
 -- names have at most 255 bytes
 abbrev pub enametoolong : ℕ
@@ -50,17 +28,10 @@ abbrev pub is_nameless : Option Node → Bool
 is_nameless None = true
 is_nameless (Some node) = node.names == 0
 
--- whether a node holds no names
-abbrev pub is_empty : Option Node → Bool
-is_empty None = true
-is_empty (Some node) = length node.children.links == 0
-
 -- whether a directory has no place for a further name
 abbrev pub is_crowded : Option Node → Bool
 is_crowded None = false
 is_crowded (Some node) = not (nat_lt node.children.next (2 ^ 64 - 1))
-
--- ---- RENAME
 
 abbrev pub parent_of : Option Node → ℕ
 parent_of None = 1
@@ -68,7 +39,7 @@ parent_of (Some node) = node.parent
 
 -- whether a directory is this node or lies below it, looked for so many steps up: a way that is longer
 -- than there are nodes counts for one
-abbrev pub is_below : State → (steps : ℕ) → (number : ℕ) → (directory : ℕ) → Bool
+abbrev pub is_below : State → (steps number directory : ℕ) → Bool
 is_below s zero n directory = true
 is_below s (suc k) n directory =
     directory == n || (not (directory == 1) && is_below s k n (parent_of (node_at s directory)))
@@ -93,8 +64,7 @@ replace_refusal moved (Some target) =
     ∷ (not (length target.children.links == 0), enotempty) ∷ [])
 
 -- what RENAME asks of two names; flags are 0, 1 (RENAME_NOREPLACE) or 2 (RENAME_EXCHANGE)
-abbrev pub names_refusal :
-    State → (olddir newdir : ℕ) → (flags : ℕ) → (moved target : Option Child) → Option ℕ
+abbrev pub names_refusal : State → (od nd flags : ℕ) → (moved target : Option Child) → Option ℕ
 names_refusal s od nd flags moved target =
     first_of ((nat_lt 2 flags, einval)
     ∷ (is_none (node_of s moved), enoent)
@@ -105,66 +75,57 @@ names_refusal s od nd flags moved target =
     ∷ (flags == 2 && is_own_child s target od, einval) ∷ [])
 
 -- and of the node that it takes the place of, or of the place of a free name
-abbrev pub place_refusal :
-    State → (newdir : ℕ) → (flags : ℕ) → (moved target : Option Child) → Option ℕ
+abbrev pub place_refusal : State → (nd flags : ℕ) → (moved target : Option Child) → Option ℕ
 place_refusal s nd flags moved None = first_of ((is_crowded (node_at s nd), enospc) ∷ [])
 place_refusal s nd flags moved (Some target) =
     if flags == 2 || same_node moved (Some target) then None
     else replace_refusal (node_of s moved) (node_of s (Some target))
-
--- why RENAME is refused
-abbrev pub rename_refusal :
-    State → (olddir : ℕ) → (oldname : List ℕ) → (newdir : ℕ) → (newname : List ℕ) → (flags : ℕ)
-    → Option ℕ
-rename_refusal s od on nd nn flags =
-    or_else (directory_refusal (node_at s od) on)
-    (or_else (directory_refusal (node_at s nd) nn)
-    (or_else (names_refusal s od nd flags (child_at s od on) (child_at s nd nn))
-    (place_refusal s nd flags (child_at s od on) (child_at s nd nn))))
 
 -- a node lies in this directory
 abbrev pub moved_into : State → (number directory : ℕ) → State
 moved_into s n directory =
     change s n (λ node. record node { parent = directory; ctime = s.now })
 
--- a free name leads to a node that another name led to
-abbrev pub moved_to_free :
-    State → (olddir : ℕ) → (oldname : List ℕ) → (newdir : ℕ) → (newname : List ℕ) → Child → State
-moved_to_free s od on nd nn child =
-    let named = with_names s nd (λ c. with_child c nn child) in
-    moved_into (with_names named od (λ c. without_child c on)) child.node nd
+-- from a name of one directory to a name of another
+module _ (s : State) (od : ℕ) (on : List ℕ) (nd : ℕ) (nn : List ℕ) where
+  -- why RENAME is refused
+  abbrev pub rename_refusal : (flags : ℕ) → Option ℕ
+  rename_refusal flags =
+      or_else (directory_refusal (node_at s od) on)
+      (or_else (directory_refusal (node_at s nd) nn)
+      (or_else (names_refusal s od nd flags (child_at s od on) (child_at s nd nn))
+      (place_refusal s nd flags (child_at s od on) (child_at s nd nn))))
 
--- a name leads to a node that another name led to, and its own has one name less
-abbrev pub moved_over :
-    State → (olddir : ℕ) → (oldname : List ℕ) → (newdir : ℕ) → (newname : List ℕ)
-    → (child target : Child) → State
-moved_over s od on nd nn child target =
-    let named = with_names s nd (λ c. with_other_child c nn child) in
-    let moved = moved_into (with_names named od (λ c. without_child c on)) child.node nd in
-    unnamed moved target.node (node_at moved target.node)
+  -- a free name leads to a node that another name led to
+  abbrev pub moved_to_free : Child → State
+  moved_to_free child =
+      let named = with_names s nd (λ c. with_child c nn child) in
+      moved_into (with_names named od (λ c. without_child c on)) child.node nd
 
--- each of two names leads where the other did
-abbrev pub exchanged :
-    State → (olddir : ℕ) → (oldname : List ℕ) → (newdir : ℕ) → (newname : List ℕ)
-    → (child target : Child) → State
-exchanged s od on nd nn child target =
-    let named = with_names s nd (λ c. with_other_child c nn child) in
-    moved_into (moved_into (with_names named od (λ c. with_other_child c on target)) child.node nd)
-    target.node od
+  -- a name leads to a node that another name led to, and its own has one name less
+  abbrev pub moved_over : (child target : Child) → State
+  moved_over child target =
+      let named = with_names s nd (λ c. with_other_child c nn child) in
+      let moved = moved_into (with_names named od (λ c. without_child c on)) child.node nd in
+      unnamed moved target.node (node_at moved target.node)
 
--- the state after RENAME; where both names lead to one node there is nothing to do
-abbrev pub renamed_to :
-    State → (olddir : ℕ) → (oldname : List ℕ) → (newdir : ℕ) → (newname : List ℕ) → (flags : ℕ)
-    → (moved target : Option Child) → State
-renamed_to s od on nd nn flags None target = s
-renamed_to s od on nd nn flags (Some child) None = moved_to_free s od on nd nn child
-renamed_to s od on nd nn flags (Some child) (Some target) =
-    if child.node == target.node then s
-    else if flags == 2 then exchanged s od on nd nn child target
-    else moved_over s od on nd nn child target
+  -- each of two names leads where the other did
+  abbrev pub exchanged : (child target : Child) → State
+  exchanged child target =
+      let named = with_names s nd (λ c. with_other_child c nn child) in
+      moved_into (moved_into (with_names named od (λ c. with_other_child c on target)) child.node nd)
+      target.node od
 
-abbrev pub renamed :
-    State → (olddir : ℕ) → (oldname : List ℕ) → (newdir : ℕ) → (newname : List ℕ) → (flags : ℕ)
-    → State
-renamed s od on nd nn flags =
-    renamed_to s od on nd nn flags (child_at s od on) (child_at s nd nn)
+  -- the state after RENAME; where both names lead to one node there is nothing to do
+  abbrev pub renamed_to : (flags : ℕ) → (moved target : Option Child) → State
+  renamed_to flags None target = s
+  renamed_to flags (Some child) None = moved_to_free child
+  renamed_to flags (Some child) (Some target) =
+      if child.node == target.node then s
+      else if flags == 2 then exchanged child target else moved_over child target
+
+  abbrev pub renamed : (flags : ℕ) → State
+  renamed flags = renamed_to flags (child_at s od on) (child_at s nd nn)
+
+  abbrev pub renames : (flags : ℕ) → Outcome
+  renames flags = unless (rename_refusal flags) (Tried true (Just Done) (renamed flags))

@@ -2,10 +2,11 @@
 //! answers.
 
 ghost use Rattle.std.specs.Prelude.{◌≡◌, map};
-ghost use Rattle.vfs_files.specs.Calls.{attr_answer};
+ghost use Rattle.vfs_files.specs.Calls.{Plain, attr_answer};
 ghost use Rattle.vfs_flags.specs.Flags.{setattr_valid_bits};
+ghost use Rattle.vfs_tree.specs.Outcome.{Answered, AttrOf, Ends, with_it};
 ghost use Rattle.vfs_tree.specs.State.{node_at};
-ghost use Rattle.vfs_tree.specs.Tree.{AnswersAttr, SetsOrNot, all_forgotten};
+ghost use Rattle.vfs_tree.specs.Tree.{all_forgotten, sets_attr};
 
 use crate::changes::{check_contents, write_into};
 use crate::fs::TreeFs;
@@ -72,8 +73,9 @@ impl FileSystem for TreeFs {
         inode: u64,
         _handle: Option<u64>,
     ) -> Result<(Attr, Duration), Fault>
-        ensures answer { AnswersAttr inode (node_at self.old inode) (attr_answer result) }
-        ensures same { self.new ≡ self.old }
+        ensures { Ends self.old
+            (with_it (node_at self.old inode) (λ node. Answered (AttrOf inode node) self.old))
+            (Plain (attr_answer result)) self.new }
     {
         match self.nodes.get(&inode) {
             Some(node) => Ok((node.attr(inode), Duration::from_secs(TIMEOUT_SECONDS))),
@@ -90,8 +92,8 @@ impl FileSystem for TreeFs {
         _handle: Option<u64>,
         valid: SetattrValid,
     ) -> Result<(Attr, Duration), Fault>
-        ensures { SetsOrNot self.old inode attr (setattr_valid_bits valid)
-            (attr_answer result) self.new }
+        ensures { Ends self.old (sets_attr self.old inode attr (setattr_valid_bits valid))
+            (Plain (attr_answer result)) self.new }
     {
         self.check_set_attr(inode, &attr, valid)?;
         let now = self.now;

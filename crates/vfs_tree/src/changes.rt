@@ -3,13 +3,14 @@
 ghost use Rattle.std.specs.Prelude.{◌≡◌, ◌+◌, ℕ, List, length, max, take, IfSome, Some, None, IfOk, IfErr, OnOk};
 ghost use Rattle.vfs_flags.specs.Flags.{setattr_valid_bits};
 ghost use Rattle.vfs_files.specs.Names.{name_text};
-ghost use Rattle.vfs_files.specs.Calls.{Done, KeepsTextShort, done_answer, getxattr_answer, listxattr_answer};
-ghost use Rattle.vfs_tree.specs.Rename.{Unless};
+ghost use Rattle.vfs_files.specs.Calls.{Plain, KeepsTextShort, done_answer, getxattr_answer, listxattr_answer};
+ghost use Rattle.vfs_tree.specs.Outcome.{Ends, refusal_of, with_it};
 ghost use Rattle.vfs_tree.specs.State.{node_at};
-ghost use Rattle.vfs_tree.specs.Tree.{contents_refusal, size_refusal, fallocate_refusal, Grows};
-ghost use Rattle.vfs_tree.specs.Tree.{setattr_refusal, write_refusal, most_size, Overwrites};
-ghost use Rattle.vfs_tree.specs.Tree.{setxattr_refusal, SetsXattr, removexattr_refusal, xattr_removed};
-ghost use Rattle.vfs_tree.specs.Tree.{TellsXattr, TellsNames};
+ghost use Rattle.vfs_tree.specs.Tree.{contents_refusal, size_refusal, setattr_refusal, write_refusal};
+ghost use Rattle.vfs_tree.specs.Tree.{fallocate_refusal, allocates, most_size, setxattr_refusal};
+ghost use Rattle.vfs_tree.specs.Tree.{sets_xattr, removes_xattr, tells};
+ghost use Rattle.vfs_tree.specs.Writing.{Overwrites};
+ghost use Rattle.vfs_tree.specs.Xattrs.{xattr_named, name_list};
 
 use crate::fs::TreeFs;
 use crate::node::{Node, Time};
@@ -46,8 +47,8 @@ fn no_device() -> Errno
 
 /// Whether a node has contents that can be read and written.
 pub(crate) fn check_contents(node: &Node) -> Result<(), Errno>
-    ensures ok { OnOk result (contents_refusal (Some node.now) ≡ None) }
-    ensures err { IfErr result (λ errno. contents_refusal (Some node.now) ≡ Some errno) }
+    ensures ok { OnOk result (contents_refusal node.now ≡ None) }
+    ensures err { IfErr result (λ errno. contents_refusal node.now ≡ Some errno) }
 {
     if node.kind.is_directory() {
         return Err(Errno::EISDIR);
@@ -102,10 +103,10 @@ impl TreeFs {
         attr: &SetattrIn,
         valid: SetattrValid,
     ) -> Result<(), Errno>
-        ensures ok { OnOk result (setattr_refusal self.entry.now (node_at self.entry.now inode)
-            attr.now (setattr_valid_bits valid) ≡ None) }
-        ensures err { IfErr result (λ errno. setattr_refusal self.entry.now
-            (node_at self.entry.now inode) attr.now (setattr_valid_bits valid) ≡ Some errno) }
+        ensures ok { OnOk result (refusal_of (node_at self.entry.now inode)
+            (setattr_refusal self.entry.now attr.now (setattr_valid_bits valid)) ≡ None) }
+        ensures err { IfErr result (λ errno. refusal_of (node_at self.entry.now inode)
+            (setattr_refusal self.entry.now attr.now (setattr_valid_bits valid)) ≡ Some errno) }
     {
         let Some(node) = self.nodes.get(&inode) else {
             return Err(Errno::ENOENT);
@@ -119,12 +120,12 @@ impl TreeFs {
 
     /// Whether so many bytes can be written into a file from `offset` on, and how long it may become.
     pub(crate) fn check_write(&self, inode: u64, offset: u64, size: u32) -> Result<u64, Errno>
-        ensures ok { OnOk result (write_refusal self.entry.now (node_at self.entry.now inode)
-            offset size ≡ None) }
+        ensures ok { OnOk result (refusal_of (node_at self.entry.now inode)
+            (write_refusal self.entry.now offset size) ≡ None) }
         ensures most { IfOk result (λ most. IfSome (node_at self.entry.now inode) (λ node.
             most ≡ most_size self.entry.now node)) }
-        ensures err { IfErr result (λ errno. write_refusal self.entry.now
-            (node_at self.entry.now inode) offset size ≡ Some errno) }
+        ensures err { IfErr result (λ errno. refusal_of (node_at self.entry.now inode)
+            (write_refusal self.entry.now offset size) ≡ Some errno) }
     {
         let Some(node) = self.nodes.get(&inode) else {
             return Err(Errno::ENOENT);
@@ -150,10 +151,8 @@ impl TreeFs {
         offset: u64,
         length: u64,
     ) -> Result<(), Fault>
-        ensures { Unless (fallocate_refusal self.old (node_at self.old inode) mode offset length)
-            self.old (done_answer result) self.new
-            (Grows self.old inode (node_at self.old inode) (offset + length)
-            (done_answer result) self.new) }
+        ensures { Ends self.old (allocates self.old inode mode offset length)
+            (Plain (done_answer result)) self.new }
     {
         let size = self.check_allocate(inode, mode, offset, length)?;
         let now = self.now;
@@ -171,12 +170,12 @@ impl TreeFs {
 
     // Whether a file can be made at least `offset + len` bytes long, and how long it is then.
     fn check_allocate(&self, inode: u64, mode: u32, offset: u64, len: u64) -> Result<u64, Errno>
-        ensures ok { OnOk result (fallocate_refusal self.entry.now (node_at self.entry.now inode)
-            mode offset len ≡ None) }
+        ensures ok { OnOk result (refusal_of (node_at self.entry.now inode)
+            (fallocate_refusal self.entry.now mode offset len) ≡ None) }
         ensures size { IfOk result (λ size. IfSome (node_at self.entry.now inode) (λ node.
             size ≡ max (offset + len) (length node.contents))) }
-        ensures err { IfErr result (λ errno. fallocate_refusal self.entry.now
-            (node_at self.entry.now inode) mode offset len ≡ Some errno) }
+        ensures err { IfErr result (λ errno. refusal_of (node_at self.entry.now inode)
+            (fallocate_refusal self.entry.now mode offset len) ≡ Some errno) }
     {
         let Some(node) = self.nodes.get(&inode) else {
             return Err(Errno::ENOENT);
@@ -207,10 +206,9 @@ impl TreeFs {
         value: &[u8],
         flags: u32,
     ) -> Result<(), Fault>
-        ensures { Unless (setxattr_refusal self.old (node_at self.old inode)
-            (name_text name.entry) value.now flags) self.old (done_answer result) self.new
-            (SetsXattr self.old inode (node_at self.old inode) (name_text name.entry) value.now
-            (done_answer result) self.new) }
+        ensures { Ends self.old
+            (sets_xattr self.old inode (name_text name.entry) value.now flags)
+            (Plain (done_answer result)) self.new }
     {
         self.check_set_xattr(inode, name.to_bytes(), value, flags)?;
         let (alloc, now) = (self.alloc, self.now);
@@ -233,10 +231,10 @@ impl TreeFs {
         value: &[u8],
         flags: u32,
     ) -> Result<(), Errno>
-        ensures ok { OnOk result (setxattr_refusal self.entry.now
-            (node_at self.entry.now inode) name.now value.now flags ≡ None) }
-        ensures err { IfErr result (λ errno. setxattr_refusal self.entry.now
-            (node_at self.entry.now inode) name.now value.now flags ≡ Some errno) }
+        ensures ok { OnOk result (refusal_of (node_at self.entry.now inode)
+            (setxattr_refusal self.entry.now name.now value.now flags) ≡ None) }
+        ensures err { IfErr result (λ errno. refusal_of (node_at self.entry.now inode)
+            (setxattr_refusal self.entry.now name.now value.now flags) ≡ Some errno) }
     {
         let Some(node) = self.nodes.get(&inode) else {
             return Err(Errno::ENOENT);
@@ -259,10 +257,8 @@ impl TreeFs {
 
     /// Takes an extended attribute away.
     pub(crate) fn remove_xattr(&mut self, inode: u64, name: &[u8]) -> Result<(), Fault>
-        ensures { Unless (removexattr_refusal (node_at self.old inode) name.now)
-            self.old (done_answer result) self.new
-            ((done_answer result ≡ Done)
-            × (self.new ≡ xattr_removed self.old inode name.now (node_at self.old inode))) }
+        ensures { Ends self.old (removes_xattr self.old inode name.now)
+            (Plain (done_answer result)) self.new }
     {
         let Some(node) = self.nodes.get(&inode) else {
             return Err(Some(Errno::ENOENT));
@@ -284,7 +280,9 @@ impl TreeFs {
 
     /// The value of an extended attribute, or its length.
     pub(crate) fn xattr(&self, inode: u64, name: &[u8], size: u32) -> Result<GetxattrReply, Fault>
-        ensures told { TellsXattr (node_at self.entry.now inode) name.now size (getxattr_answer result) }
+        ensures told { Ends self.entry.now (with_it (node_at self.entry.now inode) (λ node.
+            tells self.entry.now size (xattr_named node.xattrs name.now)))
+            (Plain (getxattr_answer result)) self.entry.now }
         ensures short { KeepsTextShort (getxattr_answer result) }
     {
         let Some(node) = self.nodes.get(&inode) else {
@@ -304,7 +302,9 @@ impl TreeFs {
 
     /// The names of the extended attributes, or their length.
     pub(crate) fn xattr_names(&self, inode: u64, size: u32) -> Result<ListxattrReply, Fault>
-        ensures told { TellsNames (node_at self.entry.now inode) size (listxattr_answer result) }
+        ensures told { Ends self.entry.now (with_it (node_at self.entry.now inode) (λ node.
+            tells self.entry.now size (Some (name_list node.xattrs))))
+            (Plain (listxattr_answer result)) self.entry.now }
         ensures short { KeepsTextShort (listxattr_answer result) }
     {
         let Some(node) = self.nodes.get(&inode) else {

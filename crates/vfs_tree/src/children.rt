@@ -47,7 +47,8 @@ pub(crate) struct Children {
 }
 
 impl Model for Children {
-    ghost use Rattle.vfs_tree.specs.Children.{Children, AreIndexed};
+    ghost use Rattle.vfs_tree.specs.Children.{Children};
+    ghost use Rattle.vfs_tree.specs.Index.{AreIndexed};
 
     ghost Value = { Children };
 

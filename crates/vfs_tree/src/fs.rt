@@ -6,11 +6,12 @@ ghost use Rattle.std.specs.BTreeMap.{is_at};
 ghost use Rattle.std.specs.Map.{remove_entry};
 ghost use Rattle.vfs_flags.specs.Errors.{enomem};
 ghost use Rattle.vfs_files.specs.Names.{name_text};
-ghost use Rattle.vfs_files.specs.Calls.{entry_answer};
+ghost use Rattle.vfs_files.specs.Calls.{Plain, entry_answer};
 ghost use Rattle.vfs_tree.specs.Node.{weight};
+ghost use Rattle.vfs_tree.specs.Outcome.{Ends};
 ghost use Rattle.vfs_tree.specs.Rename.{is_crowded};
 ghost use Rattle.vfs_tree.specs.State.{child_at, node_at, reweighed, room_of};
-ghost use Rattle.vfs_tree.specs.Tree.{Makes, first_state, made, forgotten, all_forgotten};
+ghost use Rattle.vfs_tree.specs.Tree.{makes, first_state, made, forgotten, all_forgotten};
 
 use crate::children::{Child, Children};
 use crate::contents::Contents;
@@ -136,8 +137,9 @@ impl TreeFs {
         name: CStr<'_>,
         contents: &[u8],
     ) -> Result<Entry, Fault>
-        ensures { Makes self.old ctx kind permissions parent (name_text name.entry) contents.now
-            (entry_answer result) self.new }
+        ensures { Ends self.old
+            (makes self.old ctx kind permissions parent (name_text name.entry) contents.now)
+            (Plain (entry_answer result)) self.new }
     {
         let above = directory(&self.nodes, parent, name.to_bytes())?;
         if above.names == 0 {

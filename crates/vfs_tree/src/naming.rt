@@ -6,12 +6,13 @@ ghost use Rattle.std.specs.Map.{set_value};
 ghost use Rattle.std.specs.BTreeMap.{get, is_at};
 ghost use Rattle.vfs_flags.specs.Errors.{enomem};
 ghost use Rattle.vfs_files.specs.Names.{name_text};
-ghost use Rattle.vfs_files.specs.Calls.{entry_answer};
+ghost use Rattle.vfs_files.specs.Calls.{Plain, entry_answer};
 ghost use Rattle.vfs_tree.specs.Children.{with_child, without_child, with_other_child};
 ghost use Rattle.vfs_tree.specs.Node.{IsEntryOf};
-ghost use Rattle.vfs_tree.specs.Rename.{Unless, directory_refusal, is_crowded, moved_into};
+ghost use Rattle.vfs_tree.specs.Outcome.{Ends};
+ghost use Rattle.vfs_tree.specs.Rename.{directory_refusal, is_crowded, moved_into};
 ghost use Rattle.vfs_tree.specs.State.{child_of, child_at, node_at, with_names, with_node, unnamed};
-ghost use Rattle.vfs_tree.specs.Tree.{Links, linked, link_refusal, taken_out};
+ghost use Rattle.vfs_tree.specs.Tree.{linked, links, taken_out};
 
 use crate::children::Child;
 use crate::fs::TreeFs;
@@ -169,7 +170,7 @@ impl TreeFs {
 
     /// Takes a name out of a directory; one name less leads to the node behind it.
     pub(crate) fn take_out(&mut self, parent: u64, name: &[u8], child: Child)
-        ensures { self.new ≡ taken_out self.old parent name.now (Some child) }
+        ensures { self.new ≡ taken_out self.old parent name.now child }
     {
         self.remove_name(parent, name);
         self.lose_name(child.node);
@@ -183,10 +184,8 @@ impl TreeFs {
         parent: u64,
         name: CStr<'_>,
     ) -> Result<Entry, Fault>
-        ensures { Unless (link_refusal self.old (node_at self.old number) parent
-            (name_text name.entry)) self.old (entry_answer result) self.new
-            (Links self.old number (node_at self.old number) parent (name_text name.entry)
-            (entry_answer result) self.new) }
+        ensures { Ends self.old (links self.old number parent (name_text name.entry))
+            (Plain (entry_answer result)) self.new }
     {
         let Some(node) = self.nodes.get(&number) else {
             return Err(Some(Errno::ENOENT));
@@ -227,8 +226,8 @@ impl TreeFs {
         requires names { IfSome (node_at self.old number) (λ node. node.names < MOST_LINKS) }
         requires lookups { IfSome (node_at self.old number) (λ node. node.lookups < 2 ^ 64 - 1) }
         ensures { IfSome (node_at self.old number) (λ node.
-            IsEntryOf number (linked self.old node) result
-            × (self.new ≡ with_node self.old number (linked self.old node))) }
+            IsEntryOf number (linked self.old.now node) result
+            × (self.new ≡ with_node self.old number (linked self.old.now node))) }
     {
         let now = self.now;
         let Some(node) = self.nodes.get_mut(&number) else {

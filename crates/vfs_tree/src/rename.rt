@@ -4,10 +4,11 @@ ghost use Rattle.std.specs.Prelude.{◌≡◌, false, IsSome, Some, None, IfErr,
 ghost use Rattle.std.specs.Option.{option_copied};
 ghost use Rattle.vfs_flags.specs.Errors.{enomem};
 ghost use Rattle.vfs_files.specs.Names.{name_text};
-ghost use Rattle.vfs_files.specs.Calls.{done_answer};
-ghost use Rattle.vfs_tree.specs.Rename.{Unless, Does, is_below, is_own_child, parent_of, same_node};
-ghost use Rattle.vfs_tree.specs.Rename.{names_refusal, place_refusal, rename_refusal};
-ghost use Rattle.vfs_tree.specs.Rename.{is_crowded, is_nameless, replace_refusal, renamed};
+ghost use Rattle.vfs_files.specs.Calls.{Plain, done_answer};
+ghost use Rattle.vfs_tree.specs.Outcome.{Ends};
+ghost use Rattle.vfs_tree.specs.Rename.{is_below, is_own_child, parent_of, same_node};
+ghost use Rattle.vfs_tree.specs.Rename.{names_refusal, place_refusal, is_crowded, is_nameless};
+ghost use Rattle.vfs_tree.specs.Rename.{replace_refusal, renames};
 ghost use Rattle.vfs_tree.specs.Rename.{moved_to_free, moved_over, exchanged};
 ghost use Rattle.vfs_tree.specs.State.{child_at, count_of, node_at, node_of};
 
@@ -35,10 +36,8 @@ impl TreeFs {
         newname: CStr<'_>,
         flags: u32,
     ) -> Result<(), Fault>
-        ensures { Unless (rename_refusal self.old olddir (name_text oldname.entry) newdir
-            (name_text newname.entry) flags) self.old (done_answer result) self.new
-            (Does self.old (renamed self.old olddir (name_text oldname.entry) newdir
-            (name_text newname.entry) flags) (done_answer result) self.new) }
+        ensures { Ends self.old (renames self.old olddir (name_text oldname.entry) newdir
+            (name_text newname.entry) flags) (Plain (done_answer result)) self.new }
     {
         let from = directory(&self.nodes, olddir, oldname.to_bytes())?;
         let to = directory(&self.nodes, newdir, newname.to_bytes())?;

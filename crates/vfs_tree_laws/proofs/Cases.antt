@@ -1,22 +1,26 @@
 -- What the calls leave: a fact of all states that are left follows from that fact of each change.
-use Rattle.std.proofs.Common.{◌≡◌, ◌≤◌, ◌+◌, ◌-◌, ◌==◌, ◌&&◌, ◌||◌, not, nat_lt, ℕ, zero, suc, max, ◌⊎◌, inl, inr, ⊎_elim, Bool, true, false, cond, List, [], ◌∷◌, ◌++◌, length, take, drop, replicate, Option, Some, None, is_some, is_none, refl, sym, subst, arith, if◌then◌else◌, bit_and, length-append, length-take, length-drop}
+use Rattle.std.proofs.Common.{◌≡◌, ◌≤◌, ◌+◌, ◌-◌, ◌^◌, ◌==◌, ◌&&◌, ◌||◌, not, nat_lt, ℕ, zero, suc, max, ◌⊎◌, inl, inr, ⊎_elim, Bool, true, false, cond, List, [], ◌∷◌, ◌++◌, length, take, drop, replicate, Option, Some, None, is_some, is_none, refl, sym, ap, subst, ◌∙◌, arith, if◌then◌else◌, bit_and, length-append, length-take, length-drop}
 use Rattle.std.specs.List.{position_or_len}
 use Rattle.vfs_views.specs.Segments.{with_bytes_at}
-use Rattle.vfs_flags.specs.Errors.{eperm, enoent, eexist, einval, enospc, enodata, eopnotsupp}
-use Rattle.vfs_files.specs.Bytes.{most_put, fitting, written, lengthened}
-use Rattle.vfs_files.specs.Calls.{Call, Lookup, Forget, BatchForget, Getattr, Setattr, Symlink, Readlink, Open, Unlink, Rmdir, Rename, Link, Mknod, Mkdir, Create, Read, Write, Fallocate, Setxattr, Getxattr, Listxattr, Removexattr, Statfs, Release, Fsync, Flush, Init, Opendir, Readdir, Releasedir, Fsyncdir, Getlk, Setlk, Setlkw, Access, Bmap, Destroy, Ioctl, Poll, NotifyReply, Lseek, Copyfilerange, Syncfs, Tmpfile, Answer, Done, Failed, Options, Found, Attributes, Created, Text, Count, Put, Wrote, Statistics, Opened, Offset, Plain}
+use Rattle.vfs_flags.specs.Errors.{eexist, eisdir, einval, enodata, enospc, enotdir, enotempty, eopnotsupp, eoverflow, eperm, erange}
+use Rattle.vfs_files.specs.Bytes.{part_of, most_put, fitting, written, lengthened}
+use Rattle.vfs_files.specs.Items.{Item}
+use Rattle.vfs_files.specs.Calls.{Call, Lookup, Forget, BatchForget, Getattr, Setattr, Symlink, Readlink, Open, Unlink, Rmdir, Rename, Link, Mknod, Mkdir, Create, Read, Write, Fallocate, Setxattr, Getxattr, Listxattr, Removexattr, Statfs, Release, Fsync, Flush, Init, Opendir, Readdir, Releasedir, Fsyncdir, Getlk, Setlk, Setlkw, Access, Bmap, Destroy, Ioctl, Poll, NotifyReply, Lseek, Copyfilerange, Syncfs, Tmpfile, Answer, Done, Failed, Options, Found, Attributes, Created, Text, Count, Put, Wrote, Statistics, Opened, Offset, Handed, Plain, Iterator, default_answer, default_opening}
 use Rattle.vfs_files.specs.declared.entry.Context.{Context}
+use Rattle.vfs_grammar.specs.Books.{node_of, answered_nodes, forgets_of}
 use Rattle.vfs_wire.specs.declared.attributes.SetattrIn.{SetattrIn}
-use Rattle.std.proofs.lemmas.Bool.{ltb-true, ltb-false, or_parts}
+use Rattle.std.proofs.lemmas.Bool.{ltb-true, ltb-false, eqb-true, not-false, or_parts}
 use Rattle.std.proofs.lemmas.List.{length-replicate}
 use Rattle.std.proofs.lemmas.List.Sums.{sum_by-remove}
 use Rattle.vfs_tree.specs.Bytes.{resized}
-use Rattle.vfs_tree.specs.Children.{with_child, is_file}
+use Rattle.vfs_tree.specs.Children.{with_child, is_directory, is_file}
 use Rattle.vfs_tree.specs.Node.{weight}
-use Rattle.vfs_tree.specs.Rename.{first_of, or_else, Unless, Does, rename_refusal, renamed}
-use Rattle.vfs_tree.specs.State.{State, node_at, node_of, node_named, room_of, with_node, with_resized, with_names, change, child_at}
-use Rattle.vfs_tree.specs.Tree.{efbig, enodev, most_xattr_bytes, TreeAllows, Finds, Enters, Links, made, linked, forgotten, all_forgotten, opened, entry_part, AnswersRead, SetsAttr, set_attr, setattr_refusal, contents_refusal, size_refusal, resize_refusal, Opens, overwritten, WritesInto, most_size, Grows, grown, fallocate_refusal, SetsXattr, setxattr_refusal, with_xattrs, xattr_removed, is_plain, Makes, make_refusal, new_node, taken_out, link_refusal, unlink_refusal, rmdir_refusal}
-use Rattle.vfs_tree.specs.Xattrs.{Xattr, is_called, bytes_of, without_place, xattr_named, xattr_bytes, with_xattr, without_xattr}
+use Rattle.vfs_tree.specs.Outcome.{Reply, Just, EntryOf, AttrOf, Listed, Outcome, Refused, Answered, Tried, Replies, Ends, done, first_of, or_else, unless, refusal_of, with_it, on}
+use Rattle.vfs_tree.specs.Rename.{directory_refusal, rename_refusal, renamed}
+use Rattle.vfs_tree.specs.State.{State, node_at, node_named, room_of, with_node, with_resized, with_names, change, child_at}
+use Rattle.vfs_tree.specs.State as tree
+use Rattle.vfs_tree.specs.Tree.{efbig, enodev, most_xattr_bytes, TreeAllows, outcome, found, at_name, made, makes, linked, links, all_forgotten, opened, set_attr, setattr_refusal, contents_refusal, size_refusal, overwritten, writes, write_refusal, most_size, grown, fallocate_refusal, setxattr_refusal, with_xattrs, has_no_text, is_plain, items_behind, make_refusal, new_node, taken_out, link_refusal, statistics_of, tells}
+use Rattle.vfs_tree.specs.Xattrs.{Xattr, is_called, bytes_of, without_place, xattr_named, xattr_bytes, with_xattr, without_xattr, name_list}
 use Rattle.vfs_tree.specs.declared.children.Child.{Child}
 use Rattle.vfs_tree.specs.declared.kind.Kind.{Kind}
 use Rattle.vfs_tree.specs.declared.kind.Kind.TheVariants as kind
@@ -31,27 +35,47 @@ pub record Resizes (s : State) (was now : Node) : Type 0 where
   pub children : now.children ≡ was.children
   pub room : weight now ≤ weight was + room_of s
 
--- what a fact holds of: the state itself, and what each change leaves
-pub record Covers (old : State) (Q : State → Type 0) : Type 0 where
-  pub same : Q old
+-- the node of the entry that is answered, where one is
+abbrev pub nodes_of : Reply → List ℕ
+nodes_of (Just answer) = node_of answer
+nodes_of (EntryOf n node) = n ∷ []
+nodes_of (AttrOf n node) = []
+nodes_of (Listed items) = []
+
+-- neither an entry is answered nor what a directory holds
+abbrev pub IsTold : Reply → Type 0
+IsTold (Just answer) = node_of answer ≡ []
+IsTold (AttrOf n node) = Unit {0}
+IsTold _ = ⊥
+
+-- what a fact holds of: the state itself, and what each change leaves, with the lookups that are taken
+-- back and what is answered
+pub record Covers (old : State) (P : List (ℕ × ℕ) → Reply → State → Type 0) : Type 0 where
+  pub same : (reply : Reply) → nodes_of reply ≡ [] → P [] reply old
   pub looked_up : (n : ℕ) (node : Node) → node_at old n ≡ Some node
-      → Q (with_node old n (record node { lookups = node.lookups + 1 }))
-  pub all_forgot : (pairs : List (ℕ × ℕ)) → Q (all_forgotten old pairs)
-  pub resizes : (n : ℕ) (was now : Node) → node_at old n ≡ Some was → Resizes old was now
-      → Q (with_resized old n was now)
-  pub makes : (ctx : Context) (kind : Kind) (permissions parent : ℕ) (name contents : List ℕ)
+      → P [] (EntryOf n node) (with_node old n (record node { lookups = node.lookups + 1 }))
+  pub forgot : (pairs : List (ℕ × ℕ)) → P pairs (Just Done) (all_forgotten old pairs)
+  pub resizes : (n : ℕ) (was now : Node) (reply : Reply) → IsTold reply → node_at old n ≡ Some was
+      → Resizes old was now → P [] reply (with_resized old n was now)
+  pub makes : (uid gid : ℕ) (kind : Kind) (permissions parent : ℕ) (name contents : List ℕ)
       → make_refusal old parent name (length contents) ≡ None
-      → Q (made old parent name (new_node old ctx kind permissions parent contents))
+      → let node = new_node old.now uid gid kind permissions parent contents in
+      P [] (EntryOf old.next node) (made old parent name node)
   pub links : (n : ℕ) (node : Node) (parent : ℕ) (name : List ℕ) → node_at old n ≡ Some node
-      → link_refusal old (Some node) parent name ≡ None
-      → Q (change (with_names old parent (λ c. with_child c name (record { node = n; kind = node.kind })))
-      n (linked old))
-  pub unlinks : (parent : ℕ) (name : List ℕ) → unlink_refusal old parent name ≡ None
-      → Q (taken_out old parent name (child_at old parent name))
-  pub removes : (parent : ℕ) (name : List ℕ) → rmdir_refusal old parent name ≡ None
-      → Q (taken_out old parent name (child_at old parent name))
+      → link_refusal old parent name node ≡ None
+      → P [] (EntryOf n (linked old.now node))
+      (change (with_names old parent (λ c. with_child c name (record { node = n; kind = node.kind })))
+      n (linked old.now))
+  pub unlinks : (parent : ℕ) (name : List ℕ) (child : Child) (node : Node)
+      → directory_refusal (node_at old parent) name ≡ None → child_at old parent name ≡ Some child
+      → node_at old child.node ≡ Some node → is_directory node.kind ≡ false
+      → P [] (Just Done) (taken_out old parent name child)
+  pub removes : (parent : ℕ) (name : List ℕ) (child : Child) (node : Node)
+      → directory_refusal (node_at old parent) name ≡ None → child_at old parent name ≡ Some child
+      → node_at old child.node ≡ Some node → length node.children.links ≡ 0
+      → P [] (Just Done) (taken_out old parent name child)
   pub renames : (od : ℕ) (on : List ℕ) (nd : ℕ) (nn : List ℕ) (flags : ℕ)
-      → rename_refusal old od on nd nn flags ≡ None → Q (renamed old od on nd nn flags)
+      → rename_refusal old od on nd nn flags ≡ None → P [] (Just Done) (renamed old od on nd nn flags)
 
 -- ---- refusals
 
@@ -140,7 +164,7 @@ size_fits most room node size none =
 
 -- SETATTR
 set_attr_resizes : (s : State) (node : Node) (attr : SetattrIn) (valid : ℕ)
-    → setattr_refusal s (Some node) attr valid ≡ None
+    → setattr_refusal s attr valid node ≡ None
     → Resizes s node (set_attr s.now node attr valid)
 set_attr_resizes s node attr valid none = record {
   kind = refl;
@@ -151,11 +175,15 @@ set_attr_resizes s node attr valid none = record {
   room = by (bit_and valid 8 == 8) none;
 }
   where
-    by : (t : Bool) → (if t then resize_refusal s (Some node) attr.size else None) ≡ None
+    by : (t : Bool)
+        → (if t
+        then or_else (contents_refusal node) (size_refusal s.limits.file (room_of s) node attr.size)
+        else None)
+        ≡ None
         → length (if t then resized node.contents attr.size else node.contents) + xattr_bytes node.xattrs
         ≤ length node.contents + xattr_bytes node.xattrs + room_of s
     by true none =
-        let fits = (or_none (contents_refusal (Some node)) (size_refusal s.limits.file (room_of s) node attr.size) none).1 in
+        let fits = (or_none (contents_refusal node) (size_refusal s.limits.file (room_of s) node attr.size) none).1 in
         omega (
           arith,
           size_fits s.limits.file (room_of s) node attr.size fits,
@@ -210,8 +238,8 @@ fitting_ends s node off bytes = by (most_size s node - off) refl
 
 -- FALLOCATE
 grown_resizes : (s : State) (node : Node) (mode off len : ℕ)
-    → fallocate_refusal s (Some node) mode off len ≡ None
-    → Resizes s node (grown s (off + len) node)
+    → fallocate_refusal s mode off len node ≡ None
+    → Resizes s node (grown s.now (off + len) node)
 grown_resizes s node mode off len none = record {
   kind = refl;
   parent = refl;
@@ -232,18 +260,18 @@ grown_resizes s node mode off len none = record {
 
 -- SETXATTR
 xattr_fits : (s : State) (node : Node) (name value : List ℕ) (flags : ℕ)
-    → setxattr_refusal s (Some node) name value flags ≡ None
-    → Resizes s node (with_xattrs s node (with_xattr node.xattrs name value))
+    → setxattr_refusal s name value flags node ≡ None
+    → Resizes s node (with_xattrs s.now node (with_xattr node.xattrs name value))
 xattr_fits s node name value flags none =
     let more = xattr_bytes (with_xattr node.xattrs name value) in
     let size = xattr_bytes node.xattrs in
     let is = xattr_named node.xattrs name in
     let fits = are_not
-    ((false, enoent) ∷ (bit_and flags 1 == 1 && is_some is, eexist)
+    ((bit_and flags 1 == 1 && is_some is, eexist)
     ∷ (bit_and flags 2 == 2 && is_none is, enodata)
     ∷ (nat_lt most_xattr_bytes more || nat_lt (room_of s) (more - size), enospc) ∷ []) none in
     let room = (or_parts (nat_lt most_xattr_bytes more) (nat_lt (room_of s) (more - size))
-    fits.1.1.1.0).1 in
+    fits.1.1.0).1 in
     record {
       kind = refl;
       parent = refl;
@@ -268,7 +296,7 @@ less_without xattrs name =
     less_at xattrs at (nat_lt at (length xattrs)) refl
 
 xattr_leaves : (s : State) (node : Node) (name : List ℕ)
-    → Resizes s node (with_xattrs s node (without_xattr node.xattrs name))
+    → Resizes s node (with_xattrs s.now node (without_xattr node.xattrs name))
 xattr_leaves s node name = record {
   kind = refl;
   parent = refl;
@@ -278,245 +306,398 @@ xattr_leaves s node name = record {
   room = omega (arith, less_without node.xattrs name);
 }
 
--- ---- answers
+-- ---- outcomes
 
-module _ (old new : State) (Q : State → Type 0) (q : Covers old Q) where
-  is_left : (last : State) → Q last → new ≡ last → Q new
-  is_left last holds is = subst Q (sym is) holds
+-- a call that may be refused takes no lookups back, and then answers no entry
+abbrev pub Fails : Call → Type 0
+Fails call = (forgets_of call ≡ []) × ((error : Option ℕ) → answered_nodes call (Failed error) ≡ [])
 
-  still : new ≡ old → Q new
-  still is = is_left old q.same is
+-- what holds where it is refused, and of each answer and the state then
+abbrev pub Each : Type 0 → (Reply → State → Type 0) → Outcome → Type 0
+Each F L (Refused error) = F
+Each F L (Answered reply left) = L reply left
+Each F L (Tried needs reply left) = F × L reply left
 
-  unless : (answer : Answer) (refusal : Option ℕ) (does : Type 0)
-      → (refusal ≡ None → does → Q new) → Unless refusal old answer new does → Q new
-  unless answer (Some error) does more allowed = still allowed.1
-  unless answer None does more allowed = more refl allowed
+module _ (F : Type 0) (L : Reply → State → Type 0) (fails : F) where
+  each-unless : (refusal : Option ℕ) (o : Outcome) → (refusal ≡ None → Each F L o)
+      → Each F L (unless refusal o)
+  each-unless (Some error) o more = fails
+  each-unless None o more = more refl
 
-  does : (answer : Answer) (last : State) → Q last → Does old last answer new → Q new
-  does Done last holds f = is_left last holds f
-  does (Failed x) last holds f = still f.1
-  does (Options x) last holds f = absurd f
-  does (Found x) last holds f = absurd f
-  does (Attributes x y) last holds f = absurd f
-  does (Put x) last holds f = absurd f
-  does (Opened x y) last holds f = absurd f
-  does (Created x y z) last holds f = absurd f
-  does (Statistics x) last holds f = absurd f
-  does (Text x) last holds f = absurd f
-  does (Count x) last holds f = absurd f
-  does (Offset x) last holds f = absurd f
-  does (Wrote x) last holds f = absurd f
+  each-with_it : (node : Option Node) (f : Node → Outcome)
+      → ((it : Node) → node ≡ Some it → Each F L (f it)) → Each F L (with_it node f)
+  each-with_it None f more = fails
+  each-with_it (Some it) f more = more it refl
 
-  enters : (answer : Answer) (n : ℕ) (node : Node) (last : State) → Q last
-      → Enters old n node last answer new → Q new
-  enters Done n node last holds f = absurd f
-  enters (Failed x) n node last holds f = still f.1
-  enters (Options x) n node last holds f = absurd f
-  enters (Found x) n node last holds f = is_left last holds f.1
-  enters (Attributes x y) n node last holds f = absurd f
-  enters (Put x) n node last holds f = absurd f
-  enters (Opened x y) n node last holds f = absurd f
-  enters (Created x y z) n node last holds f = absurd f
-  enters (Statistics x) n node last holds f = absurd f
-  enters (Text x) n node last holds f = absurd f
-  enters (Count x) n node last holds f = absurd f
-  enters (Offset x) n node last holds f = absurd f
-  enters (Wrote x) n node last holds f = absurd f
+  each-on : (node : Option Node) (r : Node → Option ℕ) (f : Node → Outcome)
+      → ((it : Node) → node ≡ Some it → r it ≡ None → Each F L (f it)) → Each F L (on node r f)
+  each-on None r f more = fails
+  each-on (Some it) r f more = each-unless (r it) (f it) (more it refl)
 
-  finds : (answer : Answer) (child : Option Child) (o : Option Node) → node_of old child ≡ o
-      → Finds old child o answer new → Q new
-  finds Done (Some child) (Some node) is f = absurd f
-  finds (Failed x) (Some child) (Some node) is f = absurd f
-  finds (Options x) (Some child) (Some node) is f = absurd f
-  finds (Found x) (Some child) (Some node) is f =
-      is_left _ (q.looked_up child.node node is) f.1
-  finds (Attributes x y) (Some child) (Some node) is f = absurd f
-  finds (Put x) (Some child) (Some node) is f = absurd f
-  finds (Opened x y) (Some child) (Some node) is f = absurd f
-  finds (Created x y z) (Some child) (Some node) is f = absurd f
-  finds (Statistics x) (Some child) (Some node) is f = absurd f
-  finds (Text x) (Some child) (Some node) is f = absurd f
-  finds (Count x) (Some child) (Some node) is f = absurd f
-  finds (Offset x) (Some child) (Some node) is f = absurd f
-  finds (Wrote x) (Some child) (Some node) is f = absurd f
-  finds answer (Some child) None is f = absurd f
-  finds answer None o is f = absurd f
+  each-found : (s : State) (c : Option Child) (f : Child → Node → Outcome)
+      → ((child : Child) (node : Node) → c ≡ Some child → node_at s child.node ≡ Some node
+      → Each F L (f child node))
+      → Each F L (found c (tree.node_of s c) f)
+  each-found s None f more = fails
+  each-found s (Some child) f more = by (node_at s child.node) refl
+    where
+      by : (o : Option Node) → node_at s child.node ≡ o → Each F L (found (Some child) o f)
+      by None is = fails
+      by (Some node) is = more child node refl is
 
-  sets_attr : (n : ℕ) (attr : SetattrIn) (valid : ℕ) (answer : Answer) (o : Option Node)
-      → node_at old n ≡ o → setattr_refusal old o attr valid ≡ None
-      → SetsAttr old n o attr valid answer new → Q new
-  sets_attr n attr valid Done (Some node) is none f = absurd f
-  sets_attr n attr valid (Failed x) (Some node) is none f = still f.1
-  sets_attr n attr valid (Options x) (Some node) is none f = absurd f
-  sets_attr n attr valid (Found x) (Some node) is none f = absurd f
-  sets_attr n attr valid (Attributes x y) (Some node) is none f =
-      let now = set_attr old.now node attr valid in
-      is_left (with_resized old n node now)
-      (q.resizes n node now is (set_attr_resizes old node attr valid none)) f.2
-  sets_attr n attr valid (Put x) (Some node) is none f = absurd f
-  sets_attr n attr valid (Opened x y) (Some node) is none f = absurd f
-  sets_attr n attr valid (Created x y z) (Some node) is none f = absurd f
-  sets_attr n attr valid (Statistics x) (Some node) is none f = absurd f
-  sets_attr n attr valid (Text x) (Some node) is none f = absurd f
-  sets_attr n attr valid (Count x) (Some node) is none f = absurd f
-  sets_attr n attr valid (Offset x) (Some node) is none f = absurd f
-  sets_attr n attr valid (Wrote x) (Some node) is none f = absurd f
-  sets_attr n attr valid answer None is none f = absurd f
+  each-at_name : (s : State) (parent : ℕ) (name : List ℕ) (f : Child → Node → Outcome)
+      → ((child : Child) (node : Node) → directory_refusal (node_at s parent) name ≡ None
+      → child_at s parent name ≡ Some child → node_at s child.node ≡ Some node
+      → Each F L (f child node))
+      → Each F L (at_name s parent name f)
+  each-at_name s parent name f more =
+      each-unless (directory_refusal (node_at s parent) name)
+      (found (child_at s parent name) (node_named s parent name) f)
+      (λ free. each-found s (child_at s parent name) f (λ child node is there. more child node free is there))
 
-  opens : (n flags : ℕ) (answer : Answer) (o : Option Node) → node_at old n ≡ o
-      → Opens old n flags o answer new → Q new
-  opens n flags answer None is f = still f.1
-  opens n flags answer (Some node) is f =
-      is_left (with_resized old n node (opened old.now node flags))
-      (q.resizes n node (opened old.now node flags) is (opened_resizes old node flags)) f.1
-
-  writes : (n off : ℕ) (bytes : List ℕ) (answer : Answer) (o : Option Node) → node_at old n ≡ o
-      → WritesInto old n o off bytes answer new → Q new
-  writes n off bytes Done (Some node) is f = absurd f
-  writes n off bytes (Failed x) (Some node) is f = still f.1
-  writes n off bytes (Options x) (Some node) is f = absurd f
-  writes n off bytes (Found x) (Some node) is f = absurd f
-  writes n off bytes (Attributes x y) (Some node) is f = absurd f
-  writes n off bytes (Put x) (Some node) is f = absurd f
-  writes n off bytes (Opened x y) (Some node) is f = absurd f
-  writes n off bytes (Created x y z) (Some node) is f = absurd f
-  writes n off bytes (Statistics x) (Some node) is f = absurd f
-  writes n off bytes (Text x) (Some node) is f = absurd f
-  writes n off bytes (Count x) (Some node) is f = absurd f
-  writes n off bytes (Offset x) (Some node) is f = absurd f
-  writes n off bytes (Wrote x) (Some node) is f =
-      let fit = fitting (most_size old node) off bytes in
-      let now = overwritten old.now node off fit in
-      is_left (with_resized old n node now)
-      (q.resizes n node now is
-      (overwritten_resizes old node off fit (fitting_ends old node off bytes))) f.1
-  writes n off bytes answer None is f = absurd f
-
-  grows : (n mode off len : ℕ) (answer : Answer) (o : Option Node) → node_at old n ≡ o
-      → fallocate_refusal old o mode off len ≡ None
-      → Grows old n o (off + len) answer new → Q new
-  grows n mode off len answer None is none f = absurd f
-  grows n mode off len answer (Some node) is none f =
-      does answer (with_resized old n node (grown old (off + len) node))
-      (q.resizes n node (grown old (off + len) node) is (grown_resizes old node mode off len none)) f
-
-  sets_xattr : (n : ℕ) (name value : List ℕ) (flags : ℕ) (answer : Answer) (o : Option Node)
-      → node_at old n ≡ o → setxattr_refusal old o name value flags ≡ None
-      → SetsXattr old n o name value answer new → Q new
-  sets_xattr n name value flags answer None is none f = absurd f
-  sets_xattr n name value flags answer (Some node) is none f =
-      let now = with_xattrs old node (with_xattr node.xattrs name value) in
-      does answer (with_resized old n node now)
-      (q.resizes n node now is (xattr_fits old node name value flags none)) f
-
-  removes_xattr : (n : ℕ) (name : List ℕ) (o : Option Node) → node_at old n ≡ o
-      → new ≡ xattr_removed old n name o → Q new
-  removes_xattr n name None is f = still f
-  removes_xattr n name (Some node) is f =
-      let now = with_xattrs old node (without_xattr node.xattrs name) in
-      is_left (with_resized old n node now)
-      (q.resizes n node now is (xattr_leaves old node name)) f
-
-  makes : (ctx : Context) (kind : Kind) (permissions parent : ℕ) (name contents : List ℕ)
-      (answer : Answer) → Makes old ctx kind permissions parent name contents answer new → Q new
-  makes ctx kind permissions parent name contents answer m =
-      let node = new_node old ctx kind permissions parent contents in
-      unless answer (make_refusal old parent name (length contents))
-      (Enters old old.next node (made old parent name node) answer new)
-      (λ none. enters answer old.next node (made old parent name node)
-      (q.makes ctx kind permissions parent name contents none)) m
-
-  links : (n parent : ℕ) (name : List ℕ) (answer : Answer) (o : Option Node)
-      → node_at old n ≡ o → link_refusal old o parent name ≡ None
-      → Links old n o parent name answer new → Q new
-  links n parent name answer None is none f = absurd f
-  links n parent name answer (Some node) is none f =
-      enters answer n (linked old node) _ (q.links n node parent name is none) f
-
-  forgets : (n count : ℕ) → new ≡ forgotten old n count (node_at old n) → Q new
-  forgets n count is = is_left _ (q.all_forgot ((n, count) ∷ [])) is
+-- what is answered has the entry's node
+entry_nodes : (n : ℕ) (node : Node) (answer : Answer) → Replies (EntryOf n node) (Plain answer)
+    → node_of answer ≡ n ∷ []
+entry_nodes n node (Found x) r = ap (λ k. k ∷ []) r.inode
+entry_nodes n node (Created x y z) r = ap (λ k. k ∷ []) r.0.inode
+entry_nodes n node Done r = absurd r
+entry_nodes n node (Failed x) r = absurd r
+entry_nodes n node (Options x) r = absurd r
+entry_nodes n node (Attributes x y) r = absurd r
+entry_nodes n node (Put x) r = absurd r
+entry_nodes n node (Opened x y) r = absurd r
+entry_nodes n node (Statistics x) r = absurd r
+entry_nodes n node (Text x) r = absurd r
+entry_nodes n node (Count x) r = absurd r
+entry_nodes n node (Offset x) r = absurd r
+entry_nodes n node (Wrote x) r = absurd r
 
 -- ---- the table
 
-pub calls_covered : (old new : State) (Q : State → Type 0) → Covers old Q → (call : Call)
-    (answer : Answer) → TreeAllows old call (Plain answer) new → Q new
-calls_covered old new Q q (Lookup c parent name) answer allowed =
-    unless old new Q q answer _ _
-    (λ none. finds old new Q q answer (child_at old parent name) (node_named old parent name) refl)
-    allowed
-calls_covered old new Q q (Forget c n count) answer allowed = forgets old new Q q n count allowed.1
-calls_covered old new Q q (BatchForget c pairs) answer allowed =
-    is_left old new Q q (all_forgotten old pairs) (q.all_forgot pairs) allowed.1
-calls_covered old new Q q (Setattr c n attr h valid) answer allowed =
-    unless old new Q q answer _ _
-    (sets_attr old new Q q n attr valid answer (node_at old n) refl) allowed
-calls_covered old new Q q (Symlink c text parent name e) answer allowed =
-    makes old new Q q c _ _ parent name text answer allowed
-calls_covered old new Q q (Mknod c parent name mode r u e) answer allowed =
-    unless old new Q q answer (if is_plain mode then None else Some eperm)
-    (Makes old c kind.File mode parent name [] answer new)
-    (λ none. makes old new Q q c kind.File mode parent name [] answer) allowed
-calls_covered old new Q q (Mkdir c parent name mode u e) answer allowed =
-    makes old new Q q c _ mode parent name [] answer allowed
-calls_covered old new Q q (Create c parent name mode k f u e) answer allowed =
-    makes old new Q q c _ mode parent name [] (entry_part answer) allowed.1
-calls_covered old new Q q (Unlink c parent name) answer allowed =
-    unless old new Q q answer (unlink_refusal old parent name) _
-    (λ none (h : (answer ≡ Done) × (new ≡ taken_out old parent name (child_at old parent name))).
-    is_left old new Q q _ (q.unlinks parent name none) h.1) allowed
-calls_covered old new Q q (Rmdir c parent name) answer allowed =
-    unless old new Q q answer (rmdir_refusal old parent name) _
-    (λ none (h : (answer ≡ Done) × (new ≡ taken_out old parent name (child_at old parent name))).
-    is_left old new Q q _ (q.removes parent name none) h.1) allowed
-calls_covered old new Q q (Rename c od on nd nn flags) answer allowed =
-    unless old new Q q answer (rename_refusal old od on nd nn flags) _
-    (λ none. does old new Q q answer (renamed old od on nd nn flags)
-    (q.renames od on nd nn flags none)) allowed
-calls_covered old new Q q (Link c n parent name) answer allowed =
-    unless old new Q q answer _ _
-    (links old new Q q n parent name answer (node_at old n) refl) allowed
-calls_covered old new Q q (Open c n k flags) answer allowed =
-    opens old new Q q n flags answer (node_at old n) refl allowed
-calls_covered old new Q q (Read c n h room size off o f) answer allowed =
-    unless old new Q q answer _ _
-    (λ none (r : AnswersRead (node_at old n) off (most_put room size) answer × (new ≡ old)).
-    still old new Q q r.1) allowed
-calls_covered old new Q q (Write c n h bytes size off o d k f) answer allowed =
-    unless old new Q q answer _ _
-    (λ none. writes old new Q q n off (take size bytes) answer (node_at old n) refl) allowed
-calls_covered old new Q q (Fallocate c n h mode off len) answer allowed =
-    unless old new Q q answer _ _
-    (grows old new Q q n mode off len answer (node_at old n) refl) allowed
-calls_covered old new Q q (Setxattr c n name value flags e) answer allowed =
-    unless old new Q q answer _ _
-    (sets_xattr old new Q q n name value flags answer (node_at old n) refl) allowed
-calls_covered old new Q q (Removexattr c n name) answer allowed =
-    unless old new Q q answer _ _
-    (λ none (h : (answer ≡ Done) × (new ≡ xattr_removed old n name (node_at old n))).
-    removes_xattr old new Q q n name (node_at old n) refl h.1) allowed
-calls_covered old new Q q (Getattr c n h) answer allowed = subst Q (sym allowed.1) q.same
-calls_covered old new Q q (Readlink c n) answer allowed = subst Q (sym allowed.1) q.same
-calls_covered old new Q q (Statfs c n) answer allowed = subst Q (sym allowed.1) q.same
-calls_covered old new Q q (Release c n f h x y o) answer allowed = subst Q (sym allowed.1) q.same
-calls_covered old new Q q (Fsync c n x h) answer allowed = subst Q (sym allowed.1) q.same
-calls_covered old new Q q (Getxattr c n name size) answer allowed = subst Q (sym allowed.1) q.same
-calls_covered old new Q q (Listxattr c n size) answer allowed = subst Q (sym allowed.1) q.same
-calls_covered old new Q q (Flush c n h o) answer allowed = subst Q (sym allowed.1) q.same
-calls_covered old new Q q (Init x) answer allowed = subst Q (sym allowed.1) q.same
-calls_covered old new Q q (Opendir c n f) answer allowed = subst Q (sym allowed.1) q.same
-calls_covered old new Q q (Readdir c n h size off) answer allowed = subst Q (sym allowed.1) q.same
-calls_covered old new Q q (Releasedir c n f h) answer allowed = subst Q (sym allowed.1) q.same
-calls_covered old new Q q (Fsyncdir c n x h) answer allowed = subst Q (sym allowed.1) q.same
-calls_covered old new Q q Getlk answer allowed = subst Q (sym allowed.1) q.same
-calls_covered old new Q q Setlk answer allowed = subst Q (sym allowed.1) q.same
-calls_covered old new Q q Setlkw answer allowed = subst Q (sym allowed.1) q.same
-calls_covered old new Q q (Access c n m) answer allowed = subst Q (sym allowed.1) q.same
-calls_covered old new Q q Bmap answer allowed = subst Q (sym allowed.1) q.same
-calls_covered old new Q q Destroy answer allowed = subst Q (sym allowed.1) q.same
-calls_covered old new Q q Ioctl answer allowed = subst Q (sym allowed.1) q.same
-calls_covered old new Q q Poll answer allowed = subst Q (sym allowed.1) q.same
-calls_covered old new Q q NotifyReply answer allowed = subst Q (sym allowed.1) q.same
-calls_covered old new Q q (Lseek c n h off w) answer allowed = subst Q (sym allowed.1) q.same
-calls_covered old new Q q (Copyfilerange c n h o m i p l f) answer allowed = subst Q (sym allowed.1) q.same
-calls_covered old new Q q (Syncfs c n) answer allowed = subst Q (sym allowed.1) q.same
-calls_covered old new Q q Tmpfile answer allowed = subst Q (sym allowed.1) q.same
+module _ (old : State) (P : List (ℕ × ℕ) → Reply → State → Type 0) (q : Covers old P) where
+  -- a fact of a call's answer and the state then: the answer has the entries that it is to have
+  abbrev pub Leaves : Call → Reply → State → Type 0
+  Leaves call reply left =
+      ((answer : Answer) → Replies reply (Plain answer) → answered_nodes call answer ≡ nodes_of reply)
+      × P (forgets_of call) reply left
+
+  abbrev pub Covered : Call → Type 0
+  Covered call = Each (Fails call) (Leaves call) (outcome old call)
+
+  makes_covered : (call : Call)
+      → ((answer : Answer) → answered_nodes call answer ≡ node_of answer) → forgets_of call ≡ []
+      → (ctx : Context) (kind : Kind) (permissions parent : ℕ) (name contents : List ℕ)
+      → Each (Fails call) (Leaves call) (makes old ctx kind permissions parent name contents)
+  makes_covered call same none ctx kind permissions parent name contents =
+      let node = new_node old.now ctx.uid ctx.gid kind permissions parent contents in
+      let last = made old parent name node in
+      let fails : Fails call = (none, λ error. same (Failed error)) in
+      each-unless (Fails call) (Leaves call) fails (make_refusal old parent name (length contents))
+      (Tried true (EntryOf old.next node) last)
+      (λ free. (
+        fails,
+        (
+          λ answer r. same answer ∙ entry_nodes old.next node answer r,
+          subst (λ pairs. P pairs (EntryOf old.next node) last) (sym none)
+              (q.makes ctx.uid ctx.gid kind permissions parent name contents free),
+        ),
+      ))
+
+  tells_covered : (call : Call) → ((answer : Answer) → answered_nodes call answer ≡ [])
+      → forgets_of call ≡ [] → (size : ℕ) (text : Option (List ℕ))
+      → Each (Fails call) (Leaves call) (tells old size text)
+  tells_covered call none gives size None = (gives, λ e. none (Failed e))
+  tells_covered call none gives size (Some text) = by (size == 0)
+    where
+      quiet : (reply : Reply) → nodes_of reply ≡ [] → Leaves call reply old
+      quiet reply is = (
+        λ answer r. none answer ∙ sym is,
+        subst (λ pairs. P pairs reply old) (sym gives) (q.same reply is),
+      )
+
+      by : (asks : Bool)
+          → Each (Fails call) (Leaves call)
+          (if asks then Answered (Just (Count (length text))) old
+          else unless (first_of ((nat_lt size (length text), erange) ∷ []))
+          (Tried true (Just (Text text)) old))
+      by true = quiet (Just (Count (length text))) refl
+      by false =
+          let fails : Fails call = (gives, λ e. none (Failed e)) in
+          each-unless (Fails call) (Leaves call) fails
+          (first_of ((nat_lt size (length text), erange) ∷ [])) (Tried true (Just (Text text)) old)
+          (λ fits. (fails, quiet (Just (Text text)) refl))
+
+  pub covered : (call : Call) → Covered call
+  covered (Lookup c parent name) =
+      let call = (Lookup c parent name) in
+      let fails : Fails call = (refl, λ e. refl) in
+      let last = λ (child : Child) (node : Node).
+      Answered (EntryOf child.node node)
+      (with_node old child.node (record node { lookups = node.lookups + 1 })) in
+      let full = λ (node : Node). first_of ((node.lookups == 2 ^ 64 - 1, eoverflow) ∷ []) in
+      each-at_name (Fails call) (Leaves call) fails old parent name
+      (λ child node. unless (full node) (last child node))
+      (λ child node free is there.
+      each-unless (Fails call) (Leaves call) fails (full node) (last child node)
+      (λ fits. (entry_nodes child.node node, q.looked_up child.node node there)))
+  covered (Forget c n count) =
+      ((λ a r. refl), q.forgot ((n, count) ∷ []))
+  covered (BatchForget c pairs) =
+      ((λ a r. refl), q.forgot pairs)
+  covered (Getattr c n h) =
+      let call = (Getattr c n h) in
+      let fails : Fails call = (refl, λ e. refl) in
+      each-with_it (Fails call) (Leaves call) fails (node_at old n)
+      (λ node. Answered (AttrOf n node) old) (λ node is. ((λ a r. refl), q.same (AttrOf n node) refl))
+  covered (Setattr c n attr h valid) =
+      let call = (Setattr c n attr h valid) in
+      let fails : Fails call = (refl, λ e. refl) in
+      let set = λ (node : Node). set_attr old.now node attr valid in
+      each-on (Fails call) (Leaves call) fails (node_at old n) (setattr_refusal old attr valid)
+      (λ node. Tried true (AttrOf n (set node)) (with_resized old n node (set node)))
+      (λ node is free. (
+        fails,
+        (
+          (λ a r. refl),
+          q.resizes n node (set node) (AttrOf n (set node)) tt is
+              (set_attr_resizes old node attr valid free),
+        ),
+      ))
+  covered (Mkdir c parent name mode u e) =
+      makes_covered (Mkdir c parent name mode u e) (λ a. refl) refl c kind.Directory mode parent name []
+  covered (Create c parent name mode k f u e) =
+      makes_covered (Create c parent name mode k f u e) (λ a. refl) refl c kind.File mode parent name []
+  covered (Symlink c text parent name e) =
+      makes_covered (Symlink c text parent name e) (λ a. refl) refl c kind.Link 0o777 parent name text
+  covered (Mknod c parent name mode r u e) =
+      let call = (Mknod c parent name mode r u e) in
+      let fails : Fails call = (refl, λ e. refl) in
+      each-unless (Fails call) (Leaves call) fails (if is_plain mode then None else Some eperm)
+      (makes old c kind.File mode parent name [])
+      (λ plain. makes_covered call (λ a. refl) refl c kind.File mode parent name [])
+  covered (Link c n parent name) =
+      let call = (Link c n parent name) in
+      let fails : Fails call = (refl, λ e. refl) in
+      each-on (Fails call) (Leaves call) fails (node_at old n) (link_refusal old parent name)
+      (λ node. Tried true (EntryOf n (linked old.now node))
+      (change (with_names old parent (λ c. with_child c name (record { node = n; kind = node.kind })))
+      n (linked old.now)))
+      (λ node is free. (
+        fails,
+        (entry_nodes n (linked old.now node), q.links n node parent name is free),
+      ))
+  covered (Unlink c parent name) =
+      let call = (Unlink c parent name) in
+      let fails : Fails call = (refl, λ e. refl) in
+      let last = λ (child : Child). done (taken_out old parent name child) in
+      let rs = λ (node : Node). (is_directory node.kind, eisdir) ∷ [] in
+      each-at_name (Fails call) (Leaves call) fails old parent name
+      (λ child node. unless (first_of (rs node)) (last child))
+      (λ child node free is there.
+      each-unless (Fails call) (Leaves call) fails (first_of (rs node)) (last child)
+      (λ fits. ((λ a r. refl), q.unlinks parent name child node free is there (are_not (rs node) fits).0)))
+  covered (Rmdir c parent name) =
+      let call = (Rmdir c parent name) in
+      let fails : Fails call = (refl, λ e. refl) in
+      let last = λ (child : Child). done (taken_out old parent name child) in
+      let empty = λ (node : Node). length node.children.links == 0 in
+      let rs = λ (node : Node).
+      (not (is_directory node.kind), enotdir) ∷ (not (empty node), enotempty) ∷ [] in
+      each-at_name (Fails call) (Leaves call) fails old parent name
+      (λ child node. unless (first_of (rs node)) (last child))
+      (λ child node free is there.
+      each-unless (Fails call) (Leaves call) fails (first_of (rs node)) (last child)
+      (λ fits. (
+        (λ a r. refl),
+        q.removes parent name child node free is there
+            (eqb-true (length node.children.links) 0
+            (not-false (empty node) (are_not (rs node) fits).1.0)),
+      )))
+  covered (Rename c od on nd nn flags) =
+      let call = (Rename c od on nd nn flags) in
+      let fails : Fails call = (refl, λ e. refl) in
+      each-unless (Fails call) (Leaves call) fails (rename_refusal old od on nd nn flags)
+      (Tried true (Just Done) (renamed old od on nd nn flags))
+      (λ free. (fails, ((λ a r. refl), q.renames od on nd nn flags free)))
+  covered (Readlink c n) =
+      let call = (Readlink c n) in
+      let fails : Fails call = (refl, λ e. refl) in
+      let text = λ (node : Node). Tried true (Just (Text node.contents)) old in
+      let none = λ (node : Node). first_of ((has_no_text node, einval) ∷ []) in
+      each-with_it (Fails call) (Leaves call) fails (node_at old n)
+      (λ node. unless (none node) (text node))
+      (λ node is. each-unless (Fails call) (Leaves call) fails (none node) (text node)
+      (λ some. (fails, ((λ a r. refl), q.same (Just (Text node.contents)) refl))))
+  covered (Open c n k flags) =
+      let call = (Open c n k flags) in
+      let fails : Fails call = (refl, λ e. refl) in
+      let last = λ (node : Node). opened old.now node flags in
+      each-with_it (Fails call) (Leaves call) fails (node_at old n)
+      (λ node. Answered (Just default_opening) (with_resized old n node (last node)))
+      (λ node is. (
+        (λ a r. refl),
+        q.resizes n node (last node) (Just default_opening) refl is (opened_resizes old node flags),
+      ))
+  covered (Read c n h room size off o f) =
+      let call = (Read c n h room size off o f) in
+      let fails : Fails call = (refl, λ e. refl) in
+      let reply = λ (node : Node). Just (Put (part_of node.contents off (most_put room size))) in
+      each-on (Fails call) (Leaves call) fails (node_at old n) contents_refusal
+      (λ node. Answered (reply node) old) (λ node is free. ((λ a r. refl), q.same (reply node) refl))
+  covered (Write c n h bytes size off o d k f) =
+      let call = (Write c n h bytes size off o d k f) in
+      let fails : Fails call = (refl, λ e. refl) in
+      let fit = λ (node : Node). fitting (most_size old node) off (take size bytes) in
+      each-on (Fails call) (Leaves call) fails (node_at old n) (write_refusal old off size)
+      (writes old n off (take size bytes))
+      (λ node is free. (
+        fails,
+        (
+          (λ a r. refl),
+          q.resizes n node (overwritten old.now node off (fit node))
+              (Just (Wrote (length (fit node)))) refl is
+              (overwritten_resizes old node off (fit node) (fitting_ends old node off (take size bytes))),
+        ),
+      ))
+  covered (Fallocate c n h mode off len) =
+      let call = (Fallocate c n h mode off len) in
+      let fails : Fails call = (refl, λ e. refl) in
+      let last = λ (node : Node). grown old.now (off + len) node in
+      each-on (Fails call) (Leaves call) fails (node_at old n) (fallocate_refusal old mode off len)
+      (λ node. Tried true (Just Done) (with_resized old n node (last node)))
+      (λ node is free. (
+        fails,
+        (
+          (λ a r. refl),
+          q.resizes n node (last node) (Just Done) refl is (grown_resizes old node mode off len free),
+        ),
+      ))
+  covered (Setxattr c n name value flags e) =
+      let call = (Setxattr c n name value flags e) in
+      let fails : Fails call = (refl, λ e. refl) in
+      let last = λ (node : Node). with_xattrs old.now node (with_xattr node.xattrs name value) in
+      each-on (Fails call) (Leaves call) fails (node_at old n) (setxattr_refusal old name value flags)
+      (λ node. Tried true (Just Done) (with_resized old n node (last node)))
+      (λ node is free. (
+        fails,
+        (
+          (λ a r. refl),
+          q.resizes n node (last node) (Just Done) refl is (xattr_fits old node name value flags free),
+        ),
+      ))
+  covered (Removexattr c n name) =
+      let call = (Removexattr c n name) in
+      let fails : Fails call = (refl, λ e. refl) in
+      let last = λ (node : Node). with_xattrs old.now node (without_xattr node.xattrs name) in
+      let none = λ (node : Node). first_of ((is_none (xattr_named node.xattrs name), enodata) ∷ []) in
+      each-with_it (Fails call) (Leaves call) fails (node_at old n)
+      (λ node. unless (none node) (done (with_resized old n node (last node))))
+      (λ node is.
+      each-unless (Fails call) (Leaves call) fails (none node) (done (with_resized old n node (last node)))
+      (λ free. ((λ a r. refl), q.resizes n node (last node) (Just Done) refl is (xattr_leaves old node name))))
+  covered (Getxattr c n name size) =
+      let call = (Getxattr c n name size) in
+      let fails : Fails call = (refl, λ e. refl) in
+      each-with_it (Fails call) (Leaves call) fails (node_at old n)
+      (λ node. tells old size (xattr_named node.xattrs name))
+      (λ node is. tells_covered call (λ a. refl) refl size (xattr_named node.xattrs name))
+  covered (Listxattr c n size) =
+      let call = (Listxattr c n size) in
+      let fails : Fails call = (refl, λ e. refl) in
+      each-with_it (Fails call) (Leaves call) fails (node_at old n)
+      (λ node. tells old size (Some (name_list node.xattrs)))
+      (λ node is. tells_covered call (λ a. refl) refl size (Some (name_list node.xattrs)))
+  covered (Readdir c n h size off) =
+      let call = (Readdir c n h size off) in
+      let fails : Fails call = (refl, λ e. refl) in
+      let reply = λ (node : Node). Listed (items_behind n node off size) in
+      let none = λ (node : Node). first_of ((not (is_directory node.kind), enotdir) ∷ []) in
+      each-with_it (Fails call) (Leaves call) fails (node_at old n)
+      (λ node. unless (none node) (Tried true (reply node) old))
+      (λ node is. each-unless (Fails call) (Leaves call) fails (none node) (Tried true (reply node) old)
+      (λ free. (fails, ((λ a r. refl), q.same (reply node) refl))))
+  covered (Statfs c n) =
+      ((λ a r. refl), q.same (Just (Statistics (statistics_of old))) refl)
+  covered (Init x) =
+      ((λ a r. refl), q.same (Just (Options 0x2000)) refl)
+  covered (Release c n f h x y o) =
+      ((λ a r. refl), q.same (Just Done) refl)
+  covered (Fsync c n x h) =
+      ((λ a r. refl), q.same (Just Done) refl)
+  covered (Flush c n h o) =
+      ((λ a r. refl), q.same (Just Done) refl)
+  covered (Releasedir c n f h) =
+      ((λ a r. refl), q.same (Just Done) refl)
+  covered (Fsyncdir c n x h) =
+      ((λ a r. refl), q.same (Just Done) refl)
+  covered (Opendir c n f) =
+      ((λ a r. refl), q.same (Just (default_answer (Opendir c n f))) refl)
+  covered Getlk =
+      ((λ a r. refl), q.same (Just (default_answer Getlk)) refl)
+  covered Setlk =
+      ((λ a r. refl), q.same (Just (default_answer Setlk)) refl)
+  covered Setlkw =
+      ((λ a r. refl), q.same (Just (default_answer Setlkw)) refl)
+  covered (Access c n m) =
+      ((λ a r. refl), q.same (Just (default_answer (Access c n m))) refl)
+  covered Bmap =
+      ((λ a r. refl), q.same (Just (default_answer Bmap)) refl)
+  covered Destroy =
+      ((λ a r. refl), q.same (Just (default_answer Destroy)) refl)
+  covered Ioctl =
+      ((λ a r. refl), q.same (Just (default_answer Ioctl)) refl)
+  covered Poll =
+      ((λ a r. refl), q.same (Just (default_answer Poll)) refl)
+  covered NotifyReply =
+      ((λ a r. refl), q.same (Just (default_answer NotifyReply)) refl)
+  covered (Lseek c n h off w) =
+      ((λ a r. refl), q.same (Just (default_answer (Lseek c n h off w))) refl)
+  covered (Copyfilerange c n h o m i p l f) =
+      ((λ a r. refl), q.same (Just (default_answer (Copyfilerange c n h o m i p l f))) refl)
+  covered (Syncfs c n) =
+      ((λ a r. refl), q.same (Just (default_answer (Syncfs c n))) refl)
+  covered Tmpfile =
+      ((λ a r. refl), q.same (Just (default_answer Tmpfile)) refl)
+
+-- ---- what a call leaves
+
+-- a call is refused, and nothing is changed, or this is answered and left
+pub left_so : (old new : State) (F : Type 0) (L : Reply → State → Type 0) (o : Outcome)
+    (handed : Handed (List Item)) (C : Type 0)
+    → (F → (error : Option ℕ) → handed ≡ Plain (Failed error) → new ≡ old → C)
+    → ((reply : Reply) → Replies reply handed → L reply new → C)
+    → Each F L o → Ends old o handed new → C
+left_so old new F L (Refused error) handed C fails leaves each h =
+    fails each (Some error) h.0 h.1
+left_so old new F L (Answered reply left) handed C fails leaves each h =
+    leaves reply h.0 (subst (L reply) (sym h.1) each)
+left_so old new F L (Tried needs reply left) handed C fails leaves each h = by handed fails leaves h
+  where
+    by : (handed : Handed (List Item))
+        → (F → (error : Option ℕ) → handed ≡ Plain (Failed error) → new ≡ old → C)
+        → ((reply : Reply) → Replies reply handed → L reply new → C)
+        → Ends old (Tried needs reply left) handed new → C
+    by (Plain (Failed x)) fails leaves h = fails each.0 x refl h.1
+    by (Iterator x) fails leaves h = leaves reply h.0 (subst (L reply) (sym h.1) each.1)
+    by (Plain Done) fails leaves h = leaves reply h.0 (subst (L reply) (sym h.1) each.1)
+    by (Plain (Options x)) fails leaves h = leaves reply h.0 (subst (L reply) (sym h.1) each.1)
+    by (Plain (Found x)) fails leaves h = leaves reply h.0 (subst (L reply) (sym h.1) each.1)
+    by (Plain (Attributes x y)) fails leaves h = leaves reply h.0 (subst (L reply) (sym h.1) each.1)
+    by (Plain (Put x)) fails leaves h = leaves reply h.0 (subst (L reply) (sym h.1) each.1)
+    by (Plain (Opened x y)) fails leaves h = leaves reply h.0 (subst (L reply) (sym h.1) each.1)
+    by (Plain (Created x y z)) fails leaves h = leaves reply h.0 (subst (L reply) (sym h.1) each.1)
+    by (Plain (Statistics x)) fails leaves h = leaves reply h.0 (subst (L reply) (sym h.1) each.1)
+    by (Plain (Text x)) fails leaves h = leaves reply h.0 (subst (L reply) (sym h.1) each.1)
+    by (Plain (Count x)) fails leaves h = leaves reply h.0 (subst (L reply) (sym h.1) each.1)
+    by (Plain (Offset x)) fails leaves h = leaves reply h.0 (subst (L reply) (sym h.1) each.1)
+    by (Plain (Wrote x)) fails leaves h = leaves reply h.0 (subst (L reply) (sym h.1) each.1)
+
+-- a fact of all states that are left
+pub calls_covered : (old new : State) (Q : State → Type 0) → Covers old (λ taken reply left. Q left)
+    → (call : Call) (answer : Answer) → TreeAllows old call (Plain answer) new → Q new
+calls_covered old new Q q call answer =
+    left_so old new (Fails call) (Leaves old (λ taken reply left. Q left) q call) (outcome old call)
+    (Plain answer) (Q new)
+    (λ fails error is same. subst Q (sym same) (q.same (Just Done) refl))
+    (λ reply replies leaves. leaves.1)
+    (covered old (λ taken reply left. Q left) q call)

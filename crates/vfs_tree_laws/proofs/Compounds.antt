@@ -240,12 +240,12 @@ module _ (s : State) (linked_s : IsLinked s) (n : ℕ) (node : Node)
   is_mid : node_at mid_linked n ≡ Some node
   is_mid = step_linked.nodes n n_apart ∙ is
 
-  pub linked-linked : IsLinked (change mid_linked n (linked s))
+  pub linked-linked : IsLinked (change mid_linked n (linked s.now))
   linked-linked =
       let old = (good_s.nodes n node is).shape in
       let counted = counted_from s linked_s in
-      subst IsLinked (sym (ap (changed mid_linked n (linked s)) is_mid))
-      (linked-with_node mid_linked n node (linked s node) is_mid refl refl refl step_linked.good
+      subst IsLinked (sym (ap (changed mid_linked n (linked s.now)) is_mid))
+      (linked-with_node mid_linked n node (linked s.now node) is_mid refl refl refl step_linked.good
       (step_linked.parents 1 ∙ linked_s.top)
       (record {
         apart = old.apart;
@@ -307,7 +307,7 @@ module _ (s : State) (sound : IsSound s) (linked_s : IsLinked s) (parent : ℕ) 
   is_rest : node_at rest child.node ≡ Some target
   is_rest = step_out.nodes child.node target_apart ∙ is_target
 
-  pub linked-taken_out : IsLinked (taken_out s parent name (Some child))
+  pub linked-taken_out : IsLinked (taken_out s parent name child)
   linked-taken_out =
       let counted = counted_from s linked_s in
       let old = ((good_from s linked_s).nodes child.node target is_target).shape in

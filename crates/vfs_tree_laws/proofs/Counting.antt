@@ -5,7 +5,7 @@ use Rattle.vfs_files.specs.Calls.{Call, Lookup, Forget, BatchForget, Getattr, Se
 use Rattle.vfs_files.specs.Runs.{Event, Called, OpenedDirectory, Taken, Happening, Calls, Opens, Takes, IsRun, at_hand, event_of, events_of}
 use Rattle.vfs_grammar.specs.Books.{answered, sent, answered_by, sent_by, answered_nodes, node_of, forgets_of, times, counts, NeverBelow, KeepsBooks, accepted, delivered}
 use Rattle.vfs_grammar.specs.Turn.{Turn, events_in}
-use Rattle.vfs_tree_laws.specs.Laws.{IsTree, IsHeld, lookups_in, lookups_of, names_of, gives, given, takes_back, taken_back, CallsKeepTrees, ReadingsChangeNothing}
+use Rattle.vfs_tree_laws.specs.Laws.{IsTree, IsHeld, lookups_in, lookups_of, names_of, CallsKeepTrees, ReadingsChangeNothing}
 use Rattle.vfs_tree.specs.Listing.{GivesFirst}
 use Rattle.vfs_tree.specs.State.{State, node_at}
 use Rattle.vfs_tree.specs.declared.node.Node.{Node}
@@ -13,118 +13,10 @@ use Rattle.vfs_tree.specs.Tree.{TreeAllows}
 use Rattle.vfs_tree_laws.specs.Runs.{RunsKeepTrees, KeepsTree, GivesAllBack, LeavesNone}
 use Rattle.std.proofs.lemmas.List.Sums.{sum_by-append}
 
--- what an answer gives of a node is how often its entry is the node's
-pub given_times : (n : ℕ) (answer : Answer) → times n (node_of answer) ≡ given n answer
-given_times n Done = refl
-given_times n (Failed x) = refl
-given_times n (Options x) = refl
-given_times n (Found x) = omega arith
-given_times n (Attributes x y) = refl
-given_times n (Put x) = refl
-given_times n (Opened x y) = refl
-given_times n (Created x y z) = omega arith
-given_times n (Statistics x) = refl
-given_times n (Text x) = refl
-given_times n (Count x) = refl
-given_times n (Offset x) = refl
-given_times n (Wrote x) = refl
-
-pub gives_answered : (n : ℕ) (call : Call) (answer : Answer)
-    → times n (answered_nodes call answer) ≡ gives n call answer
-gives_answered n (Lookup _ _ _) answer = given_times n answer
-gives_answered n (Forget _ _ _) answer = refl
-gives_answered n (Getattr _ _ _) answer = refl
-gives_answered n (Setattr _ _ _ _ _) answer = refl
-gives_answered n (Readlink _ _) answer = refl
-gives_answered n (Symlink _ _ _ _ _) answer = given_times n answer
-gives_answered n (Mknod _ _ _ _ _ _ _) answer = given_times n answer
-gives_answered n (Mkdir _ _ _ _ _ _) answer = given_times n answer
-gives_answered n (Unlink _ _ _) answer = refl
-gives_answered n (Rmdir _ _ _) answer = refl
-gives_answered n (Rename _ _ _ _ _ _) answer = refl
-gives_answered n (Link _ _ _ _) answer = given_times n answer
-gives_answered n (Open _ _ _ _) answer = refl
-gives_answered n (Read _ _ _ _ _ _ _ _) answer = refl
-gives_answered n (Write _ _ _ _ _ _ _ _ _ _) answer = refl
-gives_answered n (Statfs _ _) answer = refl
-gives_answered n (Release _ _ _ _ _ _ _) answer = refl
-gives_answered n (Fsync _ _ _ _) answer = refl
-gives_answered n (Setxattr _ _ _ _ _ _) answer = refl
-gives_answered n (Getxattr _ _ _ _) answer = refl
-gives_answered n (Listxattr _ _ _) answer = refl
-gives_answered n (Removexattr _ _ _) answer = refl
-gives_answered n (Flush _ _ _ _) answer = refl
-gives_answered n (Init _) answer = refl
-gives_answered n (Opendir _ _ _) answer = refl
-gives_answered n (Readdir _ _ _ _ _) answer = refl
-gives_answered n (Releasedir _ _ _ _) answer = refl
-gives_answered n (Fsyncdir _ _ _ _) answer = refl
-gives_answered n Getlk answer = refl
-gives_answered n Setlk answer = refl
-gives_answered n Setlkw answer = refl
-gives_answered n (Access _ _ _) answer = refl
-gives_answered n (Create _ _ _ _ _ _ _ _) answer = given_times n answer
-gives_answered n Bmap answer = refl
-gives_answered n Destroy answer = refl
-gives_answered n Ioctl answer = refl
-gives_answered n Poll answer = refl
-gives_answered n NotifyReply answer = refl
-gives_answered n (BatchForget _ _) answer = refl
-gives_answered n (Fallocate _ _ _ _ _ _) answer = refl
-gives_answered n (Lseek _ _ _ _ _) answer = refl
-gives_answered n (Copyfilerange _ _ _ _ _ _ _ _ _) answer = refl
-gives_answered n (Syncfs _ _) answer = refl
-gives_answered n Tmpfile answer = refl
-
-pub takes_sent : (n : ℕ) (call : Call) → counts n (forgets_of call) ≡ takes_back n call
-takes_sent n (Lookup _ _ _) = refl
-takes_sent n (Forget _ _ _) = refl
-takes_sent n (Getattr _ _ _) = refl
-takes_sent n (Setattr _ _ _ _ _) = refl
-takes_sent n (Readlink _ _) = refl
-takes_sent n (Symlink _ _ _ _ _) = refl
-takes_sent n (Mknod _ _ _ _ _ _ _) = refl
-takes_sent n (Mkdir _ _ _ _ _ _) = refl
-takes_sent n (Unlink _ _ _) = refl
-takes_sent n (Rmdir _ _ _) = refl
-takes_sent n (Rename _ _ _ _ _ _) = refl
-takes_sent n (Link _ _ _ _) = refl
-takes_sent n (Open _ _ _ _) = refl
-takes_sent n (Read _ _ _ _ _ _ _ _) = refl
-takes_sent n (Write _ _ _ _ _ _ _ _ _ _) = refl
-takes_sent n (Statfs _ _) = refl
-takes_sent n (Release _ _ _ _ _ _ _) = refl
-takes_sent n (Fsync _ _ _ _) = refl
-takes_sent n (Setxattr _ _ _ _ _ _) = refl
-takes_sent n (Getxattr _ _ _ _) = refl
-takes_sent n (Listxattr _ _ _) = refl
-takes_sent n (Removexattr _ _ _) = refl
-takes_sent n (Flush _ _ _ _) = refl
-takes_sent n (Init _) = refl
-takes_sent n (Opendir _ _ _) = refl
-takes_sent n (Readdir _ _ _ _ _) = refl
-takes_sent n (Releasedir _ _ _ _) = refl
-takes_sent n (Fsyncdir _ _ _ _) = refl
-takes_sent n Getlk = refl
-takes_sent n Setlk = refl
-takes_sent n Setlkw = refl
-takes_sent n (Access _ _ _) = refl
-takes_sent n (Create _ _ _ _ _ _ _ _) = refl
-takes_sent n Bmap = refl
-takes_sent n Destroy = refl
-takes_sent n Ioctl = refl
-takes_sent n Poll = refl
-takes_sent n NotifyReply = refl
-takes_sent n (BatchForget _ _) = refl
-takes_sent n (Fallocate _ _ _ _ _ _) = refl
-takes_sent n (Lseek _ _ _ _ _) = refl
-takes_sent n (Copyfilerange _ _ _ _ _ _ _ _ _) = refl
-takes_sent n (Syncfs _ _) = refl
-takes_sent n Tmpfile = refl
-
 -- no call gives lookups and takes some back
 takes_alone : (n held : ℕ) (call : Call) (answer : Answer)
-    → takes_back n call ≤ held + gives n call answer → takes_back n call ≤ held
+    → counts n (forgets_of call) ≤ held + times n (answered_nodes call answer)
+    → counts n (forgets_of call) ≤ held
 takes_alone n held (Lookup _ _ _) answer within = omega arith
 takes_alone n held (Forget _ _ _) answer within = omega (arith, within)
 takes_alone n held (Getattr _ _ _) answer within = omega arith
@@ -225,11 +117,8 @@ module _ (law : CallsKeepTrees) (readings : ReadingsChangeNothing) where
       → lookups_of mid n + counts n (forgets_of call)
       ≡ lookups_of old n + times n (answered_nodes call answer)
   call_counts old mid call answer tree allowed n within =
-      let took = takes_sent n call in
-      let gave = gives_answered n call answer in
-      let held : takes_back n call ≤ lookups_of old n =
-      takes_alone n (lookups_of old n) call answer (omega (arith, took, gave, within)) in
-      omega (arith, took, gave, (law old mid call answer tree allowed).2 n held)
+      (law old mid call answer tree allowed).2 n
+      (takes_alone n (lookups_of old n) call answer within)
 
   pub counted : (it : Option (List Item)) (old new : State)
       (run : List (Happening (List Item) × State)) → IsTree old

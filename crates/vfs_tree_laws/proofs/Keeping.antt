@@ -77,19 +77,19 @@ pub there-change : (s : State) (n m : ℕ) (f : Node → Node) → IsSome (node_
     → IsSome (node_at (change s n f) m)
 there-change s n m f some = there-changed s n m f (node_at s n) refl some
 
--- other bytes may be in use
-pub keeps_used : (s : State) (used : ℕ) → IsSound s → Keeps s (record s { used = used })
-keeps_used s used sound = record {
-  sound = record { ordered = sound.ordered; held = sound.held };
-  lookups = λ m. refl;
-}
-
-pub keeps-with_resized : (s : State) (n : ℕ) (f : Node → Node) → IsPlain f → IsSound s
-    → (node : Node) → node_at s n ≡ Some node → Keeps s (with_resized s n node (f node))
-keeps-with_resized s n f plain sound node is =
-    keeps_both s (with_node s n (f node)) (with_resized s n node (f node))
-    (keeps-with_node s n f plain sound node is)
-    (keeps_used (with_node s n (f node)) _)
+-- a node with other contents or extended attributes
+pub keeps-resized : (s : State) (n : ℕ) (was now : Node) → now.lookups ≡ was.lookups
+    → now.names ≡ was.names → IsSound s → node_at s n ≡ Some was
+    → Keeps s (with_resized s n was now)
+keeps-resized s n was now lookups names sound is =
+    let held : IsHeld was = subst (λ o. IfSome o IsHeld) is (sound.held n) in
+    let there = sound-with_node s n was now is sound (λ zero.
+    let some : 0 < was.lookups = held (sym names ∙ zero) in omega (arith, some, lookups)) in
+    record {
+      sound = record { ordered = there.ordered; held = there.held };
+      lookups = λ m. lookups_at s n m (with_node s n now) (Some was) is
+          (lookups_here s n was now is ∙ lookups) (lookups_other s n was now is m);
+    }
 
 pub keeps-with_names : (s : State) (d : ℕ) (f : Children → Children) → IsSound s
     → Keeps s (with_names s d f)
@@ -109,12 +109,11 @@ keeps-unnamed s n (Some node) is sound =
       lookups = λ m. lookups_at s n m new (Some node) is done.here (done.other m);
     }
 
-pub keeps-taken_out : (s : State) (parent : ℕ) (name : List ℕ) (child : Option Child)
+pub keeps-taken_out : (s : State) (parent : ℕ) (name : List ℕ) (child : Child)
     → IsSound s → Keeps s (taken_out s parent name child)
-keeps-taken_out s parent name None sound = keeps_itself s sound
-keeps-taken_out s parent name (Some child) sound =
+keeps-taken_out s parent name child sound =
     let rest = with_names s parent (λ c. without_child c name) in
-    keeps_both s rest (taken_out s parent name (Some child))
+    keeps_both s rest (taken_out s parent name child)
     (keeps-with_names s parent _ sound)
     (keeps-unnamed rest child.node (node_at rest child.node) refl)
 

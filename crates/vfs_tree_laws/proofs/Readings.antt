@@ -1,52 +1,41 @@
 -- A reading of a directory that begins changes nothing.
-use Rattle.std.proofs.Common.{◌≡◌, List}
+use Rattle.std.proofs.Common.{◌≡◌, ℕ, List, [], Some, refl}
 use Rattle.vfs_files.specs.Items.{Item}
-use Rattle.vfs_files.specs.Calls.{Call, Lookup, Forget, Getattr, Setattr, Readlink, Symlink, Mknod, Mkdir, Unlink, Rmdir, Rename, Link, Open, Read, Write, Statfs, Release, Fsync, Setxattr, Getxattr, Listxattr, Removexattr, Flush, Init, Opendir, Releasedir, Fsyncdir, Getlk, Setlk, Setlkw, Access, Create, Bmap, Destroy, Ioctl, Poll, NotifyReply, BatchForget, Fallocate, Lseek, Copyfilerange, Syncfs, Tmpfile, Readdir, Iterator}
+use Rattle.vfs_files.specs.Calls.{Iterator}
+use Rattle.vfs_tree.specs.Outcome.{Reply, Just, EntryOf, AttrOf, Listed, Replies}
+use Rattle.vfs_tree.specs.State.{State, with_resized}
+use Rattle.vfs_tree.specs.Tree.{outcome}
+use Rattle.vfs_tree.specs.declared.node.Node.{Node}
 use Rattle.vfs_tree_laws.specs.Laws.{ReadingsChangeNothing}
-use Rattle.vfs_tree.specs.State.{State}
+use Rattle.vfs_tree_laws.proofs.Cases.{Covers, Fails, IsTold, Leaves, covered, left_so}
+
+-- what a directory holds is handed out only where all stays
+abbrev StaysRead : State → List (ℕ × ℕ) → Reply → State → Type 0
+StaysRead old taken reply left = (items : List Item) → Replies reply (Iterator items) → left ≡ old
+
+told : (old left : State) (reply : Reply) → IsTold reply → StaysRead old [] reply left
+told old left (Just answer) is items read = absurd read
+told old left (AttrOf n node) is items read = absurd read
+told old left (EntryOf n node) is items read = absurd is
+told old left (Listed all) is items read = absurd is
+
+covers : (old : State) → Covers old (StaysRead old)
+covers old = record {
+  same = λ reply none items read. refl;
+  looked_up = λ n node is items read. absurd read;
+  forgot = λ pairs items read. absurd read;
+  resizes = λ n was now reply is at r. told old (with_resized old n was now) reply is;
+  makes = λ uid gid kind permissions parent name contents free items read. absurd read;
+  links = λ n node parent name is free items read. absurd read;
+  unlinks = λ parent name child node there found is file items read. absurd read;
+  removes = λ parent name child node there found is empty items read. absurd read;
+  renames = λ od on nd nn flags free items read. absurd read;
+}
 
 pub readings_change_nothing : ReadingsChangeNothing
-readings_change_nothing old new (Readdir c n h size off) items allowed = allowed.1
-readings_change_nothing old new (Lookup _ _ _) items allowed = absurd allowed
-readings_change_nothing old new (Forget _ _ _) items allowed = absurd allowed
-readings_change_nothing old new (Getattr _ _ _) items allowed = absurd allowed
-readings_change_nothing old new (Setattr _ _ _ _ _) items allowed = absurd allowed
-readings_change_nothing old new (Readlink _ _) items allowed = absurd allowed
-readings_change_nothing old new (Symlink _ _ _ _ _) items allowed = absurd allowed
-readings_change_nothing old new (Mknod _ _ _ _ _ _ _) items allowed = absurd allowed
-readings_change_nothing old new (Mkdir _ _ _ _ _ _) items allowed = absurd allowed
-readings_change_nothing old new (Unlink _ _ _) items allowed = absurd allowed
-readings_change_nothing old new (Rmdir _ _ _) items allowed = absurd allowed
-readings_change_nothing old new (Rename _ _ _ _ _ _) items allowed = absurd allowed
-readings_change_nothing old new (Link _ _ _ _) items allowed = absurd allowed
-readings_change_nothing old new (Open _ _ _ _) items allowed = absurd allowed
-readings_change_nothing old new (Read _ _ _ _ _ _ _ _) items allowed = absurd allowed
-readings_change_nothing old new (Write _ _ _ _ _ _ _ _ _ _) items allowed = absurd allowed
-readings_change_nothing old new (Statfs _ _) items allowed = absurd allowed
-readings_change_nothing old new (Release _ _ _ _ _ _ _) items allowed = absurd allowed
-readings_change_nothing old new (Fsync _ _ _ _) items allowed = absurd allowed
-readings_change_nothing old new (Setxattr _ _ _ _ _ _) items allowed = absurd allowed
-readings_change_nothing old new (Getxattr _ _ _ _) items allowed = absurd allowed
-readings_change_nothing old new (Listxattr _ _ _) items allowed = absurd allowed
-readings_change_nothing old new (Removexattr _ _ _) items allowed = absurd allowed
-readings_change_nothing old new (Flush _ _ _ _) items allowed = absurd allowed
-readings_change_nothing old new (Init _) items allowed = absurd allowed
-readings_change_nothing old new (Opendir _ _ _) items allowed = absurd allowed
-readings_change_nothing old new (Releasedir _ _ _ _) items allowed = absurd allowed
-readings_change_nothing old new (Fsyncdir _ _ _ _) items allowed = absurd allowed
-readings_change_nothing old new Getlk items allowed = absurd allowed
-readings_change_nothing old new Setlk items allowed = absurd allowed
-readings_change_nothing old new Setlkw items allowed = absurd allowed
-readings_change_nothing old new (Access _ _ _) items allowed = absurd allowed
-readings_change_nothing old new (Create _ _ _ _ _ _ _ _) items allowed = absurd allowed
-readings_change_nothing old new Bmap items allowed = absurd allowed
-readings_change_nothing old new Destroy items allowed = absurd allowed
-readings_change_nothing old new Ioctl items allowed = absurd allowed
-readings_change_nothing old new Poll items allowed = absurd allowed
-readings_change_nothing old new NotifyReply items allowed = absurd allowed
-readings_change_nothing old new (BatchForget _ _) items allowed = absurd allowed
-readings_change_nothing old new (Fallocate _ _ _ _ _ _) items allowed = absurd allowed
-readings_change_nothing old new (Lseek _ _ _ _ _) items allowed = absurd allowed
-readings_change_nothing old new (Copyfilerange _ _ _ _ _ _ _ _ _) items allowed = absurd allowed
-readings_change_nothing old new (Syncfs _ _) items allowed = absurd allowed
-readings_change_nothing old new Tmpfile items allowed = absurd allowed
+readings_change_nothing old new call items =
+    left_so old new (Fails call) (Leaves old (StaysRead old) (covers old) call) (outcome old call)
+    (Iterator items) (new ≡ old)
+    (λ fails error is same. same)
+    (λ reply replies leaves. leaves.1 items replies)
+    (covered old (StaysRead old) (covers old) call)

@@ -5,9 +5,10 @@ use Rattle.std.proofs.lemmas.Bool.{not-false, false≢true, eqb-true, eqb-false}
 use Rattle.std.proofs.lemmas.Option.{none-some}
 use Rattle.vfs_flags.specs.Errors.{eperm, enoent, eexist, enotdir, eisdir, enospc, enotempty, einval, eoverflow}
 use Rattle.vfs_tree.specs.Children.{is_directory, child_named}
-use Rattle.vfs_tree.specs.Rename.{first_of, or_else, enametoolong, is_directory_at, directory_refusal, is_nameless, is_empty, is_crowded, is_own_child, replace_refusal, names_refusal, place_refusal, rename_refusal}
+use Rattle.vfs_tree.specs.Outcome.{first_of, or_else}
+use Rattle.vfs_tree.specs.Rename.{enametoolong, is_directory_at, directory_refusal, is_nameless, is_crowded, is_own_child, replace_refusal, names_refusal, place_refusal, rename_refusal}
 use Rattle.vfs_tree.specs.State.{State, node_at, count_of, room_of, child_at, child_of, node_named, node_of}
-use Rattle.vfs_tree.specs.Tree.{make_refusal, link_refusal, unlink_refusal, rmdir_refusal, most_links, emlink}
+use Rattle.vfs_tree.specs.Tree.{make_refusal, link_refusal, most_links, emlink}
 use Rattle.vfs_tree.specs.declared.children.Child.{Child}
 use Rattle.vfs_tree.specs.declared.node.Node.{Node}
 
@@ -29,7 +30,7 @@ none_there : {X : Type 0} (o : Option X) → is_some o ≡ false → o ≡ None
 none_there None is = refl
 none_there (Some x) is = absurd (false≢true (sym is))
 
-none_in : {X : Type 0} (xs : List X) → length xs ≡ 0 → xs ≡ []
+pub none_in : {X : Type 0} (xs : List X) → length xs ≡ 0 → xs ≡ []
 none_in [] is = refl
 none_in (x ∷ xs) is = absurd (omega (arith, is))
 
@@ -83,7 +84,7 @@ make_takes s parent name size free =
     takes s parent name parts.0 each.0 (none_there (child_at s parent name) each.1.0)
 
 pub link_takes : (s : State) (node : Node) (parent : ℕ) (name : List ℕ)
-    → link_refusal s (Some node) parent name ≡ None
+    → link_refusal s parent name node ≡ None
     → Takes s parent name × (is_directory node.kind ≡ false)
 link_takes s node parent name free =
     let rs : List (Bool × ℕ) = (is_nameless (node_at s parent), enoent)
@@ -96,33 +97,6 @@ link_takes s node parent name free =
     let parts = or_none (directory_refusal (node_at s parent) name) (first_of rs) free in
     let each = all_false rs parts.1 in
     (takes s parent name parts.0 each.0 (none_there (child_at s parent name) each.1.0), each.1.1.0)
-
--- UNLINK takes no directory
-pub unlink_takes : (s : State) (parent : ℕ) (name : List ℕ) → unlink_refusal s parent name ≡ None
-    → (directory_refusal (node_at s parent) name ≡ None)
-    × (is_directory_at (node_named s parent name) ≡ false)
-unlink_takes s parent name free =
-    let rs : List (Bool × ℕ) = (is_none (node_named s parent name), enoent)
-    ∷ (is_directory_at (node_named s parent name), eisdir) ∷ [] in
-    let parts = or_none (directory_refusal (node_at s parent) name) (first_of rs) free in
-    (parts.0, (all_false rs parts.1).1.0)
-
--- RMDIR takes an empty one
-pub rmdir_takes : (s : State) (parent : ℕ) (name : List ℕ) → rmdir_refusal s parent name ≡ None
-    → (directory_refusal (node_at s parent) name ≡ None)
-    × (is_empty (node_named s parent name) ≡ true)
-rmdir_takes s parent name free =
-    let rs : List (Bool × ℕ) = (is_none (node_named s parent name), enoent)
-    ∷ (not (is_directory_at (node_named s parent name)), enotdir)
-    ∷ (not (is_empty (node_named s parent name)), enotempty) ∷ [] in
-    let parts = or_none (directory_refusal (node_at s parent) name) (first_of rs) free in
-    (parts.0, not-false (is_empty (node_named s parent name)) (all_false rs parts.1).1.1.0)
-
-pub empty_there : (o : Option Node) (node : Node) → o ≡ Some node → is_empty o ≡ true
-    → node.children.links ≡ []
-empty_there o node is empty =
-    none_in node.children.links
-    (eqb-true (length node.children.links) 0 (sym (ap is_empty is) ∙ empty))
 
 -- RENAME takes the place of an empty node
 pub replace_takes : (moved : Option Node) (target : Node)

@@ -6,7 +6,8 @@ use Rattle.vfs_flags.specs.Errors.{eperm, enoent, eexist, enotdir, einval, enosp
 use Rattle.vfs_files.specs.declared.entry.Context.{Context}
 use Rattle.vfs_tree.specs.Children.{Children, is_directory, with_child, without_child, with_other_child}
 use Rattle.vfs_tree_laws.specs.Laws.{IsSound, IsLinked, IsRooted, CallsKeepTheWayUp, above}
-use Rattle.vfs_tree.specs.Rename.{enametoolong, first_of, or_else, directory_refusal, is_directory_at, is_nameless, is_crowded, is_below, is_own_child, names_refusal, place_refusal, parent_of, rename_refusal, moved_into, moved_over, exchanged, renamed_to}
+use Rattle.vfs_tree.specs.Outcome.{first_of, or_else}
+use Rattle.vfs_tree.specs.Rename.{enametoolong, directory_refusal, is_directory_at, is_nameless, is_crowded, is_below, is_own_child, names_refusal, place_refusal, parent_of, rename_refusal, moved_into, moved_over, exchanged, renamed_to}
 use Rattle.vfs_tree.specs.State.{State, node_at, node_of, count_of, room_of, with_node, with_resized, with_new, without_node, settled, changed, change, with_names, unnamed, child_at}
 use Rattle.vfs_tree.specs.Tree.{emlink, most_links, made, linked, forgotten, all_forgotten, taken_out, new_node, make_refusal, link_refusal}
 use Rattle.vfs_tree.specs.declared.children.Child.{Child}
@@ -199,12 +200,11 @@ follows-all_forgotten s (r ∷ rs) sound =
         (record { kind = refl; parent = refl; named = λ dir some. some }) sound)
         (more mid (settles s r.0 node left is sound).stays)
 
-follows-taken_out : (s : State) (parent : ℕ) (name : List ℕ) (child : Option Child) → IsSound s
+follows-taken_out : (s : State) (parent : ℕ) (name : List ℕ) (child : Child) → IsSound s
     → Follows s (taken_out s parent name child)
-follows-taken_out s parent name None sound = follows_stays s s (stays_itself s)
-follows-taken_out s parent name (Some child) sound =
+follows-taken_out s parent name child sound =
     let rest = with_names s parent (λ c. without_child c name) in
-    follows_both s rest (taken_out s parent name (Some child))
+    follows_both s rest (taken_out s parent name child)
     (follows_stays s rest (stays-with_names s parent _))
     (follows-unnamed rest child.node (node_at rest child.node) refl
     (keeps-with_names s parent (λ c. without_child c name) sound).sound)
@@ -456,11 +456,11 @@ module _ (old : State) (sound : IsSound old) (links : IsLinked old) (rooted : Is
         })))
         other
 
-  makes : (ctx : Context) (kind : Kind) (permissions parent : ℕ) (name contents : List ℕ)
+  makes : (uid gid : ℕ) (kind : Kind) (permissions parent : ℕ) (name contents : List ℕ)
       → make_refusal old parent name (length contents) ≡ None
-      → IsRooted (made old parent name (new_node old ctx kind permissions parent contents))
-  makes ctx kind permissions parent name contents none =
-      let node = new_node old ctx kind permissions parent contents in
+      → IsRooted (made old parent name (new_node old.now uid gid kind permissions parent contents))
+  makes uid gid kind permissions parent name contents none =
+      let node = new_node old.now uid gid kind permissions parent contents in
       let mid = with_new old node in
       let rs : List (Bool × ℕ) = (is_nameless (node_at old parent), enoent)
       ∷ (is_some (child_at old parent name), eexist)
@@ -479,9 +479,9 @@ module _ (old : State) (sound : IsSound old) (links : IsLinked old) (rooted : Is
       (rooted-with_new node above_it)
 
   adds_name : (n : ℕ) (node : Node) (parent : ℕ) (name : List ℕ) → node_at old n ≡ Some node
-      → link_refusal old (Some node) parent name ≡ None
+      → link_refusal old parent name node ≡ None
       → IsRooted (change (with_names old parent
-      (λ c. with_child c name (record { node = n; kind = node.kind }))) n (linked old))
+      (λ c. with_child c name (record { node = n; kind = node.kind }))) n (linked old.now))
   adds_name n node parent name is none =
       let child : Child = record { node = n; kind = node.kind } in
       let f : Children → Children = λ c. with_child c name child in
@@ -498,37 +498,37 @@ module _ (old : State) (sound : IsSound old) (links : IsLinked old) (rooted : Is
       let found : node_at mid n ≡ Some node =
       kinds_apart old n parent f (ap is_directory_at is ∙ none_of)
       (directory_there (node_at old parent) name parts.0) ∙ is in
-      let last = with_node mid n (linked old node) in
-      subst IsRooted (sym (ap (changed mid n (linked old)) found))
+      let last = with_node mid n (linked old.now node) in
+      subst IsRooted (sym (ap (changed mid n (linked old.now)) found))
       (after last (follows_stays old last
       (stays_both old mid last (stays-with_names old parent f)
-      (stays-with_node mid n node (linked old node) found
+      (stays-with_node mid n node (linked old.now node) found
       (record {
         kind = refl;
         parent = refl;
         named = λ directory some. absurd (both_ways (is_directory node.kind) none_of directory);
       })))))
 
-  covers : Covers old IsRooted
+  covers : Covers old (λ taken reply left. IsRooted left)
   covers = record {
-    same = rooted;
+    same = λ reply none. rooted;
     looked_up = λ n node is. after _ (follows_stays old _
         (stays-with_node old n node (record node { lookups = node.lookups + 1 }) is
         (record { kind = refl; parent = refl; named = λ directory some. some })));
-    all_forgot = λ pairs. after _ (follows-all_forgotten old pairs sound);
-    resizes = λ n was now is r. after _ (follows-with_resized old n was now is
+    forgot = λ pairs. after _ (follows-all_forgotten old pairs sound);
+    resizes = λ n was now reply told is r. after _ (follows-with_resized old n was now is
         (record { kind = r.kind; parent = r.parent; named = λ dir some. omega (arith, r.names, some) }));
     makes = makes;
     links = adds_name;
-    unlinks = λ parent name none.
-        after _ (follows-taken_out old parent name (child_at old parent name) sound);
-    removes = λ parent name none.
-        after _ (follows-taken_out old parent name (child_at old parent name) sound);
+    unlinks = λ parent name child node there found is file.
+        after _ (follows-taken_out old parent name child sound);
+    removes = λ parent name child node there found is empty.
+        after _ (follows-taken_out old parent name child sound);
     renames = λ od on nd nn flags none.
         rooted-renamed_to old od on nd nn flags sound links rooted
         (child_at old od on) (child_at old nd nn) refl refl (grants old od on nd nn flags none);
   }
 
 pub calls_keep_the_way_up : CallsKeepTheWayUp
-calls_keep_the_way_up old new call answer sound links rooted allowed =
-    calls_covered old new IsRooted (covers old sound links rooted) call answer allowed
+calls_keep_the_way_up old new call answer sound links rooted =
+    calls_covered old new IsRooted (covers old sound links rooted) call answer

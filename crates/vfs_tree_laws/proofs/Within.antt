@@ -14,7 +14,8 @@ use Rattle.vfs_files.specs.declared.entry.Context.{Context}
 use Rattle.vfs_tree.specs.Children.{Children, with_child, without_child, with_other_child}
 use Rattle.vfs_tree_laws.specs.Laws.{Ascend, IsSound, IsWithin, CallsStayWithin}
 use Rattle.vfs_tree.specs.Node.{weight}
-use Rattle.vfs_tree.specs.Rename.{directory_refusal, first_of, is_nameless, is_crowded, moved_into, moved_to_free, moved_over, exchanged, renamed_to}
+use Rattle.vfs_tree.specs.Outcome.{first_of}
+use Rattle.vfs_tree.specs.Rename.{directory_refusal, is_nameless, is_crowded, moved_into, moved_to_free, moved_over, exchanged, renamed_to}
 use Rattle.vfs_tree.specs.State.{State, node_at, count_of, room_of, with_node, with_resized, with_new, without_node, settled, changed, change, with_names, unnamed, child_at}
 use Rattle.vfs_tree.specs.Tree.{made, linked, forgotten, all_forgotten, taken_out, new_node, make_refusal}
 use Rattle.vfs_tree.specs.declared.children.Child.{Child}
@@ -172,12 +173,11 @@ slims-all_forgotten s (r ∷ rs) =
     slims_both s mid (all_forgotten mid rs)
     (slims-forgotten s r.0 r.1 (node_at s r.0) refl) (slims-all_forgotten mid rs)
 
-slims-taken_out : (s : State) (parent : ℕ) (name : List ℕ) (child : Option Child)
+slims-taken_out : (s : State) (parent : ℕ) (name : List ℕ) (child : Child)
     → Slims s (taken_out s parent name child)
-slims-taken_out s parent name None = slims_itself s
-slims-taken_out s parent name (Some child) =
+slims-taken_out s parent name child =
     let rest = with_names s parent (λ c. without_child c name) in
-    slims_both s rest (taken_out s parent name (Some child))
+    slims_both s rest (taken_out s parent name child)
     (slims-with_names s parent _) (slims-unnamed rest child.node (node_at rest child.node) refl)
 
 -- ---- RENAME
@@ -271,11 +271,12 @@ module _ (old : State) (sound : IsSound old) (within : IsWithin old) where
         limits = refl;
       }
 
-  makes : (ctx : Context) (kind : Kind) (permissions parent : ℕ) (name contents : List ℕ)
+  makes : (uid gid : ℕ) (kind : Kind) (permissions parent : ℕ) (name contents : List ℕ)
       → make_refusal old parent name (length contents) ≡ None
-      → StaysWithin old (made old parent name (new_node old ctx kind permissions parent contents))
-  makes ctx kind permissions parent name contents none =
-      let node = new_node old ctx kind permissions parent contents in
+      → StaysWithin old
+      (made old parent name (new_node old.now uid gid kind permissions parent contents))
+  makes uid gid kind permissions parent name contents none =
+      let node = new_node old.now uid gid kind permissions parent contents in
       let crowded = is_crowded (node_at old parent) in
       let short = nat_lt (room_of old) (length contents) in
       let full = nat_le old.limits.nodes (count_of old) in
@@ -291,18 +292,20 @@ module _ (old : State) (sound : IsSound old) (within : IsWithin old) where
       (omega (arith, ltb-false (room_of old) (length contents) parts.1)))
       (slims-with_names (with_new old node) parent _)
 
-  covers : Covers old (StaysWithin old)
+  covers : Covers old (λ taken reply left. StaysWithin old left)
   covers = record {
-    same = slim old (slims_itself old);
+    same = λ reply none. slim old (slims_itself old);
     looked_up = λ n node is. slim _ (slims-with_node old n node _ is refl);
-    all_forgot = λ pairs. slim _ (slims-all_forgotten old pairs);
-    resizes = resizes;
+    forgot = λ pairs. slim _ (slims-all_forgotten old pairs);
+    resizes = λ n was now reply told is r. resizes n was now is r;
     makes = makes;
     links = λ n node parent name is none.
         slim _ (slims_both old _ _ (slims-with_names old parent _)
-        (slims-change _ n (linked old) (λ node. refl)));
-    unlinks = λ parent name none. slim _ (slims-taken_out old parent name (child_at old parent name));
-    removes = λ parent name none. slim _ (slims-taken_out old parent name (child_at old parent name));
+        (slims-change _ n (linked old.now) (λ node. refl)));
+    unlinks = λ parent name child node there found is file.
+        slim _ (slims-taken_out old parent name child);
+    removes = λ parent name child node there found is empty.
+        slim _ (slims-taken_out old parent name child);
     renames = λ od on nd nn flags none.
         slim _ (slims-renamed_to old od on nd nn flags (child_at old od on) (child_at old nd nn));
   }

@@ -5,8 +5,8 @@ use Rattle.std.specs.List.{All, IsDistinct}
 use Rattle.std.specs.Map.{values_of}
 use Rattle.std.specs.Str.{bytes_eq}
 use Rattle.vfs_files.specs.Items.{Item}
-use Rattle.vfs_files.specs.Calls as call
-use Rattle.vfs_files.specs.Calls.{Call, Lookup, Symlink, Mknod, Mkdir, Create, Forget, BatchForget, Answer, Found, Created, Handed, Plain, Iterator}
+use Rattle.vfs_files.specs.Calls.{Call, Answer, Plain, Iterator}
+use Rattle.vfs_grammar.specs.Books.{times, counts, answered_nodes, forgets_of}
 use Rattle.vfs_tree.specs.Children.{Link, is_directory}
 use Rattle.vfs_tree.specs.Node.{weight}
 use Rattle.vfs_tree.specs.Rename.{parent_of}
@@ -40,40 +40,20 @@ pub record IsSound (s : State) : Type 0 where
   pub ordered : Ascend 1 s.nodes s.next
   pub held : (n : ℕ) → IfSome (node_at s n) IsHeld
 
--- the lookups of a node that a call takes back
-abbrev pub taken_back : (number : ℕ) → List (ℕ × ℕ) → ℕ
-taken_back n pairs = sum_by (λ pair. if pair.0 == n then pair.1 else 0) pairs
+-- Of a node of which a call takes back no more lookups than are held, so many are held then as were, with
+-- those that it gives, by the entry that it answers, and without those that it takes back.
+abbrev pub CountsLookups : State → Call → Answer → State → Type 0
+CountsLookups old call answer new =
+    (n : ℕ) → counts n (forgets_of call) ≤ lookups_of old n
+    → lookups_of new n + counts n (forgets_of call)
+    ≡ lookups_of old n + times n (answered_nodes call answer)
 
-abbrev pub takes_back : (number : ℕ) → Call → ℕ
-takes_back n (Forget _ inode count) = taken_back n ((inode, count) ∷ [])
-takes_back n (BatchForget _ requests) = taken_back n requests
-takes_back n _ = 0
-
--- the lookups of a node that an answer gives: one, where it has the node's entry
-abbrev pub given : (number : ℕ) → Answer → ℕ
-given n (Found entry) = if entry.inode == n then 1 else 0
-given n (Created entry _ _) = if entry.inode == n then 1 else 0
-given n _ = 0
-
--- the lookups of a node that a call gives: one, where it is one of these and answers the node's entry
-abbrev pub gives : (number : ℕ) → Call → Answer → ℕ
-gives n (Lookup _ _ _) answer = given n answer
-gives n (Symlink _ _ _ _ _) answer = given n answer
-gives n (Mknod _ _ _ _ _ _ _) answer = given n answer
-gives n (Mkdir _ _ _ _ _ _) answer = given n answer
-gives n (call.Link _ _ _ _) answer = given n answer
-gives n (Create _ _ _ _ _ _ _ _) answer = given n answer
-gives n _ answer = 0
-
--- A call keeps a sound state sound. Of a node of which it takes back no more lookups than are held, so
--- many are held then as were, with those that it gives and without those that it takes back.
+-- a call keeps a sound state sound, and counts lookups
 abbrev pub CallsAreSound : Type 0
 CallsAreSound =
     (old new : State) (call : Call) (answer : Answer)
     → IsSound old → TreeAllows old call (Plain answer) new
-    → IsSound new
-    × ((n : ℕ) → takes_back n call ≤ lookups_of old n
-    → lookups_of new n + takes_back n call ≡ lookups_of old n + gives n call answer)
+    → IsSound new × CountsLookups old call answer new
 
 -- a reading that begins changes nothing
 abbrev pub ReadingsChangeNothing : Type 0
@@ -181,13 +161,9 @@ NewOnesAreTrees =
     → IsTree (first_state uid gid limits now)
     × ((n : ℕ) → lookups_of (first_state uid gid limits now) n ≡ 0)
 
--- A call keeps a tree one, whatever it asks, and its limits. Of a node of which it takes back no more
--- lookups than are held, so many are held then as were, with those that it gives and without those that
--- it takes back.
+-- a call keeps a tree one, whatever it asks, and its limits, and counts lookups
 abbrev pub CallsKeepTrees : Type 0
 CallsKeepTrees =
     (old new : State) (call : Call) (answer : Answer)
     → IsTree old → TreeAllows old call (Plain answer) new
-    → IsTree new × (new.limits ≡ old.limits)
-    × ((n : ℕ) → takes_back n call ≤ lookups_of old n
-    → lookups_of new n + takes_back n call ≡ lookups_of old n + gives n call answer)
+    → IsTree new × (new.limits ≡ old.limits) × CountsLookups old call answer new

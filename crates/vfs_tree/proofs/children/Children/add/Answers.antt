@@ -4,7 +4,8 @@ use Rattle.std.specs.Cmp.Lexicographic.{slice_cmp}
 use Rattle.std.specs.Ordering.{nat_cmp}
 use Rattle.std.specs.BTreeMap.{UpdatesBy, insert_entry}
 use Rattle.vfs_files.specs.Names.{name_text}
-use Rattle.vfs_tree.specs.Children.{Children, Link, AreIndexed, child_named, with_child, is_named}
+use Rattle.vfs_tree.specs.Children.{Children, Link, child_named, with_child, is_named}
+use Rattle.vfs_tree.specs.Index.{AreIndexed}
 use Rattle.vfs_tree.proofs.Index.{one_for}
 use Rattle.vfs_tree.proofs.Indexed.{mapped_none, directories_fit, indexed_same, indexed_added, link_added, add_undone}
 use Rattle.vfs_tree.proofs.Results.{ok_clause, err_clause}
