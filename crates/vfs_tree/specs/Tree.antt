@@ -94,18 +94,18 @@ all_forgotten s (r ∷ rs) = all_forgotten (forgotten s r.0 r.1 (node_at s r.0))
 
 -- ---- MKDIR, MKNOD, CREATE, SYMLINK, LINK
 
+-- whether there is no room for one node more with so many bytes, or no place for it in its directory
+abbrev pub is_full : State → (above : Option Node) → (size : ℕ) → Bool
+is_full s above size =
+    nat_le s.limits.nodes (count_of s) || s.next == 2 ^ 64 - 1 || is_crowded above
+    || nat_lt (room_of s) size
+
 -- why nothing of this name, with contents of so many bytes, can be made in this directory
 abbrev pub make_refusal : State → (parent : ℕ) → (name : List ℕ) → (size : ℕ) → Option ℕ
 make_refusal s parent name size =
     or_else (directory_refusal (node_at s parent) name)
-    (first_of ((is_nameless (node_at s parent), enoent)
-    ∷ (is_some (child_at s parent name), eexist)
-    ∷ (
-      nat_le s.limits.nodes (count_of s) || s.next == 2 ^ 64 - 1
-          || is_crowded (node_at s parent) || nat_lt (room_of s) size,
-      enospc,
-    )
-    ∷ []))
+    (first_of ((is_nameless (node_at s parent), enoent) ∷ (is_some (child_at s parent name), eexist)
+    ∷ (is_full s (node_at s parent) size, enospc) ∷ []))
 
 -- a node is there under the next number, and a name that leads to it
 abbrev pub made : State → (parent : ℕ) → (name : List ℕ) → Node → State

@@ -11,14 +11,13 @@ ghost use Rattle.vfs_tree.specs.Node.{weight};
 ghost use Rattle.vfs_tree.specs.Outcome.{Ends};
 ghost use Rattle.vfs_tree.specs.Rename.{is_crowded};
 ghost use Rattle.vfs_tree.specs.State.{child_at, node_at, reweighed, room_of};
-ghost use Rattle.vfs_tree.specs.Tree.{makes, first_state, made, forgotten, all_forgotten};
+ghost use Rattle.vfs_tree.specs.Tree.{makes, make_refusal, first_state, is_full, made};
+ghost use Rattle.vfs_tree.specs.Tree.{forgotten, all_forgotten};
 
-use crate::children::{Child, Children};
-use crate::contents::Contents;
+use crate::children::Child;
 use crate::kind::Kind;
 use crate::naming::{add_name, directory};
 use crate::node::{Node, Time};
-use crate::xattrs::Xattrs;
 use std::alloc::Global;
 use std::collections::BTreeMap;
 use std::marker::Model;
@@ -84,21 +83,8 @@ impl TreeFs {
             (λ fs. fs ≡ first_state uid gid limits now)
             (λ fault. fault ≡ Some enomem) }
     {
-        let root = Node {
-            kind: Kind::Directory,
-            permissions: 0o755,
-            uid,
-            gid,
-            atime: now,
-            mtime: now,
-            ctime: now,
-            parent: ROOT_ID,
-            children: Children::new(alloc),
-            contents: Contents::new(alloc),
-            xattrs: Xattrs::new(alloc),
-            names: 1,
-            lookups: 0,
-        };
+        let mut root = Node::new(alloc, now, uid, gid, Kind::Directory, 0o755, ROOT_ID, &[])?;
+        root.lookups = 0;
         let mut nodes = BTreeMap::new(alloc);
         match nodes.insert(ROOT_ID, root) {
             Ok(_) => Ok(TreeFs {
@@ -127,6 +113,36 @@ impl TreeFs {
         self.limits.bytes.saturating_sub(self.used)
     }
 
+    // Whether there is no room for one node more with so many bytes, or no place for it in this
+    // directory.
+    fn is_full(&self, above: &Node, size: u64) -> bool
+        ensures { result ≡ is_full self.entry.now (Some above.now) size }
+    {
+        self.nodes.len() as u64 >= self.limits.nodes
+            || self.next == u64::MAX
+            || !above.children.has_place()
+            || size > self.room()
+    }
+
+    // Whether a node with so many bytes can be made under this name.
+    fn check_make(&self, parent: u64, name: &[u8], size: u64) -> Result<(), Errno>
+        ensures ok { OnOk result (make_refusal self.entry.now parent name.now size ≡ None) }
+        ensures err { IfErr result (λ errno.
+            make_refusal self.entry.now parent name.now size ≡ Some errno) }
+    {
+        let above = directory(&self.nodes, parent, name)?;
+        if above.names == 0 {
+            return Err(Errno::ENOENT);
+        }
+        if above.children.get(name).is_some() {
+            return Err(Errno::EEXIST);
+        }
+        if self.is_full(above, size) {
+            return Err(Errno::ENOSPC);
+        }
+        Ok(())
+    }
+
     /// Makes a node of this kind under a name that is free, and counts one lookup of it.
     pub(crate) fn make(
         &mut self,
@@ -141,35 +157,10 @@ impl TreeFs {
             (makes self.old ctx kind permissions parent (name_text name.entry) contents.now)
             (Plain (entry_answer result)) self.new }
     {
-        let above = directory(&self.nodes, parent, name.to_bytes())?;
-        if above.names == 0 {
-            return Err(Some(Errno::ENOENT));
-        }
-        if above.children.get(name.to_bytes()).is_some() {
-            return Err(Some(Errno::EEXIST));
-        }
-        if self.nodes.len() as u64 >= self.limits.nodes
-            || self.next == u64::MAX
-            || !above.children.has_place()
-            || contents.len() as u64 > self.room()
-        {
-            return Err(Some(Errno::ENOSPC));
-        }
-        let node = Node {
-            kind,
-            permissions,
-            uid: ctx.uid,
-            gid: ctx.gid,
-            atime: self.now,
-            mtime: self.now,
-            ctime: self.now,
-            parent,
-            children: Children::new(self.alloc),
-            contents: Contents::copy_of(self.alloc, contents)?,
-            xattrs: Xattrs::new(self.alloc),
-            names: 1,
-            lookups: 1,
-        };
+        self.check_make(parent, name.to_bytes(), contents.len() as u64)?;
+        let (alloc, now) = (self.alloc, self.now);
+        let Context { uid, gid, .. } = ctx;
+        let node = Node::new(alloc, now, uid, gid, kind, permissions, parent, contents)?;
         let entry = node.entry(self.next);
         self.add(parent, name, node)?;
         Ok(entry)

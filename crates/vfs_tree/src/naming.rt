@@ -9,10 +9,10 @@ ghost use Rattle.vfs_files.specs.Names.{name_text};
 ghost use Rattle.vfs_files.specs.Calls.{Plain, entry_answer};
 ghost use Rattle.vfs_tree.specs.Children.{with_child, without_child, with_other_child};
 ghost use Rattle.vfs_tree.specs.Node.{IsEntryOf};
-ghost use Rattle.vfs_tree.specs.Outcome.{Ends};
+ghost use Rattle.vfs_tree.specs.Outcome.{Ends, refusal_of};
 ghost use Rattle.vfs_tree.specs.Rename.{directory_refusal, is_crowded, moved_into};
 ghost use Rattle.vfs_tree.specs.State.{child_of, child_at, node_at, with_names, with_node, unnamed};
-ghost use Rattle.vfs_tree.specs.Tree.{linked, links, taken_out};
+ghost use Rattle.vfs_tree.specs.Tree.{link_refusal, linked, links, taken_out};
 
 use crate::children::Child;
 use crate::fs::TreeFs;
@@ -145,7 +145,7 @@ impl TreeFs {
             return;
         };
         let left = node.names.saturating_sub(1);
-        if left == 0 && node.lookups == 0 {
+        if node.lookups == 0 && left == 0 {
             let weight = node.weight();
             self.drop_node(number, weight);
             return;
@@ -176,25 +176,27 @@ impl TreeFs {
         self.lose_name(child.node);
     }
 
-    /// Lets one more name lead to a node, and counts a lookup of it.
-    #[tactic(auto, using(crate::proofs::Nodes::kinds_apart))]
-    pub(crate) fn add_link(
-        &mut self,
-        number: u64,
-        parent: u64,
-        name: CStr<'_>,
-    ) -> Result<Entry, Fault>
-        ensures { Ends self.old (links self.old number parent (name_text name.entry))
-            (Plain (entry_answer result)) self.new }
+    // Whether one more name can lead to a node, and where it leads.
+    fn check_link(&self, number: u64, parent: u64, name: &[u8]) -> Result<Child, Fault>
+        ensures child { IfOk result (λ child. IfSome (node_at self.entry.now number) (λ node.
+            child ≡ record { node = number; kind = node.kind })) }
+        ensures ok { OnOk result (refusal_of (node_at self.entry.now number)
+            (link_refusal self.entry.now parent name.now) ≡ None) }
+        ensures lookups { OnOk result (IfSome (node_at self.entry.now number) (λ node.
+            node.lookups < 2 ^ 64 - 1)) }
+        ensures err { IfErr result (λ fault. IfSome fault (λ errno.
+            refusal_of (node_at self.entry.now number)
+            (link_refusal self.entry.now parent name.now) ≡ Some errno)) }
+        ensures known { IfErr result IsSome }
     {
         let Some(node) = self.nodes.get(&number) else {
             return Err(Some(Errno::ENOENT));
         };
-        let above = directory(&self.nodes, parent, name.to_bytes())?;
+        let above = directory(&self.nodes, parent, name)?;
         if above.names == 0 {
             return Err(Some(Errno::ENOENT));
         }
-        if above.children.get(name.to_bytes()).is_some() {
+        if above.children.get(name).is_some() {
             return Err(Some(Errno::EEXIST));
         }
         if node.kind.is_directory() {
@@ -212,10 +214,24 @@ impl TreeFs {
         if !above.children.has_place() {
             return Err(Some(Errno::ENOSPC));
         }
-        let child = Child {
+        Ok(Child {
             node: number,
             kind: node.kind,
-        };
+        })
+    }
+
+    /// Lets one more name lead to a node, and counts a lookup of it.
+    #[tactic(auto, using(crate::proofs::Nodes::kinds_apart))]
+    pub(crate) fn add_link(
+        &mut self,
+        number: u64,
+        parent: u64,
+        name: CStr<'_>,
+    ) -> Result<Entry, Fault>
+        ensures { Ends self.old (links self.old number parent (name_text name.entry))
+            (Plain (entry_answer result)) self.new }
+    {
+        let child = self.check_link(number, parent, name.to_bytes())?;
         self.add_name(parent, name, child)?;
         Ok(self.count_link(number))
     }

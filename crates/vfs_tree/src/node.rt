@@ -1,16 +1,17 @@
 //! A node: a directory, a file or a symbolic link.
 
-ghost use Rattle.std.specs.Prelude.{◌≡◌, if◌then◌else◌, Some, OnOk, IfErr};
+ghost use Rattle.std.specs.Prelude.{◌≡◌, if◌then◌else◌, Some, MatchResult, OnOk, IfErr};
 ghost use Rattle.vfs_flags.specs.Errors.{enomem};
 ghost use Rattle.vfs_flags.specs.Flags.{setattr_valid_bits};
 ghost use Rattle.vfs_tree.specs.Node.{attr_of, nlink_of, IsEntryOf, weight};
-ghost use Rattle.vfs_tree.specs.Tree.{opened, set_attr};
+ghost use Rattle.vfs_tree.specs.Tree.{new_node, opened, set_attr};
 
 use crate::children::Children;
 use crate::contents::Contents;
 use crate::kind::Kind;
 use crate::xattrs::Xattrs;
 use bitflags::Flags;
+use std::alloc::Global;
 use std::time::Duration;
 use vfs_files::Entry;
 use vfs_flags::{Fault, GuestGid, GuestUid, SetattrValid};
@@ -63,6 +64,39 @@ pub(crate) struct Node {
 }
 
 impl Node {
+    /// A new node of this owner, in this directory: of one name, held by one lookup, and made now.
+    /// ENOMEM where there is no memory for its contents.
+    pub(crate) fn new(
+        alloc: Global,
+        now: Time,
+        uid: GuestUid,
+        gid: GuestGid,
+        kind: Kind,
+        permissions: u32,
+        parent: u64,
+        contents: &[u8],
+    ) -> Result<Node, Fault>
+        ensures { MatchResult result
+            (λ node. node ≡ new_node now uid gid kind permissions parent contents.now)
+            (λ fault. fault ≡ Some enomem) }
+    {
+        Ok(Node {
+            kind,
+            permissions,
+            uid,
+            gid,
+            atime: now,
+            mtime: now,
+            ctime: now,
+            parent,
+            children: Children::new(alloc),
+            contents: Contents::copy_of(alloc, contents)?,
+            xattrs: Xattrs::new(alloc),
+            names: 1,
+            lookups: 1,
+        })
+    }
+
     /// How many links it shows.
     pub(crate) fn nlink(&self) -> u32
         ensures { result ≡ nlink_of self.now }
