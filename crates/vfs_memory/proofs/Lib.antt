@@ -1,2 +1,6 @@
 mod FilesAt
+mod Index
+mod Indexed
+mod Results
 mod RootItems
+mod Searches

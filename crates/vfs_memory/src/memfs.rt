@@ -1,13 +1,15 @@
 //! A file system in memory: a root directory, and files in it.
-ghost use Rattle.std.specs.Prelude.{◌≡◌, ◌==◌, ◌<◌, ◌^◌, ◌-◌, find, position, length, Some, IfSome, MatchResult};
+ghost use Rattle.std.specs.Prelude.{◌≡◌, ◌==◌, ◌<◌, ◌^◌, ◌-◌, position, remove, length, Some, None, IfSome, MatchResult};
+ghost use Rattle.std.specs.List.{AllPairs};
 ghost use Rattle.std.specs.Option.{option_copied};
-ghost use Rattle.std.specs.Str.{bytes_eq};
 ghost use Rattle.vfs_flags.specs.Errors.{enoent, enomem};
 ghost use Rattle.vfs_files.specs.Names.{name_text};
-ghost use Rattle.vfs_memory.specs.MemFs.{attr_of, file_attr, first_stock, IsEntryOf, AddsFile};
+ghost use Rattle.vfs_memory.specs.MemFs.{attr_of, file_attr, first_stock, IsEntryOf, file_named, file_at, node_place};
+ghost use Rattle.vfs_memory.specs.Index.{file_place, AddsWith, ComesBefore};
 
 use crate::memfile::MemFile;
 use std::alloc::Global;
+use std::collections::BTreeMap;
 use std::marker::Model;
 use std::time::Duration;
 use vfs_files::{CStr, CString, Entry, copy_of};
@@ -58,19 +60,26 @@ impl Model for File {
 /// Files are not opened: `read` and `write` find them by their node alone, whatever the handle is.
 /// The files themselves are [`MemFile`]s. The root is not opened either: `readdir` gives what it
 /// holds at the call, from an offset on.
+///
+/// The files are kept in order of their nodes, with an index of these by name: a call goes through
+/// a few of them, however many there are.
 #[derive(Debug, Drop)]
 pub struct MemFs {
     alloc: Global,
     files: Vec<File>,
+    names: BTreeMap<Vec<u8>, u64>,
     next: u64,
 }
 
 impl Model for MemFs {
     ghost use Rattle.vfs_memory.specs.MemFs.{Stock};
+    ghost use Rattle.vfs_memory.specs.Index.{AreIndexed};
 
     ghost Value = { Stock };
 
     ghost view = { λ fs. record { files = fs.files.items; next = fs.next } };
+
+    ghost invariant = { λ fs. AreIndexed fs.files.items fs.names fs.next };
 }
 
 impl MemFs {
@@ -79,41 +88,108 @@ impl MemFs {
     pub fn new(alloc: Global) -> Result<MemFs, Fault>
         ensures { MatchResult result (λ fs. fs ≡ first_stock) (λ fault. fault ≡ Some enomem) }
     {
-        let file = File {
-            node: ROOT_ID + 1,
-            name: CString::new(alloc, CStr::before_nul(b"a\0", 1))?,
-            contents: MemFile::new(copy_of(alloc, b"hello")?),
+        let mut fs = MemFs {
+            alloc,
+            files: Vec::new(alloc),
+            names: BTreeMap::new(alloc),
+            next: ROOT_ID + 1,
         };
-        let mut files = Vec::new(alloc);
-        match files.push(file) {
-            Ok(()) => Ok(MemFs {
-                alloc,
-                files,
-                next: ROOT_ID + 2,
-            }),
-            Err(_) => Err(Some(Errno::ENOMEM)),
-        }
+        let contents = MemFile::new(copy_of(alloc, b"hello")?);
+        fs.add(CStr::before_nul(b"a\0", 1), contents)?;
+        Ok(fs)
     }
 
-    // Adds a file of this name without contents. ENOMEM where there is no memory for it.
-    fn add(&mut self, name: CStr<'_>) -> Result<Entry, Fault>
-        requires { self.old.next < 2 ^ 64 - 1 }
-        ensures { AddsFile self.old (name_text name.entry) result self.new }
+    // Adds a file of this name with these contents. ENOMEM where there is no memory for it, and all
+    // stays.
+    fn add(&mut self, name: CStr<'_>, contents: MemFile) -> Result<Entry, Fault>
+        requires free { file_place self.old (name_text name) ≡ None }
+        requires number { self.old.next < 2 ^ 64 - 1 }
+        ensures { AddsWith self.old (name_text name.entry) contents result self.new }
     {
+        let node = self.next;
         let file = File {
-            node: self.next,
+            node,
             name: CString::new(self.alloc, name)?,
-            contents: MemFile::new(Vec::new(self.alloc)),
+            contents,
         };
+        let key = copy_of(self.alloc, name.to_bytes())?;
         let entry = entry(&file);
-        match self.files.push(file) {
-            Ok(()) => {
-                self.next += 1;
-                Ok(entry)
-            }
-            Err(_) => Err(Some(Errno::ENOMEM)),
+        if self.files.push(file).is_err() {
+            return Err(Some(Errno::ENOMEM));
+        }
+        if self.names.insert(key, node).is_err() {
+            self.files.pop();
+            return Err(Some(Errno::ENOMEM));
+        }
+        self.next += 1;
+        Ok(entry)
+    }
+
+    // Takes out the file of this name, which is at this place.
+    fn take_out(&mut self, name: &[u8], place: usize)
+        requires { file_place self.old name.now ≡ Some place }
+        ensures { self.new ≡ record self.old { files = remove self.old.files place } }
+    {
+        self.names.remove(name);
+        self.files.remove(place);
+    }
+
+    // Where the file of this name is.
+    fn place_of(&self, name: &[u8]) -> Option<usize>
+        ensures place { result ≡ file_place self.now name.now }
+        ensures within { IfSome result (λ i. i < length self.now.files) }
+    {
+        let node = self.names.get(name)?;
+        self.place_of_node(*node)
+    }
+
+    // Where the file of this node is.
+    fn place_of_node(&self, node: u64) -> Option<usize>
+        ensures place { result ≡ node_place self.now node }
+        ensures within { IfSome result (λ i. i < length self.now.files) }
+    {
+        search(&self.files, node)
+    }
+
+    // The file of this name.
+    fn find_name(&self, name: &[u8]) -> Option<&File>
+        ensures { option_copied result ≡ file_named self.now 1 name.now }
+    {
+        let place = self.place_of(name)?;
+        Some(&self.files[place])
+    }
+
+    // The file of this node.
+    fn find_node(&self, node: u64) -> Option<&File>
+        ensures { option_copied result ≡ file_at self.now node }
+    {
+        let place = self.place_of_node(node)?;
+        Some(&self.files[place])
+    }
+}
+
+// Where the file of this node is, among files in order of their nodes.
+fn search(files: &[File], node: u64) -> Option<usize>
+    requires { AllPairs ComesBefore files.now }
+    ensures place { result ≡ position (λ file. file.node == node) files.now }
+    ensures within { IfSome result (λ i. i < length files.now) }
+{
+    let mut low = 0;
+    let mut high = files.len();
+    while low < high {
+        let middle = low + (high - low) / 2;
+        let file = &files[middle];
+        let at = file.node;
+        if at == node {
+            return Some(middle);
+        }
+        if at < node {
+            low = middle + 1;
+        } else {
+            high = middle;
         }
     }
+    None
 }
 
 // The fault ENOENT: what was asked for is not there.
@@ -166,38 +242,4 @@ fn entry(file: &File) -> Entry
         attr_timeout: Duration::from_secs(TIMEOUT_SECONDS),
         entry_timeout: Duration::from_secs(TIMEOUT_SECONDS),
     }
-}
-
-// The first file of this name.
-fn find_name<'a>(files: &'a [File], name: &[u8]) -> Option<&'a File>
-    ensures { option_copied result ≡ find (λ file. bytes_eq file.name name.now) files.now }
-{
-    files
-        .iter()
-        .find(|file| file.name.as_c_str().to_bytes() == name)
-}
-
-// The first file of this node.
-fn find_node(files: &[File], node: u64) -> Option<&File>
-    ensures { option_copied result ≡ find (λ file. file.node == node) files.now }
-{
-    files.iter().find(|file| file.node == node)
-}
-
-// Where the first file of this name is.
-fn place_of(files: &[File], name: &[u8]) -> Option<usize>
-    ensures place { result ≡ position (λ file. bytes_eq file.name name.now) files.now }
-    ensures within { IfSome result (λ i. i < length files.now) }
-{
-    files
-        .iter()
-        .position(|file| file.name.as_c_str().to_bytes() == name)
-}
-
-// Where the first file of this node is.
-fn place_of_node(files: &[File], node: u64) -> Option<usize>
-    ensures place { result ≡ position (λ file. file.node == node) files.now }
-    ensures within { IfSome result (λ i. i < length files.now) }
-{
-    files.iter().position(|file| file.node == node)
 }

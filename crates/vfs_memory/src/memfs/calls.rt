@@ -6,10 +6,8 @@ ghost use Rattle.vfs_files.specs.Calls.{attr_answer, no_such_call};
 ghost use Rattle.vfs_memory.specs.MemFs.{MemFsAllows, AnswersAttr, attr_at};
 
 use super::entries::Entries;
-use super::{
-    MOST_FILES, MemFs, ROOT_MODE, TIMEOUT_SECONDS, attr, entry, find_name, find_node, make_attr,
-    not_found, place_of, place_of_node,
-};
+use super::{MOST_FILES, MemFs, ROOT_MODE, TIMEOUT_SECONDS, attr, entry, make_attr, not_found};
+use crate::memfile::MemFile;
 use bitflags::Flags;
 use std::time::Duration;
 use vfs_files::{
@@ -34,7 +32,7 @@ impl FileSystem for MemFs {
         if parent != ROOT_ID {
             return Err(not_found());
         }
-        match find_name(&self.files, name.to_bytes()) {
+        match self.find_name(name.to_bytes()) {
             Some(file) => Ok(entry(file)),
             None => Err(not_found()),
         }
@@ -57,7 +55,7 @@ impl FileSystem for MemFs {
         if inode == ROOT_ID {
             return Ok((make_attr(ROOT_ID, ROOT_MODE, 2, 0), timeout));
         }
-        match find_node(&self.files, inode) {
+        match self.find_node(inode) {
             Some(file) => Ok((attr(file), timeout)),
             None => Err(not_found()),
         }
@@ -121,10 +119,10 @@ impl FileSystem for MemFs {
         if parent != ROOT_ID {
             return Err(not_found());
         }
-        let Some(place) = place_of(&self.files, name.to_bytes()) else {
+        let Some(place) = self.place_of(name.to_bytes()) else {
             return Err(not_found());
         };
-        self.files.remove(place);
+        self.take_out(name.to_bytes(), place);
         Ok(())
     }
 
@@ -175,7 +173,7 @@ impl FileSystem for MemFs {
         _lock_owner: Option<u64>,
         _flags: u32,
     ) -> Result<usize, Fault> {
-        let Some(place) = place_of_node(&self.files, inode) else {
+        let Some(place) = self.place_of_node(inode) else {
             return Err(not_found());
         };
         let file = &self.files[place];
@@ -195,7 +193,7 @@ impl FileSystem for MemFs {
         _kill_priv: bool,
         _flags: u32,
     ) -> Result<u32, Fault> {
-        let Some(place) = place_of_node(&self.files, inode) else {
+        let Some(place) = self.place_of_node(inode) else {
             return Err(not_found());
         };
         let file = &mut self.files[place];
@@ -351,13 +349,14 @@ impl FileSystem for MemFs {
         if parent != ROOT_ID {
             return Err(not_found());
         }
-        if place_of(&self.files, name.to_bytes()).is_some() {
+        if self.place_of(name.to_bytes()).is_some() {
             return Err(Some(Errno::EEXIST));
         }
         if self.files.len() >= MOST_FILES || self.next == u64::MAX {
             return Err(Some(Errno::ENOSPC));
         }
-        Ok((self.add(name)?, None, OpenOptions::empty()))
+        let entry = self.add(name, MemFile::new(Vec::new(self.alloc)))?;
+        Ok((entry, None, OpenOptions::empty()))
     }
 
     fn bmap(&mut self) -> Result<(), Fault> {

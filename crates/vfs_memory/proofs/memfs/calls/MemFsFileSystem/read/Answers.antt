@@ -1,16 +1,12 @@
-use Rattle.std.proofs.Common.{◌≡◌, ◌<◌, ◌==◌, List, [], length, get_or, Some, None, refl, sym, ap, ◌∙◌, arith}
-use Rattle.std.specs.List.{position}
+use Rattle.std.proofs.Common.{◌≡◌, ◌<◌, List, [], length, get_or, Some, None, refl, sym, ap, ◌∙◌, arith}
 use Rattle.vfs_files.specs.Calls.{Failed}
-use Rattle.vfs_memory.specs.MemFs.{Stored, node_place}
+use Rattle.vfs_memory.specs.MemFs.{Stored, Stock, node_place}
 use Rattle.vfs_memory.proofs.FilesAt.{answers_read}
 use Rattle.vfs_memory.proofs.memfs.calls.MemFsFileSystem.read.Goals as goal
 
 pub returns-in_default : goal.returns-in_default
 returns-in_default g c =
-    let none : node_place c.args.self.now c.args.inode ≡ None =
-    ap (λ s. node_place s c.args.inode) (sym c.self.view_is)
-    ∙ ap (position (λ (file : Stored). file.node == c.args.inode)) (sym c.deref.ensures.value)
-    ∙ sym c.in_default.ensures.place in (
+    let none : node_place c.args.self.now c.args.inode ≡ None = sym c.in_default.ensures.place in (
       [],
       g.met.W.ZeroCopyWriter.nothing c.args.w.now,
       tt,
@@ -32,12 +28,9 @@ returns g c =
     let within : place < length files = omega (
       arith,
       c.in-Some.ensures.within,
-      ap length c.deref.ensures.value,
+      ap (λ (s : Stock). length s.files) c.self.view_is,
     ) in
-    let some : node_place c.args.self.now c.args.inode ≡ Some place =
-    ap (λ s. node_place s c.args.inode) (sym c.self.view_is)
-    ∙ ap (position (λ (file : Stored). file.node == c.args.inode)) (sym c.deref.ensures.value)
-    ∙ sym c.in-Some.ensures.place in
+    let some : node_place c.args.self.now c.args.inode ≡ Some place = sym c.in-Some.ensures.place in
     let same = c.bytes.ensures in
     let t = rw same at c.read_bytes.ensures in
     let a =

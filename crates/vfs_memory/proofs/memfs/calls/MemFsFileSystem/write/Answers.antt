@@ -1,20 +1,36 @@
-use Rattle.std.proofs.Common.{◌≡◌, ◌<◌, ◌==◌, List, [], length, get_or, Some, None, refl, sym, ap, ◌∙◌, arith}
-use Rattle.std.specs.List.{position}
+use Rattle.std.proofs.Common.{◌≡◌, ◌<◌, List, [], length, get_or, Some, None, refl, sym, ap, ◌∙◌, arith}
 use Rattle.vfs_files.specs.Calls.{Failed}
-use Rattle.vfs_memory.specs.MemFs.{Stored, node_place}
+use Rattle.vfs_memory.specs.MemFs.{Stored, Stock, node_place}
 use Rattle.vfs_memory.proofs.FilesAt.{writes_into}
+use Rattle.vfs_memory.proofs.Indexed.{indexed_written}
 use Rattle.vfs_memory.proofs.memfs.calls.MemFsFileSystem.write.Goals as goal
 
 pub returns-in_default : goal.returns-in_default
 returns-in_default g c =
-    let none : node_place c.args.self.now c.args.inode ≡ None =
-    ap (λ s. node_place s c.args.inode) (sym c.self.view_is)
-    ∙ ap (position (λ (file : Stored). file.node == c.args.inode)) (sym c.deref.ensures.value)
-    ∙ sym c.in_default.ensures.place in (
+    let none : node_place c.args.self.now c.args.inode ≡ None = sym c.in_default.ensures.place in (
       [],
       g.met.R.ZeroCopyReader.nothing c.args.r.now,
       rw none (ap (λ f. Failed f) c.not_found.ensures, refl),
     )
+
+pub invariant_of-self : goal.invariant_of-self
+invariant_of-self g c =
+    let files : List Stored = c.self.inside.files.items in
+    let file : Stored = record {
+      node = c.file.inside.node;
+      name = c.file.inside.name;
+      contents = c.file.inside.contents;
+    } in
+    let is : file ≡ get_or files c.in-Some.place file =
+    c.file.view_is ∙ c.index_mut-file.ensures.value
+    ∙ ap (get_or files c.in-Some.place) (sym c.file.view_is) in
+    let within : c.in-Some.place < length files = omega (
+      arith,
+      c.in-Some.ensures.within,
+      ap (λ (s : Stock). length s.files) c.self.view_is,
+    ) in
+    indexed_written files c.self.inside.names c.self.inside.next c.self.invariant c.in-Some.place
+    file c.write_from.new.self within is
 
 pub returns : goal.returns
 returns g c =
@@ -31,12 +47,9 @@ returns g c =
     let within : place < length files = omega (
       arith,
       c.in-Some.ensures.within,
-      ap length c.deref.ensures.value,
+      ap (λ (s : Stock). length s.files) c.self.view_is,
     ) in
-    let some : node_place c.args.self.now c.args.inode ≡ Some place =
-    ap (λ s. node_place s c.args.inode) (sym c.self.view_is)
-    ∙ ap (position (λ (file : Stored). file.node == c.args.inode)) (sym c.deref.ensures.value)
-    ∙ sym c.in-Some.ensures.place in
+    let some : node_place c.args.self.now c.args.inode ≡ Some place = sym c.in-Some.ensures.place in
     let t = c.write_from.ensures in (
       t.0,
       t.1,
