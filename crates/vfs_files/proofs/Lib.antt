@@ -1,3 +1,5 @@
 pub mod Forgetting
 pub mod Texts
 mod Pieces
+mod Kept
+mod Results

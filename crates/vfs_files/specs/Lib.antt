@@ -2,6 +2,7 @@ pub mod Names
 pub mod Entries
 pub mod Extensions
 pub mod Items
+pub mod Listing
 pub mod Answers
 pub mod Calls
 pub mod Runs

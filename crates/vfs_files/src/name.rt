@@ -73,6 +73,14 @@ impl<'a> CStr<'a> {
         CStr { bytes }
     }
 
+    /// The name that has these bytes, of which none is 0.
+    pub(crate) fn of_text(bytes: &'a [u8]) -> CStr<'a>
+        requires { (k : ℕ) → k < length bytes.now → slice_index bytes.now k ≢ 0 }
+        ensures { name_text result ≡ bytes.now }
+    {
+        CStr { bytes }
+    }
+
     /// The bytes of the name, without the 0 behind them.
     pub fn to_bytes(self) -> &'a [u8]
         ensures { result.now ≡ name_text self.entry }

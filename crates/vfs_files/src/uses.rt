@@ -1,10 +1,14 @@
 //! Small callers, with what follows for them from the public contracts alone. The others stand in
 //! `vfs_uses`; these are here since an edit of this crate must be refused at the first, and the
-//! second is beside what it calls.
+//! others are beside what they call.
 
 ghost use Rattle.std.specs.Prelude.{◌≡◌, ◌≤◌, ◌+◌, [], ◌∷◌, ◌++◌, codes, IfOk, OnOk};
 
-use crate::{Context, FileSystem, Number, ZeroCopyReader, ZeroCopyWriter, write_bytes};
+use crate::{
+    Context, DirEntry, DirectoryIterator, EntryList, FileSystem, Number, ZeroCopyReader,
+    ZeroCopyWriter, write_bytes,
+};
+use std::alloc::Global;
 use vfs_flags::Fault;
 
 /// A READ of any file system, whatever room it has: as many bytes are told as were put, no more
@@ -33,4 +37,19 @@ fn two_of_three<R: ZeroCopyReader>(bytes: &mut Vec<u8>, r: &mut R) -> Result<u32
     ensures wrote { OnOk result (bytes.new.items ≡ codes "a" ++ 0 ∷ codes "bc") }
 {
     write_bytes(bytes, r, 3, 2, 4)
+}
+
+/// A list to which two entries were added, and which gave one: it has one left.
+fn one_of_two_is_left(
+    alloc: Global,
+    first: DirEntry<'_>,
+    second: DirEntry<'_>,
+) -> Result<usize, Fault>
+    ensures { IfOk result (λ n. n ≡ 1) }
+{
+    let mut list = EntryList::new(alloc);
+    list.push(first)?;
+    list.push(second)?;
+    let _ = list.next();
+    Ok(list.len())
 }
