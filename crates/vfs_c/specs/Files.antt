@@ -3,7 +3,7 @@
 use Rattle.std.specs.Prelude.{ℕ, ◌^◌, List, Option}
 use Rattle.vfs_files.specs.Items.{Item}
 use Rattle.vfs_files.specs.Calls.{Call, Handed}
-use Rattle.vfs_tree.specs.Listing.{GivesFirst}
+use Rattle.vfs_files.specs.Listing.{GivesFirst}
 use Rattle.vfs_tree.specs.State as tree
 use Rattle.vfs_tree.specs.Tree.{TreeAllows, first_state}
 

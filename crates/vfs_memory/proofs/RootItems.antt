@@ -1,10 +1,8 @@
 -- The items of the root, place by place.
-use Rattle.std.proofs.Common.{◌≡◌, ◌≤◌, ℕ, zero, suc, ◌+◌, ◌-◌, List, [], ◌∷◌, ◌++◌, length, take, drop, Option, Some, Result, Ok, Err, refl, sym, ap, ◌∙◌, arith, append_assoc}
-use Rattle.std.specs.Prelude.{IfOk, MatchResult}
+use Rattle.std.proofs.Common.{◌≡◌, ◌≤◌, ℕ, zero, suc, ◌+◌, ◌-◌, List, [], ◌∷◌, ◌++◌, length, take, drop, Some, refl, sym, ap, ◌∙◌, arith, append_assoc}
 use Rattle.std.specs.List.{slice_get}
 use Rattle.std.proofs.lemmas.List.{append_cancel_left, take-append-drop, take_all, take_more}
 use Rattle.std.proofs.lemmas.Option.{slice_get_within, get_or_from_slice_get}
-use Rattle.vfs_flags.specs.Errors.{enomem}
 use Rattle.vfs_files.specs.Items.{Item}
 use Rattle.vfs_memory.specs.MemFs.{Stored, file_item, file_items, root_items}
 
@@ -22,7 +20,7 @@ slice_get-file_items offset (f ∷ fs) (suc place) file is =
     slice_get-file_items (offset + 1) fs place file is ∙ ap (λ o. Some (file_item o file)) here
 
 -- the files come behind `.` and `..`
-slice_get-root_items : (files : List Stored) (place : ℕ) (file : Stored) → 2 ≤ place
+pub slice_get-root_items : (files : List Stored) (place : ℕ) (file : Stored) → 2 ≤ place
     → slice_get files (place - 2) ≡ Some file
     → slice_get (root_items files) place ≡ Some (file_item (place + 1) file)
 slice_get-root_items files zero file behind is = absurd (omega arith)
@@ -31,15 +29,6 @@ slice_get-root_items files (suc (suc k)) file behind is =
     let from : suc (suc k) - 2 ≡ k = omega arith in
     let offset : 3 + k ≡ suc (suc k) + 1 = omega arith in
     slice_get-file_items 3 files k file (rw from at is) ∙ ap (λ o. Some (file_item o file)) offset
-
--- what is answered for a file is the item in its place
-pub file_found : (files : List Stored) (place : ℕ) (file : Stored) (found : Result Item (Option ℕ))
-    → 2 ≤ place → slice_get files (place - 2) ≡ Some file
-    → MatchResult found (λ item. item ≡ file_item (place + 1) file) (λ fault. fault ≡ Some enomem)
-    → IfOk found (λ item. slice_get (root_items files) place ≡ Some item)
-file_found files place file (Ok item) behind is same =
-    slice_get-root_items files place file behind is ∙ ap (λ i. Some i) (sym same)
-file_found files place file (Err fault) behind is same = tt
 
 -- there are two more items than files
 length-file_items : (offset : ℕ) (files : List Stored)

@@ -197,12 +197,6 @@ abbrev pub root_items : List Stored → List Item
 root_items files =
     root_item 1 (codes ".") ∷ root_item 2 (codes "..") ∷ file_items 3 files
 
--- what an iterator with these items left gives: the first, and the others are left, or the end,
--- where none is left
-abbrev pub GivesFirst : (old : List Item) → Option Item → (new : List Item) → Type 0
-GivesFirst old (Some first) new = old ≡ first ∷ new
-GivesFirst old None new = (old ≡ []) × (new ≡ [])
-
 -- why a reading of this node is refused: there is no memory, or the node is no directory
 abbrev pub reading_refusal : (node : ℕ) → ℕ
 reading_refusal node = if node == 1 then enomem else enotdir

@@ -65,12 +65,6 @@ OpensItems (Some items) refusal offset (Iterator left) = left ≡ items_behind i
 OpensItems None refusal offset (Plain answer) = answer ≡ Failed (Some refusal)
 OpensItems _ _ _ _ = ⊥
 
--- what a reading with these items left gives: the first, and the others are left, or the end, where
--- none is left
-abbrev pub GivesFirst : (old : List Item) → Option Item → (new : List Item) → Type 0
-GivesFirst old (Some first) new = old ≡ first ∷ new
-GivesFirst old None new = (old ≡ []) × (new ≡ [])
-
 -- the calls that would change something
 abbrev pub changes : Call → Bool
 changes (Setattr _ _ _ _ _) = true

@@ -1,6 +1,6 @@
 //! A reading of a directory.
 
-ghost use Rattle.vfs_read_only.specs.ReadOnly.{GivesFirst};
+ghost use Rattle.vfs_files.specs.Listing.{GivesFirst};
 
 use crate::tree::ReadTree;
 use std::marker::Model;

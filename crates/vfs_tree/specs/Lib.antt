@@ -1,7 +1,6 @@
 pub mod Bytes
 pub mod Children
 pub mod Index
-pub mod Listing
 pub mod Node
 pub mod Outcome
 pub mod Rename

@@ -11,14 +11,14 @@ ghost use Rattle.vfs_tree.specs.Tree.{all_forgotten, sets_attr};
 use crate::changes::{check_contents, write_into};
 use crate::fs::TreeFs;
 use crate::kind::Kind;
-use crate::listing::Listing;
+use crate::listing::entries_behind;
 use crate::naming::directory;
 use crate::node::TIMEOUT_SECONDS;
 use bitflags::Flags;
 use std::time::Duration;
 use vfs_files::{
-    CStr, Context, Entry, Extensions, FileSystem, GetxattrReply, ListxattrReply, ZeroCopyReader,
-    ZeroCopyWriter, defaults,
+    CStr, Context, Entry, EntryList, Extensions, FileSystem, GetxattrReply, ListxattrReply,
+    ZeroCopyReader, ZeroCopyWriter, defaults,
 };
 use vfs_flags::{Errno, Fault, FsOptions, OpenOptions, SetattrValid, SetxattrFlags};
 use vfs_wire::{Attr, SetattrIn, Statvfs64};
@@ -42,7 +42,7 @@ impl FileSystem for TreeFs {
 
     type Handle = u64;
 
-    type DirIter = Listing;
+    type DirIter = EntryList;
 
     ghost allows = { TreeAllows };
 
@@ -370,14 +370,14 @@ impl FileSystem for TreeFs {
         _handle: u64,
         size: u32,
         offset: u64,
-    ) -> Result<Listing, Fault> {
+    ) -> Result<EntryList, Fault> {
         let Some(node) = self.nodes.get(&inode) else {
             return Err(Some(Errno::ENOENT));
         };
         if !node.kind.is_directory() {
             return Err(Some(Errno::ENOTDIR));
         }
-        Listing::new(self.alloc, inode, node, offset, size)
+        entries_behind(self.alloc, inode, node, offset, size)
     }
 
     fn releasedir(

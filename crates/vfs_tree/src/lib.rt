@@ -17,5 +17,4 @@ mod rename;
 mod xattrs;
 
 pub use fs::{Limits, TreeFs};
-pub use listing::Listing;
 pub use node::Time;

@@ -6,7 +6,7 @@ use Rattle.vfs_files.specs.Runs.{Event, Called, OpenedDirectory, Taken, Happenin
 use Rattle.vfs_grammar.specs.Books.{answered, sent, answered_by, sent_by, answered_nodes, node_of, forgets_of, times, counts, NeverBelow, KeepsBooks, accepted, delivered}
 use Rattle.vfs_grammar.specs.Turn.{Turn, events_in}
 use Rattle.vfs_tree_laws.specs.Laws.{IsTree, IsHeld, lookups_in, lookups_of, names_of, CallsKeepTrees, ReadingsChangeNothing}
-use Rattle.vfs_tree.specs.Listing.{GivesFirst}
+use Rattle.vfs_files.specs.Listing.{GivesFirst}
 use Rattle.vfs_tree.specs.State.{State, node_at}
 use Rattle.vfs_tree.specs.declared.node.Node.{Node}
 use Rattle.vfs_tree.specs.Tree.{TreeAllows}

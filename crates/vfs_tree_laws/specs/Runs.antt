@@ -5,7 +5,7 @@ use Rattle.vfs_files.specs.Runs.{Happening, IsRun, events_of}
 use Rattle.vfs_grammar.specs.Books.{answered, sent, accepted, delivered, GivesBackWithin, NeverBelow}
 use Rattle.vfs_grammar.specs.Turn.{Turn}
 use Rattle.vfs_tree_laws.specs.Laws.{IsTree, lookups_of, names_of}
-use Rattle.vfs_tree.specs.Listing.{GivesFirst}
+use Rattle.vfs_files.specs.Listing.{GivesFirst}
 use Rattle.vfs_tree.specs.State.{State, node_at}
 use Rattle.vfs_tree.specs.Tree.{TreeAllows}
 

@@ -2,7 +2,7 @@
 
 ghost use Rattle.std.specs.Prelude.{◌≡◌, length, vec_len};
 ghost use Rattle.vfs_server.specs.Session.{IsSession};
-ghost use Rattle.vfs_tree.specs.Listing.{GivesFirst};
+ghost use Rattle.vfs_files.specs.Listing.{GivesFirst};
 ghost use Rattle.vfs_tree.specs.Tree.{TreeAllows};
 ghost use Rattle.vfs_tree_laws.specs.Laws.{IsTree};
 ghost use Rattle.vfs_tree_laws.specs.Runs.{KeepsTree, LeavesNone};

@@ -8,9 +8,9 @@ ghost use Rattle.vfs_tree_laws.specs.Samples.{small_tree};
 
 use bitflags::Flags;
 use std::alloc::Global;
-use vfs_files::{CStr, Context, Entry, Extensions, FileSystem, GetxattrReply};
+use vfs_files::{CStr, Context, Entry, EntryList, Extensions, FileSystem, GetxattrReply};
 use vfs_flags::{Fault, GuestGid, GuestUid, SetattrValid, SetxattrFlags};
-use vfs_tree::{Limits, Listing, Time, TreeFs};
+use vfs_tree::{Limits, Time, TreeFs};
 use vfs_wire::SetattrIn;
 
 /// A new tree of at most a hundred nodes and a thousand bytes. `None` where there is no memory.
@@ -241,7 +241,7 @@ fn value_of_an_attribute(tree: &mut TreeFs) -> Option<GetxattrReply>
 }
 
 /// What is read of a new tree's root: itself, twice.
-fn root_is_read(tree: &mut TreeFs) -> Option<Listing>
+fn root_is_read(tree: &mut TreeFs) -> Option<EntryList>
     requires { tree.old ≡ small_tree }
     ensures { IfSome result (λ items. items ≡ dot_items 1 1) }
 {

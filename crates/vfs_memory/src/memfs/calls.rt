@@ -5,14 +5,14 @@ ghost use Rattle.std.specs.Prelude.{◌≡◌};
 ghost use Rattle.vfs_files.specs.Calls.{attr_answer, no_such_call};
 ghost use Rattle.vfs_memory.specs.MemFs.{MemFsAllows, AnswersAttr, attr_at};
 
-use super::entries::Entries;
+use super::entries::root_entries;
 use super::{MOST_FILES, MemFs, ROOT_MODE, TIMEOUT_SECONDS, attr, entry, make_attr, not_found};
 use crate::memfile::MemFile;
 use bitflags::Flags;
 use std::time::Duration;
 use vfs_files::{
-    CStr, Context, Entry, Extensions, FileSystem, GetxattrReply, ListxattrReply, ZeroCopyReader,
-    ZeroCopyWriter, defaults, read_bytes,
+    CStr, Context, Entry, EntryList, Extensions, FileSystem, GetxattrReply, ListxattrReply,
+    ZeroCopyReader, ZeroCopyWriter, defaults, read_bytes,
 };
 use vfs_flags::{Errno, Fault, FsOptions, OpenOptions, ROOT_ID, SetattrValid, SetxattrFlags};
 use vfs_wire::{Attr, SetattrIn, Statvfs64};
@@ -22,7 +22,7 @@ impl FileSystem for MemFs {
 
     type Handle = u64;
 
-    type DirIter = Entries;
+    type DirIter = EntryList;
 
     ghost allows = { MemFsAllows };
 
@@ -292,11 +292,11 @@ impl FileSystem for MemFs {
         _handle: u64,
         _size: u32,
         offset: u64,
-    ) -> Result<Entries, Fault> {
+    ) -> Result<EntryList, Fault> {
         if inode != ROOT_ID {
             return Err(Some(Errno::ENOTDIR));
         }
-        Entries::new(self.alloc, &self.files, offset)
+        root_entries(self.alloc, &self.files, offset)
     }
 
     fn releasedir(

@@ -1,10 +1,10 @@
 use Rattle.std.proofs.Common.{◌≡◌, ◌≤◌, ◌++◌, length, map, take, filter, nat_lt}
 use Rattle.vfs_tree.specs.Tree.{items_in, link_item}
-use Rattle.vfs_tree.proofs.listing.Listing.new.Given as goal
+use Rattle.vfs_tree.proofs.listing.entries_behind.Given as goal
 
 abbrev pub invariant-loop-place : goal.invariant-loop-place
 invariant-loop-place l = record {
-  listed : take l.most (l.entries.items ++ map link_item l.place-iterator)
+  listed : take l.most (l.entries ++ map link_item l.place-iterator)
       ≡ take l.most (filter (λ item. nat_lt l.offset item.offset) (items_in l.number l.directory));
-  short : length l.entries.items ≤ l.most;
+  short : length l.entries ≤ l.most;
 }

@@ -3,12 +3,12 @@ use Rattle.std.specs.declared.ops.Bound.TheVariants.{Excluded, Unbounded}
 use Rattle.std.specs.BTreeMap.Range.{entries_between}
 use Rattle.vfs_tree.specs.Tree.{dot_items}
 use Rattle.vfs_tree.proofs.Listings.{listing_begins}
-use Rattle.vfs_tree.proofs.listing.Listing.new.Goals as goal
+use Rattle.vfs_tree.proofs.listing.entries_behind.Goals as goal
 
 pub loop-place-init : goal.loop-place-init
 loop-place-init c =
     let most = c.args.size / 24 + 1 in
-    let items = c.in_ok-entries.entries.items in
+    let items = c.in_ok-entries.entries in
     let dots = c.in_ok-entries.ensures.ok in
     let parent = c.args.directory.now.parent in
     let links =
