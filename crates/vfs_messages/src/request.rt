@@ -14,7 +14,6 @@ ghost use Rattle.vfs_grammar.specs.Records.{record_of, size_of};
 use crate::extensions::get_extensions;
 use bitflags::Flags;
 use std::alloc::Global;
-use std::io::Read;
 use std::marker::Model;
 use vfs_files::{CStr, Extensions, Number, first_nul};
 use vfs_flags::{FsOptions, SetattrValid, SetxattrFlags};
@@ -43,13 +42,9 @@ fn copy_bytes(alloc: Global, len: usize, reader: &mut Reader<'_>) -> Result<Vec<
     ensures bytes { IfOk result (λ v. v.items ≡ take len reader.old.left) }
     ensures err { IfErr result (λ e. e ≡ Error.OutOfMemory) }
 {
-    let mut bytes = match vec![in alloc; 0u8; len] {
-        Ok(bytes) => bytes,
-        Err(_) => return Err(Error::OutOfMemory),
-    };
-    match reader.read_exact(&mut bytes) {
-        Ok(()) => Ok(bytes),
-        Err(_) => unreachable!(),
+    match reader.read_to_vec(alloc, len) {
+        Ok(bytes) => Ok(bytes),
+        Err(_) => Err(Error::OutOfMemory),
     }
 }
 

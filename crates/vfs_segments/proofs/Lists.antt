@@ -50,3 +50,24 @@ turn buf new s rest whole part skip done from n e f p w h j r =
       still_fits = omega (arith, length-append s rest);
       joined = rw (front, left, p) (append_assoc (take done buf) (take n (drop from s)) _ ∙ ap (λ l. take done buf ++ l) (sym (window_step s rest skip (length buf - done) from n e f)) ∙ j);
     }
+
+-- one segment of a copy into memory of its own
+pub record IsPut (new rest whole : List ℕ) (skip n : ℕ) : Type 0 where
+  pub within_n : length new ≤ n
+  pub fits_rest : skip + (n - length new) ≤ length rest
+  pub makes : new ++ take (n - length new) (drop skip rest) ≡ whole
+
+pub put_behind : (old new s rest whole part : List ℕ) (skip n from m : ℕ) → from ≡ min skip (length s) → m ≡ min (length s - from) (n - length old) → part ≡ take m (drop from s) → length old ≤ n → skip + (n - length old) ≤ length (s ++ rest) → old ++ take (n - length old) (drop skip (s ++ rest)) ≡ whole → new ≡ old ++ part → IsPut new rest whole (skip - from) n
+put_behind old new s rest whole part skip n from m e f p w h j r =
+    let size : length part ≡ m = omega (arith, ap length p, length-take m (drop from s), length-drop from s) in
+    let long : length new ≡ length old + length part = ap length r ∙ length-append old part in
+    let left : n - length new ≡ (n - length old) - m = omega arith in
+    record {
+      within_n = omega arith;
+      fits_rest = omega (arith, length-append s rest);
+      makes =
+          ap (λ k. new ++ take k (drop (skip - from) rest)) left
+          ∙ ap (λ l. l ++ take ((n - length old) - m) (drop (skip - from) rest)) (r ∙ ap (λ l. old ++ l) p)
+          ∙ append_assoc old (take m (drop from s)) (take ((n - length old) - m) (drop (skip - from) rest))
+          ∙ ap (λ l. old ++ l) (sym (window_step s rest skip (n - length old) from m e f)) ∙ j;
+    }

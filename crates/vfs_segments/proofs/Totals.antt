@@ -73,6 +73,22 @@ total-at (x ∷ xs) at (suc i) h =
     total-at xs (at + length x) i (omega arith)
     ∙ omega (arith, length-append x (concat (take i xs)))
 
+-- where segment i lies among all of them
+pub record IsListed (xs : List (List ℕ)) (totals : List ℕ) (i : ℕ) : Type 0 where
+  pub listed : i < length xs
+  pub ends : get_or totals i 0 ≡ length (concat (take i xs)) + length (get_or xs i [])
+
+-- a total tells it
+pub listed_by : (xs : List (List ℕ)) (totals : List ℕ) (i : ℕ) → totals ≡ totals_of (map length xs) →
+    i < length totals → IsListed xs totals i
+listed_by xs totals i is h =
+    let count : length totals ≡ length xs = ap length is ∙ length-totals_of xs in
+    let listed : i < length xs = omega arith in
+    record {
+      listed = listed;
+      ends = ap (λ l. get_or l i 0) is ∙ total-at xs 0 i listed ∙ omega arith;
+    }
+
 -- place `at` lies in segment i, or past all of them
 pub record IsPlaced (xs : List (List ℕ)) (totals : List ℕ) (at i : ℕ) : Type 0 where
   pub count : length totals ≡ length xs

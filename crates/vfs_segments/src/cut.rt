@@ -87,7 +87,7 @@ impl Segments<Vec<Vec<u8>>> {
             lengths_of rest ≡ lengths_from at (lengths_of self.old)) }
         ensures err { OnErr result (self.new ≡ self.old) }
     {
-        let (first, inside) = self.place(at);
+        let (first, inside) = self.place(at, &mut 0);
         let alloc = *self.list.allocator();
         let totals = totals_past(alloc, &self.totals, at, first)?;
         let list = cut_off(&mut self.list, at, first, inside)?;

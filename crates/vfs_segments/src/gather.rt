@@ -6,7 +6,7 @@ ghost use Rattle.vfs_wire.specs.Fields.{Fit, value_of};
 
 use crate::record::LARGEST_RECORD;
 use crate::segments::Segments;
-use std::alloc::AllocError;
+use std::alloc::{AllocError, Global};
 use vfs_wire::ByteValued;
 
 // Writes the bytes over as many that stand from place `at` on.
@@ -47,10 +47,11 @@ impl<'a> Segments<&'a [&'a [u8]]> {
         })
     }
 
-    // Copies into the buffer the bytes that follow `skip` bytes of segment `first`, piece by piece.
+    // Copies into the buffer the bytes that follow `skip` bytes of segment `first`, piece by piece. The
+    // last segment is the next `near`.
     #[inline(never)]
     #[tactic(auto, using(crate::proofs::Flat::segments, crate::proofs::Lists::bytes_at))]
-    fn gather(&self, first: usize, mut skip: usize, buf: &mut [u8])
+    fn gather(&self, first: usize, mut skip: usize, near: &mut usize, buf: &mut [u8])
         requires { skip + length buf.old ≤ length (flat_bytes (drop first self.now)) }
         ensures { buf.new ≡
             take (length buf.old) (drop skip (flat_bytes (drop first self.now))) }
@@ -66,30 +67,59 @@ impl<'a> Segments<&'a [&'a [u8]]> {
             put_at(buf, done, &segment[from..from + n]);
             done += n;
             skip -= from;
+            *near = i;
         }
     }
 
     // Copies into the buffer the bytes that stand from place `at` on. Where one segment has all of
     // them they are copied at once.
-    pub(crate) fn copy_from(&self, at: usize, buf: &mut [u8])
+    pub(crate) fn copy_from(&self, at: usize, near: &mut usize, buf: &mut [u8])
         requires { at + length buf.old ≤ length (flat_bytes self.now) }
         ensures { buf.new ≡ take (length buf.old) (drop at (flat_bytes self.now)) }
     {
         if buf.is_empty() {
             return;
         }
-        let (first, skip) = self.place(at);
+        let (first, skip) = self.place(at, near);
         let segment = self.segment(first);
         if buf.len() <= segment.len() - skip {
             buf.copy_from_slice(&segment[skip..skip + buf.len()]);
         } else {
-            self.gather(first, skip, buf);
+            self.gather(first, skip, near, buf);
         }
+    }
+
+    // The `n` bytes from place `at` on, in memory of their own, each copied once.
+    #[tactic(auto, using(crate::proofs::Flat::segments))]
+    pub(crate) fn copied(
+        &self,
+        alloc: Global,
+        at: usize,
+        near: &mut usize,
+        n: usize,
+    ) -> Result<Vec<u8>, AllocError>
+        requires { at + n ≤ length (flat_bytes self.now) }
+        ensures { IfOk result (λ v. v.items ≡ take n (drop at (flat_bytes self.now))) }
+    {
+        let (first, mut skip) = self.place(at, near);
+        let mut bytes = Vec::with_capacity(alloc, n)?;
+        for i in first..self.count() {
+            if bytes.len() == n {
+                break;
+            }
+            let segment = self.segment(i);
+            let from = skip.min(segment.len());
+            let len = (segment.len() - from).min(n - bytes.len());
+            bytes.extend_from_slice(&segment[from..from + len])?;
+            skip -= from;
+            *near = i;
+        }
+        Ok(bytes)
     }
 
     // The record whose bytes follow `skip` bytes of segment `first`, wherever they are cut.
     #[inline(always)]
-    fn gathered<T: ByteValued>(&self, first: usize, skip: usize) -> T
+    fn gathered<T: ByteValued>(&self, first: usize, skip: usize, near: &mut usize) -> T
         requires { skip + T.SIZE ≤ length (flat_bytes (drop first self.now)) }
         ensures value { result ≡
             value_of T.table (drop skip (flat_bytes (drop first self.now))) }
@@ -97,26 +127,26 @@ impl<'a> Segments<&'a [&'a [u8]]> {
         ensures in_range { T.in_range result }
     {
         let mut buf = [0u8; LARGEST_RECORD];
-        self.gather(first, skip, &mut buf[..T::SIZE]);
+        self.gather(first, skip, near, &mut buf[..T::SIZE]);
         T::take(&buf[..T::SIZE])
     }
 
     // The record whose bytes stand from place `at` on. Where one segment has all of them it is read
     // right there.
     #[inline(always)]
-    pub(crate) fn record_at<T: ByteValued>(&self, at: usize) -> T
+    pub(crate) fn record_at<T: ByteValued>(&self, at: usize, near: &mut usize) -> T
         requires { at + T.SIZE ≤ length (flat_bytes self.now) }
         ensures value { result ≡ value_of T.table (drop at (flat_bytes self.now)) }
         ensures in_width { Fit T.table.widths (T.table.fields result) }
         ensures in_range { T.in_range result }
     {
-        let (first, skip) = self.place(at);
+        let (first, skip) = self.place(at, near);
         if first < self.count() {
             let segment = self.segment(first);
             if T::SIZE <= segment.len() - skip {
                 return T::take(&segment[skip..skip + T::SIZE]);
             }
         }
-        self.gathered(first, skip)
+        self.gathered(first, skip, near)
     }
 }

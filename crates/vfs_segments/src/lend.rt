@@ -8,13 +8,13 @@ use crate::segments::Segments;
 
 impl<'a> Segments<&'a [&'a [u8]]> {
     // The `n` bytes from place `at` on, where one segment has all of them.
-    pub(crate) fn lent(&self, at: usize, n: usize) -> Option<&'a [u8]>
+    pub(crate) fn lent(&self, at: usize, near: &mut usize, n: usize) -> Option<&'a [u8]>
         requires { at + n ≤ length (flat_bytes self.now) }
         ensures found { is_some result ≡ lie_together at n (lengths_of self.now) }
         ensures bytes { IfSome result (λ bytes.
             bytes.now ≡ take n (drop at (flat_bytes self.now))) }
     {
-        let (first, skip) = self.place(at);
+        let (first, skip) = self.place(at, near);
         if first >= self.count() {
             return Some(&[]);
         }
@@ -37,6 +37,6 @@ impl<'a> Segments<&'a [&'a [u8]]> {
         if at > left || n > left - at {
             return false;
         }
-        self.lent(from + at, n).is_some()
+        self.lent(from + at, &mut 0, n).is_some()
     }
 }

@@ -32,6 +32,8 @@ pub struct Reader<'a> {
     start: usize,
     at: usize,
     end: usize,
+    // The segment in which a place was found last: the next one is looked for there first.
+    near: usize,
 }
 
 impl<'a> Model for Reader<'a> {
@@ -73,6 +75,7 @@ impl<'a> Reader<'a> {
             start: 0,
             at: 0,
             end,
+            near: 0,
         })
     }
 
@@ -114,6 +117,7 @@ impl<'a> Reader<'a> {
             start: middle,
             at: middle,
             end: self.end,
+            near: self.near,
         };
         self.end = middle;
         Ok(rest)
@@ -132,6 +136,7 @@ impl<'a> Reader<'a> {
             start: self.start,
             at: self.at,
             end: self.end,
+            near: self.near,
         })
     }
 
@@ -154,11 +159,30 @@ impl<'a> Reader<'a> {
         if n > self.available_bytes() {
             return None;
         }
-        let Some(bytes) = self.segments.lent(self.at, n) else {
+        let Some(bytes) = self.segments.lent(self.at, &mut self.near, n) else {
             return None;
         };
         self.at += n;
         Some(bytes)
+    }
+
+    /// Takes the next `n` bytes into memory of their own, each copied once.
+    ///
+    /// `Error::SplitOutOfBounds` with `n` where fewer are left, and `Error::OutOfMemory` where
+    /// memory is refused. A refusal changes nothing.
+    pub fn read_to_vec(&mut self, alloc: Global, n: usize) -> Result<Vec<u8>>
+        ensures bytes { IfOk result (λ v. v.items ≡ take n self.old.left) }
+        ensures moved { OnOk result (self.new ≡ advanced self.old n) }
+        ensures out_of_bounds { length self.old.left < n → result ≡ Err (Error.SplitOutOfBounds n) }
+        ensures within { n ≤ length self.old.left → IfErr result (λ e. e ≡ Error.OutOfMemory) }
+        ensures err { OnErr result (self.new ≡ self.old) }
+    {
+        if n > self.available_bytes() {
+            return Err(Error::SplitOutOfBounds(n));
+        }
+        let bytes = self.segments.copied(alloc, self.at, &mut self.near, n)?;
+        self.at += n;
+        Ok(bytes)
     }
 
     // Takes the next bytes, as many as the buffer has.
@@ -167,7 +191,7 @@ impl<'a> Reader<'a> {
         ensures copied { buf.new ≡ take (length buf.old) self.old.left }
         ensures moved { self.new ≡ advanced self.old (length buf.old) }
     {
-        self.segments.copy_from(self.at, buf);
+        self.segments.copy_from(self.at, &mut self.near, buf);
         self.at += buf.len();
     }
 
@@ -194,7 +218,7 @@ impl<'a> Reader<'a> {
         if T::SIZE > self.available_bytes() {
             return None;
         }
-        let record = self.segments.record_at(self.at);
+        let record = self.segments.record_at(self.at, &mut self.near);
         self.at += T::SIZE;
         Some(record)
     }

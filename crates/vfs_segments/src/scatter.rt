@@ -72,7 +72,7 @@ impl Segments<Vec<Vec<u8>>> {
     // Spells a value over as many bytes that stand from place `at` on, where one segment has all of
     // them. Answers whether it has, and else writes nothing.
     #[inline(always)]
-    pub(crate) fn put_whole<S: Spelled>(&mut self, at: usize, x: &S) -> bool
+    pub(crate) fn put_whole<S: Spelled>(&mut self, at: usize, near: &mut usize, x: &S) -> bool
         requires { at ≤ length (flat_bytes self.old) }
         ensures wrote { result ≡ true → flat_bytes self.new ≡
             with_bytes_at at (S.bytes x.now) (flat_bytes self.old) }
@@ -82,13 +82,14 @@ impl Segments<Vec<Vec<u8>>> {
         ensures long { result ≡ true → length (S.bytes x.now) ≡ S.size x.now }
         ensures known { result ≡ true → S.known x.now }
     {
-        let (first, skip) = self.place(at);
+        let (first, skip) = self.place(at, near);
         self.spell_at(first, skip, x)
     }
 
-    // Writes the bytes over as many that follow `skip` bytes of segment `first`, piece by piece.
+    // Writes the bytes over as many that follow `skip` bytes of segment `first`, piece by piece. The
+    // last segment is the next `near`.
     #[inline(never)]
-    fn scatter(&mut self, first: usize, mut skip: usize, bytes: &[u8])
+    fn scatter(&mut self, first: usize, mut skip: usize, near: &mut usize, bytes: &[u8])
         requires listed { first ≤ length self.old }
         requires fits { skip + length bytes.now ≤ length (flat_bytes (drop first self.old)) }
         ensures bytes { flat_bytes self.new ≡
@@ -108,28 +109,35 @@ impl Segments<Vec<Vec<u8>>> {
             self.spell_in(i, from, n, &piece);
             done += n;
             skip -= from;
+            *near = i;
         }
     }
 
     // Writes the bytes over as many that stand from place `at` on. Where one segment has all of
     // them they are copied at once.
-    pub(crate) fn put_from(&mut self, at: usize, bytes: &[u8])
+    pub(crate) fn put_from(&mut self, at: usize, near: &mut usize, bytes: &[u8])
         requires { at + length bytes.now ≤ length (flat_bytes self.old) }
         ensures bytes { flat_bytes self.new ≡
             with_bytes_at at bytes.now (flat_bytes self.old) }
         ensures lengths { lengths_of self.new ≡ lengths_of self.old }
     {
-        let (first, skip) = self.place(at);
+        let (first, skip) = self.place(at, near);
         if self.spell_at(first, skip, &bytes) {
             return;
         }
-        self.scatter(first, skip, bytes);
+        self.scatter(first, skip, near, bytes);
     }
 
     // Spells a record over as many bytes that follow `skip` bytes of segment `first`, wherever they
     // are cut.
     #[inline(always)]
-    fn put_spelled<T: ByteValued + Drop>(&mut self, first: usize, skip: usize, x: T)
+    fn put_spelled<T: ByteValued + Drop>(
+        &mut self,
+        first: usize,
+        skip: usize,
+        near: &mut usize,
+        x: T,
+    )
         requires listed { first ≤ length self.old }
         requires fits { skip + T.SIZE ≤ length (flat_bytes (drop first self.old)) }
         ensures bytes { flat_bytes self.new ≡
@@ -142,13 +150,13 @@ impl Segments<Vec<Vec<u8>>> {
     {
         let mut buf = [0u8; LARGEST_RECORD];
         x.put(&mut buf[..T::SIZE]);
-        self.scatter(first, skip, &buf[..T::SIZE]);
+        self.scatter(first, skip, near, &buf[..T::SIZE]);
     }
 
     // Writes a record over as many bytes that stand from place `at` on. Where one segment has all
     // of them it is spelled right there.
     #[inline(always)]
-    pub(crate) fn put_obj<T: ByteValued + Drop>(&mut self, at: usize, x: T)
+    pub(crate) fn put_obj<T: ByteValued + Drop>(&mut self, at: usize, near: &mut usize, x: T)
         requires { at + T.SIZE ≤ length (flat_bytes self.old) }
         ensures bytes { flat_bytes self.new ≡
             with_bytes_at at (bytes_of T.table x) (flat_bytes self.old) }
@@ -157,10 +165,10 @@ impl Segments<Vec<Vec<u8>>> {
         ensures in_width { Fit T.table.widths (T.table.fields x) }
         ensures in_range { T.in_range x }
     {
-        let (first, skip) = self.place(at);
+        let (first, skip) = self.place(at, near);
         if self.spell_at(first, skip, &Record { record: &x }) {
             return;
         }
-        self.put_spelled(first, skip, x);
+        self.put_spelled(first, skip, near, x);
     }
 }

@@ -1,6 +1,6 @@
 //! Segments with the running totals of their lengths, and where a place lies in them.
 
-ghost use Rattle.std.specs.Prelude.{◌≡◌, ℕ, ◌+◌, ◌-◌, ◌^◌, ◌<◌, ◌≤◌, List, [], length, take, drop, slice_index_or, IfOk, IsOk, MatchOption};
+ghost use Rattle.std.specs.Prelude.{◌≡◌, ℕ, ◌+◌, ◌-◌, ◌^◌, ◌<◌, ◌≤◌, List, [], length, take, drop, slice_index_or, IfOk, IfSome, IsOk, MatchOption, OnSome};
 ghost use Rattle.vfs_segments.specs.Segments.{contents, flat_bytes, lengths_of, segments_of};
 ghost use Rattle.vfs_segments.specs.Totals.{totals_of};
 ghost use Rattle.vfs_views.specs.Views.{IsSpan, room_of};
@@ -56,9 +56,10 @@ impl SegmentList for Vec<Vec<u8>> {
     }
 }
 
-// How many bytes the segments have, unless that passes `usize::MAX`.
+// The sum of the segments' lengths, unless that passes `usize::MAX`.
+#[inline(always)]
 #[tactic(auto, using(crate::proofs::Flat::segments))]
-pub(crate) fn total_of<L: SegmentList>(list: &L) -> Option<usize>
+fn sum_of<L: SegmentList>(list: &L) -> Option<usize>
     ensures { MatchOption result (2 ^ 64 ≤ length (flat_bytes (L.bytes list.now)))
         (λ n. n ≡ length (flat_bytes (L.bytes list.now))) }
 {
@@ -70,6 +71,28 @@ pub(crate) fn total_of<L: SegmentList>(list: &L) -> Option<usize>
         total = next;
     }
     Some(total)
+}
+
+// The same of many segments, by a loop that stands apart.
+#[inline(never)]
+fn sum_of_many<L: SegmentList>(list: &L) -> Option<usize>
+    ensures { MatchOption result (2 ^ 64 ≤ length (flat_bytes (L.bytes list.now)))
+        (λ n. n ≡ length (flat_bytes (L.bytes list.now))) }
+{
+    sum_of(list)
+}
+
+// How many bytes the segments have, unless that passes `usize::MAX`.
+#[inline(always)]
+pub(crate) fn total_of<L: SegmentList>(list: &L) -> Option<usize>
+    ensures { MatchOption result (2 ^ 64 ≤ length (flat_bytes (L.bytes list.now)))
+        (λ n. n ≡ length (flat_bytes (L.bytes list.now))) }
+{
+    if list.count() > FEW {
+        sum_of_many(list)
+    } else {
+        sum_of(list)
+    }
 }
 
 // How long segment `i` is, or 0 where there is none.
@@ -113,6 +136,48 @@ fn search<L: SegmentList>(list: &L, totals: &[usize], at: usize) -> (usize, usiz
         return (first, 0);
     }
     (first, at - (totals[first] - list.len_of(first)))
+}
+
+// How far into segment `i` a place lies, where it lies there.
+#[inline(always)]
+fn inside<L: SegmentList>(list: &L, totals: &[usize], i: usize, at: usize) -> Option<usize>
+    requires { totals.now ≡ totals_of (lengths_of (L.bytes list.now)) }
+    ensures listed { OnSome result (i < length (L.bytes list.now)) }
+    ensures place { IfSome result (λ skip. length (flat_bytes (take i (L.bytes list.now))) + skip ≡ at) }
+    ensures inside { IfSome result (λ skip. skip < length (slice_index_or (L.bytes list.now) i [])) }
+{
+    if i >= totals.len() {
+        return None;
+    }
+    let end = totals[i];
+    let begin = end - list.len_of(i);
+    if begin <= at && at < end {
+        Some(at - begin)
+    } else {
+        None
+    }
+}
+
+// The segment in which a place lies, and how far in: segment `near` and the one behind it are looked
+// at first, and else it is searched.
+#[inline(never)]
+fn search_near<L: SegmentList>(list: &L, totals: &[usize], near: usize, at: usize) -> (usize, usize)
+    requires totals { totals.now ≡ totals_of (lengths_of (L.bytes list.now)) }
+    requires fits { at ≤ length (flat_bytes (L.bytes list.now)) }
+    ensures within { result.0 ≤ length (L.bytes list.now) }
+    ensures place { length (flat_bytes (take result.0 (L.bytes list.now))) + result.1 ≡ at }
+    ensures inside { result.1 ≤ length (slice_index_or (L.bytes list.now) result.0 []) }
+    ensures before_end { result.0 < length (L.bytes list.now) →
+        result.1 < length (slice_index_or (L.bytes list.now) result.0 []) }
+{
+    if let Some(skip) = inside(list, totals, near, at) {
+        return (near, skip);
+    }
+    let next = near.saturating_add(1);
+    if let Some(skip) = inside(list, totals, next, at) {
+        return (next, skip);
+    }
+    search(list, totals, at)
 }
 
 // Segments, and the running totals of their lengths, by which a place is found.
@@ -181,9 +246,11 @@ impl<L: SegmentList> Segments<L> {
 
     // The segment in which a place lies, and how far in. A place between two segments lies in the
     // second, and the place past all bytes behind the last one. One in the first segment, as the
-    // header of each request has it, is found without a search.
+    // header of each request has it, is found without a search, and so is one in the segment `near`,
+    // in which another place was found, and in the one behind it. The answer's segment is the next
+    // `near`.
     #[inline(always)]
-    pub(crate) fn place(&self, at: usize) -> (usize, usize)
+    pub(crate) fn place(&self, at: usize, near: &mut usize) -> (usize, usize)
         requires fits { at ≤ length (flat_bytes self.now) }
         ensures within { result.0 ≤ length self.now }
         ensures place { length (flat_bytes (take result.0 self.now)) + result.1 ≡ at }
@@ -194,7 +261,9 @@ impl<L: SegmentList> Segments<L> {
         if at < len_at(&self.list, 0) {
             return (0, at);
         }
-        search(&self.list, &self.totals, at)
+        let (i, skip) = search_near(&self.list, &self.totals, *near, at);
+        *near = i;
+        (i, skip)
     }
 
     // The segment in which the place `at` bytes past the beginning of segment `first` lies, and how
@@ -230,7 +299,7 @@ impl<L: SegmentList> Segments<L> {
         ensures place { length (room_of result self.now).before ≡ at }
         ensures total { result.total ≡ n }
     {
-        let (first, skip) = self.place(at);
+        let (first, skip) = self.place(at, &mut 0);
         let (last, inside) = self.walk(first, skip + (n - 1));
         Span {
             first,

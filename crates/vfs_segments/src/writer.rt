@@ -36,6 +36,8 @@ pub struct Writer {
     end: usize,
     held_at: usize,
     held: usize,
+    // The segment in which a place was found last: the next one is looked for there first.
+    near: usize,
 }
 
 impl Model for Writer {
@@ -78,6 +80,7 @@ impl Writer {
             end,
             held_at: 0,
             held: 0,
+            near: 0,
         })
     }
 
@@ -126,6 +129,7 @@ impl Writer {
             end: self.end - middle,
             held_at: 0,
             held: 0,
+            near: 0,
         };
         self.end = middle;
         Ok(rest)
@@ -155,7 +159,7 @@ impl Writer {
         requires { length bytes.now ≡ self.old.held }
         ensures { self.new ≡ held_filled self.old bytes.now }
     {
-        self.segments.put_from(self.held_at, bytes);
+        self.segments.put_from(self.held_at, &mut self.near, bytes);
         self.held = 0;
     }
 
@@ -164,7 +168,7 @@ impl Writer {
         requires { length bytes.now ≤ length self.old.left }
         ensures { self.new ≡ wrote self.old bytes.now }
     {
-        self.segments.put_from(self.at, bytes);
+        self.segments.put_from(self.at, &mut self.near, bytes);
         self.at += bytes.len();
     }
 
@@ -184,7 +188,7 @@ impl Writer {
             self.write_cut(x);
             return Err(io::Error::from(ErrorKind::WriteZero));
         }
-        self.segments.put_obj(self.at, x);
+        self.segments.put_obj(self.at, &mut self.near, x);
         self.at += T::SIZE;
         Ok(())
     }
@@ -228,7 +232,7 @@ impl Writer {
             bytes,
             zeros,
         };
-        if self.segments.put_whole(self.at, &padded) {
+        if self.segments.put_whole(self.at, &mut self.near, &padded) {
             self.at += T::SIZE + bytes.len() + zeros as usize;
             return Ok(());
         }
@@ -299,7 +303,7 @@ impl Writer {
             first: &first,
             second: &second,
         };
-        if self.segments.put_whole(self.at, &pair) {
+        if self.segments.put_whole(self.at, &mut self.near, &pair) {
             self.at += T::SIZE + U::SIZE;
             return Ok(());
         }
@@ -379,6 +383,7 @@ impl Writer {
             end: _,
             held_at: _,
             held: _,
+            near: _,
         } = self;
         segments.into_list()
     }

@@ -68,6 +68,8 @@ enum ReadCall {
     Together(usize, usize),
     /// `take_slice` of so many bytes. That they are not lent is answered as not found.
     Lent(usize),
+    /// `read_to_vec` of so many bytes. That fewer are left is answered as invalid input here.
+    Copied(usize),
     /// `clone`, of which all is read then, into so many bytes.
     Clone(usize),
     /// `split_at` so many bytes on: how much the rest has. Further calls are of the first part.
@@ -155,7 +157,13 @@ fn read_split(reader: &mut Reader<'_>, at: usize, goes_on_with_rest: bool) -> An
 }
 
 /// What a reader answers to a call. What it reads is to be the bytes from the place `from` on.
-fn read_by(reader: &mut Reader<'_>, from: usize, call: ReadCall, buf: &mut [u8]) -> Answer {
+fn read_by(
+    alloc: Global,
+    reader: &mut Reader<'_>,
+    from: usize,
+    call: ReadCall,
+    buf: &mut [u8],
+) -> Answer {
     match call {
         ReadCall::UpTo(n) => read(reader, from, cleared(buf, n)),
         ReadCall::All(n) => read_exact(reader, from, cleared(buf, n)),
@@ -177,6 +185,10 @@ fn read_by(reader: &mut Reader<'_>, from: usize, call: ReadCall, buf: &mut [u8])
             Some(bytes) => told(bytes, from, bytes.len()),
             None => Err(ErrorKind::NotFound),
         },
+        ReadCall::Copied(n) => match reader.read_to_vec(alloc, n) {
+            Ok(bytes) => told(&bytes, from, bytes.len()),
+            Err(error) => Err(kind_of(error, n)),
+        },
         ReadCall::Clone(n) => read_clone(reader, from, cleared(buf, n)),
         ReadCall::First(at) => read_split(reader, at, false),
         ReadCall::Rest(at) => read_split(reader, at, true),
@@ -187,7 +199,7 @@ fn read_by(reader: &mut Reader<'_>, from: usize, call: ReadCall, buf: &mut [u8])
 type ReadRow = (ReadCall, Answer, (usize, usize));
 
 /// Whether a reader answers so, whose first byte is the one at the place 0.
-fn answers_so(reader: &mut Reader<'_>, rows: &[ReadRow]) -> Result<bool, Error> {
+fn answers_so(alloc: Global, reader: &mut Reader<'_>, rows: &[ReadRow]) -> Result<bool, Error> {
     let mut buf = [0; 1024];
     let mut begin: usize = 0;
     for (call, answer, state) in rows {
@@ -195,7 +207,7 @@ fn answers_so(reader: &mut Reader<'_>, rows: &[ReadRow]) -> Result<bool, Error> 
         if let ReadCall::Rest(at) = call {
             begin = from.saturating_add(*at);
         }
-        match read_by(reader, from, *call, &mut buf) {
+        match read_by(alloc, reader, from, *call, &mut buf) {
             Err(ErrorKind::OutOfMemory) => return Err(Error::OutOfMemory),
             given if given != *answer || read_state(reader) != *state => return Ok(false),
             _ => {}
@@ -205,7 +217,7 @@ fn answers_so(reader: &mut Reader<'_>, rows: &[ReadRow]) -> Result<bool, Error> 
 }
 
 /// The lengths of a reader's segments, and its calls.
-static READS: [(&[usize], &[ReadRow]); 23] = [
+static READS: [(&[usize], &[ReadRow]); 24] = [
     (
         &[8, 16, 18, 64],
         &[
@@ -345,6 +357,17 @@ static READS: [(&[usize], &[ReadRow]); 23] = [
             (ReadCall::Clone(200), Ok(1), (1, 3)),
         ],
     ),
+    // Bytes in memory of their own, from one segment, over cuts and past the end.
+    (
+        &[3, 0, 4, 2, 1],
+        &[
+            (ReadCall::Copied(2), Ok(2), (8, 2)),
+            (ReadCall::Copied(6), Ok(6), (2, 8)),
+            (ReadCall::Copied(3), Err(ErrorKind::InvalidInput), (2, 8)),
+            (ReadCall::Copied(2), Ok(2), (0, 10)),
+            (ReadCall::Copied(0), Ok(0), (0, 10)),
+        ],
+    ),
     // Bytes of one segment lie together and are lent, and those over a cut are not.
     (
         &[3, 4],
@@ -370,7 +393,7 @@ fn is_read(
 ) -> Result<bool, Error> {
     let segments = cut(alloc, bytes, lengths)?;
     let mut reader = Reader::new(alloc, &segments)?;
-    answers_so(&mut reader, calls)
+    answers_so(alloc, &mut reader, calls)
 }
 
 /// The segments of the first reader of these bytes that doesn't answer so.

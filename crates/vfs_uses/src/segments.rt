@@ -119,6 +119,28 @@ fn number_of_too_few_bytes(reader: &mut Reader<'_>) -> Option<u32>
     reader.read_obj_if_whole()
 }
 
+/// The next four bytes in memory of their own, where six are left. Only memory can be wanting, and
+/// then the reader is as it was.
+fn four_bytes_of_six(alloc: Global, reader: &mut Reader<'_>) -> Result<Vec<u8>>
+    requires { length reader.old.left ≡ 6 }
+    ensures bytes { IfOk result (λ v. v.items ≡ take 4 reader.old.left) }
+    ensures left { OnOk result (reader.new.left ≡ drop 4 reader.old.left) }
+    ensures taken { OnOk result (reader.new.taken ≡ reader.old.taken + 4) }
+    ensures err { IfErr result (λ e. e ≡ Error.OutOfMemory) }
+    ensures same { OnErr result (reader.new ≡ reader.old) }
+{
+    reader.read_to_vec(alloc, 4)
+}
+
+/// More bytes than are left aren't copied, and the reader is as it was.
+fn nine_bytes_of_eight(alloc: Global, reader: &mut Reader<'_>) -> Option<Error>
+    requires { length reader.old.left ≡ 8 }
+    ensures refused { result ≡ Some (Error.SplitOutOfBounds 9) }
+    ensures same { reader.new ≡ reader.old }
+{
+    reader.read_to_vec(alloc, 9).err()
+}
+
 /// A reader that has eight bytes left is cut after three: it keeps these and its count, and the
 /// rest begins anew. Only memory can be wanting, and then the reader is as it was.
 fn split_after_three_bytes<'a>(reader: &mut Reader<'a>) -> Result<Reader<'a>>

@@ -112,3 +112,18 @@ returns-clause-back_lengths c =
     ap (λ (l : List (Vec ℕ Global)). held_lengths (set l 0 c.replace-head.new.dest)) c.in_ok-rest.ensures.tail
     ∙ inside_lengths_from xs i n c.args.at s c.replace-head.new.dest listed r place below
     (omega (arith, ap length tail, length-drop n s.items))
+
+pub index-requires : goal.index-requires
+index-requires c = grind (arith, common_steps)
+
+pub slice_bounds-to_vec-count : goal.slice_bounds-to_vec-count
+slice_bounds-to_vec-count c = grind (arith, common_steps)
+
+pub slice_bounds-to_vec-start : goal.slice_bounds-to_vec-start
+slice_bounds-to_vec-start c = grind (arith, common_steps)
+
+pub index_mut-requires : goal.index_mut-requires
+index_mut-requires c = grind (arith, common_steps)
+
+pub unwrap-requires : goal.unwrap-requires
+unwrap-requires c = grind (arith, common_steps)

@@ -1,4 +1,5 @@
 use Rattle.std.proofs.Common.{arith, ◌<◌, ◌∙◌, ◌+◌, ◌++◌, ◌∷◌, ap, sym, [], length, map, take}
+use Rattle.std.proofs.lemmas.Grind.{common_steps}
 use Rattle.std.specs.List.{concat}
 use Rattle.vfs_segments.specs.Totals.{totals_of}
 use Rattle.vfs_segments.proofs.Flat.{length-concat-take_more}
@@ -22,3 +23,6 @@ loop-i-preserved g c =
       count = omega (arith, v.count, c.push_reserved.ensures.len);
       room = omega (arith, v.room, c.push_reserved.ensures.capacity);
     }
+
+pub returns : goal.returns
+returns g c = grind (arith, common_steps)

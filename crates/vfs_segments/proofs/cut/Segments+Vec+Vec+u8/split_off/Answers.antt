@@ -1,4 +1,5 @@
 use Rattle.std.proofs.Common.{arith, ap, sym, ◌≡◌, ◌∙◌, ◌+◌, ◌-◌, ◌<◌, ◌≤◌, ⊎_elim, length, take, drop, map, [], ◌∷◌, ◌++◌, ℕ, List}
+use Rattle.std.proofs.lemmas.Grind.{common_steps}
 use Rattle.std.proofs.lemmas.Bool.{cases_lt}
 use Rattle.std.proofs.lemmas.List.{length-map, take-map}
 use Rattle.std.specs.List.{concat}
@@ -70,3 +71,9 @@ invariant_of-self-2 c =
     ∙ totals_before_between xs first at (omega (arith, place)) (λ (h : first < length xs). omega (arith, p.before_end (omega (arith, h, length-map xs (λ (v : Vec ℕ Global). v.items))))))
     (cases_lt 0 inside) in
     front ∙ ap totals_of (sym c.in_ok-list.ensures.front_lengths)
+
+pub cut_off-requires-clause-within : goal.cut_off-requires-clause-within
+cut_off-requires-clause-within c = grind (arith, common_steps)
+
+pub cut_off-requires-clause-before_end : goal.cut_off-requires-clause-before_end
+cut_off-requires-clause-before_end c = grind (arith, common_steps)

@@ -12,3 +12,12 @@ returns-clause-value g c =
     let bytes = drop c.args.skip (concat (drop c.args.first c.args.self.now)) in
     let read : c.take.result ≡ value_of t (take n bytes) = grind (arith, common_steps) in
     read ∙ value_of-take t n bytes (omega (arith, g.met.T.ByteValued.size_is))
+
+pub slice_bounds-buf-end-2 : goal.slice_bounds-buf-end-2
+slice_bounds-buf-end-2 g c = grind (arith, common_steps)
+
+pub slice_bounds-take-end : goal.slice_bounds-take-end
+slice_bounds-take-end g c = grind (arith, common_steps)
+
+pub take-requires : goal.take-requires
+take-requires g c = grind (arith, common_steps)

@@ -1,4 +1,5 @@
 use Rattle.std.proofs.Common.{rules, arith, ap, sym, ◌+◌, ◌-◌, ◌∙◌, ◌≤◌, length, drop, length-take}
+use Rattle.std.proofs.lemmas.Grind.{common_steps}
 use Rattle.std.specs.List.{concat}
 use Rattle.std.specs.Prelude.{sum}
 use Rattle.vfs_wire.specs.Fields.{value_of}
@@ -26,3 +27,12 @@ returns-clause-moved g c =
 
 pub returns-then-SIZE-available_bytes-clause-none : goal.returns-then-SIZE-available_bytes-clause-none
 returns-then-SIZE-available_bytes-clause-none g c = search rules
+
+pub record_at-record-requires : goal.record_at-record-requires
+record_at-record-requires g c = grind (arith, common_steps)
+
+pub overflow_add-self : goal.overflow_add-self
+overflow_add-self g c = grind (arith, common_steps)
+
+pub invariant_of-self : goal.invariant_of-self
+invariant_of-self g c = grind (arith, common_steps)

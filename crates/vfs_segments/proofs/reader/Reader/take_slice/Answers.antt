@@ -1,4 +1,5 @@
 use Rattle.std.proofs.Common.{arith, ap, ◌≡◌, ◌∙◌, ◌+◌, ◌≤◌, sym, rules}
+use Rattle.std.proofs.lemmas.Grind.{common_steps}
 use Rattle.vfs_segments.specs.Lengths.{lie_together}
 use Rattle.vfs_segments.specs.Segments.{lengths_of}
 use Rattle.vfs_segments.proofs.Places.{length-left, moved_on, together_is}
@@ -33,3 +34,15 @@ returns-clause-moved c =
 
 pub returns-in_default-clause-none : goal.returns-in_default-clause-none
 returns-in_default-clause-none c = search rules
+
+pub lent-requires : goal.lent-requires
+lent-requires c = grind (arith, common_steps)
+
+pub overflow_add-self : goal.overflow_add-self
+overflow_add-self c = grind (arith, common_steps)
+
+pub invariant_of-self-2 : goal.invariant_of-self-2
+invariant_of-self-2 c = grind (arith, common_steps)
+
+pub returns-clause-bytes : goal.returns-clause-bytes
+returns-clause-bytes c = grind (arith, common_steps)

@@ -1,4 +1,5 @@
 use Rattle.std.proofs.Common.{arith, ap, refl, sym, ◌∙◌, ◌≡◌, ◌-◌, ◌+◌, ◌≤◌, min, length, take, drop}
+use Rattle.std.proofs.lemmas.Grind.{common_steps}
 use Rattle.std.proofs.lemmas.List.{take-take}
 use Rattle.vfs_segments.specs.Unread.{Unread}
 use Rattle.std.specs.List.{concat}
@@ -35,3 +36,15 @@ returns-in-Err-clause-lent g c = λ some.
     ap (λ j. take j (drop r.at bytes)) n ∙ sym (take-take k (r.end - r.at) (drop r.at bytes) (omega (arith, size)))
     ∙ ap (λ (u : Unread). take k u.left) c.self.view_is in
     (refl, rw is at c.in-Err.ensures.gives)
+
+pub write_from-requires-clause-fits : goal.write_from-requires-clause-fits
+write_from-requires-clause-fits g c = grind (arith, common_steps)
+
+pub write_from-requires-clause-small : goal.write_from-requires-clause-small
+write_from-requires-clause-small g c = grind (arith, common_steps)
+
+pub overflow_add-self : goal.overflow_add-self
+overflow_add-self g c = grind (arith, common_steps)
+
+pub invariant_of-self : goal.invariant_of-self
+invariant_of-self g c = grind (arith, common_steps)

@@ -14,13 +14,13 @@ pub invariant_of-self : goal.invariant_of-self
 invariant_of-self c =
     let w = c.self.inside in
     let room : length c.args.bytes.now ≤ length (room_bytes w) - w.at = omega (arith, c.requires, ap (λ (u : Written). length u.left) c.self.view_is, length-drop w.at (room_bytes w)) in
-    still_writer w (record w { segments = c.put_from.new.self; at = w.at + length c.args.bytes.now }) c.self.invariant
+    still_writer w (record w { segments = c.put_from.new.self; near = c.put_from.new.near; at = w.at + length c.args.bytes.now }) c.self.invariant
     c.put_from.ensures.lengths refl (omega (arith, room, c.self.invariant.all, c.self.invariant.within)) (omega (arith, c.self.invariant.held_in))
 
 pub returns : goal.returns
 returns c =
     let w = c.self.inside in
     let room : length c.args.bytes.now ≤ length (room_bytes w) - w.at = omega (arith, c.requires, ap (λ (u : Written). length u.left) c.self.view_is, length-drop w.at (room_bytes w)) in
-    wrote_next w (record w { segments = c.put_from.new.self; at = w.at + length c.args.bytes.now }) c.args.bytes.now
+    wrote_next w (record w { segments = c.put_from.new.self; near = c.put_from.new.near; at = w.at + length c.args.bytes.now }) c.args.bytes.now
     c.put_from.ensures.bytes (omega (arith, room, c.self.invariant.all, c.self.invariant.within)) refl refl refl c.put_from.ensures.lengths
     ∙ ap (λ (u : Written). wrote u c.args.bytes.now) c.self.view_is

@@ -1,4 +1,5 @@
 use Rattle.std.proofs.Common.{arith, ap, ◌∙◌, ◌≡◌, ◌+◌, ◌-◌, min, refl, sym, length, length-drop, Ok, Err, Option, ℕ}
+use Rattle.std.proofs.lemmas.Grind.{common_steps}
 use Rattle.vfs_segments.specs.Written.{Written}
 use Rattle.vfs_segments.specs.Transfer.{taken_in}
 use Rattle.vfs_segments.specs.Writer.{room_bytes}
@@ -43,3 +44,12 @@ returns-in-Err-clause-lent g c = λ some.
           ∙ ap (λ (u : Written). taken_in u (Err c.in-Err.fault) t.0) c.self.view_is,
       rw n at t.3,
     )
+
+pub read_into-requires-clause-fits : goal.read_into-requires-clause-fits
+read_into-requires-clause-fits g c = grind (arith, common_steps)
+
+pub read_into-requires-clause-small : goal.read_into-requires-clause-small
+read_into-requires-clause-small g c = grind (arith, common_steps)
+
+pub overflow_add-self : goal.overflow_add-self
+overflow_add-self g c = grind (arith, common_steps)

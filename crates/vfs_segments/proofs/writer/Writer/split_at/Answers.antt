@@ -1,4 +1,5 @@
 use Rattle.std.proofs.Common.{arith, ap, ◌∙◌, ◌+◌, refl, length, length-drop, length-take, rules}
+use Rattle.std.proofs.lemmas.Grind.{common_steps}
 use Rattle.vfs_segments.specs.Written.{Written, first_room}
 use Rattle.vfs_segments.specs.Writer.{room_bytes}
 use Rattle.vfs_segments.proofs.Writers.{keeps}
@@ -32,3 +33,15 @@ returns-clause-kept c =
 
 pub returns-then-n-available_bytes-clause-err : goal.returns-then-n-available_bytes-clause-err
 returns-then-n-available_bytes-clause-err c = search rules
+
+pub overflow_add-middle : goal.overflow_add-middle
+overflow_add-middle c = grind (arith, common_steps)
+
+pub split_off-requires : goal.split_off-requires
+split_off-requires c = grind (arith, common_steps)
+
+pub overflow_sub-rest : goal.overflow_sub-rest
+overflow_sub-rest c = grind (arith, common_steps)
+
+pub returns-clause-rest : goal.returns-clause-rest
+returns-clause-rest c = grind (arith, common_steps)
