@@ -5,9 +5,9 @@ use std::alloc::Global;
 use std::cell::RefCell;
 use std::collections::VecDeque;
 use std::io;
+use vfs_answers::{answer_to, server_for, write_all};
 use vfs_corpus::try_calls;
 use vfs_lines::{Line, RunError, lines_before_requests, lines_of, parse_line};
-use vfs_run::{answer_to, server_for, write_all};
 use vfs_scripted::{ScriptFs, Told, parse_told};
 use vfs_server::server::Server;
 
