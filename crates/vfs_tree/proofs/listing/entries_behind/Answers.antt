@@ -1,4 +1,5 @@
 use Rattle.std.proofs.Common.{◌+◌, ◌/◌, ap, ◌∙◌, nat_cmp, nat_lt, length, filter, arith, length-take}
+use Rattle.std.proofs.lemmas.Grind.{common_steps}
 use Rattle.std.specs.declared.ops.Bound.TheVariants.{Excluded, Unbounded}
 use Rattle.std.specs.BTreeMap.Range.{entries_between}
 use Rattle.vfs_tree.specs.Tree.{dot_items}
@@ -24,3 +25,9 @@ loop-place-init c =
             (filter (λ item. nat_lt c.args.offset item.offset) (dot_items c.args.number parent)),
       );
     }
+
+pub loop-place-preserved : goal.loop-place-preserved
+loop-place-preserved c = grind (arith, common_steps)
+
+pub returns-clause-ok : goal.returns-clause-ok
+returns-clause-ok c = grind (arith, common_steps)

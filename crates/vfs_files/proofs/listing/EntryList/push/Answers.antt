@@ -1,4 +1,5 @@
-use Rattle.std.proofs.Common.{◌≡◌, ◌++◌, ◌∷◌, [], ap, ◌∙◌}
+use Rattle.std.proofs.Common.{◌≡◌, ◌++◌, ◌∷◌, [], ap, ◌∙◌, rules, arith}
+use Rattle.std.proofs.lemmas.Grind.{common_steps}
 use Rattle.vfs_files.specs.Items.{item}
 use Rattle.vfs_files.specs.Names.{name_text}
 use Rattle.vfs_files.specs.declared.listing.Kept.{Kept}
@@ -46,3 +47,9 @@ returns-clause-ok c =
     c.extend_from_slice.new.self.items c.push.new.self.items (names_are c) (entries_are c)
     (c.len.ensures ∙ c.extend_from_slice.new.self.ok.0)
     ∙ ap (λ l. l ++ item c.args.added ∷ []) c.self.view_is
+
+pub invariant_of-self-then-is_err-2 : goal.invariant_of-self-then-is_err-2
+invariant_of-self-then-is_err-2 c = grind (arith, common_steps)
+
+pub returns-then-is_err-2-clause-err : goal.returns-then-is_err-2-clause-err
+returns-then-is_err-2-clause-err c = grind (arith, common_steps)

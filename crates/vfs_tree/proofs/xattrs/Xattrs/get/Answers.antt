@@ -1,4 +1,5 @@
-use Rattle.std.proofs.Common.{List, ℕ, Bor, Option, Some, option_map, rules, tests, sym, ap, ◌∙◌}
+use Rattle.std.proofs.Common.{arith, List, ℕ, Bor, Option, Some, option_map, rules, tests, sym, ap, ◌∙◌}
+use Rattle.std.proofs.lemmas.Grind.{common_steps}
 use Rattle.std.proofs.lemmas.Iterator.{YieldsList-from_slice}
 use Rattle.std.proofs.lemmas.Iterator.Search.{find_from_yields_List}
 use Rattle.vfs_tree.specs.Xattrs.{Xattr, is_called, xattr_named}
@@ -28,3 +29,6 @@ returns-in-None-clause-value c =
     (λ x b q k. search (rules, tests)) in
     ap (λ xattrs. xattr_named xattrs c.args.name.now) (sym c.self.view_is)
     ∙ ap (option_map (λ (x : Xattr). x.value)) (sym found) ∙ ap value_of c.in-None.is
+
+pub returns-in-Some-clause-most : goal.returns-in-Some-clause-most
+returns-in-Some-clause-most c = grind (arith, common_steps)

@@ -1,4 +1,5 @@
 use Rattle.std.proofs.Common.{◌≡◌, length, take, ap, ◌∙◌, arith}
+use Rattle.std.proofs.lemmas.Grind.{common_steps}
 use Rattle.std.proofs.lemmas.List.Sums.{sum_by-take-le}
 use Rattle.vfs_tree.specs.Xattrs.{Xattr, bytes_of, xattr_bytes}
 use Rattle.vfs_tree.proofs.Attributes.{names_fit, length_more}
@@ -29,3 +30,15 @@ returns-clause-most c =
       counted.0,
       counted.1,
     )
+
+pub overflow_cast-length : goal.overflow_cast-length
+overflow_cast-length c = grind (arith, common_steps)
+
+pub overflow_add-length : goal.overflow_add-length
+overflow_add-length c = grind (arith, common_steps)
+
+pub loop-xattr-preserved : goal.loop-xattr-preserved
+loop-xattr-preserved c = grind (arith, common_steps)
+
+pub returns-clause-length : goal.returns-clause-length
+returns-clause-length c = grind (arith, common_steps)

@@ -1,4 +1,5 @@
 use Rattle.std.proofs.Common.{◌≡◌, ◌+◌, ◌-◌, ◌<◌, ◌++◌, ◌∷◌, [], length, position, remove, sym, ap, ◌∙◌, arith}
+use Rattle.std.proofs.lemmas.Grind.{common_steps}
 use Rattle.vfs_files.specs.Names.{name_text}
 use Rattle.vfs_tree.specs.Xattrs.{Xattr, is_called, bytes_of, xattr_bytes, with_xattr}
 use Rattle.vfs_tree.specs.declared.xattrs.Xattrs.TheInside.{Inside}
@@ -87,3 +88,15 @@ pub invariant_of-self-2 : goal.invariant_of-self-2
 invariant_of-self-2 c =
     let bytes = ap xattr_bytes (listed c) in
     (counted c, omega (arith, counted c, bytes, c.requires))
+
+pub bytes-added-requires : goal.bytes-added-requires
+bytes-added-requires c = grind (arith, common_steps)
+
+pub bytes-requires : goal.bytes-requires
+bytes-requires c = grind (arith, common_steps)
+
+pub overflow_sub-self : goal.overflow_sub-self
+overflow_sub-self c = grind (arith, common_steps)
+
+pub overflow_add-self : goal.overflow_add-self
+overflow_add-self c = grind (arith, common_steps)
