@@ -317,16 +317,15 @@ def lookup():
 
 def bar(picture, x, y, scale, cell, wanted, colour, column):
     """The least of a cell's figures as a bar, up to the greatest in a lighter one, and the text."""
-    figures = [float(figure) for figure in re.findall(r"\d+\.\d+", cell)]
-    if not figures:
-        return
+    figures = [min(float(figure), 1.1) for figure in re.findall(r"\d+\.\d+", cell)]
     least, most = scale * figures[0], scale * figures[-1]
-    picture.box(x, y, least, 11, fill=colour, stroke="none")
-    picture.box(x + least, y, most - least, 11, fill=colour, stroke="none", fill_opacity="0.4")
-    at = x + scale * float(wanted)
-    picture.shape("line", x1=at, y1=y - 1, x2=at, y2=y + 12, stroke="black", stroke_width=2)
+    picture.box(x, y, least, 9, fill=colour, stroke="none")
+    picture.box(x + least, y, most - least, 9, fill=colour, stroke="none", fill_opacity="0.4")
+    if wanted:
+        at = x + scale * float(wanted)
+        picture.shape("line", x1=at, y1=y - 1, x2=at, y2=y + 10, stroke="black", stroke_width=2)
     weight = {"font_weight": "bold"} if "**" in cell else {}
-    picture.text(column, y + 10, cell.strip("*"), font_size=11, **weight)
+    picture.text(column, y + 9, cell.strip("*"), font_size=11, **weight)
 
 
 def grid(picture, x, scale, top, bottom):
@@ -338,35 +337,40 @@ def grid(picture, x, scale, top, bottom):
     picture.text(x + scale, top - 12, "virtiofsd's Rust", text_anchor="middle")
 
 
-def key(picture, x, one, many):
+def key(picture, x, y, colours):
     """What the colours and the strokes of the ratios mean."""
-    for colour, opacity, words in ((one, 1, "in one piece"), (many, 1, "in pieces of 64 bytes"),
-                                   (one, 0.4, "up to the greatest figure")):
-        picture.box(x, 14, 24, 11, fill=colour, stroke="none", fill_opacity=opacity)
-        picture.text(x + 30, 24, words)
-        x += 46 + wide(words)
-    picture.shape("line", x1=x, y1=13, x2=x, y2=26, stroke="black", stroke_width=2)
-    picture.text(x + 8, 24, "what was wanted")
+    marks = [(colour, 1, words) for words, colour in colours.items()]
+    for colour, opacity, words in marks + [("#666", 0.4, "up to the greatest")]:
+        picture.box(x, y, 20, 11, fill=colour, stroke="none", fill_opacity=opacity)
+        picture.text(x + 25, y + 10, words)
+        x += 38 + wide(words)
+    picture.shape("line", x1=x, y1=y - 1, x2=x, y2=y + 12, stroke="black", stroke_width=2)
+    picture.text(x + 8, y + 10, "what was wanted")
 
 
 def ratios():
-    rows = table(SPEED, "| Class | one piece | pieces of 64 | wanted")
-    left, axis, scale, top, pitch = 20, 216, 440, 66, 36
-    colours = ["#2f6fc4", "#2a8a7f"]
+    rows = table(SPEED, "| Class | one piece | header apart")
+    colours = {"one piece": "#2f6fc4", "header apart": "#7a52b3", "pieces of 4096": "#b3722a",
+               "pieces of 64": "#2a8a7f", "single bytes": "#b03a4b"}
+    left, axis, scale, top, thin = 20, 236, 440, 66, 12
     picture = Picture("Time of a request here by its time in virtiofsd's Rust")
-    bottom = top + pitch * len(rows)
+    shown = [[(words, cell) for words, cell in zip(colours, row[1:]) if cell] for row in rows]
+    heights = [max(20, thin * len(cells) + 8) for cells in shown]
+    bottom = top + sum(heights)
     grid(picture, axis, scale, top, bottom)
-    for at, (name, one, many, wanted, _) in enumerate(rows):
-        y = top + pitch * at
-        lines = textwrap.wrap(name.replace("`", ""), 27)
+    y = top
+    for (name, *_, wanted, _), cells, height in zip(rows, shown, heights):
+        goals = {words: figure for figure, words in re.findall(r"([\d.]+) \(([^)]+)\)", wanted)}
+        lines = textwrap.wrap(name.replace("`", ""), 30)
+        middle = y + (height - 8) / 2 + 4 - 7 * (len(lines) - 1)
         for i, line in enumerate(lines):
-            picture.text(left, y + 17 + 14 * i - 7 * (len(lines) - 1), line)
-        goals = wanted.split("; ")
-        for i, cell in enumerate((one, many)):
-            bar(picture, axis, y + 1 + 14 * i, scale, cell, goals[i % len(goals)], colours[i],
-                axis + scale + 12)
-    key(picture, left, *colours)
-    return picture.drawn(axis + scale + 120, bottom + 30)
+            picture.text(left, middle + 14 * i, line)
+        for i, (words, cell) in enumerate(cells):
+            bar(picture, axis, y + thin * i, scale, cell, goals.get(words), colours[words],
+                axis + scale * 1.1 + 12)
+        y += height
+    key(picture, left, 14, colours)
+    return picture.drawn(axis + int(scale * 1.1) + 120, bottom + 30)
 
 
 def main():

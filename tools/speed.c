@@ -388,7 +388,10 @@ static struct bytes batch_of(const struct class *class)
 	return batch;
 }
 
-static const char *const cuttings[] = { "one piece", "head + rest", "of 4096", "of 64" };
+static const char *const cuttings[] = { "one piece", "head + rest", "of 4096", "of 64", "of 1" };
+
+/* How many bytes a request and its room have at most that are also cut into single bytes. */
+enum { CUTTINGS = 5, SMALL = 512 };
 
 /* In how many pieces n bytes are cut. */
 static size_t pieces(size_t n, size_t head, uint32_t cutting)
@@ -399,7 +402,7 @@ static size_t pieces(size_t n, size_t head, uint32_t cutting)
 	case 1:
 		return n > head ? 2 : n > 0;
 	default: {
-		size_t size = cutting == 2 ? 4096 : 64;
+		size_t size = cutting == 2 ? 4096 : cutting == 3 ? 64 : 1;
 
 		return (n + size - 1) / size;
 	}
@@ -522,14 +525,14 @@ static int measure_class(const struct class *class)
 {
 	struct bytes batch = batch_of(class);
 	uint32_t room = 0, len = 0;
-	size_t all = rooms(&batch, &room, &len), seen[4] = { 0 };
+	size_t all = rooms(&batch, &room, &len), seen[CUTTINGS] = { 0 };
 	struct work work = { .batch = &batch, .replies_len = all };
 	uint64_t digest = 0;
 
 	work.replies = calloc(all + 1, 1);
 	if (!work.replies)
 		abort();
-	for (uint32_t cutting = 0; cutting < 4; cutting++) {
+	for (uint32_t cutting = 0; cutting < (len + room > SMALL ? CUTTINGS - 1 : CUTTINGS); cutting++) {
 		double least, middle;
 		int again = 0;
 

@@ -9,12 +9,13 @@ pub const REQUEST_HEAD: usize = 40;
 pub const ROOM_HEAD: usize = 16;
 
 /// The bytes in pieces, none of them empty: 0 all in one, 1 the first `head` and the others, 2
-/// 4,096 each, 3 64 each.
+/// 4,096 each, 3 64 each, 4 one each.
 pub fn cut<'a>(alloc: Global, bytes: &'a [u8], head: usize, cutting: u32) -> Option<Vec<&'a [u8]>> {
     let (first, each) = match cutting {
         1 => (head, usize::MAX),
         2 => (4096, 4096),
         3 => (64, 64),
+        4 => (1, 1),
         _ => (usize::MAX, usize::MAX),
     };
     pieces_of(alloc, bytes, first, each)

@@ -21,14 +21,15 @@ pub const MEM: u32 = 0;
 pub const NULL: u32 = 1;
 
 /// The pieces of `n` bytes whose header has `head` bytes: one (0), header and body (1), 4096 bytes each
-/// (2), or 64 each (3). None is empty.
+/// (2), 64 each (3), or one each (4). None is empty.
 pub fn pieces(n: usize, head: usize, cutting: u32) -> Vec<Range<usize>> {
     let step = match cutting {
         0 => n,
         1 if n > head => return vec![0..head, head..n],
         1 => n,
         2 => 4096,
-        _ => 64,
+        3 => 64,
+        _ => 1,
     };
     (0..n).step_by(step.max(1)).map(|at| at..n.min(at + step)).collect()
 }

@@ -287,15 +287,21 @@ fn classes() -> Vec<Class> {
     all
 }
 
-const CUTTINGS: [&str; 4] = ["uncut", "head+body", "4096", "64"];
+const CUTTINGS: [&str; 5] = ["uncut", "head+body", "4096", "64", "1"];
 
-/// The cuttings under which the measured requests differ from those under a lower number.
+/// How many bytes a request and its room have at most that are also cut into single bytes.
+const SMALL: usize = 512;
+
+/// The cuttings under which the measured requests differ from those under a lower number. That into
+/// single bytes is for small requests alone.
 fn cuttings(b: &Batch) -> Vec<u32> {
     let cut = |c| {
         let of = |p: &oracle::batch::Place| (pieces(p.request.len(), 40, c), pieces(p.room.len(), 16, c));
         b.measured.iter().map(of).collect::<Vec<_>>()
     };
-    (0..4).filter(|&c| (0..c).all(|d| cut(c) != cut(d))).collect()
+    let small = b.measured.iter().all(|p| p.request.len() + p.room.len() <= SMALL);
+    let all = if small { CUTTINGS.len() } else { CUTTINGS.len() - 1 } as u32;
+    (0..all).filter(|&c| (0..c).all(|d| cut(c) != cut(d))).collect()
 }
 
 // --- measuring ---

@@ -1,0 +1,97 @@
+#!/usr/bin/env bash
+# Makes the table of ratios in docs/SPEED.md out of figures that were measured.
+#
+# Usage: tools/speed-table.sh [FILE ..]
+# Each FILE is what a run of `tools/speed.sh --beside` printed. Their figures go to docs/speed/ratios.tsv,
+# and from there into the table; with no FILE the table is made anew from the figures that are there. A cell
+# has the least and the greatest ratio of all passes, time here by time in virtiofsd's Rust, and is bold
+# where the greatest is above what was wanted, as docs/speed/classes.tsv has it beside each class's name.
+# tools/pictures.sh draws the ratios from the table.
+set -eu
+. "$(dirname "$0")/usage.sh"
+for file in "$@"; do
+    [ -f "$file" ] || { sed -n '2,/^set/s/^# \{0,1\}//p' "$0" | sed '/^set/d' >&2 && exit 2; }
+done
+need python3 "Install it: apt-get install python3."
+here=$(cd "$(dirname "$0")/.." && pwd)
+
+exec python3 - "$here" "$@" <<'PYTHON'
+import csv, sys
+
+here, passes = sys.argv[1], sys.argv[2:]
+CLASSES, RATIOS = f"{here}/docs/speed/classes.tsv", f"{here}/docs/speed/ratios.tsv"
+SPEED = f"{here}/docs/SPEED.md"
+# How the cuttings are named where they are measured, and in the table.
+CUTTINGS = {"uncut": "one piece", "head+body": "header apart", "4096": "pieces of 4096",
+            "64": "pieces of 64", "1": "single bytes"}
+HEAD = "| Class |"
+
+
+def rows_of(path):
+    with open(path, encoding="utf-8", newline="") as file:
+        return list(csv.DictReader(file, delimiter="\t"))
+
+
+def figures(paths):
+    """The ratios of each class under each cutting, and the allocations of a request, there and here."""
+    found = {}
+    for path in paths:
+        with open(path, encoding="utf-8") as file:
+            for line in file:
+                words = line.split()
+                if len(words) == 15 and words[1] in CUTTINGS:
+                    one = found.setdefault((words[0], words[1]), ([], words[6], words[11]))
+                    one[0].append(float(words[14]))
+    if not found:
+        sys.exit("tools/speed-table.sh: the files have no figures")
+    return found
+
+
+def write_figures(found):
+    with open(RATIOS, "w", encoding="utf-8", newline="") as file:
+        out = csv.writer(file, delimiter="\t", lineterminator="\n")
+        out.writerow(["class", "cutting", "least", "greatest", "allocations there", "here"])
+        for (name, cutting), (ratios, there, own) in found.items():
+            out.writerow([name, cutting, f"{min(ratios):.3f}", f"{max(ratios):.3f}", there, own])
+
+
+def cell(row, wanted):
+    """What the table says of a class under a cutting."""
+    least, most = f"{float(row['least']):.2f}", f"{float(row['greatest']):.2f}"
+    words = least if least == most else f"{least} to {most}"
+    return f"**{words}**" if wanted and float(most) > float(wanted) else words
+
+
+def goals(row):
+    """What was wanted of a class, by its cuttings."""
+    named = [f"{row[name]} ({name})" for name in CUTTINGS.values() if row[name]]
+    return "; ".join(named)
+
+
+def whole(figure):
+    return f"{round(float(figure)):,}"
+
+
+def table():
+    found = {(row["class"], row["cutting"]): row for row in rows_of(RATIOS)}
+    lines = [f"{HEAD} {' | '.join(CUTTINGS.values())} | wanted | allocations, here by there |",
+             "|---" * (len(CUTTINGS) + 3) + "|"]
+    for row in rows_of(CLASSES):
+        name = row["class"]
+        over = "" if row["name"].count("`") else f", over `{'MemFs' if name.startswith('mem/') else 'null'}`"
+        cells = [cell(found[name, cutting], row[words]) if (name, cutting) in found else ""
+                 for cutting, words in CUTTINGS.items()]
+        first = found[name, "uncut"]
+        by = f"{whole(first['here'])} by {whole(first['allocations there'])}"
+        lines.append(f"| {row['name']}{over} | {' | '.join(cells)} | {goals(row)} | {by} |")
+    return "\n".join(lines)
+
+
+if passes:
+    write_figures(figures(passes))
+with open(SPEED, encoding="utf-8") as file:
+    before, _, behind = file.read().partition(f"\n{HEAD}")
+old, _, rest = behind.partition("\n\n")
+with open(SPEED, "w", encoding="utf-8") as file:
+    file.write(f"{before}\n{table()}\n\n{rest}")
+PYTHON
