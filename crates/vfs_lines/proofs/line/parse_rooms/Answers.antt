@@ -1,4 +1,5 @@
-use Rattle.std.proofs.Common.{sym, ◌∙◌}
+use Rattle.std.proofs.Common.{arith, sym, ◌∙◌}
+use Rattle.std.proofs.lemmas.Grind.{common_steps}
 use Rattle.vfs_lines.proofs.ValueLemmas.{values_of-refused, values_of-more}
 use Rattle.vfs_lines.specs.Lines.{length_of}
 use Rattle.vfs_lines.proofs.line.parse_rooms.Goals as goal
@@ -12,3 +13,6 @@ pub loop-piece-preserved : goal.loop-piece-preserved
 loop-piece-preserved c =
     let more = values_of-more length_of c.deref-piece-items.result.now c.loop-piece.piece-index _ c.loop-piece.rooms.items c.in-Some.length c.loop-piece-test.true c.loop-piece.invariant (sym c.parse_length.ensures ∙ c.in-Some.is) in
     rw c.in_ok-push.ensures.items more
+
+pub returns-clause-read : goal.returns-clause-read
+returns-clause-read c = grind (arith, common_steps)

@@ -1,4 +1,5 @@
-use Rattle.std.proofs.Common.{sym, ap, ◌∙◌, map}
+use Rattle.std.proofs.Common.{arith, sym, ap, ◌∙◌, map}
+use Rattle.std.proofs.lemmas.Grind.{common_steps}
 use Rattle.std.proofs.lemmas.List.{map-append}
 use Rattle.vfs_lines.proofs.ValueLemmas.{values_of-refused, values_of-more}
 use Rattle.vfs_lines.specs.Lines.{segment_of, numbers_option}
@@ -15,3 +16,6 @@ loop-piece-preserved c =
     let some = sym c.in_ok-bytes.ensures.read ∙ ap numbers_option c.in-Some.is in
     let more = values_of-more segment_of c.deref-piece-items.result.now c.loop-piece.piece-index _ (map (λ segment. segment.items) c.loop-piece.segments.items) c.in-Some.bytes.items c.loop-piece-test.true c.loop-piece.invariant some in
     rw c.in_ok-push.ensures.items (simp map-append more)
+
+pub returns-clause-read : goal.returns-clause-read
+returns-clause-read c = grind (arith, common_steps)

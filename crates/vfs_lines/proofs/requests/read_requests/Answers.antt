@@ -1,4 +1,5 @@
 use Rattle.std.proofs.Common.{◌≡◌, ◌+◌, ◌-◌, sym, ap, ◌∙◌, map, arith}
+use Rattle.std.proofs.lemmas.Grind.{common_steps}
 use Rattle.std.proofs.lemmas.List.{map-append}
 use Rattle.vfs_lines.specs.Lines.{line_of, request, request_option}
 use Rattle.vfs_lines.proofs.LineLemmas.{all_requests-more, all_requests-whole, first_bad}
@@ -26,3 +27,6 @@ loop-index-preserved c =
 
 pub returns-clause-read : goal.returns-clause-read
 returns-clause-read c = all_requests-whole c.args.lines.now c.loop-index.index c.loop-index-test.false c.loop-index.invariant.each
+
+pub returns-clause-asked : goal.returns-clause-asked
+returns-clause-asked c = grind (arith, common_steps)

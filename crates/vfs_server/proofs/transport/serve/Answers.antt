@@ -1,4 +1,5 @@
-use Rattle.std.proofs.Common.{◌∙◌, List, ℕ, ap, take, append-nil}
+use Rattle.std.proofs.Common.{arith, ◌∙◌, List, ℕ, ap, take, append-nil}
+use Rattle.std.proofs.lemmas.Grind.{common_steps}
 use Rattle.vfs_server.proofs.Served.{stepped, refused}
 use Rattle.vfs_server.proofs.transport.serve.Goals as goal
 
@@ -19,3 +20,6 @@ returns-clause-served g c = record {
       c.handle_message.ensures.step c.handle_message.ensures.directories;
   bytes = c.first_bytes.ensures ∙ ap (λ (bytes : List ℕ). take c.in_ok-len.len bytes) c.into_segments.ensures.bytes;
 }
+
+pub returns-clause-fits : goal.returns-clause-fits
+returns-clause-fits g c = grind (arith, common_steps)
