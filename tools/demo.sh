@@ -3,7 +3,7 @@
 #
 # Usage: tools/demo.sh
 # It runs the proved program where that is built and no source is newer, and otherwise builds the
-# program without a proof, which takes some ten seconds. Status 0: each answer is the stored one.
+# program without a proof, which takes half a minute. Status 0: each answer is the stored one.
 set -eu
 . "$(dirname "$0")/usage.sh"
 take_none "$@"
