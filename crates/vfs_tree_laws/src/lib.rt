@@ -3,4 +3,3 @@
 
 pub mod laws;
 pub mod session;
-mod uses;

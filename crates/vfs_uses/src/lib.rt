@@ -14,6 +14,7 @@ mod messages;
 mod segments;
 mod server;
 mod transfers;
+mod tree;
 mod views;
 mod wire;
 mod wire_more;

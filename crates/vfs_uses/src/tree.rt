@@ -4,7 +4,7 @@ ghost use Rattle.std.specs.Prelude.{◌≡◌, codes, true, Err, Some, IfOk, IfS
 ghost use Rattle.vfs_flags.specs.Errors.{enoent, eisdir};
 ghost use Rattle.vfs_files.specs.Answers.{Count, value_or_count};
 ghost use Rattle.vfs_tree.specs.Tree.{dot_items};
-ghost use Rattle.vfs_tree_laws.specs.Samples.{small_tree};
+ghost use Rattle.vfs_uses.specs.Trees.{small_tree};
 
 use bitflags::Flags;
 use std::alloc::Global;
