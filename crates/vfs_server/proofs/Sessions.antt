@@ -1,5 +1,5 @@
 -- A session that grows by one step.
-use Rattle.std.proofs.Common.{◌≡◌, ◌≢◌, ℕ, List, [], ◌∷◌, ◌++◌, Option, None, Result, Err, map, refl, ap, sym, ◌∙◌, append_assoc, subst, get_or, get_or-drop, take, drop, length, ◌+◌, ◌<◌, arith, add-zero, length-append}
+use Rattle.std.proofs.Common.{◌≡◌, ◌≢◌, ℕ, List, [], ◌∷◌, ◌++◌, Option, None, Result, Err, refl, ap, sym, ◌∙◌, append_assoc, subst, get_or, get_or-drop, take, drop, length, ◌+◌, ◌<◌, arith, add-zero, length-append}
 use Rattle.std.proofs.Math.ListN.{set}
 use Rattle.std.proofs.lemmas.List.{map-append, take_more, take_more_set, drop-drop, drop-set-lt}
 use Rattle.vfs_segments.specs.Unread.{Unread}

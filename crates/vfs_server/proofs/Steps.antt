@@ -16,12 +16,13 @@ use Rattle.vfs_grammar.specs.Directories.{StopsForACause, ComesWhole, TakesFew}
 use Rattle.vfs_grammar.specs.Reply.{Echo, Reply, Refusal, NoReply, Bytes, OpenBehind, reply_of}
 use Rattle.vfs_grammar.specs.Room.{IsReplied, unseen}
 use Rattle.vfs_messages.specs.Rooms.{Leaves, Replies}
+use Rattle.vfs_entries.specs.Delivery.{CallsAndGivesBack}
 use Rattle.vfs_grammar.specs.Turn.{Turn, Witness, Follows, IsTurn, IsTurnWithMemory, node_answered, turn_tells}
 use Rattle.vfs_grammar.specs.declared.limits.Limits.{Limits}
 use Rattle.vfs_grammar.specs.declared.error.Error.{Error}
 use Rattle.vfs_grammar.specs.declared.error.Error.TheVariants.{DecodeMessage, OutOfMemory}
 use Rattle.vfs_server.specs.Memory.{MayWantBehind}
-use Rattle.vfs_server.specs.Step.{ServerState, CallsAndGivesBack, Handles, IsStep, ReadsDirectories, server_tells, turn_over}
+use Rattle.vfs_server.specs.Step.{ServerState, Handles, IsStep, ReadsDirectories, server_tells, turn_over}
 
 -- what came back through a writer, as a reader of the room's bytes sees it
 pub record Came (reply : Reply) (old : Written) (outcome : Result ℕ Error) (new : Written) : Type 0 where
@@ -70,7 +71,7 @@ module _ {S I : Type 0} (allows : S → Call → Handed I → S → Type 0) (giv
     is_run : IsRun allows gives None old.fs run new.fs
     events : events_of run ≡ Called call answer ∷ given_back ctx back
 
-  ran : (call : Call) (answer : Answer) (ctx : Context) (back : Option ℕ) → CallsAndGivesBack allows gives call answer ctx back old.fs new.fs → Ran call answer ctx back
+  ran : (call : Call) (answer : Answer) (ctx : Context) (back : Option ℕ) → CallsAndGivesBack allows call answer ctx back old.fs new.fs → Ran call answer ctx back
   ran call answer ctx None h = record { run = (Calls call answer, new.fs) ∷ []; is_run = (h, refl); events = refl }
   ran call answer ctx (Some node) h = record {
     run = (Calls call answer, h.0) ∷ (Calls (Forget ctx node 1) Done, new.fs) ∷ [];

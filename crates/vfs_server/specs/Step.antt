@@ -1,18 +1,17 @@
 -- A request that a server handled, with the state of its file system before and after.
-use Rattle.std.specs.Prelude.{◌≡◌, length, ℕ, List, Option, None, Some, Result}
+use Rattle.std.specs.Prelude.{◌≡◌, length, ℕ, List, Option, None, Result}
 use Rattle.vfs_flags.specs.declared.opcode.Opcode.{Opcode}
 use Rattle.vfs_segments.specs.Written.{Written, Moves}
 use Rattle.vfs_files.specs.Items.{Item}
-use Rattle.vfs_files.specs.Calls.{Call, Answer, Handed, Plain, Counts, read_answer}
+use Rattle.vfs_files.specs.Calls.{Call, Handed, Plain, Counts, read_answer}
 use Rattle.vfs_files.specs.Runs.{Happening, IsRun, events_of}
-use Rattle.vfs_files.specs.declared.entry.Context.{Context}
-use Rattle.vfs_listings.specs.Reading.{GivesBackNode}
 use Rattle.vfs_files.specs.Migrations.{MigrationCall, MigrationAnswer}
 use Rattle.vfs_grammar.specs.Forms.{Listing, Ask, Lists, memory_use}
 use Rattle.vfs_grammar.specs.Ask.{ask, ask_opcode, form_of}
 use Rattle.vfs_grammar.specs.Directories.{StopsForACause, ComesWhole, TakesFew}
 use Rattle.vfs_grammar.specs.Reply.{Echo}
 use Rattle.vfs_messages.specs.Rooms.{Leaves, Replies}
+use Rattle.vfs_entries.specs.Delivery.{CallsAndGivesBack}
 use Rattle.vfs_grammar.specs.Turn.{Witness, Follows, IsRead, Turn, IsTurn}
 use Rattle.vfs_grammar.specs.declared.limits.Limits.{Limits}
 use Rattle.vfs_grammar.specs.declared.error.Error.{Error}
@@ -34,15 +33,6 @@ module _ {S I : Type 0} (allows : S → Call → Handed I → S → Type 0)
     pub is_run : IsRun allows gives None old run new
     pub is_read : IsRead listing (events_of run) records answer
 
-  -- the file system was called so, with this answer; and then one lookup of a node was given back
-  -- for this caller, where there is a node
-  abbrev pub CallsAndGivesBack : Call → Answer → Context → (back : Option ℕ) → (old new : S) → Type 0
-  CallsAndGivesBack call answer ctx None old new = allows old call (Plain answer) new
-  CallsAndGivesBack call answer ctx (Some node) old new =
-      (middle : S)
-      × allows old call (Plain answer) middle
-      × GivesBackNode allows ctx (Some node) middle new
-
   -- what a server and a writer, both seen before and after, tell of a request: by the states of
   -- the file system, and for a directory that was read by a run between them; and where there was
   -- no memory, that it was wanted
@@ -51,7 +41,7 @@ module _ {S I : Type 0} (allows : S → Call → Handed I → S → Type 0)
   server_tells wanted old writer outcome writer_after new = record {
     space = length writer.left;
     no_call = new.fs ≡ old.fs;
-    called = λ call answer ctx back. CallsAndGivesBack call answer ctx back old.fs new.fs;
+    called = λ call answer ctx back. CallsAndGivesBack allows call answer ctx back old.fs new.fs;
     listed = λ listing records answer. Reads listing old.fs records answer new.fs;
     replied = λ reply. Replies reply writer outcome writer_after;
     no_memory = (new.fs ≡ old.fs) × wanted;

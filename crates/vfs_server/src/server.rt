@@ -4,7 +4,6 @@
 mod attributes;
 mod contents;
 mod directories;
-mod entries;
 mod files;
 mod locks;
 mod migration;

@@ -3,8 +3,8 @@
 ghost use Rattle.vfs_server.specs.Step.{Serves};
 
 use crate::server::Server;
-use crate::server::entries::deliver_created;
 use crate::server::request::Request;
+use vfs_entries::deliver_created;
 use vfs_files::{FileSystem, Number};
 use vfs_flags::{FSYNC_FDATASYNC, OPEN_KILL_SUIDGID, Opcode, RELEASE_FLOCK_UNLOCK, RELEASE_FLUSH};
 use vfs_grammar::Result;

@@ -6,8 +6,8 @@ ghost use Rattle.vfs_grammar.specs.Records.{size_of};
 ghost use Rattle.vfs_server.specs.Step.{Serves};
 
 use crate::server::Server;
-use crate::server::entries::deliver_entry;
 use crate::server::request::Request;
+use vfs_entries::deliver_entry;
 use vfs_files::{FileSystem, Number};
 use vfs_flags::{Errno, Opcode, RENAME_FLAGS};
 use vfs_grammar::Result;

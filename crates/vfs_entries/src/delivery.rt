@@ -1,5 +1,4 @@
-//! Entries as replies. A file system counts each entry that it answers, and the client gives the
-//! counts back. An entry whose reply doesn't fit never comes to the client, and is given back here.
+//! The reply to a request that is answered an entry, and what is given back behind it.
 
 ghost use Rattle.std.specs.Prelude.{◌≡◌, length, None, is_err, if◌then◌else◌};
 ghost use Rattle.vfs_files.specs.Answers.{Entries, Creations, IsAnswer, entry_answer, created_answer};
@@ -10,7 +9,7 @@ ghost use Rattle.vfs_grammar.specs.Reply.{reply_to};
 ghost use Rattle.vfs_messages.specs.Rooms.{Replies};
 ghost use Rattle.vfs_grammar.specs.Room.{unseen};
 ghost use Rattle.vfs_grammar.specs.Turn.{counted, node_answered};
-ghost use Rattle.vfs_server.specs.Step.{CallsAndGivesBack};
+ghost use Rattle.vfs_entries.specs.Delivery.{CallsAndGivesBack};
 
 use vfs_files::{Entry, FileSystem, Number};
 use vfs_flags::{Fault, OpenOptions};
@@ -31,8 +30,14 @@ fn give_back_unfit<F: FileSystem>(fs: &mut F, header: &InHeader, node: u64, outc
     }
 }
 
-/// Replies an entry, as LOOKUP does, or gives it back where its reply doesn't fit.
-pub(super) fn deliver_entry<F: FileSystem>(
+/// Replies the entry that a file system answered to the request with this header, as to LOOKUP,
+/// SYMLINK, MKNOD, MKDIR and LINK, and answers the reply's length: 144 bytes with its header. A
+/// fault is replied as a header alone, of 16.
+///
+/// `EncodeMessage` where the room that `w` has left is smaller: it has the beginning of the reply
+/// then. The client never sees the entry, so one lookup of its node is given back, for the caller
+/// that the header names, but of node 0, whose lookups aren't counted.
+pub fn deliver_entry<F: FileSystem>(
     fs: &mut F,
     header: &InHeader,
     answer: std::result::Result<Entry, Fault>,
@@ -43,7 +48,7 @@ pub(super) fn deliver_entry<F: FileSystem>(
     ensures kind { IsAnswer Entries (entry_answer answer) }
     ensures gives_back { (old : F) (call : Call) →
         F.allows old call (Plain (entry_answer answer)) fs.old →
-        CallsAndGivesBack F.allows F.DirIter.gives call (entry_answer answer) (context_of header.now)
+        CallsAndGivesBack F.allows call (entry_answer answer) (context_of header.now)
         (unseen (length w.old.left) (reply_to header.now.unique Entries (entry_answer answer))
         (node_answered Entries (entry_answer answer)))
         old fs.new }
@@ -57,9 +62,9 @@ pub(super) fn deliver_entry<F: FileSystem>(
     outcome
 }
 
-/// Replies an entry and what was opened, as CREATE does, or gives the entry back where its reply
-/// doesn't fit. What was opened stays open.
-pub(super) fn deliver_created<F: FileSystem>(
+/// The same of an entry and what was opened with it, as to CREATE: a reply of 160 bytes. Where it
+/// doesn't fit, the entry is given back, and what was opened stays open.
+pub fn deliver_created<F: FileSystem>(
     fs: &mut F,
     header: &InHeader,
     answer: std::result::Result<(Entry, Option<F::Handle>, OpenOptions), Fault>,
@@ -71,7 +76,7 @@ pub(super) fn deliver_created<F: FileSystem>(
     ensures kind { IsAnswer Creations (created_answer F.Handle.value answer) }
     ensures gives_back { (old : F) (call : Call) →
         F.allows old call (Plain (created_answer F.Handle.value answer)) fs.old →
-        CallsAndGivesBack F.allows F.DirIter.gives call (created_answer F.Handle.value answer)
+        CallsAndGivesBack F.allows call (created_answer F.Handle.value answer)
         (context_of header.now) (unseen (length w.old.left)
         (reply_to header.now.unique Creations (created_answer F.Handle.value answer))
         (node_answered Creations (created_answer F.Handle.value answer)))
