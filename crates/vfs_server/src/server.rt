@@ -8,7 +8,6 @@ mod files;
 mod locks;
 mod migration;
 mod names;
-mod others;
 mod request;
 mod session;
 mod xattrs;
@@ -39,7 +38,7 @@ use vfs_grammar::{Limits, Result};
 use vfs_laws::books::turns_keep_books;
 use vfs_laws::turns::{directories_are_read, memory_is_wanted_for_copies};
 pub use vfs_listings::add_dirent;
-use vfs_messages::{read_record, reply_failed};
+use vfs_messages::{read_record, reply_failed, reply_fault};
 pub use vfs_messages::{
     get_extensions, parse_security_context, parse_sup_groups, reply_error, reply_ok, reply_readdir,
 };
@@ -286,7 +285,8 @@ impl<F: FileSystem> Server<F> {
         }
     }
 
-    /// Handles a request by its opcode.
+    /// Handles a request by its opcode. Where no handler is named, no record is looked at, and of BMAP,
+    /// IOCTL, POLL and NOTIFY_REPLY a fault alone is replied.
     fn dispatch(&mut self, opcode: Opcode, q: Request<'_, '_>, w: &mut Writer) -> Result<usize>
         ensures { Serves F.allows F.DirIter.gives opcode q.entry
             self.old w.old result w.new self.new }
@@ -317,7 +317,7 @@ impl<F: FileSystem> Server<F> {
             Opcode::Flush => self.flush(q, w),
             Opcode::Init => self.init(q, w),
             Opcode::Opendir => self.opendir(q, w),
-            Opcode::Readdir => self.readdir(q, w),
+            Opcode::Readdir => self.list(q, false, w),
             Opcode::Releasedir => self.releasedir(q, w),
             Opcode::Fsyncdir => self.fsyncdir(q, w),
             Opcode::Getlk => self.getlk(q, w),
@@ -326,14 +326,14 @@ impl<F: FileSystem> Server<F> {
             Opcode::Access => self.access(q, w),
             Opcode::Create => self.create(q, w),
             Opcode::Interrupt => Ok(0),
-            Opcode::Bmap => self.bmap(q, w),
-            Opcode::Destroy => self.end_session(q, w),
-            Opcode::Ioctl => self.ioctl(q, w),
-            Opcode::Poll => self.poll(q, w),
-            Opcode::NotifyReply => self.notify_reply(q, w),
+            Opcode::Bmap => reply_fault(self.fs.bmap(), q.header.unique, w),
+            Opcode::Destroy => Ok(self.destroy()),
+            Opcode::Ioctl => reply_fault(self.fs.ioctl(), q.header.unique, w),
+            Opcode::Poll => reply_fault(self.fs.poll(), q.header.unique, w),
+            Opcode::NotifyReply => reply_fault(self.fs.notify_reply(), q.header.unique, w),
             Opcode::BatchForget => self.batch_forget(q, w),
             Opcode::Fallocate => self.fallocate(q, w),
-            Opcode::Readdirplus => self.readdirplus(q, w),
+            Opcode::Readdirplus => self.list(q, true, w),
             Opcode::Rename2 => self.rename2(q, w),
             Opcode::Lseek => self.lseek(q, w),
             Opcode::CopyFileRange => self.copyfilerange(q, w),

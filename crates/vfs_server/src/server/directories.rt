@@ -29,22 +29,6 @@ impl<F: FileSystem> Server<F> {
         reply_opened::<F::Handle>(answer, q.header.unique, w)
     }
 
-    /// READDIR (`struct fuse_read_in`): the records of a directory's entries.
-    pub(super) fn readdir(&mut self, q: Request<'_, '_>, w: &mut Writer) -> Result<usize>
-        ensures { Serves F.allows F.DirIter.gives Opcode.Readdir q.entry
-            self.old w.old result w.new self.new }
-    {
-        self.list(q, false, w)
-    }
-
-    /// READDIRPLUS (`struct fuse_read_in`): the same, each with what a LOOKUP of it answers.
-    pub(super) fn readdirplus(&mut self, q: Request<'_, '_>, w: &mut Writer) -> Result<usize>
-        ensures { Serves F.allows F.DirIter.gives Opcode.Readdirplus q.entry
-            self.old w.old result w.new self.new }
-    {
-        self.list(q, true, w)
-    }
-
     /// Whether a directory's records may have more bytes than a payload may hold, or than there is
     /// room for: the place of the reply's header counts as room here.
     fn is_too_much(&self, read_in: &ReadIn, w: &Writer) -> bool
@@ -53,9 +37,10 @@ impl<F: FileSystem> Server<F> {
         read_in.size > self.limits.max_buffer || read_in.size as usize > w.available_bytes()
     }
 
-    /// Reads a directory into the room, behind the place of the reply's header, which is filled in
-    /// last.
-    fn list(&mut self, q: Request<'_, '_>, plus: bool, w: &mut Writer) -> Result<usize>
+    /// READDIR and READDIRPLUS (`struct fuse_read_in`): the records of a directory's entries, with
+    /// `plus` each with what a LOOKUP of it answers. They are put into the room behind the place of
+    /// the reply's header, which is filled in last.
+    pub(super) fn list(&mut self, q: Request<'_, '_>, plus: bool, w: &mut Writer) -> Result<usize>
         ensures { let header = q.entry.header.now in
             Handles F.allows F.DirIter.gives ⊥
             (ask_form header q.entry.r.now.left

@@ -1,4 +1,4 @@
-//! The session: INIT, DESTROY, and what concerns the file system as a whole.
+//! The session: INIT, and what concerns the file system as a whole.
 
 ghost use Rattle.vfs_server.specs.Step.{Serves, Handles};
 ghost use Rattle.vfs_grammar.specs.Forms.{ask_version};
@@ -58,14 +58,6 @@ impl<F: FileSystem> Server<F> {
             header.unique,
             w,
         )
-    }
-
-    /// DESTROY: the session ends, and no options are agreed then. There is no reply.
-    pub(super) fn end_session(&mut self, q: Request<'_, '_>, w: &mut Writer) -> Result<usize>
-        ensures { Serves F.allows F.DirIter.gives Opcode.Destroy q.entry
-            self.old w.old result w.new self.new }
-    {
-        Ok(self.destroy())
     }
 
     /// SYNCFS: all that was written is to be kept for good. The record is not looked at.

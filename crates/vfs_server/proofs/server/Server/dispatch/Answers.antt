@@ -77,7 +77,7 @@ pub returns-in-Opendir : goal.returns-in-Opendir
 returns-in-Opendir g c = rw c.in-Opendir.is c.opendir.ensures
 
 pub returns-in-Readdir : goal.returns-in-Readdir
-returns-in-Readdir g c = rw c.in-Readdir.is c.readdir.ensures
+returns-in-Readdir g c = rw c.in-Readdir.is c.list.ensures
 
 pub returns-in-Releasedir : goal.returns-in-Releasedir
 returns-in-Releasedir g c = rw c.in-Releasedir.is c.releasedir.ensures
@@ -100,21 +100,6 @@ returns-in-Access g c = rw c.in-Access.is c.access.ensures
 pub returns-in-Create : goal.returns-in-Create
 returns-in-Create g c = rw c.in-Create.is c.create.ensures
 
-pub returns-in-Bmap : goal.returns-in-Bmap
-returns-in-Bmap g c = rw c.in-Bmap.is c.bmap.ensures
-
-pub returns-in-Destroy : goal.returns-in-Destroy
-returns-in-Destroy g c = rw c.in-Destroy.is c.end_session.ensures
-
-pub returns-in-Ioctl : goal.returns-in-Ioctl
-returns-in-Ioctl g c = rw c.in-Ioctl.is c.ioctl.ensures
-
-pub returns-in-Poll : goal.returns-in-Poll
-returns-in-Poll g c = rw c.in-Poll.is c.poll.ensures
-
-pub returns-in-NotifyReply : goal.returns-in-NotifyReply
-returns-in-NotifyReply g c = rw c.in-NotifyReply.is c.notify_reply.ensures
-
 pub returns-in-BatchForget : goal.returns-in-BatchForget
 returns-in-BatchForget g c = rw c.in-BatchForget.is c.batch_forget.ensures
 
@@ -122,7 +107,7 @@ pub returns-in-Fallocate : goal.returns-in-Fallocate
 returns-in-Fallocate g c = rw c.in-Fallocate.is c.fallocate.ensures
 
 pub returns-in-Readdirplus : goal.returns-in-Readdirplus
-returns-in-Readdirplus g c = rw c.in-Readdirplus.is c.readdirplus.ensures
+returns-in-Readdirplus g c = rw c.in-Readdirplus.is c.list-in-Readdirplus.ensures
 
 pub returns-in-Rename2 : goal.returns-in-Rename2
 returns-in-Rename2 g c = rw c.in-Rename2.is c.rename2.ensures
