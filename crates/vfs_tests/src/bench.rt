@@ -4,14 +4,17 @@ mod readings;
 mod rows;
 
 use crate::bench::rows::{Noted, ROWS, Row};
-use crate::support::{Outcome, ScriptServer, handle, reply_by_script, script_server, server_over};
+use crate::support::{
+    Outcome, ScriptServer, handle, holds, none_is_wrong, reply_by_script, script_server,
+    server_over,
+};
 use bitflags::Flags;
 use std::alloc::{AllocError, Global};
 use std::test::Fail;
 use std::time::Duration;
 use vfs_bench::{Note, Recorder, Script, ScriptDirectory, ScriptFile, ScriptItem};
 use vfs_files::{CStr, CString, Entry, FileSystem, GetxattrReply, ListxattrReply};
-use vfs_flags::{Errno, Fault, OpenOptions};
+use vfs_flags::{Errno, Fault, FsOptions, OpenOptions};
 use vfs_server::server::Server;
 use vfs_unserved::Unserved;
 use vfs_wire::Attr;
@@ -70,31 +73,43 @@ fn directory(
     }
 }
 
-/// A script that answers something else than the default to each call but INIT. Its file moves two
-/// bytes a call, and fails at the fourth.
-fn script_of_answers(alloc: Global) -> Result<Script, AllocError> {
-    let mut script = Script::new();
-    script.entry = Ok(entry_of(77));
-    script.attributes = Ok((entry_of(77).attr, Duration::from_secs(4)));
-    script.opening = Ok((Some(6), OpenOptions::DIRECT_IO));
-    script.creation = Ok((entry_of(78), Some(7), OpenOptions::empty()));
-    script.statistics = Err(Some(Errno::EIO));
-    script.text = Ok(vec![in alloc; b't', b'o']?);
-    script.value = Ok(GetxattrReply::Value(vec![in alloc; b'v']?));
-    script.names = Ok(ListxattrReply::Count(9));
-    script.offset = Ok(4096);
-    script.file = Some(ScriptFile {
+/// A file that moves two bytes a call, and fails at the fourth.
+fn slow_file() -> ScriptFile {
+    ScriptFile {
         most: 2,
         fails_at: Some(4),
         fault: Some(Errno::EIO),
         byte: b'f',
         calls: 0,
-    });
-    script.directory = directory(alloc, 500, 0, true);
-    script.written = Ok(100);
-    script.done = Err(None);
-    script.tmpfile = Errno::new(11);
-    Ok(script)
+    }
+}
+
+/// A script that answers something else than the default to each call but INIT.
+fn script_of_answers(alloc: Global) -> Result<Script, AllocError> {
+    let text = vec![in alloc; b't', b'o']?;
+    let value = vec![in alloc; b'v']?;
+    Ok(Script {
+        options: Ok(FsOptions::empty()),
+        entry: Ok(entry_of(77)),
+        attributes: Ok((entry_of(77).attr, Duration::from_secs(4))),
+        opening: Ok((Some(6), OpenOptions::DIRECT_IO)),
+        creation: Ok((entry_of(78), Some(7), OpenOptions::empty())),
+        statistics: Err(Some(Errno::EIO)),
+        text: Ok(text),
+        value: Ok(GetxattrReply::Value(value)),
+        names: Ok(ListxattrReply::Count(9)),
+        offset: Ok(4096),
+        file: Some(slow_file()),
+        directory: directory(alloc, 500, 0, true),
+        written: Ok(100),
+        done: Err(None),
+        tmpfile: Errno::new(11),
+    })
+}
+
+/// A server over that script, with a place for the note of each row's call.
+fn answering_server(alloc: Global) -> Result<ScriptServer, AllocError> {
+    script_server(alloc, script_of_answers(alloc)?, ROWS.len())
 }
 
 /// The note of a call, of this kind and value.
@@ -135,10 +150,8 @@ fn wrongly_answered(alloc: Global, server: &mut ScriptServer) -> Result<Option<u
 
 #[test]
 fn a_recorder_notes_each_call_that_a_script_answers(rt: HostRuntime) -> Result<(), Fail> {
-    let script = script_of_answers(rt.alloc())?;
-    let mut server = script_server(rt.alloc(), script, ROWS.len())?;
-    assert!(rt; wrongly_answered(rt.alloc(), &mut server)?.is_none());
-    Ok(())
+    let mut server = answering_server(rt.alloc())?;
+    none_is_wrong(wrongly_answered(rt.alloc(), &mut server))
 }
 
 /// A server over a file system that serves nothing, with a note of each call.
@@ -168,8 +181,7 @@ fn wrongly_noted(alloc: Global, server: &mut UnservedServer) -> Result<Option<u8
 #[test]
 fn a_recorder_notes_each_call_that_is_not_served(rt: HostRuntime) -> Result<(), Fail> {
     let mut server = server_over(rt.alloc(), Unserved {}, ROWS.len())?;
-    assert!(rt; wrongly_noted(rt.alloc(), &mut server)?.is_none());
-    Ok(())
+    none_is_wrong(wrongly_noted(rt.alloc(), &mut server))
 }
 
 /// Whether a GETLK succeeds, and so many calls are noted and missed afterwards.
@@ -180,14 +192,30 @@ fn is_noted(recorder: &mut Recorder<Script>, noted: usize, missed: bool) -> bool
 /// How many calls are noted in two places after each of four calls, and whether one was missed.
 static NOTED_AND_MISSED: [(usize, bool); 4] = [(1, false), (2, false), (2, true), (2, true)];
 
-#[test]
-fn a_call_without_a_place_is_missed_and_answered(rt: HostRuntime) -> Result<(), Fail> {
+/// Whether so many calls are noted and missed, and the script stays as it was.
+fn are_missed(recorder: &mut Recorder<Script>) -> bool {
+    for (noted, missed) in &NOTED_AND_MISSED {
+        if !is_noted(recorder, *noted, *missed) {
+            return false;
+        }
+    }
+    recorder.inner().done.is_ok()
+}
+
+/// A recorder of two places, over a script whose calls succeed.
+fn small_recorder(alloc: Global) -> Result<Recorder<Script>, AllocError> {
     let mut script = Script::new();
     script.done = Ok(());
-    let mut recorder = script_server(rt.alloc(), script, 2)?.into_fs();
-    for (noted, missed) in &NOTED_AND_MISSED {
-        assert!(rt; is_noted(&mut recorder, *noted, *missed));
-    }
-    assert!(rt; recorder.inner().done.is_ok());
-    Ok(())
+    Ok(script_server(alloc, script, 2)?.into_fs())
+}
+
+/// Whether they are by such a recorder.
+fn misses_calls(alloc: Global) -> Result<bool, AllocError> {
+    let mut recorder = small_recorder(alloc)?;
+    Ok(are_missed(&mut recorder))
+}
+
+#[test]
+fn a_call_without_a_place_is_missed_and_answered(rt: HostRuntime) -> Result<(), Fail> {
+    holds(misses_calls(rt.alloc()))
 }

@@ -1,3 +1,4 @@
+use crate::support::holds;
 use bitflags::Flags;
 use std::alloc::{AllocError, Global};
 use std::test::Fail;
@@ -54,11 +55,18 @@ fn are_equal(one: &[u8], other: &[u8]) -> Option<bool> {
     Some(one == other)
 }
 
+/// Two names, and whether they are equal.
+static EQUAL: [(&[u8], &[u8], bool); 3] = [
+    (&[b'a', b'b', 0], &[b'a', b'b', 0], true),
+    (b"ab\0", b"ac\0", false),
+    (b"ab\0", b"abc\0", false),
+];
+
 #[test]
 fn names_are_equal_where_their_bytes_are(rt: HostRuntime) {
-    assert!(rt; are_equal(&[b'a', b'b', 0], &[b'a', b'b', 0]) == Some(true));
-    assert!(rt; are_equal(b"ab\0", b"ac\0") == Some(false));
-    assert!(rt; are_equal(b"ab\0", b"abc\0") == Some(false));
+    for (one, other, equal) in &EQUAL {
+        assert!(rt; are_equal(one, other) == Some(*equal));
+    }
 }
 
 /// Numbers of nodes and handles.
@@ -225,8 +233,7 @@ fn are_own_names(alloc: Global) -> Result<bool, Fault> {
 
 #[test]
 fn a_name_in_memory_of_its_own_is_the_same(rt: HostRuntime) -> Result<(), Fail> {
-    assert!(rt; are_own_names(rt.alloc())?);
-    Ok(())
+    holds(are_own_names(rt.alloc()))
 }
 
 /// Extensions with the context `user` of this name, and with group 100.
@@ -262,6 +269,5 @@ fn is_copied(alloc: Global) -> Result<bool, Fault> {
 
 #[test]
 fn a_copy_of_extensions_is_equal(rt: HostRuntime) -> Result<(), Fail> {
-    assert!(rt; is_copied(rt.alloc())?);
-    Ok(())
+    holds(is_copied(rt.alloc()))
 }

@@ -1,34 +1,60 @@
 //! Numbers and bits, each written out.
 
-use crate::support::has_text;
+use crate::support::{has_text, holds, none_is_wrong};
 use bitflags::Flags;
 use std::alloc::{AllocError, Global};
 use std::test::Fail;
 use vfs_flags::*;
 
-/// The errors that have a name, their numbers, and how they are shown.
-const ERRORS: [(Errno, i32, &str); 20] = [
-    (Errno::EPERM, 1, "EPERM (1)"),
-    (Errno::ENOENT, 2, "ENOENT (2)"),
-    (Errno::EIO, 5, "EIO (5)"),
-    (Errno::EBADF, 9, "EBADF (9)"),
-    (Errno::ENOMEM, 12, "ENOMEM (12)"),
-    (Errno::EACCES, 13, "EACCES (13)"),
-    (Errno::EEXIST, 17, "EEXIST (17)"),
-    (Errno::EXDEV, 18, "EXDEV (18)"),
-    (Errno::ENOTDIR, 20, "ENOTDIR (20)"),
-    (Errno::EISDIR, 21, "EISDIR (21)"),
-    (Errno::EINVAL, 22, "EINVAL (22)"),
-    (Errno::ENOSPC, 28, "ENOSPC (28)"),
-    (Errno::EROFS, 30, "EROFS (30)"),
-    (Errno::ERANGE, 34, "ERANGE (34)"),
-    (Errno::ENOSYS, 38, "ENOSYS (38)"),
-    (Errno::ENOTEMPTY, 39, "ENOTEMPTY (39)"),
-    (Errno::ENODATA, 61, "ENODATA (61)"),
-    (Errno::EPROTO, 71, "EPROTO (71)"),
-    (Errno::EOVERFLOW, 75, "EOVERFLOW (75)"),
-    (Errno::EOPNOTSUPP, 95, "EOPNOTSUPP (95)"),
+/// The numbers of the errors that have a name, and how they are shown.
+static ERRORS: [(i32, &str); 20] = [
+    (1, "EPERM (1)"),
+    (2, "ENOENT (2)"),
+    (5, "EIO (5)"),
+    (9, "EBADF (9)"),
+    (12, "ENOMEM (12)"),
+    (13, "EACCES (13)"),
+    (17, "EEXIST (17)"),
+    (18, "EXDEV (18)"),
+    (20, "ENOTDIR (20)"),
+    (21, "EISDIR (21)"),
+    (22, "EINVAL (22)"),
+    (28, "ENOSPC (28)"),
+    (30, "EROFS (30)"),
+    (34, "ERANGE (34)"),
+    (38, "ENOSYS (38)"),
+    (39, "ENOTEMPTY (39)"),
+    (61, "ENODATA (61)"),
+    (71, "EPROTO (71)"),
+    (75, "EOVERFLOW (75)"),
+    (95, "EOPNOTSUPP (95)"),
 ];
+
+/// The errors that have a name, in the order of their numbers.
+fn named() -> [Errno; 20] {
+    [
+        Errno::EPERM,
+        Errno::ENOENT,
+        Errno::EIO,
+        Errno::EBADF,
+        Errno::ENOMEM,
+        Errno::EACCES,
+        Errno::EEXIST,
+        Errno::EXDEV,
+        Errno::ENOTDIR,
+        Errno::EISDIR,
+        Errno::EINVAL,
+        Errno::ENOSPC,
+        Errno::EROFS,
+        Errno::ERANGE,
+        Errno::ENOSYS,
+        Errno::ENOTEMPTY,
+        Errno::ENODATA,
+        Errno::EPROTO,
+        Errno::EOVERFLOW,
+        Errno::EOPNOTSUPP,
+    ]
+}
 
 /// Whether this is the error of this number.
 fn is_error(e: Errno, n: i32) -> bool {
@@ -37,7 +63,7 @@ fn is_error(e: Errno, n: i32) -> bool {
 
 /// The first number that is another error's, or whose error is shown otherwise.
 fn wrong_error(alloc: Global) -> Result<Option<i32>, AllocError> {
-    for (e, n, text) in &ERRORS {
+    for (e, (n, text)) in named().iter().zip(&ERRORS) {
         if !is_error(*e, *n) || !has_text(alloc, e, text)? {
             return Ok(Some(*n));
         }
@@ -56,15 +82,21 @@ fn is_shown_by_number(alloc: Global) -> Result<bool, AllocError> {
 /// The numbers of no error, from 0 down.
 static NO_ERRORS: [i32; 3] = [0, -1, i32::MIN];
 
+/// Whether these are no errors, and the largest number is one.
+fn are_bounded() -> bool {
+    for n in &NO_ERRORS {
+        if Errno::new(*n).is_some() {
+            return false;
+        }
+    }
+    matches!(Errno::new(i32::MAX), Some(e) if e.get() == i32::MAX)
+}
+
 #[test]
 fn errors_have_their_numbers_and_texts(rt: HostRuntime) -> Result<(), Fail> {
-    assert!(rt; wrong_error(rt.alloc())?.is_none());
-    assert!(rt; is_shown_by_number(rt.alloc())?);
-    for n in &NO_ERRORS {
-        assert!(rt; Errno::new(*n).is_none());
-    }
-    assert!(rt; matches!(Errno::new(i32::MAX), Some(e) if e.get() == i32::MAX));
-    Ok(())
+    assert!(rt; are_bounded());
+    holds(is_shown_by_number(rt.alloc()))?;
+    none_is_wrong(wrong_error(rt.alloc()))
 }
 
 /// An id of each kind that is made of a number, as a number again.

@@ -1,6 +1,6 @@
 //! Lines that are read and refused, and the texts of errors.
 
-use crate::support::{are, have_texts};
+use crate::support::{are, have_texts, holds, none_is_wrong};
 use std::alloc::Global;
 use std::test::Fail;
 use vfs_lines::{RunError, parse_line};
@@ -75,9 +75,8 @@ fn wrongly_read(alloc: Global) -> Result<Option<&'static str>, Fail> {
 
 #[test]
 fn lines_are_read_by_their_form(rt: HostRuntime) -> Result<(), Fail> {
-    assert!(rt; wrong_line(rt.alloc())?.is_none());
-    assert!(rt; wrongly_read(rt.alloc())?.is_none());
-    Ok(())
+    none_is_wrong(wrong_line(rt.alloc()))?;
+    none_is_wrong(wrongly_read(rt.alloc()))
 }
 
 /// Each end of a run that has a text, and the text.
@@ -89,6 +88,5 @@ static TEXTS: [(RunError, &str); 3] = [
 
 #[test]
 fn each_end_of_a_run_has_a_text(rt: HostRuntime) -> Result<(), Fail> {
-    assert!(rt; have_texts(rt.alloc(), &TEXTS)?);
-    Ok(())
+    holds(have_texts(rt.alloc(), &TEXTS))
 }

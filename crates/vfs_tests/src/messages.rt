@@ -1,9 +1,10 @@
 //! What no contract says: that extensions are read and copied where there is memory.
 
+use crate::support::holds;
 use bitflags::Flags;
 use std::alloc::Global;
 use std::test::Fail;
-use vfs_files::SecContext;
+use vfs_files::{Extensions, SecContext};
 use vfs_flags::FsOptions;
 use vfs_messages::{get_extensions, parse_security_context, parse_sup_groups};
 
@@ -21,28 +22,29 @@ fn is_parsed(alloc: Global) -> Result<bool, Fail> {
     }
 }
 
+/// Whether extensions are that context alone.
+fn are_s_v(ext: &Extensions) -> bool {
+    match &ext.secctx {
+        Some(context) => is_s_v(context) && ext.sup_gid.is_none(),
+        None => false,
+    }
+}
+
 /// Whether the extensions behind the name `d` are that context alone, and their clone too.
 fn is_got(alloc: Global) -> Result<bool, Fail> {
     let tail = b"d\0\x13\0\0\0\x01\0\0\0\x01\0\0\0\0\0\0\0s\0v";
     let ext = get_extensions(alloc, FsOptions::SECURITY_CTX, 2, tail)?;
-    let copy = ext.clone(alloc)?;
-    match (&ext.secctx, &copy.secctx) {
-        (Some(context), Some(copied)) => {
-            Ok(is_s_v(context) && is_s_v(copied) && ext.sup_gid.is_none() && copy.sup_gid.is_none())
-        }
-        _ => Ok(false),
-    }
+    Ok(are_s_v(&ext) && are_s_v(&ext.clone(alloc)?))
 }
 
 #[test]
 fn a_context_is_read_and_copied(rt: HostRuntime) -> Result<(), Fail> {
-    assert!(rt; is_parsed(rt.alloc())?);
-    assert!(rt; is_got(rt.alloc())?);
-    Ok(())
+    holds(is_parsed(rt.alloc()))?;
+    holds(is_got(rt.alloc()))
 }
 
 #[test]
-fn a_group_is_read(rt: HostRuntime) -> Result<(), Fail> {
-    assert!(rt; parse_sup_groups(b"\x01\0\0\0\xe8\x03\0\0\xff")?.into_inner() == 1000);
-    Ok(())
+fn a_group_is_read(rt: HostRuntime) {
+    let group = parse_sup_groups(b"\x01\0\0\0\xe8\x03\0\0\xff");
+    assert!(rt; matches!(group, Ok(group) if group.into_inner() == 1000));
 }

@@ -1,6 +1,7 @@
 //! Readers over segments of all kinds: what each call answers, and what is left and was read after
 //! it.
 
+use crate::support::none_is_wrong;
 use std::alloc::{AllocError, Global};
 use std::io::{ErrorKind, Read};
 use std::test::Fail;
@@ -396,10 +397,11 @@ fn is_read(
     answers_so(alloc, &mut reader, calls)
 }
 
-/// The segments of the first reader of these bytes that doesn't answer so.
-fn wrong_reads(alloc: Global, bytes: &[u8]) -> Result<Option<&'static [usize]>, Error> {
+/// The segments of the first reader that doesn't answer so.
+fn wrong_reads(alloc: Global) -> Result<Option<&'static [usize]>, Error> {
+    let bytes = numbers(alloc, 512)?;
     for (lengths, calls) in &READS {
-        if !is_read(alloc, bytes, lengths, calls)? {
+        if !is_read(alloc, &bytes, lengths, calls)? {
             return Ok(Some(lengths));
         }
     }
@@ -408,7 +410,5 @@ fn wrong_reads(alloc: Global, bytes: &[u8]) -> Result<Option<&'static [usize]>, 
 
 #[test]
 fn readers_answer_and_count(rt: HostRuntime) -> Result<(), Fail> {
-    let bytes = numbers(rt.alloc(), 512)?;
-    assert!(rt; wrong_reads(rt.alloc(), &bytes)?.is_none());
-    Ok(())
+    none_is_wrong(wrong_reads(rt.alloc()))
 }

@@ -2,7 +2,7 @@
 //! segments, written and read.
 
 use crate::readers::{Answer, cleared, kind_of, numbers, read, read_exact};
-use crate::support::{are, filled, have_texts};
+use crate::support::{are, filled, have_texts, holds, none_is_wrong};
 use std::alloc::{AllocError, Global};
 use std::io;
 use std::io::{ErrorKind, Write};
@@ -279,8 +279,7 @@ fn wrong_writes(alloc: Global) -> Result<Option<&'static [usize]>, Error> {
 
 #[test]
 fn writers_answer_and_count(rt: HostRuntime) -> Result<(), Fail> {
-    assert!(rt; wrong_writes(rt.alloc())?.is_none());
-    Ok(())
+    none_is_wrong(wrong_writes(rt.alloc()))
 }
 
 /// The rest of a writer that is split. Where memory is refused, as `rt try --test --fail-alloc N`
@@ -303,69 +302,84 @@ static WRITER_SPLITS: [(usize, usize, usize); 4] = [
     (128, 128, 0),
 ];
 
-/// Whether a writer isn't split past its end, and is split here so.
+/// Whether a writer isn't split past its end, and has the room that it had.
+fn is_not_split(writer: &mut Writer) -> bool {
+    writer.split_at(256).err() == Some(Error::SplitOutOfBounds(256))
+        && write_state(writer) == (128, 0, 0)
+}
+
+/// The room of the rest of a writer that is split here.
+fn room_behind(writer: &mut Writer, at: usize) -> Result<(usize, usize, usize), Error> {
+    Ok(write_state(&split(writer, at)?))
+}
+
+/// Whether such a writer isn't split past its end, and is split here so.
 fn is_writer_split(
-    writer: &mut Writer,
+    alloc: Global,
     (at, first, second): (usize, usize, usize),
 ) -> Result<bool, Error> {
-    let refused = writer.split_at(256).err() == Some(Error::SplitOutOfBounds(256));
-    let state = write_state(writer);
-    let rest = split(writer, at)?;
+    let mut writer = writer_over(alloc, &[16, 16, 96])?;
     Ok(
-        refused
-            && state == (128, 0, 0)
-            && write_state(writer) == (first, 0, 0)
-            && write_state(&rest) == (second, 0, 0),
+        is_not_split(&mut writer)
+            && room_behind(&mut writer, at)? == (second, 0, 0)
+            && write_state(&writer) == (first, 0, 0),
     )
 }
 
 #[test]
 fn a_writer_is_split_at_the_cuts_and_between_them(rt: HostRuntime) -> Result<(), Fail> {
     for row in &WRITER_SPLITS {
-        let mut writer = writer_over(rt.alloc(), &[16, 16, 96])?;
-        assert!(rt; is_writer_split(&mut writer, *row)?);
+        holds(is_writer_split(rt.alloc(), *row))?;
     }
     Ok(())
 }
 
 /// The calls of a writer before it is split.
-const BEFORE: [WriteRow; 2] = [
+static BEFORE: [WriteRow; 2] = [
     (WriteCall::Hold(1), Ok(1), (6, 1, 1)),
     (WriteCall::All(&[0xa1, 0xa2]), Ok(2), (4, 3, 1)),
 ];
 
 /// The calls of its first part.
-const FIRST: [WriteRow; 3] = [
+static FIRST: [WriteRow; 3] = [
     (WriteCall::UpTo(&[]), Ok(0), (1, 3, 1)),
     (WriteCall::UpTo(&[0xa3, 0xa4]), Ok(1), (0, 4, 1)),
     (WriteCall::Fill(&[0xa0]), Ok(1), (0, 4, 0)),
 ];
 
 /// The calls of its rest.
-const REST: [WriteRow; 2] = [
+static REST: [WriteRow; 2] = [
     (WriteCall::UpTo(&[]), Ok(0), (3, 0, 0)),
     (WriteCall::All(&[0xb1, 0xb2, 0xb3]), Ok(3), (0, 3, 0)),
 ];
 
+/// Whether the calls of a writer answer so, and it has these segments afterwards.
+fn fills(mut writer: Writer, calls: &[WriteRow], segments: &[&[u8]]) -> bool {
+    let answers = does_so(&mut writer, calls);
+    has_segments(writer, segments) && answers
+}
+
+/// A writer before it is split.
+fn writer_before(alloc: Global) -> Result<Writer, Error> {
+    let mut writer = writer_over(alloc, &[2, 0, 4, 1])?;
+    if does_so(&mut writer, &BEFORE) {
+        Ok(writer)
+    } else {
+        Err(Error::IoError)
+    }
+}
+
 /// Whether the calls of a writer and of its rest answer so, and fill their segments.
 fn fills_both_parts(alloc: Global) -> Result<bool, Error> {
-    let mut writer = writer_over(alloc, &[2, 0, 4, 1])?;
-    if !does_so(&mut writer, &BEFORE) {
-        return Ok(false);
-    }
-    let mut rest = split(&mut writer, 1)?;
-    Ok(
-        does_so(&mut writer, &FIRST)
-            && does_so(&mut rest, &REST)
-            && has_segments(writer, &[&[0xa0, 0xa1], &[], &[0xa2, 0xa3]])
-            && has_segments(rest, &[&[0xb1, 0xb2], &[0xb3]]),
-    )
+    let mut writer = writer_before(alloc)?;
+    let rest = split(&mut writer, 1)?;
+    let first = fills(writer, &FIRST, &[&[0xa0, 0xa1], &[], &[0xa2, 0xa3]]);
+    Ok(fills(rest, &REST, &[&[0xb1, 0xb2], &[0xb3]]) && first)
 }
 
 #[test]
 fn a_split_writer_keeps_its_hold_and_each_part_fills_its_room(rt: HostRuntime) -> Result<(), Fail> {
-    assert!(rt; fills_both_parts(rt.alloc())?);
-    Ok(())
+    holds(fills_both_parts(rt.alloc()))
 }
 
 /// A place inside the ninth of the segments below that have bytes.
@@ -381,6 +395,11 @@ fn thousand_lengths(alloc: Global) -> Result<Vec<usize>, AllocError> {
     Ok(lengths)
 }
 
+/// What is left of a writer, and the number of its segments.
+fn room_and_count(writer: Writer) -> (usize, usize) {
+    (writer.available_bytes(), writer.into_segments().len())
+}
+
 /// A thousand segments that a writer fills with these bytes, without the last 264 of its room, of
 /// which it is split. What is left of both parts, and the number of segments of the second, stand
 /// beside them.
@@ -392,8 +411,8 @@ fn thousand_written(
     let mut writer = writer_over(alloc, lengths)?;
     writer.write_all(bytes)?;
     let rest = writer.split_at(200)?;
-    let (first, second) = (writer.available_bytes(), rest.available_bytes());
-    let count = rest.into_segments().len();
+    let first = writer.available_bytes();
+    let (second, count) = room_and_count(rest);
     Ok((writer.into_segments(), (first, second, count)))
 }
 
@@ -435,24 +454,29 @@ fn are_read(alloc: Global, segments: &[Vec<u8>], buf: &mut [u8]) -> Result<bool,
     Ok(slices.len() == 946 && all_read_all(alloc, &slices, buf)?)
 }
 
-/// Whether a thousand segments are written and read.
-fn moves_a_thousand_segments(alloc: Global, lengths: &[usize]) -> Result<bool, Fail> {
+/// Whether a thousand segments of these lengths are written and read.
+fn moves_segments(alloc: Global, lengths: &[usize]) -> Result<bool, Fail> {
     let mut bytes = numbers(alloc, LARGEST_WRITE)?;
     let (written, counts) = thousand_written(alloc, &bytes, lengths)?;
     Ok(counts == (200, 264, 55) && are_read(alloc, &written, &mut bytes)?)
 }
 
+/// Whether a thousand segments are.
+fn moves_a_thousand_segments(alloc: Global) -> Result<bool, Fail> {
+    moves_segments(alloc, &thousand_lengths(alloc)?)
+}
+
 #[test]
 fn a_thousand_segments_are_written_split_cloned_and_read(rt: HostRuntime) -> Result<(), Fail> {
-    let lengths = thousand_lengths(rt.alloc())?;
-    assert!(rt; moves_a_thousand_segments(rt.alloc(), &lengths)?);
-    Ok(())
+    holds(moves_a_thousand_segments(rt.alloc()))
 }
 
 #[test]
 fn descriptors_are_readable_or_writable(rt: HostRuntime) {
-    assert!(rt; DescriptorType::Readable == DescriptorType::Readable);
-    assert!(rt; DescriptorType::Readable != DescriptorType::Writable);
+    assert!(rt;
+        DescriptorType::Readable == DescriptorType::Readable
+            && DescriptorType::Readable != DescriptorType::Writable
+    );
 }
 
 /// The errors and their texts.
@@ -471,6 +495,5 @@ static TEXTS: [(Error, &str); 4] = [
 
 #[test]
 fn each_error_has_a_text(rt: HostRuntime) -> Result<(), Fail> {
-    assert!(rt; have_texts(rt.alloc(), &TEXTS)?);
-    Ok(())
+    holds(have_texts(rt.alloc(), &TEXTS))
 }

@@ -1,6 +1,6 @@
 //! The tree of three files, served: a client's requests, handed over by the simplest transport.
 
-use crate::support::{handle, have_texts};
+use crate::support::{have_texts, holds, request};
 use example_client::{data, lookup, read, said};
 use example_tree::Docs;
 use std::alloc::Global;
@@ -14,77 +14,92 @@ use vfs_wire::EntryOut;
 /// A server of the three files.
 type DocsServer = Server<ReadOnly<Docs>>;
 
+/// The reply of such a server to a request, with so much room for it. It is a function of its own,
+/// so that it is proved once for all requests.
+fn served(
+    alloc: Global,
+    server: &mut DocsServer,
+    request: &[u8],
+    room: usize,
+) -> Result<Vec<u8>, ServeError> {
+    serve(alloc, server, request, room)
+}
+
 /// Whether request 2, a READ of node 2 from place 7 on and of at most 100 bytes, is served.
 fn reads(alloc: Global, server: &mut DocsServer) -> Result<bool, Fail> {
-    let reply = serve(alloc, server, &read(2, 2, 7, 100), 116)?;
+    let reply = served(alloc, server, &read(2, 2, 7, 100), 116)?;
     Ok(data(&reply) == Some(Ok(b"world\n".as_slice())))
 }
 
 /// Whether request 3, a LOOKUP of a name that isn't there, fails: ENOENT is 2, and comes negated.
 fn misses(alloc: Global, server: &mut DocsServer) -> Result<bool, Fail> {
     let request = lookup(alloc, 3, 1, b"hello")?;
-    let reply = serve(alloc, server, &request, 144)?;
+    let reply = served(alloc, server, &request, 144)?;
     Ok(data(&reply) == Some(Err(-2)))
 }
 
 /// Whether an UNLINK, of opcode 10, is refused by EROFS, which is 30.
 fn refuses(alloc: Global, server: &mut DocsServer) -> Result<bool, Fail> {
-    let (len, reply) = handle(alloc, server, (10, 1, b"hello.txt\0"), &[16], 0)?;
-    Ok(len == 16 && data(&reply) == Some(Err(-30)))
+    let request = request(alloc, 10, 1, b"hello.txt\0")?;
+    let reply = served(alloc, server, &request, 16)?;
+    Ok(reply.len() == 16 && data(&reply) == Some(Err(-30)))
+}
+
+/// Whether request 1, a LOOKUP in node 1, finds node 2.
+fn finds(alloc: Global, server: &mut DocsServer) -> Result<bool, Fail> {
+    let request = lookup(alloc, 1, 1, b"hello.txt")?;
+    let reply = served(alloc, server, &request, 144)?;
+    let entry = said::<EntryOut>(&reply).ok_or("cut short")?;
+    Ok(matches!(entry, Ok(entry) if entry.nodeid == 2))
 }
 
 #[test]
 fn a_tree_is_served(rt: HostRuntime) -> Result<(), Fail> {
-    let alloc = rt.alloc();
     let mut server = Server::new(ReadOnly { tree: Docs }, 4096);
+    holds(finds(rt.alloc(), &mut server))?;
+    holds(reads(rt.alloc(), &mut server))?;
+    holds(misses(rt.alloc(), &mut server))?;
+    holds(refuses(rt.alloc(), &mut server))
+}
 
-    // Request 1 is a LOOKUP in node 1. The answer is node 2.
+/// Why there is no reply, and how that is shown.
+const TEXTS: [(ServeError, &str); 4] = [
+    (ServeError::OutOfMemory, "out of memory"),
+    (
+        ServeError::Segments(vfs_segments::Error::SplitOutOfBounds(3)),
+        "a place 3 bytes on is past what is left",
+    ),
+    (
+        ServeError::Server(vfs_server::Error::EncodeMessage),
+        "the reply is longer than the room for it",
+    ),
+    (
+        ServeError::FileSystem(Some(Errno::ENOMEM)),
+        "the file system could not be made",
+    ),
+];
+
+/// Whether a LOOKUP with a room that is too small is refused for it.
+fn lacks_room(alloc: Global) -> Result<bool, Fail> {
+    let mut server = Server::new(ReadOnly { tree: Docs }, 4096);
     let request = lookup(alloc, 1, 1, b"hello.txt")?;
-    let reply = serve(alloc, &mut server, &request, 144)?;
-    let entry = said::<EntryOut>(&reply).ok_or("cut short")?;
-    assert_eq!(rt; entry.map(|entry| entry.nodeid), Ok(2));
-
-    assert!(rt; reads(alloc, &mut server)?);
-    assert!(rt; misses(alloc, &mut server)?);
-    assert!(rt; refuses(alloc, &mut server)?);
-    Ok(())
+    let refused = served(alloc, &mut server, &request, 143);
+    Ok(matches!(
+        refused,
+        Err(ServeError::Server(vfs_server::Error::EncodeMessage))
+    ))
 }
 
 #[test]
 fn a_transport_tells_why_there_is_no_reply(rt: HostRuntime) -> Result<(), Fail> {
-    let alloc = rt.alloc();
-    let mut server = Server::new(ReadOnly { tree: Docs }, 4096);
-    let request = lookup(alloc, 1, 1, b"hello.txt")?;
-    let refused = serve(alloc, &mut server, &request, 143);
-    assert!(rt;
-        matches!(
-            refused,
-            Err(ServeError::Server(vfs_server::Error::EncodeMessage))
-        )
-    );
-    let rows = [
-        (ServeError::OutOfMemory, "out of memory"),
-        (
-            ServeError::Segments(vfs_segments::Error::SplitOutOfBounds(3)),
-            "a place 3 bytes on is past what is left",
-        ),
-        (
-            ServeError::Server(vfs_server::Error::EncodeMessage),
-            "the reply is longer than the room for it",
-        ),
-        (
-            ServeError::FileSystem(Some(Errno::ENOMEM)),
-            "the file system could not be made",
-        ),
-    ];
-    assert!(rt; have_texts(alloc, &rows)?);
-    Ok(())
+    holds(lacks_room(rt.alloc()))?;
+    holds(have_texts(rt.alloc(), &TEXTS))
 }
 
+/// Names, the last two of them the same.
+static NAMES: [&[u8]; 3] = [b"a", b"b", b"b"];
+
 #[test]
-fn a_name_is_at_its_first_place(rt: HostRuntime) -> Result<(), Fail> {
-    let names = [b"a".as_slice(), b"b".as_slice(), b"b".as_slice()];
-    assert_eq!(rt; name_position(&names, b"b"), Some(1));
-    assert_eq!(rt; name_position(&names, b"c"), None);
-    Ok(())
+fn a_name_is_at_its_first_place(rt: HostRuntime) {
+    assert!(rt; name_position(&NAMES, b"b") == Some(1) && name_position(&NAMES, b"c") == None);
 }

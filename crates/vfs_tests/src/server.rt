@@ -2,7 +2,8 @@
 //! at file systems of the tests' own; and texts.
 
 use crate::support::{
-    ScriptServer, filled, handle_by_script, have_texts, joined, reply_by_script, script_server,
+    ScriptServer, are, handle_by_script, have_texts, holds, reply_by_script, script_server,
+    writer_over,
 };
 use bitflags::Flags;
 use std::alloc::{AllocError, Global};
@@ -41,28 +42,36 @@ const FORGOTTEN: Note = Note {
     value: 0,
 };
 
-/// Whether these pairs, as many as a payload has place for, are forgotten by one call.
-fn forgets(alloc: Global, server: &mut ScriptServer, pairs: &[u8]) -> Result<bool, Fail> {
-    let reply = reply_by_script(alloc, server, (42, 0, pairs), 16)?;
+/// Whether pairs, as many as a payload has place for, are forgotten by one call.
+fn forgets(alloc: Global, server: &mut ScriptServer) -> Result<bool, Fail> {
+    let pairs = batch(alloc, 65_536)?;
+    let reply = reply_by_script(alloc, server, (42, 0, &pairs), 16)?;
     Ok(reply.is_empty() && server.fs().notes() == [FORGOTTEN].as_slice())
 }
 
 #[test]
 fn a_payload_of_pairs_is_forgotten(rt: HostRuntime) -> Result<(), Fail> {
-    let pairs = batch(rt.alloc(), 65_536)?;
     let mut server = server(rt.alloc(), FsOptions::empty())?;
-    assert!(rt; forgets(rt.alloc(), &mut server, &pairs)?);
-    Ok(())
+    holds(forgets(rt.alloc(), &mut server))
+}
+
+/// Whether a request is replied to and noted.
+fn notes_one(alloc: Global, server: &mut ScriptServer) -> Result<bool, Fail> {
+    let reply = reply_by_script(alloc, server, (17, 1, b""), 96)?;
+    Ok(!reply.is_empty() && server.fs().notes().len() == 1)
+}
+
+/// Whether a server's notes can be cleared between requests.
+fn lends(alloc: Global, server: &mut ScriptServer) -> Result<bool, Fail> {
+    let noted = notes_one(alloc, server)?;
+    server.fs_mut().clear();
+    Ok(noted && server.fs().notes().is_empty())
 }
 
 #[test]
 fn a_server_lends_its_file_system(rt: HostRuntime) -> Result<(), Fail> {
     let mut server = server(rt.alloc(), FsOptions::empty())?;
-    let reply = reply_by_script(rt.alloc(), &mut server, (17, 1, b""), 96)?;
-    assert!(rt; !reply.is_empty() && server.fs().notes().len() == 1);
-    server.fs_mut().clear();
-    assert!(rt; server.fs().notes().is_empty());
-    Ok(())
+    holds(lends(rt.alloc(), &mut server))
 }
 
 /// A request of a caller that holds bytes of its room.
@@ -106,11 +115,16 @@ fn replies_behind_held(
     Ok(replied == 16 && room.as_slice() == row.after)
 }
 
+/// The same of a new server.
+fn replies_so(alloc: Global, row: &BehindHeld) -> Result<bool, Fail> {
+    let mut server = server(alloc, FsOptions::empty())?;
+    replies_behind_held(alloc, &mut server, row)
+}
+
 #[test]
 fn a_reply_goes_behind_held_bytes(rt: HostRuntime) -> Result<(), Fail> {
     for row in &BEHIND_HELD {
-        let mut server = server(rt.alloc(), FsOptions::empty())?;
-        assert!(rt; replies_behind_held(rt.alloc(), &mut server, row)?);
+        holds(replies_so(rt.alloc(), row))?;
     }
     Ok(())
 }
@@ -139,10 +153,10 @@ static BEGUN_AND_ENDED: [Note; 2] = [
     },
 ];
 
-/// How long the reply to an INIT is, and which options are agreed on then.
-fn agreed(alloc: Global, server: &mut ScriptServer) -> Result<(usize, u64), Fail> {
+/// Whether an INIT is replied to, and these options are agreed on then.
+fn agrees(alloc: Global, server: &mut ScriptServer, options: u64) -> Result<bool, Fail> {
     let reply = reply_by_script(alloc, server, (26, 0, &INIT), 80)?;
-    Ok((reply.len(), server.options().bits()))
+    Ok(reply.len() == 80 && server.options().bits() == options)
 }
 
 /// Whether the options are given up at the end.
@@ -152,14 +166,17 @@ fn are_given_up(server: &mut ScriptServer) -> bool {
         && server.fs().notes() == BEGUN_AND_ENDED.as_slice()
 }
 
+/// Whether these options are agreed on, and given up at the end.
+fn agrees_and_ends(alloc: Global, server: &mut ScriptServer, options: u64) -> Result<bool, Fail> {
+    Ok(agrees(alloc, server, options)? && are_given_up(server))
+}
+
 #[test]
 fn options_are_agreed_on_and_given_up(rt: HostRuntime) -> Result<(), Fail> {
     // As many as the file system wants of those that are offered.
     let wants = FsOptions::from_bits_truncate(1 << 17 | 1 << 28);
     let mut server = server(rt.alloc(), wants)?;
-    assert!(rt; agreed(rt.alloc(), &mut server)? == (80, 0x104_5846_9829));
-    assert!(rt; are_given_up(&mut server));
-    Ok(())
+    holds(agrees_and_ends(rt.alloc(), &mut server, 0x104_5846_9829))
 }
 
 /// The lengths of two replies that are put into a writer one after another.
@@ -177,14 +194,16 @@ fn put_two(writer: &mut Writer) -> Result<(usize, usize), Error> {
 static TWO_REPLIES: [u8; 44] = *b"\x1b\0\0\0\0\0\0\0\x09\0\0\0\0\0\0\0\x03\0\0\0\0\0\0\0abc\
     \x10\0\0\0\xda\xff\xff\xff\x08\0\0\0\0\0\0\0\xaa";
 
+/// Whether two replies are put so into a writer of 44 bytes.
+fn puts_two(alloc: Global) -> Result<bool, Fail> {
+    let mut writer = writer_over(alloc, &[44], 0)?;
+    let lengths = put_two(&mut writer)?;
+    Ok(lengths == (27, 16) && are(&writer.into_segments(), &[TWO_REPLIES.as_slice()]))
+}
+
 #[test]
 fn a_reply_is_put_into_any_writer(rt: HostRuntime) -> Result<(), Fail> {
-    let alloc = rt.alloc();
-    let mut writer = Writer::new(alloc, filled(alloc, &[44], 0xaa)?)?;
-    assert!(rt; put_two(&mut writer)? == (27, 16));
-    let room = joined(alloc, &writer.into_segments())?;
-    assert!(rt; room.as_slice() == TWO_REPLIES.as_slice());
-    Ok(())
+    holds(puts_two(rt.alloc()))
 }
 
 /// The errors and their texts.
@@ -221,6 +240,5 @@ static TEXTS: [(Error, &str); 10] = [
 
 #[test]
 fn each_error_has_a_text(rt: HostRuntime) -> Result<(), Fail> {
-    assert!(rt; have_texts(rt.alloc(), &TEXTS)?);
-    Ok(())
+    holds(have_texts(rt.alloc(), &TEXTS))
 }

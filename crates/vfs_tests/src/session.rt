@@ -1,6 +1,6 @@
 //! Sessions over files in memory: how a run ends, and the books with the calls that were made.
 
-use crate::support::server_over;
+use crate::support::{holds, none_is_wrong, server_over};
 use std::alloc::{AllocError, Global};
 use std::io;
 use std::io::{ErrorKind, Read};
@@ -206,21 +206,37 @@ fn ran(
     Ok((end, output))
 }
 
+/// Whether bytes are the one text and the other behind it.
+fn are_both(bytes: &[u8], first: &str, last: &str) -> bool {
+    match bytes.strip_prefix(first.as_bytes()) {
+        Some(behind) => behind == last.as_bytes(),
+        None => false,
+    }
+}
+
+/// Whether a run ends so.
+fn ends_so(alloc: Global, row: &Ending) -> Result<bool, AllocError> {
+    let (ended, written) = ran(alloc, row.lines, row.behind)?;
+    Ok(
+        ended == row.end
+            && exit_status(&ended) == row.status
+            && are_both(&written, row.answers, row.answered),
+    )
+}
+
+/// What stands behind the first lines of the first input whose run ends otherwise.
+fn wrong_end(alloc: Global) -> Result<Option<&'static str>, AllocError> {
+    for row in &ENDS {
+        if !ends_so(alloc, row)? {
+            return Ok(Some(row.behind));
+        }
+    }
+    Ok(None)
+}
+
 #[test]
 fn a_session_is_answered_up_to_its_bad_line(rt: HostRuntime) -> Result<(), Fail> {
-    for row in &ENDS {
-        let (ended, written) = ran(rt.alloc(), row.lines, row.behind)?;
-        let (first, last) = (row.answers, row.answered);
-        let wanted = format!(in rt.alloc(); "{first}{last}")?;
-        let behind = row.behind;
-        assert!(rt;
-            ended == row.end
-                && exit_status(&ended) == row.status
-                && written.as_slice() == wanted.as_bytes(),
-            "at {behind:?}"
-        );
-    }
-    Ok(())
+    none_is_wrong(wrong_end(rt.alloc()))
 }
 
 /// This text so many times.
@@ -232,20 +248,30 @@ fn times(alloc: Global, text: &str, count: usize) -> Result<String, AllocError> 
     Ok(all)
 }
 
+/// Whether the run of an input with a limit ends so.
+fn is_limited(alloc: Global, row: &Limited) -> Result<bool, AllocError> {
+    let last = times(alloc, PAIR, row.pairs)?;
+    let (ended, written) = ran(alloc, row.input, last.as_str())?;
+    Ok(
+        ended == row.end
+            && exit_status(&ended) == row.status
+            && written.as_slice() == row.answers.as_bytes(),
+    )
+}
+
+/// The first such input whose run ends otherwise.
+fn wrong_limit(alloc: Global) -> Result<Option<&'static str>, AllocError> {
+    for row in &LIMITED {
+        if !is_limited(alloc, row)? {
+            return Ok(Some(row.input));
+        }
+    }
+    Ok(None)
+}
+
 #[test]
 fn a_first_line_sets_the_limit(rt: HostRuntime) -> Result<(), Fail> {
-    for row in &LIMITED {
-        let last = times(rt.alloc(), PAIR, row.pairs)?;
-        let (ended, written) = ran(rt.alloc(), row.input, last.as_str())?;
-        let input = row.input;
-        assert!(rt;
-            ended == row.end
-                && exit_status(&ended) == row.status
-                && written.as_slice() == row.answers.as_bytes(),
-            "at {input:?}"
-        );
-    }
-    Ok(())
+    none_is_wrong(wrong_limit(rt.alloc()))
 }
 
 /// Gives its bytes, and then fails.
@@ -285,7 +311,7 @@ fn a_fault_of_input_or_output_ends_the_run(rt: HostRuntime) -> Result<(), Fail> 
         assert!(rt; ends_by_input(rt.alloc(), text.as_bytes()));
     }
     for room in &ROOMS {
-        assert!(rt; ends_by_output(rt.alloc(), *room)?);
+        holds(ends_by_output(rt.alloc(), *room))?;
     }
     Ok(())
 }
@@ -397,10 +423,10 @@ static CALLS: [Note; 11] = [
     },
 ];
 
-/// The requests of the lines.
-fn requests(alloc: Global) -> Result<Vec<Line>, RunError> {
+/// The requests of these lines.
+fn requests(alloc: Global, lines: &[&str]) -> Result<Vec<Line>, RunError> {
     let mut requests = Vec::new(alloc);
-    for line in &LINES {
+    for line in lines {
         if let Some(request) = parse_line(alloc, line.as_bytes())? {
             requests.push(request)?;
         }
@@ -408,42 +434,35 @@ fn requests(alloc: Global) -> Result<Vec<Line>, RunError> {
     Ok(requests)
 }
 
-/// The answers of such a server to these requests.
-fn answers_of(
-    alloc: Global,
-    server: &mut FilesServer,
-    requests: &[Line],
-) -> Result<String, RunError> {
-    answers_to(alloc, server, requests)
+/// The answers of such a server to the requests of these lines.
+fn answers_of(alloc: Global, server: &mut FilesServer, lines: &[&str]) -> Result<String, RunError> {
+    let requests = requests(alloc, lines)?;
+    answers_to(alloc, server, &requests)
 }
 
-/// Whether the requests of the lines have their answers, and make those calls.
-fn is_answered(alloc: Global, server: &mut FilesServer) -> Result<bool, RunError> {
-    let requests = requests(alloc)?;
-    let answers = answers_of(alloc, server, &requests)?;
-    Ok(
-        answers.as_str() == ANSWERS
-            && server.fs().notes() == CALLS.as_slice()
-            && !server.fs().missed(),
-    )
+/// Whether these are the calls that a server made.
+fn are_calls(recorder: &Recorder<MemFs>, calls: &[Note]) -> bool {
+    recorder.notes() == calls && !recorder.missed()
+}
+
+/// Whether the requests of these lines have these answers, and make these calls.
+fn is_answered(
+    alloc: Global,
+    lines: &[&str],
+    answers: &str,
+    calls: &[Note],
+) -> Result<bool, RunError> {
+    let mut server = files_server(alloc)?;
+    let is_same = answers_of(alloc, &mut server, lines)?.as_str() == answers;
+    Ok(is_same && are_calls(server.fs(), calls))
 }
 
 #[test]
 fn the_books_of_a_session_balance(rt: HostRuntime) -> Result<(), Fail> {
-    let mut server = files_server(rt.alloc())?;
-    assert!(rt; is_answered(rt.alloc(), &mut server)?);
-    Ok(())
-}
-
-/// Whether no request has no answer, and makes no call.
-fn answers_nothing(alloc: Global, server: &mut FilesServer) -> Result<bool, RunError> {
-    let answers = answers_of(alloc, server, &[])?;
-    Ok(answers.is_empty() && server.fs().notes().is_empty() && !server.fs().missed())
+    holds(is_answered(rt.alloc(), &LINES, ANSWERS, &CALLS))
 }
 
 #[test]
 fn a_session_of_no_requests_makes_no_call(rt: HostRuntime) -> Result<(), Fail> {
-    let mut server = files_server(rt.alloc())?;
-    assert!(rt; answers_nothing(rt.alloc(), &mut server)?);
-    Ok(())
+    holds(is_answered(rt.alloc(), &[], "", &[]))
 }

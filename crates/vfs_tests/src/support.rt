@@ -1,7 +1,7 @@
 //! Requests and replies as bytes, the servers that tests hand them to, and the texts of errors.
 
 use std::alloc::{AllocError, Global};
-use std::fmt::Display;
+use std::fmt::{Debug, Display};
 use std::test::Fail;
 use vfs_bench::{Recorder, Script};
 use vfs_server::descriptor_utils::{Reader, Writer};
@@ -14,7 +14,7 @@ pub type Outcome = (usize, Vec<u8>);
 
 /// A request with this opcode and node, and these bytes behind its header. Its `len` counts all of
 /// them, its `unique` is 9, and all else in the header is 0.
-fn request(alloc: Global, opcode: u8, node: u8, behind: &[u8]) -> Result<Vec<u8>, AllocError> {
+pub fn request(alloc: Global, opcode: u8, node: u8, behind: &[u8]) -> Result<Vec<u8>, AllocError> {
     let mut header = [0; 40];
     header[..8].copy_from_slice(&(40 + behind.len()).to_le_bytes());
     header[4] = opcode;
@@ -23,6 +23,27 @@ fn request(alloc: Global, opcode: u8, node: u8, behind: &[u8]) -> Result<Vec<u8>
     let mut all = Vec::from_slice(alloc, &header)?;
     all.extend_from_slice(behind)?;
     Ok(all)
+}
+
+/// That what a test looked at holds. Where it could not be looked at, the failure says why.
+pub fn holds<E: Into<Fail>>(looked: Result<bool, E>) -> Result<(), Fail> {
+    match looked {
+        Ok(true) => Ok(()),
+        Ok(false) => Err(Fail::from("it does not hold")),
+        Err(error) => Err(error.into()),
+    }
+}
+
+/// That no row of a table is wrong. The failure names the first that is, or says why they could not
+/// be looked at.
+pub fn none_is_wrong<T: Debug + Drop, E: Into<Fail>>(
+    looked: Result<Option<T>, E>,
+) -> Result<(), Fail> {
+    match looked {
+        Ok(None) => Ok(()),
+        Ok(Some(wrong)) => Err(Fail::from(wrong)),
+        Err(error) => Err(error.into()),
+    }
 }
 
 /// Segments of these lengths, in which each byte is this one.
@@ -89,7 +110,7 @@ pub fn handle<F: FileSystem>(
 }
 
 /// A writer over a room of segments of these lengths, of which the first `held` bytes are held.
-fn writer_over(alloc: Global, room: &[usize], held: usize) -> Result<Writer, Fail> {
+pub fn writer_over(alloc: Global, room: &[usize], held: usize) -> Result<Writer, Fail> {
     let mut writer = Writer::new(alloc, filled(alloc, room, 0xaa)?)?;
     writer.hold(held)?;
     Ok(writer)
@@ -103,11 +124,21 @@ fn handle_request<F: FileSystem>(
     room: &[usize],
     held: usize,
 ) -> Result<Outcome, Fail> {
+    let mut writer = writer_over(alloc, room, held)?;
+    let len = hand_over(alloc, server, request, &mut writer)?;
+    Ok((len, joined(alloc, &writer.into_segments())?))
+}
+
+/// How long the reply to a request is that a server puts into a writer.
+fn hand_over<F: FileSystem>(
+    alloc: Global,
+    server: &mut Server<F>,
+    request: &[u8],
+    writer: &mut Writer,
+) -> Result<usize, Fail> {
     let pieces = [request];
     let reader = Reader::new(alloc, &pieces)?;
-    let mut writer = writer_over(alloc, room, held)?;
-    let len = server.handle_message(alloc, reader, &mut writer)?;
-    Ok((len, joined(alloc, &writer.into_segments())?))
+    Ok(server.handle_message(alloc, reader, writer)?)
 }
 
 /// A server over a recorder of `n` places.

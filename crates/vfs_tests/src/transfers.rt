@@ -3,6 +3,7 @@
 ghost use Rattle.std.specs.Prelude.{◌≤◌, IfOk};
 
 use crate::segments::writer_over;
+use crate::support::holds;
 use std::alloc::Global;
 use std::test::Fail;
 use vfs_files::{ZeroCopyReader, ZeroCopyWriter};
@@ -153,7 +154,7 @@ fn is_made(alloc: Global, row: &Transfer) -> Result<bool, Fail> {
 #[test]
 fn files_are_lent_the_next_bytes_until_all_is_moved(rt: HostRuntime) -> Result<(), Fail> {
     for row in &TRANSFERS {
-        assert!(rt; is_made(rt.alloc(), row)?);
+        holds(is_made(rt.alloc(), row))?;
     }
     Ok(())
 }
@@ -172,8 +173,7 @@ fn is_lent_pieces(alloc: Global) -> Result<bool, Fail> {
 
 #[test]
 fn a_file_is_lent_the_segments_themselves(rt: HostRuntime) -> Result<(), Fail> {
-    assert!(rt; is_lent_pieces(rt.alloc())?);
-    Ok(())
+    holds(is_lent_pieces(rt.alloc()))
 }
 
 /// Whether a room of three bytes is lent to a file until it is full.
@@ -190,6 +190,5 @@ fn fills_a_room(alloc: Global) -> Result<bool, Fail> {
 
 #[test]
 fn a_room_is_lent_until_it_is_full(rt: HostRuntime) -> Result<(), Fail> {
-    assert!(rt; fills_a_room(rt.alloc())?);
-    Ok(())
+    holds(fills_a_room(rt.alloc()))
 }

@@ -22,11 +22,13 @@ pub fn is_written_as<T: ByteValued + Drop>(x: &T, want: &[u8]) -> bool
 
 #[test]
 fn plain_numbers(rt: HostRuntime) {
-    assert!(rt; is_written_as(&0xfe_u8, &[0xfe]));
-    assert!(rt; is_written_as(&0x0102_u16, &[2, 1]));
-    assert!(rt; is_written_as(&0xfefd_0304_u32, &[4, 3, 0xfd, 0xfe]));
-    assert!(rt; is_written_as(&0xf102_0304_0506_0708_u64, &[8, 7, 6, 5, 4, 3, 2, 0xf1],));
-    assert!(rt; u64::take(&[8, 7, 6, 5, 4, 3, 2, 0xf1]) == 0xf102_0304_0506_0708);
+    assert!(rt;
+        is_written_as(&0xfe_u8, &[0xfe])
+            && is_written_as(&0x0102_u16, &[2, 1])
+            && is_written_as(&0xfefd_0304_u32, &[4, 3, 0xfd, 0xfe])
+            && is_written_as(&0xf102_0304_0506_0708_u64, &[8, 7, 6, 5, 4, 3, 2, 0xf1])
+            && u64::take(&[8, 7, 6, 5, 4, 3, 2, 0xf1]) == 0xf102_0304_0506_0708
+    );
 }
 
 #[test]
@@ -46,8 +48,7 @@ fn a_request_header(rt: HostRuntime) {
         56, 0, 0, 0, 26, 0, 0, 0, 8, 7, 6, 5, 4, 3, 2, 1, 0xfe, 0xff, 0xff, 0xff, 0xff, 0xff, 0xff,
         0xff, 0xe8, 3, 0, 0, 100, 0, 0, 0, 4, 3, 2, 1, 6, 5, 8, 7,
     ];
-    assert!(rt; is_written_as(&header, &want));
-    assert!(rt; InHeader::take(&want).uid == GuestUid::from(1000));
+    assert!(rt; is_written_as(&header, &want) && InHeader::take(&want).uid == GuestUid::from(1000));
 }
 
 #[test]
@@ -58,8 +59,7 @@ fn a_reply_header_with_a_negated_error(rt: HostRuntime) {
         unique: 9,
     };
     let want = [16, 0, 0, 0, 0xda, 0xff, 0xff, 0xff, 9, 0, 0, 0, 0, 0, 0, 0];
-    assert!(rt; is_written_as(&header, &want));
-    assert!(rt; OutHeader::take(&want).error == -38);
+    assert!(rt; is_written_as(&header, &want) && OutHeader::take(&want).error == -38);
 }
 
 #[test]
@@ -73,10 +73,12 @@ fn the_first_record_of_init(rt: HostRuntime) {
     let want = [
         7, 0, 0, 0, 0x26, 0, 0, 0, 0, 0, 2, 0, 0xff, 0xff, 0xff, 0xff,
     ];
-    assert!(rt; is_written_as(&record, &want));
     let read = InitInCompat::take(&want);
-    assert!(rt; (read.major, read.minor) == (7, 38));
-    assert!(rt; (read.max_readahead, read.flags) == (131_072, 0xffff_ffff));
+    assert!(rt;
+        is_written_as(&record, &want)
+            && [read.major, read.minor, read.max_readahead, read.flags]
+                == [7, 38, 131_072, 0xffff_ffff]
+    );
 }
 
 #[test]
@@ -110,9 +112,8 @@ fn a_pair_of_what_is_forgotten(rt: HostRuntime) {
         nlookup: 2,
     };
     let want = [1, 0, 0, 0, 0, 0, 0, 0, 2, 0, 0, 0, 0, 0, 0, 0];
-    assert!(rt; is_written_as(&pair, &want));
     let read = ForgetOne::take(&want);
-    assert!(rt; (read.nodeid, read.nlookup) == (1, 2));
+    assert!(rt; is_written_as(&pair, &want) && [read.nodeid, read.nlookup] == [1, 2]);
 }
 
 fn odd_attributes() -> Attr {
@@ -154,8 +155,7 @@ fn an_entry(rt: HostRuntime) {
         0xff, 0xff, 0xff, 0xff, 7, 0, 0, 0, 8, 0, 0, 0, 9, 0, 0, 0, 0xa4, 0x81, 0, 0, 11, 0, 0, 0,
         12, 0, 0, 0, 13, 0, 0, 0, 14, 0, 0, 0, 0, 0x10, 0, 0, 16, 0, 0, 0,
     ];
-    assert!(rt; is_written_as(&entry, &want));
-    assert!(rt; EntryOut::take(&want).attr.ctimensec == 9);
+    assert!(rt; is_written_as(&entry, &want) && EntryOut::take(&want).attr.ctimensec == 9);
 }
 
 #[test]
@@ -169,6 +169,5 @@ fn the_group_is_not_mapped_after_a_fault_of_the_owner(rt: HostRuntime) {
             Ok(GuestGid::from(gid.into_inner()))
         },
     );
-    assert!(rt; matches!(answer, Err(Some(e)) if e.get() == 34));
-    assert!(rt; !called);
+    assert!(rt; !called && matches!(answer, Err(Some(e)) if e.get() == 34));
 }

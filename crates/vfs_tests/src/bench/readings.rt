@@ -1,7 +1,7 @@
 //! Readings of a directory of one item: what is taken, looked up and given back.
 
 use crate::bench::{directory, entry_of};
-use crate::support::{ScriptServer, reply_by_script, script_server};
+use crate::support::{ScriptServer, holds, reply_by_script, script_server};
 use std::alloc::{AllocError, Global};
 use std::test::Fail;
 use vfs_bench::{Note, NoteKind, Recorder, Script};
@@ -168,23 +168,30 @@ fn reading_of(size: u32) -> [u8; 40] {
     record
 }
 
+/// The reply to a request for a reading.
+fn reply_to(alloc: Global, server: &mut ScriptServer, reading: &Reading) -> Result<Vec<u8>, Fail> {
+    let record = reading_of(reading.size);
+    let room = reading.size as usize + 16;
+    reply_by_script(alloc, server, (reading.opcode, 1, &record), room)
+}
+
+/// Whether a reading has taken, looked up and given back what is said of it.
+fn has_taken(recorder: &Recorder<Script>, reading: &Reading) -> bool {
+    takings(recorder.inner()) == Some(reading.entries)
+        && are_calls(recorder, reading.lookups, reading.forgets)
+}
+
 /// Whether a reading comes to what is said of it.
 fn is_read(alloc: Global, reading: &Reading) -> Result<bool, Fail> {
-    let room = reading.size as usize + 16;
     let mut server = server_of_directory(alloc, reading.name, reading.endless, 7000)?;
-    let record = reading_of(reading.size);
-    let reply = reply_by_script(alloc, &mut server, (reading.opcode, 1, &record), room)?;
-    Ok(
-        is_success(&reply, reading.length)
-            && takings(server.fs().inner()) == Some(reading.entries)
-            && are_calls(server.fs(), reading.lookups, reading.forgets),
-    )
+    let is_replied = is_success(&reply_to(alloc, &mut server, reading)?, reading.length);
+    Ok(is_replied && has_taken(server.fs(), reading))
 }
 
 #[test]
 fn readings_of_a_directory_take_what_fits_and_one_more(rt: HostRuntime) -> Result<(), Fail> {
     for reading in &READINGS {
-        assert!(rt; is_read(rt.alloc(), reading)?);
+        holds(is_read(rt.alloc(), reading))?;
     }
     Ok(())
 }
