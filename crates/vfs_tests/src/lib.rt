@@ -33,6 +33,8 @@ mod support;
 #[cfg(test)]
 mod transfers;
 #[cfg(test)]
+mod tree;
+#[cfg(test)]
 mod wire;
 #[cfg(test)]
 mod wire_more;

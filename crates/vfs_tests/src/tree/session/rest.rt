@@ -1,6 +1,6 @@
 //! The session's later parts.
 
-use crate::session::Step;
+use crate::tree::session::Step;
 
 /// Names that are exchanged, and directories that move.
 pub static FOURTH: [Step; 15] = [

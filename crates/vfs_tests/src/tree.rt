@@ -1,12 +1,47 @@
-//! What a person does with a tree.
+//! A tree in memory, by requests and replies: what a person does with it, a session as data.
 
-use crate::session::rest::{FIFTH, FOURTH, SIXTH};
-use crate::session::{FIRST, SECOND, Step, THIRD};
-use crate::support::{reply, server_over};
+mod session;
+
+use crate::support::{Message, handle, none_is_wrong};
+use crate::tree::session::rest::{FIFTH, FOURTH, SIXTH};
+use crate::tree::session::{FIRST, SECOND, Step, THIRD};
 use std::alloc::Global;
 use std::test::Fail;
+use vfs_flags::{GuestGid, GuestUid};
 use vfs_server::server::Server;
-use vfs_tree::{Limits, TreeFs};
+use vfs_tree::{Limits, Time, TreeFs};
+
+/// The limits of the session's tree.
+const LIMITS: Limits = Limits {
+    nodes: 64,
+    bytes: 103,
+    file: 64,
+};
+
+/// When the session is.
+const NOW: Time = Time {
+    seconds: 7,
+    nanoseconds: 0,
+};
+
+/// A server over a new tree, whose root is of user and group 0.
+fn new_server(alloc: Global) -> Result<Server<TreeFs>, Fail> {
+    match TreeFs::new(alloc, GuestUid::from(0), GuestGid::from(0), LIMITS, NOW) {
+        Ok(tree) => Ok(Server::new(tree, 4096)),
+        Err(_) => Err(Fail::from("no memory for a tree")),
+    }
+}
+
+/// Hands a server a message with a room of 4112 bytes. Answers the reply.
+fn reply(
+    alloc: Global,
+    server: &mut Server<TreeFs>,
+    message: Message<'_>,
+) -> Result<Vec<u8>, Fail> {
+    let (len, mut reply) = handle(alloc, server, message, &[4112], 0)?;
+    reply.truncate(len);
+    Ok(reply)
+}
 
 /// Whether a reply has these bytes at a place.
 fn says(reply: &[u8], at: usize, bytes: &[u8]) -> bool {
@@ -72,13 +107,7 @@ fn goes_on(alloc: Global, server: &mut Server<TreeFs>) -> Result<Option<&'static
 
 #[test]
 fn a_person_has_a_session(rt: HostRuntime) -> Result<(), Fail> {
-    let limits = Limits {
-        nodes: 64,
-        bytes: 103,
-        file: 64,
-    };
-    let mut server = server_over(rt.alloc(), limits)?;
-    assert_eq!(rt; begins(rt.alloc(), &mut server)?, None);
-    assert_eq!(rt; goes_on(rt.alloc(), &mut server)?, None);
-    Ok(())
+    let mut server = new_server(rt.alloc())?;
+    none_is_wrong(begins(rt.alloc(), &mut server))?;
+    none_is_wrong(goes_on(rt.alloc(), &mut server))
 }
