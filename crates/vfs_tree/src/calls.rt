@@ -83,7 +83,6 @@ impl FileSystem for TreeFs {
         }
     }
 
-    #[tactic(auto, using(std::proofs::lemmas::Map::Steps::set_value_same))]
     fn setattr(
         &mut self,
         _ctx: Context,
@@ -248,7 +247,6 @@ impl FileSystem for TreeFs {
         node.contents.read_into(w, size, offset)
     }
 
-    #[tactic(auto, using(std::proofs::lemmas::Map::Steps::set_value_same))]
     fn write<R: ZeroCopyReader>(
         &mut self,
         _ctx: Context,

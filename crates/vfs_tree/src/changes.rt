@@ -143,7 +143,6 @@ impl TreeFs {
     }
 
     /// Makes a file at least `offset + length` bytes long.
-    #[tactic(auto, using(std::proofs::lemmas::Map::Steps::set_value_same))]
     pub(crate) fn allocate(
         &mut self,
         inode: u64,
@@ -198,7 +197,6 @@ impl TreeFs {
     }
 
     /// Sets an extended attribute.
-    #[tactic(auto, using(std::proofs::lemmas::Map::Steps::set_value_same))]
     pub(crate) fn set_xattr(
         &mut self,
         inode: u64,

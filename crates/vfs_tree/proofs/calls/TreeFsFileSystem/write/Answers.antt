@@ -1,4 +1,5 @@
-use Rattle.std.proofs.Common.{arith}
+use Rattle.std.proofs.Common.{arith, rules}
+use Rattle.std.proofs.lemmas.Map.Steps.{set_value_same}
 use Rattle.vfs_tree.specs.contracts.fs.TreeFs.{the_view}
 use Rattle.vfs_tree.proofs.Weights.{overwritten_fits}
 use Rattle.vfs_tree.proofs.calls.TreeFsFileSystem.write.Goals as goal
@@ -9,3 +10,6 @@ reweigh-requires g c =
     let fits = overwritten_fits (the_view c.self.inside) c.in-Some.node.now _ _ _ _ _ _ most
     c.in_ok-count.ensures.2 in
     omega (arith, fits)
+
+pub returns-in_err-count : goal.returns-in_err-count
+returns-in_err-count g c = search (rules, set_value_same)
