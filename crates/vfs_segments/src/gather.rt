@@ -6,6 +6,7 @@ ghost use Rattle.vfs_wire.specs.Fields.{Fit, value_of};
 
 use crate::record::LARGEST_RECORD;
 use crate::segments::Segments;
+use crate::spelled::copy_piece;
 use std::alloc::{AllocError, Global};
 use vfs_wire::ByteValued;
 
@@ -15,6 +16,15 @@ pub(crate) fn put_at(buf: &mut [u8], at: usize, bytes: &[u8])
     ensures { buf.new ≡ with_bytes_at at bytes.now buf.old }
 {
     buf[at..at + bytes.len()].copy_from_slice(bytes);
+}
+
+// The same, for a piece that may be a single byte.
+#[inline(always)]
+fn put_piece(buf: &mut [u8], at: usize, bytes: &[u8])
+    requires { at + length bytes.now ≤ length buf.old }
+    ensures { buf.new ≡ with_bytes_at at bytes.now buf.old }
+{
+    copy_piece(&mut buf[at..at + bytes.len()], bytes);
 }
 
 impl<'a> Segments<&'a [&'a [u8]]> {
@@ -64,7 +74,7 @@ impl<'a> Segments<&'a [&'a [u8]]> {
             let segment = self.segment(i);
             let from = skip.min(segment.len());
             let n = (segment.len() - from).min(buf.len() - done);
-            put_at(buf, done, &segment[from..from + n]);
+            put_piece(buf, done, &segment[from..from + n]);
             done += n;
             skip -= from;
             *near = i;

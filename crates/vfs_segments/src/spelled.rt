@@ -29,6 +29,19 @@ pub(crate) trait Spelled {
         ensures known { known self.now };
 }
 
+// Copies bytes over as many others: a single one by itself, since a call costs more than it does.
+#[inline(always)]
+pub(crate) fn copy_piece(out: &mut [u8], bytes: &[u8])
+    requires { length out.old ≡ length bytes.now }
+    ensures { out.new ≡ bytes.now }
+{
+    if bytes.len() == 1 {
+        out[0] = bytes[0];
+    } else {
+        out.copy_from_slice(bytes);
+    }
+}
+
 // Bytes are spelled as they are.
 impl<'x> Spelled for &'x [u8] {
     ghost bytes = { λ b. b.now };
@@ -46,7 +59,7 @@ impl<'x> Spelled for &'x [u8] {
     #[inline(always)]
     fn spell(&self, out: &mut [u8]) {
         let bytes = *self;
-        out.copy_from_slice(bytes);
+        copy_piece(out, bytes);
     }
 }
 

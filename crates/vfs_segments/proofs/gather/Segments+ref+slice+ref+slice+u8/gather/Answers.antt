@@ -14,5 +14,5 @@ loop-i-preserved c =
     let v = c.loop-i.invariant in
     let cut : c.min-from.result + c.min-n.result - c.min-from.result ≡ c.min-n.result = omega arith in
     let here = c.segment-segment.ensures in
-    let t = turn c.loop-i.buf c.put_at.new.buf s (concat (drop (i + 1) xs)) _ _ c.loop-i.skip c.loop-i.done c.min-from.result c.min-n.result (rw here at c.min-from.ensures) (rw here at c.min-n.ensures) (ap (λ l. take (c.min-from.result + c.min-n.result - c.min-from.result) (drop c.min-from.result l)) here ∙ ap (λ k. take k (drop c.min-from.result s)) cut) v.within (rw more at v.fits) (rw more at v.bytes) c.put_at.ensures in
+    let t = turn c.loop-i.buf c.put_piece.new.buf s (concat (drop (i + 1) xs)) _ _ c.loop-i.skip c.loop-i.done c.min-from.result c.min-n.result (rw here at c.min-from.ensures) (rw here at c.min-n.ensures) (ap (λ l. take (c.min-from.result + c.min-n.result - c.min-from.result) (drop c.min-from.result l)) here ∙ ap (λ k. take k (drop c.min-from.result s)) cut) v.within (rw more at v.fits) (rw more at v.bytes) c.put_piece.ensures in
     record { within = t.same_within; fits = t.still_fits; bytes = t.joined }
