@@ -37,6 +37,7 @@ fn give_back_unfit<F: FileSystem>(fs: &mut F, header: &InHeader, node: u64, outc
 /// `EncodeMessage` where the room that `w` has left is smaller: it has the beginning of the reply
 /// then. The client never sees the entry, so one lookup of its node is given back, for the caller
 /// that the header names, but of node 0, whose lookups aren't counted.
+#[inline(always)]
 pub fn deliver_entry<F: FileSystem>(
     fs: &mut F,
     header: &InHeader,

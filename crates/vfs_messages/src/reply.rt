@@ -348,6 +348,7 @@ fn attr_out(attr: Attr, timeout: Duration) -> AttrOut
 }
 
 /// Replies attributes and how long they hold, as GETATTR does.
+#[inline(always)]
 pub fn reply_attr(
     answer: std::result::Result<(Attr, Duration), Fault>,
     unique: u64,

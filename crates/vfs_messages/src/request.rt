@@ -81,6 +81,7 @@ impl<'a> Tail<'a> {
 }
 
 /// The next `len` bytes, which the reader has: lent where they lie in one segment, else copied.
+#[inline(always)]
 fn take_tail<'a>(alloc: Global, len: usize, reader: &mut Reader<'a>) -> Result<Tail<'a>>
     requires { len ≤ length reader.old.left }
     ensures bytes { IfOk result (λ tail. tail ≡ take len reader.old.left) }
@@ -103,6 +104,7 @@ fn take_tail<'a>(alloc: Global, len: usize, reader: &mut Reader<'a>) -> Result<T
 /// `InvalidHeaderLength` where `len` is less than header and record, `DecodeMessage` where bytes
 /// are missing, `OutOfMemory` where there is no memory for a tail that is whole and cut between two
 /// segments, in this order.
+#[inline(always)]
 pub fn read_tail<'a>(
     alloc: Global,
     header: &InHeader,
@@ -154,6 +156,7 @@ impl<'a> Name<'a> {
 }
 
 /// The name that a tail is. `InvalidCString` where it is none.
+#[inline(always)]
 pub fn name_of_tail<'a>(tail: Tail<'a>) -> Result<Name<'a>>
     ensures { MatchResult result
         (λ name. name_in tail.entry ≡ Ok name)
@@ -167,6 +170,7 @@ pub fn name_of_tail<'a>(tail: Tail<'a>) -> Result<Name<'a>>
 
 /// The name that the tail is, of a request with a record of `size` bytes: the errors of
 /// [`read_tail`], then `InvalidCString` where the tail is no name.
+#[inline(always)]
 pub fn read_name<'a>(
     alloc: Global,
     header: &InHeader,
@@ -355,6 +359,7 @@ fn extended(alloc: Global, options: FsOptions, bytes: &[u8]) -> Result<(usize, E
 }
 
 /// The name and the extensions that a tail is.
+#[inline(always)]
 fn extended_of_tail<'a>(
     alloc: Global,
     options: FsOptions,
@@ -370,6 +375,7 @@ fn extended_of_tail<'a>(
 /// The name and the extensions that the tail is, of a request with a record of `size` bytes: the
 /// errors of [`read_tail`], then `MissingParameter` where it has no byte, the errors of
 /// [`get_extensions`], and `InvalidCString` where no 0 ends the name.
+#[inline(always)]
 pub fn read_extended<'a>(
     alloc: Global,
     options: FsOptions,
