@@ -42,3 +42,6 @@ invariant_of-self-2 c =
     subst (λ (fs : List Stored). AreIndexed fs c.insert.new.self (s.next + 1)) (sym pushed)
     (indexed_added s.files.items s.names s.next c.self.invariant file refl free c.insert.new.self
     (subst Updates keyed updates))
+
+pub returns-then-is_err-2 : goal.returns-then-is_err-2
+returns-then-is_err-2 c = grind (arith, common_steps)
