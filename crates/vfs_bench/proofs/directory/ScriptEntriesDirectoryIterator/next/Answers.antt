@@ -4,3 +4,6 @@ use Rattle.vfs_bench.proofs.directory.ScriptEntriesDirectoryIterator.next.Goals 
 
 pub returns-in_err-item : goal.returns-in_err-item
 returns-in_err-item c = grind (arith, common_steps)
+
+pub returns : goal.returns
+returns c = grind (arith, common_steps)
