@@ -3,7 +3,7 @@
 mod readings;
 mod rows;
 
-use crate::bench::rows::{Noted, ROWS, Row};
+use crate::bench::rows::{Noted, Row, rows};
 use crate::support::{
     Outcome, ScriptServer, handle, holds, none_is_wrong, reply_by_script, script_server,
     server_over,
@@ -109,7 +109,7 @@ fn script_of_answers(alloc: Global) -> Result<Script, AllocError> {
 
 /// A server over that script, with a place for the note of each row's call.
 fn answering_server(alloc: Global) -> Result<ScriptServer, AllocError> {
-    script_server(alloc, script_of_answers(alloc)?, ROWS.len())
+    script_server(alloc, script_of_answers(alloc)?, rows().len())
 }
 
 /// The note of a call, of this kind and value.
@@ -140,7 +140,7 @@ fn is_answered(alloc: Global, server: &mut ScriptServer, row: &Row) -> Result<bo
 
 /// The opcode of the first message that a script answers otherwise, or whose note is another.
 fn wrongly_answered(alloc: Global, server: &mut ScriptServer) -> Result<Option<u8>, Fail> {
-    for row in &ROWS {
+    for row in rows() {
         if !is_answered(alloc, server, row)? {
             return Ok(Some(row.message.0));
         }
@@ -169,7 +169,7 @@ fn is_noted_unserved(server: &UnservedServer, row: &Row) -> bool {
 
 /// The opcode of the first message whose note is another where nothing is served.
 fn wrongly_noted(alloc: Global, server: &mut UnservedServer) -> Result<Option<u8>, Fail> {
-    for row in &ROWS {
+    for row in rows() {
         handle_unserved(alloc, server, row)?;
         if !is_noted_unserved(server, row) {
             return Ok(Some(row.message.0));
@@ -180,7 +180,7 @@ fn wrongly_noted(alloc: Global, server: &mut UnservedServer) -> Result<Option<u8
 
 #[test]
 fn a_recorder_notes_each_call_that_is_not_served(rt: HostRuntime) -> Result<(), Fail> {
-    let mut server = server_over(rt.alloc(), Unserved {}, ROWS.len())?;
+    let mut server = server_over(rt.alloc(), Unserved {}, rows().len())?;
     none_is_wrong(wrongly_noted(rt.alloc(), &mut server))
 }
 

@@ -3,8 +3,8 @@
 mod session;
 
 use crate::support::{Message, handle, none_is_wrong};
-use crate::tree::session::rest::{FIFTH, FOURTH, SIXTH};
-use crate::tree::session::{FIRST, SECOND, Step, THIRD};
+use crate::tree::session::rest::{fifth, fourth, sixth};
+use crate::tree::session::{Step, first, second, third};
 use std::alloc::Global;
 use std::test::Fail;
 use vfs_flags::{GuestGid, GuestUid};
@@ -65,7 +65,7 @@ fn is_replied(alloc: Global, server: &mut Server<TreeFs>, step: &Step) -> Result
     Ok(true)
 }
 
-/// The first step that is replied to otherwise.
+/// The first of these steps that is replied to otherwise.
 fn first_wrong(
     alloc: Global,
     server: &mut Server<TreeFs>,
@@ -79,35 +79,19 @@ fn first_wrong(
     Ok(None)
 }
 
-/// Whether the first parts of the session are replied to so.
-fn begins(alloc: Global, server: &mut Server<TreeFs>) -> Result<Option<&'static str>, Fail> {
-    let wrong = first_wrong(alloc, server, &FIRST)?;
-    if wrong.is_some() {
-        return Ok(wrong);
+/// The first step of the session that is replied to otherwise.
+fn wrong_step(alloc: Global, server: &mut Server<TreeFs>) -> Result<Option<&'static str>, Fail> {
+    for part in &[first(), second(), third(), fourth(), fifth(), sixth()] {
+        let wrong = first_wrong(alloc, server, part)?;
+        if wrong.is_some() {
+            return Ok(wrong);
+        }
     }
-    let wrong = first_wrong(alloc, server, &SECOND)?;
-    if wrong.is_some() {
-        return Ok(wrong);
-    }
-    first_wrong(alloc, server, &THIRD)
-}
-
-/// Whether the others are.
-fn goes_on(alloc: Global, server: &mut Server<TreeFs>) -> Result<Option<&'static str>, Fail> {
-    let wrong = first_wrong(alloc, server, &FOURTH)?;
-    if wrong.is_some() {
-        return Ok(wrong);
-    }
-    let wrong = first_wrong(alloc, server, &FIFTH)?;
-    if wrong.is_some() {
-        return Ok(wrong);
-    }
-    first_wrong(alloc, server, &SIXTH)
+    Ok(None)
 }
 
 #[test]
 fn a_person_has_a_session(rt: HostRuntime) -> Result<(), Fail> {
     let mut server = new_server(rt.alloc())?;
-    none_is_wrong(begins(rt.alloc(), &mut server))?;
-    none_is_wrong(goes_on(rt.alloc(), &mut server))
+    none_is_wrong(wrong_step(rt.alloc(), &mut server))
 }

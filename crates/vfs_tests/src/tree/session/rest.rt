@@ -3,7 +3,7 @@
 use crate::tree::session::Step;
 
 /// Names that are exchanged, and directories that move.
-pub static FOURTH: [Step; 15] = [
+static FOURTH: [Step; 15] = [
     // In exchange.
     Step {
         why: "in exchange",
@@ -138,7 +138,7 @@ pub static FOURTH: [Step; 15] = [
 ];
 
 /// Extended attributes; names that go.
-pub static FIFTH: [Step; 15] = [
+static FIFTH: [Step; 15] = [
     // Another is not.
     Step {
         why: "another is not",
@@ -270,7 +270,7 @@ pub static FIFTH: [Step; 15] = [
 ];
 
 /// What is full, and what is gone.
-pub static SIXTH: [Step; 12] = [
+static SIXTH: [Step; 12] = [
     // As much as a file has at most.
     Step {
         why: "as much as a file has at most",
@@ -388,3 +388,18 @@ pub static SIXTH: [Step; 12] = [
         says: &[],
     },
 ];
+
+/// The session's fourth part.
+pub fn fourth() -> &'static [Step] {
+    &FOURTH
+}
+
+/// The session's fifth part.
+pub fn fifth() -> &'static [Step] {
+    &FIFTH
+}
+
+/// The session's sixth part.
+pub fn sixth() -> &'static [Step] {
+    &SIXTH
+}
