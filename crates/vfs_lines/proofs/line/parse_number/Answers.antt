@@ -23,3 +23,9 @@ overflow_add-number c =
 
 pub returns : goal.returns
 returns c = grind (arith, common_steps)
+
+pub loop-byte-preserved : goal.loop-byte-preserved
+loop-byte-preserved c = grind (arith, common_steps)
+
+pub returns-then-not-is_ascii_digit : goal.returns-then-not-is_ascii_digit
+returns-then-not-is_ascii_digit c = grind (arith, common_steps)
