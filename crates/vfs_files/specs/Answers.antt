@@ -8,7 +8,6 @@ use Rattle.vfs_flags.specs.declared.open_options.OpenOptions.{OpenOptions}
 use Rattle.vfs_wire.specs.Fields.{Fit}
 use Rattle.vfs_wire.specs.Attributes.{attr, attr_out}
 use Rattle.vfs_wire.specs.Entries.{entry_out}
-use Rattle.vfs_wire_more.specs.Files.{open_out}
 use Rattle.vfs_wire.specs.Listings.{kstatfs}
 use Rattle.vfs_wire.specs.Stat.{kstatfs_of}
 use Rattle.vfs_wire.specs.declared.attributes.Attr.{Attr}
@@ -190,9 +189,9 @@ FitsAttributes attributes timeout =
     (whole_seconds timeout ∷ nanoseconds_beyond timeout ∷ 0 ∷ attr.fields attributes)
 
 -- a handle's number, or 0 where there is no handle, and the bits of how to use it are within their
--- widths in the reply
+-- widths in the reply, of 8 and 4 bytes; 4 bytes behind them are padding
 abbrev pub FitsOpening : Option ℕ → ℕ → Type 0
-FitsOpening handle options = Fit open_out.widths (unwrap_or handle 0 ∷ options ∷ 0 ∷ [])
+FitsOpening handle options = Fit (8 ∷ 4 ∷ 4 ∷ []) (unwrap_or handle 0 ∷ options ∷ 0 ∷ [])
 
 -- each number of what a file system holds is within its width in the reply
 abbrev pub FitsStatistics : Statvfs64 → Type 0
