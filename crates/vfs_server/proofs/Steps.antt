@@ -21,8 +21,10 @@ use Rattle.vfs_grammar.specs.Turn.{Turn, Witness, Follows, IsTurn, IsTurnWithMem
 use Rattle.vfs_grammar.specs.declared.limits.Limits.{Limits}
 use Rattle.vfs_grammar.specs.declared.error.Error.{Error}
 use Rattle.vfs_grammar.specs.declared.error.Error.TheVariants.{DecodeMessage, OutOfMemory}
-use Rattle.vfs_server.specs.Memory.{MayWantBehind}
-use Rattle.vfs_server.specs.Step.{ServerState, Handles, IsStep, ReadsDirectories, server_tells, turn_over}
+use Rattle.vfs_handlers.specs.Memory.{MayWantBehind}
+use Rattle.vfs_handlers.specs.State.{ServerState}
+use Rattle.vfs_handlers.specs.Handling.{Handles, server_tells}
+use Rattle.vfs_server.specs.Step.{IsStep, ReadsDirectories, turn_over}
 
 -- what came back through a writer, as a reader of the room's bytes sees it
 pub record Came (reply : Reply) (old : Written) (outcome : Result ℕ Error) (new : Written) : Type 0 where

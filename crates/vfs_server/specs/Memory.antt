@@ -1,5 +1,6 @@
--- Which requests want memory, by the pieces of memory in which their bytes lie.
-use Rattle.std.specs.Prelude.{◌⊎◌, ◌+◌, ◌-◌, ℕ, List, Option, Some, None, IsTrue, IsFalse}
+-- Which requests want memory, as a transport sees it: by the pieces of memory in which their bytes
+-- lie.
+use Rattle.std.specs.Prelude.{◌+◌, ◌-◌, ℕ, Option, Some, None, IsTrue, IsFalse}
 use Rattle.vfs_flags.specs.Flags.{security_ctx}
 use Rattle.vfs_flags.specs.Opcode.{opcode_of}
 use Rattle.vfs_flags.specs.declared.opcode.Opcode.{Opcode}
@@ -8,13 +9,11 @@ use Rattle.vfs_wire.specs.declared.headers.InHeader.{InHeader}
 use Rattle.vfs_segments.specs.Lengths.{lengths_from}
 use Rattle.vfs_segments.specs.Unread.{Unread, are_together}
 use Rattle.vfs_grammar.specs.Ask.{form_of, header_of}
-use Rattle.vfs_messages.specs.Parts.{MayHoldContext, TailIsCut, pieces_behind}
 use Rattle.vfs_grammar.specs.Extensions.{has_option}
 use Rattle.vfs_grammar.specs.Forms.{Layout, layout_size, MemoryUse, ForNothing, ForTail, ForTailAndContext, ForPairs, memory_use}
 use Rattle.vfs_grammar.specs.Records.{size_of}
 use Rattle.vfs_grammar.specs.declared.limits.Limits.{Limits}
-
--- ---- as a transport sees it
+use Rattle.vfs_handlers.specs.Memory.{MayWantBehind}
 
 -- of a request that a reader has left: the tail behind a record of this layout is all there, and
 -- lies in one segment
@@ -44,26 +43,7 @@ abbrev pub WantsNoMemory : Limits → (options space : ℕ) → Unread → Type 
 WantsNoMemory limits options space u =
     WantsNoneBehind limits options space (opcode_of (header_of u.left).opcode) (header_of u.left) u
 
--- ---- as a handler says it
-
--- memory may be wanted for a request, where the bytes behind its header lie in these pieces: for a
--- tail that is cut, for a context, or for pairs
-abbrev pub MayWantFor : InHeader → (pieces : List ℕ) → MemoryUse → Type 0
-MayWantFor h pieces ForNothing = ⊥
-MayWantFor h pieces (ForTail layout) =
-    TailIsCut h (layout_size layout) (pieces_behind layout pieces)
-MayWantFor h pieces (ForTailAndContext layout options) =
-    TailIsCut h (layout_size layout) (pieces_behind layout pieces) ⊎ MayHoldContext options
-MayWantFor h pieces (ForPairs layout above count) = Unit {0}
-
--- the same by the opcode
-abbrev pub MayWantBehind : Limits → (options space : ℕ) → Option Opcode → InHeader
-    → (pieces : List ℕ) → Type 0
-MayWantBehind limits options space None h pieces = ⊥
-MayWantBehind limits options space (Some opcode) h pieces =
-    MayWantFor h pieces (memory_use (form_of limits options space h opcode))
-
--- the same of the request that a reader has left
+-- memory may be wanted for the request that a reader has left
 abbrev pub MayWant : Limits → (options space : ℕ) → Unread → Type 0
 MayWant limits options space u =
     MayWantBehind limits options space (opcode_of (header_of u.left).opcode) (header_of u.left)

@@ -1,44 +1,34 @@
-//! The server: it decodes one request, makes its call of the file system, and puts the reply into
-//! the writer's room. The handlers of the opcodes stand in files by subject.
+//! The server: it reads a request's header, and has the request handled by its opcode: its call of
+//! the file system is made, and the reply put into the writer's room. The handlers stand in
+//! `vfs_handlers`.
 
-mod attributes;
-mod contents;
-mod directories;
-mod files;
-mod locks;
 mod migration;
-mod names;
-mod request;
-mod session;
-mod xattrs;
 
 ghost use Rattle.std.specs.Prelude.{◌≡◌, ◌≢◌, ◌≤◌, length, vec_len, Err};
 ghost use Rattle.std.specs.Borrow.{sem};
 ghost use Rattle.vfs_flags.specs.Flags.{fs_options_bits};
-ghost use Rattle.vfs_flags.specs.Opcode.{opcode_of};
 ghost use Rattle.vfs_flags.specs.declared.constants.TheConstants.{LEAST_MAX_BUFFER, GREATEST_MAX_BUFFER};
 ghost use Rattle.vfs_segments.specs.Written.{held_over};
 ghost use Rattle.vfs_files.specs.Calls.{Destroy};
 ghost use Rattle.vfs_files.specs.Answers.{Plain, Done};
-ghost use Rattle.vfs_grammar.specs.Ask.{ask_header};
 ghost use Rattle.vfs_grammar.specs.declared.error.Error.{Error};
 ghost use Rattle.vfs_server.specs.Lending.{LendsFs};
-ghost use Rattle.vfs_server.specs.Memory.{MayWant, MayWantBehind, WantsNoMemory};
+ghost use Rattle.vfs_server.specs.Memory.{MayWant, WantsNoMemory};
 ghost use Rattle.vfs_server.specs.Session.{IsSession};
-ghost use Rattle.vfs_server.specs.Step.{IsStep, ReadsDirectories, Handles, Serves};
+ghost use Rattle.vfs_server.specs.Step.{IsStep, ReadsDirectories};
 
-use crate::server::request::Request;
 use bitflags::Flags;
 use std::alloc::Global;
 use std::marker::Model;
 use vfs_files::FileSystem;
 use vfs_files::laws::runs_join;
-use vfs_flags::{DEFAULT_MAX_BUFFER, Errno, FsOptions, Opcode};
+use vfs_flags::{DEFAULT_MAX_BUFFER, FsOptions};
 use vfs_grammar::{Limits, Result};
+use vfs_handlers::{Request, Session};
 use vfs_laws::books::turns_keep_books;
 use vfs_laws::turns::{directories_are_read, memory_is_wanted_for_copies};
 pub use vfs_listings::add_dirent;
-use vfs_messages::{read_record, reply_failed, reply_fault};
+use vfs_messages::read_record;
 pub use vfs_messages::{
     get_extensions, parse_security_context, parse_sup_groups, reply_error, reply_ok, reply_readdir,
 };
@@ -52,25 +42,15 @@ use vfs_wire::InHeader;
 /// Contracts see the agreed options, the limits, and the state of the file system.
 #[derive(Drop)]
 pub struct Server<F> {
-    fs: F,
-    options: FsOptions,
-    limits: Limits,
+    session: Session<F>,
 }
 
 impl<F> Model for Server<F> {
-    ghost use Rattle.vfs_flags.specs.Flags.{fs_options_bits};
-    ghost use Rattle.vfs_grammar.specs.Limits.{AreLimits};
     ghost use Rattle.vfs_server.specs.Step.{ServerState};
 
     ghost Value = { ServerState F };
 
-    ghost view = { λ s. record {
-      options = fs_options_bits s.options;
-      limits = s.limits;
-      fs = s.fs;
-    } };
-
-    ghost invariant = { λ s. AreLimits s.limits };
+    ghost view = { λ s. s.session };
 }
 
 impl<F> Server<F> {
@@ -103,12 +83,15 @@ impl<F> Server<F> {
           fs = fs;
         } }
     {
+        let limits = Limits {
+            page_size,
+            max_buffer,
+        };
         Server {
-            fs,
-            options: FsOptions::empty(),
-            limits: Limits {
-                page_size,
-                max_buffer,
+            session: Session {
+                fs,
+                options: FsOptions::empty(),
+                limits,
             },
         }
     }
@@ -117,21 +100,21 @@ impl<F> Server<F> {
     pub fn max_buffer(&self) -> u32
         ensures { result ≡ self.now.limits.max_buffer }
     {
-        self.limits.max_buffer
+        self.session.limits.max_buffer
     }
 
     /// The options that the last accepted INIT agreed on; none before, and none after a DESTROY.
     pub fn options(&self) -> FsOptions
         ensures { fs_options_bits result ≡ self.now.options }
     {
-        self.options
+        self.session.options
     }
 
     /// The file system.
     pub fn fs(&self) -> &F
         ensures { result.now ≡ self.now.fs }
     {
-        &self.fs
+        &self.session.fs
     }
 
     /// The file system, to be changed between requests: what a client does not see of it, as what time
@@ -140,18 +123,18 @@ impl<F> Server<F> {
         ensures* writes_back { sem 𝓛 (LendsFs F.row self.entry result) }
         ensures value { result.now ≡ self.old.fs }
     {
-        &mut self.fs
+        &mut self.session.fs
     }
 
     /// The file system, of a server that is no longer wanted.
     pub fn into_fs(self) -> F
         ensures { result ≡ self.fs }
     {
-        let Server {
+        let Session {
             fs,
             options: _,
             limits: _,
-        } = self;
+        } = self.session;
         fs
     }
 }
@@ -172,9 +155,7 @@ impl<F: FileSystem> Server<F> {
         ensures same_limits { self.new.limits ≡ self.old.limits }
         ensures length { result ≡ 0 }
     {
-        self.fs.destroy();
-        self.options = FsOptions::empty();
-        0
+        self.session.destroy()
     }
 
     /// Handles one request: reads it from `r`, makes its call, and puts the reply into the room
@@ -259,89 +240,9 @@ impl<F: FileSystem> Server<F> {
         match read_record::<InHeader>(r) {
             Ok(header) => {
                 let header = &header;
-                self.handle_header(Request { alloc, header, r }, w)
+                self.session.handle_header(Request { alloc, header, r }, w)
             }
             Err(error) => Err(error),
-        }
-    }
-
-    /// Handles a request by its header: a `len` above the limit and an unknown opcode are replied
-    /// here.
-    fn handle_header(&mut self, q: Request<'_, '_>, w: &mut Writer) -> Result<usize>
-        ensures { let header = q.entry.header.now in
-            let reader = q.entry.r.now in
-            Handles F.allows F.DirIter.gives
-            (MayWantBehind self.old.limits self.old.options (length w.old.left)
-            (opcode_of header.opcode) header reader.pieces)
-            (ask_header self.old.limits self.old.options (length w.old.left) header reader.left)
-            self.old w.old result w.new self.new }
-    {
-        if q.header.len > self.limits.max_len() {
-            return reply_failed(Some(Errno::ENOMEM), q.header.unique, w);
-        }
-        match Opcode::try_from(q.header.opcode) {
-            Ok(opcode) => self.dispatch(opcode, q, w),
-            Err(()) => reply_failed(Some(Errno::ENOSYS), q.header.unique, w),
-        }
-    }
-
-    /// Handles a request by its opcode. Where no handler is named, no record is looked at, and of BMAP,
-    /// IOCTL, POLL and NOTIFY_REPLY a fault alone is replied.
-    fn dispatch(&mut self, opcode: Opcode, q: Request<'_, '_>, w: &mut Writer) -> Result<usize>
-        ensures { Serves F.allows F.DirIter.gives opcode q.entry
-            self.old w.old result w.new self.new }
-    {
-        match opcode {
-            Opcode::Lookup => self.lookup(q, w),
-            Opcode::Forget => self.forget(q, w),
-            Opcode::Getattr => self.getattr(q, w),
-            Opcode::Setattr => self.setattr(q, w),
-            Opcode::Readlink => self.readlink(q, w),
-            Opcode::Symlink => self.symlink(q, w),
-            Opcode::Mknod => self.mknod(q, w),
-            Opcode::Mkdir => self.mkdir(q, w),
-            Opcode::Unlink => self.unlink(q, w),
-            Opcode::Rmdir => self.rmdir(q, w),
-            Opcode::Rename => self.rename(q, w),
-            Opcode::Link => self.link(q, w),
-            Opcode::Open => self.open(q, w),
-            Opcode::Read => self.read(q, w),
-            Opcode::Write => self.write(q, w),
-            Opcode::Statfs => self.statfs(q, w),
-            Opcode::Release => self.release(q, w),
-            Opcode::Fsync => self.fsync(q, w),
-            Opcode::Setxattr => self.setxattr(q, w),
-            Opcode::Getxattr => self.getxattr(q, w),
-            Opcode::Listxattr => self.listxattr(q, w),
-            Opcode::Removexattr => self.removexattr(q, w),
-            Opcode::Flush => self.flush(q, w),
-            Opcode::Init => self.init(q, w),
-            Opcode::Opendir => self.opendir(q, w),
-            Opcode::Readdir => self.list(q, false, w),
-            Opcode::Releasedir => self.releasedir(q, w),
-            Opcode::Fsyncdir => self.fsyncdir(q, w),
-            Opcode::Getlk => self.getlk(q, w),
-            Opcode::Setlk => self.setlk(q, w),
-            Opcode::Setlkw => self.setlkw(q, w),
-            Opcode::Access => self.access(q, w),
-            Opcode::Create => self.create(q, w),
-            Opcode::Interrupt => Ok(0),
-            Opcode::Bmap => reply_fault(self.fs.bmap(), q.header.unique, w),
-            Opcode::Destroy => Ok(self.destroy()),
-            Opcode::Ioctl => reply_fault(self.fs.ioctl(), q.header.unique, w),
-            Opcode::Poll => reply_fault(self.fs.poll(), q.header.unique, w),
-            Opcode::NotifyReply => reply_fault(self.fs.notify_reply(), q.header.unique, w),
-            Opcode::BatchForget => self.batch_forget(q, w),
-            Opcode::Fallocate => self.fallocate(q, w),
-            Opcode::Readdirplus => self.list(q, true, w),
-            Opcode::Rename2 => self.rename2(q, w),
-            Opcode::Lseek => self.lseek(q, w),
-            Opcode::CopyFileRange => self.copyfilerange(q, w),
-            Opcode::Syncfs => self.syncfs(q, w),
-            Opcode::TmpFile => self.tmpfile(q, w),
-            Opcode::SetupMapping | Opcode::RemoveMapping => {
-                reply_failed(Some(Errno::ENOSYS), q.header.unique, w)
-            }
         }
     }
 }

@@ -11,14 +11,14 @@ impl<F: SerializableFileSystem> SerializableFileSystem for Server<F> {
     ghost migrates = { migrates_over F.migrates };
 
     fn prepare_serialization(&mut self, cancel: bool) {
-        self.fs.prepare_serialization(cancel)
+        self.session.fs.prepare_serialization(cancel)
     }
 
     fn serialize<W: io::Write>(&mut self, w: &mut W) -> Result<(), MigrateError> {
-        self.fs.serialize(w)
+        self.session.fs.serialize(w)
     }
 
     fn deserialize_and_apply<R: io::Read>(&mut self, r: &mut R) -> Result<(), MigrateError> {
-        self.fs.deserialize_and_apply(r)
+        self.session.fs.deserialize_and_apply(r)
     }
 }

@@ -1,0 +1,26 @@
+-- Which requests may want memory, as a handler says it: by the pieces of memory in which the bytes
+-- behind their headers lie.
+use Rattle.std.specs.Prelude.{◌⊎◌, ℕ, List, Option, Some, None}
+use Rattle.vfs_flags.specs.declared.opcode.Opcode.{Opcode}
+use Rattle.vfs_wire.specs.declared.headers.InHeader.{InHeader}
+use Rattle.vfs_grammar.specs.Ask.{form_of}
+use Rattle.vfs_grammar.specs.Forms.{layout_size, MemoryUse, ForNothing, ForTail, ForTailAndContext, ForPairs, memory_use}
+use Rattle.vfs_grammar.specs.declared.limits.Limits.{Limits}
+use Rattle.vfs_messages.specs.Parts.{MayHoldContext, TailIsCut, pieces_behind}
+
+-- memory may be wanted for a request, where the bytes behind its header lie in these pieces: for a
+-- tail that is cut, for a context, or for pairs
+abbrev pub MayWantFor : InHeader → (pieces : List ℕ) → MemoryUse → Type 0
+MayWantFor h pieces ForNothing = ⊥
+MayWantFor h pieces (ForTail layout) =
+    TailIsCut h (layout_size layout) (pieces_behind layout pieces)
+MayWantFor h pieces (ForTailAndContext layout options) =
+    TailIsCut h (layout_size layout) (pieces_behind layout pieces) ⊎ MayHoldContext options
+MayWantFor h pieces (ForPairs layout above count) = Unit {0}
+
+-- the same by the opcode
+abbrev pub MayWantBehind : Limits → (options space : ℕ) → Option Opcode → InHeader
+    → (pieces : List ℕ) → Type 0
+MayWantBehind limits options space None h pieces = ⊥
+MayWantBehind limits options space (Some opcode) h pieces =
+    MayWantFor h pieces (memory_use (form_of limits options space h opcode))
