@@ -14,7 +14,7 @@ use vfs_files::{CStr, CString, copy_of};
 use vfs_flags::{Errno, Fault};
 
 /// Where a name leads.
-#[derive(Clone, Copy, Debug, PartialEq, Eq)]
+#[derive(Clone, Copy)]
 pub(crate) struct Child {
     /// The number of the node.
     pub(crate) node: u64,
@@ -23,7 +23,7 @@ pub(crate) struct Child {
 }
 
 /// A name in a directory.
-#[derive(Debug, Drop)]
+#[derive(Drop)]
 pub(crate) struct Link {
     pub(crate) name: CString,
     pub(crate) child: Child,
@@ -38,7 +38,7 @@ impl Model for Link {
 }
 
 /// The names of a directory, by their places, and the place of each by its name.
-#[derive(Debug, Drop)]
+#[derive(Drop)]
 pub(crate) struct Children {
     links: BTreeMap<u64, Link>,
     places: BTreeMap<Vec<u8>, u64>,

@@ -11,7 +11,7 @@ use vfs_files::{ZeroCopyReader, ZeroCopyWriter, copy_of, read_bytes, write_bytes
 use vfs_flags::{Errno, Fault};
 
 /// Bytes in memory.
-#[derive(Debug, Drop)]
+#[derive(Drop)]
 pub(crate) struct Contents {
     bytes: Vec<u8>,
 }

@@ -20,6 +20,7 @@ use crate::naming::{add_name, directory};
 use crate::node::{Node, Time};
 use std::alloc::Global;
 use std::collections::BTreeMap;
+use std::fmt::{self, Debug, Formatter};
 use std::marker::Model;
 use vfs_files::{CStr, Context, Entry};
 use vfs_flags::{Errno, Fault, GuestGid, GuestUid, ROOT_ID};
@@ -40,7 +41,7 @@ pub struct Limits {
 ///
 /// What may be done by whom it leaves to the guest's kernel (the mount option
 /// `default_permissions`).
-#[derive(Debug, Drop)]
+#[derive(Drop)]
 pub struct TreeFs {
     pub(crate) alloc: Global,
     pub(crate) nodes: BTreeMap<u64, Node>,
@@ -67,6 +68,16 @@ impl Model for TreeFs {
     } };
 
     ghost invariant = { λ fs. (n : ℕ) → fs.next ≤ n → get nat_cmp fs.nodes n ≡ None };
+}
+
+/// Shows its limits, and how many nodes it holds.
+impl Debug for TreeFs {
+    fn fmt<W: fmt::Write>(&self, f: &mut Formatter<W>) -> fmt::Result {
+        f.debug_struct("TreeFs")
+            .field("limits", &self.limits)
+            .field("nodes", &self.nodes.len())
+            .finish_non_exhaustive()
+    }
 }
 
 impl TreeFs {

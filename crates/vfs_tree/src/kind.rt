@@ -5,7 +5,7 @@ ghost use Rattle.vfs_tree.specs.Children.{is_directory, is_file, is_link};
 ghost use Rattle.vfs_tree.specs.Node.{kind_bits, type_of};
 
 /// What a node is.
-#[derive(Clone, Copy, Debug, PartialEq, Eq)]
+#[derive(Clone, Copy)]
 pub(crate) enum Kind {
     /// A directory.
     Directory,

@@ -33,7 +33,7 @@ pub struct Time {
 }
 
 /// A node.
-#[derive(Debug, Drop)]
+#[derive(Drop)]
 pub(crate) struct Node {
     /// What it is.
     pub(crate) kind: Kind,

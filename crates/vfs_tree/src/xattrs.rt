@@ -14,7 +14,7 @@ use vfs_flags::{Errno, Fault};
 pub(crate) const MOST_BYTES: u64 = 65_536;
 
 /// An extended attribute.
-#[derive(Debug, Drop)]
+#[derive(Drop)]
 pub(crate) struct Xattr {
     name: CString,
     value: Vec<u8>,
@@ -29,7 +29,7 @@ impl Model for Xattr {
 }
 
 /// The extended attributes of a node, in the order in which they were set.
-#[derive(Debug, Drop)]
+#[derive(Drop)]
 pub(crate) struct Xattrs {
     list: Vec<Xattr>,
     bytes: u64,
