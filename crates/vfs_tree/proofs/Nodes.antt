@@ -3,11 +3,11 @@ use Rattle.std.proofs.Common.{◌≡◌, ◌≢◌, ℕ, true, false, List, Opti
 use Rattle.std.proofs.lemmas.Cmp.{nat_cmp_total}
 use Rattle.std.proofs.lemmas.Map.Lookups.{exact_unsigned}
 use Rattle.std.specs.BTreeMap.{insert_entry, is_at}
-use Rattle.std.specs.Map.{lookup, set_value, remove_entry}
-use Rattle.vfs_tree.specs.Children.{Children}
+use Rattle.std.specs.Map.{lookup, remove_entry}
+use Rattle.vfs_nodes.specs.Children.{Children}
+use Rattle.vfs_nodes.specs.declared.node.Node.{Node}
 use Rattle.vfs_tree.specs.Rename.{is_directory_at}
 use Rattle.vfs_tree.specs.State.{State, node_at, with_node, with_new, without_node, changed, change, with_names}
-use Rattle.vfs_tree.specs.declared.node.Node.{Node}
 use Rattle.vfs_tree.proofs.Entries.{lookup-set_value_none, lookup-set_value_apart, lookup-remove_entry_apart, lookup-set_value_here, lookup-insert_entry, lookup-insert_entry_apart, remove_entry-insert_entry}
 
 -- ---- numbers

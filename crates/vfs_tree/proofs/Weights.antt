@@ -7,15 +7,15 @@ use Rattle.std.proofs.lemmas.Bool.Decides.{nat_tests}
 use Rattle.vfs_wire.specs.declared.attributes.SetattrIn.{SetattrIn}
 use Rattle.vfs_files.specs.Bytes.{fitting, written}
 use Rattle.vfs_files.specs.WritingLaws.{length-Writes}
-use Rattle.vfs_tree.specs.Bytes.{resized}
-use Rattle.vfs_tree.specs.Node.{weight}
+use Rattle.vfs_nodes.specs.Bytes.{resized}
+use Rattle.vfs_nodes.specs.Node.{weight, set_attr, overwritten}
+use Rattle.vfs_nodes.specs.Writing.{Overwrites}
+use Rattle.vfs_nodes.specs.declared.node.Node.{Node}
+use Rattle.vfs_nodes.specs.declared.node.Time.{Time}
+use Rattle.vfs_nodes.specs.Xattrs.{Xattr, bytes_of, is_called, xattr_bytes, without_place, without_xattr}
 use Rattle.vfs_tree.specs.Outcome.{or_else, refusal_of}
 use Rattle.vfs_tree.specs.State.{State, node_at, room_of}
-use Rattle.vfs_tree.specs.Tree.{setattr_refusal, size_refusal, contents_refusal, set_attr, overwritten, most_size}
-use Rattle.vfs_tree.specs.Writing.{Overwrites}
-use Rattle.vfs_tree.specs.declared.node.Node.{Node}
-use Rattle.vfs_tree.specs.declared.node.Time.{Time}
-use Rattle.vfs_tree.specs.Xattrs.{Xattr, bytes_of, is_called, xattr_bytes, without_place, without_xattr}
+use Rattle.vfs_tree.specs.Tree.{setattr_refusal, size_refusal, contents_refusal, most_size}
 
 -- contents of another size have this size
 pub length-resized : (bytes : List ℕ) (size : ℕ) → length (resized bytes size) ≡ size

@@ -1,10 +1,9 @@
-pub mod Bytes
-pub mod Children
-pub mod Index
-pub mod Node
+pub use Rattle.vfs_nodes.specs.Bytes
+pub use Rattle.vfs_nodes.specs.Children
+pub use Rattle.vfs_nodes.specs.Listing
+pub use Rattle.vfs_nodes.specs.Node
+pub use Rattle.vfs_nodes.specs.Xattrs
 pub mod Outcome
 pub mod Rename
 pub mod State
 pub mod Tree
-pub mod Writing
-pub mod Xattrs

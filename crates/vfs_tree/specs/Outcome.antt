@@ -3,9 +3,9 @@ use Rattle.std.specs.Prelude.{◌≡◌, ℕ, Bool, List, [], ◌∷◌, IsTrue,
 use Rattle.vfs_flags.specs.Errors.{enoent, enomem}
 use Rattle.vfs_files.specs.Items.{Item}
 use Rattle.vfs_files.specs.Calls.{Answer, Done, Failed, Found, Created, Attributes, Handed, Plain, Iterator}
-use Rattle.vfs_tree.specs.Node.{attr_of, IsSecond, IsEntryOf}
+use Rattle.vfs_nodes.specs.Node.{attr_of, IsSecond, IsEntryOf}
+use Rattle.vfs_nodes.specs.declared.node.Node.{Node}
 use Rattle.vfs_tree.specs.State.{State}
-use Rattle.vfs_tree.specs.declared.node.Node.{Node}
 
 -- what is answered: just this, the entry or the attributes of a node, or what a directory holds
 pub data Reply : Type 0 where

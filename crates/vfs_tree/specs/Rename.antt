@@ -1,13 +1,13 @@
 -- What RENAME does, in steps, each from the state that the one before it left: so the two directories may
 -- be one.
-use Rattle.std.specs.Prelude.{◌≡◌, ℕ, zero, suc, ◌^◌, ◌-◌, ◌==◌, ◌&&◌, ◌||◌, nat_lt, not, Bool, true, false, List, [], ◌∷◌, length, Option, Some, None, is_some, is_none, if◌then◌else◌}
+use Rattle.std.specs.Prelude.{ℕ, zero, suc, ◌^◌, ◌-◌, ◌==◌, ◌&&◌, ◌||◌, nat_lt, not, Bool, true, false, List, [], ◌∷◌, length, Option, Some, None, is_some, is_none, if◌then◌else◌}
 use Rattle.vfs_flags.specs.Errors.{enoent, eexist, enotdir, eisdir, enospc, enotempty, einval}
-use Rattle.vfs_tree.specs.Children.{is_directory, with_child, without_child, with_other_child}
+use Rattle.vfs_nodes.specs.Children.{is_directory, with_child, without_child, with_other_child}
 use Rattle.vfs_files.specs.Calls.{Done}
+use Rattle.vfs_nodes.specs.declared.children.Child.{Child}
+use Rattle.vfs_nodes.specs.declared.node.Node.{Node}
 use Rattle.vfs_tree.specs.Outcome.{Just, Outcome, Tried, first_of, or_else, unless}
 use Rattle.vfs_tree.specs.State.{State, node_at, count_of, change, with_names, unnamed, child_at, node_of}
-use Rattle.vfs_tree.specs.declared.children.Child.{Child}
-use Rattle.vfs_tree.specs.declared.node.Node.{Node}
 
 -- names have at most 255 bytes
 abbrev pub enametoolong : ℕ

@@ -3,12 +3,12 @@ use Rattle.std.specs.Prelude.{ℕ, ◌+◌, ◌-◌, ◌==◌, ◌&&◌, List, l
 use Rattle.std.specs.Ordering.{nat_cmp}
 use Rattle.std.specs.Map.{lookup, set_value, remove_entry}
 use Rattle.std.specs.BTreeMap.{insert_entry, is_at}
-use Rattle.vfs_tree.specs.Children.{Children, child_named}
-use Rattle.vfs_tree.specs.Node.{weight}
-use Rattle.vfs_tree.specs.declared.children.Child.{Child}
+use Rattle.vfs_nodes.specs.Children.{Children, child_named}
+use Rattle.vfs_nodes.specs.Node.{weight}
+use Rattle.vfs_nodes.specs.declared.children.Child.{Child}
+use Rattle.vfs_nodes.specs.declared.node.Node.{Node}
+use Rattle.vfs_nodes.specs.declared.node.Time.{Time}
 use Rattle.vfs_tree.specs.declared.fs.Limits.{Limits}
-use Rattle.vfs_tree.specs.declared.node.Node.{Node}
-use Rattle.vfs_tree.specs.declared.node.Time.{Time}
 
 -- the nodes in order of their numbers, the number of the next one, how many bytes the nodes take, how
 -- much there may be at most, and the time

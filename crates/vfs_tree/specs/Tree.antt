@@ -1,27 +1,26 @@
 -- How each call ends.
-use Rattle.std.specs.Prelude.{ℕ, ◌==◌, ◌+◌, ◌-◌, ◌/◌, ◌^◌, ◌||◌, ◌&&◌, nat_le, nat_lt, not, min, max, Bool, true, List, [], ◌∷◌, ◌++◌, length, map, take, codes, bit_and, Option, Some, None, is_some, is_none, if◌then◌else◌}
-use Rattle.std.specs.List.{filter}
+use Rattle.std.specs.Prelude.{ℕ, ◌==◌, ◌+◌, ◌-◌, ◌/◌, ◌^◌, ◌||◌, ◌&&◌, nat_le, nat_lt, not, min, max, Bool, true, List, [], ◌∷◌, length, take, bit_and, Option, Some, None, is_some, is_none, if◌then◌else◌}
 use Rattle.vfs_flags.specs.Errors.{eperm, enoent, eexist, enotdir, eisdir, einval, enospc, erange, enotempty, enodata, eoverflow, eopnotsupp}
 use Rattle.vfs_wire.specs.declared.attributes.SetattrIn.{SetattrIn}
 use Rattle.vfs_wire.specs.declared.stat.Statvfs64.{Statvfs64}
 use Rattle.vfs_files.specs.declared.entry.Context.{Context}
 use Rattle.vfs_files.specs.Items.{Item}
-use Rattle.vfs_files.specs.Bytes.{part_of, most_put, fitting, written}
+use Rattle.vfs_files.specs.Bytes.{part_of, most_put, fitting}
 use Rattle.vfs_files.specs.Calls.{Call, Init, Lookup, Forget, BatchForget, Getattr, Setattr, Symlink, Readlink, Open, Unlink, Rmdir, Rename, Link, Mknod, Mkdir, Create, Read, Write, Fallocate, Statfs, Readdir, Setxattr, Getxattr, Listxattr, Removexattr, Fsync, Flush, Release, Fsyncdir, Releasedir, Options, Text, Count, Put, Wrote, Done, Statistics, Handed, default_answer, default_opening}
-use Rattle.vfs_tree.specs.Bytes.{resized}
-use Rattle.vfs_tree.specs.Children.{Children, no_children, with_child, without_child, is_directory, is_file, is_link}
-use Rattle.vfs_tree.specs.Children as children
-use Rattle.vfs_tree.specs.Node.{type_of}
+use Rattle.vfs_nodes.specs.Bytes.{resized}
+use Rattle.vfs_nodes.specs.Children.{with_child, without_child, is_directory, is_file, is_link}
+use Rattle.vfs_nodes.specs.Listing.{items_behind}
+use Rattle.vfs_nodes.specs.Node.{new_node, set_attr, opened, overwritten}
+use Rattle.vfs_nodes.specs.Xattrs.{Xattr, xattr_named, xattr_bytes, with_xattr, without_xattr, name_list}
+use Rattle.vfs_nodes.specs.declared.children.Child.{Child}
+use Rattle.vfs_nodes.specs.declared.kind.Kind.{Kind}
+use Rattle.vfs_nodes.specs.declared.kind.Kind.TheVariants as kind
+use Rattle.vfs_nodes.specs.declared.node.Node.{Node}
+use Rattle.vfs_nodes.specs.declared.node.Time.{Time}
 use Rattle.vfs_tree.specs.Outcome.{Just, EntryOf, AttrOf, Listed, Outcome, Refused, Answered, Tried, Ends, done, first_of, or_else, unless, with_it, on}
 use Rattle.vfs_tree.specs.Rename.{directory_refusal, is_nameless, is_crowded, renames}
 use Rattle.vfs_tree.specs.State.{State, node_at, count_of, room_of, with_node, with_resized, with_new, settled, change, with_names, unnamed, child_at, node_named}
-use Rattle.vfs_tree.specs.Xattrs.{Xattr, xattr_named, xattr_bytes, with_xattr, without_xattr, name_list}
-use Rattle.vfs_tree.specs.declared.children.Child.{Child}
 use Rattle.vfs_tree.specs.declared.fs.Limits.{Limits}
-use Rattle.vfs_tree.specs.declared.kind.Kind.{Kind}
-use Rattle.vfs_tree.specs.declared.kind.Kind.TheVariants as kind
-use Rattle.vfs_tree.specs.declared.node.Node.{Node}
-use Rattle.vfs_tree.specs.declared.node.Time.{Time}
 
 -- the most bytes that a node's extended attributes take, and the most names that lead to a file
 abbrev pub most_xattr_bytes : ℕ
@@ -40,25 +39,6 @@ abbrev pub enodev : ℕ
 enodev = 19
 
 -- ---- new nodes
-
--- a new node of this owner: of one name, held by one lookup, and made now
-abbrev pub new_node :
-    (now : Time) → (uid gid : ℕ) → Kind → (permissions parent : ℕ) → (contents : List ℕ) → Node
-new_node now uid gid kind permissions parent contents = record {
-  kind = kind;
-  permissions = permissions;
-  uid = uid;
-  gid = gid;
-  atime = now;
-  mtime = now;
-  ctime = now;
-  parent = parent;
-  children = no_children;
-  contents = contents;
-  xattrs = [];
-  names = 1;
-  lookups = 1;
-}
 
 -- a new file system: the root alone, a directory of this owner
 abbrev pub root_node : (uid gid : ℕ) → Time → Node
@@ -173,35 +153,10 @@ setattr_refusal s attr valid node =
     then or_else (contents_refusal node) (size_refusal s.limits.file (room_of s) node attr.size)
     else None
 
--- the value that a request gives, where its bit is set, or else the old one
-abbrev pub picked : {A : Type 0} → (valid bit : ℕ) → A → A → A
-picked valid bit new old = if bit_and valid bit == bit then new else old
-
--- a node with the attributes that a request sets; its change is now, unless the request says when
-abbrev pub set_attr : (now : Time) → Node → SetattrIn → (valid : ℕ) → Node
-set_attr now node attr valid = record node {
-  contents = picked valid 0x8 (resized node.contents attr.size) node.contents;
-  permissions = picked valid 0x1 attr.mode node.permissions;
-  uid = picked valid 0x2 attr.uid node.uid;
-  gid = picked valid 0x4 attr.gid node.gid;
-  atime = picked valid 0x80 now
-      (picked valid 0x10 (record { seconds = attr.atime; nanoseconds = attr.atimensec }) node.atime);
-  mtime = picked valid 0x100 now
-      (picked valid 0x20 (record { seconds = attr.mtime; nanoseconds = attr.mtimensec })
-      (picked valid 0x8 now node.mtime));
-  ctime = picked valid 0x400 (record { seconds = attr.ctime; nanoseconds = attr.ctimensec }) now;
-}
-
 -- so SETATTR does, or it is refused
 abbrev pub sets_attr : State → (number : ℕ) → SetattrIn → (valid : ℕ) → Outcome
 sets_attr s n attr valid = on (node_at s n) (setattr_refusal s attr valid) (λ node.
     let set = set_attr s.now node attr valid in Tried true (AttrOf n set) (with_resized s n node set))
-
--- a node as it is after it was opened: O_TRUNC takes the bytes of a file
-abbrev pub opened : (now : Time) → Node → (flags : ℕ) → Node
-opened now node flags =
-    if bit_and flags 0o1000 == 0o1000 && is_file node.kind
-    then record node { contents = []; mtime = now; ctime = now } else node
 
 -- why a file can't be made to have place for these bytes
 abbrev pub fallocate_refusal : State → (mode off len : ℕ) → Node → Option ℕ
@@ -232,12 +187,6 @@ write_refusal s off size node =
     (first_of ((nat_lt 0 size && nat_le s.limits.file off, efbig)
     ∷ (nat_lt 0 size && nat_le (most_size s node) off, enospc) ∷ []))
 
--- a file with bytes written over its own from off on; it has not changed where there are none
-abbrev pub overwritten : (now : Time) → Node → (off : ℕ) → List ℕ → Node
-overwritten now node off [] = node
-overwritten now node off (b ∷ bs) =
-    record node { contents = written node.contents off (b ∷ bs); mtime = now; ctime = now }
-
 -- of these bytes those are written that fit; memory is needed where they make the contents longer
 abbrev pub writes : State → (number off : ℕ) → List ℕ → Node → Outcome
 writes s n off bytes node =
@@ -250,26 +199,6 @@ writes s n off bytes node =
 -- whether a node has no text that could be answered
 abbrev pub has_no_text : Node → Bool
 has_no_text node = not (is_link node.kind) || nat_lt (2 ^ 32 - 17) (length node.contents)
-
-abbrev pub link_item : (ℕ × children.Link) → Item
-link_item link =
-    let child = link.1.child in
-    record { ino = child.node; offset = link.0; type_ = type_of child.kind; name = link.1.name }
-
--- a directory itself, and the one above
-abbrev pub dot_items : (number parent : ℕ) → List Item
-dot_items n parent =
-    record { ino = n; offset = 1; type_ = 4; name = codes "." }
-    ∷ record { ino = parent; offset = 2; type_ = 4; name = codes ".." } ∷ []
-
--- what a directory holds: itself, the one above, and its names, each at its place
-abbrev pub items_in : (number : ℕ) → Node → List Item
-items_in n node = dot_items n node.parent ++ map link_item node.children.links
-
--- the items behind an offset, at most as many as so many bytes have place for: a record has 24 and more
-abbrev pub items_behind : (number : ℕ) → Node → (off size : ℕ) → List Item
-items_behind n node off size =
-    take (size / 24 + 1) (filter (λ item. nat_lt off item.offset) (items_in n node))
 
 -- what the file system holds, in blocks of 4096 bytes, and how much more it may
 abbrev pub statistics_of : State → Statvfs64

@@ -8,12 +8,9 @@ ghost use Rattle.vfs_tree.specs.Outcome.{Answered, AttrOf, Ends, with_it};
 ghost use Rattle.vfs_tree.specs.State.{node_at};
 ghost use Rattle.vfs_tree.specs.Tree.{all_forgotten, sets_attr};
 
-use crate::changes::{check_contents, write_into};
+use crate::changes::check_contents;
 use crate::fs::TreeFs;
-use crate::kind::Kind;
-use crate::listing::entries_behind;
 use crate::naming::directory;
-use crate::node::TIMEOUT_SECONDS;
 use bitflags::Flags;
 use std::time::Duration;
 use vfs_files::{
@@ -21,6 +18,7 @@ use vfs_files::{
     ZeroCopyReader, ZeroCopyWriter, defaults,
 };
 use vfs_flags::{Errno, Fault, FsOptions, OpenOptions, SetattrValid, SetxattrFlags};
+use vfs_nodes::{Kind, TIMEOUT_SECONDS, entries_behind};
 use vfs_wire::{Attr, SetattrIn, Statvfs64};
 
 /// The most bytes of a text that is answered: with the 16 of a header they are below 2 ^ 32.
@@ -266,7 +264,7 @@ impl FileSystem for TreeFs {
             unreachable!()
         };
         let before = node.weight();
-        let count = write_into(node, now, r, size, offset, most)?;
+        let count = node.write_from(now, r, size, offset, most)?;
         let after = node.weight();
         self.reweigh(before, after);
         Ok(count)

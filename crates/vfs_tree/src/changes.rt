@@ -1,22 +1,21 @@
 //! Changes of a node: its contents and its extended attributes.
 
-ghost use Rattle.std.specs.Prelude.{◌≡◌, ◌+◌, ℕ, List, length, max, take, IfSome, Some, None, IfOk, IfErr, OnOk};
+ghost use Rattle.std.specs.Prelude.{◌≡◌, ◌+◌, length, max, IfSome, Some, None, IfOk, IfErr, OnOk};
 ghost use Rattle.vfs_flags.specs.Flags.{setattr_valid_bits};
 ghost use Rattle.vfs_files.specs.Names.{name_text};
 ghost use Rattle.vfs_files.specs.Calls.{Plain, KeepsTextShort, done_answer, getxattr_answer, listxattr_answer};
+ghost use Rattle.vfs_nodes.specs.Xattrs.{xattr_named, name_list};
 ghost use Rattle.vfs_tree.specs.Outcome.{Ends, refusal_of, with_it};
 ghost use Rattle.vfs_tree.specs.State.{node_at};
 ghost use Rattle.vfs_tree.specs.Tree.{contents_refusal, size_refusal, setattr_refusal, write_refusal};
 ghost use Rattle.vfs_tree.specs.Tree.{fallocate_refusal, allocates, most_size, setxattr_refusal};
 ghost use Rattle.vfs_tree.specs.Tree.{sets_xattr, removes_xattr, tells};
-ghost use Rattle.vfs_tree.specs.Writing.{Overwrites};
-ghost use Rattle.vfs_tree.specs.Xattrs.{xattr_named, name_list};
 
 use crate::fs::TreeFs;
-use crate::node::{Node, Time};
 use bitflags::Flags;
-use vfs_files::{CStr, GetxattrReply, ListxattrReply, ZeroCopyReader, copy_of};
+use vfs_files::{CStr, GetxattrReply, ListxattrReply, copy_of};
 use vfs_flags::{Errno, Fault, SetattrValid};
+use vfs_nodes::Node;
 use vfs_wire::SetattrIn;
 
 /// The flag by which an extended attribute that is there is not set.
@@ -72,27 +71,6 @@ pub(crate) fn check_size(node: &Node, size: u64, most: u64, room: u64) -> Result
         return Err(Errno::ENOSPC);
     }
     Ok(())
-}
-
-/// Writes up to `size` bytes of `r` over those of a file, from `offset` on, as far as they end
-/// within `most`, and answers how many. ENOMEM where there is no memory for them, and all stays.
-pub(crate) fn write_into<R: ZeroCopyReader>(
-    node: &mut Node,
-    now: Time,
-    r: &mut R,
-    size: u32,
-    offset: u64,
-    most: u64,
-) -> Result<u32, Fault>
-    ensures { (taken : List ℕ) × R.takes r.old taken r.new
-        × Overwrites most now node.old offset (take size (R.left r.old)) result node.new }
-{
-    let count = node.contents.write_from(r, size, offset, most as usize)?;
-    if count > 0 {
-        node.mtime = now;
-        node.ctime = now;
-    }
-    Ok(count)
 }
 
 impl TreeFs {

@@ -7,23 +7,21 @@ ghost use Rattle.std.specs.Map.{remove_entry};
 ghost use Rattle.vfs_flags.specs.Errors.{enomem};
 ghost use Rattle.vfs_files.specs.Names.{name_text};
 ghost use Rattle.vfs_files.specs.Calls.{Plain, entry_answer};
-ghost use Rattle.vfs_tree.specs.Node.{weight};
+ghost use Rattle.vfs_nodes.specs.Node.{weight};
 ghost use Rattle.vfs_tree.specs.Outcome.{Ends};
 ghost use Rattle.vfs_tree.specs.Rename.{is_crowded};
 ghost use Rattle.vfs_tree.specs.State.{child_at, node_at, reweighed, room_of};
 ghost use Rattle.vfs_tree.specs.Tree.{makes, make_refusal, first_state, is_full, made};
 ghost use Rattle.vfs_tree.specs.Tree.{forgotten, all_forgotten};
 
-use crate::children::Child;
-use crate::kind::Kind;
 use crate::naming::{add_name, directory};
-use crate::node::{Node, Time};
 use std::alloc::Global;
 use std::collections::BTreeMap;
 use std::fmt::{self, Debug, Formatter};
 use std::marker::Model;
 use vfs_files::{CStr, Context, Entry};
 use vfs_flags::{Errno, Fault, GuestGid, GuestUid, ROOT_ID};
+use vfs_nodes::{Child, Kind, Node, Time};
 
 /// How much a file system holds at most.
 #[derive(Clone, Copy, Debug, PartialEq, Eq)]

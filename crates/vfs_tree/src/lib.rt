@@ -6,15 +6,9 @@
 
 mod calls;
 mod changes;
-mod children;
-mod contents;
 mod fs;
-mod kind;
-mod listing;
 mod naming;
-mod node;
 mod rename;
-mod xattrs;
 
 pub use fs::{Limits, TreeFs};
-pub use node::Time;
+pub use vfs_nodes::Time;

@@ -7,20 +7,19 @@ ghost use Rattle.std.specs.BTreeMap.{get, is_at};
 ghost use Rattle.vfs_flags.specs.Errors.{enomem};
 ghost use Rattle.vfs_files.specs.Names.{name_text};
 ghost use Rattle.vfs_files.specs.Calls.{Plain, entry_answer};
-ghost use Rattle.vfs_tree.specs.Children.{with_child, without_child, with_other_child};
-ghost use Rattle.vfs_tree.specs.Node.{IsEntryOf};
+ghost use Rattle.vfs_nodes.specs.Children.{with_child, without_child, with_other_child};
+ghost use Rattle.vfs_nodes.specs.Node.{IsEntryOf};
 ghost use Rattle.vfs_tree.specs.Outcome.{Ends, refusal_of};
 ghost use Rattle.vfs_tree.specs.Rename.{directory_refusal, is_crowded, moved_into};
 ghost use Rattle.vfs_tree.specs.State.{child_of, child_at, node_at, with_names, with_node, unnamed};
 ghost use Rattle.vfs_tree.specs.Tree.{link_refusal, linked, links, taken_out};
 
-use crate::children::Child;
 use crate::fs::TreeFs;
-use crate::node::{Node, Time};
 use std::alloc::Global;
 use std::collections::BTreeMap;
 use vfs_files::{CStr, Entry};
 use vfs_flags::{Errno, Fault};
+use vfs_nodes::{Child, Node, Time};
 
 /// The most bytes of a name.
 const MOST_NAME: usize = 255;

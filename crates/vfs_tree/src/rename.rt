@@ -12,12 +12,11 @@ ghost use Rattle.vfs_tree.specs.Rename.{replace_refusal, renames};
 ghost use Rattle.vfs_tree.specs.Rename.{moved_to_free, moved_over, exchanged};
 ghost use Rattle.vfs_tree.specs.State.{child_at, count_of, node_at, node_of};
 
-use crate::children::Child;
 use crate::fs::TreeFs;
 use crate::naming::directory;
-use crate::node::Node;
 use vfs_files::CStr;
 use vfs_flags::{Errno, Fault, ROOT_ID};
+use vfs_nodes::{Child, Node};
 
 /// The flag by which a name that is there is not replaced.
 const RENAME_NOREPLACE: u32 = 1;

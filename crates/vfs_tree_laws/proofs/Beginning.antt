@@ -10,8 +10,8 @@ use Rattle.vfs_tree_laws.specs.Laws.{lookups_in, IsHeld, IsNamed, IsTree, Leads,
 use Rattle.vfs_tree.specs.State.{State, node_at}
 use Rattle.vfs_tree.specs.Tree.{first_state, root_node}
 use Rattle.vfs_tree.specs.declared.fs.Limits.{Limits}
-use Rattle.vfs_tree.specs.declared.node.Node.{Node}
-use Rattle.vfs_tree.specs.declared.node.Time.{Time}
+use Rattle.vfs_nodes.specs.declared.node.Node.{Node}
+use Rattle.vfs_nodes.specs.declared.node.Time.{Time}
 use Rattle.vfs_tree_laws.proofs.Held.{at}
 use Rattle.vfs_tree.proofs.Nodes.{is_at_same, is_at_other}
 

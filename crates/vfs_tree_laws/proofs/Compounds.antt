@@ -7,10 +7,10 @@ use Rattle.vfs_tree_laws.specs.Laws.{names_in, names_to, names_of, IsSound, IsLi
 use Rattle.vfs_tree.specs.Rename.{parent_of}
 use Rattle.vfs_tree.specs.State.{State, node_at, with_new, changed, change, with_names, unnamed}
 use Rattle.vfs_tree.specs.Tree.{made, linked, taken_out}
-use Rattle.vfs_tree.specs.declared.children.Child.{Child}
-use Rattle.vfs_tree.specs.declared.kind.Kind.{Kind}
-use Rattle.vfs_tree.specs.declared.node.Node.{Node}
-use Rattle.vfs_tree.proofs.Finds.{every_found}
+use Rattle.vfs_nodes.specs.declared.children.Child.{Child}
+use Rattle.vfs_nodes.specs.declared.kind.Kind.{Kind}
+use Rattle.vfs_nodes.specs.declared.node.Node.{Node}
+use Rattle.vfs_nodes.proofs.Finds.{every_found}
 use Rattle.vfs_tree_laws.proofs.Held.{at}
 use Rattle.vfs_tree_laws.proofs.Keeping.{keeps-with_names}
 use Rattle.vfs_tree_laws.proofs.NamesIn.{one, one_same, one_other, Apart, names_in-found}

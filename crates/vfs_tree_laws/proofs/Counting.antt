@@ -8,7 +8,7 @@ use Rattle.vfs_grammar.specs.Turn.{Turn, events_in}
 use Rattle.vfs_tree_laws.specs.Laws.{IsTree, IsHeld, lookups_in, lookups_of, names_of, CallsKeepTrees, ReadingsChangeNothing}
 use Rattle.vfs_files.specs.Listing.{GivesFirst}
 use Rattle.vfs_tree.specs.State.{State, node_at}
-use Rattle.vfs_tree.specs.declared.node.Node.{Node}
+use Rattle.vfs_nodes.specs.declared.node.Node.{Node}
 use Rattle.vfs_tree.specs.Tree.{TreeAllows}
 use Rattle.vfs_tree_laws.specs.Runs.{RunsKeepTrees, KeepsTree, GivesAllBack, LeavesNone}
 use Rattle.std.proofs.lemmas.List.Sums.{sum_by-append}

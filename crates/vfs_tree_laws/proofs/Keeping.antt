@@ -5,8 +5,8 @@ use Rattle.vfs_tree_laws.specs.Laws.{lookups_in, lookups_of, IsHeld, IsSound}
 use Rattle.vfs_tree.specs.Rename.{moved_into, moved_to_free, moved_over, exchanged, renamed, renamed_to}
 use Rattle.vfs_tree.specs.State.{State, node_at, with_node, with_resized, settled, changed, change, with_names, unnamed, child_at}
 use Rattle.vfs_tree.specs.Tree.{taken_out}
-use Rattle.vfs_tree.specs.declared.children.Child.{Child}
-use Rattle.vfs_tree.specs.declared.node.Node.{Node}
+use Rattle.vfs_nodes.specs.declared.children.Child.{Child}
+use Rattle.vfs_nodes.specs.declared.node.Node.{Node}
 use Rattle.vfs_tree.proofs.Nodes.{node_at-with_node, node_at-with_node_other}
 use Rattle.vfs_tree_laws.proofs.Held.{at, lookups_here, lookups_other, sound-with_node, Settles, settles}
 

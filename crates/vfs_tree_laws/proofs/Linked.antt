@@ -2,13 +2,14 @@
 use Rattle.std.proofs.Common.{◌≡◌, ◌+◌, ◌-◌, ◌==◌, ◌||◌, ◌&&◌, if◌then◌else◌, ℕ, Bool, true, false, List, [], ◌∷◌, length, Option, Some, None, refl, sym, ap, ◌∙◌, subst, arith}
 use Rattle.std.proofs.lemmas.Bool.{eqb-false, or_from}
 use Rattle.vfs_tree.specs.Children.{Children, is_directory, child_named, with_child}
+use Rattle.vfs_tree.specs.Node.{new_node}
 use Rattle.vfs_tree_laws.specs.Laws.{names_of, IsSound, IsLinked, CallsKeepLinks}
 use Rattle.vfs_tree.specs.Rename.{directory_refusal, place_refusal, replace_refusal, same_node, renamed, renamed_to, moved_over, exchanged}
 use Rattle.vfs_tree.specs.State.{State, node_at, with_node, with_resized, with_names, change, child_at, child_of}
-use Rattle.vfs_tree.specs.Tree.{made, linked, forgotten, all_forgotten, make_refusal, link_refusal, new_node, taken_out}
-use Rattle.vfs_tree.specs.declared.children.Child.{Child}
-use Rattle.vfs_tree.specs.declared.kind.Kind.{Kind}
-use Rattle.vfs_tree.specs.declared.node.Node.{Node}
+use Rattle.vfs_tree.specs.Tree.{made, linked, forgotten, all_forgotten, make_refusal, link_refusal, taken_out}
+use Rattle.vfs_nodes.specs.declared.children.Child.{Child}
+use Rattle.vfs_nodes.specs.declared.kind.Kind.{Kind}
+use Rattle.vfs_nodes.specs.declared.node.Node.{Node}
 use Rattle.vfs_tree_laws.proofs.Cases.{Covers, Resizes, calls_covered}
 use Rattle.vfs_tree_laws.proofs.Compounds.{there_is, found_fits, linked-made, linked-linked, linked-taken_out}
 use Rattle.vfs_tree_laws.proofs.Held.{settles}

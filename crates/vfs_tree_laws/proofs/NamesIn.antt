@@ -6,9 +6,9 @@ use Rattle.std.proofs.lemmas.List.Sums.{sum_by-cons, sum_by_push}
 use Rattle.std.proofs.lemmas.Option.{none-some}
 use Rattle.vfs_tree.specs.Children.{Link, is_named, relinked}
 use Rattle.vfs_tree_laws.specs.Laws.{names_in, AreApart}
-use Rattle.vfs_tree.specs.declared.children.Child.{Child}
-use Rattle.vfs_tree.proofs.Finds.{every_push, every_filter, every_map, every_weaker, found_here, found_later, none_passes, filter_all, map_all}
-use Rattle.vfs_tree.proofs.Places.{same_name, turned_name, relinked_name}
+use Rattle.vfs_nodes.specs.declared.children.Child.{Child}
+use Rattle.vfs_nodes.proofs.Finds.{every_push, every_filter, every_map, every_weaker, found_here, found_later, none_passes, filter_all, map_all}
+use Rattle.vfs_nodes.proofs.Places.{same_name, turned_name, relinked_name}
 
 -- one, where two numbers are the same
 pub one : (a b : ℕ) → ℕ

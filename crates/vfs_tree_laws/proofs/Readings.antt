@@ -5,7 +5,7 @@ use Rattle.vfs_files.specs.Calls.{Iterator}
 use Rattle.vfs_tree.specs.Outcome.{Reply, Just, EntryOf, AttrOf, Listed, Replies}
 use Rattle.vfs_tree.specs.State.{State, with_resized}
 use Rattle.vfs_tree.specs.Tree.{outcome}
-use Rattle.vfs_tree.specs.declared.node.Node.{Node}
+use Rattle.vfs_nodes.specs.declared.node.Node.{Node}
 use Rattle.vfs_tree_laws.specs.Laws.{ReadingsChangeNothing}
 use Rattle.vfs_tree_laws.proofs.Cases.{Covers, Fails, IsTold, Leaves, covered, left_so}
 

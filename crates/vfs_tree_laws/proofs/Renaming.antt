@@ -5,13 +5,13 @@ use Rattle.vfs_tree.specs.Children.{Link, Children, is_directory, is_named, chil
 use Rattle.vfs_tree_laws.specs.Laws.{names_in, names_to, names_of, IsSound, IsLinked}
 use Rattle.vfs_tree.specs.Rename.{parent_of, moved_into, moved_to_free, moved_over, exchanged}
 use Rattle.vfs_tree.specs.State.{State, node_at, changed, with_names, unnamed}
-use Rattle.vfs_tree.specs.declared.children.Child.{Child}
-use Rattle.vfs_tree.specs.declared.node.Node.{Node}
+use Rattle.vfs_nodes.specs.declared.children.Child.{Child}
+use Rattle.vfs_nodes.specs.declared.node.Node.{Node}
 use Rattle.vfs_tree_laws.proofs.Held.{at}
 use Rattle.vfs_tree_laws.proofs.Keeping.{keeps-with_names, keeps-moved_into}
 use Rattle.vfs_tree_laws.proofs.NamesIn.{one, one_same, one_other, find_push_found, find_relinked}
 use Rattle.vfs_tree.proofs.Nodes.{node_at-with_node}
-use Rattle.vfs_tree.proofs.Places.{same_name}
+use Rattle.vfs_nodes.proofs.Places.{same_name}
 use Rattle.vfs_tree_laws.proofs.Shapes.{Fits, Good, Counted, Home, linked_from, good_from, counted_from, home_from}
 use Rattle.vfs_tree_laws.proofs.Steps.{Step, found_link, none_lost, step-with_child, step-without_child, step-with_other_child, step_home, Moves, moves, linked-settled}
 use Rattle.vfs_tree_laws.proofs.Tables.{links_in, names_at, kind_at, is_dir}

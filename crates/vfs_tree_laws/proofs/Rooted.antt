@@ -5,14 +5,15 @@ use Rattle.std.proofs.lemmas.Option.{none-some, same_Some}
 use Rattle.vfs_flags.specs.Errors.{eperm, enoent, eexist, enotdir, einval, enospc, eoverflow}
 use Rattle.vfs_files.specs.declared.entry.Context.{Context}
 use Rattle.vfs_tree.specs.Children.{Children, is_directory, with_child, without_child, with_other_child}
+use Rattle.vfs_tree.specs.Node.{new_node}
 use Rattle.vfs_tree_laws.specs.Laws.{IsSound, IsLinked, IsRooted, CallsKeepTheWayUp, above}
 use Rattle.vfs_tree.specs.Outcome.{first_of, or_else}
 use Rattle.vfs_tree.specs.Rename.{enametoolong, directory_refusal, is_directory_at, is_nameless, is_crowded, is_below, is_own_child, names_refusal, place_refusal, parent_of, rename_refusal, moved_into, moved_over, exchanged, renamed_to}
 use Rattle.vfs_tree.specs.State.{State, node_at, node_of, count_of, room_of, with_node, with_resized, with_new, without_node, settled, changed, change, with_names, unnamed, child_at}
-use Rattle.vfs_tree.specs.Tree.{emlink, most_links, made, linked, forgotten, all_forgotten, taken_out, new_node, make_refusal, link_refusal}
-use Rattle.vfs_tree.specs.declared.children.Child.{Child}
-use Rattle.vfs_tree.specs.declared.kind.Kind.{Kind}
-use Rattle.vfs_tree.specs.declared.node.Node.{Node}
+use Rattle.vfs_tree.specs.Tree.{emlink, most_links, made, linked, forgotten, all_forgotten, taken_out, make_refusal, link_refusal}
+use Rattle.vfs_nodes.specs.declared.children.Child.{Child}
+use Rattle.vfs_nodes.specs.declared.kind.Kind.{Kind}
+use Rattle.vfs_nodes.specs.declared.node.Node.{Node}
 use Rattle.vfs_tree_laws.proofs.Ascending.{gone-remove_entry, none_from}
 use Rattle.vfs_tree_laws.proofs.Cases.{Covers, are_not, or_none, calls_covered}
 use Rattle.vfs_tree_laws.proofs.Held.{at, settles}

@@ -7,10 +7,10 @@ use Rattle.vfs_tree.specs.Children.{Link, is_directory}
 use Rattle.vfs_tree_laws.specs.Laws.{names_in, names_to, names_of, IsSound, Leads, IsNamed, IsLinked}
 use Rattle.vfs_tree.specs.Rename.{parent_of}
 use Rattle.vfs_tree.specs.State.{State, node_at, with_node, with_new, without_node}
-use Rattle.vfs_tree.specs.declared.children.Child.{Child}
-use Rattle.vfs_tree.specs.declared.kind.Kind.{Kind}
-use Rattle.vfs_tree.specs.declared.node.Node.{Node}
-use Rattle.vfs_tree.proofs.Finds.{every_weaker}
+use Rattle.vfs_nodes.specs.declared.children.Child.{Child}
+use Rattle.vfs_nodes.specs.declared.kind.Kind.{Kind}
+use Rattle.vfs_nodes.specs.declared.node.Node.{Node}
+use Rattle.vfs_nodes.proofs.Finds.{every_weaker}
 use Rattle.vfs_tree_laws.proofs.Held.{at}
 use Rattle.vfs_tree_laws.proofs.NamesIn.{one, one_same, one_other, root_one, names_in-cons, Apart, apart_from, are_apart}
 use Rattle.vfs_tree.proofs.Nodes.{node_at-with_node, node_at-with_node_other, node_at-without_node_other, node_at-with_new, node_at-with_new_other}

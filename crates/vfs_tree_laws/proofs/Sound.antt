@@ -5,11 +5,12 @@ use Rattle.vfs_files.specs.Items.{Item}
 use Rattle.vfs_files.specs.Calls.{Call, Handed, Plain, Iterator}
 use Rattle.vfs_grammar.specs.Books.{times, counts, answered_nodes, forgets_of}
 use Rattle.vfs_tree.specs.Children.{with_child}
+use Rattle.vfs_tree.specs.Node.{new_node}
 use Rattle.vfs_tree.specs.Outcome.{Reply, Just, EntryOf, AttrOf, Listed}
 use Rattle.vfs_tree.specs.State.{State, node_at, with_node, with_resized, with_new, with_names, settled, changed}
-use Rattle.vfs_tree.specs.Tree.{made, linked, forgotten, all_forgotten, new_node, outcome}
-use Rattle.vfs_tree.specs.declared.children.Child.{Child}
-use Rattle.vfs_tree.specs.declared.node.Node.{Node}
+use Rattle.vfs_tree.specs.Tree.{made, linked, forgotten, all_forgotten, outcome}
+use Rattle.vfs_nodes.specs.declared.children.Child.{Child}
+use Rattle.vfs_nodes.specs.declared.node.Node.{Node}
 use Rattle.vfs_tree_laws.specs.Laws.{lookups_in, lookups_of, IsSound, CountsLookups, CallsAreSound}
 use Rattle.vfs_tree_laws.proofs.Cases.{Covers, Fails, IsTold, Leaves, covered, left_so, nodes_of}
 use Rattle.vfs_tree_laws.proofs.Held.{at, lookups_here, lookups_other, none_yet, lookups_new, lookups_new_other, sound-with_node, sound-with_new, settles}

@@ -6,11 +6,11 @@ use Rattle.vfs_tree.specs.Children.{Link, Children, is_directory, is_named, chil
 use Rattle.vfs_tree_laws.specs.Laws.{names_in, names_to, names_of, IsSound, IsLinked}
 use Rattle.vfs_tree.specs.Rename.{parent_of, moved_into}
 use Rattle.vfs_tree.specs.State.{State, node_at, with_node, without_node, settled, changed, with_names}
-use Rattle.vfs_tree.specs.declared.children.Child.{Child}
-use Rattle.vfs_tree.specs.declared.node.Node.{Node}
-use Rattle.vfs_tree.proofs.Finds.{every_push, every_filter}
+use Rattle.vfs_nodes.specs.declared.children.Child.{Child}
+use Rattle.vfs_nodes.specs.declared.node.Node.{Node}
+use Rattle.vfs_nodes.proofs.Finds.{every_push, every_filter}
 use Rattle.vfs_tree_laws.proofs.Held.{at}
-use Rattle.vfs_tree.proofs.Indexed.{mapped_none}
+use Rattle.vfs_nodes.proofs.Indexed.{mapped_none}
 use Rattle.vfs_tree_laws.proofs.NamesIn.{one, names_in-push, names_in-filter, names_in-relinked, apart_push, apart_filter, apart_relinked, every_relinked}
 use Rattle.vfs_tree.proofs.Nodes.{node_at-with_node, node_at-with_node_other, node_at-without_node_other}
 use Rattle.vfs_tree_laws.proofs.Shapes.{Shape, Fits, AllFit, Good, kinds-with_node, good-with_node, kind_left, good-without_node, Counted, Home, linked_from}

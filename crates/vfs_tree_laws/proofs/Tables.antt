@@ -11,8 +11,8 @@ use Rattle.std.proofs.lemmas.Map.Entries.{sum_by-remove_entry, sum_by-set_value}
 use Rattle.vfs_tree.specs.Children.{Link, is_directory}
 use Rattle.vfs_tree_laws.specs.Laws.{names_in, names_to, Ascend, IsSound}
 use Rattle.vfs_tree.specs.State.{State, node_at, with_node, with_new, without_node}
-use Rattle.vfs_tree.specs.declared.kind.Kind.{Kind}
-use Rattle.vfs_tree.specs.declared.node.Node.{Node}
+use Rattle.vfs_nodes.specs.declared.kind.Kind.{Kind}
+use Rattle.vfs_nodes.specs.declared.node.Node.{Node}
 use Rattle.vfs_tree_laws.proofs.Ascending.{ascend_within, gone-remove_entry, none_from}
 use Rattle.vfs_tree.proofs.Nodes.{node_at-without_node_other}
 

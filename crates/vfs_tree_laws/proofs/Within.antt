@@ -13,14 +13,14 @@ use Rattle.vfs_flags.specs.Errors.{enoent, eexist, enospc}
 use Rattle.vfs_files.specs.declared.entry.Context.{Context}
 use Rattle.vfs_tree.specs.Children.{Children, with_child, without_child, with_other_child}
 use Rattle.vfs_tree_laws.specs.Laws.{Ascend, IsSound, IsWithin, CallsStayWithin}
-use Rattle.vfs_tree.specs.Node.{weight}
+use Rattle.vfs_tree.specs.Node.{weight, new_node}
 use Rattle.vfs_tree.specs.Outcome.{first_of}
 use Rattle.vfs_tree.specs.Rename.{directory_refusal, is_nameless, is_crowded, moved_into, moved_to_free, moved_over, exchanged, renamed_to}
 use Rattle.vfs_tree.specs.State.{State, node_at, count_of, room_of, with_node, with_resized, with_new, without_node, settled, changed, change, with_names, unnamed, child_at}
-use Rattle.vfs_tree.specs.Tree.{made, linked, forgotten, all_forgotten, taken_out, new_node, make_refusal}
-use Rattle.vfs_tree.specs.declared.children.Child.{Child}
-use Rattle.vfs_tree.specs.declared.kind.Kind.{Kind}
-use Rattle.vfs_tree.specs.declared.node.Node.{Node}
+use Rattle.vfs_tree.specs.Tree.{made, linked, forgotten, all_forgotten, taken_out, make_refusal}
+use Rattle.vfs_nodes.specs.declared.children.Child.{Child}
+use Rattle.vfs_nodes.specs.declared.kind.Kind.{Kind}
+use Rattle.vfs_nodes.specs.declared.node.Node.{Node}
 use Rattle.vfs_tree_laws.proofs.Ascending.{ascend_within}
 use Rattle.vfs_tree_laws.proofs.Cases.{Covers, Resizes, are_not, or_none, calls_covered}
 

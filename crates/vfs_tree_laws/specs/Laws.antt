@@ -12,10 +12,10 @@ use Rattle.vfs_tree.specs.Node.{weight}
 use Rattle.vfs_tree.specs.Rename.{parent_of}
 use Rattle.vfs_tree.specs.State.{State, node_at, count_of}
 use Rattle.vfs_tree.specs.Tree.{TreeAllows, first_state}
-use Rattle.vfs_tree.specs.declared.children.Child.{Child}
+use Rattle.vfs_nodes.specs.declared.children.Child.{Child}
 use Rattle.vfs_tree.specs.declared.fs.Limits.{Limits}
-use Rattle.vfs_tree.specs.declared.node.Node.{Node}
-use Rattle.vfs_tree.specs.declared.node.Time.{Time}
+use Rattle.vfs_nodes.specs.declared.node.Node.{Node}
+use Rattle.vfs_nodes.specs.declared.node.Time.{Time}
 
 -- how many lookups of a node are held
 abbrev pub lookups_in : Option Node → ℕ

@@ -3,7 +3,7 @@
 ghost use Rattle.std.specs.Prelude.{◌≡◌, codes, true, Err, Some, IfOk, IfSome};
 ghost use Rattle.vfs_flags.specs.Errors.{enoent, eisdir};
 ghost use Rattle.vfs_files.specs.Answers.{Count, value_or_count};
-ghost use Rattle.vfs_tree.specs.Tree.{dot_items};
+ghost use Rattle.vfs_tree.specs.Listing.{dot_items};
 ghost use Rattle.vfs_uses.specs.Trees.{small_tree};
 
 use bitflags::Flags;

@@ -1,7 +1,7 @@
 use Rattle.std.proofs.Common.{sym, ap, arith, rules}
 use Rattle.vfs_flags.specs.Flags.{setattr_valid_bits}
 use Rattle.std.proofs.lemmas.Map.Steps.{set_value_same}
-use Rattle.vfs_tree.specs.Node.{weight}
+use Rattle.vfs_nodes.specs.Node.{weight}
 use Rattle.vfs_tree.specs.contracts.fs.TreeFs.{the_view}
 use Rattle.vfs_tree.proofs.Weights.{set_attr_fits}
 use Rattle.vfs_tree.proofs.calls.TreeFsFileSystem.setattr.Goals as goal

@@ -1,0 +1,10 @@
+use Rattle.std.proofs.Common.{◌≡◌, ◌≤◌, ◌++◌, length, map, take, filter, nat_lt}
+use Rattle.vfs_nodes.specs.Listing.{items_in, link_item}
+use Rattle.vfs_nodes.proofs.listing.entries_behind.Given as goal
+
+abbrev pub invariant-loop-place : goal.invariant-loop-place
+invariant-loop-place l = record {
+  listed : take l.most (l.entries ++ map link_item l.place-iterator)
+      ≡ take l.most (filter (λ item. nat_lt l.offset item.offset) (items_in l.number l.directory));
+  short : length l.entries ≤ l.most;
+}

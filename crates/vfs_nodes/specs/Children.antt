@@ -1,0 +1,70 @@
+-- What a directory holds: names in order of their places, and where each of them leads.
+use Rattle.std.specs.Prelude.{ℕ, ◌+◌, Bool, true, false, not, List, [], ◌∷◌, ◌++◌, length, map, Option, option_map, find, if◌then◌else◌}
+use Rattle.std.specs.List.{filter}
+use Rattle.std.specs.Str.{bytes_eq}
+use Rattle.vfs_nodes.specs.declared.children.Child.{Child}
+use Rattle.vfs_nodes.specs.declared.kind.Kind.{Kind}
+use Rattle.vfs_nodes.specs.declared.kind.Kind.TheVariants as kind
+
+abbrev pub is_directory : Kind → Bool
+is_directory kind.Directory = true
+is_directory _ = false
+
+abbrev pub is_file : Kind → Bool
+is_file kind.File = true
+is_file _ = false
+
+abbrev pub is_link : Kind → Bool
+is_link kind.Link = true
+is_link _ = false
+
+-- a name, and the node that it leads to
+pub record Link : Type 0 where
+  pub name : List ℕ
+  pub child : Child
+
+-- the names of a directory, each at its place, in order of these, and the place of the next one. No
+-- place is used twice: a reading that stopped behind one goes on there, whatever came or went
+pub record Children : Type 0 where
+  pub links : List (ℕ × Link)
+  pub next : ℕ
+
+-- no names; the first two places are those of `.` and `..`
+abbrev pub no_children : Children
+no_children = record { links = []; next = 3 }
+
+abbrev pub is_named : (name : List ℕ) → (ℕ × Link) → Bool
+is_named name link = bytes_eq link.1.name name
+
+-- where a name leads
+abbrev pub child_named : Children → (name : List ℕ) → Option Child
+child_named children name =
+    option_map (λ link. link.1.child) (find (is_named name) children.links)
+
+-- how many of the names are directories'
+abbrev pub directories_of : List (ℕ × Link) → ℕ
+directories_of links = length (filter (λ link. is_directory link.1.child.kind) links)
+
+abbrev pub directories_in : Children → ℕ
+directories_in children = directories_of children.links
+
+-- with one name more, behind the others
+abbrev pub with_child : Children → (name : List ℕ) → Child → Children
+with_child children name child = record {
+  links = children.links ++ (children.next, record { name = name; child = child }) ∷ [];
+  next = children.next + 1;
+}
+
+-- without a name
+abbrev pub without_child : Children → (name : List ℕ) → Children
+without_child children name =
+    record children { links = filter (λ link. not (is_named name link)) children.links }
+
+-- where a name leads elsewhere, and keeps its place
+abbrev pub relinked : (name : List ℕ) → Child → (ℕ × Link) → ℕ × Link
+relinked name child link =
+    if is_named name link then (link.0, record link.1 { child = child }) else link
+
+abbrev pub with_other_child : Children → (name : List ℕ) → Child → Children
+with_other_child children name child =
+    record children { links = map (relinked name child) children.links }

@@ -1,0 +1,7 @@
+pub mod Bytes
+pub mod Children
+pub mod Index
+pub mod Listing
+pub mod Node
+pub mod Writing
+pub mod Xattrs

@@ -1,0 +1,28 @@
+-- What a reading of a directory gives.
+use Rattle.std.specs.Prelude.{ℕ, ◌+◌, ◌/◌, nat_lt, List, [], ◌∷◌, ◌++◌, map, take, codes}
+use Rattle.std.specs.List.{filter}
+use Rattle.vfs_files.specs.Items.{Item}
+use Rattle.vfs_nodes.specs.Children.{Link}
+use Rattle.vfs_nodes.specs.Node.{type_of}
+use Rattle.vfs_nodes.specs.declared.node.Node.{Node}
+
+-- a name as it is read
+abbrev pub link_item : (ℕ × Link) → Item
+link_item link =
+    let child = link.1.child in
+    record { ino = child.node; offset = link.0; type_ = type_of child.kind; name = link.1.name }
+
+-- a directory itself, and the one above
+abbrev pub dot_items : (number parent : ℕ) → List Item
+dot_items n parent =
+    record { ino = n; offset = 1; type_ = 4; name = codes "." }
+    ∷ record { ino = parent; offset = 2; type_ = 4; name = codes ".." } ∷ []
+
+-- what a directory holds: itself, the one above, and its names, each at its place
+abbrev pub items_in : (number : ℕ) → Node → List Item
+items_in n node = dot_items n node.parent ++ map link_item node.children.links
+
+-- the items behind an offset, at most as many as so many bytes have place for: a record has 24 and more
+abbrev pub items_behind : (number : ℕ) → Node → (off size : ℕ) → List Item
+items_behind n node off size =
+    take (size / 24 + 1) (filter (λ item. nat_lt off item.offset) (items_in n node))

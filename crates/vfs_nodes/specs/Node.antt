@@ -1,0 +1,124 @@
+-- What a node shows of itself, and what becomes of it.
+use Rattle.std.specs.Prelude.{◌≡◌, ℕ, ◌+◌, ◌-◌, ◌^◌, ◌/◌, ◌==◌, ◌&&◌, List, [], ◌∷◌, length, min, bit_or, bit_and, if◌then◌else◌}
+use Rattle.std.specs.Int.{div_ceil}
+use Rattle.std.specs.Duration.{as_nanos}
+use Rattle.std.specs.declared.time.Duration.{Duration}
+use Rattle.vfs_wire.specs.declared.attributes.Attr.{Attr}
+use Rattle.vfs_wire.specs.declared.attributes.SetattrIn.{SetattrIn}
+use Rattle.vfs_files.specs.declared.entry.Entry.{Entry}
+use Rattle.vfs_files.specs.Bytes.{written}
+use Rattle.vfs_nodes.specs.Bytes.{resized}
+use Rattle.vfs_nodes.specs.Children.{is_directory, is_file, no_children, directories_in}
+use Rattle.vfs_nodes.specs.Xattrs.{xattr_bytes}
+use Rattle.vfs_nodes.specs.declared.kind.Kind.{Kind}
+use Rattle.vfs_nodes.specs.declared.kind.Kind.TheVariants as kind
+use Rattle.vfs_nodes.specs.declared.node.Node.{Node}
+use Rattle.vfs_nodes.specs.declared.node.Time.{Time}
+
+-- the bits of `mode` that say what a node is
+abbrev pub kind_bits : Kind → ℕ
+kind_bits kind.Directory = 0o40000
+kind_bits kind.File = 0o100000
+kind_bits kind.Link = 0o120000
+
+-- what `readdir(3)` calls a node of this kind
+abbrev pub type_of : Kind → ℕ
+type_of kind = kind_bits kind / 0o10000
+
+-- how many links a node shows: as many as names lead to it, and of a directory that has a name two and
+-- one for each directory in it, as far as the field goes
+abbrev pub nlink_of : Node → ℕ
+nlink_of node =
+    if is_directory node.kind
+    then if node.names == 0 then 0 else min (directories_in node.children + 2) (2 ^ 32 - 1)
+    else node.names
+
+-- its attributes
+abbrev pub attr_of : (number : ℕ) → Node → Attr
+attr_of number node =
+    record {
+      ino = number;
+      size = length node.contents;
+      blocks = div_ceil (length node.contents) 512;
+      atime = node.atime.seconds;
+      mtime = node.mtime.seconds;
+      ctime = node.ctime.seconds;
+      atimensec = node.atime.nanoseconds;
+      mtimensec = node.mtime.nanoseconds;
+      ctimensec = node.ctime.nanoseconds;
+      mode = bit_or (kind_bits node.kind) (bit_and node.permissions 0o7777);
+      nlink = nlink_of node;
+      uid = node.uid;
+      gid = node.gid;
+      rdev = 0;
+      blksize = 4096;
+      flags = 0;
+    }
+
+-- one second
+abbrev pub IsSecond : Duration → Type 0
+IsSecond time = as_nanos time ≡ 1000000000
+
+-- its entry
+pub record IsEntryOf (number : ℕ) (node : Node) (entry : Entry) : Type 0 where
+  pub inode : entry.inode ≡ number
+  pub generation : entry.generation ≡ 0
+  pub attr : entry.attr ≡ attr_of number node
+  pub attr_timeout : IsSecond entry.attr_timeout
+  pub entry_timeout : IsSecond entry.entry_timeout
+
+-- how many bytes of the file system's it takes: those of its contents and its extended attributes
+abbrev pub weight : Node → ℕ
+weight node = length node.contents + xattr_bytes node.xattrs
+
+-- ---- what a node becomes
+
+-- a new node of this owner: of one name, held by one lookup, and made now
+abbrev pub new_node :
+    (now : Time) → (uid gid : ℕ) → Kind → (permissions parent : ℕ) → (contents : List ℕ) → Node
+new_node now uid gid kind permissions parent contents = record {
+  kind = kind;
+  permissions = permissions;
+  uid = uid;
+  gid = gid;
+  atime = now;
+  mtime = now;
+  ctime = now;
+  parent = parent;
+  children = no_children;
+  contents = contents;
+  xattrs = [];
+  names = 1;
+  lookups = 1;
+}
+
+-- the value that a request gives, where its bit is set, or else the old one
+abbrev pub picked : {A : Type 0} → (valid bit : ℕ) → A → A → A
+picked valid bit new old = if bit_and valid bit == bit then new else old
+
+-- a node with the attributes that a request sets; its change is now, unless the request says when
+abbrev pub set_attr : (now : Time) → Node → SetattrIn → (valid : ℕ) → Node
+set_attr now node attr valid = record node {
+  contents = picked valid 0x8 (resized node.contents attr.size) node.contents;
+  permissions = picked valid 0x1 attr.mode node.permissions;
+  uid = picked valid 0x2 attr.uid node.uid;
+  gid = picked valid 0x4 attr.gid node.gid;
+  atime = picked valid 0x80 now
+      (picked valid 0x10 (record { seconds = attr.atime; nanoseconds = attr.atimensec }) node.atime);
+  mtime = picked valid 0x100 now
+      (picked valid 0x20 (record { seconds = attr.mtime; nanoseconds = attr.mtimensec })
+      (picked valid 0x8 now node.mtime));
+  ctime = picked valid 0x400 (record { seconds = attr.ctime; nanoseconds = attr.ctimensec }) now;
+}
+
+-- a node as it is after it was opened: O_TRUNC takes the bytes of a file
+abbrev pub opened : (now : Time) → Node → (flags : ℕ) → Node
+opened now node flags =
+    if bit_and flags 0o1000 == 0o1000 && is_file node.kind
+    then record node { contents = []; mtime = now; ctime = now } else node
+
+-- a file with bytes written over its own from off on; it has not changed where there are none
+abbrev pub overwritten : (now : Time) → Node → (off : ℕ) → List ℕ → Node
+overwritten now node off [] = node
+overwritten now node off (b ∷ bs) =
+    record node { contents = written node.contents off (b ∷ bs); mtime = now; ctime = now }

@@ -1,0 +1,239 @@
+//! A node: a directory, a file or a symbolic link.
+
+ghost use Rattle.std.specs.Prelude.{◌≡◌, ℕ, List, take, if◌then◌else◌, Some, MatchResult, OnOk, IfErr};
+ghost use Rattle.vfs_flags.specs.Errors.{enomem};
+ghost use Rattle.vfs_flags.specs.Flags.{setattr_valid_bits};
+ghost use Rattle.vfs_nodes.specs.Node.{attr_of, nlink_of, IsEntryOf, weight, new_node, opened, set_attr};
+ghost use Rattle.vfs_nodes.specs.Writing.{Overwrites};
+
+use crate::children::Children;
+use crate::contents::Contents;
+use crate::kind::Kind;
+use crate::xattrs::Xattrs;
+use bitflags::Flags;
+use std::alloc::Global;
+use std::time::Duration;
+use vfs_files::{Entry, ZeroCopyReader};
+use vfs_flags::{Fault, GuestGid, GuestUid, SetattrValid};
+use vfs_wire::{Attr, SetattrIn};
+
+/// How long a client may rely on an answer.
+pub const TIMEOUT_SECONDS: u64 = 1;
+
+/// The flag of `open(2)` that takes the bytes of a file.
+const O_TRUNC: u32 = 0o1000;
+
+/// A point in time.
+#[derive(Clone, Copy, Debug, PartialEq, Eq)]
+pub struct Time {
+    /// Whole seconds since 1970.
+    pub seconds: u64,
+    /// Nanoseconds beyond them.
+    pub nanoseconds: u32,
+}
+
+/// A node.
+#[derive(Drop)]
+pub struct Node {
+    /// What it is.
+    pub kind: Kind,
+    /// Its permission bits.
+    pub permissions: u32,
+    /// Its owner.
+    pub uid: GuestUid,
+    /// Its group.
+    pub gid: GuestGid,
+    /// When it was last read.
+    pub atime: Time,
+    /// When its bytes or names were last changed.
+    pub mtime: Time,
+    /// When its attributes were last changed.
+    pub ctime: Time,
+    /// Of a directory: the directory that it lies in.
+    pub parent: u64,
+    /// Of a directory: its names.
+    pub children: Children,
+    /// The bytes of a file, or the text of a symbolic link.
+    pub contents: Contents,
+    /// Its extended attributes.
+    pub xattrs: Xattrs,
+    /// How many names lead to it. The root has one.
+    pub names: u32,
+    /// How many lookups of it the guest holds.
+    pub lookups: u64,
+}
+
+impl Node {
+    /// A new node of this owner, in this directory: of one name, held by one lookup, and made now.
+    /// ENOMEM where there is no memory for its contents.
+    pub fn new(
+        alloc: Global,
+        now: Time,
+        uid: GuestUid,
+        gid: GuestGid,
+        kind: Kind,
+        permissions: u32,
+        parent: u64,
+        contents: &[u8],
+    ) -> Result<Node, Fault>
+        ensures { MatchResult result
+            (λ node. node ≡ new_node now uid gid kind permissions parent contents.now)
+            (λ fault. fault ≡ Some enomem) }
+    {
+        Ok(Node {
+            kind,
+            permissions,
+            uid,
+            gid,
+            atime: now,
+            mtime: now,
+            ctime: now,
+            parent,
+            children: Children::new(alloc),
+            contents: Contents::copy_of(alloc, contents)?,
+            xattrs: Xattrs::new(alloc),
+            names: 1,
+            lookups: 1,
+        })
+    }
+
+    /// How many links it shows.
+    pub(crate) fn nlink(&self) -> u32
+        ensures { result ≡ nlink_of self.now }
+    {
+        if !self.kind.is_directory() {
+            return self.names;
+        }
+        if self.names == 0 {
+            return 0;
+        }
+        // (what it holds and the other two are in one file system's memory)
+        match self.children.directories().checked_add(2) {
+            Some(links) => links.min(u32::MAX as u64) as u32,
+            None => u32::MAX,
+        }
+    }
+
+    /// Its attributes.
+    pub fn attr(&self, number: u64) -> Attr
+        ensures { result ≡ attr_of number self.now }
+    {
+        let size = self.contents.len();
+        Attr {
+            ino: number,
+            size,
+            blocks: size.div_ceil(512),
+            atime: self.atime.seconds,
+            mtime: self.mtime.seconds,
+            ctime: self.ctime.seconds,
+            atimensec: self.atime.nanoseconds,
+            mtimensec: self.mtime.nanoseconds,
+            ctimensec: self.ctime.nanoseconds,
+            mode: self.kind.bits() | (self.permissions & 0o7777),
+            nlink: self.nlink(),
+            uid: self.uid,
+            gid: self.gid,
+            rdev: 0,
+            blksize: 4096,
+            flags: 0,
+        }
+    }
+
+    /// Its entry.
+    pub fn entry(&self, number: u64) -> Entry
+        ensures { IsEntryOf number self.now result }
+    {
+        Entry {
+            inode: number,
+            generation: 0,
+            attr: self.attr(number),
+            attr_timeout: Duration::from_secs(TIMEOUT_SECONDS),
+            entry_timeout: Duration::from_secs(TIMEOUT_SECONDS),
+        }
+    }
+
+    /// How many bytes of the file system's it takes.
+    pub fn weight(&self) -> u64
+        ensures { result ≡ weight self.now }
+    {
+        self.contents.len() + self.xattrs.bytes()
+    }
+
+    /// Sets the attributes that the request names. ENOMEM where there is no memory for a longer
+    /// file, and all stays.
+    pub fn set_attr(&mut self, now: Time, attr: SetattrIn, valid: SetattrValid) -> Result<(), Fault>
+        ensures ok { OnOk result (self.new ≡
+            set_attr now self.old attr (setattr_valid_bits valid)) }
+        ensures err { IfErr result (λ fault. (fault ≡ Some enomem) × (self.new ≡ self.old)) }
+    {
+        let resizes = valid.contains(SetattrValid::SIZE);
+        if resizes {
+            self.contents.resize(attr.size as usize)?;
+        }
+        let atime = Time {
+            seconds: attr.atime,
+            nanoseconds: attr.atimensec,
+        };
+        let mtime = Time {
+            seconds: attr.mtime,
+            nanoseconds: attr.mtimensec,
+        };
+        let ctime = Time {
+            seconds: attr.ctime,
+            nanoseconds: attr.ctimensec,
+        };
+        self.permissions = pick(
+            valid.contains(SetattrValid::MODE),
+            attr.mode,
+            self.permissions,
+        );
+        self.uid = pick(valid.contains(SetattrValid::UID), attr.uid, self.uid);
+        self.gid = pick(valid.contains(SetattrValid::GID), attr.gid, self.gid);
+        let read = pick(valid.contains(SetattrValid::ATIME), atime, self.atime);
+        self.atime = pick(valid.contains(SetattrValid::ATIME_NOW), now, read);
+        let resized = pick(resizes, now, self.mtime);
+        let written = pick(valid.contains(SetattrValid::MTIME), mtime, resized);
+        self.mtime = pick(valid.contains(SetattrValid::MTIME_NOW), now, written);
+        self.ctime = pick(valid.contains(SetattrValid::CTIME), ctime, now);
+        Ok(())
+    }
+
+    /// Opens it: O_TRUNC takes the bytes of a file.
+    pub fn open(&mut self, now: Time, flags: u32)
+        ensures { self.new ≡ opened now self.old flags }
+    {
+        if flags & O_TRUNC == O_TRUNC && self.kind.is_file() {
+            self.contents.clear();
+            self.mtime = now;
+            self.ctime = now;
+        }
+    }
+
+    /// Writes up to `size` bytes of `r` over those of a file, from `offset` on, as far as they end
+    /// within `most`, and answers how many. ENOMEM where there is no memory for them, and all stays.
+    pub fn write_from<R: ZeroCopyReader>(
+        &mut self,
+        now: Time,
+        r: &mut R,
+        size: u32,
+        offset: u64,
+        most: u64,
+    ) -> Result<u32, Fault>
+        ensures { (taken : List ℕ) × R.takes r.old taken r.new
+            × Overwrites most now self.old offset (take size (R.left r.old)) result self.new }
+    {
+        let count = self.contents.write_from(r, size, offset, most as usize)?;
+        if count > 0 {
+            self.mtime = now;
+            self.ctime = now;
+        }
+        Ok(count)
+    }
+}
+
+// The new value where it is set, or else the old one.
+fn pick<T: Copy>(set: bool, new: T, old: T) -> T
+    ensures { result ≡ (if set then new else old) }
+{
+    if set { new } else { old }
+}
