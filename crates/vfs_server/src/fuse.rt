@@ -3,6 +3,7 @@
 
 pub use vfs_flags::ATTR_DAX;
 pub use vfs_flags::ATTR_SUBMOUNT;
+pub use vfs_flags::DEFAULT_MAX_BUFFER;
 pub use vfs_flags::Errno;
 pub use vfs_flags::ExtType;
 pub use vfs_flags::FATTR_FH;
@@ -20,6 +21,7 @@ pub use vfs_flags::FUSE_MIN_READ_BUFFER;
 pub use vfs_flags::Fault;
 pub use vfs_flags::FsOptions;
 pub use vfs_flags::GETATTR_FH;
+pub use vfs_flags::GREATEST_MAX_BUFFER;
 pub use vfs_flags::GuestGid;
 pub use vfs_flags::GuestUid;
 pub use vfs_flags::HostGid;
@@ -27,6 +29,7 @@ pub use vfs_flags::HostUid;
 pub use vfs_flags::IoctlFlags;
 pub use vfs_flags::KERNEL_MINOR_VERSION;
 pub use vfs_flags::KERNEL_VERSION;
+pub use vfs_flags::LEAST_MAX_BUFFER;
 pub use vfs_flags::LK_FLOCK;
 pub use vfs_flags::MIN_KERNEL_MINOR_VERSION;
 pub use vfs_flags::NotifyInvalEntryOutFlags;

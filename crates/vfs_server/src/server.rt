@@ -67,12 +67,13 @@ impl<F> Server<F> {
         Server::with_limit(fs, page_size, DEFAULT_MAX_BUFFER)
     }
 
-    /// A server over `fs`, with no options agreed, that takes and gives payloads of at most
-    /// `max_buffer` bytes: a READ and a WRITE as the reply to INIT says, the value of an extended
-    /// attribute, what a directory is asked for, and the pairs of a BATCH_FORGET. It is from
+    /// A server over `fs`, with no options agreed, whose largest payload is `max_buffer` bytes, from
     /// [`LEAST_MAX_BUFFER`](vfs_flags::LEAST_MAX_BUFFER) to
-    /// [`GREATEST_MAX_BUFFER`](vfs_flags::GREATEST_MAX_BUFFER). `page_size` is that of the machine
-    /// in bytes, at least 4096.
+    /// [`GREATEST_MAX_BUFFER`](vfs_flags::GREATEST_MAX_BUFFER). The reply to INIT tells it to the
+    /// client, which keeps its READs and WRITEs within it: the size of these is not checked. ENOMEM
+    /// answers a request whose `len` says more than `max_buffer` + 4096 bytes, a READDIR, READDIRPLUS,
+    /// GETXATTR or LISTXATTR that asks for more than `max_buffer`, and a BATCH_FORGET of more pairs
+    /// than it holds. `page_size` is that of the machine in bytes, at least 4096.
     pub fn with_limit(fs: F, page_size: u32, max_buffer: u32) -> Server<F>
         requires page { 4096 ≤ page_size }
         requires least { LEAST_MAX_BUFFER ≤ max_buffer }
@@ -96,7 +97,7 @@ impl<F> Server<F> {
         }
     }
 
-    /// The largest payload of a request or a reply, in bytes.
+    /// The largest payload of a request or a reply, in bytes, as the reply to INIT says it.
     pub fn max_buffer(&self) -> u32
         ensures { result ≡ self.now.limits.max_buffer }
     {
