@@ -1,7 +1,7 @@
 //! Bytes in memory as a file that is written, and a transfer of the bytes of a WRITE into them.
 
 ghost use Rattle.std.specs.Prelude.{◌≡◌, ◌-◌, ◌<◌, ◌≤◌, ℕ, List, IfErr, IfOk, OnOk, Some};
-ghost use Rattle.std.specs.Prelude.{length, take, vec_len};
+ghost use Rattle.std.specs.Prelude.{length, take, replicate, vec_len, vec_capacity};
 ghost use Rattle.std.specs.List.{concat};
 ghost use Rattle.vfs_flags.specs.Errors.{enomem};
 ghost use Rattle.vfs_views.specs.Segments.{with_bytes_at};
@@ -11,6 +11,9 @@ use crate::ZeroCopyReader;
 use crate::bytes::{Bytes, fill_front};
 use vfs_flags::{Errno, Fault};
 use vfs_views::{PositionedFile, Slices, SlicesMut, WritevFlags};
+
+/// How many zeros are written at a time.
+const BLOCK: usize = 4096;
 
 /// A file of bytes that are kept in a vector, and are written up to a limit.
 ///
@@ -63,8 +66,9 @@ fn write_view(bytes: &mut Vec<u8>, view: &Slices<'_>, off: u64, most: usize) -> 
     Ok(count)
 }
 
-// Fills up with zeros to `end` what ends before it. ENOMEM where there is no memory for them.
-fn lengthen(bytes: &mut Vec<u8>, end: usize) -> Result<(), Fault>
+/// Fills up with zeros to `end` what ends before it. `Errno::ENOMEM` where there is no memory for them:
+/// then it stays.
+pub fn lengthen(bytes: &mut Vec<u8>, end: usize) -> Result<(), Fault>
     ensures ok { OnOk result (bytes.new.items ≡ lengthened bytes.old.items end) }
     ensures err { IfErr result (λ fault. (fault ≡ Some enomem) × (vec_len bytes.old < end)
         × (bytes.new.items ≡ bytes.old.items)) }
@@ -72,9 +76,23 @@ fn lengthen(bytes: &mut Vec<u8>, end: usize) -> Result<(), Fault>
     if end <= bytes.len() {
         return Ok(());
     }
-    match bytes.resize(end, 0) {
-        Ok(()) => Ok(()),
-        Err(_) => Err(Some(Errno::ENOMEM)),
+    match bytes.reserve(end - bytes.len()) {
+        Ok(()) => {}
+        Err(_) => return Err(Some(Errno::ENOMEM)),
+    }
+    fill_up(bytes, end, &[0; BLOCK]);
+    Ok(())
+}
+
+// Fills up to `end`, for which there is memory, with these zeros, again and again.
+fn fill_up(bytes: &mut Vec<u8>, end: usize, zeros: &[u8])
+    requires room { end ≤ vec_capacity bytes.old }
+    requires zeros { zeros.now ≡ replicate BLOCK 0 }
+    ensures { bytes.new.items ≡ lengthened bytes.old.items end }
+{
+    while bytes.len() < end {
+        let count = (end - bytes.len()).min(BLOCK);
+        let _ = bytes.extend_from_slice(&zeros[..count]);
     }
 }
 

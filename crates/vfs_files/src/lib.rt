@@ -24,7 +24,7 @@ mod uses;
 mod xattr;
 
 pub use bytes::{Bytes, read_bytes};
-pub use bytes_mut::{BytesMut, write_bytes};
+pub use bytes_mut::{BytesMut, lengthen, write_bytes};
 pub use directory::{DirEntry, DirectoryIterator};
 pub use entry::{Context, Entry};
 pub use extensions::{Extensions, SecContext};
