@@ -17,8 +17,9 @@ const LEAST_DIGITS: usize = 4;
 const MOST_DIGITS: usize = 9;
 
 /// Reads a line that sets the limit of a server, given without its newline: `limit`, one space, and
-/// the largest payload of a request or a reply in bytes, in four to nine decimal digits, from
-/// [`LEAST_MAX_BUFFER`] to [`GREATEST_MAX_BUFFER`]. It is `None` where the line is of another form.
+/// the largest payload in bytes that the reply to INIT tells the client, in four to nine decimal
+/// digits, from [`LEAST_MAX_BUFFER`] to [`GREATEST_MAX_BUFFER`]. It is `None` where the line is of
+/// another form.
 pub fn parse_limit(line: &[u8]) -> Option<u32>
     ensures limit { result ≡ limit_of line.now }
     ensures within { IfSome result
@@ -53,8 +54,8 @@ pub fn lines_before_requests(lines: &[&[u8]]) -> usize
     usize::from(first_limit(lines).is_some())
 }
 
-/// The largest payload in bytes of the server of a session: the limit that the first of these lines
-/// sets, or else [`DEFAULT_MAX_BUFFER`].
+/// The largest payload in bytes that the server of a session tells its client: the limit that the
+/// first of these lines sets, or else [`DEFAULT_MAX_BUFFER`].
 pub fn max_buffer_for(lines: &[&[u8]]) -> u32
     ensures limit { result ≡ or_default (first_limit_of (map (λ line. line.now) lines.now)) }
     ensures within { (LEAST_MAX_BUFFER ≤ result) × (result ≤ GREATEST_MAX_BUFFER) }

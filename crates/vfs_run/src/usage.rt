@@ -27,8 +27,8 @@ pub fn print_usage(rt: &impl Eprint, program: Program) -> io::Result<()> {
         "\
 usage: {name} < SESSION
 It takes no arguments. The lines of a session:
-  limit N         In the first line alone: the largest payload of the server in bytes,
-                  4096 to 134217728, in 4 to 9 digits. Without it that is 1048576.
+  limit N         In the first line alone: the largest payload in bytes that INIT's reply
+                  tells, 4096 to 134217728, in 4 to 9 digits. Without it that is 1048576.
   ROOMS SEGMENTS  A request. ROOMS are the lengths in bytes of the segments for its
                   reply, SEGMENTS its bytes in hex; both are joined by `+`.
 {more_lines}As a STATFS of node 1, with 96 bytes for its reply:
