@@ -17,6 +17,7 @@
 #   blocks              one of Rust stands, as it is, in the file that the comment above it names,
 #                       <!-- FILE -->; of another block with such a comment each line does
 #   commands            a path that begins an indented line is a file that can be run
+#   crates below one    `five crates below` it, or below a crate that is named, are as many as crates.txt has
 #   the toolchain       README.md's has the logic of `rt version`, whose kits have several letters for one
 #                       logic; figures keep the one that they were made with
 #   pictures            are those that tools/pictures.sh draws
@@ -43,6 +44,9 @@ OUTSIDE = re.compile(r"(src/)?(fuse|descriptor_utils|filesystem|server)\.rs|fuse
 KEYWORDS = "fn|trait|struct|enum|const|mod|impl|abbrev pub|record|data"
 DEFINITION = re.compile(rf"\b(?:{KEYWORDS}) (?=(\w+))")
 CLAUSE = re.compile(r"\b(?:ensures|requires|ghost) (?=(\w+))")
+NUMBERS = ("no one two three four five six seven eight nine ten eleven twelve thirteen fourteen fifteen "
+           "sixteen seventeen eighteen nineteen twenty").split()
+BELOW = re.compile(rf"\b(\d+|{'|'.join(NUMBERS)}) crates below (it|the program|`\w+`)")
 
 
 def read(path):
@@ -63,6 +67,11 @@ clauses = {path: set(CLAUSE.findall(text)) for path, text in sources.items()}
 stated = {name for path, found in definitions.items()
           if re.search(r"/specs/|laws\.rt$|/vfs_laws/src/\w+\.rt$", path) for name in found}
 edits = {(path.split("/")[1], path.split("/")[3][:-5]) for path in paths if path.endswith(".edit")}
+# The crates of this repository that each stands on. Lower ones come first.
+below = {}
+for name, uses in re.findall(r"^(\w+).*: (.*)", read("crates.txt"), re.M):
+    own = CRATE_NAMES.intersection(uses.split())
+    below[name] = own.union(*(below[it] for it in own))
 named_edits = set()
 faults = []
 
@@ -136,7 +145,20 @@ def check_row(fault, crates, functions, guards):
             fault(f"{here}: no edit {code} here")
 
 
+def check_below(fault, line):
+    for match in BELOW.finditer(line):
+        said, crate = match.groups()
+        named = [it for it in CODE.findall(line[:match.start()]) if it in below]
+        crate = {"it": (named or [""])[-1], "the program": "vfs_demo"}.get(crate, crate.strip("`"))
+        number = NUMBERS.index(said) if said in NUMBERS else int(said)
+        if crate not in below:
+            fault(f"no crate is named that {said} crates are below")
+        elif number != len(below[crate]):
+            fault(f"{len(below[crate])} crates are below {crate}, and not {said}")
+
+
 def check_line(fault, document, crates, line):
+    check_below(fault, line)
     cells = [cell.strip() for cell in line.strip().strip("|").split("|")]
     if document == "docs/PROOFS.md" and crates and len(cells) == 3:
         check_row(fault, crates, cells[1], cells[2])
