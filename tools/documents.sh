@@ -18,6 +18,7 @@
 #                       <!-- FILE -->; of another block with such a comment each line does
 #   commands            a path that begins an indented line is a file that can be run
 #   crates below one    `five crates below` it, or below a crate that is named, are as many as crates.txt has
+#   the reading order   of PROOFS.md: no file of items 2 to 7, the grammar, names a word of an item before its own
 #   the toolchain       README.md's has the logic of `rt version`, whose kits have several letters for one
 #                       logic; figures keep the one that they were made with
 #   pictures            are those that tools/pictures.sh draws
@@ -157,6 +158,20 @@ def check_below(fault, line):
             fault(f"{len(below[crate])} crates are below {crate}, and not {said}")
 
 
+def check_order(fault, items):
+    """Items of files of the grammar in reading order, each with its number."""
+    item_of = {file: number for number, files in items for file in files}
+    for file, own in item_of.items():
+        folder = "specs" if file.endswith(".antt") else "src"
+        text = sources.get(f"crates/vfs_grammar/{folder}/{file}", "")
+        if not text:
+            fault(f"there is no {file} in vfs_grammar")
+        for name in re.findall(r"Rattle\.vfs_grammar\.specs\.(?:declared\.)?(\w+)", text):
+            used = f"{name}.antt" if name[0].isupper() else f"{name}.rt"
+            if item_of.get(used, own) < own:
+                fault(f"{file}, of item {own}, names a word of {used}, of item {item_of[used]}")
+
+
 def check_line(fault, document, crates, line):
     check_below(fault, line)
     cells = [cell.strip() for cell in line.strip().strip("|").split("|")]
@@ -224,6 +239,9 @@ for document in DOCUMENTS:
                 crates = [it for it in re.findall(r"\w+", line) if it in CRATE_NAMES] or CRATES.get(document, [])
             check_line(fault, document, crates, line)
             comment = line
+items = [(int(number), re.findall(r"(\w+\.(?:antt|rt))`", files))
+         for number, files in re.findall(r"^([2-7])\. (.*)", read("docs/PROOFS.md"), re.M)]
+check_order(lambda text: faults.append(f"docs/PROOFS.md: {text}"), items)
 for crate, edit in sorted(edits - named_edits):
     faults.append(f"docs/PROOFS.md: no row names the edit {edit} of {crate}")
 faults += subprocess.run(["tools/pictures.sh", "--check"], stdout=subprocess.PIPE,
