@@ -19,6 +19,7 @@
 #   commands            a path that begins an indented line is a file that can be run
 #   crates below one    `five crates below` it, or below a crate that is named, are as many as crates.txt has
 #   the reading order   of PROOFS.md: no file of items 2 to 7, the grammar, names a word of an item before its own
+#   the gate's time     stands in DECISIONS.md alone
 #   the toolchain       README.md's has the logic of `rt version`, whose kits have several letters for one
 #                       logic; figures keep the one that they were made with
 #   pictures            are those that tools/pictures.sh draws
@@ -174,6 +175,8 @@ def check_order(fault, items):
 
 def check_line(fault, document, crates, line):
     check_below(fault, line)
+    if document != "docs/DECISIONS.md" and re.search(r"`(rt ci|\.ci/run)`.*(\d min|minute|hour)", line):
+        fault("the time of the gate stands in docs/DECISIONS.md, and nowhere else")
     cells = [cell.strip() for cell in line.strip().strip("|").split("|")]
     if document == "docs/PROOFS.md" and crates and len(cells) == 3:
         check_row(fault, crates, cells[1], cells[2])
