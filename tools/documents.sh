@@ -20,6 +20,7 @@
 #   crates below one    `five crates below` it, or below a crate that is named, are as many as crates.txt has
 #   the reading order   of PROOFS.md: no file of items 2 to 7, the grammar, names a word of an item before its own
 #   the gate's time     stands in DECISIONS.md alone
+#   counts              of opcodes, of calls of a file system and of records are those of the sources
 #   the toolchain       README.md's has the logic of `rt version`, whose kits have several letters for one
 #                       logic; figures keep the one that they were made with
 #   pictures            are those that tools/pictures.sh draws
@@ -76,6 +77,21 @@ for name, uses in re.findall(r"^(\w+).*: (.*)", read("crates.txt"), re.M):
     below[name] = own.union(*(below[it] for it in own))
 named_edits = set()
 faults = []
+
+
+def count(pattern, *files):
+    return sum(len(re.findall(pattern, sources[path], re.M)) for path in sources if path.startswith(files))
+
+
+ASK = "crates/vfs_grammar/specs/Ask.antt"
+# What a line counts, by the words around the number, and how many there are.
+COUNTS = [
+    (r"(\d+) (?:numbers are )?opcodes", count(r"^form_of ", ASK)),
+    (r"(\d+) of \d+ opcodes", count(r"^form_of (?!.* = NotServed)", ASK)),
+    (r"`FileSystem`.* with (\d+) calls|the (\d+) calls of", count(r"^    fn ", "crates/vfs_files/src/filesystem.rt")),
+    (r"(\d+) further records", count(r"impl ByteValued for [A-Z]", "crates/vfs_wire_more/src/")),
+    (r"all (\d+) records", count(r"impl ByteValued for [A-Z]", "crates/vfs_wire/src/", "crates/vfs_wire_more/src/")),
+]
 
 
 def anchors(document):
@@ -175,6 +191,10 @@ def check_order(fault, items):
 
 def check_line(fault, document, crates, line):
     check_below(fault, line)
+    for pattern, there in COUNTS:
+        for match in re.finditer(pattern, line):
+            if int(match[match.lastindex]) != there:
+                fault(f"{match[0]}: there are {there}")
     if document != "docs/DECISIONS.md" and re.search(r"`(rt ci|\.ci/run)`.*(\d min|minute|hour)", line):
         fault("the time of the gate stands in docs/DECISIONS.md, and nowhere else")
     cells = [cell.strip() for cell in line.strip().strip("|").split("|")]
