@@ -21,6 +21,7 @@
 #   the reading order   of PROOFS.md: no file of items 2 to 7, the grammar, names a word of an item before its own
 #   the gate's time     stands in DECISIONS.md alone
 #   counts              of opcodes, of calls of a file system and of records are those of the sources
+#   the promise         is quoted alike in README.md and PROMISES.md, whose table has words of it
 #   the toolchain       README.md's has the logic of `rt version`, whose kits have several letters for one
 #                       logic; figures keep the one that they were made with
 #   pictures            are those that tools/pictures.sh draws
@@ -262,6 +263,12 @@ for document in DOCUMENTS:
                 crates = [it for it in re.findall(r"\w+", line) if it in CRATE_NAMES] or CRATES.get(document, [])
             check_line(fault, document, crates, line)
             comment = line
+quotes = ["\n".join(re.findall(r"^> ?(.*)", read(page), re.M)) for page in ("README.md", "docs/PROMISES.md")]
+if quotes[0] != quotes[1]:
+    faults.append("README.md: the promise is not that of docs/PROMISES.md")
+for said in re.findall(r"^\| (?!Words )(\w[^|`]*) \|", read("docs/PROMISES.md"), re.M):
+    if said.lower() not in quotes[1].lower():
+        faults.append(f"docs/PROMISES.md: the promise does not say '{said}'")
 items = [(int(number), re.findall(r"(\w+\.(?:antt|rt))`", files))
          for number, files in re.findall(r"^([2-7])\. (.*)", read("docs/PROOFS.md"), re.M)]
 check_order(lambda text: faults.append(f"docs/PROOFS.md: {text}"), items)
