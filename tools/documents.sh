@@ -18,9 +18,10 @@
 #                       <!-- FILE -->; of another block with such a comment each line does
 #   commands            a path that begins an indented line is a file that can be run
 #   crates below one    `five crates below` it, or below a crate that is named, are as many as crates.txt has
-#   the reading order   of PROOFS.md: no file of items 2 to 7, the grammar, names a word of an item before its own
+#   the reading order   of PROOFS.md: no file of the grammar, items 2 to 7, names a word of an earlier item
 #   the gate's time     stands in DECISIONS.md alone
-#   counts              of opcodes, of calls of a file system and of records are those of the sources
+#   counts              of opcodes, calls of a file system, records, stored requests and hostile forms are those
+#                       of the sources; others that several pages say are the same on each
 #   the promise         is quoted alike in README.md and PROMISES.md, whose table has words of it
 #   the toolchain       README.md's has the logic of `rt version`, whose kits have several letters for one
 #                       logic; figures keep the one that they were made with
@@ -50,7 +51,8 @@ DEFINITION = re.compile(rf"\b(?:{KEYWORDS}) (?=(\w+))")
 CLAUSE = re.compile(r"\b(?:ensures|requires|ghost) (?=(\w+))")
 NUMBERS = ("no one two three four five six seven eight nine ten eleven twelve thirteen fourteen fifteen "
            "sixteen seventeen eighteen nineteen twenty").split()
-BELOW = re.compile(rf"\b(\d+|{'|'.join(NUMBERS)}) crates below (it|the program|`\w+`)")
+NUMBER = rf"\b(\d[\d,]*|{'|'.join(NUMBERS)})"
+BELOW = re.compile(rf"{NUMBER} crates below (it|the program|`\w+`)")
 
 
 def read(path):
@@ -84,15 +86,36 @@ def count(pattern, *files):
     return sum(len(re.findall(pattern, sources[path], re.M)) for path in sources if path.startswith(files))
 
 
-ASK = "crates/vfs_grammar/specs/Ask.antt"
+def number_of(said):
+    return NUMBERS.index(said) if said in NUMBERS else int(said.replace(",", ""))
+
+
+OPCODES, HANDLED = (count(pattern, "crates/vfs_grammar/specs/Ask.antt")
+                    for pattern in ("^form_of ", "^form_of (?!.* = NotServed)"))
+CALLS = count(r"^    fn ", "crates/vfs_files/src/filesystem.rt")
+RECORDS, MORE_RECORDS = (count(r"impl ByteValued for [A-Z]", f"crates/{crate}/src/")
+                         for crate in ("vfs_wire", "vfs_wire_more"))
+GENERATED = read("crates/vfs_script/stdin").split("\n# The generated requests.\n")[1].split("\n# What kernels")[0]
+# How many forms each hostile message has.
+FORMS = re.findall(r"^.*: (\d+) forms, ", read("crates/vfs_script/stdout"), re.M)
 # What a line counts, by the words around the number, and how many there are.
 COUNTS = [
-    (r"(\d+) (?:numbers are )?opcodes", count(r"^form_of ", ASK)),
-    (r"(\d+) of \d+ opcodes", count(r"^form_of (?!.* = NotServed)", ASK)),
-    (r"`FileSystem`.* with (\d+) calls|the (\d+) calls of", count(r"^    fn ", "crates/vfs_files/src/filesystem.rt")),
-    (r"(\d+) further records", count(r"impl ByteValued for [A-Z]", "crates/vfs_wire_more/src/")),
-    (r"all (\d+) records", count(r"impl ByteValued for [A-Z]", "crates/vfs_wire/src/", "crates/vfs_wire_more/src/")),
+    (rf"{NUMBER} (?:numbers are )?opcodes", OPCODES),
+    (rf"{NUMBER} of \d+ opcodes", HANDLED),
+    (rf"Of \d+ opcodes {NUMBER}", HANDLED),
+    (rf"`FileSystem`.* with {NUMBER} calls", CALLS),
+    (rf"the {NUMBER} calls of", CALLS),
+    (rf"{NUMBER} further records", MORE_RECORDS),
+    (rf"all {NUMBER} records", RECORDS + MORE_RECORDS),
+    (rf"{NUMBER} generated ones", len(re.findall(r"^(?!#|answer )", GENERATED, re.M))),
+    (rf"{NUMBER} messages, at least one for each opcode", len(FORMS)),
+    (rf"{NUMBER} hostile forms", sum(map(int, FORMS))),
+    (rf"folder `must-fail` has {NUMBER} edits", sum(crate == "example_tree" for crate, _ in edits)),
 ]
+# What several pages count.
+SAME = [rf"{NUMBER}(?: stored)? requests, (?:[\d,]+ of|the generated)", rf"requests, {NUMBER} of (?:them|which)",
+        rf"{NUMBER} hostile requests", rf"{NUMBER} wrong bodies"]
+said_of = {}
 
 
 def anchors(document):
@@ -169,10 +192,9 @@ def check_below(fault, line):
         said, crate = match.groups()
         named = [it for it in CODE.findall(line[:match.start()]) if it in below]
         crate = {"it": (named or [""])[-1], "the program": "vfs_demo"}.get(crate, crate.strip("`"))
-        number = NUMBERS.index(said) if said in NUMBERS else int(said)
         if crate not in below:
             fault(f"no crate is named that {said} crates are below")
-        elif number != len(below[crate]):
+        elif number_of(said) != len(below[crate]):
             fault(f"{len(below[crate])} crates are below {crate}, and not {said}")
 
 
@@ -194,8 +216,13 @@ def check_line(fault, document, crates, line):
     check_below(fault, line)
     for pattern, there in COUNTS:
         for match in re.finditer(pattern, line):
-            if int(match[match.lastindex]) != there:
+            if number_of(match[1]) != there:
                 fault(f"{match[0]}: there are {there}")
+    for pattern in SAME:
+        for match in re.finditer(pattern, line):
+            before = said_of.setdefault(pattern, match[1])
+            if before != match[1]:
+                fault(f"{match[0]}: another page says {before}")
     if document != "docs/DECISIONS.md" and re.search(r"`(rt ci|\.ci/run)`.*(\d min|minute|hour)", line):
         fault("the time of the gate stands in docs/DECISIONS.md, and nowhere else")
     cells = [cell.strip() for cell in line.strip().strip("|").split("|")]
