@@ -7,10 +7,11 @@ use Rattle.std.proofs.lemmas.Option.{none-some, same_Some}
 module _ {X : Type 0} where
   -- ---- what holds of each element
 
-  pub every_push : (P : X → Type 0) (xs : List X) (x : X)
-      → AllByRecursion P xs → P x → AllByRecursion P (xs ++ x ∷ [])
-  every_push P [] x all here = (here, tt)
-  every_push P (y ∷ ys) x all here = (all.0, every_push P ys x all.1 here)
+  pub every_both : (P Q : X → Type 0) (xs : List X) → AllByRecursion P xs → AllByRecursion Q xs
+      → AllByRecursion (λ x. P x × Q x) xs
+  every_both P Q [] all others = tt
+  every_both P Q (y ∷ ys) all others =
+      ((all.0, others.0), every_both P Q ys all.1 others.1)
 
   pub every_filter : (P : X → Type 0) (p : X → Bool) (xs : List X)
       → AllByRecursion P xs → AllByRecursion P (filter p xs)
@@ -68,22 +69,6 @@ module _ {X : Type 0} where
   find_none p [] all = refl
   find_none p (y ∷ ys) all =
       cond-false (p y) (Some y) (find p ys) all.0 ∙ find_none p ys all.1
-
-  -- ---- behind one more
-
-  pub find_pushed : (p : X → Bool) (xs : List X) (x : X) → find p xs ≡ None → p x ≡ true
-      → find p (xs ++ x ∷ []) ≡ Some x
-  find_pushed p [] x none passes = cond-true (p x) (Some x) None passes
-  find_pushed p (y ∷ ys) x none passes =
-      let all = none_passes p (y ∷ ys) none in
-      cond-false (p y) (Some y) (find p (ys ++ x ∷ [])) all.0
-      ∙ find_pushed p ys x (find_none p ys all.1) passes
-
-  pub find_push_other : (p : X → Bool) (xs : List X) (x : X) → p x ≡ false
-      → find p (xs ++ x ∷ []) ≡ find p xs
-  find_push_other p [] x fails = cond-false (p x) (Some x) None fails
-  find_push_other p (y ∷ ys) x fails =
-      ap (λ (o : Option X). cond (p y) (Some y) o) (find_push_other p ys x fails)
 
   -- ---- without some
 

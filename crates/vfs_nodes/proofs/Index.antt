@@ -1,5 +1,5 @@
 -- The links of a directory in order of their places: each is found by its place as by its name.
-use Rattle.std.proofs.Common.{◌≡◌, ◌+◌, ◌<◌, ◌≤◌, ℕ, Bool, true, false, cond, not, List, [], ◌∷◌, ◌++◌, length, map, find, filter, Some, None, bytes_eq, nat_cmp, is_eq, Equal, Greater, refl, sym, ap, ◌∙◌, subst, ⊎_elim, arith}
+use Rattle.std.proofs.Common.{◌≡◌, ◌+◌, ◌-◌, ◌<◌, ◌≤◌, ℕ, Bool, true, false, cond, not, List, [], ◌∷◌, length, map, find, filter, Some, None, bytes_eq, nat_cmp, is_eq, Less, Equal, Greater, refl, sym, ap, ◌∙◌, subst, ⊎_elim, arith}
 use Rattle.std.specs.Ordering.{match_ordering}
 use Rattle.std.specs.Cmp.{nat_cmp_is}
 use Rattle.std.specs.Int.{from_bool}
@@ -11,8 +11,8 @@ use Rattle.std.proofs.lemmas.Option.{none-some, same_Some}
 use Rattle.vfs_nodes.specs.Children.{Link, is_named, is_directory, directories_of, relinked}
 use Rattle.vfs_nodes.specs.Index.{IsBehind, AreInOrder}
 use Rattle.vfs_nodes.specs.declared.children.Child.{Child}
-use Rattle.vfs_nodes.proofs.Finds.{every_push, every_filter, every_map, every_weaker, every_found, found_here, found_later, none_passes, filter_all, map_all}
-use Rattle.vfs_nodes.proofs.Places.{same_name, turned_name, relinked_place, relinked_name}
+use Rattle.vfs_nodes.proofs.Finds.{every_both, every_filter, every_map, every_weaker, every_found, found_here, found_later, none_passes, filter_all, map_all}
+use Rattle.vfs_nodes.proofs.Places.{same_name, relinked_place, relinked_name}
 
 -- ---- a place as a key
 
@@ -23,26 +23,20 @@ not_at : (n k : ℕ) → k < n → is_at (nat_cmp n) k ≡ false
 not_at n k below = ap is_eq (sym (nat_cmp_is n k Greater below))
 
 module _ {X : Type 0} where
-  -- what is put in behind all others
-  pub inserted_last : (es : List (ℕ × X)) (n : ℕ) (v : X)
-      → AllByRecursion (λ (e : ℕ × X). e.0 < n) es
-      → insert_entry nat_cmp es n v ≡ es ++ (n, v) ∷ []
-  inserted_last [] n v before = refl
-  inserted_last (e ∷ es) n v before =
+  -- what is put in before all others
+  pub inserted_first : (es : List (ℕ × X)) (n : ℕ) (v : X)
+      → AllByRecursion (λ (e : ℕ × X). n < e.0) es → insert_entry nat_cmp es n v ≡ (n, v) ∷ es
+  inserted_first [] n v behind = refl
+  inserted_first (e ∷ es) n v behind =
       ap (λ o. match_ordering o ((n, v) ∷ e ∷ es) ((e.0, v) ∷ es) (e ∷ insert_entry nat_cmp es n v))
-      (sym (nat_cmp_is n e.0 Greater before.0))
-      ∙ ap (λ (l : List (ℕ × X)). e ∷ l) (inserted_last es n v before.1)
+      (sym (nat_cmp_is n e.0 Less behind.0))
 
   -- and taken out again
-  pub removed_last : (es : List (ℕ × X)) (n : ℕ) (v : X)
-      → AllByRecursion (λ (e : ℕ × X). e.0 < n) es
-      → remove_entry (is_at (nat_cmp n)) (es ++ (n, v) ∷ []) ≡ es
-  removed_last [] n v before =
-      cond-true (is_at (nat_cmp n) n) [] ((n, v) ∷ []) (at_itself n)
-  removed_last (e ∷ es) n v before =
-      cond-false (is_at (nat_cmp n) e.0) (es ++ (n, v) ∷ [])
-      (e ∷ remove_entry (is_at (nat_cmp n)) (es ++ (n, v) ∷ [])) (not_at n e.0 before.0)
-      ∙ ap (λ (l : List (ℕ × X)). e ∷ l) (removed_last es n v before.1)
+  pub removed_first : (es : List (ℕ × X)) (n : ℕ) (v : X)
+      → remove_entry (is_at (nat_cmp n)) ((n, v) ∷ es) ≡ es
+  removed_first es n v =
+      cond-true (is_at (nat_cmp n) n) es ((n, v) ∷ remove_entry (is_at (nat_cmp n)) es)
+      (at_itself n)
 
 -- ---- by place and by name
 
@@ -163,16 +157,13 @@ module _ (name : List ℕ) where
   -- ---- the order stays
 
   pub order_added : (links : List (ℕ × Link)) (place : ℕ) (child : Child) → AreInOrder links
-      → AllByRecursion (λ link. link.0 < place) links → find (is_named name) links ≡ None
-      → AreInOrder (links ++ (place, record { name = name; child = child }) ∷ [])
-  order_added [] place child order before none = (tt, tt)
-  order_added (x ∷ xs) place child order before none =
-      let differs = none_passes (is_named name) (x ∷ xs) none in (
-        every_push (IsBehind x.0 x.1.name) xs (place, record { name = name; child = child })
-            order.0 (before.0, turned_name x.1.name name false differs.0),
-        order_added xs place child order.1 before.1
-            (found_later (is_named name) x xs None differs.0 none),
-      )
+      → AllByRecursion (λ link. place < link.0) links → find (is_named name) links ≡ None
+      → AreInOrder ((place, record { name = name; child = child }) ∷ links)
+  order_added links place child order behind none = (
+    every_both (λ link. place < link.0) (λ link. is_named name link ≡ false) links behind
+        (none_passes (is_named name) links none),
+    order,
+  )
 
 pub order_filtered : (p : (ℕ × Link) → Bool) (links : List (ℕ × Link)) → AreInOrder links
     → AreInOrder (filter p links)
@@ -207,20 +198,22 @@ order_relinked name child links order =
     order_mapped (relinked name child) (relinked_place links name child)
     (relinked_name links name child) links order
 
-pub before_relinked : (name : List ℕ) (child : Child) (next : ℕ) (links : List (ℕ × Link))
-    → AllByRecursion (λ link. link.0 < next) links
-    → AllByRecursion (λ link. link.0 < next) (map (relinked name child) links)
-before_relinked name child next links before =
-    every_map (λ link. link.0 < next) (λ link. link.0 < next) (relinked name child)
-    (λ y b. subst (λ (n : ℕ). n < next) (sym (relinked_place links name child y)) b) links before
+-- what holds of the places
+pub places_relinked : (P : ℕ → Type 0) (name : List ℕ) (child : Child) (links : List (ℕ × Link))
+    → AllByRecursion (λ link. P link.0) links
+    → AllByRecursion (λ link. P link.0) (map (relinked name child) links)
+places_relinked P name child links all =
+    every_map (λ link. P link.0) (λ link. P link.0) (relinked name child)
+    (λ y b. subst P (sym (relinked_place links name child y)) b) links all
 
-pub before_added : (next : ℕ) (link : Link) (links : List (ℕ × Link))
-    → AllByRecursion (λ link. link.0 < next) links
-    → AllByRecursion (λ link. link.0 < next + 1) (links ++ (next, link) ∷ [])
-before_added next link links before =
-    every_push (λ other. other.0 < next + 1) links (next, link)
-    (every_weaker (λ other. other.0 < next) (λ other. other.0 < next + 1)
-    (λ other b. omega (arith, b)) links before) (omega arith)
+pub behind_added : (next : ℕ) (link : Link) (links : List (ℕ × Link)) → 0 < next
+    → AllByRecursion (λ link. next < link.0) links
+    → AllByRecursion (λ link. next - 1 < link.0) ((next, link) ∷ links)
+behind_added next link links some behind = (
+  omega (arith, some),
+  every_weaker (λ other. next < other.0) (λ other. next - 1 < other.0)
+      (λ other b. omega (arith, b)) links behind,
+)
 
 -- ---- how many there are, and how many directories
 
@@ -234,19 +227,19 @@ places_rise (x ∷ xs) low next small order above before =
     (λ link b. omega (arith, b.0)) xs order.0) before.1 in
     omega (arith, more, above.0)
 
-pub fewer_links : (links : List (ℕ × Link)) (next : ℕ) → AreInOrder links
-    → AllByRecursion (λ link. link.0 < next) links → length links ≤ next
-fewer_links links next order before =
+pub fewer_links : (links : List (ℕ × Link)) (most : ℕ) → AreInOrder links
+    → AllByRecursion (λ link. link.0 < most) links → length links ≤ most
+fewer_links links most order within =
     let above =
-    every_weaker (λ link. link.0 < next) (λ link. 0 ≤ link.0) (λ link b. omega arith) links
-    before in
-    omega (arith, places_rise links 0 next (omega arith) order above before)
+    every_weaker (λ link. link.0 < most) (λ link. 0 ≤ link.0) (λ link b. omega arith) links
+    within in
+    omega (arith, places_rise links 0 most (omega arith) order above within)
 
 -- one for a directory
 abbrev pub one_for : Link → ℕ
 one_for link = from_bool (is_directory link.child.kind)
 
-counted : (x : ℕ × Link) (xs : List (ℕ × Link))
+pub counted : (x : ℕ × Link) (xs : List (ℕ × Link))
     → directories_of (x ∷ xs) ≡ one_for x.1 + directories_of xs
 counted x xs =
     let kept = filter (λ link. is_directory link.1.child.kind) xs in
@@ -263,18 +256,6 @@ pub directories_some : (links : List (ℕ × Link)) → directories_of links ≤
 directories_some [] = omega arith
 directories_some (x ∷ xs) =
     omega (arith, counted x xs, one_at_most x.1, directories_some xs)
-
-pub directories_added : (links : List (ℕ × Link)) (place : ℕ) (link : Link)
-    → directories_of (links ++ (place, link) ∷ []) ≡ directories_of links + one_for link
-directories_added [] place link =
-    omega (arith, counted (place, link) [])
-directories_added (x ∷ xs) place link =
-    omega (
-      arith,
-      counted x (xs ++ (place, link) ∷ []),
-      counted x xs,
-      directories_added xs place link,
-    )
 
 pub directories_removed : (test : ℕ → Bool) (links : List (ℕ × Link)) (link : Link)
     → lookup test links ≡ Some link

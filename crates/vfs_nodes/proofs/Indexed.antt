@@ -1,5 +1,5 @@
 -- The links and the index of a directory, after each change of one name.
-use Rattle.std.proofs.Common.{◌≡◌, ◌+◌, ◌-◌, ◌^◌, ◌<◌, ◌≤◌, ℕ, not, List, [], ◌∷◌, ◌++◌, map, find, filter, Option, Some, None, option_map, Vec, Global, BTreeMap, nat_cmp, refl, sym, ap, ◌∙◌, subst, arith}
+use Rattle.std.proofs.Common.{◌≡◌, ◌+◌, ◌-◌, ◌^◌, ◌<◌, ◌≤◌, ℕ, not, List, ◌∷◌, map, find, filter, Option, Some, None, option_map, Vec, Global, BTreeMap, nat_cmp, refl, sym, ap, ◌∙◌, subst, arith}
 use Rattle.std.specs.Cmp.Lexicographic.{slice_cmp}
 use Rattle.std.specs.Map.{lookup, remove_entry, set_value}
 use Rattle.std.specs.BTreeMap.{UpdatesBy, insert_entry, is_at}
@@ -8,7 +8,7 @@ use Rattle.vfs_nodes.specs.Children.{Link, is_named, directories_of, relinked}
 use Rattle.vfs_nodes.specs.Index.{AreIndexed, place_of}
 use Rattle.vfs_nodes.specs.declared.children.Child.{Child}
 use Rattle.vfs_nodes.proofs.Finds.{every_filter}
-use Rattle.vfs_nodes.proofs.Index.{inserted_last, removed_last, found_by_place, removed_by_place, set_by_place, order_added, order_filtered, order_relinked, before_added, before_relinked, fewer_links, one_for, one_at_most, directories_some, directories_added, directories_removed, directories_set}
+use Rattle.vfs_nodes.proofs.Index.{inserted_first, removed_first, found_by_place, removed_by_place, set_by_place, order_added, order_filtered, order_relinked, behind_added, places_relinked, fewer_links, one_for, one_at_most, directories_some, counted, directories_removed, directories_set}
 use Rattle.vfs_nodes.proofs.Places.{index_changed, index_same, place_added, place_added_other, place_removed, place_removed_other, place_relinked}
 
 mapped_some : {X Y : Type 0} (f : X → Y) (o : Option X) (y : Y) → option_map f o ≡ Some y
@@ -22,15 +22,15 @@ mapped_none f (Some x) is = absurd (none-some (f x) (sym is))
 
 module _ (links : List (ℕ × Link)) (places : BTreeMap (Vec ℕ Global) ℕ) (next directories : ℕ)
     (old : AreIndexed links places next directories) where
-  -- there are no more directories than places before the next
-  few_directories : directories ≤ next
+  -- there are no more directories than places
+  few_directories : directories ≤ 2 ^ 63
   few_directories =
-      omega (arith, old.count, directories_some links, fewer_links links next old.order old.before)
+      let few = fewer_links links (2 ^ 63) old.order old.within in
+      omega (arith, old.count, directories_some links, few)
 
   -- one more still fits
-  pub directories_fit : (link : Link) (n : ℕ) → n ≡ one_for link → next < 2 ^ 64 - 1
-      → directories + n < 2 ^ 64
-  directories_fit link n is small = omega (arith, is, one_at_most link, few_directories)
+  pub directories_fit : (link : Link) (n : ℕ) → n ≡ one_for link → directories + n < 2 ^ 64
+  directories_fit link n is = omega (arith, is, one_at_most link, few_directories)
 
   -- a link that is a directory is counted
   pub link_counted : (place : ℕ) (link : Link) → lookup (is_at (nat_cmp place)) links ≡ Some link
@@ -43,7 +43,9 @@ module _ (links : List (ℕ × Link)) (places : BTreeMap (Vec ℕ Global) ℕ) (
       → AreIndexed links same next directories
   indexed_same same is = record {
     order = old.order;
-    before = old.before;
+    behind = old.behind;
+    within = old.within;
+    room = old.room;
     index = index_same places same links is old.index;
     count = old.count;
   }
@@ -99,8 +101,11 @@ module _ (links : List (ℕ × Link)) (places : BTreeMap (Vec ℕ Global) ℕ) (
           let less = ap directories_of is in
           subst (λ (l : List (ℕ × Link)). AreIndexed l changed next counted) same (record {
             order = order_filtered (λ link. not (is_named name link)) links old.order;
-            before = every_filter (λ link. link.0 < next) (λ link. not (is_named name link)) links
-                old.before;
+            behind = every_filter (λ link. next < link.0) (λ link. not (is_named name link)) links
+                old.behind;
+            within = every_filter (λ link. link.0 < 2 ^ 63) (λ link. not (is_named name link)) links
+                old.within;
+            room = old.room;
             index = index_changed places changed name None updates links left old.index
                 (place_removed links name) (place_removed_other links name);
             count = subst (λ (l : List (ℕ × Link)). counted ≡ directories_of l) (sym same)
@@ -135,7 +140,9 @@ module _ (links : List (ℕ × Link)) (places : BTreeMap (Vec ℕ Global) ℕ) (
           let now = ap directories_of is in
           subst (λ (l : List (ℕ × Link)). AreIndexed l places next counted) same (record {
             order = order_relinked name child links old.order;
-            before = before_relinked name child next links old.before;
+            behind = places_relinked (λ n. next < n) name child links old.behind;
+            within = places_relinked (λ n. n < 2 ^ 63) name child links old.within;
+            room = old.room;
             index = λ other. old.index other ∙ sym (place_relinked links name child other);
             count = subst (λ (l : List (ℕ × Link)). counted ≡ directories_of l) (sym same)
                 (omega (arith, set, now, sum, old.count));
@@ -144,7 +151,7 @@ module _ (links : List (ℕ × Link)) (places : BTreeMap (Vec ℕ Global) ℕ) (
       pub directories_replaced : (child : Child) (link : Link)
           → lookup (is_at (nat_cmp place)) links ≡ Some link → (counted : ℕ)
           → counted + one_for link ≡ directories + one_for (record link { child = child })
-          → counted ≤ next
+          → counted ≤ 2 ^ 63
       directories_replaced child link found counted sum =
           let changed = set_value (is_at (nat_cmp place)) links (record link { child = child }) in
           let new = indexed_replaced child link found changed refl counted sum in
@@ -152,41 +159,41 @@ module _ (links : List (ℕ × Link)) (places : BTreeMap (Vec ℕ Global) ℕ) (
             arith,
             new.count,
             directories_some changed,
-            fewer_links changed next new.order new.before,
+            fewer_links changed (2 ^ 63) new.order new.within,
           )
 
     -- one name more
     pub link_added : (child : Child) (more : List (ℕ × Link))
         → more ≡ insert_entry nat_cmp links next (record { name = name; child = child })
-        → more ≡ links ++ (next, record { name = name; child = child }) ∷ []
+        → more ≡ (next, record { name = name; child = child }) ∷ links
     link_added child more is =
-        is ∙ inserted_last links next (record { name = name; child = child }) old.before
+        is ∙ inserted_first links next (record { name = name; child = child }) old.behind
 
     pub add_undone : (child : Child) (more back : List (ℕ × Link))
         → more ≡ insert_entry nat_cmp links next (record { name = name; child = child })
         → back ≡ remove_entry (is_at (nat_cmp next)) more → back ≡ links
     add_undone child more back is undone =
         undone ∙ ap (remove_entry (is_at (nat_cmp next))) (link_added child more is)
-        ∙ removed_last links next (record { name = name; child = child }) old.before
+        ∙ removed_first links next (record { name = name; child = child })
 
-    pub indexed_added : find (is_named name) links ≡ None → (child : Child)
+    pub indexed_added : find (is_named name) links ≡ None → 0 < next → (child : Child)
         → (more : List (ℕ × Link))
         → more ≡ insert_entry nat_cmp links next (record { name = name; child = child })
         → (changed : BTreeMap (Vec ℕ Global) ℕ)
         → UpdatesBy (λ x y. slice_cmp nat_cmp x.items y.items)
         (λ key. slice_cmp nat_cmp name key.items) places changed (Some next)
-        → (counted : ℕ)
-        → counted ≡ directories + one_for (record { name = name; child = child })
-        → AreIndexed more changed (next + 1) counted
-    indexed_added none child more is changed updates counted sum =
+        → (sum : ℕ) → sum ≡ directories + one_for (record { name = name; child = child })
+        → AreIndexed more changed (next - 1) sum
+    indexed_added none some child more is changed updates sum sums =
         let link : Link = record { name = name; child = child } in
-        let all = links ++ (next, link) ∷ [] in
+        let all = (next, link) ∷ links in
         let same : all ≡ more = sym (link_added child more is) in
-        let sums = directories_added links next link in
-        subst (λ (l : List (ℕ × Link)). AreIndexed l changed (next + 1) counted) same (record {
-          order = order_added name links next child old.order old.before none;
-          before = before_added next link links old.before;
+        subst (λ (l : List (ℕ × Link)). AreIndexed l changed (next - 1) sum) same (record {
+          order = order_added name links next child old.order old.behind none;
+          behind = behind_added next link links some old.behind;
+          within = (old.room, old.within);
+          room = omega (arith, old.room);
           index = index_changed places changed name (Some next) updates links all old.index
-              (place_added links name next child none) (place_added_other links name next child);
-          count = omega (arith, sums, sum, old.count);
+              (place_added links name next child) (place_added_other links name next child);
+          count = omega (arith, counted (next, link) links, sums, old.count);
         })

@@ -1,15 +1,15 @@
 -- The index of a directory, from a name to its place, after a change of one name.
-use Rattle.std.proofs.Common.{◌≡◌, ℕ, Bool, true, false, cond, not, List, [], ◌∷◌, ◌++◌, map, find, filter, Option, Some, None, option_map, bytes_eq, Vec, Global, BTreeMap, nat_cmp, is_eq, refl, sym, ap, ◌∙◌, subst, ⊎_elim}
+use Rattle.std.proofs.Common.{◌≡◌, ℕ, Bool, true, false, cond, not, List, ◌∷◌, map, find, filter, Option, Some, None, option_map, bytes_eq, Vec, Global, BTreeMap, nat_cmp, is_eq, refl, sym, ap, ◌∙◌, subst, ⊎_elim}
 use Rattle.std.specs.Cmp.{eq_by_cmp_equiv}
 use Rattle.std.specs.Cmp.Lexicographic.{slice_cmp, bytes_decides, nat_list_cmp_total, nat_list_eq_equiv}
 use Rattle.std.specs.Map.{lookup, KeepsOthers}
 use Rattle.std.specs.BTreeMap.{UpdatesBy}
-use Rattle.std.proofs.lemmas.Bool.{cases_Bool}
+use Rattle.std.proofs.lemmas.Bool.{cases_Bool, cond-true, cond-false}
 use Rattle.std.proofs.lemmas.Map.Text.{is_eq-slice_cmp}
 use Rattle.vfs_nodes.specs.Children.{Link, is_named, relinked}
 use Rattle.vfs_nodes.specs.Index.{place_of, place_named}
 use Rattle.vfs_nodes.specs.declared.children.Child.{Child}
-use Rattle.vfs_nodes.proofs.Finds.{find_pushed, find_push_other, find_filtered, find_filter_other, find_map}
+use Rattle.vfs_nodes.proofs.Finds.{find_filtered, find_filter_other, find_map}
 
 -- two names, and a third that is one of them
 other_name : (a b c : List ℕ) → bytes_eq a b ≡ false → bytes_eq a c ≡ true
@@ -64,21 +64,21 @@ index_same old new links same index other =
 -- ---- the places of names, after a change of the links
 
 module _ (links : List (ℕ × Link)) (name : List ℕ) where
-  pub place_added : (place : ℕ) (child : Child) → find (is_named name) links ≡ None
-      → place_named (links ++ (place, record { name = name; child = child }) ∷ []) name
-      ≡ Some place
-  place_added place child none =
+  pub place_added : (place : ℕ) (child : Child)
+      → place_named ((place, record { name = name; child = child }) ∷ links) name ≡ Some place
+  place_added place child =
+      let link : ℕ × Link = (place, record { name = name; child = child }) in
       ap (option_map (λ link. link.0))
-      (find_pushed (is_named name) links (place, record { name = name; child = child }) none
-      (named_itself name))
+      (cond-true (is_named name link) (Some link) (find (is_named name) links) (named_itself name))
 
   pub place_added_other : (place : ℕ) (child : Child) (other : List ℕ)
       → bytes_eq name other ≡ false
-      → place_named (links ++ (place, record { name = name; child = child }) ∷ []) other
+      → place_named ((place, record { name = name; child = child }) ∷ links) other
       ≡ place_named links other
   place_added_other place child other apart =
+      let link : ℕ × Link = (place, record { name = name; child = child }) in
       ap (option_map (λ link. link.0))
-      (find_push_other (is_named other) links (place, record { name = name; child = child }) apart)
+      (cond-false (is_named other link) (Some link) (find (is_named other) links) apart)
 
   pub place_removed : place_named (filter (λ link. not (is_named name link)) links) name ≡ None
   place_removed = ap (option_map (λ link. link.0)) (find_filtered (is_named name) links)

@@ -1,5 +1,5 @@
 -- What a directory holds: names in order of their places, and where each of them leads.
-use Rattle.std.specs.Prelude.{ℕ, ◌+◌, Bool, true, false, not, List, [], ◌∷◌, ◌++◌, length, map, Option, option_map, find, if◌then◌else◌}
+use Rattle.std.specs.Prelude.{ℕ, ◌-◌, ◌^◌, nat_lt, Bool, true, false, not, List, [], ◌∷◌, length, map, Option, option_map, find, if◌then◌else◌}
 use Rattle.std.specs.List.{filter}
 use Rattle.std.specs.Str.{bytes_eq}
 use Rattle.vfs_nodes.specs.declared.children.Child.{Child}
@@ -23,15 +23,20 @@ pub record Link : Type 0 where
   pub name : List ℕ
   pub child : Child
 
--- the names of a directory, each at its place, in order of these, and the place of the next one. No
--- place is used twice: a reading that stopped behind one goes on there, whatever came or went
+-- the names of a directory, each at its place, in order of these, and the place of the next one. It lies
+-- before all others, and no place is used twice: so a reading that goes on from a place gives what is
+-- left of the names that were there, whatever came or went, and ends
 pub record Children : Type 0 where
   pub links : List (ℕ × Link)
   pub next : ℕ
 
--- no names; the first two places are those of `.` and `..`
+-- no names; the places go down from the largest that a signed number of 64 bits can be
 abbrev pub no_children : Children
-no_children = record { links = []; next = 3 }
+no_children = record { links = []; next = 2 ^ 63 - 1 }
+
+-- whether there is a place for one more name: 1 and 2 are those of `.` and `..`
+abbrev pub has_place : Children → Bool
+has_place children = nat_lt 2 children.next
 
 abbrev pub is_named : (name : List ℕ) → (ℕ × Link) → Bool
 is_named name link = bytes_eq link.1.name name
@@ -48,11 +53,11 @@ directories_of links = length (filter (λ link. is_directory link.1.child.kind) 
 abbrev pub directories_in : Children → ℕ
 directories_in children = directories_of children.links
 
--- with one name more, behind the others
+-- with one name more, before the others
 abbrev pub with_child : Children → (name : List ℕ) → Child → Children
 with_child children name child = record {
-  links = children.links ++ (children.next, record { name = name; child = child }) ∷ [];
-  next = children.next + 1;
+  links = (children.next, record { name = name; child = child }) ∷ children.links;
+  next = children.next - 1;
 }
 
 -- without a name

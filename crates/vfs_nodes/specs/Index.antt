@@ -1,5 +1,5 @@
 -- How the names of a directory are kept: in order of their places, and an index of these by name.
-use Rattle.std.specs.Prelude.{◌≡◌, ℕ, ◌<◌, false, ⊤, List, [], ◌∷◌, Option, option_map, find, Vec}
+use Rattle.std.specs.Prelude.{◌≡◌, ℕ, ◌<◌, ◌^◌, false, ⊤, List, [], ◌∷◌, Option, option_map, find, Vec}
 use Rattle.std.specs.List.{AllByRecursion}
 use Rattle.std.specs.Ordering.{nat_cmp}
 use Rattle.std.specs.Cmp.Lexicographic.{slice_cmp}
@@ -24,12 +24,14 @@ abbrev pub AreInOrder : List (ℕ × Link) → Type 0
 AreInOrder [] = ⊤
 AreInOrder (link ∷ links) = AllByRecursion (IsBehind link.0 link.1.name) links × AreInOrder links
 
--- what holds of the links and the index of a directory: the places are in order and before that of
--- the next name, the index has each name that is there and no other, and directories are counted
+-- what holds of the links and the index of a directory: the places are in order, behind that of the next
+-- name and below 2 ^ 63, the index has each name that is there and no other, and directories are counted
 pub record AreIndexed
     (links : List (ℕ × Link)) (places : BTreeMap (Vec ℕ Global) ℕ) (next directories : ℕ)
     : Type 0 where
   pub order : AreInOrder links
-  pub before : AllByRecursion (λ link. link.0 < next) links
+  pub behind : AllByRecursion (λ link. next < link.0) links
+  pub within : AllByRecursion (λ link. link.0 < 2 ^ 63) links
+  pub room : next < 2 ^ 63
   pub index : (name : List ℕ) → place_of places name ≡ place_named links name
   pub count : directories ≡ directories_of links

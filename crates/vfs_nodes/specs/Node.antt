@@ -1,5 +1,5 @@
 -- What a node shows of itself, and what becomes of it.
-use Rattle.std.specs.Prelude.{◌≡◌, ℕ, ◌+◌, ◌-◌, ◌^◌, ◌/◌, ◌==◌, ◌&&◌, List, [], ◌∷◌, length, min, bit_or, bit_and, if◌then◌else◌}
+use Rattle.std.specs.Prelude.{◌≡◌, ℕ, ◌+◌, ◌-◌, ◌*◌, ◌^◌, ◌/◌, ◌==◌, ◌&&◌, nat_lt, Bool, List, [], ◌∷◌, length, min, bit_or, bit_and, if◌then◌else◌}
 use Rattle.std.specs.Int.{div_ceil}
 use Rattle.std.specs.Duration.{as_nanos}
 use Rattle.std.specs.declared.time.Duration.{Duration}
@@ -55,17 +55,17 @@ attr_of number node =
       flags = 0;
     }
 
--- one second
-abbrev pub IsSecond : Duration → Type 0
-IsSecond time = as_nanos time ≡ 1000000000
+-- a day: nobody but the client changes what it was told
+abbrev pub IsDay : Duration → Type 0
+IsDay time = as_nanos time ≡ 86400 * 1000000000
 
 -- its entry
 pub record IsEntryOf (number : ℕ) (node : Node) (entry : Entry) : Type 0 where
   pub inode : entry.inode ≡ number
   pub generation : entry.generation ≡ 0
   pub attr : entry.attr ≡ attr_of number node
-  pub attr_timeout : IsSecond entry.attr_timeout
-  pub entry_timeout : IsSecond entry.entry_timeout
+  pub attr_timeout : IsDay entry.attr_timeout
+  pub entry_timeout : IsDay entry.entry_timeout
 
 -- how many bytes of the file system's it takes: those of its contents and its extended attributes
 abbrev pub weight : Node → ℕ
@@ -111,11 +111,34 @@ set_attr now node attr valid = record node {
   ctime = picked valid 0x400 (record { seconds = attr.ctime; nanoseconds = attr.ctimensec }) now;
 }
 
--- a node as it is after it was opened: O_TRUNC takes the bytes of a file
-abbrev pub opened : (now : Time) → Node → (flags : ℕ) → Node
-opened now node flags =
-    if bit_and flags 0o1000 == 0o1000 && is_file node.kind
-    then record node { contents = []; mtime = now; ctime = now } else node
+-- whether SETATTR makes the contents of a node longer, for which memory may be wanted
+abbrev pub lengthens : Node → SetattrIn → (valid : ℕ) → Bool
+lengthens node attr valid = bit_and valid 0x8 == 0x8 && nat_lt (length node.contents) attr.size
+
+-- permission bits without set-user-ID, and without set-group-ID where the group may run it
+abbrev pub without_set_ids : (permissions : ℕ) → ℕ
+without_set_ids permissions =
+    bit_and permissions (if bit_and permissions 0o10 == 0o10 then 0o1777 else 0o3777)
+
+-- what is left of them where this user changed the bytes
+abbrev pub left_by : (uid permissions : ℕ) → ℕ
+left_by uid permissions = if uid == 0 then permissions else without_set_ids permissions
+
+-- whether O_TRUNC is among the flags of an OPEN, and the node has bytes to be taken
+abbrev pub truncates : Node → (flags : ℕ) → Bool
+truncates node flags = bit_and flags 0o1000 == 0o1000 && is_file node.kind
+
+-- a node as it is after this user opened it: O_TRUNC takes the bytes of a file
+abbrev pub opened : (now : Time) → (uid : ℕ) → Node → (flags : ℕ) → Node
+opened now uid node flags =
+    if truncates node flags
+    then record node {
+      contents = [];
+      permissions = left_by uid node.permissions;
+      mtime = now;
+      ctime = now;
+    }
+    else node
 
 -- a file with bytes written over its own from off on; it has not changed where there are none
 abbrev pub overwritten : (now : Time) → Node → (off : ℕ) → List ℕ → Node

@@ -14,9 +14,9 @@ is_called name xattr = bytes_eq xattr.name name
 abbrev pub xattr_named : List Xattr → (name : List ℕ) → Option (List ℕ)
 xattr_named xattrs name = option_map (λ xattr. xattr.value) (find (is_called name) xattrs)
 
--- how many bytes they take: names with a 0 behind each, and values
+-- how many bytes one takes: its name, its value, and 128 for its place
 abbrev pub bytes_of : Xattr → ℕ
-bytes_of xattr = length xattr.name + 1 + length xattr.value
+bytes_of xattr = length xattr.name + length xattr.value + 128
 
 abbrev pub xattr_bytes : List Xattr → ℕ
 xattr_bytes xattrs = sum_by bytes_of xattrs

@@ -1,9 +1,9 @@
 //! The names of a directory.
 
-ghost use Rattle.std.specs.Prelude.{◌≡◌, ◌==◌, nat_lt, ◌<◌, ◌^◌, ◌-◌, length, Some, None, OnOk, IfErr};
+ghost use Rattle.std.specs.Prelude.{◌≡◌, ◌==◌, ◌<◌, length, Some, None, OnOk, IfErr};
 ghost use Rattle.vfs_flags.specs.Errors.{enomem};
 ghost use Rattle.vfs_files.specs.Names.{name_text};
-ghost use Rattle.vfs_nodes.specs.Children.{no_children, child_named, directories_in};
+ghost use Rattle.vfs_nodes.specs.Children.{no_children, has_place, child_named, directories_in};
 ghost use Rattle.vfs_nodes.specs.Children.{with_child, without_child, with_other_child};
 
 use crate::kind::Kind;
@@ -21,6 +21,12 @@ pub struct Child {
     /// What it is.
     pub kind: Kind,
 }
+
+/// The place of the first name of a directory: the largest that `telldir(3)` can give.
+const FIRST_PLACE: u64 = i64::MAX as u64;
+
+/// The places up to this one are those of `.` and `..`.
+const LAST_DOT: u64 = 2;
 
 /// A name in a directory.
 #[derive(Drop)]
@@ -66,7 +72,7 @@ impl Children {
         Children {
             links: BTreeMap::new(alloc),
             places: BTreeMap::new(alloc),
-            next: 3,
+            next: FIRST_PLACE,
             directories: 0,
         }
     }
@@ -87,9 +93,9 @@ impl Children {
 
     /// Whether there is a place for one more name.
     pub fn has_place(&self) -> bool
-        ensures { result ≡ nat_lt self.now.next (2 ^ 64 - 1) }
+        ensures { result ≡ has_place self.now }
     {
-        self.next < u64::MAX
+        self.next > LAST_DOT
     }
 
     /// The names behind a place, in order of their places.
@@ -110,10 +116,10 @@ impl Children {
         }
     }
 
-    /// Adds a name behind the others. ENOMEM where there is no memory for it, and all stays.
+    /// Adds a name before the others. ENOMEM where there is no memory for it, and all stays.
     pub fn add(&mut self, alloc: Global, name: CStr<'_>, child: Child) -> Result<(), Fault>
         requires free { child_named self.old (name_text name) ≡ None }
-        requires place { self.old.next < 2 ^ 64 - 1 }
+        requires place { 2 < self.old.next }
         ensures ok { OnOk result (self.new ≡ with_child self.old (name_text name.entry) child) }
         ensures err { IfErr result (λ fault. (fault ≡ Some enomem) × (self.new ≡ self.old)) }
     {
@@ -130,7 +136,7 @@ impl Children {
             self.links.remove(&place);
             return Err(Some(Errno::ENOMEM));
         }
-        self.next += 1;
+        self.next -= 1;
         self.directories += u64::from(child.kind.is_directory());
         Ok(())
     }

@@ -7,8 +7,9 @@ ghost use Rattle.vfs_flags.specs.Errors.{enomem};
 
 use std::alloc::Global;
 use std::marker::Model;
-use vfs_files::{ZeroCopyReader, ZeroCopyWriter, copy_of, read_bytes, write_bytes};
-use vfs_flags::{Errno, Fault};
+use std::mem;
+use vfs_files::{ZeroCopyReader, ZeroCopyWriter, copy_of, lengthen, read_bytes, write_bytes};
+use vfs_flags::Fault;
 
 /// Bytes in memory.
 #[derive(Drop)]
@@ -51,23 +52,29 @@ impl Contents {
         copy_of(alloc, &self.bytes)
     }
 
-    /// Cuts off what is behind so many bytes, or fills up with zeros. ENOMEM where there is no memory
-    /// for them, and all stays.
-    pub fn resize(&mut self, size: usize) -> Result<(), Fault>
+    /// Cuts off what is behind so many bytes, and gives their memory back, or fills up with zeros.
+    /// ENOMEM where there is no memory for these, and all stays.
+    pub fn resize(&mut self, alloc: Global, size: usize) -> Result<(), Fault>
         ensures ok { OnOk result (self.new ≡ resized self.old size) }
-        ensures err { IfErr result (λ fault. (fault ≡ Some enomem) × (self.new ≡ self.old)) }
+        ensures err { IfErr result (λ fault. (fault ≡ Some enomem) × (length self.old < size)
+            × (self.new ≡ self.old)) }
     {
-        match self.bytes.resize(size, 0) {
-            Ok(()) => Ok(()),
-            Err(_) => Err(Some(Errno::ENOMEM)),
+        if size == 0 {
+            self.clear(alloc);
+        } else if size < self.bytes.len() {
+            self.bytes.truncate(size);
+            self.bytes.shrink_to_fit();
+        } else {
+            lengthen(&mut self.bytes, size)?;
         }
+        Ok(())
     }
 
-    /// Takes all bytes away.
-    pub(crate) fn clear(&mut self)
+    /// Takes all bytes away, and gives their memory back.
+    pub(crate) fn clear(&mut self, alloc: Global)
         ensures { self.new ≡ [] }
     {
-        self.bytes.clear();
+        drop(mem::replace(&mut self.bytes, Vec::new(alloc)));
     }
 
     /// How many bytes there are.

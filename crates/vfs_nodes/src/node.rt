@@ -1,9 +1,10 @@
 //! A node: a directory, a file or a symbolic link.
 
-ghost use Rattle.std.specs.Prelude.{◌≡◌, ℕ, List, take, if◌then◌else◌, Some, MatchResult, OnOk, IfErr};
+ghost use Rattle.std.specs.Prelude.{◌≡◌, ℕ, List, take, if◌then◌else◌, Some, MatchResult, OnOk, IfErr, IsTrue};
 ghost use Rattle.vfs_flags.specs.Errors.{enomem};
 ghost use Rattle.vfs_flags.specs.Flags.{setattr_valid_bits};
 ghost use Rattle.vfs_nodes.specs.Node.{attr_of, nlink_of, IsEntryOf, weight, new_node, opened, set_attr};
+ghost use Rattle.vfs_nodes.specs.Node.{left_by, lengthens, truncates, without_set_ids};
 ghost use Rattle.vfs_nodes.specs.Writing.{Overwrites};
 
 use crate::children::Children;
@@ -17,11 +18,14 @@ use vfs_files::{Entry, ZeroCopyReader};
 use vfs_flags::{Fault, GuestGid, GuestUid, SetattrValid};
 use vfs_wire::{Attr, SetattrIn};
 
-/// How long a client may rely on an answer.
-pub const TIMEOUT_SECONDS: u64 = 1;
+/// How long a client may rely on an answer: a day, since nobody else changes what it was told.
+pub const TIMEOUT_SECONDS: u64 = 86_400;
 
 /// The flag of `open(2)` that takes the bytes of a file.
 const O_TRUNC: u32 = 0o1000;
+
+/// The permission bit by which the group may run a file.
+const GROUP_RUNS: u32 = 0o10;
 
 /// A point in time.
 #[derive(Clone, Copy, Debug, PartialEq, Eq)]
@@ -43,7 +47,7 @@ pub struct Node {
     pub uid: GuestUid,
     /// Its group.
     pub gid: GuestGid,
-    /// When it was last read.
+    /// The time of its last reading that a client set, or of its making: no reading moves it.
     pub atime: Time,
     /// When its bytes or names were last changed.
     pub mtime: Time,
@@ -161,14 +165,21 @@ impl Node {
 
     /// Sets the attributes that the request names. ENOMEM where there is no memory for a longer
     /// file, and all stays.
-    pub fn set_attr(&mut self, now: Time, attr: SetattrIn, valid: SetattrValid) -> Result<(), Fault>
+    pub fn set_attr(
+        &mut self,
+        alloc: Global,
+        now: Time,
+        attr: SetattrIn,
+        valid: SetattrValid,
+    ) -> Result<(), Fault>
         ensures ok { OnOk result (self.new ≡
             set_attr now self.old attr (setattr_valid_bits valid)) }
-        ensures err { IfErr result (λ fault. (fault ≡ Some enomem) × (self.new ≡ self.old)) }
+        ensures err { IfErr result (λ fault. (fault ≡ Some enomem) × (self.new ≡ self.old)
+            × IsTrue (lengthens self.old attr (setattr_valid_bits valid))) }
     {
         let resizes = valid.contains(SetattrValid::SIZE);
         if resizes {
-            self.contents.resize(attr.size as usize)?;
+            self.contents.resize(alloc, attr.size as usize)?;
         }
         let atime = Time {
             seconds: attr.atime,
@@ -198,12 +209,21 @@ impl Node {
         Ok(())
     }
 
-    /// Opens it: O_TRUNC takes the bytes of a file.
-    pub fn open(&mut self, now: Time, flags: u32)
-        ensures { self.new ≡ opened now self.old flags }
+    /// Whether an opening with these flags takes the bytes of it.
+    pub fn truncates(&self, flags: u32) -> bool
+        ensures { result ≡ truncates self.now flags }
     {
-        if flags & O_TRUNC == O_TRUNC && self.kind.is_file() {
-            self.contents.clear();
+        flags & O_TRUNC == O_TRUNC && self.kind.is_file()
+    }
+
+    /// Opens it for this user: O_TRUNC takes the bytes of a file, and by another user than 0 its
+    /// set-user-ID and set-group-ID bits.
+    pub fn open(&mut self, alloc: Global, now: Time, uid: GuestUid, flags: u32)
+        ensures { self.new ≡ opened now uid self.old flags }
+    {
+        if self.truncates(flags) {
+            self.contents.clear(alloc);
+            self.permissions = left_by(uid, self.permissions);
             self.mtime = now;
             self.ctime = now;
         }
@@ -229,6 +249,29 @@ impl Node {
         }
         Ok(count)
     }
+}
+
+// What is left of permission bits where this user changed the bytes.
+fn left_by(uid: GuestUid, permissions: u32) -> u32
+    ensures { result ≡ left_by uid permissions }
+{
+    if uid == GuestUid::from(0) {
+        permissions
+    } else {
+        without_set_ids(permissions)
+    }
+}
+
+// Permission bits without set-user-ID, and without set-group-ID where the group may run it.
+fn without_set_ids(permissions: u32) -> u32
+    ensures { result ≡ without_set_ids permissions }
+{
+    let kept = if permissions & GROUP_RUNS == GROUP_RUNS {
+        0o1777
+    } else {
+        0o3777
+    };
+    permissions & kept
 }
 
 // The new value where it is set, or else the old one.

@@ -10,8 +10,12 @@ use std::marker::Model;
 use vfs_files::{CStr, CString, copy_of};
 use vfs_flags::{Errno, Fault};
 
-/// The most bytes that the names and values of the extended attributes of a node take.
+/// The most bytes that the extended attributes of a node take.
 pub const MOST_BYTES: u64 = 65_536;
+
+/// How many bytes one takes beside those of its name and its value: what its place in the list and two
+/// pieces of memory do.
+const PLACE_BYTES: u64 = 128;
 
 /// An extended attribute.
 #[derive(Drop)]
@@ -58,7 +62,7 @@ impl Xattrs {
         }
     }
 
-    /// How many bytes their names and values take.
+    /// How many bytes they take.
     pub fn bytes(&self) -> u64
         ensures bytes { result ≡ xattr_bytes self.now }
         ensures most { result ≤ MOST_BYTES }
@@ -96,8 +100,8 @@ impl Xattrs {
         };
         let bytes = kept
             .checked_add(name.len() as u64)?
-            .checked_add(1)?
-            .checked_add(value.len() as u64)?;
+            .checked_add(value.len() as u64)?
+            .checked_add(PLACE_BYTES)?;
         if bytes > MOST_BYTES {
             return None;
         }
@@ -181,7 +185,7 @@ impl Xattr {
         requires { bytes_of self.now ≤ MOST_BYTES }
         ensures { result ≡ bytes_of self.now }
     {
-        self.name.as_c_str().to_bytes().len() as u64 + 1 + self.value.len() as u64
+        self.name.as_c_str().to_bytes().len() as u64 + self.value.len() as u64 + PLACE_BYTES
     }
 }
 

@@ -1,6 +1,8 @@
+mod Answering
 mod Below
-pub mod Entries
 mod Forgetting
-pub mod Nodes
 mod Pairs
+mod Releasing
 mod Weights
+pub mod Entries
+pub mod Nodes

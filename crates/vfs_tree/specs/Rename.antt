@@ -1,8 +1,10 @@
 -- What RENAME does, in steps, each from the state that the one before it left: so the two directories may
 -- be one.
-use Rattle.std.specs.Prelude.{ℕ, zero, suc, ◌^◌, ◌-◌, ◌==◌, ◌&&◌, ◌||◌, nat_lt, not, Bool, true, false, List, [], ◌∷◌, length, Option, Some, None, is_some, is_none, if◌then◌else◌}
+use Rattle.std.specs.Prelude.{ℕ, zero, suc, ◌==◌, ◌&&◌, ◌||◌, nat_lt, not, Bool, true, false, List, [], ◌∷◌, length, codes, Option, Some, None, is_some, is_none, if◌then◌else◌}
 use Rattle.vfs_flags.specs.Errors.{enoent, eexist, enotdir, eisdir, enospc, enotempty, einval}
-use Rattle.vfs_nodes.specs.Children.{is_directory, with_child, without_child, with_other_child}
+use Rattle.std.specs.List.{list_any}
+use Rattle.std.specs.Str.{bytes_eq}
+use Rattle.vfs_nodes.specs.Children.{is_directory, has_place, with_child, without_child, with_other_child}
 use Rattle.vfs_files.specs.Calls.{Done}
 use Rattle.vfs_nodes.specs.declared.children.Child.{Child}
 use Rattle.vfs_nodes.specs.declared.node.Node.{Node}
@@ -23,6 +25,12 @@ directory_refusal node name =
     first_of ((is_none node, enoent) ∷ (not (is_directory_at node), enotdir)
     ∷ (nat_lt 255 (length name), enametoolong) ∷ [])
 
+-- whether a name can't be made: it is empty, `.`, `..`, or has a '/'. A kernel asks for none of these
+abbrev pub is_improper : (name : List ℕ) → Bool
+is_improper name =
+    length name == 0 || bytes_eq name (codes ".") || bytes_eq name (codes "..")
+    || list_any (λ b. b == 0x2f) name
+
 -- whether no name leads to a node any more: a directory that was taken out
 abbrev pub is_nameless : Option Node → Bool
 is_nameless None = true
@@ -31,7 +39,7 @@ is_nameless (Some node) = node.names == 0
 -- whether a directory has no place for a further name
 abbrev pub is_crowded : Option Node → Bool
 is_crowded None = false
-is_crowded (Some node) = not (nat_lt node.children.next (2 ^ 64 - 1))
+is_crowded (Some node) = not (has_place node.children)
 
 abbrev pub parent_of : Option Node → ℕ
 parent_of None = 1
@@ -75,9 +83,11 @@ names_refusal s od nd flags moved target =
     ∷ (flags == 2 && is_own_child s target od, einval) ∷ [])
 
 -- and of the node that it takes the place of, or of the place of a free name
-abbrev pub place_refusal : State → (nd flags : ℕ) → (moved target : Option Child) → Option ℕ
-place_refusal s nd flags moved None = first_of ((is_crowded (node_at s nd), enospc) ∷ [])
-place_refusal s nd flags moved (Some target) =
+abbrev pub place_refusal :
+    State → (nd : ℕ) → (name : List ℕ) → (flags : ℕ) → (moved target : Option Child) → Option ℕ
+place_refusal s nd name flags moved None =
+    first_of ((is_improper name, einval) ∷ (is_crowded (node_at s nd), enospc) ∷ [])
+place_refusal s nd name flags moved (Some target) =
     if flags == 2 || same_node moved (Some target) then None
     else replace_refusal (node_of s moved) (node_of s (Some target))
 
@@ -94,7 +104,7 @@ module _ (s : State) (od : ℕ) (on : List ℕ) (nd : ℕ) (nn : List ℕ) where
       or_else (directory_refusal (node_at s od) on)
       (or_else (directory_refusal (node_at s nd) nn)
       (or_else (names_refusal s od nd flags (child_at s od on) (child_at s nd nn))
-      (place_refusal s nd flags (child_at s od on) (child_at s nd nn))))
+      (place_refusal s nd nn flags (child_at s od on) (child_at s nd nn))))
 
   -- a free name leads to a node that another name led to
   abbrev pub moved_to_free : Child → State
@@ -127,5 +137,8 @@ module _ (s : State) (od : ℕ) (on : List ℕ) (nd : ℕ) (nn : List ℕ) where
   abbrev pub renamed : (flags : ℕ) → State
   renamed flags = renamed_to flags (child_at s od on) (child_at s nd nn)
 
+  -- memory is wanted for a free name alone
   abbrev pub renames : (flags : ℕ) → Outcome
-  renames flags = unless (rename_refusal flags) (Tried true (Just Done) (renamed flags))
+  renames flags =
+      unless (rename_refusal flags)
+      (Tried (is_none (child_at s nd nn)) (Just Done) (renamed flags))

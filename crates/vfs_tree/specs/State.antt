@@ -1,5 +1,6 @@
 -- The state of the file system: its nodes by number.
-use Rattle.std.specs.Prelude.{ℕ, ◌+◌, ◌-◌, ◌==◌, ◌&&◌, List, length, Option, Some, None, if◌then◌else◌}
+use Rattle.std.specs.Prelude.{ℕ, ◌+◌, ◌-◌, ◌==◌, ◌&&◌, nat_lt, min, List, length, Option, Some, None, if◌then◌else◌}
+use Rattle.std.specs.List.{filter}
 use Rattle.std.specs.Ordering.{nat_cmp}
 use Rattle.std.specs.Map.{lookup, set_value, remove_entry}
 use Rattle.std.specs.BTreeMap.{insert_entry, is_at}
@@ -10,18 +11,25 @@ use Rattle.vfs_nodes.specs.declared.node.Node.{Node}
 use Rattle.vfs_nodes.specs.declared.node.Time.{Time}
 use Rattle.vfs_tree.specs.declared.fs.Limits.{Limits}
 
--- the nodes in order of their numbers, the number of the next one, how many bytes the nodes take, how
+-- the nodes in order of their numbers, the number of the next one, how many bytes the nodes take, how many
+-- inodes they are counted as (each node as one, and each further name that leads to it as one more), how
 -- much there may be at most, and the time
 pub record State : Type 0 where
   pub nodes : List (ℕ × Node)
   pub next : ℕ
   pub used : ℕ
+  pub inodes : ℕ
   pub limits : Limits
   pub now : Time
 
 -- the node of this number
 abbrev pub node_at : State → (number : ℕ) → Option Node
 node_at s n = lookup (is_at (nat_cmp n)) s.nodes
+
+-- the nodes of greater numbers; all of them where there is none to begin behind
+abbrev pub behind : (number : Option ℕ) → List (ℕ × Node) → List (ℕ × Node)
+behind None nodes = nodes
+behind (Some n) nodes = filter (λ e. nat_lt n e.0) nodes
 
 -- how many nodes there are
 abbrev pub count_of : State → ℕ
@@ -50,6 +58,7 @@ with_new s node = record s {
   nodes = insert_entry nat_cmp s.nodes s.next node;
   next = s.next + 1;
   used = s.used + weight node;
+  inodes = s.inodes + 1;
 }
 
 -- without the node of this number
@@ -57,6 +66,7 @@ abbrev pub without_node : State → (number : ℕ) → Node → State
 without_node s n node = record s {
   nodes = remove_entry (is_at (nat_cmp n)) s.nodes;
   used = s.used - weight node;
+  inodes = s.inodes - 1;
 }
 
 -- a node that no name leads to and of which no lookup is held is gone
@@ -77,10 +87,12 @@ abbrev pub with_names : State → (directory : ℕ) → (Children → Children) 
 with_names s n f =
     change s n (λ node. record node { children = f node.children; mtime = s.now; ctime = s.now })
 
--- one name less leads to a node
+-- one name less leads to a node; where it had a further one, that is counted no more
 abbrev pub unnamed : State → (number : ℕ) → Option Node → State
 unnamed s n None = s
-unnamed s n (Some node) = settled s n (record node { names = node.names - 1; ctime = s.now })
+unnamed s n (Some node) =
+    settled (record s { inodes = s.inodes - min (node.names - 1) 1 }) n
+    (record node { names = node.names - 1; ctime = s.now })
 
 -- where a name of a node leads
 abbrev pub child_of : Option Node → (name : List ℕ) → Option Child

@@ -1,16 +1,18 @@
 -- How each call ends.
-use Rattle.std.specs.Prelude.{ℕ, ◌==◌, ◌+◌, ◌-◌, ◌/◌, ◌^◌, ◌||◌, ◌&&◌, nat_le, nat_lt, not, min, max, Bool, true, List, [], ◌∷◌, length, take, bit_and, Option, Some, None, is_some, is_none, if◌then◌else◌}
+use Rattle.std.specs.Prelude.{ℕ, ◌==◌, ◌+◌, ◌-◌, ◌/◌, ◌^◌, ◌||◌, ◌&&◌, nat_eq, nat_le, nat_lt, not, min, max, Bool, true, List, [], ◌∷◌, length, map, take, codes, bit_and, bit_or, Option, Some, None, is_some, is_none, if◌then◌else◌}
+use Rattle.std.specs.List.{starts_with}
+use Rattle.std.specs.Str.{bytes_eq}
 use Rattle.vfs_flags.specs.Errors.{eperm, enoent, eexist, enotdir, eisdir, einval, enospc, erange, enotempty, enodata, eoverflow, eopnotsupp}
 use Rattle.vfs_wire.specs.declared.attributes.SetattrIn.{SetattrIn}
 use Rattle.vfs_wire.specs.declared.stat.Statvfs64.{Statvfs64}
 use Rattle.vfs_files.specs.declared.entry.Context.{Context}
 use Rattle.vfs_files.specs.Items.{Item}
 use Rattle.vfs_files.specs.Bytes.{part_of, most_put, fitting}
-use Rattle.vfs_files.specs.Calls.{Call, Init, Lookup, Forget, BatchForget, Getattr, Setattr, Symlink, Readlink, Open, Unlink, Rmdir, Rename, Link, Mknod, Mkdir, Create, Read, Write, Fallocate, Statfs, Readdir, Setxattr, Getxattr, Listxattr, Removexattr, Fsync, Flush, Release, Fsyncdir, Releasedir, Options, Text, Count, Put, Wrote, Done, Statistics, Handed, default_answer, default_opening}
+use Rattle.vfs_files.specs.Calls.{Call, Init, Lookup, Forget, BatchForget, Getattr, Setattr, Symlink, Readlink, Open, Unlink, Rmdir, Rename, Link, Mknod, Mkdir, Create, Read, Write, Fallocate, Statfs, Readdir, Setxattr, Getxattr, Listxattr, Removexattr, Fsync, Flush, Release, Fsyncdir, Releasedir, Destroy, Answer, Options, Opened, Text, Count, Put, Wrote, Done, Statistics, Handed, default_answer}
 use Rattle.vfs_nodes.specs.Bytes.{resized}
 use Rattle.vfs_nodes.specs.Children.{with_child, without_child, is_directory, is_file, is_link}
 use Rattle.vfs_nodes.specs.Listing.{items_behind}
-use Rattle.vfs_nodes.specs.Node.{new_node, set_attr, opened, overwritten}
+use Rattle.vfs_nodes.specs.Node.{new_node, lengthens, set_attr, truncates, opened, overwritten}
 use Rattle.vfs_nodes.specs.Xattrs.{Xattr, xattr_named, xattr_bytes, with_xattr, without_xattr, name_list}
 use Rattle.vfs_nodes.specs.declared.children.Child.{Child}
 use Rattle.vfs_nodes.specs.declared.kind.Kind.{Kind}
@@ -18,8 +20,8 @@ use Rattle.vfs_nodes.specs.declared.kind.Kind.TheVariants as kind
 use Rattle.vfs_nodes.specs.declared.node.Node.{Node}
 use Rattle.vfs_nodes.specs.declared.node.Time.{Time}
 use Rattle.vfs_tree.specs.Outcome.{Just, EntryOf, AttrOf, Listed, Outcome, Refused, Answered, Tried, Ends, done, first_of, or_else, unless, with_it, on}
-use Rattle.vfs_tree.specs.Rename.{directory_refusal, is_nameless, is_crowded, renames}
-use Rattle.vfs_tree.specs.State.{State, node_at, count_of, room_of, with_node, with_resized, with_new, settled, change, with_names, unnamed, child_at, node_named}
+use Rattle.vfs_tree.specs.Rename.{directory_refusal, is_improper, is_nameless, is_crowded, renames}
+use Rattle.vfs_tree.specs.State.{State, node_at, room_of, with_node, with_resized, with_new, settled, change, with_names, unnamed, child_at, node_named}
 use Rattle.vfs_tree.specs.declared.fs.Limits.{Limits}
 
 -- the most bytes that a node's extended attributes take, and the most names that lead to a file
@@ -41,14 +43,14 @@ enodev = 19
 -- ---- new nodes
 
 -- a new file system: the root alone, a directory of this owner
-abbrev pub root_node : (uid gid : ℕ) → Time → Node
-root_node uid gid now =
-    record (new_node now uid gid kind.Directory 0o755 1 []) { lookups = 0 }
+abbrev pub root_node : (uid gid permissions : ℕ) → Time → Node
+root_node uid gid permissions now =
+    record (new_node now uid gid kind.Directory permissions 1 []) { lookups = 0 }
 
-abbrev pub first_state : (uid gid : ℕ) → Limits → Time → State
-first_state uid gid limits now =
-    let nodes = (1, root_node uid gid now) ∷ [] in
-    record { nodes = nodes; next = 2; used = 0; limits = limits; now = now }
+abbrev pub first_state : (uid gid permissions : ℕ) → Limits → Time → State
+first_state uid gid permissions limits now =
+    let nodes = (1, root_node uid gid permissions now) ∷ [] in
+    record { nodes = nodes; next = 2; used = 0; inodes = 1; limits = limits; now = now }
 
 -- ---- LOOKUP, FORGET
 
@@ -72,20 +74,44 @@ abbrev pub all_forgotten : State → List (ℕ × ℕ) → State
 all_forgotten s [] = s
 all_forgotten s (r ∷ rs) = all_forgotten (forgotten s r.0 r.1 (node_at s r.0)) rs
 
+-- every lookup that is held: of a client that has gone away, or a new one that has none yet
+abbrev pub held_of : List (ℕ × Node) → List (ℕ × ℕ)
+held_of nodes = map (λ e. (e.0, e.1.lookups)) nodes
+
+abbrev pub released : State → State
+released s = all_forgotten s (held_of s.nodes)
+
 -- ---- MKDIR, MKNOD, CREATE, SYMLINK, LINK
 
 -- whether there is no room for one node more with so many bytes, or no place for it in its directory
 abbrev pub is_full : State → (above : Option Node) → (size : ℕ) → Bool
 is_full s above size =
-    nat_le s.limits.nodes (count_of s) || s.next == 2 ^ 64 - 1 || is_crowded above
+    nat_le s.limits.nodes s.inodes || s.next == 2 ^ 64 - 1 || is_crowded above
     || nat_lt (room_of s) size
 
 -- why nothing of this name, with contents of so many bytes, can be made in this directory
 abbrev pub make_refusal : State → (parent : ℕ) → (name : List ℕ) → (size : ℕ) → Option ℕ
 make_refusal s parent name size =
     or_else (directory_refusal (node_at s parent) name)
-    (first_of ((is_nameless (node_at s parent), enoent) ∷ (is_some (child_at s parent name), eexist)
+    (first_of ((is_nameless (node_at s parent), enoent)
+    ∷ (is_improper name, einval)
+    ∷ (is_some (child_at s parent name), eexist)
     ∷ (is_full s (node_at s parent) size, enospc) ∷ []))
+
+-- whether a directory hands its group to what is made in it
+abbrev pub hands_group : Node → Bool
+hands_group node = bit_and node.permissions 0o2000 == 0o2000
+
+-- the group of what is made in a directory by this group
+abbrev pub group_in : (above : Option Node) → (gid : ℕ) → ℕ
+group_in None gid = gid
+group_in (Some node) gid = if hands_group node then node.gid else gid
+
+-- the permission bits of what is made in it: a directory hands its group down in turn
+abbrev pub permissions_in : (above : Option Node) → Kind → (permissions : ℕ) → ℕ
+permissions_in None kind permissions = permissions
+permissions_in (Some node) kind permissions =
+    if hands_group node && is_directory kind then bit_or permissions 0o2000 else permissions
 
 -- a node is there under the next number, and a name that leads to it
 abbrev pub made : State → (parent : ℕ) → (name : List ℕ) → Node → State
@@ -97,7 +123,9 @@ made s parent name node =
 abbrev pub makes :
     State → Context → Kind → (permissions parent : ℕ) → (name contents : List ℕ) → Outcome
 makes s ctx kind permissions parent name contents =
-    let node = new_node s.now ctx.uid ctx.gid kind permissions parent contents in
+    let above = node_at s parent in
+    let node = new_node s.now ctx.uid (group_in above ctx.gid) kind
+    (permissions_in above kind permissions) parent contents in
     unless (make_refusal s parent name (length contents))
     (Tried true (EntryOf s.next node) (made s parent name node))
 
@@ -110,12 +138,13 @@ abbrev pub link_refusal : State → (parent : ℕ) → (name : List ℕ) → Nod
 link_refusal s parent name node =
     or_else (directory_refusal (node_at s parent) name)
     (first_of ((is_nameless (node_at s parent), enoent)
+    ∷ (is_improper name, einval)
     ∷ (is_some (child_at s parent name), eexist)
     ∷ (is_directory node.kind, eperm)
     ∷ (node.names == 0, enoent)
     ∷ (nat_le most_links node.names, emlink)
     ∷ (node.lookups == 2 ^ 64 - 1, eoverflow)
-    ∷ (is_crowded (node_at s parent), enospc) ∷ []))
+    ∷ (nat_le s.limits.nodes s.inodes || is_crowded (node_at s parent), enospc) ∷ []))
 
 -- one name more leads to a node, and one lookup more is held
 abbrev pub linked : (now : Time) → Node → Node
@@ -125,8 +154,9 @@ linked now node =
 abbrev pub links : State → (number parent : ℕ) → (name : List ℕ) → Outcome
 links s n parent name = on (node_at s n) (link_refusal s parent name) (λ node.
     let child : Child = record { node = n; kind = node.kind } in
+    let named = with_names s parent (λ c. with_child c name child) in
     Tried true (EntryOf n (linked s.now node))
-    (change (with_names s parent (λ c. with_child c name child)) n (linked s.now)))
+    (change (record named { inodes = named.inodes + 1 }) n (linked s.now)))
 
 -- a name is taken out of a directory, and one name less leads to its node
 abbrev pub taken_out : State → (parent : ℕ) → (name : List ℕ) → Child → State
@@ -156,7 +186,12 @@ setattr_refusal s attr valid node =
 -- so SETATTR does, or it is refused
 abbrev pub sets_attr : State → (number : ℕ) → SetattrIn → (valid : ℕ) → Outcome
 sets_attr s n attr valid = on (node_at s n) (setattr_refusal s attr valid) (λ node.
-    let set = set_attr s.now node attr valid in Tried true (AttrOf n set) (with_resized s n node set))
+    let set = set_attr s.now node attr valid in
+    Tried (lengthens node attr valid) (AttrOf n set) (with_resized s n node set))
+
+-- how an OPEN is answered: what the client keeps of the bytes stays true, unless they were taken
+abbrev pub opening : Node → (flags : ℕ) → Answer
+opening node flags = Opened None (if truncates node flags then 0 else 2)
 
 -- why a file can't be made to have place for these bytes
 abbrev pub fallocate_refusal : State → (mode off len : ℕ) → Node → Option ℕ
@@ -174,7 +209,8 @@ grown now size node =
 
 abbrev pub allocates : State → (number mode off len : ℕ) → Outcome
 allocates s n mode off len = on (node_at s n) (fallocate_refusal s mode off len) (λ node.
-    Tried true (Just Done) (with_resized s n node (grown s.now (off + len) node)))
+    Tried (nat_lt (length node.contents) (off + len)) (Just Done)
+    (with_resized s n node (grown s.now (off + len) node)))
 
 -- how long a file may become
 abbrev pub most_size : State → Node → ℕ
@@ -209,23 +245,40 @@ statistics_of s = record {
   f_bfree = room_of s / 4096;
   f_bavail = room_of s / 4096;
   f_files = s.limits.nodes;
-  f_ffree = s.limits.nodes - count_of s;
+  f_ffree = s.limits.nodes - s.inodes;
   f_namemax = 255;
 }
 
 -- ---- SETXATTR, GETXATTR, LISTXATTR, REMOVEXATTR
 
+-- whether an attribute's name is of a namespace that is kept
+abbrev pub is_kept : (name : List ℕ) → Bool
+is_kept name =
+    starts_with nat_eq name (codes "user.") || starts_with nat_eq name (codes "trusted.")
+    || starts_with nat_eq name (codes "security.")
+
+-- whether it says nothing within it
+abbrev pub is_bare : (name : List ℕ) → Bool
+is_bare name =
+    bytes_eq name (codes "user.") || bytes_eq name (codes "trusted.")
+    || bytes_eq name (codes "security.")
+
+-- why there can be no attribute of this name; access control lists are such, which would have to be obeyed
+abbrev pub namespace_refusal : (name : List ℕ) → Option ℕ
+namespace_refusal name = first_of ((not (is_kept name), eopnotsupp) ∷ (is_bare name, einval) ∷ [])
+
 abbrev pub setxattr_refusal : State → (name value : List ℕ) → (flags : ℕ) → Node → Option ℕ
 setxattr_refusal s name value flags node =
     let old = xattr_named node.xattrs name in
     let bytes = xattr_bytes (with_xattr node.xattrs name value) in
-    first_of ((bit_and flags 1 == 1 && is_some old, eexist)
+    or_else (namespace_refusal name)
+    (first_of ((bit_and flags 1 == 1 && is_some old, eexist)
     ∷ (bit_and flags 2 == 2 && is_none old, enodata)
     ∷ (
       nat_lt most_xattr_bytes bytes || nat_lt (room_of s) (bytes - xattr_bytes node.xattrs),
       enospc,
     )
-    ∷ [])
+    ∷ []))
 
 abbrev pub with_xattrs : (now : Time) → Node → List Xattr → Node
 with_xattrs now node xattrs = record node { xattrs = xattrs; ctime = now }
@@ -237,7 +290,9 @@ sets_xattr s n name value flags = on (node_at s n) (setxattr_refusal s name valu
 
 abbrev pub removes_xattr : State → (number : ℕ) → (name : List ℕ) → Outcome
 removes_xattr s n name = with_it (node_at s n) (λ node.
-    unless (first_of ((is_none (xattr_named node.xattrs name), enodata) ∷ []))
+    unless
+    (or_else (namespace_refusal name)
+    (first_of ((is_none (xattr_named node.xattrs name), enodata) ∷ [])))
     (done (with_resized s n node (with_xattrs s.now node (without_xattr node.xattrs name)))))
 
 -- a text is answered to one who has place for so many bytes, or its length to one who has none
@@ -251,7 +306,8 @@ tells s size (Some text) =
 
 -- how a call ends; what has no line has its default answer, and everything stays
 abbrev pub outcome : State → Call → Outcome
-outcome s (Init _) = Answered (Just (Options 0x2000)) s
+outcome s (Init _) = Answered (Just (Options 0x6000)) (released s)
+outcome s Destroy = done (released s)
 outcome s (Lookup _ parent name) = at_name s parent name (λ child node.
     unless (first_of ((node.lookups == 2 ^ 64 - 1, eoverflow) ∷ []))
     (Answered (EntryOf child.node node)
@@ -275,8 +331,8 @@ outcome s (Rmdir _ parent name) = at_name s parent name (λ child node.
 outcome s (Rename _ od on nd nn flags) = renames s od on nd nn flags
 outcome s (Readlink _ n) = with_it (node_at s n) (λ node.
     unless (first_of ((has_no_text node, einval) ∷ [])) (Tried true (Just (Text node.contents)) s))
-outcome s (Open _ n _ flags) = with_it (node_at s n) (λ node.
-    Answered (Just default_opening) (with_resized s n node (opened s.now node flags)))
+outcome s (Open ctx n _ flags) = with_it (node_at s n) (λ node.
+    Answered (Just (opening node flags)) (with_resized s n node (opened s.now ctx.uid node flags)))
 outcome s (Read _ n _ room size off _ _) =
     on (node_at s n) contents_refusal
     (λ node. Answered (Just (Put (part_of node.contents off (most_put room size)))) s)
@@ -286,7 +342,8 @@ outcome s (Fallocate _ n _ mode off len) = allocates s n mode off len
 outcome s (Statfs _ _) = Answered (Just (Statistics (statistics_of s))) s
 outcome s (Setxattr _ n name value flags _) = sets_xattr s n name value flags
 outcome s (Getxattr _ n name size) =
-    with_it (node_at s n) (λ node. tells s size (xattr_named node.xattrs name))
+    with_it (node_at s n) (λ node.
+    unless (namespace_refusal name) (tells s size (xattr_named node.xattrs name)))
 outcome s (Listxattr _ n size) =
     with_it (node_at s n) (λ node. tells s size (Some (name_list node.xattrs)))
 outcome s (Removexattr _ n name) = removes_xattr s n name

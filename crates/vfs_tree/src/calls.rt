@@ -93,12 +93,12 @@ impl FileSystem for TreeFs {
             (Plain (attr_answer result)) self.new }
     {
         self.check_set_attr(inode, &attr, valid)?;
-        let now = self.now;
+        let (alloc, now) = (self.alloc, self.now);
         let Some(node) = self.nodes.get_mut(&inode) else {
             unreachable!()
         };
         let before = node.weight();
-        node.set_attr(now, attr, valid)?;
+        node.set_attr(alloc, now, attr, valid)?;
         let after = node.weight();
         let attr = node.attr(inode);
         self.reweigh(before, after);
@@ -211,20 +211,25 @@ impl FileSystem for TreeFs {
 
     fn open(
         &mut self,
-        _ctx: Context,
+        ctx: Context,
         inode: u64,
         _kill_priv: bool,
         flags: u32,
     ) -> Result<(Option<u64>, OpenOptions), Fault> {
-        let now = self.now;
+        let (alloc, now) = (self.alloc, self.now);
         let Some(node) = self.nodes.get_mut(&inode) else {
             return Err(Some(Errno::ENOENT));
         };
         let before = node.weight();
-        node.open(now, flags);
+        let options = if node.truncates(flags) {
+            OpenOptions::empty()
+        } else {
+            OpenOptions::KEEP_CACHE
+        };
+        node.open(alloc, now, ctx.uid, flags);
         let after = node.weight();
         self.reweigh(before, after);
-        defaults::open::<u64>()
+        Ok((None, options))
     }
 
     fn read<W: ZeroCopyWriter>(
@@ -278,7 +283,7 @@ impl FileSystem for TreeFs {
             f_bfree: self.room() / BLOCK,
             f_bavail: self.room() / BLOCK,
             f_files: self.limits.nodes,
-            f_ffree: self.limits.nodes.saturating_sub(self.nodes.len() as u64),
+            f_ffree: self.limits.nodes.saturating_sub(self.inodes),
             f_namemax: 255,
         })
     }
@@ -347,7 +352,8 @@ impl FileSystem for TreeFs {
     }
 
     fn init(&mut self, _capable: FsOptions) -> Result<FsOptions, Fault> {
-        Ok(FsOptions::DO_READDIRPLUS)
+        self.release();
+        Ok(FsOptions::DO_READDIRPLUS | FsOptions::READDIRPLUS_AUTO)
     }
 
     fn opendir(
@@ -432,7 +438,7 @@ impl FileSystem for TreeFs {
     }
 
     fn destroy(&mut self) {
-        defaults::destroy()
+        self.release();
     }
 
     fn ioctl(&mut self) -> Result<(), Fault> {

@@ -5,11 +5,11 @@ ghost use Rattle.vfs_flags.specs.Flags.{setattr_valid_bits};
 ghost use Rattle.vfs_files.specs.Names.{name_text};
 ghost use Rattle.vfs_files.specs.Calls.{Plain, KeepsTextShort, done_answer, getxattr_answer, listxattr_answer};
 ghost use Rattle.vfs_nodes.specs.Xattrs.{xattr_named, name_list};
-ghost use Rattle.vfs_tree.specs.Outcome.{Ends, refusal_of, with_it};
+ghost use Rattle.vfs_tree.specs.Outcome.{Ends, refusal_of, unless, with_it};
 ghost use Rattle.vfs_tree.specs.State.{node_at};
 ghost use Rattle.vfs_tree.specs.Tree.{contents_refusal, size_refusal, setattr_refusal, write_refusal};
 ghost use Rattle.vfs_tree.specs.Tree.{fallocate_refusal, allocates, most_size, setxattr_refusal};
-ghost use Rattle.vfs_tree.specs.Tree.{sets_xattr, removes_xattr, tells};
+ghost use Rattle.vfs_tree.specs.Tree.{is_bare, is_kept, namespace_refusal, sets_xattr, removes_xattr, tells};
 
 use crate::fs::TreeFs;
 use bitflags::Flags;
@@ -73,6 +73,34 @@ pub(crate) fn check_size(node: &Node, size: u64, most: u64, room: u64) -> Result
     Ok(())
 }
 
+/// Whether there can be an extended attribute of this name.
+fn check_namespace(name: &[u8]) -> Result<(), Errno>
+    ensures ok { OnOk result (namespace_refusal name.now ≡ None) }
+    ensures err { IfErr result (λ errno. namespace_refusal name.now ≡ Some errno) }
+{
+    if !is_kept(name) {
+        return Err(Errno::EOPNOTSUPP);
+    }
+    if is_bare(name) {
+        return Err(Errno::EINVAL);
+    }
+    Ok(())
+}
+
+// Whether an attribute's name is of a namespace that is kept.
+fn is_kept(name: &[u8]) -> bool
+    ensures { result ≡ is_kept name.now }
+{
+    name.starts_with(b"user.") || name.starts_with(b"trusted.") || name.starts_with(b"security.")
+}
+
+// Whether it says nothing within it.
+fn is_bare(name: &[u8]) -> bool
+    ensures { result ≡ is_bare name.now }
+{
+    name == b"user.".as_slice() || name == b"trusted.".as_slice() || name == b"security.".as_slice()
+}
+
 impl TreeFs {
     /// Whether attributes of a node can be set.
     pub(crate) fn check_set_attr(
@@ -132,12 +160,12 @@ impl TreeFs {
             (Plain (done_answer result)) self.new }
     {
         let size = self.check_allocate(inode, mode, offset, length)?;
-        let now = self.now;
+        let (alloc, now) = (self.alloc, self.now);
         let Some(node) = self.nodes.get_mut(&inode) else {
             unreachable!()
         };
         let before = node.weight();
-        node.contents.resize(size as usize)?;
+        node.contents.resize(alloc, size as usize)?;
         node.mtime = now;
         node.ctime = now;
         let after = node.weight();
@@ -215,6 +243,7 @@ impl TreeFs {
         let Some(node) = self.nodes.get(&inode) else {
             return Err(Errno::ENOENT);
         };
+        check_namespace(name)?;
         let is_there = node.xattrs.get(name).is_some();
         if flags & XATTR_CREATE == XATTR_CREATE && is_there {
             return Err(Errno::EEXIST);
@@ -239,6 +268,7 @@ impl TreeFs {
         let Some(node) = self.nodes.get(&inode) else {
             return Err(Some(Errno::ENOENT));
         };
+        check_namespace(name)?;
         if node.xattrs.get(name).is_none() {
             return Err(Some(Errno::ENODATA));
         }
@@ -257,13 +287,15 @@ impl TreeFs {
     /// The value of an extended attribute, or its length.
     pub(crate) fn xattr(&self, inode: u64, name: &[u8], size: u32) -> Result<GetxattrReply, Fault>
         ensures told { Ends self.entry.now (with_it (node_at self.entry.now inode) (λ node.
-            tells self.entry.now size (xattr_named node.xattrs name.now)))
+            unless (namespace_refusal name.now)
+            (tells self.entry.now size (xattr_named node.xattrs name.now))))
             (Plain (getxattr_answer result)) self.entry.now }
         ensures short { KeepsTextShort (getxattr_answer result) }
     {
         let Some(node) = self.nodes.get(&inode) else {
             return Err(Some(Errno::ENOENT));
         };
+        check_namespace(name)?;
         let Some(value) = node.xattrs.get(name) else {
             return Err(Some(Errno::ENODATA));
         };

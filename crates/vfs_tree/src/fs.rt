@@ -1,6 +1,6 @@
 //! The file system: its nodes by number.
 
-ghost use Rattle.std.specs.Prelude.{◌≡◌, ◌≤◌, ◌<◌, ◌^◌, ◌-◌, false, IsSome, Some, None, IfErr, OnOk, MatchResult};
+ghost use Rattle.std.specs.Prelude.{◌≡◌, ◌≤◌, ◌<◌, ◌^◌, ◌-◌, ◌∷◌, [], ℕ, List, false, IsSome, Some, None, IfErr, OnOk, MatchOption, MatchResult};
 ghost use Rattle.std.specs.Ordering.{nat_cmp};
 ghost use Rattle.std.specs.BTreeMap.{is_at};
 ghost use Rattle.std.specs.Map.{remove_entry};
@@ -10,15 +10,18 @@ ghost use Rattle.vfs_files.specs.Calls.{Plain, entry_answer};
 ghost use Rattle.vfs_nodes.specs.Node.{weight};
 ghost use Rattle.vfs_tree.specs.Outcome.{Ends};
 ghost use Rattle.vfs_tree.specs.Rename.{is_crowded};
-ghost use Rattle.vfs_tree.specs.State.{child_at, node_at, reweighed, room_of};
+ghost use Rattle.vfs_nodes.specs.declared.node.Node.{Node};
+ghost use Rattle.vfs_tree.specs.State.{behind, child_at, node_at, reweighed, room_of};
 ghost use Rattle.vfs_tree.specs.Tree.{makes, make_refusal, first_state, is_full, made};
-ghost use Rattle.vfs_tree.specs.Tree.{forgotten, all_forgotten};
+ghost use Rattle.vfs_tree.specs.Tree.{group_in, permissions_in, forgotten, all_forgotten, released};
 
-use crate::naming::{add_name, directory};
+use crate::naming::{add_name, directory, is_improper};
 use std::alloc::Global;
 use std::collections::BTreeMap;
+use std::collections::btree_map::Range;
 use std::fmt::{self, Debug, Formatter};
 use std::marker::Model;
+use std::ops::Bound;
 use vfs_files::{CStr, Context, Entry};
 use vfs_flags::{Errno, Fault, GuestGid, GuestUid, ROOT_ID};
 use vfs_nodes::{Child, Kind, Node, Time};
@@ -26,14 +29,17 @@ use vfs_nodes::{Child, Kind, Node, Time};
 /// How much a file system holds at most.
 #[derive(Clone, Copy, Debug, PartialEq, Eq)]
 pub struct Limits {
-    /// How many nodes, the root among them.
+    /// How many nodes, the root among them. Each further name of a node counts as one more.
     pub nodes: u64,
     /// How many bytes, in the contents of files, the texts of symbolic links, and the names and
-    /// values of extended attributes.
+    /// values of extended attributes with 128 bytes for each.
     pub bytes: u64,
     /// How many bytes a file has at most.
     pub file: u64,
 }
+
+/// The permission bit by which a directory hands its group to what is made in it.
+const SET_GROUP_ID: u32 = 0o2000;
 
 /// A file system in memory.
 ///
@@ -45,6 +51,7 @@ pub struct TreeFs {
     pub(crate) nodes: BTreeMap<u64, Node>,
     pub(crate) next: u64,
     pub(crate) used: u64,
+    pub(crate) inodes: u64,
     pub(crate) limits: Limits,
     pub(crate) now: Time,
 }
@@ -61,6 +68,7 @@ impl Model for TreeFs {
       nodes = fs.nodes.entries;
       next = fs.next;
       used = fs.used;
+      inodes = fs.inodes;
       limits = fs.limits;
       now = fs.now;
     } };
@@ -79,20 +87,22 @@ impl Debug for TreeFs {
 }
 
 impl TreeFs {
-    /// A new file system within these limits: a root alone, which belongs to this owner. ENOMEM where
-    /// there is no memory for it.
+    /// A new file system within these limits: a root alone, with these permission bits, which belongs
+    /// to this owner and was made now. ENOMEM where there is no memory for it.
     pub fn new(
         alloc: Global,
         uid: GuestUid,
         gid: GuestGid,
+        permissions: u32,
         limits: Limits,
         now: Time,
     ) -> Result<TreeFs, Fault>
         ensures { MatchResult result
-            (λ fs. fs ≡ first_state uid gid limits now)
+            (λ fs. fs ≡ first_state uid gid permissions limits now)
             (λ fault. fault ≡ Some enomem) }
     {
-        let mut root = Node::new(alloc, now, uid, gid, Kind::Directory, 0o755, ROOT_ID, &[])?;
+        let kind = Kind::Directory;
+        let mut root = Node::new(alloc, now, uid, gid, kind, permissions, ROOT_ID, &[])?;
         root.lookups = 0;
         let mut nodes = BTreeMap::new(alloc);
         match nodes.insert(ROOT_ID, root) {
@@ -101,6 +111,7 @@ impl TreeFs {
                 nodes,
                 next: ROOT_ID + 1,
                 used: 0,
+                inodes: 1,
                 limits,
                 now,
             }),
@@ -125,9 +136,10 @@ impl TreeFs {
     // Whether there is no room for one node more with so many bytes, or no place for it in this
     // directory.
     fn is_full(&self, above: &Node, size: u64) -> bool
-        ensures { result ≡ is_full self.entry.now (Some above.now) size }
+        ensures full { result ≡ is_full self.entry.now (Some above.now) size }
+        ensures inodes { result ≡ false → self.entry.now.inodes < 2 ^ 64 - 1 }
     {
-        self.nodes.len() as u64 >= self.limits.nodes
+        self.inodes >= self.limits.nodes
             || self.next == u64::MAX
             || !above.children.has_place()
             || size > self.room()
@@ -136,12 +148,16 @@ impl TreeFs {
     // Whether a node with so many bytes can be made under this name.
     fn check_make(&self, parent: u64, name: &[u8], size: u64) -> Result<(), Errno>
         ensures ok { OnOk result (make_refusal self.entry.now parent name.now size ≡ None) }
+        ensures inodes { OnOk result (self.entry.now.inodes < 2 ^ 64 - 1) }
         ensures err { IfErr result (λ errno.
             make_refusal self.entry.now parent name.now size ≡ Some errno) }
     {
         let above = directory(&self.nodes, parent, name)?;
         if above.names == 0 {
             return Err(Errno::ENOENT);
+        }
+        if is_improper(name) {
+            return Err(Errno::EINVAL);
         }
         if above.children.get(name).is_some() {
             return Err(Errno::EEXIST);
@@ -168,11 +184,36 @@ impl TreeFs {
     {
         self.check_make(parent, name.to_bytes(), contents.len() as u64)?;
         let (alloc, now) = (self.alloc, self.now);
-        let Context { uid, gid, .. } = ctx;
+        let uid = ctx.uid;
+        let (gid, permissions) = self.handed_down(parent, ctx.gid, kind, permissions);
         let node = Node::new(alloc, now, uid, gid, kind, permissions, parent, contents)?;
         let entry = node.entry(self.next);
         self.add(parent, name, node)?;
         Ok(entry)
+    }
+
+    // The group and the permission bits of what is made in a directory.
+    fn handed_down(
+        &self,
+        parent: u64,
+        gid: GuestGid,
+        kind: Kind,
+        permissions: u32,
+    ) -> (GuestGid, u32)
+        ensures group { result.0 ≡ group_in (node_at self.entry.now parent) gid }
+        ensures mode { result.1 ≡
+            permissions_in (node_at self.entry.now parent) kind permissions }
+    {
+        match self.nodes.get(&parent) {
+            Some(above) if above.permissions & SET_GROUP_ID == SET_GROUP_ID => {
+                if kind.is_directory() {
+                    (above.gid, permissions | SET_GROUP_ID)
+                } else {
+                    (above.gid, permissions)
+                }
+            }
+            _ => (gid, permissions),
+        }
     }
 
     // Adds a node under the next number, and a name that leads to it. ENOMEM where there is no memory
@@ -183,6 +224,7 @@ impl TreeFs {
         requires free { child_at self.old parent (name_text name) ≡ None }
         requires place { is_crowded (node_at self.old parent) ≡ false }
         requires number { self.old.next < 2 ^ 64 - 1 }
+        requires inodes { self.old.inodes < 2 ^ 64 - 1 }
         requires room { weight node ≤ room_of self.old }
         ensures ok { OnOk result (self.new ≡
             made self.old parent (name_text name.entry) node) }
@@ -203,6 +245,7 @@ impl TreeFs {
         }
         self.next += 1;
         self.used += weight;
+        self.inodes += 1;
         Ok(())
     }
 
@@ -229,10 +272,12 @@ impl TreeFs {
         ensures { self.new ≡ record self.old {
           nodes = remove_entry (is_at (nat_cmp number)) self.old.nodes;
           used = self.old.used - weight;
+          inodes = self.old.inodes - 1;
         } }
     {
         self.nodes.remove(&number);
         self.used = self.used.saturating_sub(weight);
+        self.inodes = self.inodes.saturating_sub(1);
     }
 
     /// Says that a node that took so many bytes takes others now.
@@ -255,5 +300,47 @@ impl TreeFs {
             let (number, count) = requests[i];
             self.take_back(number, count);
         }
+    }
+
+    /// Takes back every lookup: of a client that has gone away, or before a new one.
+    pub(crate) fn release(&mut self)
+        ensures { self.new ≡ released self.old }
+    {
+        let mut done = None;
+        for _i in 0..self.nodes.len() {
+            let Some((number, lookups)) = self.held_after(done) else {
+                return;
+            };
+            self.take_back(number, lookups);
+            done = Some(number);
+        }
+    }
+
+    // The first node with a greater number than this, or the first of all, and how many lookups of it
+    // are held.
+    fn held_after(&self, number: Option<u64>) -> Option<(u64, u64)>
+        ensures { MatchOption result (behind number self.entry.now.nodes ≡ []) (λ held.
+            (node : Node) × (held.1 ≡ node.lookups)
+            × (behind number self.entry.now.nodes
+            ≡ (held.0, node) ∷ behind (Some held.0) self.entry.now.nodes)) }
+    {
+        match number {
+            None => first_held(self.nodes.range(..)),
+            Some(number) => first_held(
+                self.nodes
+                    .range((Bound::Excluded(number), Bound::Unbounded)),
+            ),
+        }
+    }
+}
+
+// The first of these nodes, and how many lookups of it are held.
+fn first_held(mut nodes: Range<'_, u64, Node>) -> Option<(u64, u64)>
+    ensures { MatchOption result (nodes.entry ≡ []) (λ held. (node : Node) × (rest : List (ℕ × Node))
+        × (held.1 ≡ node.lookups) × (nodes.entry ≡ (held.0, node) ∷ rest)) }
+{
+    match nodes.next() {
+        Some((number, node)) => Some((*number, node.lookups)),
+        None => None,
     }
 }

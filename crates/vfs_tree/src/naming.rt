@@ -10,7 +10,7 @@ ghost use Rattle.vfs_files.specs.Calls.{Plain, entry_answer};
 ghost use Rattle.vfs_nodes.specs.Children.{with_child, without_child, with_other_child};
 ghost use Rattle.vfs_nodes.specs.Node.{IsEntryOf};
 ghost use Rattle.vfs_tree.specs.Outcome.{Ends, refusal_of};
-ghost use Rattle.vfs_tree.specs.Rename.{directory_refusal, is_crowded, moved_into};
+ghost use Rattle.vfs_tree.specs.Rename.{directory_refusal, is_improper, is_crowded, moved_into};
 ghost use Rattle.vfs_tree.specs.State.{child_of, child_at, node_at, with_names, with_node, unnamed};
 ghost use Rattle.vfs_tree.specs.Tree.{link_refusal, linked, links, taken_out};
 
@@ -58,6 +58,13 @@ fn name_too_long() -> Errno
         Some(errno) => errno,
         None => unreachable!(),
     }
+}
+
+/// Whether a name can't be made: it is empty, `.`, `..`, or has a '/'. A kernel asks for none of these.
+pub(crate) fn is_improper(name: &[u8]) -> bool
+    ensures { result ≡ is_improper name.now }
+{
+    name.is_empty() || name == b".".as_slice() || name == b"..".as_slice() || name.contains(&b'/')
 }
 
 /// Adds a name to a directory that is there. ENOMEM where there is no memory for it, and all stays.
@@ -144,8 +151,9 @@ impl TreeFs {
             return;
         };
         let left = node.names.saturating_sub(1);
-        if node.lookups == 0 && left == 0 {
-            let weight = node.weight();
+        let (lookups, weight) = (node.lookups, node.weight());
+        self.inodes = self.inodes.saturating_sub(u64::from(left.min(1)));
+        if lookups == 0 && left == 0 {
             self.drop_node(number, weight);
             return;
         }
@@ -183,6 +191,7 @@ impl TreeFs {
             (link_refusal self.entry.now parent name.now) ≡ None) }
         ensures lookups { OnOk result (IfSome (node_at self.entry.now number) (λ node.
             node.lookups < 2 ^ 64 - 1)) }
+        ensures inodes { OnOk result (self.entry.now.inodes < 2 ^ 64 - 1) }
         ensures err { IfErr result (λ fault. IfSome fault (λ errno.
             refusal_of (node_at self.entry.now number)
             (link_refusal self.entry.now parent name.now) ≡ Some errno)) }
@@ -194,6 +203,9 @@ impl TreeFs {
         let above = directory(&self.nodes, parent, name)?;
         if above.names == 0 {
             return Err(Some(Errno::ENOENT));
+        }
+        if is_improper(name) {
+            return Err(Some(Errno::EINVAL));
         }
         if above.children.get(name).is_some() {
             return Err(Some(Errno::EEXIST));
@@ -210,7 +222,7 @@ impl TreeFs {
         if node.lookups == u64::MAX {
             return Err(Some(Errno::EOVERFLOW));
         }
-        if !above.children.has_place() {
+        if self.inodes >= self.limits.nodes || !above.children.has_place() {
             return Err(Some(Errno::ENOSPC));
         }
         Ok(Child {
@@ -220,7 +232,6 @@ impl TreeFs {
     }
 
     /// Lets one more name lead to a node, and counts a lookup of it.
-    #[tactic(auto, using(crate::proofs::Nodes::kinds_apart))]
     pub(crate) fn add_link(
         &mut self,
         number: u64,
@@ -232,6 +243,7 @@ impl TreeFs {
     {
         let child = self.check_link(number, parent, name.to_bytes())?;
         self.add_name(parent, name, child)?;
+        self.inodes += 1;
         Ok(self.count_link(number))
     }
 

@@ -1,19 +1,19 @@
 //! RENAME: a name leads elsewhere, in one directory or from one to another.
 
-ghost use Rattle.std.specs.Prelude.{◌≡◌, false, IsSome, Some, None, IfErr, OnOk};
+ghost use Rattle.std.specs.Prelude.{◌≡◌, ◌∷◌, [], false, IsSome, Some, None, IfErr, OnOk};
 ghost use Rattle.std.specs.Option.{option_copied};
-ghost use Rattle.vfs_flags.specs.Errors.{enomem};
+ghost use Rattle.vfs_flags.specs.Errors.{einval, enomem, enospc};
 ghost use Rattle.vfs_files.specs.Names.{name_text};
 ghost use Rattle.vfs_files.specs.Calls.{Plain, done_answer};
-ghost use Rattle.vfs_tree.specs.Outcome.{Ends};
-ghost use Rattle.vfs_tree.specs.Rename.{is_below, is_own_child, parent_of, same_node};
+ghost use Rattle.vfs_tree.specs.Outcome.{Ends, first_of};
+ghost use Rattle.vfs_tree.specs.Rename.{is_below, is_improper, is_own_child, parent_of, same_node};
 ghost use Rattle.vfs_tree.specs.Rename.{names_refusal, place_refusal, is_crowded, is_nameless};
 ghost use Rattle.vfs_tree.specs.Rename.{replace_refusal, renames};
 ghost use Rattle.vfs_tree.specs.Rename.{moved_to_free, moved_over, exchanged};
 ghost use Rattle.vfs_tree.specs.State.{child_at, count_of, node_at, node_of};
 
 use crate::fs::TreeFs;
-use crate::naming::directory;
+use crate::naming::{directory, is_improper};
 use vfs_files::CStr;
 use vfs_flags::{Errno, Fault, ROOT_ID};
 use vfs_nodes::{Child, Node};
@@ -43,7 +43,7 @@ impl TreeFs {
         let moved = from.children.get(oldname.to_bytes());
         let target = to.children.get(newname.to_bytes());
         self.check_names(olddir, newdir, flags, moved, target)?;
-        self.check_place(newdir, flags, moved, target)?;
+        self.check_place(newdir, newname.to_bytes(), flags, moved, target)?;
         let Some(child) = moved else {
             return Err(Some(Errno::ENOENT));
         };
@@ -104,26 +104,40 @@ impl TreeFs {
     fn check_place(
         &self,
         newdir: u64,
+        newname: &[u8],
         flags: u32,
         moved: Option<Child>,
         target: Option<Child>,
     ) -> Result<(), Errno>
         requires { IsSome (node_at self.now newdir) }
         ensures ok { OnOk result
-            (place_refusal self.entry.now newdir flags moved target ≡ None) }
+            (place_refusal self.entry.now newdir newname.now flags moved target ≡ None) }
         ensures err { IfErr result (λ errno.
-            place_refusal self.entry.now newdir flags moved target ≡ Some errno) }
+            place_refusal self.entry.now newdir newname.now flags moved target ≡ Some errno) }
     {
         if target.is_none() {
-            return match self.nodes.get(&newdir) {
-                Some(node) if !node.children.has_place() => Err(Errno::ENOSPC),
-                _ => Ok(()),
-            };
+            return self.check_free(newdir, newname);
         }
         if flags == RENAME_EXCHANGE || is_same(moved, target) {
             return Ok(());
         }
         check_replace(self.node_of(moved), self.node_of(target))
+    }
+
+    // Whether a free name can be made.
+    fn check_free(&self, newdir: u64, newname: &[u8]) -> Result<(), Errno>
+        ensures ok { OnOk result (first_of ((is_improper newname.now, einval)
+            ∷ (is_crowded (node_at self.entry.now newdir), enospc) ∷ []) ≡ None) }
+        ensures err { IfErr result (λ errno. first_of ((is_improper newname.now, einval)
+            ∷ (is_crowded (node_at self.entry.now newdir), enospc) ∷ []) ≡ Some errno) }
+    {
+        if is_improper(newname) {
+            return Err(Errno::EINVAL);
+        }
+        match self.nodes.get(&newdir) {
+            Some(node) if !node.children.has_place() => Err(Errno::ENOSPC),
+            _ => Ok(()),
+        }
     }
 
     // The node that a name leads to.

@@ -1,4 +1,4 @@
-use Rattle.std.proofs.Common.{◌≡◌, ◌+◌, ℕ, List, Some, None, refl, sym, ap, ◌∙◌, subst, find, arith}
+use Rattle.std.proofs.Common.{◌≡◌, ◌+◌, ◌-◌, ℕ, List, Some, None, refl, sym, ap, ◌∙◌, subst, find, arith}
 use Rattle.std.specs.Int.{from_bool}
 use Rattle.std.specs.Cmp.Lexicographic.{slice_cmp}
 use Rattle.std.specs.Ordering.{nat_cmp}
@@ -37,15 +37,14 @@ pub returns-then-is_err-2-clause-err : goal.returns-then-is_err-2-clause-err
 returns-then-is_err-2-clause-err c =
     (refl, ap (λ es. record { links = es; next = c.self.inside.next }) (undone c) ∙ c.self.view_is)
 
-pub overflow_add-self-2 : goal.overflow_add-self-2
-overflow_add-self-2 c =
+pub overflow_add-self : goal.overflow_add-self
+overflow_add-self c =
     let s = c.self.inside in
     let link : Link = record { name = c.in_ok-new.field-0; child = c.args.child } in
     let one : c.from.result ≡ one_for link = c.from.ensures ∙ ap from_bool c.is_directory.ensures in
-    let next = ap (λ (children : Children). children.next) c.self.view_is in
     record {
       fits = directories_fit s.links.entries s.places s.next s.directories c.self.invariant
-          link c.from.result one (omega (arith, next));
+          link c.from.result one;
     }
 
 pub invariant_of-self-2 : goal.invariant_of-self-2
@@ -69,8 +68,9 @@ invariant_of-self-2 c =
     mapped_none (λ (l : ℕ × Link). l.1.child) (find (is_named own) s.links.entries) free in
     let Updates = λ (l : List ℕ). UpdatesBy (λ x y. slice_cmp nat_cmp x.items y.items)
     (λ key. slice_cmp nat_cmp l key.items) s.places c.insert-2.new.self (Some s.next) in
+    let next = ap (λ (children : Children). children.next) c.self.view_is in
     indexed_added s.links.entries s.places s.next s.directories c.self.invariant own none
-    c.args.child c.insert.new.self.entries put c.insert-2.new.self (subst Updates keyed updates)
+    (omega (arith, next, c.requires.place)) c.args.child c.insert.new.self.entries put c.insert-2.new.self (subst Updates keyed updates)
     (s.directories + c.from.result) (ap (λ n. s.directories + n) one)
 
 pub returns-clause-ok : goal.returns-clause-ok
@@ -80,7 +80,7 @@ returns-clause-ok c =
     let put : c.insert.new.self.entries ≡ insert_entry nat_cmp s.links.entries s.next link =
     ok_clause c.insert.result c.is_err.result c.is_err.ensures.value c.if-is_err.false
     c.insert.ensures.entries in
-    ap (λ es. record { links = es; next = s.next + 1 })
+    ap (λ es. record { links = es; next = s.next - 1 })
     (link_added s.links.entries s.places s.next s.directories c.self.invariant link.name link.child
     c.insert.new.self.entries put)
     ∙ ap (λ n. with_child (record { links = s.links.entries; next = s.next }) n c.args.child)

@@ -1,4 +1,4 @@
-use Rattle.std.proofs.Common.{◌≡◌, ◌+◌, ◌-◌, ◌^◌, ◌<◌, sym, ap, ◌∙◌, arith}
+use Rattle.std.proofs.Common.{◌≡◌, ◌+◌, ◌-◌, sym, ap, ◌∙◌, arith}
 use Rattle.std.specs.Int.{from_bool}
 use Rattle.std.specs.Ordering.{nat_cmp}
 use Rattle.std.specs.Map.{set_value}
@@ -55,8 +55,7 @@ overflow_add-self c =
     let few = directories_replaced s.links.entries s.places s.next s.directories c.self.invariant
     c.args.name.now c.in-Some.place.now (sym c.in-Some.ensures.value) c.args.child link found
     (s.directories - c.from.result + c.from-2.result) (omega (arith, one, other, some)) in
-    let next : s.next < 2 ^ 64 = c.self.ranges.1.1.0.1 in
-    record { fits = omega (arith, few, next) }
+    record { fits = omega (arith, few) }
 
 pub invariant_of-self-2 : goal.invariant_of-self-2
 invariant_of-self-2 c =

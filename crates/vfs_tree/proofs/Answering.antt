@@ -1,0 +1,143 @@
+-- How CREATE and LINK end, by what their steps left.
+use Rattle.std.proofs.Common.{◌≡◌, ◌+◌, ◌==◌, ◌||◌, ◌^◌, ◌-◌, ℕ, Bool, true, false, List, ◌∷◌, [], nat_lt, nat_le, not, length, Option, Some, None, IfSome, is_some, is_none, refl, sym, ap, ◌∙◌, subst, if◌then◌else◌}
+use Rattle.std.proofs.lemmas.Bool.{not-false}
+use Rattle.std.proofs.lemmas.Option.{same_Some}
+use Rattle.vfs_flags.specs.Errors.{enoent, einval, eexist, eperm, eoverflow, enospc, enotdir}
+use Rattle.vfs_files.specs.Calls.{Found, Created, Plain}
+use Rattle.vfs_files.specs.declared.entry.Entry.{Entry}
+use Rattle.vfs_nodes.specs.Children.{Children, with_child, is_directory}
+use Rattle.vfs_nodes.specs.Node.{IsEntryOf}
+use Rattle.vfs_nodes.specs.declared.children.Child.{Child}
+use Rattle.vfs_nodes.specs.declared.node.Node.{Node}
+use Rattle.vfs_tree.specs.Outcome.{EntryOf, Outcome, Refused, Tried, Ends, first_of, or_else, unless, refusal_of, with_it, on}
+use Rattle.vfs_tree.specs.Rename.{directory_refusal, is_directory_at, is_improper, is_nameless, is_crowded, enametoolong}
+use Rattle.vfs_tree.specs.State.{State, node_at, child_at, with_node, with_names, changed, change}
+use Rattle.vfs_tree.specs.Tree.{emlink, most_links, link_refusal, linked, links}
+use Rattle.vfs_tree.proofs.Nodes.{kinds_apart}
+
+-- where an entry is answered, a file is opened too
+pub created_too : (old new : State) (refusal : Option ℕ) (n : ℕ) (node : Node) (left : State)
+    (entry : Entry) (options : ℕ) → options ≡ 0
+    → Ends old (unless refusal (Tried true (EntryOf n node) left)) (Plain (Found entry)) new
+    → Ends old (unless refusal (Tried true (EntryOf n node) left))
+    (Plain (Created entry None options)) new
+created_too old new (Some error) n node left entry options none ends = cc (ends.0)
+created_too old new None n node left entry options none ends = ((ends.0, refl, none), ends.1)
+
+-- ---- refusals
+
+first_false : (b : Bool) (e : ℕ) (rest : List (Bool × ℕ)) → first_of ((b, e) ∷ rest) ≡ None
+    → (b ≡ false) × (first_of rest ≡ None)
+first_false true e rest none = cc none
+first_false false e rest none = (refl, none)
+
+both_none : (a b : Option ℕ) → or_else a b ≡ None → (a ≡ None) × (b ≡ None)
+both_none (Some e) b none = cc none
+both_none None b none = (refl, none)
+
+-- no name is found in what is no directory
+directory_there : (o : Option Node) (name : List ℕ) → directory_refusal o name ≡ None
+    → is_directory_at o ≡ true
+directory_there o name none =
+    let long : List (Bool × ℕ) = (nat_lt 255 (length name), enametoolong) ∷ [] in
+    let rest : List (Bool × ℕ) = (not (is_directory_at o), enotdir) ∷ long in
+    let second = (first_false (is_none o) enoent rest none).1 in
+    not-false (is_directory_at o) (first_false (not (is_directory_at o)) enotdir long second).0
+
+-- nor does a second one lead to a directory
+file_linked : (s : State) (parent : ℕ) (name : List ℕ) (node : Node)
+    → link_refusal s parent name node ≡ None
+    → (is_directory_at (node_at s parent) ≡ true) × (is_directory node.kind ≡ false)
+file_linked s parent name node none =
+    let above = node_at s parent in
+    let last : List (Bool × ℕ) = (node.names == 0, enoent)
+    ∷ (nat_le most_links node.names, emlink)
+    ∷ (node.lookups == 2 ^ 64 - 1, eoverflow)
+    ∷ (nat_le s.limits.nodes s.inodes || is_crowded above, enospc) ∷ [] in
+    let fourth : List (Bool × ℕ) = (is_directory node.kind, eperm) ∷ last in
+    let third : List (Bool × ℕ) = (is_some (child_at s parent name), eexist) ∷ fourth in
+    let second : List (Bool × ℕ) = (is_improper name, einval) ∷ third in
+    let first : List (Bool × ℕ) = (is_nameless above, enoent) ∷ second in
+    let parts = both_none (directory_refusal above name) (first_of first) none in
+    let one = first_false (is_nameless above) enoent second parts.1 in
+    let two = first_false (is_improper name) einval third one.1 in
+    let three = first_false (is_some (child_at s parent name)) eexist fourth two.1 in (
+      directory_there above name parts.0,
+      (first_false (is_directory node.kind) eperm last three.1).0,
+    )
+
+-- ---- LINK
+
+-- what is done with a node that is there and gives no refusal
+on_there : (old new : State) (o : Option Node) (refusal : Node → Option ℕ) (f : Node → Outcome)
+    (node : Node) (entry : Entry) → o ≡ Some node → refusal node ≡ None
+    → Ends old (f node) (Plain (Found entry)) new
+    → Ends old (on o refusal f) (Plain (Found entry)) new
+on_there old new None refusal f node entry is free ends = cc is
+on_there old new (Some x) refusal f node entry is free ends =
+    subst (λ (y : Node). Ends old (unless (refusal y) (f y)) (Plain (Found entry)) new)
+    (sym (same_Some x node is)) (by (refusal node) free)
+  where
+    by : (o : Option ℕ) → o ≡ None → Ends old (unless o (f node)) (Plain (Found entry)) new
+    by None none = ends
+    by (Some error) none = cc none
+
+changed_now : (s : State) (n : ℕ) (f : Node → Node) (o : Option Node) → (changed s n f o).now ≡ s.now
+changed_now s n f None = refl
+changed_now s n f (Some node) = refl
+
+module _ (s : State) (n parent : ℕ) (name : List ℕ) (entry : Entry) (last : State) where
+  -- with one inode more
+  abbrev counted : Child → State
+  counted child =
+      let named = with_names s parent (λ c. with_child c name child) in
+      record named { inodes = named.inodes + 1 }
+
+  -- the node of a state has one name and one lookup more
+  abbrev pub IsCounted : State → Option Node → Type 0
+  IsCounted t o = IfSome o (λ node. IsEntryOf n (linked t.now node) entry
+      × (last ≡ with_node t n (linked t.now node)))
+
+  ends : (node : Node) → node_at s n ≡ Some node → link_refusal s parent name node ≡ None
+      → IsCounted (counted (record { node = n; kind = node.kind }))
+      (node_at (counted (record { node = n; kind = node.kind })) n)
+      → Ends s (links s n parent name) (Plain (Found entry)) last
+  ends node is free counts =
+      let child : Child = record { node = n; kind = node.kind } in
+      let t = counted child in
+      let file = file_linked s parent name node free in
+      let found : node_at t n ≡ Some node =
+      kinds_apart s n parent (λ c. with_child c name child) (ap is_directory_at is ∙ file.1) file.0
+      ∙ is in
+      let now : t.now ≡ s.now =
+      changed_now s parent
+      (λ (x : Node).
+      record x { children = with_child x.children name child; mtime = s.now; ctime = s.now })
+      (node_at s parent) in
+      let here : IsCounted t (Some node) = subst (IsCounted t) found counts in
+      on_there s last (node_at s n) (link_refusal s parent name)
+      (λ node.
+      let child : Child = record { node = n; kind = node.kind } in
+      let named = with_names s parent (λ c. with_child c name child) in
+      Tried true (EntryOf n (linked s.now node))
+      (change (record named { inodes = named.inodes + 1 }) n (linked s.now)))
+      node entry is free (
+        subst (λ k. IsEntryOf n (linked k node) entry) now here.0,
+        here.1 ∙ ap (λ k. with_node t n (linked k node)) now
+            ∙ sym (ap (changed t n (linked s.now)) found),
+      )
+
+  pub linked_ends : (o : Option Node) (child : Child) (named : State) → node_at s n ≡ o
+      → IfSome o (λ node. child ≡ record { node = n; kind = node.kind })
+      → refusal_of o (link_refusal s parent name) ≡ None
+      → named ≡ with_names s parent (λ c. with_child c name child)
+      → let t = record named { inodes = named.inodes + 1 } in
+      IsCounted t (node_at t n)
+      → Ends s (links s n parent name) (Plain (Found entry)) last
+  linked_ends None child named is same free step counts = cc free
+  linked_ends (Some node) child named is same free step counts =
+      ends node is free
+      (subst (λ (c : Child). IsCounted (counted c) (node_at (counted c) n)) same
+      (subst (λ (t : State).
+      IsCounted (record t { inodes = t.inodes + 1 }) (node_at (record t { inodes = t.inodes + 1 }) n))
+      step counts))

@@ -1,0 +1,28 @@
+use Rattle.std.proofs.Common.{◌≡◌, ℕ, List, None, refl, ◌∙◌, subst}
+use Rattle.vfs_files.specs.Names.{name_text}
+use Rattle.vfs_tree.specs.Outcome.{refusal_of}
+use Rattle.vfs_tree.specs.State.{State, node_at}
+use Rattle.vfs_tree.specs.Tree.{link_refusal}
+use Rattle.vfs_tree.proofs.Answering.{linked_ends}
+use Rattle.vfs_tree.proofs.fs.TreeFs.add_link.Goals as goal
+
+pub returns : goal.returns
+returns c =
+    let s = c.args.self.now in
+    let parent = c.args.parent in
+    let node = node_at s c.args.number in
+    let free : refusal_of node (link_refusal s parent (name_text c.args.name)) ≡ None =
+    subst (λ (l : List ℕ). refusal_of node (link_refusal s parent l) ≡ None) c.to_bytes.ensures
+    c.in_ok-child.ensures.ok in
+    let inside = c.self.inside in
+    let named : State = record {
+      nodes = inside.nodes.entries;
+      next = inside.next;
+      used = inside.used;
+      inodes = inside.inodes;
+      limits = inside.limits;
+      now = inside.now;
+    } in
+    linked_ends s c.args.number parent (name_text c.args.name) c.count_link.result
+    c.count_link.new.self node c.in_ok-child.child named refl c.in_ok-child.ensures.child free
+    (c.self.view_is ∙ c.in_ok-add_name.ensures.ok) c.count_link.ensures
