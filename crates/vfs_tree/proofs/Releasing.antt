@@ -1,5 +1,5 @@
 -- Lookups of all nodes, taken back one node after another.
-use Rattle.std.proofs.Common.{◌≡◌, ◌<◌, ◌≤◌, ◌+◌, ◌-◌, ◌==◌, ◌&&◌, if◌then◌else◌, ℕ, Bool, true, false, cond, nat_lt, List, [], ◌∷◌, length, map, filter, Option, Some, None, MatchOption, Ordering, Less, Equal, Greater, is_lt, refl, sym, ap, ◌∙◌, subst, arith, nat_cmp, ⊎_elim}
+use Rattle.std.proofs.Common.{◌≡◌, ◌<◌, ◌≤◌, ◌+◌, ◌-◌, ◌==◌, ◌&&◌, if◌then◌else◌, ℕ, true, false, cond, nat_lt, List, [], ◌∷◌, length, map, Option, Some, None, MatchOption, Less, Equal, Greater, is_lt, refl, sym, ap, ◌∙◌, subst, arith, nat_cmp, ⊎_elim}
 use Rattle.std.specs.List.{AllByRecursion}
 use Rattle.std.specs.List.Sorted.{IsStrictlySortedBy}
 use Rattle.std.specs.Ordering.{MatchOrdering}

@@ -232,6 +232,7 @@ impl TreeFs {
     }
 
     /// Lets one more name lead to a node, and counts a lookup of it.
+    #[tactic(auto, using(crate::proofs::Nodes::kinds_apart))]
     pub(crate) fn add_link(
         &mut self,
         number: u64,

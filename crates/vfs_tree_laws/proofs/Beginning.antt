@@ -19,12 +19,12 @@ none_apart : IsDistinct bytes_eq []
 unfolding IsDistinct
 none_apart = tt
 
-module _ (uid gid : ℕ) (limits : Limits) (now : Time) where
+module _ (uid gid permissions : ℕ) (limits : Limits) (now : Time) where
   abbrev first : State
-  first = first_state uid gid limits now
+  first = first_state uid gid permissions limits now
 
   abbrev root : Node
-  root = root_node uid gid now
+  root = root_node uid gid permissions now
 
   -- what holds of the root holds of each node
   each : (n : ℕ) (P : Node → Type 0) → (n ≡ 1 → P root) → IfSome (node_at first n) P
@@ -64,7 +64,13 @@ module _ (uid gid : ℕ) (limits : Limits) (now : Time) where
       ordered = (omega arith, omega arith);
       held = λ n. each n IsHeld (λ e. held);
     };
-    within = record { used = refl; bytes = omega arith; count = omega arith };
+    within = record {
+      used = refl;
+      bytes = omega arith;
+      counted = refl;
+      inodes = omega arith;
+      files = (λ is. cc is, tt);
+    };
     linked = record {
       root = refl;
       top = refl;
@@ -83,5 +89,7 @@ none root is true = is
 none root is false = refl
 
 pub new_ones_are_trees : NewOnesAreTrees
-new_ones_are_trees uid gid limits now =
-    (tree uid gid limits now, λ n. none (root_node uid gid now) refl (is_at (nat_cmp n) 1))
+new_ones_are_trees uid gid permissions limits now = (
+  tree uid gid permissions limits now,
+  λ n. none (root_node uid gid permissions now) refl (is_at (nat_cmp n) 1),
+)

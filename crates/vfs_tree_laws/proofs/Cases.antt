@@ -5,7 +5,7 @@ use Rattle.vfs_views.specs.Segments.{with_bytes_at}
 use Rattle.vfs_flags.specs.Errors.{eexist, eisdir, einval, enodata, enospc, enotdir, enotempty, eopnotsupp, eoverflow, eperm, erange}
 use Rattle.vfs_files.specs.Bytes.{part_of, most_put, fitting, written, lengthened}
 use Rattle.vfs_files.specs.Items.{Item}
-use Rattle.vfs_files.specs.Calls.{Call, Lookup, Forget, BatchForget, Getattr, Setattr, Symlink, Readlink, Open, Unlink, Rmdir, Rename, Link, Mknod, Mkdir, Create, Read, Write, Fallocate, Setxattr, Getxattr, Listxattr, Removexattr, Statfs, Release, Fsync, Flush, Init, Opendir, Readdir, Releasedir, Fsyncdir, Getlk, Setlk, Setlkw, Access, Bmap, Destroy, Ioctl, Poll, NotifyReply, Lseek, Copyfilerange, Syncfs, Tmpfile, Answer, Done, Failed, Options, Found, Attributes, Created, Text, Count, Put, Wrote, Statistics, Opened, Offset, Handed, Plain, Iterator, default_answer, default_opening}
+use Rattle.vfs_files.specs.Calls.{Call, Lookup, Forget, BatchForget, Getattr, Setattr, Symlink, Readlink, Open, Unlink, Rmdir, Rename, Link, Mknod, Mkdir, Create, Read, Write, Fallocate, Setxattr, Getxattr, Listxattr, Removexattr, Statfs, Release, Fsync, Flush, Init, Opendir, Readdir, Releasedir, Fsyncdir, Getlk, Setlk, Setlkw, Access, Bmap, Destroy, Ioctl, Poll, NotifyReply, Lseek, Copyfilerange, Syncfs, Tmpfile, Answer, Done, Failed, Options, Found, Attributes, Created, Text, Count, Put, Wrote, Statistics, Opened, Offset, Handed, Plain, Iterator, default_answer}
 use Rattle.vfs_files.specs.declared.entry.Context.{Context}
 use Rattle.vfs_grammar.specs.Books.{node_of, answered_nodes, forgets_of}
 use Rattle.vfs_wire.specs.declared.attributes.SetattrIn.{SetattrIn}
@@ -15,12 +15,13 @@ use Rattle.std.proofs.lemmas.List.Sums.{sum_by-remove}
 use Rattle.vfs_tree.specs.Bytes.{resized}
 use Rattle.vfs_tree.specs.Children.{with_child, is_directory, is_file}
 use Rattle.vfs_tree.specs.Listing.{items_behind}
-use Rattle.vfs_tree.specs.Node.{weight, opened, set_attr, overwritten, new_node}
+use Rattle.vfs_tree.specs.Node.{weight, left_by, truncates, opened, lengthens, set_attr, overwritten, new_node}
 use Rattle.vfs_tree.specs.Outcome.{Reply, Just, EntryOf, AttrOf, Listed, Outcome, Refused, Answered, Tried, Replies, Ends, done, first_of, or_else, unless, refusal_of, with_it, on}
 use Rattle.vfs_tree.specs.Rename.{directory_refusal, rename_refusal, renamed}
 use Rattle.vfs_tree.specs.State.{State, node_at, node_named, room_of, with_node, with_resized, with_names, change, child_at}
 use Rattle.vfs_tree.specs.State as tree
-use Rattle.vfs_tree.specs.Tree.{efbig, enodev, most_xattr_bytes, TreeAllows, outcome, found, at_name, made, makes, linked, links, all_forgotten, setattr_refusal, contents_refusal, size_refusal, writes, write_refusal, most_size, grown, fallocate_refusal, setxattr_refusal, with_xattrs, has_no_text, is_plain, make_refusal, taken_out, link_refusal, statistics_of, tells}
+use Rattle.vfs_tree_laws.specs.Laws.{IsShort}
+use Rattle.vfs_tree.specs.Tree.{opening, held_of, group_in, permissions_in, namespace_refusal, efbig, enodev, most_xattr_bytes, TreeAllows, outcome, found, at_name, made, makes, linked, links, all_forgotten, setattr_refusal, contents_refusal, size_refusal, writes, write_refusal, most_size, grown, fallocate_refusal, setxattr_refusal, with_xattrs, has_no_text, is_plain, make_refusal, taken_out, link_refusal, statistics_of, tells}
 use Rattle.vfs_tree.specs.Xattrs.{Xattr, is_called, bytes_of, without_place, xattr_named, xattr_bytes, with_xattr, without_xattr, name_list}
 use Rattle.vfs_nodes.specs.declared.children.Child.{Child}
 use Rattle.vfs_nodes.specs.declared.kind.Kind.{Kind}
@@ -35,6 +36,17 @@ pub record Resizes (s : State) (was now : Node) : Type 0 where
   pub lookups : now.lookups ≡ was.lookups
   pub children : now.children ≡ was.children
   pub room : weight now ≤ weight was + room_of s
+  pub file : IsShort s.limits.file was → IsShort s.limits.file now
+
+-- the lookups that a call takes back, as pairs of a node and a count
+abbrev pub taken_pairs : State → Call → List (ℕ × ℕ)
+taken_pairs old (Init _) = held_of old.nodes
+taken_pairs old Destroy = held_of old.nodes
+taken_pairs old call = forgets_of call
+
+-- one inode more is counted
+abbrev pub one_inode_more : State → State
+one_inode_more s = record s { inodes = s.inodes + 1 }
 
 -- the node of the entry that is answered, where one is
 abbrev pub nodes_of : Reply → List ℕ
@@ -55,18 +67,20 @@ pub record Covers (old : State) (P : List (ℕ × ℕ) → Reply → State → T
   pub same : (reply : Reply) → nodes_of reply ≡ [] → P [] reply old
   pub looked_up : (n : ℕ) (node : Node) → node_at old n ≡ Some node
       → P [] (EntryOf n node) (with_node old n (record node { lookups = node.lookups + 1 }))
-  pub forgot : (pairs : List (ℕ × ℕ)) → P pairs (Just Done) (all_forgotten old pairs)
+  pub forgot : (pairs : List (ℕ × ℕ)) (reply : Reply) → IsTold reply
+      → P pairs reply (all_forgotten old pairs)
   pub resizes : (n : ℕ) (was now : Node) (reply : Reply) → IsTold reply → node_at old n ≡ Some was
       → Resizes old was now → P [] reply (with_resized old n was now)
   pub makes : (uid gid : ℕ) (kind : Kind) (permissions parent : ℕ) (name contents : List ℕ)
       → make_refusal old parent name (length contents) ≡ None
+      → (is_file kind ≡ true → contents ≡ [])
       → let node = new_node old.now uid gid kind permissions parent contents in
       P [] (EntryOf old.next node) (made old parent name node)
   pub links : (n : ℕ) (node : Node) (parent : ℕ) (name : List ℕ) → node_at old n ≡ Some node
       → link_refusal old parent name node ≡ None
       → P [] (EntryOf n (linked old.now node))
-      (change (with_names old parent (λ c. with_child c name (record { node = n; kind = node.kind })))
-      n (linked old.now))
+      (change (one_inode_more (with_names old parent
+      (λ c. with_child c name (record { node = n; kind = node.kind })))) n (linked old.now))
   pub unlinks : (parent : ℕ) (name : List ℕ) (child : Child) (node : Node)
       → directory_refusal (node_at old parent) name ≡ None → child_at old parent name ≡ Some child
       → node_at old child.node ≡ Some node → is_directory node.kind ≡ false
@@ -130,19 +144,13 @@ length-lengthened old len =
       length-replicate {A = ℕ} (len - length old) 0,
     )
 
-pub length-written : (old : List ℕ) (off room : ℕ) (bytes : List ℕ)
-    → off + length bytes ≤ length old + room
-    → length (written old off bytes) ≤ length old + room
-length-written old off room [] within = omega arith
-length-written old off room (b ∷ bs) within =
+length-written : (old : List ℕ) (off : ℕ) (bytes : List ℕ)
+    → length (written old off bytes) ≤ max (length old) (off + length bytes)
+length-written old off [] = omega arith
+length-written old off (b ∷ bs) =
     let long = lengthened old (off + length (b ∷ bs)) in
     let len = length-lengthened old (off + length (b ∷ bs)) in
-    omega (
-      arith,
-      len,
-      within,
-      length-with_bytes_at off (b ∷ bs) long (omega (arith, len)),
-    )
+    omega (arith, len, length-with_bytes_at off (b ∷ bs) long (omega (arith, len)))
 
 -- ---- changes of one node
 
@@ -154,51 +162,65 @@ resizes_itself s node = record {
   lookups = refl;
   children = refl;
   room = omega arith;
+  file = λ h. h;
 }
 
+-- contents that may take the place of a node's
+record Fits (s : State) (node : Node) (contents : List ℕ) : Type 0 where
+  pub room : length contents ≤ length node.contents + room_of s
+  pub file : length node.contents ≤ s.limits.file → length contents ≤ s.limits.file
+
 size_fits : (most room : ℕ) (node : Node) (size : ℕ) → size_refusal most room node size ≡ None
-    → size ≤ length node.contents + room
+    → (size ≤ length node.contents + room) × (size ≤ most)
 size_fits most room node size none =
     let more = size - length node.contents in
     let fits = are_not ((nat_lt most size, efbig) ∷ (nat_lt room more, enospc) ∷ []) none in
-    omega (arith, ltb-false room more fits.1.0)
+    (omega (arith, ltb-false room more fits.1.0), ltb-false most size fits.0)
 
 -- SETATTR
 set_attr_resizes : (s : State) (node : Node) (attr : SetattrIn) (valid : ℕ)
     → setattr_refusal s attr valid node ≡ None
     → Resizes s node (set_attr s.now node attr valid)
-set_attr_resizes s node attr valid none = record {
-  kind = refl;
-  parent = refl;
-  names = refl;
-  lookups = refl;
-  children = refl;
-  room = by (bit_and valid 8 == 8) none;
-}
+set_attr_resizes s node attr valid none =
+    let fits = by (bit_and valid 8 == 8) none in record {
+      kind = refl;
+      parent = refl;
+      names = refl;
+      lookups = refl;
+      children = refl;
+      room = omega (arith, fits.room);
+      file = λ short is. fits.file (short is);
+    }
   where
     by : (t : Bool)
         → (if t
         then or_else (contents_refusal node) (size_refusal s.limits.file (room_of s) node attr.size)
         else None)
         ≡ None
-        → length (if t then resized node.contents attr.size else node.contents) + xattr_bytes node.xattrs
-        ≤ length node.contents + xattr_bytes node.xattrs + room_of s
+        → Fits s node (if t then resized node.contents attr.size else node.contents)
     by true none =
-        let fits = (or_none (contents_refusal node) (size_refusal s.limits.file (room_of s) node attr.size) none).1 in
-        omega (
-          arith,
-          size_fits s.limits.file (room_of s) node attr.size fits,
-          length-resized node.contents attr.size,
-        )
-    by false none = omega arith
+        let last = size_refusal s.limits.file (room_of s) node attr.size in
+        let fits = size_fits s.limits.file (room_of s) node attr.size
+        (or_none (contents_refusal node) last none).1 in
+        let size = length-resized node.contents attr.size in
+        record { room = omega (arith, fits.0, size); file = λ h. omega (arith, fits.1, size) }
+    by false none = record { room = omega arith; file = λ h. h }
 
 -- OPEN
-opened_resizes : (s : State) (node : Node) (flags : ℕ) → Resizes s node (opened s.now node flags)
-opened_resizes s node flags = by (bit_and flags 0o1000 == 0o1000 && is_file node.kind)
+opened_resizes : (s : State) (uid : ℕ) (node : Node) (flags : ℕ)
+    → Resizes s node (opened s.now uid node flags)
+opened_resizes s uid node flags = by (truncates node flags)
   where
     by : (t : Bool)
         → Resizes s node
-        (if t then record node { contents = []; mtime = s.now; ctime = s.now } else node)
+        (if t
+        then record node {
+          contents = [];
+          permissions = left_by uid node.permissions;
+          mtime = s.now;
+          ctime = s.now;
+        }
+        else node)
     by true = record {
       kind = refl;
       parent = refl;
@@ -206,58 +228,64 @@ opened_resizes s node flags = by (bit_and flags 0o1000 == 0o1000 && is_file node
       lookups = refl;
       children = refl;
       room = omega arith;
+      file = λ h is. omega arith;
     }
     by false = resizes_itself s node
 
 -- WRITE
+-- the bytes that are written end within what there is room for, and within a file's limit
+abbrev EndsWithin : State → Node → (end : ℕ) → Type 0
+EndsWithin s node end = (end ≤ length node.contents + room_of s) × (end ≤ s.limits.file)
+
 overwritten_resizes : (s : State) (node : Node) (off : ℕ) (bytes : List ℕ)
-    → off + length bytes ≤ length node.contents + room_of s ⊎ (bytes ≡ [])
+    → EndsWithin s node (off + length bytes) ⊎ (bytes ≡ [])
     → Resizes s node (overwritten s.now node off bytes)
 overwritten_resizes s node off [] within = resizes_itself s node
-overwritten_resizes s node off (b ∷ bs) within = record {
-  kind = refl;
-  parent = refl;
-  names = refl;
-  lookups = refl;
-  children = refl;
-  room =
-      let ends : off + length (b ∷ bs) ≤ length node.contents + room_of s =
-      ⊎_elim (λ h. h) (λ none. cc) within in
-      omega (arith, length-written node.contents off (room_of s) (b ∷ bs) ends);
-}
+overwritten_resizes s node off (b ∷ bs) within =
+    let ends : EndsWithin s node (off + length (b ∷ bs)) = ⊎_elim (λ h. h) (λ none. cc) within in
+    let size = length-written node.contents off (b ∷ bs) in
+    record {
+      kind = refl;
+      parent = refl;
+      names = refl;
+      lookups = refl;
+      children = refl;
+      room = omega (arith, size, ends.0);
+      file = λ short is. omega (arith, size, ends.1, short is);
+    }
 
--- what fits ends within the room there is
+-- what fits ends within these
 fitting_ends : (s : State) (node : Node) (off : ℕ) (bytes : List ℕ)
-    → (off + length (fitting (most_size s node) off bytes) ≤ length node.contents + room_of s)
+    → EndsWithin s node (off + length (fitting (most_size s node) off bytes))
     ⊎ (fitting (most_size s node) off bytes ≡ [])
 fitting_ends s node off bytes = by (most_size s node - off) refl
   where
     by : (n : ℕ) → most_size s node - off ≡ n
-        → (off + length (take n bytes) ≤ length node.contents + room_of s) ⊎ (take n bytes ≡ [])
+        → EndsWithin s node (off + length (take n bytes)) ⊎ (take n bytes ≡ [])
     by zero is = inr refl
-    by (suc n) is = inl (omega (arith, is, length-take (suc n) bytes))
+    by (suc n) is =
+        let size = length-take (suc n) bytes in
+        inl (omega (arith, is, size), omega (arith, is, size))
 
 -- FALLOCATE
 grown_resizes : (s : State) (node : Node) (mode off len : ℕ)
     → fallocate_refusal s mode off len node ≡ None
     → Resizes s node (grown s.now (off + len) node)
-grown_resizes s node mode off len none = record {
-  kind = refl;
-  parent = refl;
-  names = refl;
-  lookups = refl;
-  children = refl;
-  room =
-      let fits = (or_none
-      (first_of ((not (mode == 0), eopnotsupp) ∷ (not (is_file node.kind), enodev)
-      ∷ (len == 0, einval) ∷ []))
-      (size_refusal s.limits.file (room_of s) node (off + len)) none).1 in
-      omega (
-        arith,
-        size_fits s.limits.file (room_of s) node (off + len) fits,
-        length-resized node.contents (max (off + len) (length node.contents)),
-      );
-}
+grown_resizes s node mode off len none =
+    let fits = size_fits s.limits.file (room_of s) node (off + len) (or_none
+    (first_of ((not (mode == 0), eopnotsupp) ∷ (not (is_file node.kind), enodev)
+    ∷ (len == 0, einval) ∷ []))
+    (size_refusal s.limits.file (room_of s) node (off + len)) none).1 in
+    let size = length-resized node.contents (max (off + len) (length node.contents)) in
+    record {
+      kind = refl;
+      parent = refl;
+      names = refl;
+      lookups = refl;
+      children = refl;
+      room = omega (arith, fits.0, size);
+      file = λ short is. omega (arith, fits.1, size, short is);
+    }
 
 -- SETXATTR
 xattr_fits : (s : State) (node : Node) (name value : List ℕ) (flags : ℕ)
@@ -267,10 +295,10 @@ xattr_fits s node name value flags none =
     let more = xattr_bytes (with_xattr node.xattrs name value) in
     let size = xattr_bytes node.xattrs in
     let is = xattr_named node.xattrs name in
-    let fits = are_not
-    ((bit_and flags 1 == 1 && is_some is, eexist)
+    let rs : List (Bool × ℕ) = (bit_and flags 1 == 1 && is_some is, eexist)
     ∷ (bit_and flags 2 == 2 && is_none is, enodata)
-    ∷ (nat_lt most_xattr_bytes more || nat_lt (room_of s) (more - size), enospc) ∷ []) none in
+    ∷ (nat_lt most_xattr_bytes more || nat_lt (room_of s) (more - size), enospc) ∷ [] in
+    let fits = are_not rs (or_none (namespace_refusal name) (first_of rs) none).1 in
     let room = (or_parts (nat_lt most_xattr_bytes more) (nat_lt (room_of s) (more - size))
     fits.1.1.0).1 in
     record {
@@ -280,6 +308,7 @@ xattr_fits s node name value flags none =
       lookups = refl;
       children = refl;
       room = omega (arith, ltb-false (room_of s) (more - size) room);
+      file = λ h. h;
     }
 
 -- REMOVEXATTR
@@ -305,13 +334,14 @@ xattr_leaves s node name = record {
   lookups = refl;
   children = refl;
   room = omega (arith, less_without node.xattrs name);
+  file = λ h. h;
 }
 
 -- ---- outcomes
 
 -- a call that may be refused takes no lookups back, and then answers no entry
-abbrev pub Fails : Call → Type 0
-Fails call = (forgets_of call ≡ []) × ((error : Option ℕ) → answered_nodes call (Failed error) ≡ [])
+abbrev pub Fails : State → Call → Type 0
+Fails old call = (taken_pairs old call ≡ []) × ((error : Option ℕ) → answered_nodes call (Failed error) ≡ [])
 
 -- what holds where it is refused, and of each answer and the state then
 abbrev pub Each : Type 0 → (Reply → State → Type 0) → Outcome → Type 0
@@ -380,33 +410,37 @@ module _ (old : State) (P : List (ℕ × ℕ) → Reply → State → Type 0) (q
   abbrev pub Leaves : Call → Reply → State → Type 0
   Leaves call reply left =
       ((answer : Answer) → Replies reply (Plain answer) → answered_nodes call answer ≡ nodes_of reply)
-      × P (forgets_of call) reply left
+      × P (taken_pairs old call) reply left
 
   abbrev pub Covered : Call → Type 0
-  Covered call = Each (Fails call) (Leaves call) (outcome old call)
+  Covered call = Each (Fails old call) (Leaves call) (outcome old call)
 
   makes_covered : (call : Call)
-      → ((answer : Answer) → answered_nodes call answer ≡ node_of answer) → forgets_of call ≡ []
-      → (ctx : Context) (kind : Kind) (permissions parent : ℕ) (name contents : List ℕ)
-      → Each (Fails call) (Leaves call) (makes old ctx kind permissions parent name contents)
-  makes_covered call same none ctx kind permissions parent name contents =
-      let node = new_node old.now ctx.uid ctx.gid kind permissions parent contents in
+      → ((answer : Answer) → answered_nodes call answer ≡ node_of answer)
+      → taken_pairs old call ≡ [] → (ctx : Context) (kind : Kind) (permissions parent : ℕ)
+      (name contents : List ℕ) → (is_file kind ≡ true → contents ≡ [])
+      → Each (Fails old call) (Leaves call) (makes old ctx kind permissions parent name contents)
+  makes_covered call same none ctx kind permissions parent name contents plain =
+      let above = node_at old parent in
+      let gid = group_in above ctx.gid in
+      let bits = permissions_in above kind permissions in
+      let node = new_node old.now ctx.uid gid kind bits parent contents in
       let last = made old parent name node in
-      let fails : Fails call = (none, λ error. same (Failed error)) in
-      each-unless (Fails call) (Leaves call) fails (make_refusal old parent name (length contents))
+      let fails : Fails old call = (none, λ error. same (Failed error)) in
+      each-unless (Fails old call) (Leaves call) fails (make_refusal old parent name (length contents))
       (Tried true (EntryOf old.next node) last)
       (λ free. (
         fails,
         (
           λ answer r. same answer ∙ entry_nodes old.next node answer r,
           subst (λ pairs. P pairs (EntryOf old.next node) last) (sym none)
-              (q.makes ctx.uid ctx.gid kind permissions parent name contents free),
+              (q.makes ctx.uid gid kind bits parent name contents free plain),
         ),
       ))
 
   tells_covered : (call : Call) → ((answer : Answer) → answered_nodes call answer ≡ [])
-      → forgets_of call ≡ [] → (size : ℕ) (text : Option (List ℕ))
-      → Each (Fails call) (Leaves call) (tells old size text)
+      → taken_pairs old call ≡ [] → (size : ℕ) (text : Option (List ℕ))
+      → Each (Fails old call) (Leaves call) (tells old size text)
   tells_covered call none gives size None = (gives, λ e. none (Failed e))
   tells_covered call none gives size (Some text) = by (size == 0)
     where
@@ -417,45 +451,45 @@ module _ (old : State) (P : List (ℕ × ℕ) → Reply → State → Type 0) (q
       )
 
       by : (asks : Bool)
-          → Each (Fails call) (Leaves call)
+          → Each (Fails old call) (Leaves call)
           (if asks then Answered (Just (Count (length text))) old
           else unless (first_of ((nat_lt size (length text), erange) ∷ []))
           (Tried true (Just (Text text)) old))
       by true = quiet (Just (Count (length text))) refl
       by false =
-          let fails : Fails call = (gives, λ e. none (Failed e)) in
-          each-unless (Fails call) (Leaves call) fails
+          let fails : Fails old call = (gives, λ e. none (Failed e)) in
+          each-unless (Fails old call) (Leaves call) fails
           (first_of ((nat_lt size (length text), erange) ∷ [])) (Tried true (Just (Text text)) old)
           (λ fits. (fails, quiet (Just (Text text)) refl))
 
   pub covered : (call : Call) → Covered call
   covered (Lookup c parent name) =
       let call = (Lookup c parent name) in
-      let fails : Fails call = (refl, λ e. refl) in
+      let fails : Fails old call = (refl, λ e. refl) in
       let last = λ (child : Child) (node : Node).
       Answered (EntryOf child.node node)
       (with_node old child.node (record node { lookups = node.lookups + 1 })) in
       let full = λ (node : Node). first_of ((node.lookups == 2 ^ 64 - 1, eoverflow) ∷ []) in
-      each-at_name (Fails call) (Leaves call) fails old parent name
+      each-at_name (Fails old call) (Leaves call) fails old parent name
       (λ child node. unless (full node) (last child node))
       (λ child node free is there.
-      each-unless (Fails call) (Leaves call) fails (full node) (last child node)
+      each-unless (Fails old call) (Leaves call) fails (full node) (last child node)
       (λ fits. (entry_nodes child.node node, q.looked_up child.node node there)))
   covered (Forget c n count) =
-      ((λ a r. refl), q.forgot ((n, count) ∷ []))
+      ((λ a r. refl), q.forgot ((n, count) ∷ []) (Just Done) refl)
   covered (BatchForget c pairs) =
-      ((λ a r. refl), q.forgot pairs)
+      ((λ a r. refl), q.forgot pairs (Just Done) refl)
   covered (Getattr c n h) =
       let call = (Getattr c n h) in
-      let fails : Fails call = (refl, λ e. refl) in
-      each-with_it (Fails call) (Leaves call) fails (node_at old n)
+      let fails : Fails old call = (refl, λ e. refl) in
+      each-with_it (Fails old call) (Leaves call) fails (node_at old n)
       (λ node. Answered (AttrOf n node) old) (λ node is. ((λ a r. refl), q.same (AttrOf n node) refl))
   covered (Setattr c n attr h valid) =
       let call = (Setattr c n attr h valid) in
-      let fails : Fails call = (refl, λ e. refl) in
+      let fails : Fails old call = (refl, λ e. refl) in
       let set = λ (node : Node). set_attr old.now node attr valid in
-      each-on (Fails call) (Leaves call) fails (node_at old n) (setattr_refusal old attr valid)
-      (λ node. Tried true (AttrOf n (set node)) (with_resized old n node (set node)))
+      each-on (Fails old call) (Leaves call) fails (node_at old n) (setattr_refusal old attr valid)
+      (λ node. Tried (lengthens node attr valid) (AttrOf n (set node)) (with_resized old n node (set node)))
       (λ node is free. (
         fails,
         (
@@ -466,48 +500,51 @@ module _ (old : State) (P : List (ℕ × ℕ) → Reply → State → Type 0) (q
       ))
   covered (Mkdir c parent name mode u e) =
       makes_covered (Mkdir c parent name mode u e) (λ a. refl) refl c kind.Directory mode parent name []
+      (λ is. refl)
   covered (Create c parent name mode k f u e) =
       makes_covered (Create c parent name mode k f u e) (λ a. refl) refl c kind.File mode parent name []
+      (λ is. refl)
   covered (Symlink c text parent name e) =
       makes_covered (Symlink c text parent name e) (λ a. refl) refl c kind.Link 0o777 parent name text
+      (λ is. cc is)
   covered (Mknod c parent name mode r u e) =
       let call = (Mknod c parent name mode r u e) in
-      let fails : Fails call = (refl, λ e. refl) in
-      each-unless (Fails call) (Leaves call) fails (if is_plain mode then None else Some eperm)
+      let fails : Fails old call = (refl, λ e. refl) in
+      each-unless (Fails old call) (Leaves call) fails (if is_plain mode then None else Some eperm)
       (makes old c kind.File mode parent name [])
-      (λ plain. makes_covered call (λ a. refl) refl c kind.File mode parent name [])
+      (λ plain. makes_covered call (λ a. refl) refl c kind.File mode parent name [] (λ is. refl))
   covered (Link c n parent name) =
       let call = (Link c n parent name) in
-      let fails : Fails call = (refl, λ e. refl) in
-      each-on (Fails call) (Leaves call) fails (node_at old n) (link_refusal old parent name)
+      let fails : Fails old call = (refl, λ e. refl) in
+      each-on (Fails old call) (Leaves call) fails (node_at old n) (link_refusal old parent name)
       (λ node. Tried true (EntryOf n (linked old.now node))
-      (change (with_names old parent (λ c. with_child c name (record { node = n; kind = node.kind })))
-      n (linked old.now)))
+      (change (one_inode_more (with_names old parent
+      (λ c. with_child c name (record { node = n; kind = node.kind })))) n (linked old.now)))
       (λ node is free. (
         fails,
         (entry_nodes n (linked old.now node), q.links n node parent name is free),
       ))
   covered (Unlink c parent name) =
       let call = (Unlink c parent name) in
-      let fails : Fails call = (refl, λ e. refl) in
+      let fails : Fails old call = (refl, λ e. refl) in
       let last = λ (child : Child). done (taken_out old parent name child) in
       let rs = λ (node : Node). (is_directory node.kind, eisdir) ∷ [] in
-      each-at_name (Fails call) (Leaves call) fails old parent name
+      each-at_name (Fails old call) (Leaves call) fails old parent name
       (λ child node. unless (first_of (rs node)) (last child))
       (λ child node free is there.
-      each-unless (Fails call) (Leaves call) fails (first_of (rs node)) (last child)
+      each-unless (Fails old call) (Leaves call) fails (first_of (rs node)) (last child)
       (λ fits. ((λ a r. refl), q.unlinks parent name child node free is there (are_not (rs node) fits).0)))
   covered (Rmdir c parent name) =
       let call = (Rmdir c parent name) in
-      let fails : Fails call = (refl, λ e. refl) in
+      let fails : Fails old call = (refl, λ e. refl) in
       let last = λ (child : Child). done (taken_out old parent name child) in
       let empty = λ (node : Node). length node.children.links == 0 in
       let rs = λ (node : Node).
       (not (is_directory node.kind), enotdir) ∷ (not (empty node), enotempty) ∷ [] in
-      each-at_name (Fails call) (Leaves call) fails old parent name
+      each-at_name (Fails old call) (Leaves call) fails old parent name
       (λ child node. unless (first_of (rs node)) (last child))
       (λ child node free is there.
-      each-unless (Fails call) (Leaves call) fails (first_of (rs node)) (last child)
+      each-unless (Fails old call) (Leaves call) fails (first_of (rs node)) (last child)
       (λ fits. (
         (λ a r. refl),
         q.removes parent name child node free is there
@@ -516,40 +553,41 @@ module _ (old : State) (P : List (ℕ × ℕ) → Reply → State → Type 0) (q
       )))
   covered (Rename c od on nd nn flags) =
       let call = (Rename c od on nd nn flags) in
-      let fails : Fails call = (refl, λ e. refl) in
-      each-unless (Fails call) (Leaves call) fails (rename_refusal old od on nd nn flags)
-      (Tried true (Just Done) (renamed old od on nd nn flags))
+      let fails : Fails old call = (refl, λ e. refl) in
+      each-unless (Fails old call) (Leaves call) fails (rename_refusal old od on nd nn flags)
+      (Tried (is_none (child_at old nd nn)) (Just Done) (renamed old od on nd nn flags))
       (λ free. (fails, ((λ a r. refl), q.renames od on nd nn flags free)))
   covered (Readlink c n) =
       let call = (Readlink c n) in
-      let fails : Fails call = (refl, λ e. refl) in
+      let fails : Fails old call = (refl, λ e. refl) in
       let text = λ (node : Node). Tried true (Just (Text node.contents)) old in
       let none = λ (node : Node). first_of ((has_no_text node, einval) ∷ []) in
-      each-with_it (Fails call) (Leaves call) fails (node_at old n)
+      each-with_it (Fails old call) (Leaves call) fails (node_at old n)
       (λ node. unless (none node) (text node))
-      (λ node is. each-unless (Fails call) (Leaves call) fails (none node) (text node)
+      (λ node is. each-unless (Fails old call) (Leaves call) fails (none node) (text node)
       (λ some. (fails, ((λ a r. refl), q.same (Just (Text node.contents)) refl))))
   covered (Open c n k flags) =
       let call = (Open c n k flags) in
-      let fails : Fails call = (refl, λ e. refl) in
-      let last = λ (node : Node). opened old.now node flags in
-      each-with_it (Fails call) (Leaves call) fails (node_at old n)
-      (λ node. Answered (Just default_opening) (with_resized old n node (last node)))
+      let fails : Fails old call = (refl, λ e. refl) in
+      let last = λ (node : Node). opened old.now c.uid node flags in
+      let reply = λ (node : Node). Just (opening node flags) in
+      each-with_it (Fails old call) (Leaves call) fails (node_at old n)
+      (λ node. Answered (reply node) (with_resized old n node (last node)))
       (λ node is. (
         (λ a r. refl),
-        q.resizes n node (last node) (Just default_opening) refl is (opened_resizes old node flags),
+        q.resizes n node (last node) (reply node) refl is (opened_resizes old c.uid node flags),
       ))
   covered (Read c n h room size off o f) =
       let call = (Read c n h room size off o f) in
-      let fails : Fails call = (refl, λ e. refl) in
+      let fails : Fails old call = (refl, λ e. refl) in
       let reply = λ (node : Node). Just (Put (part_of node.contents off (most_put room size))) in
-      each-on (Fails call) (Leaves call) fails (node_at old n) contents_refusal
+      each-on (Fails old call) (Leaves call) fails (node_at old n) contents_refusal
       (λ node. Answered (reply node) old) (λ node is free. ((λ a r. refl), q.same (reply node) refl))
   covered (Write c n h bytes size off o d k f) =
       let call = (Write c n h bytes size off o d k f) in
-      let fails : Fails call = (refl, λ e. refl) in
+      let fails : Fails old call = (refl, λ e. refl) in
       let fit = λ (node : Node). fitting (most_size old node) off (take size bytes) in
-      each-on (Fails call) (Leaves call) fails (node_at old n) (write_refusal old off size)
+      each-on (Fails old call) (Leaves call) fails (node_at old n) (write_refusal old off size)
       (writes old n off (take size bytes))
       (λ node is free. (
         fails,
@@ -562,10 +600,11 @@ module _ (old : State) (P : List (ℕ × ℕ) → Reply → State → Type 0) (q
       ))
   covered (Fallocate c n h mode off len) =
       let call = (Fallocate c n h mode off len) in
-      let fails : Fails call = (refl, λ e. refl) in
+      let fails : Fails old call = (refl, λ e. refl) in
       let last = λ (node : Node). grown old.now (off + len) node in
-      each-on (Fails call) (Leaves call) fails (node_at old n) (fallocate_refusal old mode off len)
-      (λ node. Tried true (Just Done) (with_resized old n node (last node)))
+      each-on (Fails old call) (Leaves call) fails (node_at old n) (fallocate_refusal old mode off len)
+      (λ node. Tried (nat_lt (length node.contents) (off + len)) (Just Done)
+      (with_resized old n node (last node)))
       (λ node is free. (
         fails,
         (
@@ -575,9 +614,9 @@ module _ (old : State) (P : List (ℕ × ℕ) → Reply → State → Type 0) (q
       ))
   covered (Setxattr c n name value flags e) =
       let call = (Setxattr c n name value flags e) in
-      let fails : Fails call = (refl, λ e. refl) in
+      let fails : Fails old call = (refl, λ e. refl) in
       let last = λ (node : Node). with_xattrs old.now node (with_xattr node.xattrs name value) in
-      each-on (Fails call) (Leaves call) fails (node_at old n) (setxattr_refusal old name value flags)
+      each-on (Fails old call) (Leaves call) fails (node_at old n) (setxattr_refusal old name value flags)
       (λ node. Tried true (Just Done) (with_resized old n node (last node)))
       (λ node is free. (
         fails,
@@ -588,39 +627,43 @@ module _ (old : State) (P : List (ℕ × ℕ) → Reply → State → Type 0) (q
       ))
   covered (Removexattr c n name) =
       let call = (Removexattr c n name) in
-      let fails : Fails call = (refl, λ e. refl) in
+      let fails : Fails old call = (refl, λ e. refl) in
       let last = λ (node : Node). with_xattrs old.now node (without_xattr node.xattrs name) in
-      let none = λ (node : Node). first_of ((is_none (xattr_named node.xattrs name), enodata) ∷ []) in
-      each-with_it (Fails call) (Leaves call) fails (node_at old n)
+      let none = λ (node : Node). or_else (namespace_refusal name)
+      (first_of ((is_none (xattr_named node.xattrs name), enodata) ∷ [])) in
+      each-with_it (Fails old call) (Leaves call) fails (node_at old n)
       (λ node. unless (none node) (done (with_resized old n node (last node))))
       (λ node is.
-      each-unless (Fails call) (Leaves call) fails (none node) (done (with_resized old n node (last node)))
+      each-unless (Fails old call) (Leaves call) fails (none node) (done (with_resized old n node (last node)))
       (λ free. ((λ a r. refl), q.resizes n node (last node) (Just Done) refl is (xattr_leaves old node name))))
   covered (Getxattr c n name size) =
       let call = (Getxattr c n name size) in
-      let fails : Fails call = (refl, λ e. refl) in
-      each-with_it (Fails call) (Leaves call) fails (node_at old n)
-      (λ node. tells old size (xattr_named node.xattrs name))
-      (λ node is. tells_covered call (λ a. refl) refl size (xattr_named node.xattrs name))
+      let fails : Fails old call = (refl, λ e. refl) in
+      each-with_it (Fails old call) (Leaves call) fails (node_at old n)
+      (λ node. unless (namespace_refusal name) (tells old size (xattr_named node.xattrs name)))
+      (λ node is.
+      each-unless (Fails old call) (Leaves call) fails (namespace_refusal name)
+      (tells old size (xattr_named node.xattrs name))
+      (λ free. tells_covered call (λ a. refl) refl size (xattr_named node.xattrs name)))
   covered (Listxattr c n size) =
       let call = (Listxattr c n size) in
-      let fails : Fails call = (refl, λ e. refl) in
-      each-with_it (Fails call) (Leaves call) fails (node_at old n)
+      let fails : Fails old call = (refl, λ e. refl) in
+      each-with_it (Fails old call) (Leaves call) fails (node_at old n)
       (λ node. tells old size (Some (name_list node.xattrs)))
       (λ node is. tells_covered call (λ a. refl) refl size (Some (name_list node.xattrs)))
   covered (Readdir c n h size off) =
       let call = (Readdir c n h size off) in
-      let fails : Fails call = (refl, λ e. refl) in
+      let fails : Fails old call = (refl, λ e. refl) in
       let reply = λ (node : Node). Listed (items_behind n node off size) in
       let none = λ (node : Node). first_of ((not (is_directory node.kind), enotdir) ∷ []) in
-      each-with_it (Fails call) (Leaves call) fails (node_at old n)
+      each-with_it (Fails old call) (Leaves call) fails (node_at old n)
       (λ node. unless (none node) (Tried true (reply node) old))
-      (λ node is. each-unless (Fails call) (Leaves call) fails (none node) (Tried true (reply node) old)
+      (λ node is. each-unless (Fails old call) (Leaves call) fails (none node) (Tried true (reply node) old)
       (λ free. (fails, ((λ a r. refl), q.same (reply node) refl))))
   covered (Statfs c n) =
       ((λ a r. refl), q.same (Just (Statistics (statistics_of old))) refl)
   covered (Init x) =
-      ((λ a r. refl), q.same (Just (Options 0x2000)) refl)
+      ((λ a r. refl), q.forgot (held_of old.nodes) (Just (Options 0x6000)) refl)
   covered (Release c n f h x y o) =
       ((λ a r. refl), q.same (Just Done) refl)
   covered (Fsync c n x h) =
@@ -644,7 +687,7 @@ module _ (old : State) (P : List (ℕ × ℕ) → Reply → State → Type 0) (q
   covered Bmap =
       ((λ a r. refl), q.same (Just (default_answer Bmap)) refl)
   covered Destroy =
-      ((λ a r. refl), q.same (Just (default_answer Destroy)) refl)
+      ((λ a r. refl), q.forgot (held_of old.nodes) (Just Done) refl)
   covered Ioctl =
       ((λ a r. refl), q.same (Just (default_answer Ioctl)) refl)
   covered Poll =
@@ -697,7 +740,7 @@ left_so old new F L (Tried needs reply left) handed C fails leaves each h = by h
 pub calls_covered : (old new : State) (Q : State → Type 0) → Covers old (λ taken reply left. Q left)
     → (call : Call) (answer : Answer) → TreeAllows old call (Plain answer) new → Q new
 calls_covered old new Q q call answer =
-    left_so old new (Fails call) (Leaves old (λ taken reply left. Q left) q call) (outcome old call)
+    left_so old new (Fails old call) (Leaves old (λ taken reply left. Q left) q call) (outcome old call)
     (Plain answer) (Q new)
     (λ fails error is same. subst Q (sym same) (q.same (Just Done) refl))
     (λ reply replies leaves. leaves.1)

@@ -1,11 +1,11 @@
 -- Links after each call that adds or takes out a name.
-use Rattle.std.proofs.Common.{◌≡◌, ◌≢◌, ◌+◌, ◌-◌, ◌<◌, ◌≤◌, ℕ, true, false, List, [], find, Option, Some, None, option_map, refl, sym, ap, ◌∙◌, subst, arith}
+use Rattle.std.proofs.Common.{◌≡◌, ◌≢◌, ◌+◌, ◌-◌, ◌<◌, ◌≤◌, min, ℕ, true, false, List, [], find, Option, Some, None, option_map, refl, sym, ap, ◌∙◌, subst, arith}
 use Rattle.std.proofs.lemmas.Bool.{both_ways, false≢true}
 use Rattle.std.proofs.lemmas.Option.{none-some, same_Some}
 use Rattle.vfs_tree.specs.Children.{Link, Children, is_directory, is_named, child_named, with_child, without_child}
 use Rattle.vfs_tree_laws.specs.Laws.{names_in, names_to, names_of, IsSound, IsLinked}
 use Rattle.vfs_tree.specs.Rename.{parent_of}
-use Rattle.vfs_tree.specs.State.{State, node_at, with_new, changed, change, with_names, unnamed}
+use Rattle.vfs_tree.specs.State.{State, node_at, with_node, with_new, changed, change, with_names, unnamed}
 use Rattle.vfs_tree.specs.Tree.{made, linked, taken_out}
 use Rattle.vfs_nodes.specs.declared.children.Child.{Child}
 use Rattle.vfs_nodes.specs.declared.kind.Kind.{Kind}
@@ -16,7 +16,7 @@ use Rattle.vfs_tree_laws.proofs.Keeping.{keeps-with_names}
 use Rattle.vfs_tree_laws.proofs.NamesIn.{one, one_same, one_other, Apart, names_in-found}
 use Rattle.vfs_tree.proofs.Nodes.{node_at-with_new, node_at-with_new_other}
 use Rattle.vfs_tree_laws.proofs.Shapes.{Shape, Fits, AllFit, Good, kind_new, kind_new_other, good-with_new, Counted, Home, linked_from, good_from, counted_from, home_from}
-use Rattle.vfs_tree_laws.proofs.Steps.{Step, found_link, none_lost, step-with_child, step-without_child, step_home, linked-with_node, linked-settled}
+use Rattle.vfs_tree_laws.proofs.Steps.{Step, found_link, none_lost, step-with_child, step-without_child, step_home, linked_counted, linked-recounted, linked-with_node, linked-settled}
 use Rattle.vfs_tree_laws.proofs.Tables.{links_in, names_at, kind_in, kind_at, is_dir, names_at_most, names_at_both, names_to-with_new, free_number}
 
 -- ---- what is found
@@ -240,11 +240,16 @@ module _ (s : State) (linked_s : IsLinked s) (n : ℕ) (node : Node)
   is_mid : node_at mid_linked n ≡ Some node
   is_mid = step_linked.nodes n n_apart ∙ is
 
-  pub linked-linked : IsLinked (change mid_linked n (linked s.now))
+  -- with one inode more
+  abbrev counted_linked : State
+  counted_linked = record mid_linked { inodes = mid_linked.inodes + 1 }
+
+  pub linked-linked : IsLinked (change counted_linked n (linked s.now))
   linked-linked =
       let old = (good_s.nodes n node is).shape in
       let counted = counted_from s linked_s in
-      subst IsLinked (sym (ap (changed mid_linked n (linked s.now)) is_mid))
+      subst IsLinked (sym (ap (changed counted_linked n (linked s.now)) is_mid))
+      (linked_counted (with_node mid_linked n (linked s.now node)) (mid_linked.inodes + 1)
       (linked-with_node mid_linked n node (linked s.now node) is_mid refl refl refl step_linked.good
       (step_linked.parents 1 ∙ linked_s.top)
       (record {
@@ -270,7 +275,7 @@ module _ (s : State) (linked_s : IsLinked s) (n : ℕ) (node : Node)
       (sym (ap (λ o. is_dir (kind_in o)) is_mid) ∙ dir))))
       (λ apart.
       step_home s mid_linked parent none_lost (one n) step_linked c
-      (one_other n c (λ e. apart (sym e))) (home_from s linked_s c))))
+      (one_other n c (λ e. apart (sym e))) (home_from s linked_s c)))))
 
 -- ---- UNLINK, RMDIR
 
@@ -313,6 +318,7 @@ module _ (s : State) (sound : IsSound s) (linked_s : IsLinked s) (parent : ℕ) 
       let old = ((good_from s linked_s).nodes child.node target is_target).shape in
       let names = ap names_of is_target in
       subst IsLinked (sym (ap (unnamed rest child.node) is_rest))
+      (linked-recounted rest child.node left (rest.inodes - min (target.names - 1) 1)
       (linked-settled rest child.node target left is_rest refl refl refl step_out.good
       (step_out.parents 1 ∙ linked_s.top)
       (shape_empty target.kind target.names target.children.links empty old)
@@ -333,4 +339,4 @@ module _ (s : State) (sound : IsSound s) (linked_s : IsLinked s) (parent : ℕ) 
       ))
       (λ c.
       step_home s rest parent (one child.node) none_lost step_out c refl (home_from s linked_s c))
-      (keeps-with_names s parent (λ c. without_child c name) sound).sound)
+      (keeps-with_names s parent (λ c. without_child c name) sound).sound))

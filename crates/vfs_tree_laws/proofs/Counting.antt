@@ -1,16 +1,19 @@
 -- Lookups over runs.
-use Rattle.std.proofs.Common.{rules, tests, ◌≡◌, ◌≢◌, ◌≤◌, ◌<◌, ◌+◌, ◌-◌, ◌==◌, ℕ, zero, suc, List, [], ◌∷◌, ◌++◌, take, Option, Some, None, IsSome, IfSome, refl, sym, ap, subst, ◌∙◌, arith, if◌then◌else◌}
+use Rattle.std.proofs.Common.{rules, tests, ◌≡◌, ◌≢◌, ◌≤◌, ◌<◌, ◌+◌, ◌-◌, ◌==◌, ◌||◌, ⊎_elim, ℕ, zero, suc, Bool, true, false, List, [], ◌∷◌, ◌++◌, take, Option, Some, None, IsSome, IfSome, refl, sym, ap, subst, ◌∙◌, arith, if◌then◌else◌}
+use Rattle.std.specs.List.{list_any}
 use Rattle.vfs_files.specs.Items.{Item}
 use Rattle.vfs_files.specs.Calls.{Call, Lookup, Forget, BatchForget, Getattr, Setattr, Symlink, Readlink, Open, Unlink, Rmdir, Rename, Link, Mknod, Mkdir, Create, Read, Write, Fallocate, Setxattr, Getxattr, Listxattr, Removexattr, Statfs, Release, Fsync, Flush, Init, Opendir, Readdir, Releasedir, Fsyncdir, Getlk, Setlk, Setlkw, Access, Bmap, Destroy, Ioctl, Poll, NotifyReply, Lseek, Copyfilerange, Syncfs, Tmpfile, Answer, Done, Failed, Options, Found, Attributes, Created, Text, Count, Put, Wrote, Statistics, Opened, Offset, Plain}
 use Rattle.vfs_files.specs.Runs.{Event, Called, OpenedDirectory, Taken, Happening, Calls, Opens, Takes, IsRun, at_hand, event_of, events_of}
 use Rattle.vfs_grammar.specs.Books.{answered, sent, answered_by, sent_by, answered_nodes, node_of, forgets_of, times, counts, NeverBelow, KeepsBooks, accepted, delivered}
 use Rattle.vfs_grammar.specs.Turn.{Turn, events_in}
-use Rattle.vfs_tree_laws.specs.Laws.{IsTree, IsHeld, lookups_in, lookups_of, names_of, CallsKeepTrees, ReadingsChangeNothing}
+use Rattle.vfs_tree_laws.specs.Laws.{IsTree, IsHeld, lookups_in, lookups_of, names_of, taken_back, CallsKeepTrees, ReadingsChangeNothing}
 use Rattle.vfs_files.specs.Listing.{GivesFirst}
 use Rattle.vfs_tree.specs.State.{State, node_at}
 use Rattle.vfs_nodes.specs.declared.node.Node.{Node}
 use Rattle.vfs_tree.specs.Tree.{TreeAllows}
-use Rattle.vfs_tree_laws.specs.Runs.{RunsKeepTrees, KeepsTree, GivesAllBack, LeavesNone}
+use Rattle.vfs_tree_laws.specs.Runs.{takes_all, since, held_before, ends_client, last_turns, held_by_last, RunsKeepTrees, KeepsTree, GivesAllBack, LeavesNone}
+use Rattle.vfs_tree_laws.proofs.Clients.{none_since, LastTurns}
+use Rattle.vfs_tree_laws.proofs.Endings.{IsOrdinary, IsEnding, which}
 use Rattle.std.proofs.lemmas.List.Sums.{sum_by-append}
 
 -- no call gives lookups and takes some back
@@ -89,36 +92,88 @@ rest_enough n held now e es enough is k =
 
 -- ---- runs
 
+-- so many lookups of a node are held, which were `held` before these events
+abbrev Holds : (new : State) (held : ℕ) → List Event → (n : ℕ) → Type 0
+Holds new held events n =
+    Enough n held events → lookups_of new n + sent n events ≡ held + answered n events
+
 -- a tree, in which of each node so many lookups are held
 pub record Counted (old new : State) (events : List Event) : Type 0 where
   pub tree : IsTree new
-  pub lookups : (n : ℕ) → Enough n (lookups_of old n) events
-      → lookups_of new n + sent n events ≡ lookups_of old n + answered n events
+  pub lookups : (n : ℕ)
+      → Holds new (held_before (list_any takes_all events) old n) (since takes_all events) n
+
+-- what an event does to the lookups of a node
+record Counts (old mid : State) (e : Event) (n : ℕ) : Type 0 where
+  pub goes_on : takes_all e ≡ false → sent_by n e ≤ lookups_of old n + answered_by n e
+      → lookups_of mid n + sent_by n e ≡ lookups_of old n + answered_by n e
+  pub ends : takes_all e ≡ true → lookups_of mid n ≡ 0
 
 -- one event, and then the others
 counted_more : (old mid new : State) (e : Event) (es : List Event)
-    → ((n : ℕ) → sent_by n e ≤ lookups_of old n + answered_by n e
-    → lookups_of mid n + sent_by n e ≡ lookups_of old n + answered_by n e)
-    → Counted mid new es → Counted old new (e ∷ es)
+    → ((n : ℕ) → Counts old mid e n) → Counted mid new es → Counted old new (e ∷ es)
 counted_more old mid new e es first rest = record {
   tree = rest.tree;
-  lookups = λ n enough.
-      let one = first n (first_enough n (lookups_of old n) e es enough) in
-      let others = rest.lookups n
-      (rest_enough n (lookups_of old n) (lookups_of mid n) e es enough one) in
-      omega (arith, one, others, sent_more n e es, answered_more n e es);
+  lookups = λ n. by n (list_any takes_all es) (takes_all e) refl refl;
 }
+  where
+    -- all were taken back among the others
+    later : (n : ℕ) → list_any takes_all es ≡ true → Holds new 0 (since takes_all es) n
+    later n some =
+        subst (λ (b : Bool). Holds new (held_before b mid n) (since takes_all es) n) some
+        (rest.lookups n)
+
+    -- none were
+    whole : (n : ℕ) → list_any takes_all es ≡ false → Holds new (lookups_of mid n) es n
+    whole n none =
+        subst (λ (l : List Event). Holds new (lookups_of mid n) l n) (none_since takes_all es none)
+        (subst (λ (b : Bool). Holds new (held_before b mid n) (since takes_all es) n) none
+        (rest.lookups n))
+
+    by : (n : ℕ) (b t : Bool) → list_any takes_all es ≡ b → takes_all e ≡ t
+        → Holds new (held_before (t || b) old n)
+        (if b then since takes_all es else if t then es else e ∷ es) n
+    by n true true some is = later n some
+    by n true false some is = later n some
+    by n false true none is =
+        subst (λ k. Holds new k es n) ((first n).ends is) (whole n none)
+    by n false false none is = λ enough.
+        let one = (first n).goes_on is (first_enough n (lookups_of old n) e es enough) in
+        let others = whole n none
+        (rest_enough n (lookups_of old n) (lookups_of mid n) e es enough one) in
+        omega (arith, one, others, sent_more n e es, answered_more n e es)
 
 module _ (law : CallsKeepTrees) (readings : ReadingsChangeNothing) where
   -- a call
   call_counts : (old mid : State) (call : Call) (answer : Answer) → IsTree old
-      → TreeAllows old call (Plain answer) mid → (n : ℕ)
-      → counts n (forgets_of call) ≤ lookups_of old n + times n (answered_nodes call answer)
-      → lookups_of mid n + counts n (forgets_of call)
-      ≡ lookups_of old n + times n (answered_nodes call answer)
-  call_counts old mid call answer tree allowed n within =
-      (law old mid call answer tree allowed).2 n
-      (takes_alone n (lookups_of old n) call answer within)
+      → TreeAllows old call (Plain answer) mid → (n : ℕ) → Counts old mid (Called call answer) n
+  call_counts old mid call answer tree allowed n =
+      let counts_law = (law old mid call answer tree allowed).2 n in
+      ⊎_elim
+      (λ (o : IsOrdinary old call answer). record {
+        goes_on = λ is within.
+            let taken = o.taken n in
+            let alone = takes_alone n (lookups_of old n) call answer within in
+            let counted = counts_law (omega (arith, taken, alone)) in
+            omega (arith, counted, taken);
+        ends = λ is. cc (o.goes_on, is);
+      })
+      (λ (e : IsEnding old call answer). record {
+        goes_on = λ is within. cc (e.ends, is);
+        ends = λ is.
+            let taken = e.taken n in
+            let counted = counts_law (omega (arith, taken)) in
+            omega (arith, counted, taken, ap (times n) e.gives);
+      })
+      (which old call answer)
+
+  -- what no call does
+  still_counts : (old mid : State) (e : Event) → takes_all e ≡ false → mid ≡ old
+      → ((n : ℕ) → (sent_by n e ≡ 0) × (answered_by n e ≡ 0)) → (n : ℕ) → Counts old mid e n
+  still_counts old mid e no same none n = record {
+    goes_on = λ is within. omega (arith, ap (λ s. lookups_of s n) same, (none n).0, (none n).1);
+    ends = λ is. cc (no, is);
+  }
 
   pub counted : (it : Option (List Item)) (old new : State)
       (run : List (Happening (List Item) × State)) → IsTree old
@@ -133,12 +188,12 @@ module _ (law : CallsKeepTrees) (readings : ReadingsChangeNothing) where
   counted it old new ((Opens call opened, mid) ∷ hs) tree ran =
       let same = readings old mid call opened ran.0 in
       counted_more old mid new (OpenedDirectory call) (events_of hs)
-      (λ n within. ap (λ s. lookups_of s n + 0) same)
+      (still_counts old mid (OpenedDirectory call) refl same (λ n. (refl, refl)))
       (counted (Some opened) mid new hs (subst IsTree (sym same) tree) ran.1)
   counted it old new ((Takes before item after, mid) ∷ hs) tree ran =
       let same = ran.0.1 in
       counted_more old mid new (Taken item) (events_of hs)
-      (λ n within. ap (λ s. lookups_of s n + 0) same)
+      (still_counts old mid (Taken item) refl same (λ n. (refl, refl)))
       (counted (Some after) mid new hs (subst IsTree (sym same) tree) ran.1)
 
   pub runs_keep_trees : RunsKeepTrees
@@ -151,14 +206,20 @@ module _ (law : CallsKeepTrees) (readings : ReadingsChangeNothing) where
 module _ (old new : State) (turns : List Turn) (run : List (Happening (List Item) × State))
     (runs : RunsKeepTrees) (tree : IsTree old)
     (ran : IsRun TreeAllows GivesFirst None old run new)
-    (events : events_of run ≡ events_in turns) (books : KeepsBooks turns) where
-  counts_events : (n : ℕ) → NeverBelow n (events_in turns)
-      → lookups_of new n + sent n (events_in turns)
-      ≡ lookups_of old n + answered n (events_in turns)
-  counts_events n =
-      subst (λ es. NeverBelow n es
-      → lookups_of new n + sent n es ≡ lookups_of old n + answered n es) events
-      ((runs None old new run tree ran).1 n)
+    (events : events_of run ≡ events_in turns) (last : LastTurns turns)
+    (books : KeepsBooks (last_turns turns)) where
+  counts_events : (n : ℕ) → NeverBelow n (events_in (last_turns turns))
+      → lookups_of new n + sent n (events_in (last_turns turns))
+      ≡ held_by_last old turns n + answered n (events_in (last_turns turns))
+  counts_events n never =
+      let Says : List Event → Bool → Type 0 = λ es any.
+      NeverBelow n es → lookups_of new n + sent n es ≡ held_before any old n + answered n es in
+      let here : Says (since takes_all (events_in turns)) (list_any takes_all (events_in turns)) =
+      subst (λ (es : List Event). Says (since takes_all es) (list_any takes_all es)) events
+      ((runs None old new run tree ran).1 n) in
+      subst (λ (any : Bool). Says (events_in (last_turns turns)) any) last.any
+      (subst (λ (es : List Event). Says es (list_any takes_all (events_in turns))) last.events here)
+      never
 
   pub keeps_tree : KeepsTree old turns new
   keeps_tree = record {

@@ -25,6 +25,11 @@ at n m P same apart = by (is_at (nat_cmp n) m) refl
     by true is = same (is_at_same n m is)
     by false is = apart (apart_from n m is)
 
+-- ---- how many inodes are counted
+
+pub sound_counted : (s : State) (inodes : ℕ) → IsSound s → IsSound (record s { inodes = inodes })
+sound_counted s inodes sound = record { ordered = sound.ordered; held = sound.held }
+
 -- ---- a node that is changed
 
 module _ (s : State) (n : ℕ) (was node : Node) (is : node_at s n ≡ Some was) where

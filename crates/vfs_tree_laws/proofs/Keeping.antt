@@ -1,5 +1,5 @@
 -- Changes that keep a state sound and all lookups that are held.
-use Rattle.std.proofs.Common.{rules, tests, ◌≡◌, ◌≢◌, ◌≤◌, ◌<◌, ◌+◌, ◌-◌, ◌==◌, ℕ, Bool, true, false, List, [], ◌∷◌, Option, Some, None, IsSome, IfSome, is_some, refl, sym, ap, subst, ◌∙◌, arith, if◌then◌else◌}
+use Rattle.std.proofs.Common.{rules, tests, ◌≡◌, ◌≢◌, ◌≤◌, ◌<◌, ◌+◌, ◌-◌, ◌==◌, min, ℕ, Bool, true, false, List, [], ◌∷◌, Option, Some, None, IsSome, IfSome, is_some, refl, sym, ap, subst, ◌∙◌, arith, if◌then◌else◌}
 use Rattle.vfs_tree.specs.Children.{Children, with_child, without_child, with_other_child}
 use Rattle.vfs_tree_laws.specs.Laws.{lookups_in, lookups_of, IsHeld, IsSound}
 use Rattle.vfs_tree.specs.Rename.{moved_into, moved_to_free, moved_over, exchanged, renamed, renamed_to}
@@ -8,7 +8,7 @@ use Rattle.vfs_tree.specs.Tree.{taken_out}
 use Rattle.vfs_nodes.specs.declared.children.Child.{Child}
 use Rattle.vfs_nodes.specs.declared.node.Node.{Node}
 use Rattle.vfs_tree.proofs.Nodes.{node_at-with_node, node_at-with_node_other}
-use Rattle.vfs_tree_laws.proofs.Held.{at, lookups_here, lookups_other, sound-with_node, Settles, settles}
+use Rattle.vfs_tree_laws.proofs.Held.{at, lookups_here, lookups_other, sound_counted, sound-with_node, Settles, settles}
 
 pub record Keeps (old new : State) : Type 0 where
   pub sound : IsSound new
@@ -103,7 +103,9 @@ pub keeps-unnamed : (s : State) (n : ℕ) (o : Option Node) → node_at s n ≡ 
 keeps-unnamed s n None is sound = keeps_itself s sound
 keeps-unnamed s n (Some node) is sound =
     let new = unnamed s n (Some node) in
-    let done = settles s n node (record node { names = node.names - 1; ctime = s.now }) is sound in
+    let less = s.inodes - min (node.names - 1) 1 in
+    let left : Node = record node { names = node.names - 1; ctime = s.now } in
+    let done = settles (record s { inodes = less }) n node left is (sound_counted s less sound) in
     record {
       sound = done.stays;
       lookups = λ m. lookups_at s n m new (Some node) is done.here (done.other m);

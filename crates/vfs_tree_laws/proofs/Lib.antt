@@ -1,8 +1,10 @@
 mod Ascending
 mod Beginning
 mod Cases
+mod Clients
 mod Compounds
 mod Counting
+mod Endings
 mod Held
 mod Keeping
 mod Kept

@@ -1,7 +1,7 @@
 -- Calls keep links: as many names lead to a node as it says, and each to one that is there.
 use Rattle.std.proofs.Common.{◌≡◌, ◌+◌, ◌-◌, ◌==◌, ◌||◌, ◌&&◌, if◌then◌else◌, ℕ, Bool, true, false, List, [], ◌∷◌, length, Option, Some, None, refl, sym, ap, ◌∙◌, subst, arith}
 use Rattle.std.proofs.lemmas.Bool.{eqb-false, or_from}
-use Rattle.vfs_tree.specs.Children.{Children, is_directory, child_named, with_child}
+use Rattle.vfs_tree.specs.Children.{Children, is_directory, is_file, child_named, with_child}
 use Rattle.vfs_tree.specs.Node.{new_node}
 use Rattle.vfs_tree_laws.specs.Laws.{names_of, IsSound, IsLinked, CallsKeepLinks}
 use Rattle.vfs_tree.specs.Rename.{directory_refusal, place_refusal, replace_refusal, same_node, renamed, renamed_to, moved_over, exchanged}
@@ -10,7 +10,7 @@ use Rattle.vfs_tree.specs.Tree.{made, linked, forgotten, all_forgotten, make_ref
 use Rattle.vfs_nodes.specs.declared.children.Child.{Child}
 use Rattle.vfs_nodes.specs.declared.kind.Kind.{Kind}
 use Rattle.vfs_nodes.specs.declared.node.Node.{Node}
-use Rattle.vfs_tree_laws.proofs.Cases.{Covers, Resizes, calls_covered}
+use Rattle.vfs_tree_laws.proofs.Cases.{Covers, Resizes, one_inode_more, calls_covered}
 use Rattle.vfs_tree_laws.proofs.Compounds.{there_is, found_fits, linked-made, linked-linked, linked-taken_out}
 use Rattle.vfs_tree_laws.proofs.Held.{settles}
 use Rattle.vfs_tree_laws.proofs.Refused.{directory_there, has_names, make_takes, link_takes, none_in, replace_takes, Renames, rename_takes}
@@ -89,8 +89,9 @@ forgets_all s (r ∷ rs) both =
 module _ (old : State) (sound : IsSound old) (linked_old : IsLinked old) where
   makes : (uid gid : ℕ) (kind : Kind) (permissions parent : ℕ) (name contents : List ℕ)
       → make_refusal old parent name (length contents) ≡ None
+      → (is_file kind ≡ true → contents ≡ [])
       → IsLinked (made old parent name (new_node old.now uid gid kind permissions parent contents))
-  makes uid gid kind permissions parent name contents free =
+  makes uid gid kind permissions parent name contents free plain =
       let t = make_takes old parent name (length contents) free in
       linked-made old sound linked_old parent name
       (new_node old.now uid gid kind permissions parent contents) t.above t.is t.dir t.named t.free refl
@@ -98,8 +99,8 @@ module _ (old : State) (sound : IsSound old) (linked_old : IsLinked old) where
 
   links : (n : ℕ) (node : Node) (parent : ℕ) (name : List ℕ) → node_at old n ≡ Some node
       → link_refusal old parent name node ≡ None
-      → IsLinked (change (with_names old parent
-      (λ c. with_child c name (record { node = n; kind = node.kind }))) n (linked old.now))
+      → IsLinked (change (one_inode_more (with_names old parent
+      (λ c. with_child c name (record { node = n; kind = node.kind })))) n (linked old.now))
   links n node parent name is free =
       let t = link_takes old node parent name free in
       let to = t.0 in
@@ -121,7 +122,7 @@ module _ (old : State) (sound : IsSound old) (linked_old : IsLinked old) where
     -- two names that are there
     module _ (child target : Child) (found : child_named from.children on ≡ Some child)
         (found_target : child_named into.children nn ≡ Some target)
-        (place : place_refusal old nd flags (Some child) (Some target) ≡ None) where
+        (place : place_refusal old nd nn flags (Some child) (Some target) ≡ None) where
       old_target : (x : Node) × (node_at old target.node ≡ Some x)
       old_target =
           there_is (node_at old target.node) target.kind
@@ -158,7 +159,7 @@ module _ (old : State) (sound : IsSound old) (linked_old : IsLinked old) where
 
     renames_to : (moved target : Option Child) → child_at old od on ≡ moved
         → child_at old nd nn ≡ target → is_directory into.kind ≡ true
-        → (into.names ≡ 0 → ⊥) → place_refusal old nd flags moved target ≡ None
+        → (into.names ≡ 0 → ⊥) → place_refusal old nd nn flags moved target ≡ None
         → IsLinked (renamed_to old od on nd nn flags moved target)
     renames_to None target is at dir named place = linked_old
     renames_to (Some child) None is at dir named place =
@@ -200,7 +201,7 @@ module _ (old : State) (sound : IsSound old) (linked_old : IsLinked old) where
   covers = record {
     same = λ reply none. linked_old;
     looked_up = looked_up;
-    forgot = λ pairs. (forgets_all old pairs (record { sound = sound; linked = linked_old })).linked;
+    forgot = λ pairs reply told. (forgets_all old pairs (record { sound = sound; linked = linked_old })).linked;
     resizes = λ n was now reply told is r. resizes n was now is r;
     makes = makes;
     links = links;

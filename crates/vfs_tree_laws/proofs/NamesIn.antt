@@ -2,12 +2,12 @@
 use Rattle.std.proofs.Common.{◌≡◌, ◌≢◌, ◌+◌, ◌<◌, ◌==◌, ℕ, Bool, true, false, cond, not, List, [], ◌∷◌, ◌++◌, map, find, filter, Some, None, bytes_eq, refl, sym, ap, ◌∙◌, subst, ⊎_elim, arith}
 use Rattle.std.specs.List.{AllByRecursion, IsDistinct}
 use Rattle.std.proofs.lemmas.Bool.{cases_Bool, cond-true, cond-false, not_from_true, not_from_false, eq-eqb, ne_eqb}
-use Rattle.std.proofs.lemmas.List.Sums.{sum_by-cons, sum_by_push}
+use Rattle.std.proofs.lemmas.List.Sums.{sum_by-cons}
 use Rattle.std.proofs.lemmas.Option.{none-some}
 use Rattle.vfs_tree.specs.Children.{Link, is_named, relinked}
 use Rattle.vfs_tree_laws.specs.Laws.{names_in, AreApart}
 use Rattle.vfs_nodes.specs.declared.children.Child.{Child}
-use Rattle.vfs_nodes.proofs.Finds.{every_push, every_filter, every_map, every_weaker, found_here, found_later, none_passes, filter_all, map_all}
+use Rattle.vfs_nodes.proofs.Finds.{every_filter, every_map, every_weaker, found_here, found_later, none_passes, filter_all, map_all}
 use Rattle.vfs_nodes.proofs.Places.{same_name, turned_name, relinked_name}
 
 -- one, where two numbers are the same
@@ -32,11 +32,6 @@ pub names_in-cons : (n : ℕ) (x : ℕ × Link) (xs : List (ℕ × Link))
     → names_in n (x ∷ xs) ≡ one x.1.child.node n + names_in n xs
 unfolding one
 names_in-cons n x xs = sum_by-cons (λ (link : ℕ × Link). cond (link.1.child.node == n) 1 0) x xs
-
-pub names_in-push : (n : ℕ) (xs : List (ℕ × Link)) (x : ℕ × Link)
-    → names_in n (xs ++ x ∷ []) ≡ names_in n xs + one x.1.child.node n
-unfolding one
-names_in-push n xs x = sum_by_push (λ (link : ℕ × Link). cond (link.1.child.node == n) 1 0) xs x
 
 -- ---- names apart
 
@@ -72,14 +67,15 @@ are_apart (x ∷ xs) all = (
   are_apart xs all.1,
 )
 
-pub apart_push : (xs : List (ℕ × Link)) (x : ℕ × Link) → Apart xs
-    → find (is_named x.1.name) xs ≡ None → Apart (xs ++ x ∷ [])
-apart_push [] x apart none = (tt, tt)
-apart_push (y ∷ ys) x apart none =
-    let differs = none_passes (is_named x.1.name) (y ∷ ys) none in (
-      every_push (λ other. bytes_eq y.1.name other.1.name ≡ false) ys x apart.0 differs.0,
-      apart_push ys x apart.1 (found_later (is_named x.1.name) y ys None differs.0 none),
-    )
+pub apart_more : (xs : List (ℕ × Link)) (x : ℕ × Link) → Apart xs
+    → find (is_named x.1.name) xs ≡ None → Apart (x ∷ xs)
+apart_more xs x apart none = (
+  every_weaker (λ other. is_named x.1.name other ≡ false)
+      (λ other. bytes_eq x.1.name other.1.name ≡ false)
+      (λ other b. turned_name other.1.name x.1.name false b) xs
+      (none_passes (is_named x.1.name) xs none),
+  apart,
+)
 
 pub apart_filter : (p : (ℕ × Link) → Bool) (xs : List (ℕ × Link)) → Apart xs
     → Apart (filter p xs)
@@ -216,16 +212,17 @@ module _ (name : List ℕ) where
 
   -- ---- what is found still
 
-  pub find_push_found : (p : (ℕ × Link) → Bool) (xs : List (ℕ × Link)) (x e : ℕ × Link)
-      → find p xs ≡ Some e → find p (xs ++ x ∷ []) ≡ Some e
-  find_push_found p [] x e found = absurd (none-some e found)
-  find_push_found p (y ∷ ys) x e found =
+  -- a name that is there has not that of a new link
+  pub find_more_found : (xs : List (ℕ × Link)) (x e : ℕ × Link) → find (is_named x.1.name) xs ≡ None
+      → find (is_named name) xs ≡ Some e → find (is_named name) (x ∷ xs) ≡ Some e
+  find_more_found xs x e none found =
       ⊎_elim
-      (λ passes. cond-true (p y) (Some y) (find p (ys ++ x ∷ [])) passes
-      ∙ ap (λ (z : ℕ × Link). Some z) (found_here p y ys e passes found))
-      (λ fails. cond-false (p y) (Some y) (find p (ys ++ x ∷ [])) fails
-      ∙ find_push_found p ys x e (found_later p y ys (Some e) fails found))
-      (cases_Bool (p y))
+      (λ passes.
+      let same : x.1.name ≡ name = same_name x.1.name name passes in
+      absurd (none-some e
+      (sym (subst (λ (l : List ℕ). find (is_named l) xs ≡ None) same none) ∙ found)))
+      (λ fails. cond-false (is_named name x) (Some x) (find (is_named name) xs) fails ∙ found)
+      (cases_Bool (is_named name x))
 
   pub find_relinked : (other : List ℕ) (child : Child) → bytes_eq other name ≡ false
       → (links : List (ℕ × Link))

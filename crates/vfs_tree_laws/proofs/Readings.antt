@@ -4,7 +4,7 @@ use Rattle.vfs_files.specs.Items.{Item}
 use Rattle.vfs_files.specs.Calls.{Iterator}
 use Rattle.vfs_tree.specs.Outcome.{Reply, Just, EntryOf, AttrOf, Listed, Replies}
 use Rattle.vfs_tree.specs.State.{State, with_resized}
-use Rattle.vfs_tree.specs.Tree.{outcome}
+use Rattle.vfs_tree.specs.Tree.{outcome, all_forgotten}
 use Rattle.vfs_nodes.specs.declared.node.Node.{Node}
 use Rattle.vfs_tree_laws.specs.Laws.{ReadingsChangeNothing}
 use Rattle.vfs_tree_laws.proofs.Cases.{Covers, Fails, IsTold, Leaves, covered, left_so}
@@ -23,9 +23,9 @@ covers : (old : State) → Covers old (StaysRead old)
 covers old = record {
   same = λ reply none items read. refl;
   looked_up = λ n node is items read. absurd read;
-  forgot = λ pairs items read. absurd read;
+  forgot = λ pairs reply is. told old (all_forgotten old pairs) reply is;
   resizes = λ n was now reply is at r. told old (with_resized old n was now) reply is;
-  makes = λ uid gid kind permissions parent name contents free items read. absurd read;
+  makes = λ uid gid kind permissions parent name contents free plain items read. absurd read;
   links = λ n node parent name is free items read. absurd read;
   unlinks = λ parent name child node there found is file items read. absurd read;
   removes = λ parent name child node there found is empty items read. absurd read;
@@ -34,7 +34,7 @@ covers old = record {
 
 pub readings_change_nothing : ReadingsChangeNothing
 readings_change_nothing old new call items =
-    left_so old new (Fails call) (Leaves old (StaysRead old) (covers old) call) (outcome old call)
+    left_so old new (Fails old call) (Leaves old (StaysRead old) (covers old) call) (outcome old call)
     (Iterator items) (new ≡ old)
     (λ fails error is same. same)
     (λ reply replies leaves. leaves.1 items replies)

@@ -6,8 +6,8 @@ use Rattle.std.proofs.lemmas.Option.{none-some}
 use Rattle.vfs_flags.specs.Errors.{eperm, enoent, eexist, enotdir, eisdir, enospc, enotempty, einval, eoverflow}
 use Rattle.vfs_tree.specs.Children.{is_directory, child_named}
 use Rattle.vfs_tree.specs.Outcome.{first_of, or_else}
-use Rattle.vfs_tree.specs.Rename.{enametoolong, is_directory_at, directory_refusal, is_nameless, is_crowded, is_own_child, replace_refusal, names_refusal, place_refusal, rename_refusal}
-use Rattle.vfs_tree.specs.State.{State, node_at, count_of, room_of, child_at, child_of, node_named, node_of}
+use Rattle.vfs_tree.specs.Rename.{enametoolong, is_improper, is_directory_at, directory_refusal, is_nameless, is_crowded, is_own_child, replace_refusal, names_refusal, place_refusal, rename_refusal}
+use Rattle.vfs_tree.specs.State.{State, node_at, room_of, child_at, child_of, node_named, node_of}
 use Rattle.vfs_tree.specs.Tree.{make_refusal, link_refusal, most_links, emlink}
 use Rattle.vfs_nodes.specs.declared.children.Child.{Child}
 use Rattle.vfs_nodes.specs.declared.node.Node.{Node}
@@ -72,31 +72,36 @@ pub make_takes : (s : State) (parent : ℕ) (name : List ℕ) (size : ℕ)
     → make_refusal s parent name size ≡ None → Takes s parent name
 make_takes s parent name size free =
     let rs : List (Bool × ℕ) = (is_nameless (node_at s parent), enoent)
+    ∷ (is_improper name, einval)
     ∷ (is_some (child_at s parent name), eexist)
     ∷ (
-      nat_le s.limits.nodes (count_of s) || s.next == 2 ^ 64 - 1
+      nat_le s.limits.nodes s.inodes || s.next == 2 ^ 64 - 1
           || is_crowded (node_at s parent) || nat_lt (room_of s) size,
       enospc,
     )
     ∷ [] in
     let parts = or_none (directory_refusal (node_at s parent) name) (first_of rs) free in
     let each = all_false rs parts.1 in
-    takes s parent name parts.0 each.0 (none_there (child_at s parent name) each.1.0)
+    takes s parent name parts.0 each.0 (none_there (child_at s parent name) each.1.1.0)
 
 pub link_takes : (s : State) (node : Node) (parent : ℕ) (name : List ℕ)
     → link_refusal s parent name node ≡ None
     → Takes s parent name × (is_directory node.kind ≡ false)
 link_takes s node parent name free =
     let rs : List (Bool × ℕ) = (is_nameless (node_at s parent), enoent)
+    ∷ (is_improper name, einval)
     ∷ (is_some (child_at s parent name), eexist)
     ∷ (is_directory node.kind, eperm)
     ∷ (node.names == 0, enoent)
     ∷ (nat_le most_links node.names, emlink)
     ∷ (node.lookups == 2 ^ 64 - 1, eoverflow)
-    ∷ (is_crowded (node_at s parent), enospc) ∷ [] in
+    ∷ (nat_le s.limits.nodes s.inodes || is_crowded (node_at s parent), enospc) ∷ [] in
     let parts = or_none (directory_refusal (node_at s parent) name) (first_of rs) free in
     let each = all_false rs parts.1 in
-    (takes s parent name parts.0 each.0 (none_there (child_at s parent name) each.1.0), each.1.1.0)
+    (
+      takes s parent name parts.0 each.0 (none_there (child_at s parent name) each.1.1.0),
+      each.1.1.1.0,
+    )
 
 -- RENAME takes the place of an empty node
 pub replace_takes : (moved : Option Node) (target : Node)
@@ -129,14 +134,14 @@ pub record Renames
   pub from : directory_refusal (node_at s od) on ≡ None
   pub into : directory_refusal (node_at s nd) nn ≡ None
   pub named : is_nameless (node_at s nd) ≡ false
-  pub place : place_refusal s nd flags (child_at s od on) (child_at s nd nn) ≡ None
+  pub place : place_refusal s nd nn flags (child_at s od on) (child_at s nd nn) ≡ None
 
 pub rename_takes : (s : State) (od : ℕ) (on : List ℕ) (nd : ℕ) (nn : List ℕ) (flags : ℕ)
     → rename_refusal s od on nd nn flags ≡ None → Renames s od on nd nn flags
 rename_takes s od on nd nn flags free =
     let moved = child_at s od on in
     let target = child_at s nd nn in
-    let last = place_refusal s nd flags moved target in
+    let last = place_refusal s nd nn flags moved target in
     let names = names_refusal s od nd flags moved target in
     let one = or_none (directory_refusal (node_at s od) on)
     (or_else (directory_refusal (node_at s nd) nn) (or_else names last)) free in

@@ -9,11 +9,11 @@ use Rattle.vfs_nodes.specs.declared.children.Child.{Child}
 use Rattle.vfs_nodes.specs.declared.node.Node.{Node}
 use Rattle.vfs_tree_laws.proofs.Held.{at}
 use Rattle.vfs_tree_laws.proofs.Keeping.{keeps-with_names, keeps-moved_into}
-use Rattle.vfs_tree_laws.proofs.NamesIn.{one, one_same, one_other, find_push_found, find_relinked}
+use Rattle.vfs_tree_laws.proofs.NamesIn.{one, one_same, one_other, find_more_found, find_relinked}
 use Rattle.vfs_tree.proofs.Nodes.{node_at-with_node}
 use Rattle.vfs_nodes.proofs.Places.{same_name}
 use Rattle.vfs_tree_laws.proofs.Shapes.{Fits, Good, Counted, Home, linked_from, good_from, counted_from, home_from}
-use Rattle.vfs_tree_laws.proofs.Steps.{Step, found_link, none_lost, step-with_child, step-without_child, step-with_other_child, step_home, Moves, moves, linked-settled}
+use Rattle.vfs_tree_laws.proofs.Steps.{Step, found_link, none_lost, step-with_child, step-without_child, step-with_other_child, step_home, Moves, moves, linked-recounted, linked-settled}
 use Rattle.vfs_tree_laws.proofs.Tables.{links_in, names_at, kind_at, is_dir}
 use Rattle.vfs_tree_laws.proofs.Compounds.{there_is, empty_finds, shape_empty, found_fits, found_counts, single_at, root_unnamed, arrived_home}
 
@@ -140,15 +140,22 @@ module _ (s : State) (sound : IsSound s) (linked : IsLinked s)
     free_first : Step s free_named nd none_lost (one child.node)
     free_first = step-with_child s nd into is_into good nn child dir named free fits
 
+    -- where both directories are one, the new name is free in it
+    free_here : nd ≡ od → find (is_named nn) from.children.links ≡ None
+    free_here same =
+        let one = same_Some into from (sym is_into ∙ ap (node_at s) same ∙ is_from) in
+        mapped_none (λ (link : ℕ × Link). link.1.child) (find (is_named nn) from.children.links)
+        (subst (λ (x : Node). child_named x.children nn ≡ None) one free)
+
     free_found : Finds free_named od on child
     free_found =
         found_after s nd (λ c. with_child c nn child) od from is_from on child found
-        (λ e.
+        (λ same.
         let links = from.children.links in
         let new : ℕ × Link = (from.children.next, record { name = nn; child = child }) in
         let e = found_link (find (is_named on) links) child found in
         ap (option_map (λ (link : ℕ × Link). link.1.child))
-        (find_push_found on (is_named on) links new e.0 e.1)
+        (find_more_found on links new e.0 (free_here same) e.1)
         ∙ ap (λ (c : Child). Some c) e.2)
         free_first.nodes
 
@@ -298,6 +305,8 @@ module _ (s : State) (sound : IsSound s) (linked : IsLinked s)
       linked-moved_over =
           let names = ap names_of is_old in
           subst IsLinked (sym (ap (unnamed over_moved target.node) is_moved))
+          (linked-recounted over_moved target.node over_old
+          (over_moved.inodes - min (old.names - 1) 1)
           (linked-settled over_moved target.node old over_old is_moved refl refl refl
           over_moves.good
           (ap parent_of (over_moves.nodes 1 root_apart)
@@ -319,7 +328,7 @@ module _ (s : State) (sound : IsSound s) (linked : IsLinked s)
             counted m,
             one_other target.node m (λ e. other (sym e)),
           ))
-          over_home over_sound)
+          over_home over_sound))
 
     -- each name leads where the other did
     abbrev exchange_left : State

@@ -1,22 +1,22 @@
 -- Calls keep the way up to the root.
-use Rattle.std.proofs.Common.{◌≡◌, ◌≢◌, ◌<◌, ◌+◌, ◌-◌, ◌==◌, ◌&&◌, ◌||◌, ◌^◌, nat_le, nat_lt, not, ℕ, zero, suc, Bool, true, false, List, [], ◌∷◌, length, Option, Some, None, IsSome, is_some, is_none, refl, sym, ap, subst, ◌∙◌, arith, if◌then◌else◌, ◌⊎◌, inl, inr, ⊎_elim}
+use Rattle.std.proofs.Common.{min, ◌≡◌, ◌≢◌, ◌<◌, ◌+◌, ◌-◌, ◌==◌, ◌&&◌, ◌||◌, ◌^◌, nat_le, nat_lt, not, ℕ, zero, suc, Bool, true, false, List, [], ◌∷◌, length, Option, Some, None, IsSome, is_some, is_none, refl, sym, ap, subst, ◌∙◌, arith, if◌then◌else◌, ◌⊎◌, inl, inr, ⊎_elim}
 use Rattle.std.proofs.lemmas.Bool.{both_ways, not-false, eqb-false, and_cases}
 use Rattle.std.proofs.lemmas.Option.{none-some, same_Some}
 use Rattle.vfs_flags.specs.Errors.{eperm, enoent, eexist, enotdir, einval, enospc, eoverflow}
 use Rattle.vfs_files.specs.declared.entry.Context.{Context}
-use Rattle.vfs_tree.specs.Children.{Children, is_directory, with_child, without_child, with_other_child}
+use Rattle.vfs_tree.specs.Children.{Children, is_directory, with_child, without_child, with_other_child, is_file}
 use Rattle.vfs_tree.specs.Node.{new_node}
 use Rattle.vfs_tree_laws.specs.Laws.{IsSound, IsLinked, IsRooted, CallsKeepTheWayUp, above}
 use Rattle.vfs_tree.specs.Outcome.{first_of, or_else}
-use Rattle.vfs_tree.specs.Rename.{enametoolong, directory_refusal, is_directory_at, is_nameless, is_crowded, is_below, is_own_child, names_refusal, place_refusal, parent_of, rename_refusal, moved_into, moved_over, exchanged, renamed_to}
+use Rattle.vfs_tree.specs.Rename.{enametoolong, is_improper, directory_refusal, is_directory_at, is_nameless, is_crowded, is_below, is_own_child, names_refusal, place_refusal, parent_of, rename_refusal, moved_into, moved_over, exchanged, renamed_to}
 use Rattle.vfs_tree.specs.State.{State, node_at, node_of, count_of, room_of, with_node, with_resized, with_new, without_node, settled, changed, change, with_names, unnamed, child_at}
 use Rattle.vfs_tree.specs.Tree.{emlink, most_links, made, linked, forgotten, all_forgotten, taken_out, make_refusal, link_refusal}
 use Rattle.vfs_nodes.specs.declared.children.Child.{Child}
 use Rattle.vfs_nodes.specs.declared.kind.Kind.{Kind}
 use Rattle.vfs_nodes.specs.declared.node.Node.{Node}
 use Rattle.vfs_tree_laws.proofs.Ascending.{gone-remove_entry, none_from}
-use Rattle.vfs_tree_laws.proofs.Cases.{Covers, are_not, or_none, calls_covered}
-use Rattle.vfs_tree_laws.proofs.Held.{at, settles}
+use Rattle.vfs_tree_laws.proofs.Cases.{one_inode_more, Covers, are_not, or_none, calls_covered}
+use Rattle.vfs_tree_laws.proofs.Held.{at, sound_counted, settles}
 use Rattle.vfs_tree_laws.proofs.Keeping.{keeps-with_names, keeps-moved_into, there-change}
 use Rattle.vfs_tree.proofs.Nodes.{node_at-with_node, node_at-with_node_other, node_at-without_node_other, node_at-with_new, node_at-with_new_other, kinds_apart}
 use Rattle.vfs_tree_laws.proofs.WayUp.{IsPlaced, Goes, rooted_from, goes_from, placed_from, names_place, name_leads, rooted_ways, goes_still, avoids_from, goes_on}
@@ -45,6 +45,25 @@ stays_both a b c first more = record {
 
 follows_stays : (s new : State) → Stays s new → Follows s new
 follows_stays s new stays = record { from = stays.from; parents = λ m. inl (stays.parents m) }
+
+-- however many inodes are counted
+counted_placed : (s : State) (inodes m : ℕ) → IsPlaced (record s { inodes = inodes }) m → IsPlaced s m
+counted_placed s inodes m there = record {
+  node = there.node;
+  is = there.is;
+  directory = there.directory;
+  named = there.named;
+}
+
+stays_counted : (s : State) (inodes : ℕ) → Stays s (record s { inodes = inodes })
+stays_counted s inodes = record { from = counted_placed s inodes; parents = λ m. refl }
+
+follows_counted : (s : State) (inodes : ℕ) (new : State) → Follows (record s { inodes = inodes }) new
+    → Follows s new
+follows_counted s inodes new f = record {
+  from = λ m there. counted_placed s inodes m (f.from m there);
+  parents = f.parents;
+}
 
 follows_both : (a b c : State) → Follows a b → Follows b c → Follows a c
 follows_both a b c first more = record {
@@ -180,8 +199,12 @@ follows-unnamed : (s : State) (n : ℕ) (o : Option Node) → node_at s n ≡ o 
     → Follows s (unnamed s n o)
 follows-unnamed s n None is sound = follows_stays s s (stays_itself s)
 follows-unnamed s n (Some node) is sound =
-    follows-settled s n node (record node { names = node.names - 1; ctime = s.now }) is
-    (record { kind = refl; parent = refl; named = λ dir some. omega (arith, some) }) sound
+    let less = s.inodes - min (node.names - 1) 1 in
+    let left : Node = record node { names = node.names - 1; ctime = s.now } in
+    follows_counted s less (settled (record s { inodes = less }) n left)
+    (follows-settled (record s { inodes = less }) n node left is
+    (record { kind = refl; parent = refl; named = λ dir some. omega (arith, some) })
+    (sound_counted s less sound))
 
 follows-all_forgotten : (s : State) (pairs : List (ℕ × ℕ)) → IsSound s
     → Follows s (all_forgotten s pairs)
@@ -232,7 +255,7 @@ grants s od on nd nn flags none =
     let moved = child_at s od on in
     let target = child_at s nd nn in
     let names = names_refusal s od nd flags moved target in
-    let place = place_refusal s nd flags moved target in
+    let place = place_refusal s nd nn flags moved target in
     let first = or_none (directory_refusal (node_at s od) on)
     (or_else (directory_refusal (node_at s nd) nn) (or_else names place)) none in
     let second = or_none (directory_refusal (node_at s nd) nn) (or_else names place) first.1 in
@@ -459,14 +482,16 @@ module _ (old : State) (sound : IsSound old) (links : IsLinked old) (rooted : Is
 
   makes : (uid gid : ℕ) (kind : Kind) (permissions parent : ℕ) (name contents : List ℕ)
       → make_refusal old parent name (length contents) ≡ None
+      → (is_file kind ≡ true → contents ≡ [])
       → IsRooted (made old parent name (new_node old.now uid gid kind permissions parent contents))
-  makes uid gid kind permissions parent name contents none =
+  makes uid gid kind permissions parent name contents none plain =
       let node = new_node old.now uid gid kind permissions parent contents in
       let mid = with_new old node in
       let rs : List (Bool × ℕ) = (is_nameless (node_at old parent), enoent)
+      ∷ (is_improper name, einval)
       ∷ (is_some (child_at old parent name), eexist)
       ∷ (
-        nat_le old.limits.nodes (count_of old) || old.next == 2 ^ 64 - 1
+        nat_le old.limits.nodes old.inodes || old.next == 2 ^ 64 - 1
             || is_crowded (node_at old parent) || nat_lt (room_of old) (length contents),
         enospc,
       )
@@ -481,28 +506,31 @@ module _ (old : State) (sound : IsSound old) (links : IsLinked old) (rooted : Is
 
   adds_name : (n : ℕ) (node : Node) (parent : ℕ) (name : List ℕ) → node_at old n ≡ Some node
       → link_refusal old parent name node ≡ None
-      → IsRooted (change (with_names old parent
-      (λ c. with_child c name (record { node = n; kind = node.kind }))) n (linked old.now))
+      → IsRooted (change (one_inode_more (with_names old parent
+      (λ c. with_child c name (record { node = n; kind = node.kind })))) n (linked old.now))
   adds_name n node parent name is none =
       let child : Child = record { node = n; kind = node.kind } in
       let f : Children → Children = λ c. with_child c name child in
-      let mid = with_names old parent f in
+      let named = with_names old parent f in
+      let mid = one_inode_more named in
       let rs : List (Bool × ℕ) = (is_nameless (node_at old parent), enoent)
+      ∷ (is_improper name, einval)
       ∷ (is_some (child_at old parent name), eexist)
       ∷ (is_directory node.kind, eperm)
       ∷ (node.names == 0, enoent)
       ∷ (nat_le most_links node.names, emlink)
       ∷ (node.lookups == 2 ^ 64 - 1, eoverflow)
-      ∷ (is_crowded (node_at old parent), enospc) ∷ [] in
+      ∷ (nat_le old.limits.nodes old.inodes || is_crowded (node_at old parent), enospc) ∷ [] in
       let parts = or_none (directory_refusal (node_at old parent) name) (first_of rs) none in
-      let none_of = (are_not rs parts.1).1.1.0 in
+      let none_of = (are_not rs parts.1).1.1.1.0 in
       let found : node_at mid n ≡ Some node =
       kinds_apart old n parent f (ap is_directory_at is ∙ none_of)
       (directory_there (node_at old parent) name parts.0) ∙ is in
       let last = with_node mid n (linked old.now node) in
       subst IsRooted (sym (ap (changed mid n (linked old.now)) found))
       (after last (follows_stays old last
-      (stays_both old mid last (stays-with_names old parent f)
+      (stays_both old mid last
+      (stays_both old named mid (stays-with_names old parent f) (stays_counted named (named.inodes + 1)))
       (stays-with_node mid n node (linked old.now node) found
       (record {
         kind = refl;
@@ -516,7 +544,7 @@ module _ (old : State) (sound : IsSound old) (links : IsLinked old) (rooted : Is
     looked_up = λ n node is. after _ (follows_stays old _
         (stays-with_node old n node (record node { lookups = node.lookups + 1 }) is
         (record { kind = refl; parent = refl; named = λ directory some. some })));
-    forgot = λ pairs. after _ (follows-all_forgotten old pairs sound);
+    forgot = λ pairs reply told. after _ (follows-all_forgotten old pairs sound);
     resizes = λ n was now reply told is r. after _ (follows-with_resized old n was now is
         (record { kind = r.kind; parent = r.parent; named = λ dir some. omega (arith, r.names, some) }));
     makes = makes;

@@ -1,19 +1,26 @@
 -- Calls keep a sound state sound, and count lookups.
-use Rattle.std.proofs.Common.{rules, tests, ◌≡◌, ◌≢◌, ◌≤◌, ◌<◌, ◌+◌, ◌-◌, ◌==◌, ℕ, List, [], ◌∷◌, Option, Some, None, IsSome, is_some, refl, sym, ap, subst, ◌∙◌, arith, if◌then◌else◌}
+use Rattle.std.proofs.Common.{rules, tests, nat_cmp, is_eq, true, ⊎_elim, ◌≡◌, ◌≢◌, ◌≤◌, ◌<◌, ◌+◌, ◌-◌, ◌==◌, ℕ, List, [], ◌∷◌, Option, Some, None, IsSome, is_some, refl, sym, ap, subst, ◌∙◌, arith, if◌then◌else◌}
+use Rattle.std.specs.BTreeMap.{is_at}
+use Rattle.std.specs.Map.{lookup}
+use Rattle.std.proofs.lemmas.Bool.{cond-true, cond-false}
+use Rattle.std.proofs.lemmas.Cmp.{nat_cmp_total, tied_itself}
 use Rattle.std.proofs.lemmas.List.Sums.{sum_by-append}
 use Rattle.vfs_files.specs.Items.{Item}
-use Rattle.vfs_files.specs.Calls.{Call, Handed, Plain, Iterator}
+use Rattle.vfs_files.specs.Calls.{Call, Answer, Handed, Plain, Iterator}
 use Rattle.vfs_grammar.specs.Books.{times, counts, answered_nodes, forgets_of}
 use Rattle.vfs_tree.specs.Children.{with_child}
 use Rattle.vfs_tree.specs.Node.{new_node}
 use Rattle.vfs_tree.specs.Outcome.{Reply, Just, EntryOf, AttrOf, Listed}
 use Rattle.vfs_tree.specs.State.{State, node_at, with_node, with_resized, with_new, with_names, settled, changed}
-use Rattle.vfs_tree.specs.Tree.{made, linked, forgotten, all_forgotten, outcome}
+use Rattle.vfs_tree.specs.Tree.{made, linked, forgotten, all_forgotten, held_of, outcome}
 use Rattle.vfs_nodes.specs.declared.children.Child.{Child}
 use Rattle.vfs_nodes.specs.declared.node.Node.{Node}
-use Rattle.vfs_tree_laws.specs.Laws.{lookups_in, lookups_of, IsSound, CountsLookups, CallsAreSound}
-use Rattle.vfs_tree_laws.proofs.Cases.{Covers, Fails, IsTold, Leaves, covered, left_so, nodes_of}
-use Rattle.vfs_tree_laws.proofs.Held.{at, lookups_here, lookups_other, none_yet, lookups_new, lookups_new_other, sound-with_node, sound-with_new, settles}
+use Rattle.vfs_tree_laws.specs.Laws.{Ascend, lookups_in, lookups_of, taken_back, IsSound, CountsLookups, CallsAreSound}
+use Rattle.vfs_tree.proofs.Nodes.{is_at_other}
+use Rattle.vfs_tree_laws.proofs.Ascending.{none_below}
+use Rattle.vfs_tree_laws.proofs.Endings.{IsOrdinary, IsEnding, which}
+use Rattle.vfs_tree_laws.proofs.Cases.{Covers, Fails, IsTold, Leaves, taken_pairs, one_inode_more, covered, left_so, nodes_of}
+use Rattle.vfs_tree_laws.proofs.Held.{at, sound_counted, lookups_here, lookups_other, none_yet, lookups_new, lookups_new_other, sound-with_node, sound-with_new, settles}
 use Rattle.vfs_tree_laws.proofs.Keeping.{there-change, Keeps, keeps_itself, keeps-with_names, keeps-taken_out, keeps-renamed, keeps-resized}
 
 -- a sound state, in which so many lookups are held as were, with those that were given and without those
@@ -76,10 +83,14 @@ module _ (s : State) (n : ℕ) (node : Node) (parent : ℕ) (name : List ℕ) (s
   abbrev named : State
   named =
       let child : Child = record { node = n; kind = node.kind } in
-      with_names s parent (λ c. with_child c name child)
+      one_inode_more (with_names s parent (λ c. with_child c name child))
 
   keeps-named : Keeps s named
-  keeps-named = keeps-with_names s parent _ sound
+  keeps-named =
+      let child : Child = record { node = n; kind = node.kind } in
+      let mid = with_names s parent (λ c. with_child c name child) in
+      let keeps : Keeps s mid = keeps-with_names s parent _ sound in
+      record { sound = sound_counted mid (mid.inodes + 1) keeps.sound; lookups = keeps.lookups }
 
   -- one lookup more of the node that is there now
   links_there : (there : Node) → node_at named n ≡ Some there
@@ -174,15 +185,15 @@ covers old sound = record {
   same = λ reply none.
       subst (Counts old old []) (sym none) (quiet old old (keeps_itself old sound));
   looked_up = λ n node is. finds old n node is sound;
-  forgot = λ pairs. let back = forgets_all old pairs sound in record {
+  forgot = λ pairs reply told. let back = forgets_all old pairs sound in record {
     sound = back.sound;
-    lookups = λ m within. omega (arith, back.lookups m within);
+    lookups = λ m within. omega (arith, back.lookups m within, ap (times m) (told_none reply told));
   };
   resizes = λ n was now reply told is r.
       subst (Counts old (with_resized old n was now) []) (sym (told_none reply told))
       (quiet old (with_resized old n was now)
       (keeps-resized old n was now r.lookups r.names sound is));
-  makes = λ uid gid kind permissions parent name contents none.
+  makes = λ uid gid kind permissions parent name contents none plain.
       makes old parent name (new_node old.now uid gid kind permissions parent contents) sound refl;
   links = λ n node parent name is none. links old n node parent name sound is;
   unlinks = λ parent name child node there found is file.
@@ -193,6 +204,36 @@ covers old sound = record {
       quiet old _ (keeps-renamed old od on nd nn sound flags);
 }
 
+-- the lookups that a sound state holds of a node are those in its list
+counts_held : (from to n : ℕ) (es : List (ℕ × Node)) → Ascend from es to
+    → counts n (held_of es) ≡ lookups_in (lookup (is_at (nat_cmp n)) es)
+counts_held from to n [] a = refl
+counts_held from to n (e ∷ es) a =
+    let more = taken_more n (e.0, e.1.lookups) (held_of es) in
+    let rest = counts_held (e.0 + 1) to n es a.1 in
+    let later = lookup (is_at (nat_cmp n)) es in
+    at e.0 n (counts n (held_of (e ∷ es)) ≡ lookups_in (lookup (is_at (nat_cmp n)) (e ∷ es)))
+    (λ same.
+    let none = none_below (e.0 + 1) to n es a.1 (omega (arith, same)) in
+    let is : is_at (nat_cmp n) e.0 ≡ true =
+    ap (is_at (nat_cmp n)) same ∙ ap is_eq (tied_itself nat_cmp_total n) in
+    let here = ap lookups_in (cond-true (is_at (nat_cmp n) e.0) (Some e.1) later is) in
+    omega (arith, more, back_here e.0 e.1.lookups n same, rest, ap lookups_in none, here))
+    (λ apart.
+    let other = ap lookups_in
+    (cond-false (is_at (nat_cmp n) e.0) (Some e.1) later (is_at_other n e.0 apart)) in
+    omega (arith, more, back_other e.0 e.1.lookups n apart, rest, other))
+
+-- what a call takes back, as pairs
+taken_same : (old : State) → IsSound old → (call : Call) (answer : Answer) (n : ℕ)
+    → taken_back old call n ≡ counts n (taken_pairs old call)
+taken_same old sound call answer n =
+    ⊎_elim
+    (λ (o : IsOrdinary old call answer). o.taken n ∙ ap (counts n) (sym o.pairs))
+    (λ (e : IsEnding old call answer).
+    e.taken n ∙ sym (counts_held 1 old.next n old.nodes sound.ordered) ∙ ap (counts n) (sym e.pairs))
+    (which old call answer)
+
 -- the nodes of what a call hands back
 abbrev handed_nodes : Call → Handed (List Item) → List ℕ
 handed_nodes call (Plain answer) = answered_nodes call answer
@@ -200,7 +241,7 @@ handed_nodes call (Iterator items) = []
 
 pub calls_are_sound : CallsAreSound
 calls_are_sound old new call answer sound =
-    left_so old new (Fails call) (Leaves old (Counted old) (covers old sound) call)
+    left_so old new (Fails old call) (Leaves old (Counted old) (covers old sound) call)
     (outcome old call) (Plain answer) (IsSound new × CountsLookups old call answer new)
     (λ fails error is same. (
       subst IsSound (sym same) sound,
@@ -208,6 +249,7 @@ calls_are_sound old new call answer sound =
         arith,
         ap (λ s. lookups_of s n) same,
         ap (counts n) fails.0,
+        taken_same old sound call answer n,
         ap (times n) (ap (handed_nodes call) is ∙ fails.1 error),
       ),
     ))
@@ -215,7 +257,8 @@ calls_are_sound old new call answer sound =
       leaves.1.sound,
       λ n within. omega (
         arith,
-        leaves.1.lookups n within,
+        leaves.1.lookups n (omega (arith, within, taken_same old sound call answer n)),
+        taken_same old sound call answer n,
         ap (times n) (leaves.0 answer replies),
       ),
     ))

@@ -1,5 +1,5 @@
 -- Names that are added, taken out or lead elsewhere, step by step.
-use Rattle.std.proofs.Common.{◌≡◌, ◌≢◌, ◌+◌, ◌≤◌, ◌==◌, ◌&&◌, if◌then◌else◌, ℕ, Bool, true, false, not, List, map, filter, find, Option, Some, None, option_map, refl, sym, ap, ◌∙◌, subst, arith}
+use Rattle.std.proofs.Common.{◌≡◌, ◌≢◌, ◌+◌, ◌-◌, ◌≤◌, ◌==◌, ◌&&◌, if◌then◌else◌, ℕ, Bool, true, false, not, List, map, filter, find, Option, Some, None, option_map, refl, sym, ap, ◌∙◌, subst, arith}
 use Rattle.std.proofs.lemmas.Bool.{both_ways, false≢true, and_parts, eqb-true}
 use Rattle.std.proofs.lemmas.Option.{none-some, same_Some}
 use Rattle.vfs_tree.specs.Children.{Link, Children, is_directory, is_named, child_named, with_child, without_child, with_other_child, relinked}
@@ -8,12 +8,12 @@ use Rattle.vfs_tree.specs.Rename.{parent_of, moved_into}
 use Rattle.vfs_tree.specs.State.{State, node_at, with_node, without_node, settled, changed, with_names}
 use Rattle.vfs_nodes.specs.declared.children.Child.{Child}
 use Rattle.vfs_nodes.specs.declared.node.Node.{Node}
-use Rattle.vfs_nodes.proofs.Finds.{every_push, every_filter}
+use Rattle.vfs_nodes.proofs.Finds.{every_filter}
 use Rattle.vfs_tree_laws.proofs.Held.{at}
 use Rattle.vfs_nodes.proofs.Indexed.{mapped_none}
-use Rattle.vfs_tree_laws.proofs.NamesIn.{one, names_in-push, names_in-filter, names_in-relinked, apart_push, apart_filter, apart_relinked, every_relinked}
+use Rattle.vfs_tree_laws.proofs.NamesIn.{one, names_in-cons, names_in-filter, names_in-relinked, apart_more, apart_filter, apart_relinked, every_relinked}
 use Rattle.vfs_tree.proofs.Nodes.{node_at-with_node, node_at-with_node_other, node_at-without_node_other}
-use Rattle.vfs_tree_laws.proofs.Shapes.{Shape, Fits, AllFit, Good, kinds-with_node, good-with_node, kind_left, good-without_node, Counted, Home, linked_from}
+use Rattle.vfs_tree_laws.proofs.Shapes.{Shape, Fits, AllFit, Good, good_from, counted_from, home_from, kinds-with_node, good-with_node, kind_left, good-without_node, Counted, Home, linked_from}
 use Rattle.vfs_tree_laws.proofs.Tables.{links_in, names_at, kind_in, kind_at, is_dir, names_to-with_node, names_to-without_node, names_at-without_node, gone_number}
 
 -- what is seen of a node is the same after it was changed
@@ -96,15 +96,15 @@ module _ (s : State) (d : ℕ) (node : Node) (is : node_at s d ≡ Some node) (g
       let links = node.children.links in
       let new : ℕ × Link = (node.children.next, record { name = name; child = child }) in
       step-with_names s d node is good (λ c. with_child c name child) none_lost (one child.node)
-      (λ m. omega (arith, names_in-push m links new))
+      (λ m. omega (arith, names_in-cons m new links))
       (record {
-        apart = apart_push links new shape_before.apart
+        apart = apart_more links new shape_before.apart
             (mapped_none (λ (link : ℕ × Link). link.1.child) (find (is_named name) links) free);
         files = λ file. absurd (both_ways (is_directory node.kind) file dir);
         nameless = λ zero. absurd (named zero);
         single = shape_before.single;
       })
-      (every_push (λ (link : ℕ × Link). Fits s link.1.child) links new fits_before fits)
+      (fits, fits_before)
 
   -- one name less
   pub step-without_child : child_named node.children name ≡ Some child
@@ -197,6 +197,19 @@ module _ (s : State) (n p : ℕ) (was : Node) (is : node_at s n ≡ Some was) (g
       subst (λ t. Moves s t n p)
       (sym (ap (changed s n (λ (x : Node). record x { parent = p; ctime = s.now })) is))
       moves-with_node
+
+-- ---- how many inodes are counted
+
+pub linked_counted : (s : State) (inodes : ℕ) → IsLinked s → IsLinked (record s { inodes = inodes })
+linked_counted s inodes linked =
+    let good = good_from s linked in
+    linked_from (record s { inodes = inodes })
+    (record {
+      root = good.root;
+      nodes = λ n node is.
+          let it = good.nodes n node is in record { shape = it.shape; fits = it.fits };
+    })
+    linked.top (counted_from s linked) (home_from s linked)
 
 -- ---- a node that may go
 
@@ -293,3 +306,14 @@ module _ (s : State) (k : ℕ) (was node : Node) (is : node_at s k ≡ Some was)
           linked-without_node sound
           (eqb-true node.names 0 (and_parts (node.names == 0) (node.lookups == 0) both).0)
       by false both = linked-with_node
+
+-- however many inodes are counted
+pub linked-recounted : (s : State) (k : ℕ) (node : Node) (inodes : ℕ) → IsLinked (settled s k node)
+    → IsLinked (settled (record s { inodes = inodes }) k node)
+linked-recounted s k node inodes = by (node.names == 0 && node.lookups == 0)
+  where
+    by : (t : Bool) → IsLinked (if t then without_node s k node else with_node s k node)
+        → IsLinked (if t then without_node (record s { inodes = inodes }) k node
+        else with_node (record s { inodes = inodes }) k node)
+    by true linked = linked_counted (without_node s k node) (inodes - 1) linked
+    by false linked = linked_counted (with_node s k node) inodes linked

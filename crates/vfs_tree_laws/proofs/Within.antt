@@ -1,65 +1,51 @@
 -- Calls keep a state within its limits, which stay.
-use Rattle.std.proofs.Common.{◌≡◌, ◌≤◌, ◌<◌, ◌+◌, ◌-◌, ◌==◌, ◌&&◌, ◌||◌, nat_lt, nat_le, ℕ, Bool, true, false, cond, List, [], ◌∷◌, length, Option, Some, None, is_some, nat_cmp, Ordering, Less, Equal, Greater, option_map, refl, ap, ◌∙◌, arith, if◌then◌else◌, ◌^◌}
+use Rattle.std.proofs.Common.{◌≡◌, ◌≢◌, ◌≤◌, ◌<◌, ◌+◌, ◌-◌, ◌==◌, ◌&&◌, ◌||◌, nat_lt, nat_le, max, min, ℕ, Bool, true, false, cond, List, [], ◌∷◌, length, Option, Some, None, is_some, nat_cmp, Ordering, Less, Equal, Greater, option_map, refl, sym, ap, ◌∙◌, subst, arith, if◌then◌else◌, ◌^◌}
 use Rattle.std.specs.List.{sum_by}
 use Rattle.std.specs.Option.{unwrap_or}
 use Rattle.std.specs.BTreeMap.{insert_entry, is_at}
-use Rattle.std.specs.Map.{set_value, remove_entry, values_of}
+use Rattle.std.specs.Map.{lookup, set_value, remove_entry, values_of}
 use Rattle.std.specs.Ordering.{match_ordering, MatchOrdering}
 use Rattle.std.specs.Cmp.{ranks}
-use Rattle.std.proofs.lemmas.Bool.{ltb-false, leb-false, or_parts}
+use Rattle.std.proofs.lemmas.Bool.{ltb-false, leb-false, eqb-true, eqb-false, and_parts, or_parts}
 use Rattle.std.proofs.lemmas.List.Sums.{sum_by-cons}
 use Rattle.std.proofs.lemmas.Map.Entries.{sum_by-set_value, sum_by-remove_entry}
-use Rattle.vfs_flags.specs.Errors.{enoent, eexist, enospc}
+use Rattle.std.proofs.lemmas.Option.{same_Some}
+use Rattle.vfs_flags.specs.Errors.{enoent, eexist, einval, enospc, eperm, eoverflow}
 use Rattle.vfs_files.specs.declared.entry.Context.{Context}
-use Rattle.vfs_tree.specs.Children.{Children, with_child, without_child, with_other_child}
-use Rattle.vfs_tree_laws.specs.Laws.{Ascend, IsSound, IsWithin, CallsStayWithin}
+use Rattle.vfs_tree.specs.Children.{Children, with_child, without_child, with_other_child, is_directory, is_file}
+use Rattle.vfs_tree_laws.specs.Laws.{Ascend, IsSound, IsWithin, IsShort, AreShort, inodes_of, CallsStayWithin}
 use Rattle.vfs_tree.specs.Node.{weight, new_node}
 use Rattle.vfs_tree.specs.Outcome.{first_of}
-use Rattle.vfs_tree.specs.Rename.{directory_refusal, is_nameless, is_crowded, moved_into, moved_to_free, moved_over, exchanged, renamed_to}
-use Rattle.vfs_tree.specs.State.{State, node_at, count_of, room_of, with_node, with_resized, with_new, without_node, settled, changed, change, with_names, unnamed, child_at}
-use Rattle.vfs_tree.specs.Tree.{made, linked, forgotten, all_forgotten, taken_out, make_refusal}
+use Rattle.vfs_tree.specs.Rename.{directory_refusal, is_directory_at, is_improper, is_nameless, is_crowded, moved_into, moved_to_free, moved_over, exchanged, renamed_to}
+use Rattle.vfs_tree.specs.State.{State, node_at, room_of, with_node, with_resized, with_new, without_node, settled, changed, change, with_names, unnamed, child_at}
+use Rattle.vfs_tree.specs.Tree.{emlink, most_links, made, linked, forgotten, all_forgotten, taken_out, make_refusal, link_refusal}
 use Rattle.vfs_nodes.specs.declared.children.Child.{Child}
 use Rattle.vfs_nodes.specs.declared.kind.Kind.{Kind}
 use Rattle.vfs_nodes.specs.declared.node.Node.{Node}
+use Rattle.vfs_tree.proofs.Nodes.{kinds_apart}
 use Rattle.vfs_tree_laws.proofs.Ascending.{ascend_within}
-use Rattle.vfs_tree_laws.proofs.Cases.{Covers, Resizes, are_not, or_none, calls_covered}
+use Rattle.vfs_tree_laws.proofs.Cases.{Covers, Resizes, one_inode_more, are_not, or_none, calls_covered}
+use Rattle.vfs_tree_laws.proofs.Refused.{link_takes}
 
--- what the nodes take together
+-- what the nodes take together, and how many inodes they are counted as
 abbrev total : State → ℕ
 total s = sum_by weight (values_of s.nodes)
 
+abbrev inodes_in : State → ℕ
+inodes_in s = sum_by inodes_of (values_of s.nodes)
+
 -- ---- entries
-
-length-set_value : (test : ℕ → Bool) (es : List (ℕ × Node)) (w : Node)
-    → length (set_value test es w) ≡ length es
-length-set_value test [] w = refl
-length-set_value test (e ∷ es) w = by (test e.0) (length-set_value test es w)
-  where
-    by : (t : Bool) → length (set_value test es w) ≡ length es
-        → length (cond t ((e.0, w) ∷ es) (e ∷ set_value test es w)) ≡ length (e ∷ es)
-    by true same = refl
-    by false same = omega (arith, same)
-
-fewer-remove_entry : (test : ℕ → Bool) (es : List (ℕ × Node))
-    → length (remove_entry test es) ≤ length es
-fewer-remove_entry test [] = omega arith
-fewer-remove_entry test (e ∷ es) = by (test e.0) (fewer-remove_entry test es)
-  where
-    by : (t : Bool) → length (remove_entry test es) ≤ length es
-        → length (cond t es (e ∷ remove_entry test es)) ≤ length (e ∷ es)
-    by true fewer = omega arith
-    by false fewer = omega (arith, fewer)
 
 -- an entry behind the last
 record Adds (es fs : List (ℕ × Node)) (w : Node) : Type 0 where
-  pub count : length fs ≡ length es + 1
-  pub sum : sum_by weight (values_of fs) ≡ sum_by weight (values_of es) + weight w
+  pub sum : (h : Node → ℕ) → sum_by h (values_of fs) ≡ sum_by h (values_of es) + h w
+  pub short : (most : ℕ) → AreShort most es → IsShort most w → AreShort most fs
 
 adds-insert_entry : (from to : ℕ) (es : List (ℕ × Node)) (w : Node) → Ascend from es to
     → Adds es (insert_entry nat_cmp es to w) w
 adds-insert_entry from to [] w a = record {
-  count = refl;
-  sum = omega (arith, sum_by-cons weight w []);
+  sum = λ h. omega (arith, sum_by-cons h w []);
+  short = λ most all here. (here, tt);
 }
 adds-insert_entry from to (e ∷ es) w a =
     by (nat_cmp to e.0) (ranks to e.0) (adds-insert_entry (e.0 + 1) to es w a.1)
@@ -71,100 +57,212 @@ adds-insert_entry from to (e ∷ es) w a =
     by Less is more = absurd (omega (arith, is, ascend_within (e.0 + 1) to es a.1))
     by Equal is more = absurd (omega (arith, is, ascend_within (e.0 + 1) to es a.1))
     by Greater is more = record {
-      count = omega (arith, more.count);
-      sum = omega (
+      sum = λ h. omega (
         arith,
-        more.sum,
-        sum_by-cons weight e.1 (values_of es),
-        sum_by-cons weight e.1 (values_of (insert_entry nat_cmp es to w)),
+        more.sum h,
+        sum_by-cons h e.1 (values_of es),
+        sum_by-cons h e.1 (values_of (insert_entry nat_cmp es to w)),
       );
+      short = λ most all here. (all.0, more.short most all.1 here);
     }
+
+-- no file is longer after one was changed or taken out
+module _ (most : ℕ) (test : ℕ → Bool) where
+  short-found : (es : List (ℕ × Node)) (was : Node) → AreShort most es
+      → lookup test es ≡ Some was → IsShort most was
+  short-found [] was all found = cc found
+  short-found (e ∷ es) was all found = by (test e.0) found (short-found es was all.1)
+    where
+      by : (t : Bool) → cond t (Some e.1) (lookup test es) ≡ Some was
+          → (lookup test es ≡ Some was → IsShort most was) → IsShort most was
+      by true is more = subst (IsShort most) (same_Some e.1 was is) all.0
+      by false is more = more is
+
+  short-set_value : (es : List (ℕ × Node)) (w : Node) → AreShort most es → IsShort most w
+      → AreShort most (set_value test es w)
+  short-set_value [] w all here = tt
+  short-set_value (e ∷ es) w all here = by (test e.0) (short-set_value es w all.1 here)
+    where
+      by : (t : Bool) → AreShort most (set_value test es w)
+          → AreShort most (cond t ((e.0, w) ∷ es) (e ∷ set_value test es w))
+      by true more = (here, all.1)
+      by false more = (all.0, more)
+
+  short-remove_entry : (es : List (ℕ × Node)) → AreShort most es
+      → AreShort most (remove_entry test es)
+  short-remove_entry [] all = tt
+  short-remove_entry (e ∷ es) all = by (test e.0) (short-remove_entry es all.1)
+    where
+      by : (t : Bool) → AreShort most (remove_entry test es)
+          → AreShort most (cond t es (e ∷ remove_entry test es))
+      by true more = all.1
+      by false more = (all.0, more)
 
 -- ---- changes after which no more is in use
 
 record Slims (old new : State) : Type 0 where
   pub limits : new.limits ≡ old.limits
-  pub count : count_of new ≤ count_of old
   pub used : new.used ≤ old.used
   pub sums : old.used ≡ total old → new.used ≡ total new
+  pub inodes : new.inodes ≤ old.inodes
+  pub counts : old.inodes ≡ inodes_in old → new.inodes ≡ inodes_in new
+  pub short : (most : ℕ) → AreShort most old.nodes → AreShort most new.nodes
 
 slims_itself : (s : State) → Slims s s
 slims_itself s = record {
   limits = refl;
-  count = omega arith;
   used = omega arith;
   sums = λ h. h;
+  inodes = omega arith;
+  counts = λ h. h;
+  short = λ most h. h;
 }
 
 slims_both : (a b c : State) → Slims a b → Slims b c → Slims a c
 slims_both a b c first more = record {
   limits = more.limits ∙ first.limits;
-  count = omega (arith, first.count, more.count);
   used = omega (arith, first.used, more.used);
   sums = λ h. more.sums (first.sums h);
+  inodes = omega (arith, first.inodes, more.inodes);
+  counts = λ h. more.counts (first.counts h);
+  short = λ most h. more.short most (first.short most h);
 }
 
+-- a node that weighs what another does, and whose bytes are within a limit where those are
+record Weighs (was node : Node) : Type 0 where
+  pub same : weight node ≡ weight was
+  pub short : (most : ℕ) → IsShort most was → IsShort most node
+
 module _ (s : State) (n : ℕ) (was node : Node) (is : node_at s n ≡ Some was)
-    (same : weight node ≡ weight was) where
-  slims-with_node : Slims s (with_node s n node)
-  slims-with_node = record {
+    (even : Weighs was node) where
+  short-here : (most : ℕ) → AreShort most s.nodes → IsShort most node
+  short-here most all = even.short most (short-found most (is_at (nat_cmp n)) s.nodes was all is)
+
+  slims-with_node : inodes_of node ≡ inodes_of was → Slims s (with_node s n node)
+  slims-with_node same = record {
     limits = refl;
-    count = omega (arith, length-set_value (is_at (nat_cmp n)) s.nodes node);
     used = omega arith;
     sums = λ h. omega (
       arith,
       h,
-      same,
+      even.same,
       sum_by-set_value weight (is_at (nat_cmp n)) s.nodes was node is,
     );
+    inodes = omega arith;
+    counts = λ h. omega (
+      arith,
+      h,
+      same,
+      sum_by-set_value inodes_of (is_at (nat_cmp n)) s.nodes was node is,
+    );
+    short = λ most all.
+        short-set_value most (is_at (nat_cmp n)) s.nodes node all (short-here most all);
   }
 
-  slims-without_node : Slims s (without_node s n node)
-  slims-without_node = record {
+  -- where one name less leads to it
+  abbrev fewer : State
+  fewer = record s { inodes = s.inodes - min (was.names - 1) 1 }
+
+  slims-fewer : node.names ≡ was.names - 1 → Slims s (with_node fewer n node)
+  slims-fewer less = record {
     limits = refl;
-    count = fewer-remove_entry (is_at (nat_cmp n)) s.nodes;
+    used = omega arith;
+    sums = λ h. omega (
+      arith,
+      h,
+      even.same,
+      sum_by-set_value weight (is_at (nat_cmp n)) s.nodes was node is,
+    );
+    inodes = omega arith;
+    counts = λ h. omega (
+      arith,
+      h,
+      less,
+      sum_by-set_value inodes_of (is_at (nat_cmp n)) s.nodes was node is,
+    );
+    short = λ most all.
+        short-set_value most (is_at (nat_cmp n)) s.nodes node all (short-here most all);
+  }
+
+  slims-without_node : was.names ≤ 1 → Slims s (without_node s n node)
+  slims-without_node few = record {
+    limits = refl;
     used = omega arith;
     sums = λ h.
         let here : unwrap_or (option_map weight (node_at s n)) 0 ≡ weight was =
         ap (λ o. unwrap_or (option_map weight o) 0) is in
-        omega (arith, h, same, here, sum_by-remove_entry weight (is_at (nat_cmp n)) s.nodes);
+        omega (arith, h, even.same, here, sum_by-remove_entry weight (is_at (nat_cmp n)) s.nodes);
+    inodes = omega arith;
+    counts = λ h.
+        let here : unwrap_or (option_map inodes_of (node_at s n)) 0 ≡ inodes_of was =
+        ap (λ o. unwrap_or (option_map inodes_of o) 0) is in
+        omega (arith, h, few, here, sum_by-remove_entry inodes_of (is_at (nat_cmp n)) s.nodes);
+    short = λ most all. short-remove_entry most (is_at (nat_cmp n)) s.nodes all;
   }
 
-  slims-settled : Slims s (settled s n node)
-  slims-settled = by (node.names == 0 && node.lookups == 0)
+  -- lookups of it were taken back
+  slims-settled : node.names ≡ was.names → Slims s (settled s n node)
+  slims-settled same = by (node.names == 0 && node.lookups == 0) refl
     where
-      by : (t : Bool) → Slims s (if t then without_node s n node else with_node s n node)
-      by true = slims-without_node
-      by false = slims-with_node
+      by : (t : Bool) → (node.names == 0 && node.lookups == 0) ≡ t
+          → Slims s (if t then without_node s n node else with_node s n node)
+      by true gone =
+          let none = eqb-true node.names 0 (and_parts (node.names == 0) (node.lookups == 0) gone).0 in
+          slims-without_node (omega (arith, none, same))
+      by false stays = slims-with_node (omega (arith, same))
+
+  -- or a name of it was
+  slims-settled_fewer : node.names ≡ was.names - 1 → Slims s (settled fewer n node)
+  slims-settled_fewer less = by (node.names == 0 && node.lookups == 0) refl
+    where
+      by : (t : Bool) → (node.names == 0 && node.lookups == 0) ≡ t
+          → Slims s (if t then without_node fewer n node else with_node fewer n node)
+      by true gone =
+          let none = eqb-true node.names 0 (and_parts (node.names == 0) (node.lookups == 0) gone).0 in
+          let gone = slims-without_node (omega (arith, none, less)) in
+          record {
+            limits = gone.limits;
+            used = gone.used;
+            sums = gone.sums;
+            inodes = omega arith;
+            counts = λ h. omega (arith, gone.counts h, none, less);
+            short = gone.short;
+          }
+      by false stays = slims-fewer less
 
 -- a node is changed, and weighs what it did
 abbrev IsEven : (Node → Node) → Type 0
-IsEven f = (node : Node) → weight (f node) ≡ weight node
+IsEven f = (node : Node) → Weighs node (f node) × (inodes_of (f node) ≡ inodes_of node)
 
 slims-changed : (s : State) (n : ℕ) (f : Node → Node) → IsEven f → (o : Option Node)
     → node_at s n ≡ o → Slims s (changed s n f o)
 slims-changed s n f even None is = slims_itself s
-slims-changed s n f even (Some node) is = slims-with_node s n node (f node) is (even node)
+slims-changed s n f even (Some node) is =
+    slims-with_node s n node (f node) is (even node).0 (even node).1
 
 slims-change : (s : State) (n : ℕ) (f : Node → Node) → IsEven f → Slims s (change s n f)
 slims-change s n f even = slims-changed s n f even (node_at s n) refl
 
 slims-with_names : (s : State) (d : ℕ) (f : Children → Children) → Slims s (with_names s d f)
-slims-with_names s d f = slims-change s d _ (λ node. refl)
+slims-with_names s d f =
+    slims-change s d _ (λ node. (record { same = refl; short = λ most h. h }, refl))
 
 slims-moved_into : (s : State) (n d : ℕ) → Slims s (moved_into s n d)
-slims-moved_into s n d = slims-change s n _ (λ node. refl)
+slims-moved_into s n d =
+    slims-change s n _ (λ node. (record { same = refl; short = λ most h. h }, refl))
 
 slims-unnamed : (s : State) (n : ℕ) (o : Option Node) → node_at s n ≡ o → Slims s (unnamed s n o)
 slims-unnamed s n None is = slims_itself s
 slims-unnamed s n (Some node) is =
-    slims-settled s n node (record node { names = node.names - 1; ctime = s.now }) is refl
+    slims-settled_fewer s n node (record node { names = node.names - 1; ctime = s.now }) is
+    (record { same = refl; short = λ most h. h }) refl
 
 slims-forgotten : (s : State) (n count : ℕ) (o : Option Node) → node_at s n ≡ o
     → Slims s (forgotten s n count o)
 slims-forgotten s n count None is = slims_itself s
 slims-forgotten s n count (Some node) is =
-    slims-settled s n node (record node { lookups = node.lookups - count }) is refl
+    slims-settled s n node (record node { lookups = node.lookups - count }) is
+    (record { same = refl; short = λ most h. h }) refl
 
 slims-all_forgotten : (s : State) (pairs : List (ℕ × ℕ)) → Slims s (all_forgotten s pairs)
 slims-all_forgotten s [] = slims_itself s
@@ -233,13 +331,22 @@ stays-slims old mid new stays slims = record {
   within =
       let bytes = ap (λ l. l.bytes) slims.limits in
       let nodes = ap (λ l. l.nodes) slims.limits in
+      let file = ap (λ l. l.file) slims.limits in
       record {
         used = slims.sums stays.within.used;
         bytes = omega (arith, bytes, slims.used, stays.within.bytes);
-        count = omega (arith, nodes, slims.count, stays.within.count);
+        counted = slims.counts stays.within.counted;
+        inodes = omega (arith, nodes, slims.inodes, stays.within.inodes);
+        files = subst (λ most. AreShort most new.nodes) (sym file)
+            (slims.short mid.limits.file stays.within.files);
       };
   limits = slims.limits ∙ stays.limits;
 }
+
+changed_inodes : (s : State) (n : ℕ) (f : Node → Node) (o : Option Node)
+    → (changed s n f o).inodes ≡ s.inodes
+changed_inodes s n f None = refl
+changed_inodes s n f (Some node) = refl
 
 module _ (old : State) (sound : IsSound old) (within : IsWithin old) where
   slim : (new : State) → Slims old new → StaysWithin old new
@@ -249,59 +356,116 @@ module _ (old : State) (sound : IsSound old) (within : IsWithin old) where
       → StaysWithin old (with_resized old n was now)
   resizes n was now is r =
       let sum = sum_by-set_value weight (is_at (nat_cmp n)) old.nodes was now is in
+      let inodes = sum_by-set_value inodes_of (is_at (nat_cmp n)) old.nodes was now is in
+      let short = short-found old.limits.file (is_at (nat_cmp n)) old.nodes was within.files is in
       record {
         within = record {
           used = omega (arith, sum, within.used);
           bytes = omega (arith, r.room, within.bytes);
-          count = omega (arith, within.count, length-set_value (is_at (nat_cmp n)) old.nodes now);
+          counted = omega (arith, inodes, within.counted, r.names);
+          inodes = within.inodes;
+          files = short-set_value old.limits.file (is_at (nat_cmp n)) old.nodes now within.files
+              (r.file short);
         };
         limits = refl;
       }
 
-  adds : (node : Node) → count_of old < old.limits.nodes → weight node ≤ room_of old
-      → StaysWithin old (with_new old node)
-  adds node place room =
+  adds : (node : Node) → node.names ≡ 1 → old.inodes < old.limits.nodes
+      → weight node ≤ room_of old → IsShort old.limits.file node → StaysWithin old (with_new old node)
+  adds node one place room short =
       let more = adds-insert_entry 1 old.next old.nodes node sound.ordered in
       record {
         within = record {
-          used = omega (arith, more.sum, within.used);
+          used = omega (arith, more.sum weight, within.used);
           bytes = omega (arith, room, within.bytes);
-          count = omega (arith, more.count, place);
+          counted = omega (arith, more.sum inodes_of, within.counted, one);
+          inodes = omega (arith, place);
+          files = more.short old.limits.file within.files short;
         };
         limits = refl;
       }
 
   makes : (uid gid : ℕ) (kind : Kind) (permissions parent : ℕ) (name contents : List ℕ)
       → make_refusal old parent name (length contents) ≡ None
+      → (is_file kind ≡ true → contents ≡ [])
       → StaysWithin old
       (made old parent name (new_node old.now uid gid kind permissions parent contents))
-  makes uid gid kind permissions parent name contents none =
+  makes uid gid kind permissions parent name contents none plain =
       let node = new_node old.now uid gid kind permissions parent contents in
       let crowded = is_crowded (node_at old parent) in
       let short = nat_lt (room_of old) (length contents) in
-      let full = nat_le old.limits.nodes (count_of old) in
+      let full = nat_le old.limits.nodes old.inodes in
       let last = old.next == 2 ^ 64 - 1 in
       let rs : List (Bool × ℕ) = (is_nameless (node_at old parent), enoent)
+      ∷ (is_improper name, einval)
       ∷ (is_some (child_at old parent name), eexist)
       ∷ (full || last || crowded || short, enospc) ∷ [] in
       let not = are_not rs (or_none (directory_refusal (node_at old parent) name) (first_of rs) none).1 in
-      let parts = or_parts (full || last || crowded) short not.1.1.0 in
+      let parts = or_parts (full || last || crowded) short not.1.1.1.0 in
       let place = or_parts full last (or_parts (full || last) crowded parts.0).0 in
       stays-slims old (with_new old node) (made old parent name node)
-      (adds node (leb-false old.limits.nodes (count_of old) place.0)
-      (omega (arith, ltb-false (room_of old) (length contents) parts.1)))
+      (adds node refl (leb-false old.limits.nodes old.inodes place.0)
+      (omega (arith, ltb-false (room_of old) (length contents) parts.1))
+      (λ is. let none = ap length (plain is) in omega (arith, none)))
       (slims-with_names (with_new old node) parent _)
+
+  links : (n : ℕ) (node : Node) (parent : ℕ) (name : List ℕ) → node_at old n ≡ Some node
+      → link_refusal old parent name node ≡ None
+      → StaysWithin old (change (one_inode_more (with_names old parent
+      (λ c. with_child c name (record { node = n; kind = node.kind })))) n (linked old.now))
+  links n node parent name is none =
+      let child : Child = record { node = n; kind = node.kind } in
+      let f : Children → Children = λ c. with_child c name child in
+      let named = with_names old parent f in
+      let mid = one_inode_more named in
+      let full = nat_le old.limits.nodes old.inodes in
+      let crowded = is_crowded (node_at old parent) in
+      let rs : List (Bool × ℕ) = (is_nameless (node_at old parent), enoent)
+      ∷ (is_improper name, einval)
+      ∷ (is_some (child_at old parent name), eexist)
+      ∷ (is_directory node.kind, eperm)
+      ∷ (node.names == 0, enoent)
+      ∷ (nat_le most_links node.names, emlink)
+      ∷ (node.lookups == 2 ^ 64 - 1, eoverflow)
+      ∷ (full || crowded, enospc) ∷ [] in
+      let not = are_not rs (or_none (directory_refusal (node_at old parent) name) (first_of rs) none).1 in
+      let some : node.names ≢ 0 = eqb-false node.names 0 not.1.1.1.1.0 in
+      let place = leb-false old.limits.nodes old.inodes (or_parts full crowded not.1.1.1.1.1.1.1.0).0 in
+      let to = (link_takes old node parent name none).0 in
+      let above : is_directory_at (node_at old parent) ≡ true = ap is_directory_at to.is ∙ to.dir in
+      let found : node_at mid n ≡ Some node =
+      kinds_apart old n parent f (ap is_directory_at is ∙ not.1.1.1.0) above ∙ is in
+      let slims = slims-with_names old parent f in
+      let stays = (slim named slims).within in
+      let same : named.inodes ≡ old.inodes = changed_inodes old parent
+      (λ (x : Node). record x { children = f x.children; mtime = old.now; ctime = old.now })
+      (node_at old parent) in
+      let nodes = ap (λ l. l.nodes) slims.limits in
+      let more = linked old.now node in
+      let weights = sum_by-set_value weight (is_at (nat_cmp n)) named.nodes node more found in
+      let counts = sum_by-set_value inodes_of (is_at (nat_cmp n)) named.nodes node more found in
+      let short = short-found named.limits.file (is_at (nat_cmp n)) named.nodes node stays.files found in
+      subst (StaysWithin old) (sym (ap (changed mid n (linked old.now)) found)) (record {
+        within = record {
+          used = omega (arith, weights, stays.used);
+          bytes = stays.bytes;
+          counted = omega (arith, counts, stays.counted, some);
+          inodes = omega (arith, same, place, nodes);
+          files = short-set_value named.limits.file (is_at (nat_cmp n)) named.nodes more stays.files
+              short;
+        };
+        limits = slims.limits;
+      })
 
   covers : Covers old (λ taken reply left. StaysWithin old left)
   covers = record {
     same = λ reply none. slim old (slims_itself old);
-    looked_up = λ n node is. slim _ (slims-with_node old n node _ is refl);
-    forgot = λ pairs. slim _ (slims-all_forgotten old pairs);
+    looked_up = λ n node is.
+        slim _ (slims-with_node old n node _ is (record { same = refl; short = λ most h. h }) refl);
+    forgot = λ pairs reply told. slim _ (slims-all_forgotten old pairs);
     resizes = λ n was now reply told is r. resizes n was now is r;
     makes = makes;
-    links = λ n node parent name is none.
-        slim _ (slims_both old _ _ (slims-with_names old parent _)
-        (slims-change _ n (linked old.now) (λ node. refl)));
+    links = links;
     unlinks = λ parent name child node there found is file.
         slim _ (slims-taken_out old parent name child);
     removes = λ parent name child node there found is empty.

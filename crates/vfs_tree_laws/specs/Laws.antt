@@ -1,16 +1,16 @@
 -- What holds of every state of a tree that can be reached, and what a call does to the lookups that are
 -- held.
-use Rattle.std.specs.Prelude.{◌≡◌, ◌≤◌, ◌<◌, ℕ, zero, suc, ◌+◌, ◌==◌, max, Bool, true, false, List, [], ◌∷◌, map, Option, Some, None, IfSome, sum_by, count_by, if◌then◌else◌}
+use Rattle.std.specs.Prelude.{◌≡◌, ◌≤◌, ◌<◌, ℕ, zero, suc, ◌+◌, ◌==◌, max, Bool, true, false, List, [], ◌∷◌, length, map, Option, Some, None, IfSome, sum_by, count_by, if◌then◌else◌}
 use Rattle.std.specs.List.{All, IsDistinct}
 use Rattle.std.specs.Map.{values_of}
 use Rattle.std.specs.Str.{bytes_eq}
 use Rattle.vfs_files.specs.Items.{Item}
-use Rattle.vfs_files.specs.Calls.{Call, Answer, Plain, Iterator}
+use Rattle.vfs_files.specs.Calls.{Call, Init, Destroy, Answer, Plain, Iterator}
 use Rattle.vfs_grammar.specs.Books.{times, counts, answered_nodes, forgets_of}
-use Rattle.vfs_tree.specs.Children.{Link, is_directory}
+use Rattle.vfs_tree.specs.Children.{Link, is_directory, is_file}
 use Rattle.vfs_tree.specs.Node.{weight}
 use Rattle.vfs_tree.specs.Rename.{parent_of}
-use Rattle.vfs_tree.specs.State.{State, node_at, count_of}
+use Rattle.vfs_tree.specs.State.{State, node_at}
 use Rattle.vfs_tree.specs.Tree.{TreeAllows, first_state}
 use Rattle.vfs_nodes.specs.declared.children.Child.{Child}
 use Rattle.vfs_tree.specs.declared.fs.Limits.{Limits}
@@ -40,12 +40,19 @@ pub record IsSound (s : State) : Type 0 where
   pub ordered : Ascend 1 s.nodes s.next
   pub held : (n : ℕ) → IfSome (node_at s n) IsHeld
 
+-- How many lookups of a node a call takes back: at an INIT and a DESTROY all that are held, since a client
+-- that goes away sends no FORGET.
+abbrev pub taken_back : State → Call → (n : ℕ) → ℕ
+taken_back old (Init _) n = lookups_of old n
+taken_back old Destroy n = lookups_of old n
+taken_back old call n = counts n (forgets_of call)
+
 -- Of a node of which a call takes back no more lookups than are held, so many are held then as were, with
 -- those that it gives, by the entry that it answers, and without those that it takes back.
 abbrev pub CountsLookups : State → Call → Answer → State → Type 0
 CountsLookups old call answer new =
-    (n : ℕ) → counts n (forgets_of call) ≤ lookups_of old n
-    → lookups_of new n + counts n (forgets_of call)
+    (n : ℕ) → taken_back old call n ≤ lookups_of old n
+    → lookups_of new n + taken_back old call n
     ≡ lookups_of old n + times n (answered_nodes call answer)
 
 -- a call keeps a sound state sound, and counts lookups
@@ -63,12 +70,26 @@ ReadingsChangeNothing =
 
 -- ---- what is in use
 
--- The bytes that are in use are those of the nodes; they and the nodes are within the limits, but for the
--- root, which is always there.
+-- how many inodes a node is counted as: one, and one more for each further name that leads to it
+abbrev pub inodes_of : Node → ℕ
+inodes_of node = max 1 node.names
+
+-- a file has at most so many bytes
+abbrev pub IsShort : (most : ℕ) → Node → Type 0
+IsShort most node = is_file node.kind ≡ true → length node.contents ≤ most
+
+abbrev pub AreShort : (most : ℕ) → List (ℕ × Node) → Type 0
+AreShort most [] = Unit {0}
+AreShort most (e ∷ es) = IsShort most e.1 × AreShort most es
+
+-- The bytes that are in use are those of the nodes, and the inodes too; both are within the limits, but for
+-- the root, which is always there; and so is each file.
 pub record IsWithin (s : State) : Type 0 where
   pub used : s.used ≡ sum_by weight (values_of s.nodes)
   pub bytes : s.used ≤ s.limits.bytes
-  pub count : count_of s ≤ max 1 s.limits.nodes
+  pub counted : s.inodes ≡ sum_by inodes_of (values_of s.nodes)
+  pub inodes : s.inodes ≤ max 1 s.limits.nodes
+  pub files : AreShort s.limits.file s.nodes
 
 -- a call keeps a state within its limits, which stay
 abbrev pub CallsStayWithin : Type 0
@@ -157,9 +178,9 @@ pub record IsTree (s : State) : Type 0 where
 -- a new one, of which no lookup is held
 abbrev pub NewOnesAreTrees : Type 0
 NewOnesAreTrees =
-    (uid gid : ℕ) (limits : Limits) (now : Time)
-    → IsTree (first_state uid gid limits now)
-    × ((n : ℕ) → lookups_of (first_state uid gid limits now) n ≡ 0)
+    (uid gid permissions : ℕ) (limits : Limits) (now : Time)
+    → IsTree (first_state uid gid permissions limits now)
+    × ((n : ℕ) → lookups_of (first_state uid gid permissions limits now) n ≡ 0)
 
 -- a call keeps a tree one, whatever it asks, and its limits, and counts lookups
 abbrev pub CallsKeepTrees : Type 0

@@ -11,15 +11,16 @@ use crate::laws::runs_keep_trees;
 use std::alloc::Global;
 use vfs_grammar::Result;
 use vfs_segments::{Reader, Writer};
+use vfs_server::laws::books::turns_keep_books;
 use vfs_server::server::Server;
 use vfs_tree::TreeFs;
 
 /// Handles requests in order, as [`Server::handle_session`] does, with a tree.
 ///
-/// A tree stays one, whatever the client asks. Of each node the lookups that are held afterwards are
-/// those that were held, with those that were delivered to the client and without those that it gave
-/// back, if it never gave back more than it had. So a client that gives back all that it had leaves no
-/// node but those that names lead to.
+/// A tree stays one, whatever a client asks. An INIT and a DESTROY take back every lookup: since the
+/// last of them the lookups of each node that are held are those that were delivered to the client
+/// without those that it gave back, if it never gave back more than it had. So after a DESTROY, and
+/// after a client that gave back all that it had, no node is left but those that names lead to.
 pub fn handle_session(
     server: &mut Server<TreeFs>,
     alloc: Global,
@@ -36,5 +37,6 @@ pub fn handle_session(
         × LeavesNone server.old.fs session.turns server.new.fs }
 {
     runs_keep_trees();
+    turns_keep_books();
     server.handle_session(alloc, readers, writers, outcomes);
 }
