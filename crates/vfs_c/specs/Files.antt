@@ -11,11 +11,11 @@ use Rattle.vfs_tree.specs.Tree.{TreeAllows, first_state}
 abbrev pub State : Type 0
 State = tree.State
 
--- the state of a new one: a root of user and group 0, at most 2 ^ 20 nodes and 2 ^ 32 bytes, and the time
--- 0
+-- the state of a new one: a root of user and group 0 and mode 0755, at most 2 ^ 20 nodes and 2 ^ 32
+-- bytes, and the time 0
 abbrev pub new_state : State
 new_state =
-    first_state 0 0 (record { nodes = 2 ^ 20; bytes = 2 ^ 32; file = 2 ^ 32 })
+    first_state 0 0 0o755 (record { nodes = 2 ^ 20; bytes = 2 ^ 32; file = 2 ^ 32 })
     (record { seconds = 0; nanoseconds = 0 })
 
 -- what is left of a directory that is read

@@ -26,7 +26,14 @@ pub fn new_files(alloc: Global) -> Option<Files>
         seconds: 0,
         nanoseconds: 0,
     };
-    match TreeFs::new(alloc, GuestUid::from(0), GuestGid::from(0), LIMITS, now) {
+    match TreeFs::new(
+        alloc,
+        GuestUid::from(0),
+        GuestGid::from(0),
+        0o755,
+        LIMITS,
+        now,
+    ) {
         Ok(files) => Some(files),
         Err(_) => None,
     }

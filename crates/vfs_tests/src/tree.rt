@@ -26,7 +26,8 @@ const NOW: Time = Time {
 
 /// A server over a new tree, whose root is of user and group 0.
 fn new_server(alloc: Global) -> Result<Server<TreeFs>, Fail> {
-    match TreeFs::new(alloc, GuestUid::from(0), GuestGid::from(0), LIMITS, NOW) {
+    let (uid, gid) = (GuestUid::from(0), GuestGid::from(0));
+    match TreeFs::new(alloc, uid, gid, 0o755, LIMITS, NOW) {
         Ok(tree) => Ok(Server::new(tree, 4096)),
         Err(_) => Err(Fail::from("no memory for a tree")),
     }

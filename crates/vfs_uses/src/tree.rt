@@ -26,7 +26,8 @@ fn new_tree(alloc: Global) -> Option<TreeFs>
         seconds: 7,
         nanoseconds: 0,
     };
-    TreeFs::new(alloc, GuestUid::from(0), GuestGid::from(0), limits, now).ok()
+    let (uid, gid) = (GuestUid::from(0), GuestGid::from(0));
+    TreeFs::new(alloc, uid, gid, 0o755, limits, now).ok()
 }
 
 /// Of a new tree no name leads anywhere.
