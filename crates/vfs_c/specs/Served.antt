@@ -4,14 +4,15 @@ use Rattle.vfs_segments.specs.Written.{Written, whole}
 use Rattle.vfs_grammar.specs.declared.error.Error.{Error}
 use Rattle.vfs_server.specs.Step.{ServerState, IsStep, ReadsDirectories}
 use Rattle.vfs_c.specs.Files.{State, new_state, told, Allows, Gives}
+use Rattle.vfs_c.specs.declared.files.Settings.{Settings}
 use Rattle.vfs_c.specs.Codes.{no_memory, too_long, number_of, length_of, shown_of}
 
 -- a new server over a new file system: no options are agreed on
-abbrev pub new_server : (page_size max_buffer : ℕ) → ServerState State
-new_server page_size max_buffer = record {
+abbrev pub new_server : (page_size max_buffer : ℕ) → Settings → ServerState State
+new_server page_size max_buffer settings = record {
   options = 0;
   limits = record { page_size = page_size; max_buffer = max_buffer };
-  fs = new_state;
+  fs = new_state settings;
 }
 
 -- a server over a file system that was told the time

@@ -11,29 +11,45 @@ use vfs_tree::{Limits, Time, TreeFs};
 /// The file system.
 pub type Files = TreeFs;
 
-/// How much a new one holds at most.
-const LIMITS: Limits = Limits {
-    nodes: 1 << 20,
-    bytes: 1 << 32,
-    file: 1 << 32,
-};
+/// What C says of a new one, in the order of the header's `nizwarf_settings`. A library over another
+/// file system takes of it what it wants.
+#[repr(C)]
+#[derive(Clone, Copy)]
+pub struct Settings {
+    /// When it is made, in seconds since 1970.
+    pub seconds: u64,
+    /// How many nodes it holds at most, the root among them.
+    pub nodes: u64,
+    /// How many bytes it holds at most.
+    pub bytes: u64,
+    /// How many bytes a file has at most.
+    pub file: u64,
+    /// The nanoseconds past `seconds`.
+    pub nanoseconds: u32,
+    /// The user that the root belongs to.
+    pub uid: u32,
+    /// The group that the root belongs to.
+    pub gid: u32,
+    /// The permission bits of the root: `mode & 0o7777`.
+    pub mode: u32,
+}
 
-/// A new one, which is not told the time yet. `None` where there is no memory.
-pub fn new_files(alloc: Global) -> Option<Files>
-    ensures { IfSome result (λ files. files ≡ new_state) }
+/// A new one. `None` where there is no memory.
+pub fn new_files(alloc: Global, settings: &Settings) -> Option<Files>
+    ensures { IfSome result (λ files. files ≡ new_state settings.now) }
 {
-    let now = Time {
-        seconds: 0,
-        nanoseconds: 0,
+    let limits = Limits {
+        nodes: settings.nodes,
+        bytes: settings.bytes,
+        file: settings.file,
     };
-    match TreeFs::new(
-        alloc,
-        GuestUid::from(0),
-        GuestGid::from(0),
-        0o755,
-        LIMITS,
-        now,
-    ) {
+    let now = Time {
+        seconds: settings.seconds,
+        nanoseconds: settings.nanoseconds,
+    };
+    let uid = GuestUid::from(settings.uid);
+    let gid = GuestGid::from(settings.gid);
+    match TreeFs::new(alloc, uid, gid, settings.mode, limits, now) {
         Ok(files) => Some(files),
         Err(_) => None,
     }

@@ -23,25 +23,27 @@ ghost use Rattle.vfs_c.specs.Codes.{ok, no_memory, no_server, wrong_size};
 ghost use Rattle.vfs_c.specs.Served.{new_server, told_time, Served, part_from};
 
 use crate::codes::{NO_SERVER, OK, OUT_OF_MEMORY, WRONG_SIZE};
+use crate::files::Settings;
 use crate::handle::Handle;
 use crate::session::Session;
 use bitflags::Flags;
 use std::alloc::Global;
 use vfs_flags::{GREATEST_MAX_BUFFER, LEAST_MAX_BUFFER};
 
-/// Puts a new server over a new file system into the handle, for this size of a page and this
-/// largest payload, both in bytes. A server that is there is ended first. Answers 0; or 10 where
-/// there is no memory, and 12 where a server can't be made for these sizes: then the handle is as
-/// it was.
+/// Puts a new server over a new file system of these settings into the handle, for this size of a
+/// page and this largest payload, both in bytes. A server that is there is ended first. Answers 0;
+/// or 10 where there is no memory, and 12 where a server can't be made for these sizes: then the
+/// handle is as it was.
 #[unsafe(no_mangle)]
 pub extern "C" fn nizwarf_new_at(
     alloc: Global,
     handle: &mut Handle,
     page_size: u32,
     max_buffer: u32,
+    settings: &Settings,
 ) -> i32
     ensures made { result ≡ ok → MatchOption handle.new.value ⊥ (λ s.
-        (s.server ≡ new_server page_size max_buffer) × (s.shown ≡ 0)) }
+        (s.server ≡ new_server page_size max_buffer settings.now) × (s.shown ≡ 0)) }
     ensures refused { result ≢ ok → handle.new.value ≡ handle.old.value }
     ensures page { page_size < 4096 → result ≡ wrong_size }
     ensures least { max_buffer < LEAST_MAX_BUFFER → result ≡ wrong_size }
@@ -52,7 +54,7 @@ pub extern "C" fn nizwarf_new_at(
     if page_size < 4096 || max_buffer < LEAST_MAX_BUFFER || max_buffer > GREATEST_MAX_BUFFER {
         return WRONG_SIZE;
     }
-    let Some(session) = Session::new(alloc, page_size, max_buffer) else {
+    let Some(session) = Session::new(alloc, page_size, max_buffer, settings) else {
         return OUT_OF_MEMORY;
     };
     let Ok(made) = Box::new(alloc, session) else {

@@ -6,7 +6,7 @@ ghost use Rattle.vfs_segments.specs.Segments.{segments_of, contents, flat_bytes,
 ghost use Rattle.vfs_c.specs.Served.{new_server, told_time, Served, part_from};
 
 use crate::codes::{OK, OUT_OF_MEMORY, TOO_LONG, told};
-use crate::files::{Files, new_files, tell_time};
+use crate::files::{Files, Settings, new_files, tell_time};
 use std::alloc::Global;
 use std::mem;
 use vfs_segments::{Reader, Writer};
@@ -29,15 +29,20 @@ pub struct Session {
 
 impl Session {
     /// A session with a new server over a new file system. `None` where there is no memory.
-    pub fn new(alloc: Global, page_size: u32, max_buffer: u32) -> Option<Session>
+    pub fn new(
+        alloc: Global,
+        page_size: u32,
+        max_buffer: u32,
+        settings: &Settings,
+    ) -> Option<Session>
         requires page { 4096 ≤ page_size }
         requires least { LEAST_MAX_BUFFER ≤ max_buffer }
         requires greatest { max_buffer ≤ GREATEST_MAX_BUFFER }
-        ensures server { IfSome result (λ s. s.server ≡ new_server page_size max_buffer) }
+        ensures server { IfSome result (λ s. s.server ≡ new_server page_size max_buffer settings.now) }
         ensures shown { IfSome result (λ s. s.shown ≡ 0) }
     {
         Some(Session {
-            server: Server::with_limit(new_files(alloc)?, page_size, max_buffer),
+            server: Server::with_limit(new_files(alloc, settings)?, page_size, max_buffer),
             room: Vec::new(alloc),
             start: 0,
             shown: 0,
