@@ -52,6 +52,24 @@ typedef struct {
 	size_t len;
 } nizwarf_room;
 
+/* What a new file system is, without padding. One over something else than a tree in memory takes of it
+ * what it wants. */
+typedef struct {
+	/* When it is made, since 1970: the root bears it. */
+	uint64_t seconds;
+	/* How many nodes it holds at most, the root among them; how many bytes; how many bytes of a file. */
+	uint64_t nodes, bytes, file;
+	/* The nanoseconds past `seconds`. */
+	uint32_t nanoseconds;
+	/* Who the root belongs to, and its permission bits. */
+	uint32_t uid, gid, mode;
+} nizwarf_settings;
+
+/* A million nodes and 4 GiB, all of them in one file if need be; a root of user and group 0, which they
+ * alone may write; no time yet. */
+#define NIZWARF_SETTINGS \
+	{ 0, UINT64_C(1) << 20, UINT64_C(1) << 32, UINT64_C(1) << 32, 0, 0, 0, 0755 }
+
 /* What a call came to. After each of the first eleven, the request is completed with `*len` bytes, and
  * the session goes on. */
 enum {
@@ -89,7 +107,8 @@ enum {
 
 /* The functions of the library. No pointer is NULL here, and that to a list without pieces may point
  * anywhere. A program that isn't in C links these. Their contracts: crates/vfs_c/src/lib.rt. */
-int32_t nizwarf_new_at(nizwarf_server *server, uint32_t page_size, uint32_t max_buffer);
+int32_t nizwarf_new_at(nizwarf_server *server, uint32_t page_size, uint32_t max_buffer,
+		       const nizwarf_settings *settings);
 int32_t nizwarf_tell_time_at(nizwarf_server *server, uint64_t seconds, uint32_t nanoseconds);
 int32_t nizwarf_message_at(nizwarf_server *server, const nizwarf_segment *request, size_t segments,
 			   size_t room, size_t *len);
@@ -99,15 +118,21 @@ uint32_t nizwarf_max_buffer_at(nizwarf_server *server);
 int32_t nizwarf_end_at(nizwarf_server *server);
 
 /* Makes a server. `page_size` is that of the machine, at least 4096; `max_buffer` the largest payload of
- * a request or a reply, from 4096 to 134217728 bytes: 1048576 is virtiofsd's. A server that was there is
- * ended. NIZWARF_OUT_OF_MEMORY, NIZWARF_WRONG_SIZE or NIZWARF_NULL: it is as it was. */
-static inline int32_t nizwarf_new(nizwarf_server *server, uint32_t page_size, uint32_t max_buffer)
+ * a request or a reply, from 4096 to 134217728 bytes: 1048576 is virtiofsd's; `settings` what its file
+ * system is, NIZWARF_SETTINGS if it is NULL. A server that was there is ended. NIZWARF_OUT_OF_MEMORY,
+ * NIZWARF_WRONG_SIZE or NIZWARF_NULL: it is as it was. */
+static inline int32_t nizwarf_new(nizwarf_server *server, uint32_t page_size, uint32_t max_buffer,
+				  const nizwarf_settings *settings)
 {
-	return server ? nizwarf_new_at(server, page_size, max_buffer) : NIZWARF_NULL;
+	const nizwarf_settings defaults = NIZWARF_SETTINGS;
+
+	if (!server)
+		return NIZWARF_NULL;
+	return nizwarf_new_at(server, page_size, max_buffer, settings ? settings : &defaults);
 }
 
-/* Tells the file system the time since 1970: what is made or changed from now on bears it. It is 0 until
- * then. */
+/* Tells the file system the time since 1970: what is made or changed from now on bears it. Until then it is
+ * that of the settings. */
 static inline int32_t nizwarf_tell_time(nizwarf_server *server, uint64_t seconds, uint32_t nanoseconds)
 {
 	return server ? nizwarf_tell_time_at(server, seconds, nanoseconds) : NIZWARF_NULL;

@@ -1,5 +1,5 @@
 /* Holds the library for transports in C against its header: a session of INIT, MKDIR, LOOKUP and GETATTR, in
- * which each allocation is refused in turn; codes of what can't be done; what stays in the rooms.
+ * which each allocation is refused in turn; codes of what can't be done; settings; what stays in the rooms.
  *
  * tools/c-example.sh links it with --wrap=malloc, --wrap=realloc and --wrap=free. Status 0: all is as
  * it should be, and no memory is left behind. */
@@ -104,12 +104,12 @@ static void session(void)
 {
 	nizwarf_server server = NIZWARF_NONE;
 	struct fuse_out_header *header = (struct fuse_out_header *)reply;
-	int code = nizwarf_new(&server, 4096, 4096);
+	int code = nizwarf_new(&server, 4096, 4096, NULL);
 	size_t len;
 
 	if (code == NIZWARF_OUT_OF_MEMORY) {
 		CHECK(refused && !server.at);
-		code = nizwarf_new(&server, 4096, 4096);
+		code = nizwarf_new(&server, 4096, 4096, NULL);
 	}
 	CHECK(code == NIZWARF_OK && nizwarf_max_buffer(&server) == 4096 && nizwarf_options(&server) == 0);
 	CHECK(ask(&server, &init, 40, 0, 80, &len) == NIZWARF_OK && len == 80 && header->len == 80);
@@ -135,17 +135,18 @@ static void codes(void)
 	const nizwarf_room wide[] = { { reply, SIZE_MAX }, { reply, 1 } };
 	size_t len = 1;
 
-	CHECK(nizwarf_new(NULL, 4096, 4096) == NIZWARF_NULL && nizwarf_end(NULL) == NIZWARF_NULL);
+	CHECK(nizwarf_new(NULL, 4096, 4096, NULL) == NIZWARF_NULL && nizwarf_end(NULL) == NIZWARF_NULL);
 	CHECK(nizwarf_tell_time(NULL, 1, 0) == NIZWARF_NULL);
 	CHECK(nizwarf_tell_time(&server, 1, 0) == NIZWARF_NO_SERVER);
 	CHECK(nizwarf_options(NULL) == 0 && nizwarf_max_buffer(NULL) == 0);
 	CHECK(nizwarf_options(&server) == 0 && nizwarf_max_buffer(&server) == 0);
 	CHECK(nizwarf_end(&server) == NIZWARF_NO_SERVER);
 	CHECK(nizwarf_message(&server, &whole, 1, NULL, 0, &len) == NIZWARF_NO_SERVER && len == 0);
-	CHECK(nizwarf_new(&server, 4095, 4096) == NIZWARF_WRONG_SIZE);
-	CHECK(nizwarf_new(&server, 4096, 4095) == NIZWARF_WRONG_SIZE);
-	CHECK(nizwarf_new(&server, 4096, 134217729) == NIZWARF_WRONG_SIZE && !server.at);
-	CHECK(nizwarf_new(&server, 4096, 4096) == NIZWARF_OK && nizwarf_new(&server, 4096, 8192) == NIZWARF_OK);
+	CHECK(nizwarf_new(&server, 4095, 4096, NULL) == NIZWARF_WRONG_SIZE);
+	CHECK(nizwarf_new(&server, 4096, 4095, NULL) == NIZWARF_WRONG_SIZE);
+	CHECK(nizwarf_new(&server, 4096, 134217729, NULL) == NIZWARF_WRONG_SIZE && !server.at);
+	CHECK(nizwarf_new(&server, 4096, 4096, NULL) == NIZWARF_OK);
+	CHECK(nizwarf_new(&server, 4096, 8192, NULL) == NIZWARF_OK);
 	CHECK(nizwarf_max_buffer(&server) == 8192);
 	CHECK(nizwarf_message(&server, NULL, 1, NULL, 0, &len) == NIZWARF_NULL && len == 0);
 	CHECK(nizwarf_message(&server, &null, 1, NULL, 0, &len) == NIZWARF_NULL);
@@ -160,11 +161,38 @@ static void codes(void)
 	CHECK(nizwarf_end(&server) == NIZWARF_OK && live == 0);
 }
 
+/* A file system of one node, made at a time, with an owner and permission bits. */
+static void settings(void)
+{
+	const nizwarf_settings set = { .seconds = 5, .nanoseconds = 6, .nodes = 1, .bytes = 4096, .file = 512,
+				       .uid = 7, .gid = 8, .mode = 01711 };
+	const nizwarf_settings defaults = NIZWARF_SETTINGS;
+	const struct fuse_out_header *header = (struct fuse_out_header *)reply;
+	const struct fuse_attr *attr = &((struct fuse_attr_out *)(reply + 16))->attr;
+	nizwarf_server server = NIZWARF_NONE;
+	size_t len;
+
+	CHECK(sizeof(set) == 48 && defaults.nodes == 1 << 20 && defaults.bytes == UINT64_C(4) << 30 &&
+	      defaults.file == UINT64_C(4) << 30 && defaults.mode == 0755);
+	CHECK(nizwarf_new(&server, 4096, 4096, &set) == NIZWARF_OK);
+	getattr.header.nodeid = 1;
+	CHECK(ask(&server, &getattr, 40, 0, 120, &len) == NIZWARF_OK && len == 120 && header->error == 0);
+	CHECK(attr->mode == 041711 && attr->uid == 7 && attr->gid == 8);
+	CHECK(attr->mtime == 5 && attr->mtimensec == 6 && attr->ctime == 5 && attr->atime == 5);
+	CHECK(ask(&server, &make, 49, 0, 144, &len) == NIZWARF_OK && len == 16 && header->error == -ENOSPC);
+	CHECK(nizwarf_new(&server, 4096, 4096, NULL) == NIZWARF_OK);
+	CHECK(ask(&server, &getattr, 40, 0, 120, &len) == NIZWARF_OK && len == 120 && header->error == 0);
+	CHECK(attr->mode == 040755 && attr->uid == 0 && attr->gid == 0 && attr->mtime == 0);
+	CHECK(nizwarf_end(&server) == NIZWARF_OK && live == 0);
+	getattr.header.nodeid = 2;
+}
+
 int main(void)
 {
 	long all;
 
 	codes();
+	settings();
 	asked = 0;
 	session();
 	all = asked;

@@ -125,7 +125,7 @@ int main(int count, char **words)
 	for (int i = 1; i < count; i++) {
 		const unsigned n = (unsigned)strtoul(words[i], NULL, 10);
 
-		if (!n || nizwarf_new(&server, 4096, 1 << 20) != NIZWARF_OK)
+		if (!n || nizwarf_new(&server, 4096, 1 << 20, NULL) != NIZWARF_OK)
 			return 2;
 		for (unsigned k = 0; k < n; k++)
 			make(k);

@@ -136,7 +136,7 @@ int main(int count, char **words)
 		failed("/dev/fuse");
 		return 1;
 	}
-	if (nizwarf_new(&server, (uint32_t)sysconf(_SC_PAGESIZE), PAYLOAD) != NIZWARF_OK) {
+	if (nizwarf_new(&server, (uint32_t)sysconf(_SC_PAGESIZE), PAYLOAD, NULL) != NIZWARF_OK) {
 		fprintf(stderr, "mount: there is no server\n");
 		return 1;
 	}

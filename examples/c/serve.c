@@ -40,8 +40,8 @@ int main(void)
 	const nizwarf_room told[] = { { &header, sizeof(header) }, { &agreed, sizeof(agreed) } };
 
 	CHECK(nizwarf_message(&server, asked, 1, told, 2, &len) == NIZWARF_NO_SERVER && len == 0);
-	CHECK(nizwarf_new(&server, 100, 1 << 20) == NIZWARF_WRONG_SIZE);
-	CHECK(nizwarf_new(&server, 4096, 1 << 20) == NIZWARF_OK);
+	CHECK(nizwarf_new(&server, 100, 1 << 20, NULL) == NIZWARF_WRONG_SIZE);
+	CHECK(nizwarf_new(&server, 4096, 1 << 20, NULL) == NIZWARF_OK);
 	CHECK(nizwarf_message(&server, asked, 1, told, 2, &len) == NIZWARF_OK && len == 80);
 	CHECK(header.len == len && header.error == 0 && header.unique == 1 && agreed.minor == 38);
 	CHECK(nizwarf_options(&server) == agreed.flags && agreed.max_write == 1 << 20);

@@ -441,7 +441,7 @@ int main(int count, char **words)
 	int socket;
 
 	need(count == 2, "Usage: vhost SOCKET");
-	need(nizwarf_new(&server, (uint32_t)sysconf(_SC_PAGESIZE), PAYLOAD) == NIZWARF_OK, "no server");
+	need(nizwarf_new(&server, (uint32_t)sysconf(_SC_PAGESIZE), PAYLOAD, NULL) == NIZWARF_OK, "no server");
 	for (int i = 0; i < QUEUES; i++)
 		queue[i].kick = queue[i].call = -1;
 	socket = meet(words[1]);
