@@ -123,6 +123,8 @@ started+=("$shown_id")
 status=0
 wait "$guest_id" || status=$?
 wait "$shown_id" || true
+# It goes on when QEMU has gone.
+kill -TERM "$transport_id" || true
 wait "$transport_id" || status=$?
 started=()
 echo "$((SECONDS - began)) s"

@@ -1,34 +1,44 @@
-/* A transport for vhost-user: the file system in memory as the virtio-fs device of a virtual machine.
+/* A transport for vhost-user: the file system behind the library as the virtio-fs device of a virtual
+ * machine.
  *
  * Usage: vhost SOCKET
  *
- * One front end, as QEMU, connects to the socket, and it ends when that hangs up. There is one thread, and
- * no request is taken before the last one is completed.
+ * A front end, as QEMU, connects to the socket. When it hangs up the next one is served, over the same
+ * files; one that comes earlier waits. SIGINT and SIGTERM end it. There is one thread, and no request is
+ * taken before the last one is completed.
  *
  * The guest may write all of its memory at any time. So a descriptor is copied before it is checked, and
  * a request before the server reads it: both once. The room is not read, and the library copies the reply
  * right into it, once. Every address and length is checked against the memory that the front end shared.
+ * The front end itself must leave that memory there.
  *
- * Status 0: the front end hung up; 1: it broke the protocol, or something failed. */
+ * A front end that breaks the protocol, or asks for what is not served here, is told of in a line on
+ * standard error, and hung up on.
+ *
+ * Status 0: a signal ended it, and the socket is gone; 1: something failed; 2: it was started wrongly. */
 #define _GNU_SOURCE
 #include <errno.h>
+#include <fcntl.h>
 #include <linux/virtio_ring.h>
 #include <poll.h>
+#include <signal.h>
 #include <stdio.h>
 #include <stdlib.h>
 #include <string.h>
 #include <sys/mman.h>
+#include <sys/signalfd.h>
 #include <sys/socket.h>
 #include <sys/stat.h>
+#include <sys/time.h>
 #include <sys/un.h>
 #include <time.h>
 #include <unistd.h>
 #include "nizwarf.h"
 
-/* Queues: of forgets, and of requests. What is behind the longest request is not looked at, and no longer
- * room is lent: a header and its record take less than a page, and a guest that keeps to what INIT agreed
- * on has a payload of at most PAYLOAD. */
-enum { QUEUES = 2, REGIONS = 8, PIECES = 1024, PAYLOAD = 1 << 20, LONGEST = PAYLOAD + 4096 };
+/* Queues: one of forgets, and those of requests, as many as the protocol can number. What is behind the
+ * longest request is not looked at, and no longer room is lent: a header and its record take less than a
+ * page, and a guest that keeps to what INIT agreed on has a payload of at most PAYLOAD. */
+enum { QUEUES = 256, REGIONS = 8, PIECES = 1024, PAYLOAD = 1 << 20, LONGEST = PAYLOAD + 4096 };
 
 /* Messages of the front end. */
 enum {
@@ -86,6 +96,8 @@ static struct queue {
 	uint16_t next;
 	int kick, call, enabled;
 } queue[QUEUES];
+/* Those that the front end named are before this one. */
+static size_t queues;
 
 static struct {
 	size_t len, rooms, room_len;
@@ -93,26 +105,43 @@ static struct {
 	unsigned char request[LONGEST];
 } chain;
 
-/* What came of the requests, by its number, and chains that were none: told at the end, since a guest that
- * breaks the rules shall not fill a log. */
+/* What came of the requests, by its number, and chains that were none: told when the front end has gone,
+ * since a guest that breaks the rules shall not fill a log. */
 enum { OUTCOMES = 16 };
 static unsigned long outcomes[OUTCOMES], broken;
 
 static nizwarf_server server = NIZWARF_NONE;
 static uint64_t protocol;
 
-static void fail(const char *what)
+/* What came of a message: GONE if the front end hung up, or is to be hung up on. */
+enum outcome { DONE, REPLIED, GONE };
+
+/* Ends, since something failed. */
+static _Noreturn void fail(const char *what)
 {
-	fprintf(stderr, "vhost: %s%s%s\n", what, errno ? ": " : "", errno ? strerror(errno) : "");
+	fprintf(stderr, "vhost: %s: %s\n", what, strerror(errno));
 	exit(1);
 }
 
-static void need(int fact, const char *what)
+/* Ends, since it was started wrongly, or can't be here. */
+static _Noreturn void refuse(int status, const char *what, const char *why)
 {
-	if (!fact) {
-		errno = 0;
-		fail(what);
-	}
+	fprintf(stderr, "vhost: %s: %s\n", what, why);
+	exit(status);
+}
+
+/* Tells why the front end is hung up on. */
+static enum outcome wrong(const char *what)
+{
+	fprintf(stderr, "vhost: the front end is hung up on: %s\n", what);
+	return GONE;
+}
+
+static enum outcome not_served(const struct message *m)
+{
+	fprintf(stderr, "vhost: the front end is hung up on: message %u of %u bytes is not served\n",
+		(unsigned)m->head.request, (unsigned)m->head.size);
+	return GONE;
 }
 
 /* Where these bytes of the guest are: in one region, or NULL. */
@@ -233,7 +262,7 @@ static void complete(struct queue *q, uint16_t head, uint32_t len)
 	__atomic_thread_fence(__ATOMIC_SEQ_CST);
 	if (__atomic_load_n(&q->available->flags, __ATOMIC_RELAXED) & VRING_AVAIL_F_NO_INTERRUPT)
 		return;
-	if (q->call >= 0 && write(q->call, &one, sizeof(one)) < 0)
+	if (q->call >= 0 && write(q->call, &one, sizeof(one)) < 0 && errno != EAGAIN)
 		perror("vhost: call");
 }
 
@@ -256,220 +285,369 @@ static void serve(struct queue *q)
 	}
 }
 
-/* Takes over the memory that the front end shares. */
-static void share_memory(struct message *m)
+/* Lets go of the memory that the front end shared. */
+static void unshare_memory(void)
 {
-	const uint32_t count = m->body.memory.count;
-	struct stat file;
-
-	for (size_t i = 0; i < regions; i++)
-		munmap(region[i].map, region[i].mapped);
-	regions = 0;
-	need(count <= REGIONS && (int)count == m->descriptors, "a wrong memory table");
-	for (uint32_t i = 0; i < count; i++) {
-		struct region *r = &region[i];
-		const uint64_t offset = m->body.memory.region[i].offset;
-
-		r->guest = m->body.memory.region[i].guest;
-		r->user = m->body.memory.region[i].user;
-		r->size = m->body.memory.region[i].size;
-		need(r->size <= SIZE_MAX - offset && r->guest <= UINT64_MAX - r->size &&
-		     r->user <= UINT64_MAX - r->size, "a wrong region");
-		need(!fstat(m->descriptor[i], &file) && file.st_size >= 0 &&
-		     (uint64_t)file.st_size >= r->size + offset, "a region without its memory");
-		r->mapped = r->size + offset;
-		r->map = mmap(NULL, r->mapped, PROT_READ | PROT_WRITE, MAP_SHARED, m->descriptor[i], 0);
-		if (r->map == MAP_FAILED)
-			fail("mmap");
-		r->at = r->map + offset;
-		regions = i + 1;
+	while (regions > 0) {
+		regions--;
+		munmap(region[regions].map, region[regions].mapped);
 	}
-	for (int i = 0; i < QUEUES; i++)
-		place(&queue[i]);
 }
 
-/* Takes the only descriptor of a message, or none. */
+/* Maps a region that the front end shares, which is the next one. */
+static enum outcome share_region(const struct message *m, uint32_t i)
+{
+	const uint64_t offset = m->body.memory.region[i].offset;
+	struct region *r = &region[i];
+	struct stat file;
+
+	r->guest = m->body.memory.region[i].guest;
+	r->user = m->body.memory.region[i].user;
+	r->size = m->body.memory.region[i].size;
+	if (r->size > SIZE_MAX - offset || r->guest > UINT64_MAX - r->size || r->user > UINT64_MAX - r->size)
+		return wrong("a region of memory that can't be");
+	if (fstat(m->descriptor[i], &file) || file.st_size < 0 || (uint64_t)file.st_size < r->size + offset)
+		return wrong("a region without its memory");
+	r->mapped = r->size + offset;
+	r->map = mmap(NULL, r->mapped, PROT_READ | PROT_WRITE, MAP_SHARED, m->descriptor[i], 0);
+	if (r->map == MAP_FAILED)
+		return wrong("a region that can't be mapped");
+	r->at = r->map + offset;
+	regions = i + 1;
+	return DONE;
+}
+
+/* Takes over the memory that the front end shares, in place of what it shared before. */
+static enum outcome share_memory(const struct message *m)
+{
+	const uint32_t count = m->body.memory.count;
+	enum outcome outcome = DONE;
+
+	unshare_memory();
+	if (count > REGIONS || (int)count != m->descriptors)
+		return wrong("a table of memory that can't be");
+	for (uint32_t i = 0; i < count && outcome == DONE; i++)
+		outcome = share_region(m, i);
+	for (size_t i = 0; i < queues; i++)
+		place(&queue[i]);
+	return outcome;
+}
+
+/* Takes the only descriptor of a message, or none. No read or write of it waits. */
 static void take_descriptor(struct message *m, int *to)
 {
 	if (*to >= 0)
 		close(*to);
 	*to = -1;
-	if (!(m->body.number & NO_DESCRIPTOR) && m->descriptors > 0)
+	if (!(m->body.number & NO_DESCRIPTOR) && m->descriptors > 0) {
 		*to = m->descriptor[--m->descriptors];
+		fcntl(*to, F_SETFL, O_NONBLOCK);
+	}
 }
 
-static void reply(int socket, uint32_t request, void *body, uint32_t size)
+static enum outcome reply(int client, uint32_t request, void *body, uint32_t size)
 {
 	uint32_t head[] = { request, VERSION | IS_REPLY, size };
 	struct iovec pieces[] = { { head, sizeof(head) }, { body, size } };
 	const struct msghdr said = { .msg_iov = pieces, .msg_iovlen = 2 };
 
-	if (sendmsg(socket, &said, MSG_NOSIGNAL) != (ssize_t)(sizeof(head) + size))
-		fail("a reply");
+	if (sendmsg(client, &said, MSG_NOSIGNAL) != (ssize_t)(sizeof(head) + size))
+		return wrong("it takes no reply");
+	return REPLIED;
 }
 
-static void reply_number(int socket, uint32_t request, uint64_t number)
+static enum outcome reply_number(int client, uint32_t request, uint64_t number)
 {
-	reply(socket, request, &number, sizeof(number));
+	return reply(client, request, &number, sizeof(number));
 }
 
-/* Receives a message with its descriptors. 0: the front end hung up. */
-static int receive(int socket, struct message *m)
+/* Receives a message with its descriptors, which are the caller's to close. */
+static enum outcome receive(int client, struct message *m)
 {
 	_Alignas(struct cmsghdr) char control[CMSG_SPACE(sizeof(m->descriptor))];
 	struct iovec head = { &m->head, sizeof(m->head) };
 	struct msghdr said = { .msg_iov = &head, .msg_iovlen = 1, .msg_control = control,
 			       .msg_controllen = sizeof(control) };
-	ssize_t got = recvmsg(socket, &said, MSG_CMSG_CLOEXEC | MSG_WAITALL);
+	ssize_t got = recvmsg(client, &said, MSG_CMSG_CLOEXEC | MSG_WAITALL);
 
-	if (got == 0 || (got < 0 && errno == ECONNRESET))
-		return 0;
-	need(got == sizeof(m->head) && !(said.msg_flags & MSG_CTRUNC), "a cut message");
 	m->descriptors = 0;
+	if (got == 0 || (got < 0 && errno == ECONNRESET))
+		return GONE;
+	if (got < 0)
+		return wrong(strerror(errno));
 	for (struct cmsghdr *c = CMSG_FIRSTHDR(&said); c; c = CMSG_NXTHDR(&said, c))
 		if (c->cmsg_level == SOL_SOCKET && c->cmsg_type == SCM_RIGHTS && !m->descriptors) {
 			m->descriptors = (int)((c->cmsg_len - CMSG_LEN(0)) / sizeof(int));
 			memcpy(m->descriptor, CMSG_DATA(c), (size_t)m->descriptors * sizeof(int));
 		}
+	if (got != sizeof(m->head) || said.msg_flags & MSG_CTRUNC)
+		return wrong("a message that is cut");
+	if ((m->head.flags & VERSION_MASK) != VERSION || m->head.size > sizeof(m->body))
+		return not_served(m);
 	memset(&m->body, 0, sizeof(m->body));
-	need((m->head.flags & VERSION_MASK) == VERSION && m->head.size <= sizeof(m->body), "a wrong message");
-	got = m->head.size ? recv(socket, &m->body, m->head.size, MSG_WAITALL) : 0;
-	need(got == (ssize_t)m->head.size, "a cut message");
-	return 1;
+	got = m->head.size ? recv(client, &m->body, m->head.size, MSG_WAITALL) : 0;
+	return got == (ssize_t)m->head.size ? DONE : wrong("a message that is cut");
 }
 
-/* The queue that a message names. */
+/* The queue of a number, which is NULL if there is none. */
 static struct queue *queue_of(uint64_t number)
 {
-	need(number < QUEUES, "a queue that is not there");
+	if (number >= QUEUES) {
+		wrong("a queue above those that GET_QUEUE_NUM told of");
+		return NULL;
+	}
+	if (number >= queues)
+		queues = number + 1;
 	return &queue[number];
 }
 
-/* Does what a message asks. Answers whether it replied. */
-static int obey(int socket, struct message *m)
+/* Does what a message of one queue asks. */
+static enum outcome obey_for(int client, struct message *m, struct queue *q)
 {
-	struct queue *q;
-
+	if (!q)
+		return GONE;
 	switch (m->head.request) {
-	case GET_FEATURES:
-		reply_number(socket, GET_FEATURES, VERSION_1 | PROTOCOL_FEATURES | INDIRECT_DESCRIPTORS);
-		return 1;
-	case SET_FEATURES:
-		for (int i = 0; i < QUEUES; i++)
-			queue[i].enabled |= !(m->body.number & PROTOCOL_FEATURES);
-		return 0;
-	case SET_OWNER:
-	case RESET_OWNER:
-		return 0;
-	case SET_MEM_TABLE:
-		share_memory(m);
-		return 0;
 	case SET_VRING_NUM:
-		need(m->body.state.number <= 32768 && !(m->body.state.number & (m->body.state.number - 1)),
-		     "a wrong size of a queue");
-		q = queue_of(m->body.state.queue);
+		if (m->body.state.number > 32768 || m->body.state.number & (m->body.state.number - 1))
+			return wrong("a size of a queue that can't be");
 		q->size = m->body.state.number;
 		place(q);
-		return 0;
+		return DONE;
 	case SET_VRING_ADDR:
-		q = queue_of(m->body.address.queue);
 		q->descriptors_user = m->body.address.descriptors;
 		q->available_user = m->body.address.available;
 		q->used_user = m->body.address.used;
 		place(q);
-		return 0;
+		return DONE;
 	case SET_VRING_BASE:
-		queue_of(m->body.state.queue)->next = (uint16_t)m->body.state.number;
-		return 0;
+		q->next = (uint16_t)m->body.state.number;
+		return DONE;
 	case GET_VRING_BASE:
 		/* It stops the queue, up to its next kick. */
-		q = queue_of(m->body.state.queue);
 		m->body.state.number = q->next;
-		reply(socket, GET_VRING_BASE, &m->body.state, sizeof(m->body.state));
+		if (reply(client, GET_VRING_BASE, &m->body.state, sizeof(m->body.state)) == GONE)
+			return GONE;
 		m->body.number = NO_DESCRIPTOR;
 		take_descriptor(m, &q->kick);
-		return 1;
+		return REPLIED;
 	case SET_VRING_KICK:
-		take_descriptor(m, &queue_of(m->body.number & 0xff)->kick);
-		return 0;
+		take_descriptor(m, &q->kick);
+		return DONE;
 	case SET_VRING_CALL:
-		take_descriptor(m, &queue_of(m->body.number & 0xff)->call);
-		return 0;
-	case SET_VRING_ERR:
-		return 0;
-	case GET_PROTOCOL_FEATURES:
-		reply_number(socket, GET_PROTOCOL_FEATURES, MANY_QUEUES | REPLY_ACK);
-		return 1;
-	case SET_PROTOCOL_FEATURES:
-		protocol = m->body.number;
-		return 0;
-	case GET_QUEUE_NUM:
-		reply_number(socket, GET_QUEUE_NUM, QUEUES);
-		return 1;
-	case SET_VRING_ENABLE:
-		queue_of(m->body.state.queue)->enabled = m->body.state.number == 1;
-		return 0;
-	default:
-		fail("a message that is not served");
-		return 0;
+		take_descriptor(m, &q->call);
+		return DONE;
+	default: /* SET_VRING_ENABLE */
+		q->enabled = m->body.state.number == 1;
+		return DONE;
 	}
 }
 
-/* Waits for a front end on a new socket of this path. */
-static int meet(const char *path)
+/* Does what a message asks. */
+static enum outcome obey(int client, struct message *m)
+{
+	switch (m->head.request) {
+	case GET_FEATURES:
+		return reply_number(client, GET_FEATURES, VERSION_1 | PROTOCOL_FEATURES | INDIRECT_DESCRIPTORS);
+	case SET_FEATURES:
+		for (int i = 0; i < QUEUES; i++)
+			queue[i].enabled |= !(m->body.number & PROTOCOL_FEATURES);
+		return DONE;
+	case SET_OWNER:
+	case RESET_OWNER:
+	case SET_VRING_ERR:
+		return DONE;
+	case SET_MEM_TABLE:
+		return share_memory(m);
+	case SET_VRING_KICK:
+	case SET_VRING_CALL:
+		return obey_for(client, m, queue_of(m->body.number & 0xff));
+	case SET_VRING_NUM:
+	case SET_VRING_ADDR:
+	case SET_VRING_BASE:
+	case GET_VRING_BASE:
+	case SET_VRING_ENABLE:
+		return obey_for(client, m, queue_of(m->body.state.queue));
+	case GET_PROTOCOL_FEATURES:
+		return reply_number(client, GET_PROTOCOL_FEATURES, MANY_QUEUES | REPLY_ACK);
+	case SET_PROTOCOL_FEATURES:
+		protocol = m->body.number;
+		return DONE;
+	case GET_QUEUE_NUM:
+		return reply_number(client, GET_QUEUE_NUM, QUEUES);
+	default:
+		return not_served(m);
+	}
+}
+
+/* Takes one message, if the front end has not hung up, and does what it asks. */
+static enum outcome serve_message(int client)
+{
+	struct message m;
+	enum outcome outcome = receive(client, &m);
+
+	if (outcome == DONE)
+		outcome = obey(client, &m);
+	if (outcome == DONE && m.head.flags & WANTS_REPLY && protocol & REPLY_ACK)
+		outcome = reply_number(client, m.head.request, 0);
+	while (m.descriptors > 0)
+		close(m.descriptor[--m.descriptors]);
+	return outcome;
+}
+
+/* Takes the kicks of a queue. What is no event can't be waited for, and is let go of. */
+static void take_kick(struct queue *q)
+{
+	uint64_t kicks;
+	const ssize_t got = read(q->kick, &kicks, sizeof(kicks));
+
+	if (got == sizeof(kicks) || (got < 0 && (errno == EAGAIN || errno == EINTR)))
+		return;
+	fprintf(stderr, "vhost: a queue's kick is no event\n");
+	close(q->kick);
+	q->kick = -1;
+}
+
+/* Serves a front end until it hangs up or is hung up on. Answers whether a signal came. */
+static int serve_client(int client, int signals)
+{
+	for (;;) {
+		struct pollfd wait[2 + QUEUES] = { { signals, POLLIN, 0 }, { client, POLLIN, 0 } };
+
+		for (size_t i = 0; i < queues; i++)
+			wait[2 + i] = (struct pollfd) { queue[i].kick, POLLIN, 0 };
+		if (poll(wait, 2 + queues, -1) < 0)
+			fail("poll");
+		if (wait[0].revents)
+			return 1;
+		for (size_t i = 0; i < queues; i++)
+			if (wait[2 + i].revents)
+				take_kick(&queue[i]);
+		if (wait[1].revents && serve_message(client) == GONE)
+			return 0;
+		for (size_t i = 0; i < queues; i++)
+			serve(&queue[i]);
+	}
+}
+
+/* Lets go of all that a front end left, and tells what came of its requests. */
+static void part_from_client(int client)
+{
+	for (int i = 0; i < QUEUES; i++) {
+		if (queue[i].kick >= 0)
+			close(queue[i].kick);
+		if (queue[i].call >= 0)
+			close(queue[i].call);
+		queue[i] = (struct queue) { .kick = -1, .call = -1 };
+	}
+	queues = 0;
+	protocol = 0;
+	unshare_memory();
+	close(client);
+	for (int i = 0; i < OUTCOMES; i++) {
+		if (outcomes[i])
+			fprintf(stderr, "vhost: outcome %d: %lu requests\n", i, outcomes[i]);
+		outcomes[i] = 0;
+	}
+	if (broken)
+		fprintf(stderr, "vhost: no chain: %lu\n", broken);
+	broken = 0;
+}
+
+/* Listens on a socket of this path. One that was left there, and on which nobody listens, is replaced. */
+static int listen_at(const char *path)
 {
 	struct sockaddr_un address = { .sun_family = AF_UNIX };
-	const int listener = socket(AF_UNIX, SOCK_STREAM | SOCK_CLOEXEC, 0);
-	int socket;
+	const int probe = socket(AF_UNIX, SOCK_STREAM | SOCK_CLOEXEC | SOCK_NONBLOCK, 0);
+	const int listener = socket(AF_UNIX, SOCK_STREAM | SOCK_CLOEXEC | SOCK_NONBLOCK, 0);
+	struct stat there;
 
-	need(strlen(path) < sizeof(address.sun_path), "the socket's path is too long");
-	strcpy(address.sun_path, path);
-	if (listener < 0 || bind(listener, (struct sockaddr *)&address, sizeof(address)) || listen(listener, 1))
+	if (strlen(path) >= sizeof(address.sun_path))
+		refuse(2, path, "the path of a socket is not as long");
+	memcpy(address.sun_path, path, strlen(path) + 1);
+	if (probe < 0 || listener < 0)
+		fail("socket");
+	if (!lstat(path, &there)) {
+		if (!S_ISSOCK(there.st_mode))
+			refuse(2, path, "it is there, and is no socket");
+		/* EAGAIN: so many wait there already. */
+		if (!connect(probe, (struct sockaddr *)&address, sizeof(address)) || errno == EAGAIN)
+			refuse(1, path, "somebody listens on it");
+		if (errno != ECONNREFUSED || unlink(path))
+			fail(path);
+	}
+	close(probe);
+	if (bind(listener, (struct sockaddr *)&address, sizeof(address)) || listen(listener, 1))
 		fail(path);
-	socket = accept4(listener, NULL, NULL, SOCK_CLOEXEC);
-	if (socket < 0)
-		fail(path);
-	close(listener);
-	unlink(path);
-	return socket;
+	return listener;
+}
+
+/* Waits for a front end. -1: a signal came. */
+static int meet(int listener, int signals)
+{
+	/* A message that comes in part is not waited for longer. */
+	const struct timeval most = { .tv_sec = 10 };
+
+	for (;;) {
+		struct pollfd wait[] = { { signals, POLLIN, 0 }, { listener, POLLIN, 0 } };
+		int client;
+
+		if (poll(wait, 2, -1) < 0)
+			fail("poll");
+		if (wait[0].revents)
+			return -1;
+		client = accept4(listener, NULL, NULL, SOCK_CLOEXEC);
+		if (client >= 0 && !setsockopt(client, SOL_SOCKET, SO_RCVTIMEO, &most, sizeof(most)) &&
+		    !setsockopt(client, SOL_SOCKET, SO_SNDTIMEO, &most, sizeof(most)))
+			return client;
+		if (client >= 0 || (errno != EAGAIN && errno != ECONNABORTED))
+			fail("accept");
+	}
+}
+
+/* A new server over new files. */
+static void start(void)
+{
+	nizwarf_settings settings = NIZWARF_SETTINGS;
+	struct timespec now;
+
+	clock_gettime(CLOCK_REALTIME, &now);
+	settings.seconds = (uint64_t)now.tv_sec;
+	settings.nanoseconds = (uint32_t)now.tv_nsec;
+	if (nizwarf_new(&server, (uint32_t)sysconf(_SC_PAGESIZE), PAYLOAD, &settings) != NIZWARF_OK)
+		refuse(1, "the library", "there is no server");
 }
 
 int main(int count, char **words)
 {
-	struct message m;
-	uint64_t kicks;
-	int socket;
+	sigset_t ending;
+	int client = 0, ended = 0;
 
-	need(count == 2, "Usage: vhost SOCKET");
-	need(nizwarf_new(&server, (uint32_t)sysconf(_SC_PAGESIZE), PAYLOAD, NULL) == NIZWARF_OK, "no server");
+	if (count == 2 && (!strcmp(words[1], "--help") || !strcmp(words[1], "-h"))) {
+		puts("Usage: vhost SOCKET\n"
+		     "Serves the file system on a new socket of this path as a vhost-user device of virtio-fs,\n"
+		     "to one front end, as QEMU, after another, until SIGINT or SIGTERM.");
+		return 0;
+	}
+	if (count != 2 || words[1][0] == '-')
+		refuse(2, "one word is wanted", "the path of a socket");
+	sigemptyset(&ending);
+	sigaddset(&ending, SIGINT);
+	sigaddset(&ending, SIGTERM);
+	sigprocmask(SIG_BLOCK, &ending, NULL);
+	signal(SIGPIPE, SIG_IGN);
+
+	const int signals = signalfd(-1, &ending, SFD_CLOEXEC);
+	const int listener = listen_at(words[1]);
+
+	if (signals < 0)
+		fail("signalfd");
+	start();
 	for (int i = 0; i < QUEUES; i++)
 		queue[i].kick = queue[i].call = -1;
-	socket = meet(words[1]);
-	for (;;) {
-		struct pollfd wait[1 + QUEUES] = { { socket, POLLIN, 0 } };
-
-		for (int i = 0; i < QUEUES; i++)
-			wait[1 + i] = (struct pollfd) { queue[i].kick, POLLIN, 0 };
-		if (poll(wait, 1 + QUEUES, -1) < 0)
-			fail("poll");
-		for (int i = 0; i < QUEUES; i++)
-			if (wait[1 + i].revents && read(queue[i].kick, &kicks, sizeof(kicks)) < 0)
-				perror("vhost: kick");
-		if (wait[0].revents) {
-			if (!receive(socket, &m))
-				break;
-			if (!obey(socket, &m) && m.head.flags & WANTS_REPLY && protocol & REPLY_ACK)
-				reply_number(socket, m.head.request, 0);
-			while (m.descriptors > 0)
-				close(m.descriptor[--m.descriptors]);
-		}
-		for (int i = 0; i < QUEUES; i++)
-			serve(&queue[i]);
+	while (!ended && (client = meet(listener, signals)) >= 0) {
+		ended = serve_client(client, signals);
+		part_from_client(client);
 	}
-	for (int i = 0; i < OUTCOMES; i++)
-		if (outcomes[i])
-			fprintf(stderr, "vhost: outcome %d: %lu requests\n", i, outcomes[i]);
-	if (broken)
-		fprintf(stderr, "vhost: no chain: %lu\n", broken);
+	unlink(words[1]);
 	return nizwarf_end(&server) != NIZWARF_OK;
 }
