@@ -1,6 +1,7 @@
 #!/usr/bin/env bash
-# Boots a virtual machine that mounts the file system in memory over virtio-fs, does there what a person
-# does, unmounts it and powers off.
+# Boots a virtual machine that mounts the file system in memory over virtio-fs and does there what a person
+# does. It unmounts it, mounts it again and removes all, as it does after a reboot: then nothing may be in use
+# but the root. It powers off when it has done all that a person does once more.
 #
 # Usage: tools/guest.sh [KERNEL-PACKAGE[/SUITE]]
 # The kernel is Debian's package linux-image-cloud-amd64, or that of the argument; of another suite of
@@ -67,7 +68,9 @@ fi
 
 # What the guest has for its files: busybox, the modules that the kernel needs, the session.
 root=$work/root
-mkdir -p "$root"/{bin,dev,mnt,modules,proc,tmp}
+mkdir -p "$root"/{bin,dev,etc,mnt,modules,proc,tmp}
+printf '%s\n' root:x:0:0::/:/bin/sh nobody:x:65534:65534::/:/bin/sh > "$root/etc/passwd"
+printf '%s\n' root:x:0: nogroup:x:65534: > "$root/etc/group"
 cp "$busybox" "$root/bin/"
 cp "$here/tools/session.sh" "$root/"
 modules='virtio_ring virtio virtio_pci_modern_dev virtio_pci_legacy_dev virtio_pci fuse virtiofs'
@@ -89,18 +92,63 @@ for module in $modules; do
     [ ! -e /modules/\$module.ko ] || insmod /modules/\$module.ko
 done
 echo "Linux \$(uname -r)"
-mount -t virtiofs nizwarf /mnt && sh /session.sh /mnt
-# It forgets what it has of a file, and asks for it anew.
-echo again > /mnt/a
-echo 3 > /proc/sys/vm/drop_caches
-[ "\$(cat /mnt/a)" = again ] && umount /mnt && echo 'The guest unmounted it.'
+
+# Nodes and KiB in use.
+used() {
+    echo \$(df -i /mnt | awk 'END { print \$3 }') \$(df -k /mnt | awk 'END { print \$3 }')
+}
+
+# The same is in use as when the files were made. The kernel forgets a while after it removed.
+is_empty() {
+    for i in 1 2 3 4 5; do
+        [ "\$(used)" != "\$made" ] || break
+        sleep 1
+    done
+    if [ "\$(used)" = "\$made" ]; then
+        echo "  ok     \$1"
+    else
+        echo "  WRONG  \$1"
+        echo "         wanted: \$made nodes and KiB in use"
+        echo "         came:   \$(used)"
+    fi
+}
+
+# Files of which the kernel then knows all.
+fill() {
+    mkdir -p /mnt/one/two && head -c 100000 /dev/zero > /mnt/one/two/three && ls -lR /mnt > /tmp/list
+}
+
+mount -t virtiofs nizwarf /mnt || poweroff -f
+if [ ! -e /mnt/made ]; then
+    made=\$(used)
+    [ "\${made% *}" = 1 ] || echo "WRONG: \$made nodes and KiB are in use at first"
+    sh /session.sh /mnt
+    is_empty 'nothing is in use after it'
+    # It forgets what it has of a file, and asks for it anew.
+    echo again > /mnt/a
+    echo 3 > /proc/sys/vm/drop_caches
+    [ "\$(cat /mnt/a)" = again ] && rm /mnt/a || echo 'WRONG: a file is another one'
+    fill
+    umount /mnt && mount -t virtiofs nizwarf /mnt && rm -r /mnt/one
+    is_empty 'nothing is in use after it was unmounted, mounted and emptied'
+    fill
+    echo "\$made" > /mnt/made
+    sync
+    echo 'The guest reboots.'
+    reboot -f
+fi
+made=\$(cat /mnt/made)
+rm -r /mnt/made /mnt/one
+is_empty 'nothing is in use after a reboot, once it was emptied'
+sh /session.sh /mnt
+umount /mnt && echo 'The guest unmounted it.'
 poweroff -f
 INIT
 chmod +x "$root/init"
 (cd "$root" && find . | "$busybox" cpio -o -H newc 2> /dev/null) > "$work/files"
 
 # Behind the script, so that a signal ends it at once, and them with it.
-timeout 180 "$transport" "$work/socket" &
+timeout 600 "$transport" "$work/socket" &
 transport_id=$!
 started+=("$transport_id")
 for _ in $(seq 100); do
@@ -109,12 +157,12 @@ for _ in $(seq 100); do
 done
 began=$SECONDS
 : > "$work/console"
-timeout -k 5 170 qemu-system-x86_64 -nodefaults -no-user-config -display none -no-reboot \
+timeout -k 5 590 qemu-system-x86_64 -nodefaults -no-user-config -display none \
     -machine q35,accel=tcg -cpu max -smp 1 -m 256 \
     -object memory-backend-memfd,id=memory,size=256M,share=on -numa node,memdev=memory \
-    -kernel "$kernel"/boot/vmlinuz-* -initrd "$work/files" -append 'console=ttyS0 quiet loglevel=3 panic=-1' \
+    -kernel "$kernel"/boot/vmlinuz-* -initrd "$work/files" -append 'console=ttyS0 quiet loglevel=3 panic=0' \
     -serial "file:$work/console" -chardev "socket,id=socket,path=$work/socket" \
-    -device vhost-user-fs-pci,queue-size=1024,chardev=socket,tag=nizwarf < /dev/null &
+    -device vhost-user-fs-pci,queue-size=1024,num-request-queues=2,chardev=socket,tag=nizwarf < /dev/null &
 guest_id=$!
 started+=("$guest_id")
 tail -n +1 -f -s 0.2 --pid "$guest_id" "$work/console" &
@@ -130,5 +178,6 @@ started=()
 echo "$((SECONDS - began)) s"
 [ "$status" = 0 ] || { echo "FAILED: QEMU or the transport ended with $status." >&2 && exit 1; }
 tr -d '\r' < "$work/console" > "$work/said"
-grep -q ' steps, 0 wrong$' "$work/said" || { echo "FAILED: the session." >&2 && exit 1; }
+[ "$(grep -c ' steps, 0 wrong$' "$work/said")" = 2 ] || { echo "FAILED: the session." >&2 && exit 1; }
+! grep -q WRONG "$work/said" || { echo "FAILED: something is in use that is gone." >&2 && exit 1; }
 grep -q '^The guest unmounted it' "$work/said" || { echo "FAILED: it was not unmounted." >&2 && exit 1; }

@@ -3,9 +3,11 @@
 #
 # Usage: tools/session.sh FOLDER
 # FOLDER is a mount that nothing was done with. tools/mount.sh runs it, and tools/guest.sh in the guest,
-# by busybox. What must come is written by hand, from what POSIX says. Where git is there, a repository is
-# cloned into it too. Status 0: each step came to that.
-# shellcheck disable=SC2016
+# by busybox. What must come is written by hand, from what POSIX says, and of what that leaves open from what
+# Linux does on a tmpfs. Two are this file system's own: access control lists are refused, and names take
+# bytes. If git is there, a repository is cloned into it too. What the machine has no command for is skipped,
+# and so is what another user does if root alone may use the mount. Status 0: each step came to what it must.
+# shellcheck disable=SC2016,SC2034
 case ${1:-} in
     -h | --help)
         sed -n '2,${/^#/!q;s/^# \{0,1\}//p}' "$0"
@@ -50,13 +52,41 @@ fails() {
     fi
 }
 
+# skipped WHY: tells what is not tried.
+skipped() {
+    printf '  --     skipped: %s\n' "$1"
+}
+
+# Bytes and nodes in use, as `df` shows them.
+used() {
+    stat -f -c '%b %f %S %c %d' . | {
+        read -r blocks free size nodes left
+        echo $(((blocks - free) * size)) $((nodes - left))
+    }
+}
+
+# Who may not write what root has: sets `other_user` to the words that run a shell's line as such a one.
+find_other_user() {
+    if setpriv --reuid 65534 --regid 65534 --clear-groups true 2> /dev/null; then
+        other_user='setpriv --reuid 65534 --regid 65534 --clear-groups sh -c'
+    elif chroot --userspec=65534:65534 / true 2> /dev/null; then
+        other_user="chroot --userspec=65534:65534 / sh -c"
+    elif su nobody -s /bin/sh -c true 2> /dev/null; then
+        other_user='su nobody -s /bin/sh -c'
+    else
+        return 1
+    fi
+}
+
 cd "$1" || exit 2
+here=$(pwd -P)
 other=$(mktemp -d)
 trap 'rm -rf "$other"' EXIT
 
 # An empty directory, and files in it: written, written to their end, written over.
 works '' 'ls'
 works 'drwxr-xr-x 2' 'stat -c "%A %h" .'
+works 'today' 'for t in $(stat -c "%X %Y %Z" .); do [ $(($(date +%s) - t)) -lt 86400 ] || exit 1; done; echo today'
 works '' 'umask 022; echo hello > a'
 works '-rw-r--r-- 6 1' 'stat -c "%A %s %h" a'
 works 'hello' 'cat a'
@@ -76,6 +106,30 @@ works '-rw------- 7 8' 'chmod 600 a && chown 7:8 a && stat -c "%A %u %g" a'
 works '1577836800 946684800' 'touch -m -d "2020-01-01 00:00:00" a && touch -a -d "2000-01-01 00:00:00" a && TZ=UTC stat -c "%Y %X" a'
 works 'now' 'touch a; d=$(( $(date +%s) - $(stat -c %Y a) )); [ "$d" -ge -1 ] && [ "$d" -le 5 ] && echo now'
 
+# Modes are kept by what copies them: what may not be set is refused, and then the bits are.
+works '644 644' 'cd "$other" && echo p > p && chmod 644 p && cd "$here" && cp -p "$other/p" p && cp -a "$other/p" q &&
+    echo $(stat -c %a p q) && rm p q'
+acl=0x0200000001000600ffffffff04000400ffffffff20000400ffffffff
+if command -v setfattr > /dev/null; then
+    fails 'Operation not supported' "setfattr -n system.posix_acl_access -v $acl a"
+elif command -v python3 > /dev/null; then
+    fails 'Operation not supported' "python3 -c 'import os
+os.setxattr(\"a\", \"system.posix_acl_access\", int(\"$acl\", 16).to_bytes(28, \"big\"))'"
+else
+    skipped 'an access control list, without setfattr and python3'
+fi
+
+# Who truncates a file of another user takes the set-user-ID bit from it.
+if ! grep -qE " $here (virtiofs|fuse.* [^ ]*allow_other)" /proc/mounts; then
+    skipped 'another user, who may not use this mount'
+elif ! find_other_user; then
+    skipped 'another user, without setpriv, chroot --userspec and su'
+else
+    works '-rwxrwxrwx 0' 'echo u > u && chmod 4777 u && $other_user ": > $here/u" && stat -c "%A %s" u && rm u'
+    fails 'Permission denied' 'echo u > u && chmod 644 u && $other_user "echo v > $here/u"'
+    works '' 'rm u'
+fi
+
 # Directories.
 works '' 'mkdir d d/e && echo in > d/f'
 works '3' 'stat -c %h d'
@@ -86,6 +140,13 @@ fails 'Not a directory' 'ls a/x'
 fails 'No such file or directory' 'cat d/x'
 fails 'File name too long' 'cat $(printf "%0256d" 0)'
 works '0' 'cat $(printf "%0255d" 0) 2> /dev/null; echo $(( $? - 1 ))'
+
+# What is made in a set-group-ID directory is of its group, and a directory is one itself.
+works '' 'umask 022; mkdir g && chown 7:8 g && chmod 2755 g'
+works '0 8 -rw-r--r--
+0 8 drwxr-sr-x
+0 8 lrwxrwxrwx' 'umask 022; echo f > g/f; mkdir g/d && ln -s f g/l && stat -c "%u %g %A" g/f g/d g/l'
+works '0 8 drwxr-sr-x' 'umask 022; mkdir g/d/d && stat -c "%u %g %A" g/d/d && rm -r g'
 
 # Names: moved, replaced, a second one, a symbolic link.
 works '' 'mv d/f g && mv g d/e/h'
@@ -119,6 +180,33 @@ works '500' 'ls many | wc -l'
 works '150' 'cat many/n150'
 works './d/e/h' 'find . -name h'
 works '' 'rm -r many'
+
+# A directory in which names are made while it is read: the reading ends.
+works '' 'mkdir loop && for i in $(seq 300); do echo $i > loop/n$i || exit 1; done'
+works '300' 'for i in loop/*; do mv $i loop/x${i#loop/} || exit 1; done; ls loop | wc -l'
+works '300' 'timeout 60 find loop -type f -exec mv {} {}x \; && ls loop | wc -l'
+if command -v python3 > /dev/null; then
+    works '300' 'timeout 60 python3 -c "import os
+for e in os.scandir(\"loop\"):
+    os.rename(e.path, \"loop/y\" + e.name)" && ls loop | wc -l'
+else
+    skipped 'a directory that is read name by name, without python3'
+fi
+works '' 'rm -r loop'
+
+# Names take bytes too.
+if command -v python3 > /dev/null; then
+    before=$(used)
+    works 'more' 'mkdir links && python3 -c "import os
+for i in range(100000):
+    i % 50000 or open(\"links/%d\" % i, \"w\").close()
+    i % 50000 and os.link(\"links/%d\" % (i - i % 50000), \"links/%d\" % i)" &&
+    after=$(used) && [ ${after% *} -gt ${before% *} ] && echo more'
+    works '100000 50000' 'echo $(ls links | wc -l) $(stat -c %h links/0)'
+    works 'as before' 'rm -r links && sleep 1 && [ "$(used)" = "$before" ] && echo as before'
+else
+    skipped 'a hundred thousand names, without python3'
+fi
 
 # A repository, where there is git.
 if command -v git > /dev/null; then
