@@ -1,11 +1,17 @@
 #!/usr/bin/env bash
-# Mounts the file system in memory on a folder, over /dev/fuse, and serves it until it is unmounted.
+# Mounts a file system on a folder, over /dev/fuse, and serves it until it is unmounted: the tree in memory, or
+# what another library for C has.
 #
-# Usage: tools/mount.sh FOLDER
+# Usage: tools/mount.sh [--library NAME] [-o OPTIONS] FOLDER
 #        tools/mount.sh --check
-# `umount FOLDER` or Ctrl-C unmounts it, and what was written there is gone. With --check it is mounted on
-# a folder of its own: tools/session.sh does there what a person does, and it is unmounted; then it is
-# mounted again, and ends by a signal.
+# `umount FOLDER` or Ctrl-C unmounts it, and what was written there is gone. The library is crates/NAME, which
+# tools/new-library.sh makes; vfs_c where none is named. Options are those of other file systems, with commas
+# between them: allow_other, ro, rw, noexec, nosuid, nodev, fsname=NAME, max_read=BYTES, and for the tree in
+# memory size=BYTES, nr_inodes=N (k, m, g), mode=OCTAL, uid=N, gid=N.
+#
+# With --check it is mounted on a folder of its own: tools/session.sh does there what a person does, memory
+# goes back that was written and cut, and it is unmounted; then it is mounted again, with other options, and
+# ends by a signal.
 #
 # It wants root, /dev/fuse, a C compiler and the Rattle toolchain. It links the proved library where that
 # is built and no source is newer; otherwise tools/unproved.sh builds it without a proof, which takes a
@@ -16,9 +22,37 @@ set -euo pipefail
 . "$(dirname "$0")/usage.sh"
 . "$(dirname "$0")/transport.sh"
 
-if [ $# != 1 ]; then
-    echo "Usage: tools/mount.sh FOLDER, or tools/mount.sh --check" >&2
+# Stops, since the words can't be.
+usage() {
+    [ $# = 0 ] || echo "$1" >&2
+    echo "Usage: tools/mount.sh [--library NAME] [-o OPTIONS] FOLDER, or tools/mount.sh --check" >&2
     exit 2
+}
+
+name=vfs_c
+options=()
+check=
+while [[ ${1:-} == -* ]]; do
+    case $1 in
+        --library)
+            [[ ${2:-} =~ ^[a-z][a-z0-9_]*$ ]] || usage "--library wants the name of a crate."
+            name=$2
+            shift
+            ;;
+        -o)
+            [ $# -ge 2 ] || usage "-o wants options."
+            options+=(-o "$2")
+            shift
+            ;;
+        --check) check=yes ;;
+        *) usage "There is no word $1." ;;
+    esac
+    shift
+done
+if [ -n "$check" ]; then
+    [ "$# ${#options[@]} $name" = "0 0 vfs_c" ] || usage "--check stands alone."
+elif [ $# != 1 ]; then
+    usage
 fi
 if [ "$(id -u)" != 0 ]; then
     echo "Only root may mount: run it as root." >&2
@@ -28,15 +62,15 @@ if [ ! -e /dev/fuse ]; then
     echo "Missing: /dev/fuse. \`modprobe fuse\` makes it where the kernel has the module." >&2
     exit 2
 fi
-if [ "$1" != --check ]; then
+if [ -z "$check" ]; then
     if [ ! -d "$1" ]; then
         echo "$1 is no folder." >&2
         exit 2
     fi
     folder=$(realpath "$1")
-    build_transport mount
+    build_transport mount "$name"
     echo "Mounting on $folder; \`umount $folder\` or Ctrl-C ends it." >&2
-    exec "$transport" "$folder"
+    exec "$transport" "${options[@]}" "$folder"
 fi
 
 need mountpoint "Install util-linux."
@@ -44,9 +78,9 @@ build_transport mount
 folder=$(mktemp -d)
 trap '{ umount -l "$folder"; rmdir "$folder"; } 2> /dev/null || true' EXIT
 
-# Starts to serve, a minute at most, and waits until it is mounted.
+# Starts to serve, with options behind it, five minutes at most, and waits until it is mounted.
 start() {
-    timeout 60 "$transport" "$folder" &
+    timeout 300 "$transport" "$@" "$folder" &
     server=$!
     for _ in $(seq 100); do
         ! mountpoint -q "$folder" || return 0
@@ -66,12 +100,45 @@ ended() {
     echo "$1: the server ended, and nothing is mounted."
 }
 
-start
+# How much memory the server has, in KiB. It is the child of `timeout`.
+memory() {
+    local own
+    own=$(grep -ls "^PPid:[[:space:]]*$server\$" /proc/[0-9]*/status | sed -n 1p)
+    sed -nE 's/^VmRSS:[[:space:]]*([0-9]+) kB$/\1/p' "$own"
+}
+
+# What a file took goes back when it is cut: 300 MiB, six times, and the files stay.
+cut_files() {
+    local kib i
+    for i in $(seq 6); do
+        dd if=/dev/zero of="$folder/cut$i" bs=1M count=300 status=none
+        : > "$folder/cut$i"
+    done
+    kib=$(memory)
+    rm "$folder"/cut?
+    if [ "$kib" -ge $((400 * 1024)) ]; then
+        echo "FAILED: the server has $kib KiB after files of 300 MiB were cut." >&2
+        return 1
+    fi
+    echo "Six files of 300 MiB were cut, and the server has $kib KiB."
+}
+
+start -o allow_other
 status=0
 "$here/tools/session.sh" "$folder" || status=1
+cut_files || status=1
 umount "$folder"
 ended "Unmounted"
-start
+start -o ro,size=1m,nr_inodes=10,mode=711,uid=7,gid=8,fsname=check
+shown="$(df -T "$folder" | awk 'END { print $1, $2, $3 }') $(df -i "$folder" | awk 'END { print $2 }')"
+[ "$shown $(stat -c '%A %u %g' "$folder")" = "check fuse.nizwarf 1024 10 drwx--x--x 7 8" ] || {
+    echo "FAILED: the options came to $shown $(stat -c '%A %u %g' "$folder")" >&2
+    status=1
+}
+if (: > "$folder/a") 2> /dev/null; then
+    echo "FAILED: what is only read was written." >&2
+    status=1
+fi
 kill -INT "$server"
 ended "Ended by a signal"
 exit "$status"

@@ -4,19 +4,22 @@
 # in it then.
 #
 # Usage: tools/new-library.sh NAME
-# NAME is lowercase letters, digits and _. It writes crates/NAME, and a line of crates.txt.
+# NAME is lowercase letters, digits and _. It writes crates/NAME, a line of crates.txt, and tools/unproved/NAME,
+# by which `tools/mount.sh --library NAME FOLDER` builds and mounts it without a proof.
 set -euo pipefail
 . "$(dirname "$0")/usage.sh"
 cd "$(dirname "$0")/.."
 
 name=${1:-}
-if ! [[ $# = 1 && $name =~ ^[a-z][a-z0-9_]*$ ]] || [ -e "crates/$name" ]; then
+if ! [[ $# = 1 && $name =~ ^[a-z][a-z0-9_]*$ ]] || [ -e "crates/$name" ] || [ -e "tools/unproved/$name" ]; then
     echo "Usage: tools/new-library.sh NAME, where there is no crates/NAME yet." >&2
     exit 2
 fi
-mkdir "crates/$name"
+mkdir "crates/$name" "tools/unproved/$name"
 cp -R crates/vfs_c/{src,specs,proofs,must-fail} "crates/$name/"
+cp tools/unproved/vfs_c/* "tools/unproved/$name/"
 grep -rl vfs_c "crates/$name" | xargs sed -i "s/\bvfs_c\b/$name/g"
 sed -i "/^vfs_c staticlib:/{p;s/^vfs_c/$name/}" crates.txt
 echo "Now change crates/$name/src/files.rt and crates/$name/specs/Files.antt, and in crates.txt, on the"
-echo "line of $name, vfs_tree to the crate of your file system."
+echo "line of $name, vfs_tree to the crate of your file system. Then mount it:"
+echo "    tools/mount.sh --library $name FOLDER"

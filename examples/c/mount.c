@@ -54,7 +54,7 @@ static const char *name = "nizwarf", *allow_other = "";
 /* Ends, since a word or an option can't be. */
 static _Noreturn void refuse_words(const char *why, const char *word)
 {
-	fprintf(stderr, "mount: %s%s\n`mount --help` says more.\n", why, word);
+	fprintf(stderr, "mount: %s%s\n%s", why, word, usage);
 	exit(2);
 }
 
@@ -132,7 +132,7 @@ static const char *take_words(int count, char **words)
 			exit(0);
 		}
 		if (word != 'o')
-			refuse_words("these words can't be", "");
+			refuse_words("there is no such word", "");
 		for (rest = optarg; (option = strsep(&rest, ","));) {
 			const char *key = strsep(&option, "=");
 
