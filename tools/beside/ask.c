@@ -1,14 +1,16 @@
 /* Asks a vhost-user daemon of virtio-fs, as the kernel of a guest does, but with requests that it is told.
  *
  * Usage: ask SOCKET [TIMES] < LINES
- * A line is that of the programs here, ROOMS SEGMENTS: lengths joined by `+`, and hexadecimal digits joined
- * by `+`. Each segment and each room gets a descriptor of its own. For each line it prints
+ * It waits up to ten seconds for a daemon that listens there. A line is that of the programs here, ROOMS
+ * SEGMENTS: lengths joined by `+`, and hexadecimal digits joined by `+`. Each segment and each room gets a
+ * descriptor of its own. For each line it prints
  *   LENGTH HEX        what the daemon completed it with: a length, and so many bytes of the room
  *   .. behind HEX     the same, where other bytes of the room were written: the whole room
  *   none              not completed within two seconds; no line is asked after that
  *   hung up           the daemon closed the socket; nor after that
  * With TIMES it asks the last line so often again, and prints the microseconds of a round trip. */
 #define _GNU_SOURCE
+#include <errno.h>
 #include <linux/virtio_ring.h>
 #include <poll.h>
 #include <stdint.h>
@@ -82,17 +84,27 @@ static uint64_t ask_number(uint32_t request)
 	return number;
 }
 
-/* Connects, shares the memory and starts both queues. */
-static void begin(const char *path)
+/* Connects as soon as the daemon listens. The name of its socket may be there before that. */
+static void meet(const char *path)
 {
+	const struct timespec pause = { 0, 10000000 };
 	struct sockaddr_un address = { .sun_family = AF_UNIX };
-	const int file = memfd_create("memory", MFD_CLOEXEC);
-	const uint64_t wanted = 1ull << 32 | 1ull << 30;
 
 	need(strlen(path) < sizeof(address.sun_path), path);
 	strcpy(address.sun_path, path);
 	connection = socket(AF_UNIX, SOCK_STREAM | SOCK_CLOEXEC, 0);
-	need(!connect(connection, (struct sockaddr *)&address, sizeof(address)), path);
+	for (int tries = 0; connect(connection, (struct sockaddr *)&address, sizeof(address)); tries++) {
+		need(tries < 1000 && (errno == ENOENT || errno == ECONNREFUSED), path);
+		nanosleep(&pause, NULL);
+	}
+}
+
+/* Shares the memory and starts both queues. */
+static void begin(void)
+{
+	const int file = memfd_create("memory", MFD_CLOEXEC);
+	const uint64_t wanted = 1ull << 32 | 1ull << 30;
+
 	need(file >= 0 && !ftruncate(file, MEMORY), "memfd");
 	memory = mmap(NULL, MEMORY, PROT_READ | PROT_WRITE, MAP_SHARED, file, 0);
 	need(memory != MAP_FAILED, "mmap");
@@ -222,7 +234,8 @@ int main(int count, char **words)
 	int64_t len;
 
 	need(count == 2 || count == 3, "Usage: ask SOCKET [TIMES]");
-	begin(words[1]);
+	meet(words[1]);
+	begin();
 	while (fgets(line, sizeof(line), stdin)) {
 		total = put_line(line);
 		len = round_trip();
