@@ -3,13 +3,15 @@
 
 Usage: differences.py FOLDER, which has the programs raw, mended and later. The lines, and what each
 program answers, are in differences.txt: `files` begins a session, `line` is a request, and `raw`, `mended`
-and `later` answer it; `later` answers as `mended` does where nothing else is said.
+and `later` answer it; `later` answers as `mended` does where nothing else is said. Status 1: one answers
+otherwise; 2: it could not start.
 """
 import pathlib
 import subprocess
 import sys
 
 HERE = pathlib.Path(__file__).resolve().parent
+PROGRAMS = ("raw", "mended", "later")
 
 
 def blocks():
@@ -23,7 +25,7 @@ def main(folder):
     wrong = tried = 0
     for files, parts in blocks():
         asked = "".join(f"{rest}\n" for kind, rest in parts if kind == "line")
-        for program in ("raw", "mended", "later"):
+        for program in PROGRAMS:
             said = [rest for kind, rest in parts if kind == program]
             if program == "later" and not said:
                 said = [rest for kind, rest in parts if kind == "mended"]
@@ -38,6 +40,14 @@ def main(folder):
     sys.exit(1 if wrong else 0)
 
 
+if sys.argv[1:] in (["-h"], ["--help"]):
+    print(__doc__.rstrip())
+    sys.exit()
 if len(sys.argv) != 2:
-    sys.exit(__doc__)
+    print(__doc__.rstrip(), file=sys.stderr)
+    sys.exit(2)
+missing = [name for name in PROGRAMS if not (pathlib.Path(sys.argv[1]) / name).is_file()]
+if missing:
+    print(f"differences.py: {sys.argv[1]} has no program {missing[0]}; build.sh makes it.", file=sys.stderr)
+    sys.exit(2)
 main(sys.argv[1])
