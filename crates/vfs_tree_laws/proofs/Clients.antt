@@ -45,9 +45,9 @@ none_since {A} test (x ∷ xs) none =
   where
     by : (b t : Bool) → b ≡ false → t ≡ false
         → (if b then since test xs else if t then xs else x ∷ xs) ≡ x ∷ xs
-    by true t no out = cc no
-    by false true no out = cc out
-    by false false no out = refl
+    by true t calm out = cc calm
+    by false true calm out = cc out
+    by false false calm out = refl
 
 -- of two lists in a row
 since_both : {A : Type 0} (test : A → Bool) (xs ys : List A)

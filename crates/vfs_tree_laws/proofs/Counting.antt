@@ -170,9 +170,9 @@ module _ (law : CallsKeepTrees) (readings : ReadingsChangeNothing) where
   -- what no call does
   still_counts : (old mid : State) (e : Event) → takes_all e ≡ false → mid ≡ old
       → ((n : ℕ) → (sent_by n e ≡ 0) × (answered_by n e ≡ 0)) → (n : ℕ) → Counts old mid e n
-  still_counts old mid e no same none n = record {
+  still_counts old mid e calm same none n = record {
     goes_on = λ is within. omega (arith, ap (λ s. lookups_of s n) same, (none n).0, (none n).1);
-    ends = λ is. cc (no, is);
+    ends = λ is. cc (calm, is);
   }
 
   pub counted : (it : Option (List Item)) (old new : State)
