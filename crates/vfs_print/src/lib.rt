@@ -1,0 +1,26 @@
+//! Messages by name: a request, and the reply to one, as a line of text with its fields by their
+//! names, for a person who looks at a session.
+//!
+//! A request is judged by its bytes and the agreed options alone, in the order of the protocol. What a
+//! server refuses since it is above a limit of its own, or since there is no room, is printed with all
+//! its fields. Nothing takes memory. Each part is taken off the front of the bytes that are left, so that
+//! none past the end is read, whatever they are.
+#![tactic(auto)]
+
+mod directory;
+mod extensions;
+mod fields;
+mod flags;
+pub mod laws;
+mod names;
+mod reply;
+mod reply_fields;
+mod request;
+mod request_fields;
+mod stop;
+mod take;
+mod text;
+
+pub use reply::{agreed_options, print_reply};
+pub use request::print_request;
+pub use text::Quoted;

@@ -1,0 +1,292 @@
+//! The records of requests, field by field. What a sender leaves 0 isn't printed.
+
+use crate::fields::Fields;
+use crate::flags::{Name, Set, Word};
+use crate::text::{Octal, Time};
+use bitflags::Flags;
+use std::fmt::{self, Write};
+use vfs_flags::{
+    FATTR_FH, FATTR_LOCKOWNER, FSYNC_FDATASYNC, GETATTR_FH, IoctlFlags, LK_FLOCK,
+    OPEN_KILL_SUIDGID, POLL_SCHEDULE_NOTIFY, READ_LOCKOWNER, RELEASE_FLOCK_UNLOCK, RELEASE_FLUSH,
+    SetattrValid, SetxattrFlags, WRITE_CACHE, WRITE_KILL_PRIV, WRITE_LOCKOWNER,
+};
+use vfs_wire::{BatchForgetIn, ForgetIn, ForgetOne, GetattrIn, SetattrIn};
+use vfs_wire_more::{
+    AccessIn, BmapIn, CopyfilerangeIn, CreateIn, FallocateIn, FileLock, FlushIn, FsyncIn,
+    GetxattrIn, InterruptIn, IoctlIn, LinkIn, LkIn, LseekIn, MkdirIn, MknodIn, NotifyRetrieveIn,
+    OpenIn, PollIn, ReadIn, ReleaseIn, Rename2In, RenameIn, SetxattrIn, SetxattrInCompat, WriteIn,
+};
+
+/// Bits of `flags` of GETATTR.
+const GETATTR_FLAGS: &[Name] = &[("FH", GETATTR_FH)];
+
+/// Bits of `valid` of SETATTR that name no attribute.
+const SETATTR_ALSO: &[Name] = &[("FH", FATTR_FH), ("LOCKOWNER", FATTR_LOCKOWNER)];
+
+/// Bits of `open_flags` of OPEN, OPENDIR and CREATE.
+const OPEN_FLAGS: &[Name] = &[("KILL_SUIDGID", OPEN_KILL_SUIDGID)];
+
+/// Bits of `read_flags` of READ, READDIR and READDIRPLUS.
+const READ_FLAGS: &[Name] = &[("LOCKOWNER", READ_LOCKOWNER)];
+
+/// Bits of `write_flags` of WRITE.
+const WRITE_FLAGS: &[Name] = &[
+    ("CACHE", WRITE_CACHE),
+    ("LOCKOWNER", WRITE_LOCKOWNER),
+    ("KILL_PRIV", WRITE_KILL_PRIV),
+];
+
+/// Bits of `release_flags` of RELEASE and RELEASEDIR.
+const RELEASE_FLAGS: &[Name] = &[
+    ("FLUSH", RELEASE_FLUSH),
+    ("FLOCK_UNLOCK", RELEASE_FLOCK_UNLOCK),
+];
+
+/// Bits of `fsync_flags` of FSYNC and FSYNCDIR.
+const FSYNC_FLAGS: &[Name] = &[("FDATASYNC", FSYNC_FDATASYNC)];
+
+/// Bits of `flags` of RENAME2, as for `renameat2`.
+const RENAME_NAMES: &[Name] = &[("NOREPLACE", 1), ("EXCHANGE", 2), ("WHITEOUT", 4)];
+
+/// Bits of `flags` of SETXATTR, as for `setxattr`.
+const XATTR_NAMES: &[Name] = &[("CREATE", 1), ("REPLACE", 2)];
+
+/// Bits of `lk_flags` of GETLK, SETLK and SETLKW.
+const LOCK_FLAGS: &[Name] = &[("FLOCK", LK_FLOCK)];
+
+/// Bits of `flags` of POLL.
+const POLL_FLAGS: &[Name] = &[("SCHEDULE_NOTIFY", POLL_SCHEDULE_NOTIFY)];
+
+impl Fields for ForgetIn {
+    fn print<W: Write>(&self, w: &mut W) -> fmt::Result {
+        write!(w, " nlookup={}", self.nlookup)
+    }
+}
+
+impl Fields for BatchForgetIn {
+    fn print<W: Write>(&self, w: &mut W) -> fmt::Result {
+        write!(w, " count={}", self.count)
+    }
+}
+
+impl Fields for ForgetOne {
+    fn print<W: Write>(&self, w: &mut W) -> fmt::Result {
+        write!(w, " (node={} nlookup={})", self.nodeid, self.nlookup)
+    }
+}
+
+impl Fields for GetattrIn {
+    fn print<W: Write>(&self, w: &mut W) -> fmt::Result {
+        let flags = Word(self.flags, GETATTR_FLAGS);
+        write!(w, " flags={flags} fh={}", self.fh)
+    }
+}
+
+impl Fields for SetattrIn {
+    fn print<W: Write>(&self, w: &mut W) -> fmt::Result {
+        let valid = Set(SetattrValid::from_bits_retain(self.valid), SETATTR_ALSO);
+        write!(w, " valid={valid} fh={} size={}", self.fh, self.size)?;
+        write!(w, " lock_owner={}", self.lock_owner)?;
+        write!(w, " atime={}", Time(self.atime, self.atimensec))?;
+        write!(w, " mtime={}", Time(self.mtime, self.mtimensec))?;
+        write!(w, " ctime={}", Time(self.ctime, self.ctimensec))?;
+        write!(w, " mode={}", Octal(self.mode))?;
+        write!(w, " uid={}", self.uid.into_inner())?;
+        write!(w, " gid={}", self.gid.into_inner())
+    }
+}
+
+impl Fields for MknodIn {
+    fn print<W: Write>(&self, w: &mut W) -> fmt::Result {
+        write!(w, " mode={} rdev={}", Octal(self.mode), self.rdev)?;
+        write!(w, " umask={}", Octal(self.umask))
+    }
+}
+
+impl Fields for MkdirIn {
+    fn print<W: Write>(&self, w: &mut W) -> fmt::Result {
+        write!(w, " mode={} umask={}", Octal(self.mode), Octal(self.umask))
+    }
+}
+
+impl Fields for RenameIn {
+    fn print<W: Write>(&self, w: &mut W) -> fmt::Result {
+        write!(w, " newdir={}", self.newdir)
+    }
+}
+
+impl Fields for Rename2In {
+    fn print<W: Write>(&self, w: &mut W) -> fmt::Result {
+        let flags = Word(self.flags, RENAME_NAMES);
+        write!(w, " newdir={} flags={flags}", self.newdir)
+    }
+}
+
+impl Fields for LinkIn {
+    fn print<W: Write>(&self, w: &mut W) -> fmt::Result {
+        write!(w, " oldnode={}", self.oldnodeid)
+    }
+}
+
+impl Fields for OpenIn {
+    fn print<W: Write>(&self, w: &mut W) -> fmt::Result {
+        let open_flags = Word(self.open_flags, OPEN_FLAGS);
+        write!(w, " flags={} open_flags={open_flags}", Octal(self.flags))
+    }
+}
+
+impl Fields for CreateIn {
+    fn print<W: Write>(&self, w: &mut W) -> fmt::Result {
+        let open_flags = Word(self.open_flags, OPEN_FLAGS);
+        write!(w, " flags={} mode={}", Octal(self.flags), Octal(self.mode))?;
+        write!(w, " umask={} open_flags={open_flags}", Octal(self.umask))
+    }
+}
+
+impl Fields for ReadIn {
+    fn print<W: Write>(&self, w: &mut W) -> fmt::Result {
+        let read_flags = Word(self.read_flags, READ_FLAGS);
+        write!(w, " fh={} offset={}", self.fh, self.offset)?;
+        write!(w, " size={} read_flags={read_flags}", self.size)?;
+        write!(w, " lock_owner={}", self.lock_owner)?;
+        write!(w, " flags={}", Octal(self.flags))
+    }
+}
+
+impl Fields for WriteIn {
+    fn print<W: Write>(&self, w: &mut W) -> fmt::Result {
+        let write_flags = Word(self.write_flags, WRITE_FLAGS);
+        write!(w, " fh={} offset={}", self.fh, self.offset)?;
+        write!(w, " size={} write_flags={write_flags}", self.size)?;
+        write!(w, " lock_owner={}", self.lock_owner)?;
+        write!(w, " flags={}", Octal(self.flags))
+    }
+}
+
+impl Fields for ReleaseIn {
+    fn print<W: Write>(&self, w: &mut W) -> fmt::Result {
+        let release_flags = Word(self.release_flags, RELEASE_FLAGS);
+        write!(w, " fh={} flags={}", self.fh, Octal(self.flags))?;
+        write!(w, " release_flags={release_flags}")?;
+        write!(w, " lock_owner={}", self.lock_owner)
+    }
+}
+
+impl Fields for FsyncIn {
+    fn print<W: Write>(&self, w: &mut W) -> fmt::Result {
+        let fsync_flags = Word(self.fsync_flags, FSYNC_FLAGS);
+        write!(w, " fh={} fsync_flags={fsync_flags}", self.fh)
+    }
+}
+
+impl Fields for FlushIn {
+    fn print<W: Write>(&self, w: &mut W) -> fmt::Result {
+        write!(w, " fh={} lock_owner={}", self.fh, self.lock_owner)
+    }
+}
+
+impl Fields for SetxattrIn {
+    fn print<W: Write>(&self, w: &mut W) -> fmt::Result {
+        let flags = Word(self.flags, XATTR_NAMES);
+        let further = Set(SetxattrFlags::from_bits_retain(self.setxattr_flags), &[]);
+        write!(
+            w,
+            " size={} flags={flags} setxattr_flags={further}",
+            self.size
+        )
+    }
+}
+
+impl Fields for SetxattrInCompat {
+    fn print<W: Write>(&self, w: &mut W) -> fmt::Result {
+        let flags = Word(self.flags, XATTR_NAMES);
+        write!(w, " size={} flags={flags}", self.size)
+    }
+}
+
+impl Fields for GetxattrIn {
+    fn print<W: Write>(&self, w: &mut W) -> fmt::Result {
+        write!(w, " size={}", self.size)
+    }
+}
+
+impl Fields for AccessIn {
+    fn print<W: Write>(&self, w: &mut W) -> fmt::Result {
+        write!(w, " mask={}", Octal(self.mask))
+    }
+}
+
+impl Fields for FallocateIn {
+    fn print<W: Write>(&self, w: &mut W) -> fmt::Result {
+        write!(w, " fh={} offset={}", self.fh, self.offset)?;
+        write!(w, " length={} mode=0x{:x}", self.length, self.mode)
+    }
+}
+
+impl Fields for LseekIn {
+    fn print<W: Write>(&self, w: &mut W) -> fmt::Result {
+        write!(w, " fh={} offset={}", self.fh, self.offset)?;
+        write!(w, " whence={}", self.whence)
+    }
+}
+
+impl Fields for CopyfilerangeIn {
+    fn print<W: Write>(&self, w: &mut W) -> fmt::Result {
+        write!(w, " fh_in={} off_in={}", self.fh_in, self.off_in)?;
+        write!(w, " node_out={} fh_out={}", self.nodeid_out, self.fh_out)?;
+        write!(w, " off_out={} len={}", self.off_out, self.len)?;
+        write!(w, " flags=0x{:x}", self.flags)
+    }
+}
+
+// The records of requests that the server answers without a look at them.
+
+/// Prints a lock: its range, its kind as for `fcntl`, and its holder.
+pub fn print_lock<W: Write>(w: &mut W, lock: &FileLock) -> fmt::Result {
+    write!(w, " start={} end={}", lock.start, lock.end)?;
+    write!(w, " type={} pid={}", lock.type_, lock.pid)
+}
+
+impl Fields for LkIn {
+    fn print<W: Write>(&self, w: &mut W) -> fmt::Result {
+        let lk_flags = Word(self.lk_flags, LOCK_FLAGS);
+        write!(w, " fh={} owner={}", self.fh, self.owner)?;
+        print_lock(w, &self.lk)?;
+        write!(w, " lk_flags={lk_flags}")
+    }
+}
+
+impl Fields for InterruptIn {
+    fn print<W: Write>(&self, w: &mut W) -> fmt::Result {
+        write!(w, " interrupted={}", self.unique)
+    }
+}
+
+impl Fields for BmapIn {
+    fn print<W: Write>(&self, w: &mut W) -> fmt::Result {
+        write!(w, " block={} blocksize={}", self.block, self.blocksize)
+    }
+}
+
+impl Fields for IoctlIn {
+    fn print<W: Write>(&self, w: &mut W) -> fmt::Result {
+        let flags = Set(IoctlFlags::from_bits_retain(self.flags), &[]);
+        write!(w, " fh={} flags={flags}", self.fh)?;
+        write!(w, " cmd=0x{:x} arg=0x{:x}", self.cmd, self.arg)?;
+        write!(w, " in_size={} out_size={}", self.in_size, self.out_size)
+    }
+}
+
+impl Fields for PollIn {
+    fn print<W: Write>(&self, w: &mut W) -> fmt::Result {
+        let flags = Word(self.flags, POLL_FLAGS);
+        write!(w, " fh={} kh={}", self.fh, self.kh)?;
+        write!(w, " flags={flags} events=0x{:x}", self.events)
+    }
+}
+
+impl Fields for NotifyRetrieveIn {
+    fn print<W: Write>(&self, w: &mut W) -> fmt::Result {
+        write!(w, " offset={} size={}", self.offset, self.size)
+    }
+}
