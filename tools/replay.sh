@@ -1,20 +1,26 @@
 #!/usr/bin/env bash
 # Runs lines of requests through the program vfs_demo.
 #
-# Usage: tools/replay.sh LINES [EXPECTED]
-# Prints the answers to the lines of the file LINES; with EXPECTED, a file of answers, only the first
-# that differs, with its request. A bad line ends a session with status 2, here too. The first line may
-# be `limit N`, which has no answer.
+# Usage: tools/replay.sh [--bytes] LINES [EXPECTED]
+# Prints the lines of the file LINES and their answers, and below each what the message says, by the
+# program vfs_decode; with --bytes the answers alone, as vfs_demo writes them; with EXPECTED, a file of
+# answers, only the first that differs, with its request. A bad line ends a session with status 2, here
+# too. The first line may be `limit N`, which has no answer.
 #
-# It runs the proved program where that is built and no source is newer, and otherwise builds the
-# program without a proof, which takes some ten seconds. Status 0: each line was answered, as
-# EXPECTED says where it is given; 1: an answer differs.
-set -eu
+# It runs the proved programs if they are built and no source is newer, and otherwise builds them without
+# a proof, which takes a minute, and keeps them: later runs take a second. Status 0: each line was
+# answered, as EXPECTED says if it is given; 1: an answer differs.
+set -euo pipefail
 . "$(dirname "$0")/usage.sh"
-. "$(dirname "$0")/program.sh"
+. "$(dirname "$0")/messages.sh"
 
-if [ $# -lt 1 ] || [ $# -gt 2 ]; then
-    echo "Usage: tools/replay.sh LINES [EXPECTED]" >&2
+bytes=
+if [ "${1:-}" = --bytes ]; then
+    bytes=yes
+    shift
+fi
+if [ $# -lt 1 ] || [ $# -gt 2 ] || [[ $1 == -* ]]; then
+    echo "Usage: tools/replay.sh [--bytes] LINES [EXPECTED]" >&2
     exit 2
 fi
 for file in "$@"; do
@@ -26,32 +32,32 @@ done
 lines=$(realpath "$1")
 expected=${2:+$(realpath "$2")}
 
-# The answers to the lines, by the program.
-answer() {
-    if is_built; then
-        "$program" < "$lines"
-    else
-        need_toolchain
-        (cd "$crate" && rt try < "$lines" 2> /dev/null)
-    fi
-}
-
-if [ -z "$expected" ]; then
-    answer
-    exit
+programs=(vfs_demo)
+if [ -z "$expected" ] && [ -z "$bytes" ]; then
+    programs+=(vfs_decode)
 fi
+build_programs "${programs[@]}"
 
 answers=$(mktemp)
 trap 'rm -f "$answers"' EXIT
 status=0
-answer > "$answers" || status=$?
+"$(path_of vfs_demo)" < "$lines" > "$answers" || status=$?
+
+if [ -z "$expected" ]; then
+    if [ -n "$bytes" ]; then
+        cat "$answers"
+    else
+        show "$lines" "$answers"
+    fi
+    exit "$status"
+fi
 
 if cmp -s "$answers" "$expected"; then
     echo "$(wc -l < "$expected") answers agree."
     exit
 fi
 
-at=$(cmp "$answers" "$expected" 2>&1 | sed -nE 's/.* line ([0-9]+)$/\1/p')
+at=$(cmp "$answers" "$expected" 2>&1 | sed -nE 's/.* line ([0-9]+)$/\1/p') || true
 if [ -z "$at" ]; then
     at=$(($(wc -l < "$answers") + 1))
 fi
