@@ -11,7 +11,7 @@
 #
 # With --check it is mounted on a folder of its own: tools/session.sh does there what a person does, memory
 # goes back that was written and cut, and it is unmounted; then it is mounted again, with other options, and
-# ends by a signal.
+# ends by a signal; and once more, with limits, which bound the server's memory. It wants python3 then.
 #
 # It wants root, /dev/fuse, a C compiler and the Rattle toolchain. It links the proved library where that
 # is built and no source is newer; otherwise tools/unproved.sh builds it without a proof, which takes a
@@ -74,6 +74,7 @@ if [ -z "$check" ]; then
 fi
 
 need mountpoint "Install util-linux."
+need python3 "Install it: apt-get install python3."
 build_transport mount
 folder=$(mktemp -d)
 trap '{ umount -l "$folder"; rmdir "$folder"; } 2> /dev/null || true' EXIT
@@ -123,6 +124,46 @@ cut_files() {
     echo "Six files of 300 MiB were cut, and the server has $kib KiB."
 }
 
+# The limits bound memory: names, attributes and bytes are made until there is no space, and after each
+# the server has less than this.
+limits_hold() {
+    local what kib
+    for what in names attributes bytes; do
+        python3 - "$folder" "$what" << 'PYTHON'
+import errno, itertools, os, sys
+
+folder, what = sys.argv[1:]
+files = [f"{folder}/{i}" for i in range(600)]
+for file in files:
+    open(file, "w").close()
+
+def names(i):
+    os.link(files[i % 600], f"{folder}/{i:0250}")
+
+def attributes(i):
+    os.setxattr(files[i // 400], f"user.{i}", b"")
+
+def a_page(i):
+    with open(files[i % 600], "ab", 0) as file:
+        if file.write(bytes(4096)) < 4096:
+            raise OSError(errno.ENOSPC, "")
+
+for i in itertools.count():
+    try:
+        {"names": names, "attributes": attributes, "bytes": a_page}[what](i)
+    except OSError as error:
+        if error.errno != errno.ENOSPC:
+            raise
+        break
+print(f"There was no space after {i} {what.replace('bytes', 'pages')}.")
+PYTHON
+        kib=$(memory)
+        echo "The server has $kib KiB then."
+        [ "$kib" -lt $((128 * 1024)) ] || return 1
+        find "$folder" -mindepth 1 -delete
+    done
+}
+
 start -o allow_other
 status=0
 "$here/tools/session.sh" "$folder" || status=1
@@ -141,4 +182,11 @@ if (: > "$folder/a") 2> /dev/null; then
 fi
 kill -INT "$server"
 ended "Ended by a signal"
+start -o size=16m,nr_inodes=20000
+limits_hold || {
+    echo "FAILED: the limits do not hold." >&2
+    status=1
+}
+umount "$folder"
+ended "Unmounted"
 exit "$status"
