@@ -14,7 +14,7 @@ use vfs_tree::{Limits, Time, TreeFs};
 /// The limits of the session's tree.
 const LIMITS: Limits = Limits {
     nodes: 64,
-    bytes: 103,
+    bytes: 240,
     file: 64,
 };
 

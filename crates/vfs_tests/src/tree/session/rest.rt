@@ -270,7 +270,7 @@ static FIFTH: [Step; 15] = [
 ];
 
 /// What is full, and what is gone.
-static SIXTH: [Step; 12] = [
+static SIXTH: [Step; 13] = [
     // As much as a file has at most.
     Step {
         why: "as much as a file has at most",
@@ -282,6 +282,14 @@ static SIXTH: [Step; 12] = [
         error: 0,
         length: 24,
         says: &[(16, b"@\0\0\0")],
+    },
+    // An attribute of it takes 137 bytes.
+    Step {
+        why: "an attribute of it takes 137 bytes",
+        message: (21, 5, b"\x03\0\0\0\0\0\0\0user.a\0one"),
+        error: 0,
+        length: 16,
+        says: &[],
     },
     // Nothing behind it.
     Step {
