@@ -2,8 +2,8 @@
 //!
 //! Standard input has a line for each request, with the rooms for its reply and its bytes, and
 //! standard output gets a line for each answer. The first line may be `limit N` in place of a
-//! request: then the server takes and gives payloads of at most N bytes, 4096 to 134217728, and else
-//! of 1048576. The program takes no arguments and opens no file; one that is started otherwise, or
+//! request: then the server's largest payload is N bytes, 4096 to 134217728, and else 1048576. The
+//! program takes no arguments and opens no file; one that is started otherwise, or
 //! whose first line is bad, prints to standard error what it takes. What is wrong with a bad line
 //! goes there too, and at a terminal that the program reads to the end of its input.
 //!
