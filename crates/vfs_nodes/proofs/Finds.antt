@@ -64,12 +64,6 @@ module _ {X : Type 0} where
       (λ fails. (fails, none_passes p ys (found_later p y ys None fails none)))
       (cases_Bool (p y))
 
-  find_none : (p : X → Bool) (xs : List X) → AllByRecursion (λ x. p x ≡ false) xs
-      → find p xs ≡ None
-  find_none p [] all = refl
-  find_none p (y ∷ ys) all =
-      cond-false (p y) (Some y) (find p ys) all.0 ∙ find_none p ys all.1
-
   -- ---- without some
 
   pub filter_all : (p : X → Bool) (xs : List X) → AllByRecursion (λ x. p x ≡ true) xs
