@@ -1,16 +1,15 @@
 -- The turns of the last client: those since an INIT or a DESTROY.
-use Rattle.std.proofs.Common.{◌≡◌, ◌||◌, ◌⊎◌, ⊎_elim, ℕ, Bool, true, false, List, [], ◌∷◌, ◌++◌, length, Option, Some, None, Result, Ok, Err, refl, sym, ap, ◌∙◌, subst, if◌then◌else◌}
+use Rattle.std.proofs.Common.{◌≡◌, ◌||◌, ⊎_elim, ℕ, Bool, true, false, List, [], ◌∷◌, ◌++◌, length, Option, Some, None, Result, Ok, Err, refl, ap, ◌∙◌, if◌then◌else◌}
 use Rattle.std.specs.List.{AllByRecursion, list_any, flat_map}
-use Rattle.vfs_files.specs.Calls.{Call, Readdir, Answer, Found, Failed, kind_of}
-use Rattle.vfs_files.specs.Runs.{Event, Called, OpenedDirectory, Taken}
+use Rattle.vfs_files.specs.Calls.{Call, Readdir, Answer, kind_of}
+use Rattle.vfs_files.specs.Runs.{Event, Called}
 use Rattle.vfs_files.specs.declared.entry.Context.{Context}
-use Rattle.vfs_files.specs.declared.entry.Entry.{Entry}
-use Rattle.vfs_grammar.specs.Forms.{Ask, Ends, Asks, Lists, WithMemory, Listing}
-use Rattle.vfs_grammar.specs.Listing.{Line, Stop, End, At, Got, IsDirectory, IsListing, IsUnopened, IsOpened, given_back, node_got, lookup_of, lookups, line_events, stop_events, is_dot}
+use Rattle.vfs_grammar.specs.Forms.{Ask, Ends, Asks, Lists, WithMemory}
+use Rattle.vfs_grammar.specs.Listing.{Line, Stop, End, At, Got, IsDirectory, IsUnopened, IsOpened, given_back, node_got, lookup_of, lookups, line_events, stop_events, is_dot}
 use Rattle.vfs_grammar.specs.Ask.{ask}
 use Rattle.vfs_grammar.specs.Reply.{Reply, reply_of}
 use Rattle.vfs_grammar.specs.Room.{unseen}
-use Rattle.vfs_grammar.specs.Turn.{Turn, Follows, turn_tells, IsTurn, AreTurns, events_in, node_answered}
+use Rattle.vfs_grammar.specs.Turn.{Turn, Follows, turn_tells, AreTurns, events_in, node_answered}
 use Rattle.vfs_grammar.specs.declared.limits.Limits.{Limits}
 use Rattle.vfs_segments.specs.Unread.{Unread}
 use Rattle.vfs_segments.specs.Written.{Written}

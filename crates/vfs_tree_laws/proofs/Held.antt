@@ -1,10 +1,9 @@
 -- The lookups that are held of nodes, where nodes were changed, added or taken out of a sound state.
-use Rattle.std.proofs.Common.{rules, tests, ◌≡◌, ◌≢◌, ◌≤◌, ◌<◌, ◌+◌, ◌-◌, ◌==◌, ℕ, Bool, true, false, List, [], ◌∷◌, Option, Some, None, IsSome, IfSome, nat_cmp, is_eq, refl, sym, ap, subst, ◌∙◌, arith, if◌then◌else◌, ◌&&◌}
+use Rattle.std.proofs.Common.{rules, tests, ◌≡◌, ◌≢◌, ◌==◌, ℕ, Bool, true, false, Some, None, IfSome, nat_cmp, is_eq, refl, sym, ap, subst, ◌∙◌, arith, if◌then◌else◌, ◌&&◌}
 use Rattle.std.specs.BTreeMap.{is_at}
 use Rattle.std.proofs.lemmas.Cmp.{nat_cmp_total, tied_itself}
-use Rattle.vfs_files.specs.Calls.{Answer, Found, Created}
 use Rattle.vfs_tree_laws.specs.Laws.{lookups_in, lookups_of, IsHeld, IsSound}
-use Rattle.vfs_tree.specs.State.{State, node_at, with_node, with_new, without_node, settled, changed, change, unnamed}
+use Rattle.vfs_tree.specs.State.{State, node_at, with_node, with_new, without_node, settled}
 use Rattle.vfs_nodes.specs.declared.node.Node.{Node}
 use Rattle.vfs_tree_laws.proofs.Ascending.{ascend-set_value, ascend-remove_entry, ascend-insert_entry, gone-remove_entry, none_from}
 use Rattle.vfs_tree.proofs.Nodes.{is_at_same, node_at-with_node, node_at-with_node_other, node_at-without_node_other, node_at-with_new, node_at-with_new_other}

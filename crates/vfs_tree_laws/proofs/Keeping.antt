@@ -1,14 +1,14 @@
 -- Changes that keep a state sound and all lookups that are held.
-use Rattle.std.proofs.Common.{rules, tests, ◌≡◌, ◌≢◌, ◌≤◌, ◌<◌, ◌+◌, ◌-◌, ◌==◌, min, ℕ, Bool, true, false, List, [], ◌∷◌, Option, Some, None, IsSome, IfSome, is_some, refl, sym, ap, subst, ◌∙◌, arith, if◌then◌else◌}
+use Rattle.std.proofs.Common.{◌≡◌, ◌≢◌, ◌<◌, ◌-◌, ◌==◌, min, ℕ, Bool, true, false, List, Option, Some, None, IsSome, IfSome, is_some, refl, sym, ap, subst, ◌∙◌, arith, if◌then◌else◌}
 use Rattle.vfs_tree.specs.Children.{Children, with_child, without_child, with_other_child}
 use Rattle.vfs_tree_laws.specs.Laws.{lookups_in, lookups_of, IsHeld, IsSound}
 use Rattle.vfs_tree.specs.Rename.{moved_into, moved_to_free, moved_over, exchanged, renamed, renamed_to}
-use Rattle.vfs_tree.specs.State.{State, node_at, with_node, with_resized, settled, changed, change, with_names, unnamed, child_at}
+use Rattle.vfs_tree.specs.State.{State, node_at, with_node, with_resized, changed, change, with_names, unnamed, child_at}
 use Rattle.vfs_tree.specs.Tree.{taken_out}
 use Rattle.vfs_nodes.specs.declared.children.Child.{Child}
 use Rattle.vfs_nodes.specs.declared.node.Node.{Node}
 use Rattle.vfs_tree.proofs.Nodes.{node_at-with_node, node_at-with_node_other}
-use Rattle.vfs_tree_laws.proofs.Held.{at, lookups_here, lookups_other, sound_counted, sound-with_node, Settles, settles}
+use Rattle.vfs_tree_laws.proofs.Held.{at, lookups_here, lookups_other, sound_counted, sound-with_node, settles}
 
 pub record Keeps (old new : State) : Type 0 where
   pub sound : IsSound new

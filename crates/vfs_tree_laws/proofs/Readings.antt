@@ -1,11 +1,10 @@
 -- A reading of a directory that begins changes nothing.
-use Rattle.std.proofs.Common.{◌≡◌, ℕ, List, [], Some, refl}
+use Rattle.std.proofs.Common.{◌≡◌, ℕ, List, [], refl}
 use Rattle.vfs_files.specs.Items.{Item}
 use Rattle.vfs_files.specs.Calls.{Iterator}
 use Rattle.vfs_tree.specs.Outcome.{Reply, Just, EntryOf, AttrOf, Listed, Replies}
 use Rattle.vfs_tree.specs.State.{State, with_resized}
 use Rattle.vfs_tree.specs.Tree.{outcome, all_forgotten}
-use Rattle.vfs_nodes.specs.declared.node.Node.{Node}
 use Rattle.vfs_tree_laws.specs.Laws.{ReadingsChangeNothing}
 use Rattle.vfs_tree_laws.proofs.Cases.{Covers, Fails, IsTold, Leaves, covered, left_so}
 

@@ -3,7 +3,6 @@ use Rattle.std.proofs.Common.{min, ◌≡◌, ◌≢◌, ◌<◌, ◌+◌, ◌-�
 use Rattle.std.proofs.lemmas.Bool.{both_ways, not-false, eqb-false, and_cases}
 use Rattle.std.proofs.lemmas.Option.{none-some, same_Some}
 use Rattle.vfs_flags.specs.Errors.{eperm, enoent, eexist, enotdir, einval, enospc, eoverflow}
-use Rattle.vfs_files.specs.declared.entry.Context.{Context}
 use Rattle.vfs_tree.specs.Children.{Children, is_directory, with_child, without_child, with_other_child, is_file}
 use Rattle.vfs_tree.specs.Node.{new_node}
 use Rattle.vfs_tree_laws.specs.Laws.{IsSound, IsLinked, IsRooted, CallsKeepTheWayUp, above}

@@ -1,5 +1,5 @@
 -- Calls keep a sound state sound, and count lookups.
-use Rattle.std.proofs.Common.{rules, tests, nat_cmp, is_eq, true, ⊎_elim, ◌≡◌, ◌≢◌, ◌≤◌, ◌<◌, ◌+◌, ◌-◌, ◌==◌, ℕ, List, [], ◌∷◌, Option, Some, None, IsSome, is_some, refl, sym, ap, subst, ◌∙◌, arith, if◌then◌else◌}
+use Rattle.std.proofs.Common.{rules, tests, nat_cmp, is_eq, true, ⊎_elim, ◌≡◌, ◌≢◌, ◌≤◌, ◌+◌, ◌-◌, ◌==◌, ℕ, List, [], ◌∷◌, Option, Some, None, IsSome, is_some, refl, sym, ap, subst, ◌∙◌, arith, if◌then◌else◌}
 use Rattle.std.specs.BTreeMap.{is_at}
 use Rattle.std.specs.Map.{lookup}
 use Rattle.std.proofs.lemmas.Bool.{cond-true, cond-false}
@@ -7,11 +7,11 @@ use Rattle.std.proofs.lemmas.Cmp.{nat_cmp_total, tied_itself}
 use Rattle.std.proofs.lemmas.List.Sums.{sum_by-append}
 use Rattle.vfs_files.specs.Items.{Item}
 use Rattle.vfs_files.specs.Calls.{Call, Answer, Handed, Plain, Iterator}
-use Rattle.vfs_grammar.specs.Books.{times, counts, answered_nodes, forgets_of}
+use Rattle.vfs_grammar.specs.Books.{times, counts, answered_nodes}
 use Rattle.vfs_tree.specs.Children.{with_child}
 use Rattle.vfs_tree.specs.Node.{new_node}
 use Rattle.vfs_tree.specs.Outcome.{Reply, Just, EntryOf, AttrOf, Listed}
-use Rattle.vfs_tree.specs.State.{State, node_at, with_node, with_resized, with_new, with_names, settled, changed}
+use Rattle.vfs_tree.specs.State.{State, node_at, with_node, with_resized, with_new, with_names, changed}
 use Rattle.vfs_tree.specs.Tree.{made, linked, forgotten, all_forgotten, held_of, outcome}
 use Rattle.vfs_nodes.specs.declared.children.Child.{Child}
 use Rattle.vfs_nodes.specs.declared.node.Node.{Node}

@@ -1,5 +1,5 @@
 -- Calls keep a state within its limits, which stay.
-use Rattle.std.proofs.Common.{◌≡◌, ◌≢◌, ◌≤◌, ◌<◌, ◌+◌, ◌-◌, ◌==◌, ◌&&◌, ◌||◌, nat_lt, nat_le, max, min, ℕ, Bool, true, false, cond, List, [], ◌∷◌, length, Option, Some, None, is_some, nat_cmp, Ordering, Less, Equal, Greater, option_map, refl, sym, ap, ◌∙◌, subst, arith, if◌then◌else◌, ◌^◌}
+use Rattle.std.proofs.Common.{◌≡◌, ◌≢◌, ◌≤◌, ◌<◌, ◌+◌, ◌-◌, ◌==◌, ◌&&◌, ◌||◌, nat_lt, nat_le, min, ℕ, Bool, true, false, cond, List, [], ◌∷◌, length, Option, Some, None, is_some, nat_cmp, Ordering, Less, Equal, Greater, option_map, refl, sym, ap, ◌∙◌, subst, arith, if◌then◌else◌, ◌^◌}
 use Rattle.std.specs.List.{sum_by}
 use Rattle.std.specs.Option.{unwrap_or}
 use Rattle.std.specs.BTreeMap.{insert_entry, is_at}
@@ -11,7 +11,6 @@ use Rattle.std.proofs.lemmas.List.Sums.{sum_by-cons}
 use Rattle.std.proofs.lemmas.Map.Entries.{sum_by-set_value, sum_by-remove_entry}
 use Rattle.std.proofs.lemmas.Option.{same_Some}
 use Rattle.vfs_flags.specs.Errors.{enoent, eexist, einval, enospc, eperm, eoverflow}
-use Rattle.vfs_files.specs.declared.entry.Context.{Context}
 use Rattle.vfs_tree.specs.Children.{Children, with_child, without_child, with_other_child, is_directory, is_file}
 use Rattle.vfs_tree_laws.specs.Laws.{Ascend, IsSound, IsWithin, IsShort, AreShort, inodes_of, CallsStayWithin}
 use Rattle.vfs_tree.specs.Node.{weight, new_node}

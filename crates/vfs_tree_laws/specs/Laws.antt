@@ -1,6 +1,6 @@
 -- What holds of every state of a tree that can be reached, and what a call does to the lookups that are
 -- held.
-use Rattle.std.specs.Prelude.{◌≡◌, ◌≤◌, ◌<◌, ℕ, zero, suc, ◌+◌, ◌==◌, max, Bool, true, false, List, [], ◌∷◌, length, map, Option, Some, None, IfSome, sum_by, count_by, if◌then◌else◌}
+use Rattle.std.specs.Prelude.{◌≡◌, ◌≤◌, ◌<◌, ℕ, zero, suc, ◌+◌, ◌==◌, max, true, false, List, [], ◌∷◌, length, map, Option, Some, None, IfSome, sum_by, count_by, if◌then◌else◌}
 use Rattle.std.specs.List.{All, IsDistinct}
 use Rattle.std.specs.Map.{values_of}
 use Rattle.std.specs.Str.{bytes_eq}
