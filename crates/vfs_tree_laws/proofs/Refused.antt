@@ -97,8 +97,7 @@ link_takes s node parent name free =
     ∷ (node.lookups == 2 ^ 64 - 1, eoverflow)
     ∷ (nat_le s.limits.nodes s.inodes || is_crowded (node_at s parent), enospc) ∷ [] in
     let parts = or_none (directory_refusal (node_at s parent) name) (first_of rs) free in
-    let each = all_false rs parts.1 in
-    (
+    let each = all_false rs parts.1 in (
       takes s parent name parts.0 each.0 (none_there (child_at s parent name) each.1.1.0),
       each.1.1.1.0,
     )
