@@ -2,11 +2,11 @@
 # What a person does with the mounted file system in memory, with what must come of it.
 #
 # Usage: tools/session.sh FOLDER
-# FOLDER is a mount that nothing was done with. tools/mount.sh runs it, and tools/guest.sh in the guest,
-# by busybox. What must come is written by hand, from what POSIX says, and of what that leaves open from what
-# Linux does on a tmpfs. Two are this file system's own: access control lists are refused, and names take
-# bytes. If git is there, a repository is cloned into it too. What the machine has no command for is skipped,
-# and so is what another user does if root alone may use the mount. Status 0: each step came to what it must.
+# FOLDER is a mount that nothing was done with. tools/mount.sh runs it, and tools/guest.sh in the guest, by
+# busybox. What must come is written by hand, from what POSIX says, and of what that leaves open from what Linux
+# does on a tmpfs; but access control lists are refused. If git is there, a repository is cloned into it too.
+# What the machine has no command for is skipped, and so is what another user does if root alone may use the
+# mount. Status 0: each step came to what it must.
 # shellcheck disable=SC2016,SC2034
 case ${1:-} in
     -h | --help)
@@ -181,10 +181,11 @@ works '150' 'cat many/n150'
 works './d/e/h' 'find . -name h'
 works '' 'rm -r many'
 
-# A directory in which names are made while it is read: the reading ends.
+# A directory in which names are made while it is read: the reading ends. The timeout of busybox stays in its
+# folder for a second.
 works '' 'mkdir loop && for i in $(seq 300); do echo $i > loop/n$i || exit 1; done'
 works '300' 'for i in loop/*; do mv $i loop/x${i#loop/} || exit 1; done; ls loop | wc -l'
-works '300' 'timeout 60 find loop -type f -exec mv {} {}x \; && ls loop | wc -l'
+works '300' '(cd / && timeout 60 find "$here/loop" -type f -exec mv {} {}x \;) && ls loop | wc -l'
 if command -v python3 > /dev/null; then
     works '300' 'timeout 60 python3 -c "import os
 for e in os.scandir(\"loop\"):
