@@ -4,6 +4,7 @@
 
 mod answer;
 mod session;
+mod uses;
 
 pub use answer::answer_line;
 pub use session::{PAGE_SIZE, answer_to, answers_to, read_all, server_for, write_all};

@@ -1,13 +1,15 @@
 //! The server of a session, one request of it, and the input and output of a whole one.
 
-ghost use Rattle.std.specs.Prelude.{◌≡◌, length, map, vec_len, IfOk, IfErr, IfSome, OnOk};
+ghost use Rattle.std.specs.Prelude.{◌≡◌, map, IfOk, IfErr, IfSome, OnOk};
 ghost use Rattle.std.specs.Io.KnownBytes.{Appends};
 ghost use Rattle.vfs_lines.specs.Lines.{first_limit_of, or_default, IsFault};
+ghost use Rattle.vfs_segments.specs.Segments.{segments_of, contents, flat_bytes};
+ghost use Rattle.vfs_answers.specs.Session.{IsAnswered, segments_asked, room_for, zeros};
 
 use crate::answer::answer_line;
 use std::alloc::{AllocError, Global};
+use std::io;
 use std::io::ErrorKind;
-use std::{io, slice};
 use vfs_files::FileSystem;
 use vfs_lines::{Line, RunError, max_buffer_for};
 use vfs_segments::{Reader, Writer};
@@ -71,7 +73,7 @@ pub fn answer_to<F: FileSystem>(
 ) -> Result<String, RunError>
     ensures memory { IfErr result (λ e. e ≡ RunError.OutOfMemory) }
 {
-    let slices = all_slices(alloc, slice::from_ref(request))?;
+    let slices = slices_of(alloc, request)?;
     let Ok(reader) = Reader::new(alloc, &slices) else {
         return Err(RunError::OutOfMemory);
     };
@@ -84,49 +86,59 @@ pub fn answer_to<F: FileSystem>(
 }
 
 /// The server's answers to requests in order, as one session: a line for each, as [`answer_to`]
-/// gives it.
+/// gives it. Their bytes are handled by [`Server::handle_session`], with rooms of their lengths.
 pub fn answers_to<F: FileSystem>(
     alloc: Global,
     server: &mut Server<F>,
     requests: &[Line],
 ) -> Result<String, RunError>
+    ensures session { OnOk result (IsAnswered F.allows F.DirIter.gives
+        server.old requests.now server.new) }
     ensures memory { IfErr result (λ e. e ≡ RunError.OutOfMemory) }
 {
     let slices = all_slices(alloc, requests)?;
-    let readers = readers_over(alloc, requests, &slices)?;
+    let readers = readers_over(alloc, &slices)?;
     let mut writers = writers_for(alloc, requests)?;
     let mut outcomes = vec![in alloc; Ok(0); requests.len()]?;
     server.handle_session(alloc, readers, &mut writers, &mut outcomes);
     answer_lines(alloc, &outcomes, writers)
 }
 
-// The segments of all requests, in order, as slices.
-fn all_slices(alloc: Global, requests: &[Line]) -> Result<Vec<&[u8]>, AllocError> {
+// The segments of a request, in order, as slices.
+fn slices_of(alloc: Global, line: &Line) -> Result<Vec<&[u8]>, AllocError>
+    ensures { IfOk result (λ slices. segments_of slices.items ≡ segments_asked line.now) }
+{
     let mut slices = Vec::new(alloc);
-    for request in requests {
-        for segment in &request.segments {
-            slices.push(segment.as_slice())?;
-        }
+    for segment in &line.segments {
+        slices.push(segment.as_slice())?;
     }
     Ok(slices)
 }
 
-// A reader over the segments of each request, which stand in order in `slices`.
-fn readers_over<'a>(
+// The segments of each request.
+fn all_slices(alloc: Global, requests: &[Line]) -> Result<Vec<Vec<&[u8]>>, AllocError>
+    ensures { IfOk result (λ all. map (λ slices. segments_of slices.items) all.items
+        ≡ map segments_asked requests.now) }
+{
+    let mut all = Vec::new(alloc);
+    for request in requests {
+        all.push(slices_of(alloc, request)?)?;
+    }
+    Ok(all)
+}
+
+// A reader over the segments of each request.
+fn readers_over<'a, 'b: 'a>(
     alloc: Global,
-    requests: &[Line],
-    slices: &'a [&'a [u8]],
+    all: &'a [Vec<&'b [u8]>],
 ) -> Result<Vec<Reader<'a>>, RunError>
-    ensures count { IfOk result (λ readers. vec_len readers ≡ length requests.now) }
+    ensures bytes { IfOk result (λ readers. map (λ r. r.left) readers.items
+        ≡ map (λ slices. flat_bytes (segments_of slices.items)) all.now) }
     ensures memory { IfErr result (λ e. e ≡ RunError.OutOfMemory) }
 {
     let mut readers = Vec::new(alloc);
-    let mut start = 0;
-    for request in requests {
-        let end = slices.len().min(start + request.segments.len());
-        let segments = &slices[start..end];
-        start = end;
-        match Reader::new(alloc, segments) {
+    for slices in all {
+        match Reader::new(alloc, slices) {
             Ok(reader) => readers.push(reader)?,
             Err(_) => return Err(RunError::OutOfMemory),
         }
@@ -136,7 +148,7 @@ fn readers_over<'a>(
 
 // A writer over the empty rooms of each request.
 fn writers_for(alloc: Global, requests: &[Line]) -> Result<Vec<Writer>, RunError>
-    ensures count { IfOk result (λ writers. vec_len writers ≡ length requests.now) }
+    ensures rooms { IfOk result (λ writers. writers.items ≡ map room_for requests.now) }
     ensures memory { IfErr result (λ e. e ≡ RunError.OutOfMemory) }
 {
     let mut writers = Vec::new(alloc);
@@ -165,7 +177,9 @@ fn answer_lines(
 }
 
 // Rooms of these lengths, with zeros in them.
-fn empty_rooms(alloc: Global, lengths: &[usize]) -> Result<Vec<Vec<u8>>, AllocError> {
+fn empty_rooms(alloc: Global, lengths: &[usize]) -> Result<Vec<Vec<u8>>, AllocError>
+    ensures { IfOk result (λ rooms. contents rooms.items ≡ map zeros lengths.now) }
+{
     let mut rooms = Vec::new(alloc);
     for length in lengths {
         rooms.push(vec![in alloc; 0u8; *length]?)?;

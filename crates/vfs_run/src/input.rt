@@ -1,6 +1,7 @@
 //! A whole session: the requests of an input, answered line by line to an output.
 ghost use Rattle.std.specs.Prelude.{◌≡◌, IfErr, IfSome};
 ghost use Rattle.vfs_lines.specs.Lines.{lines_in, EndsSession};
+ghost use Rattle.vfs_run.specs.Output.{Wrote};
 
 use std::alloc::Global;
 use std::io;
@@ -15,7 +16,8 @@ pub fn run<R: io::Read, W: io::Write>(
     input: &mut R,
     output: &mut W,
 ) -> Result<(), RunError>
-    ensures { IfSome (R.remaining input.old) (λ text. EndsSession (lines_in text) result) }
+    ensures ends { IfSome (R.remaining input.old) (λ text. EndsSession (lines_in text) result) }
+    ensures wrote { Wrote (W.contents output.old) (W.contents output.new) result }
 {
     let text = read_all(alloc, input)?;
     run_text(alloc, &text, output)
@@ -30,7 +32,8 @@ pub fn run<R: io::Read, W: io::Write>(
 /// lines, and [`RunError::BadLine`] answered. A text without a byte has no line. How much was
 /// written before another error is open.
 pub fn run_text<W: io::Write>(alloc: Global, text: &[u8], output: &mut W) -> Result<(), RunError>
-    ensures { EndsSession (lines_in text.now) result }
+    ensures ends { EndsSession (lines_in text.now) result }
+    ensures wrote { Wrote (W.contents output.old) (W.contents output.new) result }
 {
     let mut answers = String::new(alloc);
     let outcome = answer_all(alloc, text, &mut answers);

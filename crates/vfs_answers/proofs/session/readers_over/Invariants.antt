@@ -1,9 +1,6 @@
-use Rattle.std.proofs.Common.{◌≡◌, ◌≤◌, length, vec_len}
+use Rattle.std.proofs.Common.{◌≡◌, map, take}
+use Rattle.vfs_segments.specs.Segments.{segments_of, flat_bytes}
 use Rattle.vfs_answers.proofs.session.readers_over.Given as goal
 
-abbrev pub invariant-loop-request : goal.invariant-loop-request
-invariant-loop-request l =
-    record {
-      count : vec_len l.readers ≡ l.request-index;
-      within : l.start ≤ length l.fn.slices;
-    }
+abbrev pub invariant-loop-slices : goal.invariant-loop-slices
+invariant-loop-slices l = map (λ r. r.left) l.readers.items ≡ map (λ s. flat_bytes (segments_of s.items)) (take l.slices-index l.all)
