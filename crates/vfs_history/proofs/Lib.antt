@@ -1,0 +1,6 @@
+pub mod Going
+mod Ending
+mod Counts
+mod Sessions
+pub mod Calling
+pub mod GivingBack

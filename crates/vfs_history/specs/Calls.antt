@@ -1,0 +1,52 @@
+-- What small callers say of a server that they call message by message.
+use Rattle.std.specs.Prelude.{◌≡◌, ℕ, List, [], ◌∷◌, ◌++◌, map, replicate, Option, Result, Ok}
+use Rattle.vfs_segments.specs.Written.{Written}
+use Rattle.vfs_files.specs.Items.{Item}
+use Rattle.vfs_files.specs.Calls.{Call, Handed}
+use Rattle.vfs_messages.specs.Rooms.{Leaves}
+use Rattle.vfs_grammar.specs.Turn.{Turn, events_in}
+use Rattle.vfs_grammar.specs.Books.{KeepsBooks, NeverBelow}
+use Rattle.vfs_grammar.specs.declared.error.Error.{Error}
+use Rattle.vfs_grammar.specs.Samples.{four, eight, reply_of_node_5}
+use Rattle.vfs_server.specs.Step.{ServerState}
+use Rattle.vfs_history.specs.History.{Moment, Handled, turns_in, IsHistory, IsOneRun}
+
+-- The turn of a request as its transport sees it: the bytes that came, the room that there was, the
+-- outcome, and the room as the writer was left.
+pub record IsSeen (request : List ℕ) (writer : Written) (outcome : Result ℕ Error)
+    (writer_after : Written) (t : Turn) : Type 0 where
+  pub asked : t.request ≡ request
+  pub room : t.room ≡ writer.left
+  pub came : t.outcome ≡ outcome
+  pub leaves : Leaves writer t.room_after writer_after
+
+-- these moments lead from one state of a server to another, and the books of their turns are kept
+pub record KeepsHistory {S I : Type 0} (allows : S → Call → Handed I → S → Type 0)
+    (gives : I → Option Item → I → Type 0) (old : ServerState S) (moments : List (Moment S))
+    (new : ServerState S) : Type 0 where
+  pub history : IsHistory allows gives old moments new
+  pub books : KeepsBooks (turns_in moments)
+
+-- a server handled these requests one by one, and nothing else happened
+pub record HandlesEach {S I : Type 0} (allows : S → Call → Handed I → S → Type 0)
+    (gives : I → Option Item → I → Type 0) (old : ServerState S) (requests : List (List ℕ))
+    (new : ServerState S) : Type 0 where
+  pub turns : List Turn
+  pub asked : map (λ t. t.request) turns ≡ requests
+  pub history : IsHistory allows gives old (map Handled turns) new
+  pub books : KeepsBooks turns
+
+-- request 9, FORGET of node 5 by 1: a header and a record, of 48 bytes
+abbrev pub forget_of_5 : List ℕ
+forget_of_5 = four 48 ++ (four 2 ++ (eight 9 ++ (eight 5 ++ (replicate 16 0 ++ eight 1))))
+
+-- A server handled a LOOKUP and a FORGET of node 5, over one run of its file system. If the LOOKUP was
+-- replied an entry of node 5 and the FORGET was accepted, no count of the node fell below zero.
+pub record GivesBack {S I : Type 0} (allows : S → Call → Handed I → S → Type 0)
+    (gives : I → Option Item → I → Type 0) (old : ServerState S) (lookup forget : Turn)
+    (new : ServerState S) : Type 0 where
+  pub run : IsOneRun allows gives old.fs (lookup ∷ forget ∷ []) new.fs
+  pub never_below :
+      (behind : List ℕ) → lookup.outcome ≡ Ok 144
+      → lookup.room_after ≡ reply_of_node_5 ++ behind
+      → forget.outcome ≡ Ok 0 → NeverBelow 5 (events_in (lookup ∷ forget ∷ []))

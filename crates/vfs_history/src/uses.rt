@@ -1,0 +1,122 @@
+//! Servers that are called message by message.
+
+ghost use Rattle.std.specs.Prelude.{◌≡◌, ◌∷◌, [], map};
+ghost use Rattle.vfs_grammar.specs.Samples.{lookup_of_a};
+ghost use Rattle.vfs_grammar.specs.Turn.{Turn};
+ghost use Rattle.vfs_history.specs.Calls.{forget_of_5, GivesBack, HandlesEach, IsSeen, KeepsHistory};
+ghost use Rattle.vfs_history.specs.History.{Handled, Changed, turn_of_end};
+
+use crate::laws::{history_goes_on, history_has_turns, history_keeps_books};
+use std::alloc::Global;
+use vfs_files::FileSystem;
+use vfs_grammar::Result;
+use vfs_segments::{Reader, Writer};
+use vfs_server::server::Server;
+
+/// Has a server over any file system handle three messages, each by a call of its own. The books of the
+/// three turns balance.
+fn handle_three<F: FileSystem>(
+    alloc: Global,
+    server: &mut Server<F>,
+    readers: (Reader<'_>, Reader<'_>, Reader<'_>),
+    one: &mut Writer,
+    two: &mut Writer,
+    three: &mut Writer,
+) -> (Result<usize>, Result<usize>, Result<usize>)
+    ensures { (a b c : Turn)
+        × IsSeen readers.entry.0.left one.old result.0 one.new a
+        × IsSeen readers.entry.1.left two.old result.1 two.new b
+        × IsSeen readers.entry.2.left three.old result.2 three.new c
+        × KeepsHistory F.allows F.DirIter.gives
+        server.old (Handled a ∷ Handled b ∷ Handled c ∷ []) server.new }
+{
+    history_goes_on::<F>();
+    history_keeps_books::<F>();
+    let first = server.handle_message(alloc, readers.0, one);
+    let second = server.handle_message(alloc, readers.1, two);
+    let third = server.handle_message(alloc, readers.2, three);
+    (first, second, third)
+}
+
+/// Has a server handle messages as they come, however many. The books of all turns balance.
+fn handle_each<F: FileSystem>(
+    alloc: Global,
+    server: &mut Server<F>,
+    readers: Vec<Reader<'_>>,
+    w: &mut Writer,
+)
+    ensures { HandlesEach F.allows F.DirIter.gives
+        server.old (map (λ r. r.left) readers.entry.items) server.new }
+{
+    history_goes_on::<F>();
+    history_keeps_books::<F>();
+    for reader in readers {
+        let _ = server.handle_message(alloc, reader, w);
+    }
+}
+
+/// Has a server handle a message, puts another file system behind it, and has it handle another one. The
+/// books of both turns balance, though the file system is another.
+fn exchange_between<F: FileSystem + Drop>(
+    alloc: Global,
+    server: &mut Server<F>,
+    fs: F,
+    readers: (Reader<'_>, Reader<'_>),
+    one: &mut Writer,
+    two: &mut Writer,
+) -> (Result<usize>, Result<usize>)
+    ensures { (a b : Turn) × (middle : F)
+        × IsSeen readers.entry.0.left one.old result.0 one.new a
+        × IsSeen readers.entry.1.left two.old result.1 two.new b
+        × KeepsHistory F.allows F.DirIter.gives
+        server.old (Handled a ∷ Changed middle fs ∷ Handled b ∷ []) server.new }
+{
+    history_goes_on::<F>();
+    history_keeps_books::<F>();
+    let before = server.handle_message(alloc, readers.0, one);
+    *server.fs_mut() = fs;
+    let after = server.handle_message(alloc, readers.1, two);
+    (before, after)
+}
+
+/// Has a server handle a message, and ends it without a request: its end is a turn too.
+fn handle_then_end<F: FileSystem>(
+    alloc: Global,
+    server: &mut Server<F>,
+    reader: Reader<'_>,
+    w: &mut Writer,
+) -> Result<usize>
+    ensures { (t : Turn) × IsSeen reader.entry.left w.old result w.new t
+        × KeepsHistory F.allows F.DirIter.gives
+        server.old (Handled t ∷ Handled turn_of_end ∷ []) server.new }
+{
+    history_goes_on::<F>();
+    history_keeps_books::<F>();
+    let outcome = server.handle_message(alloc, reader, w);
+    let _ = server.destroy();
+    outcome
+}
+
+/// Has a server handle a LOOKUP and a FORGET of node 5, each by a call of its own. A client that was
+/// replied the node may give it back in the second call: no count falls below zero.
+fn look_up_then_forget<F: FileSystem>(
+    alloc: Global,
+    server: &mut Server<F>,
+    readers: (Reader<'_>, Reader<'_>),
+    one: &mut Writer,
+    two: &mut Writer,
+) -> (Result<usize>, Result<usize>)
+    requires lookup { readers.0.left ≡ lookup_of_a }
+    requires forget { readers.1.left ≡ forget_of_5 }
+    ensures { (a b : Turn)
+        × IsSeen lookup_of_a one.old result.0 one.new a
+        × IsSeen forget_of_5 two.old result.1 two.new b
+        × GivesBack F.allows F.DirIter.gives server.old a b server.new }
+{
+    history_goes_on::<F>();
+    history_has_turns::<F>();
+    history_keeps_books::<F>();
+    let found = server.handle_message(alloc, readers.0, one);
+    let forgotten = server.handle_message(alloc, readers.1, two);
+    (found, forgotten)
+}
