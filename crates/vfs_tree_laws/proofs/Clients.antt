@@ -11,16 +11,13 @@ use Rattle.vfs_grammar.specs.Reply.{Reply, reply_of}
 use Rattle.vfs_grammar.specs.Room.{unseen}
 use Rattle.vfs_grammar.specs.Turn.{Turn, Follows, turn_tells, AreTurns, events_in, node_answered}
 use Rattle.vfs_grammar.specs.declared.limits.Limits.{Limits}
-use Rattle.vfs_segments.specs.Unread.{Unread}
-use Rattle.vfs_segments.specs.Written.{Written}
-use Rattle.vfs_server.specs.Session.{AreServed}
 use Rattle.vfs_tree.specs.State.{State}
 use Rattle.vfs_tree_laws.specs.Runs.{takes_all, since, ends_client, last_turns}
 use Rattle.vfs_tree_laws.proofs.Endings.{IsOrdinary, IsEnding, which}
 
 -- ---- lists
 
-none_any : {A : Type 0} (test : A → Bool) (xs ys : List A) → list_any test (xs ++ ys)
+pub none_any : {A : Type 0} (test : A → Bool) (xs ys : List A) → list_any test (xs ++ ys)
     ≡ (list_any test xs || list_any test ys)
 none_any test [] ys = refl
 none_any test (x ∷ xs) ys =
@@ -49,7 +46,7 @@ none_since {A} test (x ∷ xs) none =
     by false false calm out = refl
 
 -- of two lists in a row
-since_both : {A : Type 0} (test : A → Bool) (xs ys : List A)
+pub since_both : {A : Type 0} (test : A → Bool) (xs ys : List A)
     → since test (xs ++ ys)
     ≡ (if list_any test ys then since test ys
     else if list_any test xs then since test xs ++ ys else xs ++ ys)
@@ -240,17 +237,3 @@ last_in_order limits options (t ∷ ts) after are =
     by true a rest = rest
     by false true rest = (are.0, are.2)
     by false false rest = (options, are)
-
--- requests that were served in order are turns in order
-pub turns_of_served : (limits : Limits) (options : ℕ) (rs : List Unread) (ws : List Written)
-    (ts : List Turn) (ns : List Written) (after : ℕ)
-    → AreServed limits options rs ws ts ns after → AreTurns limits options ts after
-turns_of_served limits options [] [] [] [] after are = are
-turns_of_served limits options (a ∷ rs) (b ∷ ws) (c ∷ ts) (d ∷ ns) after are =
-    (are.0, are.1.turn, turns_of_served limits are.0 rs ws ts ns after are.2)
-turns_of_served limits options [] [] [] (d ∷ ns) after are = absurd are
-turns_of_served limits options [] [] (c ∷ ts) ns after are = absurd are
-turns_of_served limits options [] (b ∷ ws) ts ns after are = absurd are
-turns_of_served limits options (a ∷ rs) [] ts ns after are = absurd are
-turns_of_served limits options (a ∷ rs) (b ∷ ws) [] ns after are = absurd are
-turns_of_served limits options (a ∷ rs) (b ∷ ws) (c ∷ ts) [] after are = absurd are

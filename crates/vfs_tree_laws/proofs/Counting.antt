@@ -4,8 +4,9 @@ use Rattle.std.specs.List.{list_any}
 use Rattle.vfs_files.specs.Items.{Item}
 use Rattle.vfs_files.specs.Calls.{Call, Lookup, Forget, BatchForget, Getattr, Setattr, Symlink, Readlink, Open, Unlink, Rmdir, Rename, Link, Mknod, Mkdir, Create, Read, Write, Fallocate, Setxattr, Getxattr, Listxattr, Removexattr, Statfs, Release, Fsync, Flush, Init, Opendir, Readdir, Releasedir, Fsyncdir, Getlk, Setlk, Setlkw, Access, Bmap, Destroy, Ioctl, Poll, NotifyReply, Lseek, Copyfilerange, Syncfs, Tmpfile, Answer, Plain}
 use Rattle.vfs_files.specs.Runs.{Event, Called, OpenedDirectory, Taken, Happening, Calls, Opens, Takes, IsRun, events_of}
-use Rattle.vfs_grammar.specs.Books.{answered, sent, answered_by, sent_by, answered_nodes, forgets_of, times, counts, NeverBelow, KeepsBooks}
+use Rattle.vfs_grammar.specs.Books.{answered, sent, answered_by, sent_by, answered_nodes, forgets_of, times, counts, KeepsBooks}
 use Rattle.vfs_grammar.specs.Turn.{Turn, events_in}
+use Rattle.vfs_history.specs.History.{NeverBelowHeld}
 use Rattle.vfs_tree_laws.specs.Laws.{IsTree, IsHeld, lookups_in, lookups_of, names_of, CallsKeepTrees, ReadingsChangeNothing}
 use Rattle.vfs_files.specs.Listing.{GivesFirst}
 use Rattle.vfs_tree.specs.State.{State, node_at}
@@ -74,28 +75,23 @@ answered_more n e es = omega (arith, sum_by-append (answered_by n) (e ∷ []) es
 sent_more : (n : ℕ) (e : Event) (es : List Event) → sent n (e ∷ es) ≡ sent_by n e + sent n es
 sent_more n e es = omega (arith, sum_by-append (sent_by n) (e ∷ []) es)
 
--- no more are sent back than were held and answered, after each event
-abbrev Enough : (n held : ℕ) → List Event → Type 0
-Enough n held events =
-    (k : ℕ) → sent n (take k events) ≤ held + answered n (take k events)
-
 -- the first event sends no more back than were held and it answers
-first_enough : (n held : ℕ) (e : Event) (es : List Event) → Enough n held (e ∷ es)
+first_enough : (n held : ℕ) (e : Event) (es : List Event) → NeverBelowHeld n held (e ∷ es)
     → sent_by n e ≤ held + answered_by n e
 first_enough n held e es enough = omega (arith, enough 1, sent_more n e [], answered_more n e [])
 
 -- and so it goes on with what is held then
-rest_enough : (n held now : ℕ) (e : Event) (es : List Event) → Enough n held (e ∷ es)
-    → now + sent_by n e ≡ held + answered_by n e → Enough n now es
+rest_enough : (n held now : ℕ) (e : Event) (es : List Event) → NeverBelowHeld n held (e ∷ es)
+    → now + sent_by n e ≡ held + answered_by n e → NeverBelowHeld n now es
 rest_enough n held now e es enough is k =
     omega (arith, enough (suc k), sent_more n e (take k es), answered_more n e (take k es), is)
 
 -- ---- runs
 
 -- so many lookups of a node are held, which were `held` before these events
-abbrev Holds : (new : State) (held : ℕ) → List Event → (n : ℕ) → Type 0
+abbrev pub Holds : (new : State) (held : ℕ) → List Event → (n : ℕ) → Type 0
 Holds new held events n =
-    Enough n held events → lookups_of new n + sent n events ≡ held + answered n events
+    NeverBelowHeld n held events → lookups_of new n + sent n events ≡ held + answered n events
 
 -- a tree, in which of each node so many lookups are held
 pub record Counted (old new : State) (events : List Event) : Type 0 where
@@ -201,32 +197,27 @@ module _ (law : CallsKeepTrees) (readings : ReadingsChangeNothing) where
       let c = counted it old new run tree ran in
       (c.tree, λ n never. c.lookups n (λ k. omega (arith, never k)))
 
--- ---- sessions
+-- ---- turns
 
-module _ (old new : State) (turns : List Turn) (run : List (Happening (List Item) × State))
-    (runs : RunsKeepTrees) (tree : IsTree old)
-    (ran : IsRun TreeAllows GivesFirst None old run new)
-    (events : events_of run ≡ events_in turns) (last : LastTurns turns)
-    (books : KeepsBooks (last_turns turns)) where
-  counts_events : (n : ℕ) → NeverBelow n (events_in (last_turns turns))
-      → lookups_of new n + sent n (events_in (last_turns turns))
-      ≡ held_by_last old turns n + answered n (events_in (last_turns turns))
-  counts_events n never =
-      let Says : List Event → Bool → Type 0 = λ es any.
-      NeverBelow n es → lookups_of new n + sent n es ≡ held_before any old n + answered n es in
-      let here : Says (since takes_all (events_in turns)) (list_any takes_all (events_in turns)) =
-      subst (λ (es : List Event). Says (since takes_all es) (list_any takes_all es)) events
-      ((runs None old new run tree ran).1 n) in
-      subst (λ (any : Bool). Says (events_in (last_turns turns)) any) last.any
-      (subst (λ (es : List Event). Says es (list_any takes_all (events_in turns))) last.events here)
-      never
+module _ (old new : State) (turns : List Turn) (c : Counted old new (events_in turns))
+    (last : LastTurns turns) (books : KeepsBooks (last_turns turns)) where
+  -- so many lookups are held after the turns of the last client
+  counts_turns : (n : ℕ)
+      → Holds new (held_by_last old turns n) (events_in (last_turns turns)) n
+  counts_turns n =
+      subst (λ (any : Bool). Holds new (held_before any old n) (events_in (last_turns turns)) n)
+      last.any
+      (subst (λ (es : List Event).
+      Holds new (held_before (list_any takes_all (events_in turns)) old n) es n) last.events
+      (c.lookups n))
 
   pub keeps_tree : KeepsTree old turns new
   keeps_tree = record {
-    tree = (runs None old new run tree ran).0;
+    tree = c.tree;
     lookups = λ n some within.
         let balanced = books.balanced n some in
-        let counts = counts_events n (books.never_below n some within) in
+        let never = books.never_below n some within in
+        let counts = counts_turns n (λ k. omega (arith, never k)) in
         omega (arith, balanced, counts);
   }
 

@@ -6,6 +6,7 @@ mod Compounds
 mod Counting
 mod Endings
 mod Held
+mod Histories
 mod Keeping
 mod Kept
 mod Linked
@@ -18,5 +19,6 @@ mod Shapes
 mod Sound
 mod Steps
 mod Tables
+mod Telling
 mod WayUp
 mod Within

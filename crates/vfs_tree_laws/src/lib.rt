@@ -1,5 +1,6 @@
 //! What holds of a tree in memory over calls, runs and sessions.
 #![tactic(auto)]
 
+pub mod history;
 pub mod laws;
 pub mod session;

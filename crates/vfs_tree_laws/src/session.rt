@@ -7,11 +7,11 @@ ghost use Rattle.vfs_tree.specs.Tree.{TreeAllows};
 ghost use Rattle.vfs_tree_laws.specs.Laws.{IsTree};
 ghost use Rattle.vfs_tree_laws.specs.Runs.{KeepsTree, LeavesNone};
 
-use crate::laws::runs_keep_trees;
+use crate::history::histories_keep_trees;
 use std::alloc::Global;
 use vfs_grammar::Result;
+use vfs_history::laws::sessions_are_histories;
 use vfs_segments::{Reader, Writer};
-use vfs_server::laws::books::turns_keep_books;
 use vfs_server::server::Server;
 use vfs_tree::TreeFs;
 
@@ -36,7 +36,7 @@ pub fn handle_session(
         × KeepsTree server.old.fs session.turns server.new.fs
         × LeavesNone server.old.fs session.turns server.new.fs }
 {
-    runs_keep_trees();
-    turns_keep_books();
+    sessions_are_histories::<TreeFs>();
+    histories_keep_trees();
     server.handle_session(alloc, readers, writers, outcomes);
 }

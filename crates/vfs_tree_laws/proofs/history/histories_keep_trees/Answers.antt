@@ -1,0 +1,7 @@
+use Rattle.vfs_tree_laws.proofs.Histories.{keep_trees}
+use Rattle.vfs_tree_laws.proofs.history.histories_keep_trees.Goals as goal
+
+pub returns : goal.returns
+returns c =
+    keep_trees c.calls_keep_trees.ensures c.readings_change_nothing.ensures
+    c.history_has_turns.ensures.turns c.turns_keep_books.ensures
