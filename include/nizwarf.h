@@ -5,6 +5,14 @@
  * library's own functions, at the end, each promise is proved (crates/vfs_c); the ones for a transport
  * look at pointers first, and copy replies into the room by calls of nizwarf_copy_at.
  *
+ * What holds from nizwarf_new on, whatever requests come, in whatever calls, and whenever the time is told.
+ * Each request that nizwarf_message hands to the server is answered as the next one of one session. Over
+ * all of them, for each node but 0, entries that the file system answered and forgets that were accepted
+ * are entries delivered and forgets sent to it. The files stay a tree within its limits. Of a client that
+ * never gave back more lookups than it had, just those are held that it had since its last INIT and did not
+ * give back; so once it gave back all, or sent DESTROY, no node is left but those that have a name. The
+ * last two are of the tree: a library over another file system has promises of its own.
+ *
  * Who owns what. A nizwarf_server is a variable of yours that begins as NIZWARF_NONE. From then on only
  * the functions here read or write it, and it is not copied: what it points to is the library's, from
  * nizwarf_new up to nizwarf_end. Segments and rooms are yours, and lent for the length of a call; no

@@ -19,7 +19,11 @@ mkdir "crates/$name" "tools/unproved/$name"
 cp -R crates/vfs_c/{src,specs,proofs,must-fail} "crates/$name/"
 cp tools/unproved/vfs_c/* "tools/unproved/$name/"
 grep -rl vfs_c "crates/$name" | xargs sed -i "s/\bvfs_c\b/$name/g"
-sed -i "/^vfs_c staticlib:/{p;s/^vfs_c/$name/}" crates.txt
+# The laws are those of the tree.
+rm -r "crates/$name/src/laws.rt" "crates/$name/specs/Laws.antt" "crates/$name/proofs/laws"
+sed -i '/^mod laws;$/d' "crates/$name/src/lib.rt"
+sed -i '/^pub mod Laws$/d' "crates/$name/specs/Lib.antt"
+sed -i "/^vfs_c staticlib:/{p;s/^vfs_c/$name/;s/ vfs_tree_laws//}" crates.txt
 echo "Now change crates/$name/src/files.rt and crates/$name/specs/Files.antt, and in crates.txt, on the"
 echo "line of $name, vfs_tree to the crate of your file system. Then mount it:"
 echo "    tools/mount.sh --library $name FOLDER"

@@ -1,4 +1,6 @@
 pub mod Codes
 pub mod Files
 pub mod Handle
+pub mod History
+pub mod Laws
 pub mod Served

@@ -13,6 +13,7 @@
 mod codes;
 mod files;
 mod handle;
+mod laws;
 mod session;
 
 ghost use Rattle.std.specs.Prelude.{◌≡◌, ◌≢◌, ◌≤◌, ◌<◌, ◌⊎◌, ◌++◌, length, take, drop, min, IfSome, MatchOption};
@@ -20,15 +21,17 @@ ghost use Rattle.std.specs.declared.option.Option.TheVariants.{None, Some};
 ghost use Rattle.vfs_flags.specs.declared.constants.TheConstants.{LEAST_MAX_BUFFER, GREATEST_MAX_BUFFER};
 ghost use Rattle.vfs_segments.specs.Segments.{segments_of, flat_bytes};
 ghost use Rattle.vfs_c.specs.Codes.{ok, no_memory, no_server, wrong_size};
+ghost use Rattle.vfs_c.specs.History.{Answered, Told};
 ghost use Rattle.vfs_c.specs.Served.{new_server, told_time, Served, part_from};
 
 use crate::codes::{NO_SERVER, OK, OUT_OF_MEMORY, WRONG_SIZE};
-use crate::files::Settings;
+use crate::files::{Files, Settings};
 use crate::handle::Handle;
 use crate::session::Session;
 use bitflags::Flags;
 use std::alloc::Global;
 use vfs_flags::{GREATEST_MAX_BUFFER, LEAST_MAX_BUFFER};
+use vfs_history::laws::history_goes_on;
 
 /// Puts a new server over a new file system of these settings into the handle, for this size of a
 /// page and this largest payload, both in bytes. A server that is there is ended first. Answers 0;
@@ -65,8 +68,8 @@ pub extern "C" fn nizwarf_new_at(
     OK
 }
 
-/// Tells the file system the time since 1970: what is made or changed from now on bears it. Answers 0, or
-/// 11 where the handle has no server.
+/// Tells the file system the time since 1970: what is made or changed from now on bears it. It is a
+/// moment of the server's history, with no turn. Answers 0, or 11 where the handle has no server.
 #[unsafe(no_mangle)]
 pub extern "C" fn nizwarf_tell_time_at(
     alloc: Global,
@@ -77,7 +80,10 @@ pub extern "C" fn nizwarf_tell_time_at(
     ensures none { handle.old.value ≡ None → (result ≡ no_server) × (handle.new.value ≡ None) }
     ensures told { IfSome handle.old.value (λ s. (result ≡ ok)
         × (handle.new.value ≡ Some (record s { server = told_time s.server seconds nanoseconds }))) }
+    ensures history { IfSome handle.old.value (λ s. MatchOption handle.new.value ⊥ (λ t.
+        Told s.server seconds nanoseconds t.server)) }
 {
+    history_goes_on::<Files>();
     let Some(mut session) = handle.take(alloc) else {
         return NO_SERVER;
     };
@@ -94,6 +100,10 @@ pub extern "C" fn nizwarf_tell_time_at(
 /// error's, 1 to 10. After each of them the request is completed with `len`, and the session goes
 /// on. 10 is also answered where there was no memory to begin with, 13 where the lengths sum past
 /// `usize::MAX`, and 11 where the handle has no server.
+///
+/// A request that was handed to the server is the next turn of its history, whatever came before. So over
+/// all calls the books balance: entries answered and forgets accepted are entries delivered and forgets
+/// sent.
 #[unsafe(no_mangle)]
 pub extern "C" fn nizwarf_message_at(
     alloc: Global,
@@ -107,7 +117,11 @@ pub extern "C" fn nizwarf_message_at(
     ensures served { IfSome handle.old.value (λ s. MatchOption handle.new.value ⊥ (λ t.
         Served s.server (flat_bytes (segments_of request.now)) room
         result len.new (drop t.start t.room.items) t.shown t.server)) }
+    ensures history { IfSome handle.old.value (λ s. MatchOption handle.new.value ⊥ (λ t.
+        Answered s.server (flat_bytes (segments_of request.now)) room
+        result len.new (drop t.start t.room.items) t.shown t.server)) }
 {
+    history_goes_on::<Files>();
     *len = 0;
     let Some(mut session) = handle.take(alloc) else {
         return NO_SERVER;

@@ -1,0 +1,42 @@
+-- What a call adds to the history of the server behind a handle.
+use Rattle.std.specs.Prelude.{◌≡◌, ◌⊎◌, ℕ, ℤ, List, [], ◌∷◌, ◌++◌, length}
+use Rattle.vfs_grammar.specs.Turn.{Turn}
+use Rattle.vfs_server.specs.Step.{ServerState}
+use Rattle.vfs_history.specs.History.{Moment, Handled, Changed, IsHistory}
+use Rattle.vfs_c.specs.Codes.{number_of, length_of, shown_of}
+use Rattle.vfs_c.specs.Files.{State, Allows, Gives, told}
+use Rattle.vfs_c.specs.Served.{Refused}
+
+-- whatever history the server had, it has these moments more
+abbrev pub Extends : (old : ServerState State) → List (Moment State) → (new : ServerState State)
+    → Type 0
+Extends old more new =
+    (first : ServerState State) (moments : List (Moment State))
+    → IsHistory Allows Gives first moments old → IsHistory Allows Gives first (moments ++ more) new
+
+-- The server handled a request, by a turn of these bytes and of a room of so many. The number and the
+-- length are those of its outcome, `room` is the room after it, and the first `shown` bytes of that are
+-- there to be copied out. The turn is the last moment of the server's history.
+pub record Turned (old : ServerState State) (request : List ℕ) (total : ℕ) (number : ℤ) (len : ℕ)
+    (room : List ℕ) (shown : ℕ) (new : ServerState State) : Type 0 where
+  pub t : Turn
+  pub asked : t.request ≡ request
+  pub space : length t.room ≡ total
+  pub numbered : number ≡ number_of t.outcome
+  pub counted : len ≡ length_of t.outcome
+  pub left : room ≡ t.room_after
+  pub copied : shown ≡ shown_of t.outcome total
+  pub extends : Extends old (Handled t ∷ []) new
+
+-- a message: one turn more, or it was not handed on
+abbrev pub Answered : (old : ServerState State) → (request : List ℕ) → (total : ℕ) → (number : ℤ)
+    → (len : ℕ) → (room : List ℕ) → (shown : ℕ) → (new : ServerState State) → Type 0
+Answered old request total number len room shown new =
+    Turned old request total number len room shown new
+    ⊎ Refused old request number len shown new
+
+-- the file system was told the time: one change more
+abbrev pub Told : (old : ServerState State) → (seconds nanoseconds : ℕ)
+    → (new : ServerState State) → Type 0
+Told old seconds nanoseconds new =
+    Extends old (Changed old.fs (told old.fs seconds nanoseconds) ∷ []) new
