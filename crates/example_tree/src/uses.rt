@@ -1,11 +1,18 @@
-//! Two callers, with what follows for them from the tables alone.
+//! Callers, with what follows for them from the tables alone.
 
-ghost use Rattle.std.specs.Prelude.{◌≡◌, ◌≤◌, codes, Ok};
+ghost use Rattle.std.specs.Prelude.{◌≡◌, ◌≤◌, [], ◌∷◌, codes, Ok, Err, Some, None, MatchResult, option_map};
+ghost use Rattle.std.specs.Duration.{as_nanos};
+ghost use Rattle.vfs_files.specs.Items.{item_of};
 
 use crate::Docs;
-use vfs_files::{Context, FileSystem, ZeroCopyWriter};
+use std::time::Duration;
+use vfs_files::{
+    CStr, Context, DirEntry, DirectoryIterator, Entry, Extensions, FileSystem, ZeroCopyReader,
+    ZeroCopyWriter,
+};
 use vfs_flags::Fault;
-use vfs_read_only::{ReadOnly, name_in};
+use vfs_read_only::{ReadOnly, name_in, name_position};
+use vfs_wire::Attr;
 
 /// A LOOKUP: `hello.txt` of the root is node 2.
 fn node_of_hello(ctx: Context) -> u64
@@ -26,4 +33,100 @@ fn end_of_hello<W: ZeroCopyWriter>(ctx: Context, w: &mut W) -> Result<usize, Fau
 {
     let mut fs = ReadOnly { tree: Docs };
     fs.read(ctx, 2, 0, w, 100, 7, None, 0)
+}
+
+/// A LOOKUP: the entry of `a.txt` in `docs`, which a client may rely on for a second.
+fn entry_of_a(ctx: Context) -> Result<Entry, Fault>
+    ensures entry { MatchResult result
+        (λ entry. (entry.inode ≡ 4) × (entry.generation ≡ 0) × (entry.attr.size ≡ 2)
+        × (entry.attr.mode ≡ 0o100444) × (entry.attr.nlink ≡ 1))
+        (λ _. ⊥) }
+    ensures second { MatchResult result
+        (λ entry. (as_nanos entry.attr_timeout ≡ 1000000000)
+        × (as_nanos entry.entry_timeout ≡ 1000000000))
+        (λ _. ⊥) }
+{
+    let mut fs = ReadOnly { tree: Docs };
+    fs.lookup(ctx, 3, name_in(b"a.txt\0"))
+}
+
+/// A GETATTR: `hello.txt` has thirteen bytes, for a second.
+fn attributes_of_hello(ctx: Context) -> Result<(Attr, Duration), Fault>
+    ensures { MatchResult result
+        (λ reply. (reply.0.ino ≡ 2) × (reply.0.size ≡ 13) × (reply.0.mode ≡ 0o100444)
+        × (as_nanos reply.1 ≡ 1000000000))
+        (λ _. ⊥) }
+{
+    let mut fs = ReadOnly { tree: Docs };
+    fs.getattr(ctx, 2, None)
+}
+
+/// The nodes of the first two items of `docs`: it is its own `.`, and the root its `..`.
+fn nodes_of_docs(ctx: Context) -> Result<[Option<u64>; 2], Fault>
+    ensures { result ≡ Ok (Some 3 ∷ Some 1 ∷ []) }
+{
+    let mut fs = ReadOnly { tree: Docs };
+    let mut it = fs.readdir(ctx, 3, 0, 4096, 0)?;
+    Ok([node(it.next()), node(it.next())])
+}
+
+/// What is read of `docs` behind its second item: `a.txt`, and then the end.
+fn nodes_behind_dots(ctx: Context) -> Result<[Option<u64>; 2], Fault>
+    ensures { result ≡ Ok (Some 4 ∷ None ∷ []) }
+{
+    let mut fs = ReadOnly { tree: Docs };
+    let mut it = fs.readdir(ctx, 3, 0, 4096, 2)?;
+    Ok([node(it.next()), node(it.next())])
+}
+
+// The node of an entry, if there is one.
+fn node(entry: Option<DirEntry<'_>>) -> Option<u64>
+    ensures { result ≡ option_map (λ i. i.ino) (item_of entry.entry) }
+{
+    match entry {
+        Some(entry) => Some(entry.ino),
+        None => None,
+    }
+}
+
+/// A MKDIR, whatever its name: EROFS.
+fn nothing_is_made(ctx: Context, name: CStr<'_>) -> Result<Entry, Fault>
+    ensures { result ≡ Err (Some 30) }
+{
+    let mut fs = ReadOnly { tree: Docs };
+    fs.mkdir(ctx, 1, name, 0o755, 0, Extensions::none())
+}
+
+/// An UNLINK and a WRITE, whatever they are of: EROFS.
+fn nothing_is_changed<R: ZeroCopyReader>(
+    ctx: &Context,
+    name: CStr<'_>,
+    r: &mut R,
+) -> (Result<(), Fault>, Result<u32, Fault>)
+    ensures unlink { result.0 ≡ Err (Some 30) }
+    ensures write { result.1 ≡ Err (Some 30) }
+{
+    let mut fs = ReadOnly { tree: Docs };
+    let unlink = fs.unlink(*ctx, 1, name);
+    let write = fs.write(*ctx, 2, 0, r, 3, 0, None, false, false, 0);
+    (unlink, write)
+}
+
+/// An ACCESS: to read (4) is granted, to write (2) is EROFS.
+fn access_to_read(ctx: &Context) -> (Result<(), Fault>, Result<(), Fault>)
+    ensures read { result.0 ≡ Ok tt }
+    ensures write { result.1 ≡ Err (Some 30) }
+{
+    let mut fs = ReadOnly { tree: Docs };
+    let read = fs.access(*ctx, 2, 4);
+    let write = fs.access(*ctx, 2, 2);
+    (read, write)
+}
+
+/// The first place of a name among three, of which two are alike.
+fn place_of_b() -> Option<usize>
+    ensures { result ≡ Some 1 }
+{
+    let names = [b"a".as_slice(), b"b".as_slice(), b"b".as_slice()];
+    name_position(&names, b"b")
 }
