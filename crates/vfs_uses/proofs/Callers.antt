@@ -73,12 +73,12 @@ ask-long limits options room small =
 
 module _ {S I : Type 0} (allows : S → Call → Handed I → S → Type 0) (gives : I → Option Item → I → Type 0) where
   -- a run without events leaves the state as it was
-  IsRun-no_events : (old new : S) (run : List (Happening I × S)) → IsRun allows gives None old run new → events_of run ≡ [] → new ≡ old
+  pub IsRun-no_events : (old new : S) (run : List (Happening I × S)) → IsRun allows gives None old run new → events_of run ≡ [] → new ≡ old
   IsRun-no_events old new [] r e = r
   IsRun-no_events old new (h ∷ hs) r e = absurd cc
 
   -- a server is as it was, where each of its three parts is
-  same_server : (old new : ServerState S) → new.fs ≡ old.fs → new.options ≡ old.options → new.limits ≡ old.limits → new ≡ old
+  pub same_server : (old new : ServerState S) → new.fs ≡ old.fs → new.options ≡ old.options → new.limits ≡ old.limits → new ≡ old
   same_server old new f o l =
       ap (λ (s : S). let server : ServerState S = record { options = new.options; limits = new.limits; fs = s } in server) f
       ∙ ap (λ (n : ℕ). let server : ServerState S = record { options = n; limits = new.limits; fs = old.fs } in server) o

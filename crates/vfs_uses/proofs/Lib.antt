@@ -3,3 +3,4 @@ pub mod SessionCallers
 pub mod DirectoryCallers
 pub mod ScriptTransfers
 pub mod SmallCallers
+pub mod ServeCallers

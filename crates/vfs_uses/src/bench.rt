@@ -2,6 +2,7 @@
 
 ghost use Rattle.std.specs.Prelude.{◌≡◌, ◌≤◌, ◌<◌, ◌++◌, [], ◌∷◌, true, false, length, map, vec_len};
 ghost use Rattle.std.specs.Prelude.{Some, None, Ok, Err, IfSome, IfOk, IfErr, IsOk, IsSome};
+ghost use Rattle.vfs_flags.specs.declared.opcode.Opcode.{Opcode};
 ghost use Rattle.vfs_files.specs.Answers.{entry_answer};
 ghost use Rattle.vfs_files.specs.Calls.{no_such_call, not_served, out_of_memory};
 ghost use Rattle.vfs_bench.specs.Directories.{GivesNext, Reading};
@@ -11,12 +12,12 @@ ghost use Rattle.vfs_bench.specs.declared.note.NoteKind.TheVariants.{Nothing, Fa
 use crate::files::forget_each;
 use std::alloc::Global;
 use vfs_bench::laws::notes_are_the_calls;
-use vfs_bench::{Recorder, Script, ScriptDirectory, ScriptEntries, ScriptFile, ScriptItem};
+use vfs_bench::{Note, Recorder, Script, ScriptDirectory, ScriptEntries, ScriptFile, ScriptItem};
 use vfs_files::{
     CStr, Context, DirectoryIterator, Entry, FileSystem, GetxattrReply, ZeroCopyReader,
     ZeroCopyWriter,
 };
-use vfs_flags::{Errno, Fault};
+use vfs_flags::{Errno, Fault, Opcode};
 use vfs_unserved::Unserved;
 
 /// Looks a name up in node 9 of a file system that serves nothing: one note more says so.
@@ -256,4 +257,30 @@ fn count_of_calls(recorder: &Recorder<Unserved>) -> Option<usize>
     } else {
         Some(recorder.notes().len())
     }
+}
+
+/// A recorder whose notes are forgotten has none, has missed no call, and has the same file system
+/// inside and as many places; and that is what comes out.
+fn cleared(mut recorder: Recorder<Script>) -> (usize, bool, Script)
+    ensures notes { result.0 ≡ 0 }
+    ensures missed { result.1 ≡ false }
+    ensures inner { result.2 ≡ recorder.inner }
+{
+    recorder.clear();
+    (
+        recorder.notes().len(),
+        recorder.missed(),
+        recorder.into_inner(),
+    )
+}
+
+/// The opcode of a note of a LOOKUP, and that of one that no recorder makes.
+#[tactic(auto, unfolding(vfs_flags::specs::Opcode::opcode_of))]
+fn opcodes_of_notes(lookup: &Note, none: &Note) -> (Option<Opcode>, Option<Opcode>)
+    requires lookup { lookup.now.call ≡ 1 }
+    requires none { none.now.call ≡ 7 }
+    ensures lookup { result.0 ≡ Some Opcode.Lookup }
+    ensures none { result.1 ≡ None }
+{
+    (lookup.opcode(), none.opcode())
 }

@@ -1,5 +1,6 @@
 //! The server at work.
 
+mod serve;
 mod session;
 
 ghost use Rattle.std.specs.Prelude.{◌≡◌, ◌≢◌, ◌≤◌, ◌-◌, ◌++◌, [], true, length, take, drop, Err, Some, IfSome, OnSome};
