@@ -1,19 +1,18 @@
 -- What comes of one request that goes through the simplest transport.
-use Rattle.std.proofs.Common.{◌≡◌, ◌≤◌, ◌^◌, ◌∙◌, ◌⊎◌, ℕ, Bool, true, List, length, take, nat_lt, Option, None, Result, Ok, Err, IfOk, MatchResult, Vec, ap, arith, subst, inl, inr, refl}
+use Rattle.std.proofs.Common.{◌≡◌, ◌≤◌, ◌∙◌, ◌⊎◌, ℕ, true, List, length, take, nat_lt, Option, None, Result, Ok, Err, IfOk, MatchResult, Vec, ap, arith, subst, inl, inr, refl}
 use Rattle.std.specs.declared.alloc.Global.{Global}
 use Rattle.std.proofs.lemmas.Bool.Decides.{nat_tests}
 use Rattle.vfs_segments.specs.Written.{Written, whole}
 use Rattle.vfs_files.specs.Items.{Item}
 use Rattle.vfs_files.specs.Answers.{Plain, Answer, Handed}
 use Rattle.vfs_files.specs.Calls.{Call, default_answer}
-use Rattle.vfs_files.specs.Runs.{events_of}
 use Rattle.vfs_grammar.specs.Ask.{ask}
 use Rattle.vfs_grammar.specs.Forms.{Ask, refused}
 use Rattle.vfs_grammar.specs.Turn.{Turn, Follows, turn_tells}
 use Rattle.vfs_grammar.specs.declared.error.Error.{Error}
 use Rattle.vfs_grammar.specs.declared.error.Error.TheVariants.{DecodeMessage}
 use Rattle.vfs_grammar.specs.declared.limits.Limits.{Limits}
-use Rattle.vfs_server.specs.Served.{Served, Stepped, room_of}
+use Rattle.vfs_server.specs.Served.{Served, room_of}
 use Rattle.vfs_server.specs.Step.{ServerState, IsStep, turn_over}
 use Rattle.vfs_server.specs.declared.transport.error.ServeError.{ServeError}
 use Rattle.vfs_server.specs.declared.transport.error.ServeError.TheVariants.{OutOfMemory, Segments, Server, FileSystem}

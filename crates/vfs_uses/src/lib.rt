@@ -15,7 +15,6 @@ mod messages;
 mod segments;
 mod server;
 mod transfers;
-mod tree;
 mod views;
 mod wire;
 mod wire_more;

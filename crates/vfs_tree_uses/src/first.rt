@@ -1,15 +1,16 @@
-//! Small callers, as examples: what comes of a few calls of a new tree, by the relation alone.
+//! The first calls of a new tree.
 
-ghost use Rattle.std.specs.Prelude.{◌≡◌, codes, true, Err, Some, OnOk, IfOk, IfSome};
+ghost use Rattle.std.specs.Prelude.{◌≡◌, codes, true, Err, Some, IfOk, IfSome};
 ghost use Rattle.vfs_flags.specs.Errors.{enoent, eisdir};
 ghost use Rattle.vfs_files.specs.Answers.{Count, value_or_count};
-ghost use Rattle.vfs_tree.specs.Listing.{dot_items};
-ghost use Rattle.vfs_uses.specs.Trees.{small_tree, tree_with_file};
+ghost use Rattle.vfs_nodes.specs.Listing.{dot_items};
+ghost use Rattle.vfs_tree_uses.specs.Trees.{small_tree};
 
+use crate::support::root;
 use bitflags::Flags;
 use std::alloc::Global;
 use vfs_files::{CStr, Context, Entry, EntryList, Extensions, FileSystem, GetxattrReply};
-use vfs_flags::{Fault, GuestGid, GuestUid, OpenOptions, SetattrValid, SetxattrFlags};
+use vfs_flags::{Fault, GuestGid, GuestUid, SetattrValid, SetxattrFlags};
 use vfs_tree::{Limits, Time, TreeFs};
 use vfs_wire::SetattrIn;
 
@@ -52,15 +53,6 @@ fn first_directory(tree: &mut TreeFs, ctx: Context) -> Result<Entry, Fault>
         sup_gid: None,
     };
     tree.mkdir(ctx, 1, CStr::before_nul(b"d\0", 1), 0o755, 0, plain)
-}
-
-/// The caller of user and group 0.
-fn root() -> Context {
-    Context {
-        uid: GuestUid::from(0),
-        gid: GuestGid::from(0),
-        pid: 1,
-    }
 }
 
 /// What is made is found, by its number.
@@ -177,40 +169,24 @@ fn free_nodes(tree: &mut TreeFs) -> u64
     }
 }
 
-/// An empty file is made, and nothing else changes.
-fn empty_file(tree: &mut TreeFs, ctx: Context) -> Result<(Entry, Option<u64>, OpenOptions), Fault>
+/// A file that was cut to ten bytes has ten.
+fn ten_bytes(tree: &mut TreeFs) -> Option<u64>
     requires { tree.old ≡ small_tree }
-    ensures number { IfOk result (λ made. made.0.inode ≡ 2) }
-    ensures tree { OnOk result (tree.new ≡ tree_with_file ctx.uid ctx.gid) }
+    ensures { IfSome result (λ size. size ≡ 10) }
 {
     let none = Extensions {
         secctx: None,
         sup_gid: None,
     };
-    tree.create(
-        ctx,
-        1,
-        CStr::before_nul(b"f\0", 1),
-        0o644,
-        false,
-        0,
-        0,
-        none,
-    )
-}
-
-/// A file that was cut to ten bytes has ten.
-fn ten_bytes(tree: &mut TreeFs) -> Option<u64>
-    requires { tree.old ≡ tree_with_file 0 0 }
-    ensures { IfSome result (λ size. size ≡ 10) }
-{
+    let name = CStr::before_nul(b"f\0", 1);
+    tree.create(root(), 1, name, 0o644, false, 0, 0, none).ok()?;
     let wanted = SetattrIn {
         size: 10,
         ..SetattrIn::default()
     };
-    tree.setattr(root(), 2, wanted, None, SetattrValid::SIZE)
+    let (attr, _) = tree
+        .setattr(root(), 2, wanted, None, SetattrValid::SIZE)
         .ok()?;
-    let (attr, _) = tree.getattr(root(), 2, None).ok()?;
     Some(attr.size)
 }
 

@@ -1,0 +1,130 @@
+-- Trees to call, written out.
+use Rattle.std.specs.Prelude.{ℕ, ◌^◌, ◌-◌, List, [], ◌∷◌, codes}
+use Rattle.vfs_nodes.specs.Children.{Children, Link, no_children}
+use Rattle.vfs_nodes.specs.Node.{weight}
+use Rattle.vfs_nodes.specs.Xattrs.{Xattr}
+use Rattle.vfs_nodes.specs.declared.children.Child.{Child}
+use Rattle.vfs_nodes.specs.declared.kind.Kind.{Kind}
+use Rattle.vfs_nodes.specs.declared.kind.Kind.TheVariants as kind
+use Rattle.vfs_nodes.specs.declared.node.Node.{Node}
+use Rattle.vfs_nodes.specs.declared.node.Time.{Time}
+use Rattle.vfs_tree.specs.State.{State}
+use Rattle.vfs_tree.specs.Tree.{first_state}
+use Rattle.vfs_tree.specs.declared.fs.Limits.{Limits}
+
+abbrev pub second_7 : Time
+second_7 = record { seconds = 7; nanoseconds = 0 }
+
+-- at most a hundred nodes and a thousand bytes
+abbrev pub wide : Limits
+wide = record { nodes = 100; bytes = 1000; file = 1000 }
+
+-- a file has at most six bytes
+abbrev pub short : Limits
+short = record { nodes = 9; bytes = 900; file = 6 }
+
+-- at most six bytes
+abbrev pub narrow : Limits
+narrow = record { nodes = 9; bytes = 6; file = 900 }
+
+-- at most two nodes
+abbrev pub pair : Limits
+pair = record { nodes = 2; bytes = 900; file = 900 }
+
+-- the root alone
+abbrev pub single : Limits
+single = record { nodes = 1; bytes = 900; file = 900 }
+
+-- a new one, within these limits, at second 7
+abbrev pub small_tree : State
+small_tree =
+    first_state 0 0 0o755 (record { nodes = 100; bytes = 1000; file = 1000 })
+    (record { seconds = 7; nanoseconds = 0 })
+
+-- a node of user and group 0, in the root, as it was at second 7: with these names or bytes, and with so
+-- many names and lookups of its own
+abbrev pub node_in_root :
+    Kind → (permissions : ℕ) → Children → (contents : List ℕ) → (names lookups : ℕ) → Node
+node_in_root kind permissions children contents names lookups = record {
+  kind = kind;
+  permissions = permissions;
+  uid = 0;
+  gid = 0;
+  atime = second_7;
+  mtime = second_7;
+  ctime = second_7;
+  parent = 1;
+  children = children;
+  contents = contents;
+  xattrs = [];
+  names = names;
+  lookups = lookups;
+}
+
+-- a file of these bytes, of one name, and held by one lookup
+abbrev pub file_of : (contents : List ℕ) → Node
+file_of contents = node_in_root kind.File 0o644 no_children contents 1 1
+
+-- a directory that is empty, likewise
+abbrev pub empty_directory : Node
+empty_directory = node_in_root kind.Directory 0o755 no_children [] 1 1
+
+-- a name that leads to a node of this kind
+abbrev pub link_to : (name : List ℕ) → (node : ℕ) → Kind → Link
+link_to name node kind = record { name = name; child = record { node = node; kind = kind } }
+
+-- the root alone, with one name, `f`, that leads to node 2, which is this one
+abbrev pub tree_of : Limits → Node → State
+tree_of limits node =
+    let last = 2 ^ 63 - 1 in
+    let names : Children =
+    record { links = (last, link_to (codes "f") 2 node.kind) ∷ []; next = last - 1 } in
+    record {
+      nodes = (1, node_in_root kind.Directory 0o755 names [] 1 0) ∷ (2, node) ∷ [];
+      next = 3;
+      used = weight node;
+      inodes = 2;
+      limits = limits;
+      now = second_7;
+    }
+
+-- a tree with a file `f` of these bytes
+abbrev pub file_tree : Limits → (contents : List ℕ) → State
+file_tree limits contents = tree_of limits (file_of contents)
+
+-- a tree with a file `f` of no bytes and these extended attributes
+abbrev pub attribute_tree : Limits → List Xattr → State
+attribute_tree limits xattrs = tree_of limits (record (file_of []) { xattrs = xattrs })
+
+-- the attribute `user.a`, with this value
+abbrev pub user_a : (value : List ℕ) → Xattr
+user_a value = record { name = codes "user.a"; value = value }
+
+-- a tree whose root has two names, `f` and `d`: this file, node 2, and this directory, node 3
+abbrev pub tree_of_two : (f d : Child) → State
+tree_of_two f d =
+    let last = 2 ^ 63 - 1 in
+    let names : Children =
+    record {
+      links =
+          (last - 1, record { name = codes "d"; child = d })
+          ∷ (last, record { name = codes "f"; child = f }) ∷ [];
+      next = last - 2;
+    } in
+    record {
+      nodes =
+          (1, node_in_root kind.Directory 0o755 names [] 1 0)
+          ∷ (2, file_of []) ∷ (3, empty_directory) ∷ [];
+      next = 4;
+      used = 0;
+      inodes = 3;
+      limits = wide;
+      now = second_7;
+    }
+
+-- where the names of node 2 and of node 3 lead
+abbrev pub to_file : Child
+to_file = record { node = 2; kind = kind.File }
+
+abbrev pub to_directory : Child
+to_directory = record { node = 3; kind = kind.Directory }

@@ -1,0 +1,156 @@
+//! The bytes of a file: they are read, written, cut and made longer.
+
+ghost use Rattle.std.specs.Prelude.{◌≡◌, [], ◌∷◌, ◌++◌, codes, Ok, Err, Some, None, MatchResult, OnOk};
+ghost use Rattle.std.specs.Duration.{as_nanos};
+ghost use Rattle.vfs_flags.specs.Flags.{open_options_bits};
+ghost use Rattle.vfs_tree_uses.specs.Trees.{file_tree, small_tree, wide};
+
+use crate::support::root;
+use std::time::Duration;
+use vfs_files::{CStr, Extensions, FileSystem, ZeroCopyReader, ZeroCopyWriter};
+use vfs_flags::{Fault, OpenOptions, SetattrValid};
+use vfs_tree::TreeFs;
+use vfs_wire::{Attr, SetattrIn};
+
+/// A file that was made has no bytes; what is written into it is what is read of it then.
+#[tactic(auto, unfolding(vfs_views::specs::Segments::with_bytes_at))]
+fn written_and_read<R: ZeroCopyReader, W: ZeroCopyWriter>(
+    tree: &mut TreeFs,
+    r: &mut R,
+    w: &mut W,
+) -> Result<(u32, usize), Fault>
+    requires tree { tree.old ≡ small_tree }
+    requires bytes { R.left r.old ≡ codes "HEY" }
+    requires room { W.room w.old ≡ 100 }
+    ensures answers { MatchResult result (λ counts. counts ≡ (3, 3)) (λ fault. fault ≡ Some 12) }
+    ensures put { OnOk result (W.puts w.old (codes "HEY") w.new) }
+{
+    let name = CStr::before_nul(b"f\0", 1);
+    tree.create(root(), 1, name, 0o644, false, 0, 0, Extensions::none())?;
+    let written = tree.write(root(), 2, 0, r, 3, 0, None, false, false, 0)?;
+    let read = tree.read(root(), 2, 0, w, 4096, 0, None, 0)?;
+    Ok((written, read))
+}
+
+/// READ of a file with more room than it has bytes: all of them. Nothing changes.
+fn whole_file<W: ZeroCopyWriter>(tree: &mut TreeFs, w: &mut W) -> Result<usize, Fault>
+    requires tree { tree.old ≡ file_tree wide (codes "hello") }
+    requires room { W.room w.old ≡ 100 }
+    ensures answer { result ≡ Ok 5 }
+    ensures put { W.puts w.old (codes "hello") w.new }
+    ensures same { tree.new ≡ tree.old }
+{
+    tree.read(root(), 2, 0, w, 4096, 0, None, 0)
+}
+
+/// READ of two bytes from place 1 on: just these.
+fn two_bytes<W: ZeroCopyWriter>(tree: &mut TreeFs, w: &mut W) -> Result<usize, Fault>
+    requires tree { tree.old ≡ file_tree wide (codes "hello") }
+    requires room { W.room w.old ≡ 100 }
+    ensures answer { result ≡ Ok 2 }
+    ensures put { W.puts w.old (codes "el") w.new }
+{
+    tree.read(root(), 2, 0, w, 2, 1, None, 0)
+}
+
+/// READ of the root, which is a directory: EISDIR, and nothing changes.
+fn directory_is_not_read<W: ZeroCopyWriter>(tree: &mut TreeFs, w: &mut W) -> Result<usize, Fault>
+    requires { tree.old ≡ small_tree }
+    ensures refused { result ≡ Err (Some 21) }
+    ensures same { tree.new ≡ tree.old }
+{
+    tree.read(root(), 1, 0, w, 4096, 0, None, 0)
+}
+
+/// WRITE over the beginning of a file: those bytes are written and no others, and no memory is
+/// wanted.
+#[tactic(auto, unfolding(vfs_views::specs::Segments::with_bytes_at))]
+fn written_over<R: ZeroCopyReader>(tree: &mut TreeFs, r: &mut R) -> Result<u32, Fault>
+    requires tree { tree.old ≡ file_tree wide (codes "hello") }
+    requires bytes { R.left r.old ≡ codes "HEY" }
+    ensures answer { result ≡ Ok 3 }
+    ensures bytes { tree.new ≡ file_tree wide (codes "HEYlo") }
+{
+    tree.write(root(), 2, 0, r, 3, 0, None, false, false, 0)
+}
+
+/// WRITE two bytes behind the end of a file: zeros fill the gap. Memory alone can be wanting, and
+/// then nothing changes.
+#[tactic(auto, unfolding(vfs_views::specs::Segments::with_bytes_at))]
+fn written_behind_the_end<R: ZeroCopyReader>(tree: &mut TreeFs, r: &mut R) -> Result<u32, Fault>
+    requires tree { tree.old ≡ file_tree wide (codes "hello") }
+    requires bytes { R.left r.old ≡ codes "HEY" }
+    ensures { MatchResult result
+        (λ count. (count ≡ 3)
+        × (tree.new ≡ file_tree wide (codes "hello" ++ (0 ∷ 0 ∷ [] ++ codes "HEY"))))
+        (λ fault. (fault ≡ Some 12) × (tree.new ≡ tree.old)) }
+{
+    tree.write(root(), 2, 0, r, 3, 7, None, false, false, 0)
+}
+
+/// WRITE of no bytes behind the end of a file: it wants no memory, and nothing changes.
+fn nothing_written<R: ZeroCopyReader>(tree: &mut TreeFs, r: &mut R) -> Result<u32, Fault>
+    requires { tree.old ≡ file_tree wide (codes "hello") }
+    ensures answer { result ≡ Ok 0 }
+    ensures same { tree.new ≡ tree.old }
+{
+    tree.write(root(), 2, 0, r, 0, 7, None, false, false, 0)
+}
+
+/// SETATTR of a size.
+fn resize(tree: &mut TreeFs, size: u64) -> Result<(Attr, Duration), Fault>
+    requires { tree.old ≡ file_tree wide (codes "hello") }
+    ensures cut { size ≡ 2 → MatchResult result
+        (λ reply. (reply.0.size ≡ 2) × (as_nanos reply.1 ≡ 86400000000000)
+        × (tree.new ≡ file_tree wide (codes "he")))
+        (λ _. ⊥) }
+    ensures longer { size ≡ 7 → MatchResult result
+        (λ reply. (reply.0.size ≡ 7)
+        × (tree.new ≡ file_tree wide (codes "hello" ++ 0 ∷ 0 ∷ [])))
+        (λ fault. (fault ≡ Some 12) × (tree.new ≡ tree.old)) }
+{
+    let wanted = SetattrIn {
+        size,
+        ..SetattrIn::default()
+    };
+    tree.setattr(root(), 2, wanted, None, SetattrValid::SIZE)
+}
+
+/// FALLOCATE of bytes that are there: it wants no memory, and nothing changes.
+fn place_that_is_there(tree: &mut TreeFs) -> Result<(), Fault>
+    requires { tree.old ≡ file_tree wide (codes "hello") }
+    ensures answer { result ≡ Ok tt }
+    ensures same { tree.new ≡ tree.old }
+{
+    tree.fallocate(root(), 2, 0, 0, 0, 5)
+}
+
+/// FALLOCATE past the end of a file: zeros stand there.
+fn more_place(tree: &mut TreeFs) -> Result<(), Fault>
+    requires { tree.old ≡ file_tree wide (codes "hello") }
+    ensures { MatchResult result
+        (λ _. tree.new ≡ file_tree wide (codes "hello" ++ 0 ∷ 0 ∷ []))
+        (λ fault. (fault ≡ Some 12) × (tree.new ≡ tree.old)) }
+{
+    tree.fallocate(root(), 2, 0, 0, 4, 3)
+}
+
+/// OPEN: what the client keeps of a file stays true (`FOPEN_KEEP_CACHE`, 2), and nothing changes.
+fn opened(tree: &mut TreeFs) -> Result<(Option<u64>, OpenOptions), Fault>
+    requires { tree.old ≡ file_tree wide (codes "hello") }
+    ensures answer { MatchResult result
+        (λ reply. (reply.0 ≡ None) × (open_options_bits reply.1 ≡ 2)) (λ _. ⊥) }
+    ensures same { tree.new ≡ tree.old }
+{
+    tree.open(root(), 2, false, 0)
+}
+
+/// OPEN with O_TRUNC (0o1000): the bytes are gone, and the client keeps none.
+fn opened_and_emptied(tree: &mut TreeFs) -> Result<(Option<u64>, OpenOptions), Fault>
+    requires { tree.old ≡ file_tree wide (codes "hello") }
+    ensures answer { MatchResult result
+        (λ reply. (reply.0 ≡ None) × (open_options_bits reply.1 ≡ 0)) (λ _. ⊥) }
+    ensures bytes { tree.new ≡ file_tree wide [] }
+{
+    tree.open(root(), 2, false, 0o1000)
+}
