@@ -1,3 +1,4 @@
 mod Rooms
 mod Steps
 mod Histories
+mod Calling

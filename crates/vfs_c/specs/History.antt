@@ -1,5 +1,6 @@
 -- What a call adds to the history of the server behind a handle.
 use Rattle.std.specs.Prelude.{◌≡◌, ◌⊎◌, ℕ, ℤ, List, [], ◌∷◌, ◌++◌, length}
+use Rattle.vfs_grammar.specs.Books.{KeepsBooks}
 use Rattle.vfs_grammar.specs.Turn.{Turn}
 use Rattle.vfs_server.specs.Step.{ServerState}
 use Rattle.vfs_history.specs.History.{Moment, Handled, Changed, IsHistory}
@@ -40,3 +41,21 @@ abbrev pub Told : (old : ServerState State) → (seconds nanoseconds : ℕ)
     → (new : ServerState State) → Type 0
 Told old seconds nanoseconds new =
     Extends old (Changed old.fs (told old.fs seconds nanoseconds) ∷ []) new
+
+-- A server was told the time, handled a request, was told the time again, and handled another one: these
+-- are its history, and the books of both turns are kept.
+pub record HandlesTwo (first : ServerState State) (one two : List ℕ) (now : ServerState State)
+    : Type 0 where
+  pub a : Turn
+  pub b : Turn
+  pub between : State
+  pub asked_first : a.request ≡ one
+  pub asked_then : b.request ≡ two
+  pub history : IsHistory Allows Gives first
+      (Changed first.fs (told first.fs 1 0)
+      ∷ Handled a
+      ∷ Changed between (told between 2 0)
+      ∷ Handled b
+      ∷ [])
+      now
+  pub books : KeepsBooks (a ∷ b ∷ [])

@@ -15,6 +15,7 @@ mod files;
 mod handle;
 mod laws;
 mod session;
+mod uses;
 
 ghost use Rattle.std.specs.Prelude.{◌≡◌, ◌≢◌, ◌≤◌, ◌<◌, ◌⊎◌, ◌++◌, length, take, drop, min, IfSome, MatchOption};
 ghost use Rattle.std.specs.declared.option.Option.TheVariants.{None, Some};

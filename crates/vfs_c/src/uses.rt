@@ -1,0 +1,42 @@
+//! A transport that calls the library in a row, as that of `/dev/fuse` does.
+
+ghost use Rattle.std.specs.Prelude.{◌≡◌, MatchOption};
+ghost use Rattle.vfs_segments.specs.Segments.{segments_of, flat_bytes};
+ghost use Rattle.vfs_c.specs.Codes.{ok};
+ghost use Rattle.vfs_c.specs.History.{HandlesTwo};
+ghost use Rattle.vfs_c.specs.Served.{new_server};
+
+use crate::codes::OK;
+use crate::files::{Files, Settings};
+use crate::handle::Handle;
+use crate::{nizwarf_message_at, nizwarf_new_at, nizwarf_tell_time_at};
+use std::alloc::Global;
+use vfs_history::laws::history_keeps_books;
+
+/// Makes a server, and has it handle two messages, each after it was told the time. If both are
+/// answered, the server's history is these four moments, and the books of both turns are kept.
+fn two_messages(
+    alloc: Global,
+    handle: &mut Handle,
+    settings: &Settings,
+    one: &[&[u8]],
+    two: &[&[u8]],
+) -> i32
+    ensures { result ≡ ok → MatchOption handle.new.value ⊥ (λ s.
+        HandlesTwo (new_server 4096 1048576 settings.now)
+        (flat_bytes (segments_of one.now)) (flat_bytes (segments_of two.now)) s.server) }
+{
+    history_keeps_books::<Files>();
+    let made = nizwarf_new_at(alloc, handle, 4096, 1_048_576, settings);
+    if made != OK {
+        return made;
+    }
+    let mut len = 0;
+    let _ = nizwarf_tell_time_at(alloc, handle, 1, 0);
+    let first = nizwarf_message_at(alloc, handle, one, 4096, &mut len);
+    if first != OK {
+        return first;
+    }
+    let _ = nizwarf_tell_time_at(alloc, handle, 2, 0);
+    nizwarf_message_at(alloc, handle, two, 4096, &mut len)
+}
