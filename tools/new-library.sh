@@ -19,8 +19,9 @@ mkdir "crates/$name" "tools/unproved/$name"
 cp -R crates/vfs_c/{src,specs,proofs,must-fail} "crates/$name/"
 cp tools/unproved/vfs_c/* "tools/unproved/$name/"
 grep -rl vfs_c "crates/$name" | xargs sed -i "s/\bvfs_c\b/$name/g"
-# The laws are those of the tree.
-rm -r "crates/$name/src/laws.rt" "crates/$name/specs/Laws.antt" "crates/$name/proofs/laws"
+# The laws and one edit are those of the tree.
+rm -r "crates/$name/src/laws.rt" "crates/$name/specs/Laws.antt" "crates/$name/proofs/laws" \
+    "crates/$name/must-fail/the_root_has_the_group_of_its_user.edit"
 sed -i '/^mod laws;$/d' "crates/$name/src/lib.rt"
 sed -i '/^pub mod Laws$/d' "crates/$name/specs/Lib.antt"
 sed -i "/^vfs_c staticlib:/{p;s/^vfs_c/$name/;s/ vfs_tree_laws//}" crates.txt
