@@ -490,10 +490,11 @@ pub trait FileSystem {
             (Plain (done_answer result))
             self.new };
 
-    /// Makes a file of this name in the directory `parent`, unless it is there, and opens it
-    /// (CREATE). `mode` and `umask` are as for `mknod`, `kill_priv` as for `open`, and `flags` too,
-    /// but with those that make a file. The answer is that of both: it counts one lookup. A name
-    /// that is there is EEXIST where `flags` have `O_EXCL`. After ENOSYS the kernel calls `mknod`
+    /// Makes a file of this name in the directory `parent`, and opens it (CREATE). `mode` and
+    /// `umask` are as for `mknod`, `kill_priv` as for `open`, and `flags` too, but with those that
+    /// make a file. The answer is that of both: it counts one lookup. A name that is there is
+    /// EEXIST if `flags` have `O_EXCL`. Without it the file may be opened, or the name refused with
+    /// EEXIST: a kernel asks only for names that it takes to be free. After ENOSYS it calls `mknod`
     /// and `open` in its place.
     fn create(
         &mut self,
