@@ -1,6 +1,8 @@
 -- Steps in order, as histories.
-use Rattle.std.proofs.Common.{◌≡◌, ℕ, List, [], ◌∷◌, ◌++◌, map, Option, Result, refl, ap, sym, subst, ◌∙◌}
+use Rattle.std.proofs.Common.{◌≡◌, ℕ, List, [], ◌∷◌, ◌++◌, map, Option, Result, Ok, refl, ap, sym, subst, ◌∙◌}
 use Rattle.std.proofs.lemmas.List.{map-append}
+use Rattle.std.specs.declared.alloc.Global.{Global}
+use Rattle.std.specs.declared.vec.Vec.{Vec}
 use Rattle.vfs_segments.specs.Unread.{Unread}
 use Rattle.vfs_segments.specs.Written.{Written}
 use Rattle.vfs_files.specs.Items.{Item}
@@ -9,9 +11,11 @@ use Rattle.vfs_grammar.specs.Books.{KeepsBooks}
 use Rattle.vfs_grammar.specs.Samples.{lookup_of_a}
 use Rattle.vfs_grammar.specs.Turn.{Turn}
 use Rattle.vfs_grammar.specs.declared.error.Error.{Error}
+use Rattle.vfs_server.specs.Served.{Served}
 use Rattle.vfs_server.specs.Step.{ServerState, IsStep}
-use Rattle.vfs_history.specs.Calls.{IsSeen, KeepsHistory, HandlesEach, GivesBack, forget_of_5}
+use Rattle.vfs_history.specs.Calls.{AreServed, IsSeen, KeepsHistory, HandlesEach, GivesBack, forget_of_5}
 use Rattle.vfs_history.specs.History.{Moment, Handled, Changed, turn_of, turn_of_end, IsHistory, GoesOn, GoesOnChanged, GoesOnEnded, HasOneRun, HistoriesKeepBooks}
+use Rattle.vfs_history.specs.Serving.{GoesOnServed}
 use Rattle.vfs_history.proofs.Going.{turns_of_handled}
 use Rattle.vfs_history.proofs.GivingBack.{gives_back, accepted-replied, is_some, delivered-lookup, accepted-forget}
 
@@ -85,6 +89,49 @@ module _ {S I : Type 0} (allows : S → Call → Handed I → S → Type 0)
         seen s q2 w2 o2 n2 s3 y',
         kept keep s0 (Handled a ∷ Changed s1.fs fs ∷ Handled b ∷ []) s3 all,
       )
+
+  -- a step, state that is taken over, and a step
+  pub taken_over : GoesOn allows gives → GoesOnChanged allows gives → HistoriesKeepBooks allows gives
+      → (s0 s1 s2 s3 : ServerState S) (q1 q2 : List ℕ) (w1 w2 : Written) (o1 o2 : Result ℕ Error)
+      (n1 n2 : Written)
+      → IsStep allows gives s0 q1 w1 o1 n1 s1 → s2.options ≡ s1.options → s2.limits ≡ s1.limits
+      → IsStep allows gives s2 q2 w2 o2 n2 s3
+      → (a b : Turn) × (before after : S) × IsSeen q1 w1 o1 n1 a × IsSeen q2 w2 o2 n2 b
+      × KeepsHistory allows gives s0 (Handled a ∷ Changed before after ∷ Handled b ∷ []) s3
+  taken_over goes changes keep s0 s1 s2 s3 q1 q2 w1 w2 o1 o2 n1 n2 x options limits y =
+      let a : Turn = turn_of allows gives s0 q1 w1 o1 n1 s1 x in
+      let b : Turn = turn_of allows gives s2 q2 w2 o2 n2 s3 y in
+      let one = first_step goes s0 s1 q1 w1 o1 n1 x in
+      let two : IsHistory allows gives s0 (Handled a ∷ Changed s1.fs s2.fs ∷ []) s2 =
+      changes s0 s1 s2 (Handled a ∷ []) one options limits in
+      let all : IsHistory allows gives s0 (Handled a ∷ Changed s1.fs s2.fs ∷ Handled b ∷ []) s3 =
+      goes s0 s2 s3 (Handled a ∷ Changed s1.fs s2.fs ∷ []) q2 w2 o2 n2 two y in (
+        a,
+        b,
+        s1.fs,
+        s2.fs,
+        seen s0 q1 w1 o1 n1 s1 x,
+        seen s2 q2 w2 o2 n2 s3 y,
+        kept keep s0 (Handled a ∷ Changed s1.fs s2.fs ∷ Handled b ∷ []) s3 all,
+      )
+
+  -- two requests that were served, with replies
+  pub served_twice : GoesOnServed allows gives → HistoriesKeepBooks allows gives
+      → (s0 s1 s2 : ServerState S) (q1 q2 : List ℕ) (size : ℕ) (r1 r2 : Vec ℕ Global)
+      → Served allows gives s0 q1 size (Ok r1) s1 → Served allows gives s1 q2 size (Ok r2) s2
+      → AreServed allows gives s0 q1 q2 size r1.items r2.items s2
+  served_twice goes keep s0 s1 s2 q1 q2 size r1 r2 x y =
+      let a = goes s0 s0 s1 [] q1 size (Ok r1) refl x in
+      let b = goes s0 s1 s2 (Handled a.t ∷ []) q2 size (Ok r2) a.history y in
+      record {
+        a = a.t;
+        b = b.t;
+        asked_first = a.served.asked;
+        asked_then = b.served.asked;
+        replied_first = (a.len, a.served.came, a.bytes);
+        replied_then = (b.len, b.served.came, b.bytes);
+        history = kept keep s0 (Handled a.t ∷ Handled b.t ∷ []) s2 b.history;
+      }
 
   -- a step, and an end
   pub then_ended : GoesOn allows gives → GoesOnEnded allows gives → HistoriesKeepBooks allows gives

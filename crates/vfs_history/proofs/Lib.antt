@@ -4,3 +4,4 @@ mod Counts
 mod Sessions
 pub mod Calling
 pub mod GivingBack
+pub mod Serving

@@ -1,5 +1,5 @@
 -- What small callers say of a server that they call message by message.
-use Rattle.std.specs.Prelude.{◌≡◌, ℕ, List, [], ◌∷◌, ◌++◌, map, replicate, Option, Result, Ok}
+use Rattle.std.specs.Prelude.{◌≡◌, ℕ, List, [], ◌∷◌, ◌++◌, map, replicate, take, Option, Result, Ok}
 use Rattle.vfs_segments.specs.Written.{Written}
 use Rattle.vfs_files.specs.Items.{Item}
 use Rattle.vfs_files.specs.Calls.{Call, Handed}
@@ -35,6 +35,19 @@ pub record HandlesEach {S I : Type 0} (allows : S → Call → Handed I → S �
   pub asked : map (λ t. t.request) turns ≡ requests
   pub history : IsHistory allows gives old (map Handled turns) new
   pub books : KeepsBooks turns
+
+-- Two requests were served, each with a room of so many bytes and by a reply of these: a turn each, and
+-- the books of both are kept.
+pub record AreServed {S I : Type 0} (allows : S → Call → Handed I → S → Type 0)
+    (gives : I → Option Item → I → Type 0) (old : ServerState S) (one two : List ℕ) (size : ℕ)
+    (reply_one reply_two : List ℕ) (new : ServerState S) : Type 0 where
+  pub a : Turn
+  pub b : Turn
+  pub asked_first : a.request ≡ one
+  pub asked_then : b.request ≡ two
+  pub replied_first : (len : ℕ) × (a.outcome ≡ Ok len) × (reply_one ≡ take len a.room_after)
+  pub replied_then : (len : ℕ) × (b.outcome ≡ Ok len) × (reply_two ≡ take len b.room_after)
+  pub history : KeepsHistory allows gives old (Handled a ∷ Handled b ∷ []) new
 
 -- request 9, FORGET of node 5 by 1: a header and a record, of 48 bytes
 abbrev pub forget_of_5 : List ℕ

@@ -1,3 +1,4 @@
 pub mod History
 pub mod Sessions
 pub mod Calls
+pub mod Serving

@@ -1,6 +1,7 @@
 //! What holds of every history of a server over any file system.
 
 ghost use Rattle.vfs_history.specs.History.{Begins, GoesOn, GoesOnChanged, GoesOnEnded, HasOneRun, HasTurns, HeldCountsStay, HistoriesJoin, HistoriesKeepBooks, IsCut};
+ghost use Rattle.vfs_history.specs.Serving.{GoesOnServed};
 ghost use Rattle.vfs_history.specs.Sessions.{SessionsAreHistories};
 
 use vfs_files::FileSystem;
@@ -12,10 +13,12 @@ pub fn history_begins<F: FileSystem>()
 {}
 
 /// A history goes on by what a transport calls: by `Server::handle_message`, with the turn of its step;
-/// by a change through `Server::fs_mut` or by a call that carries state over, which leave the options and
+/// by `serve`, with the turn of these bytes and this room, unless the request was not handed on; by a
+/// change through `Server::fs_mut` or by a call that carries state over, which leave the options and
 /// the limits; and by `Server::destroy`, with the turn of a DESTROY.
 pub fn history_goes_on<F: FileSystem>()
     ensures handled { GoesOn F.allows F.DirIter.gives }
+    ensures served { GoesOnServed F.allows F.DirIter.gives }
     ensures changed { GoesOnChanged F.allows F.DirIter.gives }
     ensures ended { GoesOnEnded F.allows F.DirIter.gives }
 {}

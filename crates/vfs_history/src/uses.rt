@@ -1,17 +1,19 @@
 //! Servers that are called message by message.
 
-ghost use Rattle.std.specs.Prelude.{◌≡◌, ◌∷◌, [], map};
+ghost use Rattle.std.specs.Prelude.{◌≡◌, ◌∷◌, [], map, IfOk};
 ghost use Rattle.vfs_grammar.specs.Samples.{lookup_of_a};
 ghost use Rattle.vfs_grammar.specs.Turn.{Turn};
-ghost use Rattle.vfs_history.specs.Calls.{forget_of_5, GivesBack, HandlesEach, IsSeen, KeepsHistory};
+ghost use Rattle.vfs_history.specs.Calls.{AreServed, forget_of_5, GivesBack, HandlesEach, IsSeen, KeepsHistory};
 ghost use Rattle.vfs_history.specs.History.{Handled, Changed, turn_of_end};
 
 use crate::laws::{history_goes_on, history_has_turns, history_keeps_books};
 use std::alloc::Global;
-use vfs_files::FileSystem;
+use std::io;
+use vfs_files::{FileSystem, SerializableFileSystem};
 use vfs_grammar::Result;
 use vfs_segments::{Reader, Writer};
 use vfs_server::server::Server;
+use vfs_server::transport::{ServeError, serve};
 
 /// Has a server over any file system handle three messages, each by a call of its own. The books of the
 /// three turns balance.
@@ -77,6 +79,48 @@ fn exchange_between<F: FileSystem + Drop>(
     *server.fs_mut() = fs;
     let after = server.handle_message(alloc, readers.1, two);
     (before, after)
+}
+
+/// Has a server handle a message, takes the state of its file system over from another host, and has it
+/// handle another one. The books of both turns balance, whatever was taken over.
+fn take_over_between<F: FileSystem + SerializableFileSystem, R: io::Read>(
+    alloc: Global,
+    server: &mut Server<F>,
+    state: &mut R,
+    readers: (Reader<'_>, Reader<'_>),
+    one: &mut Writer,
+    two: &mut Writer,
+) -> (Result<usize>, Result<usize>)
+    ensures { (a b : Turn) × (before after : F)
+        × IsSeen readers.entry.0.left one.old result.0 one.new a
+        × IsSeen readers.entry.1.left two.old result.1 two.new b
+        × KeepsHistory F.allows F.DirIter.gives
+        server.old (Handled a ∷ Changed before after ∷ Handled b ∷ []) server.new }
+{
+    history_goes_on::<F>();
+    history_keeps_books::<F>();
+    let first = server.handle_message(alloc, readers.0, one);
+    let _ = server.deserialize_and_apply(state);
+    let last = server.handle_message(alloc, readers.1, two);
+    (first, last)
+}
+
+/// Serves two requests. If both have replies, these are of two turns, whose books balance.
+fn serve_two<F: FileSystem>(
+    alloc: Global,
+    server: &mut Server<F>,
+    one: &[u8],
+    two: &[u8],
+    room: usize,
+) -> std::result::Result<(Vec<u8>, Vec<u8>), ServeError>
+    ensures { IfOk result (λ replies. AreServed F.allows F.DirIter.gives
+        server.old one.now two.now room replies.0.items replies.1.items server.new) }
+{
+    history_goes_on::<F>();
+    history_keeps_books::<F>();
+    let first = serve(alloc, server, one, room)?;
+    let second = serve(alloc, server, two, room)?;
+    Ok((first, second))
 }
 
 /// Has a server handle a message, and ends it without a request: its end is a turn too.
