@@ -2,3 +2,4 @@ mod Rooms
 mod Steps
 mod Histories
 mod Calling
+mod NothingFound

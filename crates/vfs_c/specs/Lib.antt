@@ -4,3 +4,4 @@ pub mod Handle
 pub mod History
 pub mod Laws
 pub mod Served
+pub mod Uses
