@@ -7,7 +7,7 @@ use Rattle.vfs_c.specs.Files.{State, Allows, Gives, told}
 use Rattle.vfs_c.specs.History.{Turned, Answered, Told, HandlesTwo}
 
 -- a message that was answered was a turn
-turned : (old : ServerState State) (request : List ℕ) (total : ℕ) (number : ℤ) (len : ℕ)
+pub turned : (old : ServerState State) (request : List ℕ) (total : ℕ) (number : ℤ) (len : ℕ)
     (room : List ℕ) (shown : ℕ) (new : ServerState State)
     → Answered old request total number len room shown new → number ≡ ok
     → Turned old request total number len room shown new

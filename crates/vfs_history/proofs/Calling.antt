@@ -1,5 +1,5 @@
 -- Steps in order, as histories.
-use Rattle.std.proofs.Common.{◌≡◌, ℕ, List, [], ◌∷◌, ◌++◌, map, Option, Result, Ok, refl, ap, sym, subst, ◌∙◌}
+use Rattle.std.proofs.Common.{◌≡◌, ℕ, List, [], ◌∷◌, ◌++◌, map, Option, Result, Ok, Err, IfErr, refl, ap, sym, subst, ◌∙◌}
 use Rattle.std.proofs.lemmas.List.{map-append}
 use Rattle.std.specs.declared.alloc.Global.{Global}
 use Rattle.std.specs.declared.vec.Vec.{Vec}
@@ -13,7 +13,9 @@ use Rattle.vfs_grammar.specs.Turn.{Turn}
 use Rattle.vfs_grammar.specs.declared.error.Error.{Error}
 use Rattle.vfs_server.specs.Served.{Served}
 use Rattle.vfs_server.specs.Step.{ServerState, IsStep}
-use Rattle.vfs_history.specs.Calls.{AreServed, IsSeen, KeepsHistory, HandlesEach, GivesBack, forget_of_5}
+use Rattle.vfs_server.specs.declared.transport.error.ServeError.{ServeError}
+use Rattle.vfs_server.specs.declared.transport.error.ServeError.TheVariants.{OutOfMemory, Segments, Server, FileSystem}
+use Rattle.vfs_history.specs.Calls.{AreServed, ServedNone, IsSeen, KeepsHistory, HandlesEach, GivesBack, forget_of_5}
 use Rattle.vfs_history.specs.History.{Moment, Handled, Changed, turn_of, turn_of_end, IsHistory, GoesOn, GoesOnChanged, GoesOnEnded, HasOneRun, HistoriesKeepBooks}
 use Rattle.vfs_history.specs.Serving.{GoesOnServed}
 use Rattle.vfs_history.proofs.Going.{turns_of_handled}
@@ -128,10 +130,33 @@ module _ {S I : Type 0} (allows : S → Call → Handed I → S → Type 0)
         b = b.t;
         asked_first = a.served.asked;
         asked_then = b.served.asked;
+        rooms = (a.served.room, b.served.room);
         replied_first = (a.len, a.served.came, a.bytes);
         replied_then = (b.len, b.served.came, b.bytes);
         history = kept keep s0 (Handled a.t ∷ Handled b.t ∷ []) s2 b.history;
       }
+
+  -- a request that was served without a reply
+  served_none : GoesOnServed allows gives → HistoriesKeepBooks allows gives
+      → (s0 s1 : ServerState S) (q : List ℕ) (size : ℕ) (error : ServeError)
+      → Served allows gives s0 q size (Err error) s1 → ServedNone allows gives s0 q error s1
+  served_none goes keep s0 s1 q size OutOfMemory x =
+      kept keep s0 [] s1 (goes s0 s0 s1 [] q size (Err OutOfMemory) refl x)
+  served_none goes keep s0 s1 q size (Segments error) x =
+      kept keep s0 [] s1 (goes s0 s0 s1 [] q size (Err (Segments error)) refl x)
+  served_none goes keep s0 s1 q size (Server error) x =
+      let a = goes s0 s0 s1 [] q size (Err (Server error)) refl x in
+      (a.t, a.served.asked, a.served.came, kept keep s0 (Handled a.t ∷ []) s1 a.history)
+  served_none goes keep s0 s1 q size (FileSystem fault) x =
+      goes s0 s0 s1 [] q size (Err (FileSystem fault)) refl x
+
+  -- a request that was served, with or without one
+  pub served_one : GoesOnServed allows gives → HistoriesKeepBooks allows gives
+      → (s0 s1 : ServerState S) (q : List ℕ) (size : ℕ) (result : Result (Vec ℕ Global) ServeError)
+      → Served allows gives s0 q size result s1
+      → IfErr result (λ error. ServedNone allows gives s0 q error s1)
+  served_one goes keep s0 s1 q size (Ok reply) x = tt
+  served_one goes keep s0 s1 q size (Err error) x = served_none goes keep s0 s1 q size error x
 
   -- a step, and an end
   pub then_ended : GoesOn allows gives → GoesOnEnded allows gives → HistoriesKeepBooks allows gives

@@ -1,5 +1,5 @@
 -- What small callers say of a server that they call message by message.
-use Rattle.std.specs.Prelude.{◌≡◌, ℕ, List, [], ◌∷◌, ◌++◌, map, replicate, take, Option, Result, Ok}
+use Rattle.std.specs.Prelude.{◌≡◌, ℕ, List, [], ◌∷◌, ◌++◌, map, replicate, take, Option, Result, Ok, Err}
 use Rattle.vfs_segments.specs.Written.{Written}
 use Rattle.vfs_files.specs.Items.{Item}
 use Rattle.vfs_files.specs.Calls.{Call, Handed}
@@ -9,6 +9,8 @@ use Rattle.vfs_grammar.specs.Books.{KeepsBooks, NeverBelow}
 use Rattle.vfs_grammar.specs.declared.error.Error.{Error}
 use Rattle.vfs_grammar.specs.Samples.{four, eight, reply_of_node_5}
 use Rattle.vfs_server.specs.Step.{ServerState}
+use Rattle.vfs_server.specs.declared.transport.error.ServeError.{ServeError}
+use Rattle.vfs_server.specs.declared.transport.error.ServeError.TheVariants.{OutOfMemory, Segments, Server, FileSystem}
 use Rattle.vfs_history.specs.History.{Moment, Handled, turns_in, IsHistory, IsOneRun}
 
 -- The turn of a request as its transport sees it: the bytes that came, the room that there was, the
@@ -45,9 +47,22 @@ pub record AreServed {S I : Type 0} (allows : S → Call → Handed I → S → 
   pub b : Turn
   pub asked_first : a.request ≡ one
   pub asked_then : b.request ≡ two
+  pub rooms : (a.room ≡ replicate size 0) × (b.room ≡ replicate size 0)
   pub replied_first : (len : ℕ) × (a.outcome ≡ Ok len) × (reply_one ≡ take len a.room_after)
   pub replied_then : (len : ℕ) × (b.outcome ≡ Ok len) × (reply_two ≡ take len b.room_after)
   pub history : KeepsHistory allows gives old (Handled a ∷ Handled b ∷ []) new
+
+-- A request was served without a reply. If it was handed on, that was a turn with this error; else nothing
+-- happened.
+abbrev pub ServedNone : {S I : Type 0} → (S → Call → Handed I → S → Type 0)
+    → (I → Option Item → I → Type 0) → (old : ServerState S) → (request : List ℕ) → ServeError
+    → (new : ServerState S) → Type 0
+ServedNone allows gives old request OutOfMemory new = KeepsHistory allows gives old [] new
+ServedNone allows gives old request (Segments error) new = KeepsHistory allows gives old [] new
+ServedNone allows gives old request (Server error) new =
+    (t : Turn) × (t.request ≡ request) × (t.outcome ≡ Err error)
+    × KeepsHistory allows gives old (Handled t ∷ []) new
+ServedNone allows gives old request (FileSystem fault) new = ⊥
 
 -- request 9, FORGET of node 5 by 1: a header and a record, of 48 bytes
 abbrev pub forget_of_5 : List ℕ

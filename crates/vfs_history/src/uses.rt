@@ -1,9 +1,9 @@
 //! Servers that are called message by message.
 
-ghost use Rattle.std.specs.Prelude.{◌≡◌, ◌∷◌, [], map, IfOk};
+ghost use Rattle.std.specs.Prelude.{◌≡◌, ◌∷◌, [], map, IfErr, IfOk};
 ghost use Rattle.vfs_grammar.specs.Samples.{lookup_of_a};
 ghost use Rattle.vfs_grammar.specs.Turn.{Turn};
-ghost use Rattle.vfs_history.specs.Calls.{AreServed, forget_of_5, GivesBack, HandlesEach, IsSeen, KeepsHistory};
+ghost use Rattle.vfs_history.specs.Calls.{AreServed, forget_of_5, GivesBack, HandlesEach, IsSeen, KeepsHistory, ServedNone};
 ghost use Rattle.vfs_history.specs.History.{Handled, Changed, turn_of_end};
 
 use crate::laws::{history_goes_on, history_has_turns, history_keeps_books};
@@ -121,6 +121,21 @@ fn serve_two<F: FileSystem>(
     let first = serve(alloc, server, one, room)?;
     let second = serve(alloc, server, two, room)?;
     Ok((first, second))
+}
+
+/// Serves a request. If it has no reply, it was a turn that was refused, or nothing happened.
+fn serve_one<F: FileSystem>(
+    alloc: Global,
+    server: &mut Server<F>,
+    request: &[u8],
+    room: usize,
+) -> std::result::Result<Vec<u8>, ServeError>
+    ensures { IfErr result (λ error. ServedNone F.allows F.DirIter.gives
+        server.old request.now error server.new) }
+{
+    history_goes_on::<F>();
+    history_keeps_books::<F>();
+    serve(alloc, server, request, room)
 }
 
 /// Has a server handle a message, and ends it without a request: its end is a turn too.

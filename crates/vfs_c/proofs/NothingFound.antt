@@ -1,0 +1,151 @@
+-- A LOOKUP of a name in a new tree, and what is copied out of its reply.
+use Rattle.std.proofs.Common.{◌≡◌, ◌≢◌, ◌⊎◌, ◌∙◌, ℕ, ℤ, zero, suc, pos, Bool, List, [], ◌∷◌, ◌++◌, length, take, drop, min, Option, Some, None, IfSome, MatchOption, Result, Ok, Err, refl, ap, sym, subst, inl, inr, arith}
+use Rattle.std.proofs.lemmas.List.{drop_all}
+use Rattle.vfs_flags.specs.Opcode.{opcode_of}
+use Rattle.vfs_wire.specs.Fields.{little, number, value_of}
+use Rattle.vfs_wire.specs.Headers.{in_header}
+use Rattle.vfs_files.specs.Items.{Item}
+use Rattle.vfs_files.specs.Calls.{Call, Lookup, Answer, Failed, Entries, Plain}
+use Rattle.vfs_files.specs.Entries.{context_of}
+use Rattle.vfs_files.specs.Runs.{Event, Called, Happening, Calls, Opens, Takes, IsRun, events_of}
+use Rattle.vfs_grammar.specs.Ask.{ask}
+use Rattle.vfs_grammar.specs.Forms.{Ask, Asks, WithMemory}
+use Rattle.vfs_grammar.specs.Listing.{given_back}
+use Rattle.vfs_grammar.specs.Reply.{Echo, echo_of, reply_of}
+use Rattle.vfs_grammar.specs.Room.{IsReplied}
+use Rattle.vfs_grammar.specs.Samples.{lookup_of_a}
+use Rattle.vfs_grammar.specs.Turn.{Turn, Follows, turn_tells}
+use Rattle.vfs_grammar.specs.declared.error.Error.{Error}
+use Rattle.vfs_grammar.specs.declared.error.Error.TheVariants.{OutOfMemory}
+use Rattle.vfs_grammar.specs.declared.limits.Limits.{Limits}
+use Rattle.vfs_server.specs.Step.{ServerState}
+use Rattle.vfs_history.specs.History.{Handled, IsHistory, IsHandled}
+use Rattle.vfs_c.specs.Codes.{ok, number_of, shown_of}
+use Rattle.vfs_c.specs.Files.{State, Iterator, Allows, Gives, new_state, told}
+use Rattle.vfs_c.specs.History.{Turned, Answered}
+use Rattle.vfs_c.specs.Served.{new_server, told_time, part_from}
+use Rattle.vfs_c.specs.Uses.{no_such_name}
+use Rattle.vfs_c.specs.declared.files.Settings.{Settings}
+use Rattle.vfs_c.proofs.Calling.{turned}
+
+limits : Limits
+limits = record { page_size = 4096; max_buffer = 1048576 }
+
+echo : Echo
+echo = echo_of (value_of in_header lookup_of_a)
+
+lookup : Call
+lookup = Lookup (context_of (value_of in_header lookup_of_a)) 1 (0x61 ∷ [])
+
+asks : (space : ℕ) → ask limits 0 space lookup_of_a ≡ WithMemory (Asks echo lookup)
+unfolding number little opcode_of
+asks space = refl
+
+-- a new tree has no such name
+refused : (settings : Settings) (answer : Answer) (new : State)
+    → Allows (told (new_state settings) 1 0) lookup (Plain answer) new → answer ≡ Failed (Some 2)
+unfolding number little
+refused settings answer new allowed = cc (allowed.0)
+
+-- the first call of a run
+first_call : (old new : State) (run : List (Happening Iterator × State)) (call : Call) (answer : Answer)
+    (rest : List Event) → IsRun Allows Gives None old run new → events_of run ≡ Called call answer ∷ rest
+    → (mid : State) × Allows old call (Plain answer) mid
+first_call old new [] call answer rest is e = absurd cc
+first_call old new ((Calls c a, s) ∷ hs) call answer rest is e =
+    let same_call : c ≡ call = cc (e) in
+    let same_answer : a ≡ answer = cc (e) in
+    (s, subst (λ (c : Call). Allows old c (Plain answer) s) same_call
+    (subst (λ (a : Answer). Allows old c (Plain a) s) same_answer is.0))
+first_call old new ((Opens c it, s) ∷ hs) call answer rest is e = absurd cc
+first_call old new ((Takes x i y, s) ∷ hs) call answer rest is e = absurd cc
+
+-- the bytes of the reply
+reply_is : (after : ℕ) (room : List ℕ) (outcome : Result ℕ Error) (room_after : List ℕ)
+    → length room ≡ 4096
+    → IsReplied (reply_of limits echo after Entries (Failed (Some 2))) room outcome room_after
+    → (outcome ≡ Ok 16) × (take 16 room_after ≡ no_such_name)
+unfolding number little
+reply_is after room outcome room_after long is =
+    (is.says ∙ rw long refl, ap (take 16) is.leaves ∙ rw long refl)
+
+turn_is : (settings : Settings) (t : Turn) (after : ℕ) (new : State)
+    (run : List (Happening Iterator × State))
+    → IsRun Allows Gives None (told (new_state settings) 1 0) run new → events_of run ≡ t.events
+    → length t.room ≡ 4096 → number_of t.outcome ≡ ok
+    → Follows (turn_tells t) limits 0 (WithMemory (Asks echo lookup)) after
+    → (t.outcome ≡ Ok 16) × (take 16 t.room_after ≡ no_such_name)
+turn_is settings t after new run is events long answered (inl f) =
+    let call = first_call (told (new_state settings) 1 0) new run lookup f.0 _ is (events ∙ f.1) in
+    let failed = refused settings f.0 call.0 call.1 in
+    reply_is after t.room t.outcome t.room_after long
+    (subst (λ (a : Answer). IsReplied (reply_of limits echo after Entries a) t.room t.outcome t.room_after)
+    failed f.3)
+turn_is settings t after new run is events long answered (inr f) =
+    absurd (let no : number_of t.outcome ≡ pos 10 = ap number_of f.1.0 in cc)
+
+-- a message that was answered
+looked_up : (settings : Settings) (old new : ServerState State) (code : ℤ) (len : ℕ)
+    (room : List ℕ) (shown : ℕ)
+    → old ≡ record { options = 0; limits = limits; fs = told (new_state settings) 1 0 }
+    → Turned old lookup_of_a 4096 code len room shown new → code ≡ ok
+    → (shown ≡ 16) × (take 16 room ≡ no_such_name)
+looked_up settings old new code len room shown is t answered =
+    let first : ServerState State =
+    record { options = 0; limits = limits; fs = told (new_state settings) 1 0 } in
+    let h : IsHistory Allows Gives old (Handled t.t ∷ []) new = t.extends old [] refl in
+    let handled : IsHandled Allows Gives first t.t h.0 =
+    subst (λ (s : ServerState State). IsHandled Allows Gives s t.t h.0) is h.1 in
+    let asked : Follows (turn_tells t.t) limits 0 (WithMemory (Asks echo lookup)) h.0.options =
+    subst (λ a. Follows (turn_tells t.t) limits 0 a h.0.options)
+    (ap (λ (q : List ℕ). ask limits 0 (length t.t.room) q) t.asked ∙ asks (length t.t.room)) handled.turn in
+    let r = turn_is settings t.t h.0.options h.0.fs handled.run handled.is_run handled.events t.space
+    (sym t.numbered ∙ answered) asked in
+    (t.copied ∙ ap (λ (o : Result ℕ Error). shown_of o 4096) r.0,
+    ap (take 16) t.left ∙ r.1)
+
+-- what is copied over sixteen bytes
+copied_out : (room piece after : List ℕ) (shown count : ℕ) → shown ≡ 16
+    → take 16 room ≡ no_such_name → length piece ≡ 16
+    → count ≡ min (length (part_from 0 room shown)) (length piece)
+    → after ≡ take count (part_from 0 room shown) ++ drop count piece → after ≡ no_such_name
+copied_out room piece after shown count is16 bytes long counted is =
+    let part : take shown room ≡ no_such_name = ap (λ (n : ℕ). take n room) is16 ∙ bytes in
+    let all : count ≡ 16 = counted ∙ rw (part, long) refl in
+    let rest : drop 16 piece ≡ [] = drop_all 16 piece (omega (arith, long)) in
+    is ∙ rw (all, part, rest) refl
+
+module _ {A : Type 0} (server : A → ServerState State) (left : A → List ℕ) (shown : A → ℕ) where
+  -- a handle's server was told the time
+  pub told_server : (told : A → A) → ((s : A) → server (told s) ≡ told_time (server s) 1 0)
+      → (code : ℤ) (a b : Option A) → IfSome a (λ s. (code ≡ ok) × (b ≡ Some (told s)))
+      → IfSome a (λ s. MatchOption b ⊥ (λ t. server t ≡ told_time (server s) 1 0))
+  told_server told tells code None b is = tt
+  told_server told tells code (Some s) b is =
+      subst (λ (o : Option A). MatchOption o ⊥ (λ t. server t ≡ told_time (server s) 1 0))
+      (sym is.1) (tells s)
+
+  -- a new server that was told the time, and asked for the name
+  pub nothing_found : (settings : Settings) (request : List ℕ) (code : ℤ) (len count : ℕ)
+      (piece after : List ℕ) (a b c : Option A)
+      → MatchOption a ⊥ (λ s. (server s ≡ new_server 4096 1048576 settings) × (shown s ≡ 0))
+      → IfSome a (λ s. MatchOption b ⊥ (λ t. server t ≡ told_time (server s) 1 0))
+      → IfSome b (λ s. MatchOption c ⊥ (λ t.
+      Answered (server s) request 4096 code len (left t) (shown t) (server t)))
+      → code ≡ ok → request ≡ lookup_of_a → length piece ≡ 16
+      → IfSome c (λ s. count ≡ min (length (part_from 0 (left s) (shown s))) (length piece))
+      → IfSome c (λ s. after ≡ take count (part_from 0 (left s) (shown s)) ++ drop count piece)
+      → after ≡ no_such_name
+  nothing_found settings q code len count piece after None b c made one x is asked long counted copied =
+      absurd made
+  nothing_found settings q code len count piece after (Some s) None c made one x is asked long counted copied =
+      absurd one
+  nothing_found settings q code len count piece after (Some s) (Some t) None made one x is asked long counted copied =
+      absurd x
+  nothing_found settings q code len count piece after (Some s) (Some t) (Some u) made one x is asked long counted copied =
+      let message : Answered (server t) lookup_of_a 4096 code len (left u) (shown u) (server u) =
+      subst (λ (q : List ℕ). Answered (server t) q 4096 code len (left u) (shown u) (server u)) asked x in
+      let first = one ∙ ap (λ (z : ServerState State). told_time z 1 0) made.0 in
+      let r = looked_up settings (server t) (server u) code len (left u) (shown u) first
+      (turned (server t) lookup_of_a 4096 code len (left u) (shown u) (server u) message is) is in
+      copied_out (left u) piece after (shown u) count r.0 r.1 long counted copied
