@@ -1,40 +1,37 @@
 -- A LOOKUP of a name in a new tree, and what is copied out of its reply.
-use Rattle.std.proofs.Common.{◌≡◌, ◌≢◌, ◌⊎◌, ◌∙◌, ℕ, ℤ, zero, suc, pos, Bool, List, [], ◌∷◌, ◌++◌, length, take, drop, min, Option, Some, None, IfSome, MatchOption, Result, Ok, Err, refl, ap, sym, subst, inl, inr, arith}
+use Rattle.std.proofs.Common.{◌≡◌, ◌∙◌, ℕ, ℤ, pos, List, [], ◌∷◌, ◌++◌, length, take, drop, min, Option, Some, None, IfSome, MatchOption, Result, Ok, refl, ap, sym, subst, inl, inr, arith}
 use Rattle.std.proofs.lemmas.List.{drop_all}
 use Rattle.vfs_flags.specs.Opcode.{opcode_of}
 use Rattle.vfs_wire.specs.Fields.{little, number, value_of}
 use Rattle.vfs_wire.specs.Headers.{in_header}
-use Rattle.vfs_files.specs.Items.{Item}
 use Rattle.vfs_files.specs.Calls.{Call, Lookup, Answer, Failed, Entries, Plain}
 use Rattle.vfs_files.specs.Entries.{context_of}
 use Rattle.vfs_files.specs.Runs.{Event, Called, Happening, Calls, Opens, Takes, IsRun, events_of}
 use Rattle.vfs_grammar.specs.Ask.{ask}
-use Rattle.vfs_grammar.specs.Forms.{Ask, Asks, WithMemory}
-use Rattle.vfs_grammar.specs.Listing.{given_back}
+use Rattle.vfs_grammar.specs.Forms.{Asks, WithMemory}
 use Rattle.vfs_grammar.specs.Reply.{Echo, echo_of, reply_of}
 use Rattle.vfs_grammar.specs.Room.{IsReplied}
 use Rattle.vfs_grammar.specs.Samples.{lookup_of_a}
 use Rattle.vfs_grammar.specs.Turn.{Turn, Follows, turn_tells}
 use Rattle.vfs_grammar.specs.declared.error.Error.{Error}
-use Rattle.vfs_grammar.specs.declared.error.Error.TheVariants.{OutOfMemory}
 use Rattle.vfs_grammar.specs.declared.limits.Limits.{Limits}
 use Rattle.vfs_server.specs.Step.{ServerState}
 use Rattle.vfs_history.specs.History.{Handled, IsHistory, IsHandled}
 use Rattle.vfs_c.specs.Codes.{ok, number_of, shown_of}
 use Rattle.vfs_c.specs.Files.{State, Iterator, Allows, Gives, new_state, told}
-use Rattle.vfs_c.specs.History.{Turned, Answered}
+use Rattle.vfs_c.specs.History.{Turned, Answered, HandlesTwo}
 use Rattle.vfs_c.specs.Served.{new_server, told_time, part_from}
 use Rattle.vfs_c.specs.Uses.{no_such_name}
 use Rattle.vfs_c.specs.declared.files.Settings.{Settings}
 use Rattle.vfs_c.proofs.Calling.{turned}
 
-limits : Limits
+abbrev limits : Limits
 limits = record { page_size = 4096; max_buffer = 1048576 }
 
-echo : Echo
+abbrev echo : Echo
 echo = echo_of (value_of in_header lookup_of_a)
 
-lookup : Call
+abbrev lookup : Call
 lookup = Lookup (context_of (value_of in_header lookup_of_a)) 1 (0x61 ∷ [])
 
 asks : (space : ℕ) → ask limits 0 space lookup_of_a ≡ WithMemory (Asks echo lookup)
@@ -54,9 +51,11 @@ first_call : (old new : State) (run : List (Happening Iterator × State)) (call 
 first_call old new [] call answer rest is e = absurd cc
 first_call old new ((Calls c a, s) ∷ hs) call answer rest is e =
     let same_call : c ≡ call = cc (e) in
-    let same_answer : a ≡ answer = cc (e) in
-    (s, subst (λ (c : Call). Allows old c (Plain answer) s) same_call
-    (subst (λ (a : Answer). Allows old c (Plain a) s) same_answer is.0))
+    let same_answer : a ≡ answer = cc (e) in (
+      s,
+      subst (λ (c : Call). Allows old c (Plain answer) s) same_call
+          (subst (λ (a : Answer). Allows old c (Plain a) s) same_answer is.0),
+    )
 first_call old new ((Opens c it, s) ∷ hs) call answer rest is e = absurd cc
 first_call old new ((Takes x i y, s) ∷ hs) call answer rest is e = absurd cc
 
@@ -100,9 +99,10 @@ looked_up settings old new code len room shown is t answered =
     subst (λ a. Follows (turn_tells t.t) limits 0 a h.0.options)
     (ap (λ (q : List ℕ). ask limits 0 (length t.t.room) q) t.asked ∙ asks (length t.t.room)) handled.turn in
     let r = turn_is settings t.t h.0.options h.0.fs handled.run handled.is_run handled.events t.space
-    (sym t.numbered ∙ answered) asked in
-    (t.copied ∙ ap (λ (o : Result ℕ Error). shown_of o 4096) r.0,
-    ap (take 16) t.left ∙ r.1)
+    (sym t.numbered ∙ answered) asked in (
+      t.copied ∙ ap (λ (o : Result ℕ Error). shown_of o 4096) r.0,
+      ap (take 16) t.left ∙ r.1,
+    )
 
 -- what is copied over sixteen bytes
 copied_out : (room piece after : List ℕ) (shown count : ℕ) → shown ≡ 16
@@ -149,3 +149,14 @@ module _ {A : Type 0} (server : A → ServerState State) (left : A → List ℕ)
       let r = looked_up settings (server t) (server u) code len (left u) (shown u) first
       (turned (server t) lookup_of_a 4096 code len (left u) (shown u) (server u) message is) is in
       copied_out (left u) piece after (shown u) count r.0 r.1 long counted copied
+
+  -- the state behind a handle that has handled two messages
+  pub last_of : (first : ServerState State) (q1 q2 one two : List ℕ) (e : Option A)
+      → q1 ≡ one → q2 ≡ two → MatchOption e ⊥ (λ t. HandlesTwo first q1 q2 (server t))
+      → (last : ServerState State) × HandlesTwo first one two last
+  last_of first q1 q2 one two None is1 is2 h = absurd h
+  last_of first q1 q2 one two (Some t) is1 is2 h = (
+    server t,
+    subst (λ (q : List ℕ). HandlesTwo first q two (server t)) is1
+        (subst (λ (q : List ℕ). HandlesTwo first q1 q (server t)) is2 h),
+  )

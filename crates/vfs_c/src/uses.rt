@@ -14,7 +14,9 @@ ghost use Rattle.vfs_server.specs.Step.{ServerState};
 use crate::codes::OK;
 use crate::files::{Files, Settings};
 use crate::handle::Handle;
-use crate::{nizwarf_copy_at, nizwarf_end_at, nizwarf_message_at, nizwarf_new_at, nizwarf_tell_time_at};
+use crate::{
+    nizwarf_copy_at, nizwarf_end_at, nizwarf_message_at, nizwarf_new_at, nizwarf_tell_time_at,
+};
 use std::alloc::Global;
 use vfs_history::laws::history_keeps_books;
 
