@@ -67,7 +67,7 @@ static struct {
 	struct fuse_getattr_in body;
 } getattr = { .header = { .len = sizeof(getattr), .opcode = FUSE_GETATTR, .unique = 3, .nodeid = 2 } };
 
-static uint8_t reply[1 << 16];
+static uint8_t reply[1 << 16], large[8 << 20];
 
 /* Asks with a request in two pieces, of which the first has so many bytes, behind so many empty ones,
  * and with two pieces of room. What is refused for want of memory, by the server or in the file system's
@@ -125,13 +125,14 @@ static void session(void)
 	CHECK(nizwarf_end(&server) == NIZWARF_OK && !server.at && live == 0);
 }
 
-/* What needs no session: NULL, no server, sizes out of bounds, lengths that sum past SIZE_MAX. */
+/* What needs no session: NULL, no server, sizes out of bounds, lengths that sum past SIZE_MAX; a room too
+ * small, and one of 8 MiB. */
 static void codes(void)
 {
 	nizwarf_server server = NIZWARF_NONE;
 	const nizwarf_segment huge[] = { { &init, SIZE_MAX / 2 }, { &init, SIZE_MAX / 2 }, { &init, 2 } };
 	const nizwarf_segment whole = { &init, sizeof(init) }, null = { NULL, 0 };
-	const nizwarf_room nowhere = { NULL, 0 }, small = { reply, 15 };
+	const nizwarf_room nowhere = { NULL, 0 }, small = { reply, 15 }, ample = { large, sizeof(large) };
 	const nizwarf_room wide[] = { { reply, SIZE_MAX }, { reply, 1 } };
 	size_t len = 1;
 
@@ -158,6 +159,7 @@ static void codes(void)
 	CHECK(nizwarf_message(&server, NULL, 0, NULL, 0, &len) == NIZWARF_DECODE_MESSAGE);
 	memset(reply, 0xaa, sizeof(reply));
 	CHECK(nizwarf_message(&server, &whole, 1, &small, 1, &len) == NIZWARF_ENCODE_MESSAGE && reply[0] == 0xaa);
+	CHECK(nizwarf_message(&server, &whole, 1, &ample, 1, &len) == NIZWARF_OK && len == 80 && large[0] == 80);
 	CHECK(nizwarf_end(&server) == NIZWARF_OK && live == 0);
 }
 

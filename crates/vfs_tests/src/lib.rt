@@ -15,6 +15,8 @@ mod hostile;
 #[cfg(test)]
 mod lines;
 #[cfg(test)]
+mod long_requests;
+#[cfg(test)]
 mod messages;
 #[cfg(test)]
 mod migration;
@@ -34,6 +36,8 @@ mod support;
 mod transfers;
 #[cfg(test)]
 mod tree;
+#[cfg(test)]
+mod usage;
 #[cfg(test)]
 mod wire;
 #[cfg(test)]

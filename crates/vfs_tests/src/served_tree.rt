@@ -9,7 +9,7 @@ use vfs_flags::Errno;
 use vfs_read_only::{ReadOnly, name_position};
 use vfs_server::server::Server;
 use vfs_server::transport::{ServeError, serve};
-use vfs_wire::EntryOut;
+use vfs_wire::{AttrOut, EntryOut};
 
 /// A server of the three files.
 type DocsServer = Server<ReadOnly<Docs>>;
@@ -60,6 +60,26 @@ fn a_tree_is_served(rt: HostRuntime) -> Result<(), Fail> {
     holds(reads(rt.alloc(), &mut server))?;
     holds(misses(rt.alloc(), &mut server))?;
     holds(refuses(rt.alloc(), &mut server))
+}
+
+/// Rooms of 2 and of 8 MiB, far wider than the reply.
+static WIDE: [usize; 2] = [2 << 20, 8 << 20];
+
+/// Whether a GETATTR, of opcode 3, tells the root's attributes in a room of so many bytes.
+fn tells_the_root(alloc: Global, room: usize) -> Result<bool, Fail> {
+    let mut server = Server::new(ReadOnly { tree: Docs }, 4096);
+    let request = request(alloc, 3, 1, &[0; 16])?;
+    let reply = served(alloc, &mut server, &request, room)?;
+    let told = said::<AttrOut>(&reply).ok_or("cut short")?;
+    Ok(reply.len() == 120 && matches!(told, Ok(told) if told.attr.ino == 1))
+}
+
+#[test]
+fn a_wide_room_is_served(rt: HostRuntime) -> Result<(), Fail> {
+    for room in &WIDE {
+        holds(tells_the_root(rt.alloc(), *room))?;
+    }
+    Ok(())
 }
 
 /// Why there is no reply, and how that is shown.

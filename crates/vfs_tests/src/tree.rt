@@ -3,6 +3,7 @@
 mod session;
 
 use crate::support::{Message, handle, none_is_wrong};
+use crate::tree::session::memory::steps;
 use crate::tree::session::rest::{fifth, fourth, sixth};
 use crate::tree::session::{Step, first, second, third};
 use std::alloc::Global;
@@ -95,4 +96,15 @@ fn wrong_step(alloc: Global, server: &mut Server<TreeFs>) -> Result<Option<&'sta
 fn a_person_has_a_session(rt: HostRuntime) -> Result<(), Fail> {
     let mut server = new_server(rt.alloc())?;
     none_is_wrong(wrong_step(rt.alloc(), &mut server))
+}
+
+/// The first step that lacks memory.
+fn lacking_step(alloc: Global) -> Result<Option<&'static str>, Fail> {
+    let mut server = new_server(alloc)?;
+    first_wrong(alloc, &mut server, steps())
+}
+
+#[test]
+fn a_file_has_the_memory_that_it_needs(rt: HostRuntime) -> Result<(), Fail> {
+    none_is_wrong(lacking_step(rt.alloc()))
 }

@@ -2,6 +2,7 @@
 //! is named by a function that does no more, since the proof of a function goes through a table that
 //! it names at each step.
 
+pub mod memory;
 pub mod rest;
 
 use crate::support::Message;
