@@ -4,3 +4,4 @@ pub mod DirectoryCallers
 pub mod ScriptTransfers
 pub mod SmallCallers
 pub mod ServeCallers
+pub mod HistoryCallers

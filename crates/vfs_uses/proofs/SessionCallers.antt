@@ -129,7 +129,7 @@ unfolding number opcode_of
 ask-lookup = refl
 
 -- of two facts the first, where the second cannot be
-the_first : {P Q : Type 0} → P ⊎ Q → (Q → ⊥) → P
+pub the_first : {P Q : Type 0} → P ⊎ Q → (Q → ⊥) → P
 the_first (inl p) n = p
 the_first (inr q) n = absurd (n q)
 

@@ -8,6 +8,7 @@
 mod bench;
 mod files;
 mod flags;
+mod history;
 mod laws;
 mod listings;
 mod memory;
