@@ -1,90 +1,155 @@
 //! A call as data: plain numbers. Names and values are told as ranges of the request's bytes.
 
 ghost use Rattle.std.specs.Prelude.{◌≡◌};
-ghost use Rattle.vfs_calls.specs.Shapes.{unplaced, asked, caller_of};
-
-use vfs_files::Context;
+ghost use Rattle.vfs_calls.specs.Shapes.{unplaced};
 
 /// The numbers of calls: those of the opcodes, where both renames are 12 and both readings of a
 /// directory 28.
 pub mod number {
     pub const LOOKUP: u32 = 1;
+
     pub const FORGET: u32 = 2;
+
     pub const GETATTR: u32 = 3;
+
     pub const SETATTR: u32 = 4;
+
     pub const READLINK: u32 = 5;
+
     pub const SYMLINK: u32 = 6;
+
     pub const MKNOD: u32 = 8;
+
     pub const MKDIR: u32 = 9;
+
     pub const UNLINK: u32 = 10;
+
     pub const RMDIR: u32 = 11;
+
     pub const RENAME: u32 = 12;
+
     pub const LINK: u32 = 13;
+
     pub const OPEN: u32 = 14;
+
     pub const READ: u32 = 15;
+
     pub const WRITE: u32 = 16;
+
     pub const STATFS: u32 = 17;
+
     pub const RELEASE: u32 = 18;
+
     pub const FSYNC: u32 = 20;
+
     pub const SETXATTR: u32 = 21;
+
     pub const GETXATTR: u32 = 22;
+
     pub const LISTXATTR: u32 = 23;
+
     pub const REMOVEXATTR: u32 = 24;
+
     pub const FLUSH: u32 = 25;
+
     pub const INIT: u32 = 26;
+
     pub const OPENDIR: u32 = 27;
+
     pub const READDIR: u32 = 28;
+
     pub const RELEASEDIR: u32 = 29;
+
     pub const FSYNCDIR: u32 = 30;
+
     pub const GETLK: u32 = 31;
+
     pub const SETLK: u32 = 32;
+
     pub const SETLKW: u32 = 33;
+
     pub const ACCESS: u32 = 34;
+
     pub const CREATE: u32 = 35;
+
     pub const BMAP: u32 = 37;
+
     pub const DESTROY: u32 = 38;
+
     pub const IOCTL: u32 = 39;
+
     pub const POLL: u32 = 40;
+
     pub const NOTIFY_REPLY: u32 = 41;
+
     pub const BATCH_FORGET: u32 = 42;
+
     pub const FALLOCATE: u32 = 43;
+
     pub const LSEEK: u32 = 46;
+
     pub const COPY: u32 = 47;
+
     pub const SYNCFS: u32 = 50;
+
     pub const TMPFILE: u32 = 51;
 }
 
 /// The kinds of answers.
 pub mod kind {
     pub const QUIET: u32 = 0;
+
     pub const DONE: u32 = 1;
+
     pub const FAULT_OR_SILENCE: u32 = 2;
+
     pub const DATA: u32 = 3;
+
     pub const WANT: u32 = 4;
+
     pub const ENTRY: u32 = 5;
+
     pub const ATTR: u32 = 6;
+
     pub const OPENED: u32 = 7;
+
     pub const CREATED: u32 = 8;
+
     pub const STATISTICS: u32 = 9;
+
     pub const TEXT: u32 = 10;
+
     pub const TEXT_OR_COUNT: u32 = 11;
+
     pub const OFFSET: u32 = 12;
+
     pub const WRITTEN: u32 = 13;
+
     pub const DIRECTORY: u32 = 14;
+
     pub const FAULT: u32 = 15;
 }
 
 /// What a call has besides its numbers: bits that are summed up.
 pub mod has {
     pub const HANDLE: u32 = 1;
+
     pub const OWNER: u32 = 2;
+
     pub const CONTEXT: u32 = 4;
+
     pub const GROUP: u32 = 8;
+
     pub const KILL_PRIV: u32 = 16;
+
     pub const DELAYED: u32 = 32;
+
     pub const DATASYNC: u32 = 64;
+
     pub const FLUSHES: u32 = 128;
+
     pub const FLOCK_RELEASE: u32 = 256;
+
     pub const PLUS: u32 = 512;
 }
 
@@ -226,29 +291,4 @@ impl CallData {
         group: 0,
         readahead: 0,
     };
-
-    /// The call of this number, with this kind of answer, that this caller makes.
-    pub fn of(call: u32, answer: u32, ctx: Context) -> CallData
-        ensures { result ≡ caller_of ctx (asked call answer) }
-    {
-        CallData {
-            call,
-            answer,
-            uid: ctx.uid.into_inner(),
-            gid: ctx.gid.into_inner(),
-            pid: ctx.pid,
-            ..CallData::NONE
-        }
-    }
-
-    /// The call of this number that is told nothing.
-    pub fn untold(call: u32, answer: u32) -> CallData
-        ensures { result ≡ asked call answer }
-    {
-        CallData {
-            call,
-            answer,
-            ..CallData::NONE
-        }
-    }
 }

@@ -2,8 +2,10 @@
 //! and write.
 #![tactic(auto)]
 
+mod asking;
 mod call;
 mod data;
 
+pub use asking::{Asking, NoEntries};
 pub use call::{CallData, Range, SetattrData, has, kind, number};
 pub use data::{AnswerData, AttrData, EntryData, ItemData, StatisticsData, fault_of};
