@@ -1,0 +1,135 @@
+-- A file system that notes its call is asked for what the grammar says.
+use Rattle.std.proofs.Common.{◌≡◌, ◌∙◌, ℕ, List, [], ◌∷◌, Option, None, Some, Result, Ok, Err, length, refl, ap, sym, inl, inr}
+use Rattle.vfs_segments.specs.Written.{Written}
+use Rattle.vfs_files.specs.Items.{Item}
+use Rattle.vfs_files.specs.Calls.{Call, Readdir, Answer, Done, Failed, Found, Created, Handed, Plain, Iterator, kind_of}
+use Rattle.vfs_files.specs.Answers.{Kind, Quiet, Told, Untold, Data, Agreements, Entries, TimedAttributes, Openings, Creations, Capacities, Texts, TextsOrCounts, Offsets, Writes, Iterators, Faults}
+use Rattle.vfs_files.specs.Runs.{Happening, Calls, Opens, Takes, IsRun, events_of, Event, Called, OpenedDirectory, Taken}
+use Rattle.vfs_files.specs.declared.entry.Context.{Context}
+use Rattle.vfs_grammar.specs.Forms.{Ask, Ends, Asks, Lists, WithMemory, Listing}
+use Rattle.vfs_grammar.specs.Reply.{Reply, reply_of}
+use Rattle.vfs_grammar.specs.Room.{unseen}
+use Rattle.vfs_grammar.specs.Turn.{Follows, node_answered, IsRead}
+use Rattle.vfs_grammar.specs.declared.limits.Limits.{Limits}
+use Rattle.vfs_grammar.specs.declared.error.Error.{Error}
+use Rattle.vfs_entries.specs.Delivery.{CallsAndGivesBack}
+use Rattle.vfs_calls.specs.Asked.{Notes}
+use Rattle.vfs_calls.specs.Shapes.{shape_of, shape_over, nothing, held_back, held_back_kind}
+use Rattle.vfs_calls.specs.declared.asking.Asking.{Asking}
+use Rattle.vfs_calls.specs.declared.asking.NoEntries.{NoEntries}
+use Rattle.vfs_calls.specs.declared.call.CallData.{CallData}
+use Rattle.vfs_handlers.specs.Handling.{server_tells}
+use Rattle.vfs_handlers.specs.State.{ServerState}
+use Rattle.vfs_ask.specs.Noting.{IsNoted}
+
+-- an answer that is held back names no node
+no_node : (k : Kind) → node_answered k (held_back_kind k) ≡ None
+no_node Quiet = refl
+no_node Told = refl
+no_node Untold = refl
+no_node (Data size) = refl
+no_node Agreements = refl
+no_node Entries = refl
+no_node TimedAttributes = refl
+no_node Openings = refl
+no_node Creations = refl
+no_node Capacities = refl
+no_node Texts = refl
+no_node TextsOrCounts = refl
+no_node Offsets = refl
+no_node Writes = refl
+no_node Iterators = refl
+no_node Faults = refl
+
+-- an equation of what is handed back
+abbrev Same : Handed NoEntries → Handed NoEntries → Type 0
+Same a b = a ≡ b
+
+plain : (a b : Answer) → Same (Plain a) (Plain b) → a ≡ b
+plain a b e = cc
+
+-- the record is the caller's still, and has this
+record Has (old new : Asking) (call : CallData) : Type 0 where
+  noted : new.call.now ≡ call
+  same_record : new.call.ghost_name ≡ old.call.ghost_name
+
+abbrev GivesNone : NoEntries → Option Item → NoEntries → Type 0
+GivesNone old item new = item ≡ None
+
+-- what a noted call leaves, where none was noted before
+leaves : (c : Call) (handed : Handed NoEntries) (old new : Asking) → old.call.now ≡ nothing → Notes old c handed new → Has old new (shape_of c)
+leaves c handed old new none h = record { noted = h.0 ∙ ap (λ d. shape_over d c) none; same_record = h.2 }
+
+-- a call whose answer is held back is noted, and nothing is given back
+noted : (c : Call) (answer : Answer) (ctx : Context) (back : Option ℕ) (old new : Asking)
+    → (answer ≡ held_back c → back ≡ None) → old.call.now ≡ nothing
+    → CallsAndGivesBack Notes c answer ctx back old new → Has old new (shape_of c)
+noted c answer ctx None old new none start h = leaves c (Plain answer) old new start h
+noted c answer ctx (Some node) old new none start h =
+    let e : Some node ≡ None = none (plain answer (held_back c) h.1.1) in absurd (let a = e in cc)
+
+seen_none : (space : ℕ) (reply : Reply) (node : Option ℕ) → node ≡ None → unseen space reply node ≡ None
+seen_none space reply None e = refl
+seen_none space reply (Some node) e = absurd (let a = e in cc)
+
+-- of a run whose events are one call with its answer, that call is noted
+one_call : (call : Call) (fault : Option ℕ) (old new : Asking) (run : List (Happening NoEntries × Asking))
+    → old.call.now ≡ nothing → IsRun Notes GivesNone None old run new → events_of run ≡ Called call (Failed fault) ∷ []
+    → Has old new (shape_of call)
+one_call call fault old new [] start r e = absurd (let a = e in cc)
+one_call call fault old new ((Calls c answer, s) ∷ []) start r e =
+    let same : c ≡ call = let a = e in cc in
+    let l = leaves c (Plain answer) old s start r.0 in
+    record {
+      noted = ap (λ (s : Asking). s.call.now) r.1 ∙ l.noted ∙ ap shape_of same;
+      same_record = ap (λ (s : Asking). s.call.ghost_name) r.1 ∙ l.same_record }
+one_call call fault old new ((Opens c it, s) ∷ rest) start r e = absurd (let a = e in cc)
+one_call call fault old new ((Takes b i a, s) ∷ rest) start r e = absurd (let x = e in cc)
+one_call call fault old new ((Calls c answer, s) ∷ x ∷ rest) start r e = absurd (let a = e in cc)
+
+-- no run opens a directory
+none_opened : (call : Call) (takings : List Event) (old new : Asking) (run : List (Happening NoEntries × Asking))
+    → IsRun Notes GivesNone None old run new → events_of run ≡ OpenedDirectory call ∷ takings → ⊥
+none_opened call takings old new [] r e = let a = e in cc
+none_opened call takings old new ((Calls c answer, s) ∷ rest) r e = let a = e in cc
+none_opened call takings old new ((Opens c it, s) ∷ rest) r e = let a = r.0.1 in cc
+none_opened call takings old new ((Takes b i a, s) ∷ rest) r e = let x = e in cc
+
+-- a directory that is read was asked for, and not opened
+listed : (l : Listing) (records : List ℕ) (answer : Result ℕ (Option ℕ)) (old new : Asking) (run : List (Happening NoEntries × Asking))
+    → old.call.now ≡ nothing → IsRun Notes GivesNone None old run new → IsRead l (events_of run) records answer
+    → Has old new (shape_of (Readdir l.ctx l.parent l.handle l.size l.offset))
+listed l records answer old new run start r (inl u) = one_call _ u.fault old new run start r u.events_are
+listed l records answer old new run start r (inr o) = absurd (none_opened _ o.takings old new run r o.events_are)
+
+-- what is noted, and that the record is the caller's still
+pub record Noted (a : Ask) (old new : Asking) (writer : Written) (outcome : Result ℕ Error) (writer_after : Written) : Type 0 where
+  pub is_noted : IsNoted a writer outcome writer_after new.call.now
+  pub same_record : new.call.ghost_name ≡ old.call.ghost_name
+
+stayed : (old new : Asking) → new ≡ old → new.call.ghost_name ≡ old.call.ghost_name
+stayed old new e = ap (λ (s : Asking). s.call.ghost_name) e
+
+none_noted : (old new : Asking) → old.call.now ≡ nothing → new ≡ old → new.call.now ≡ nothing
+none_noted old new start e = ap (λ (s : Asking). s.call.now) e ∙ start
+
+pub asking_notes : (wanted : Type 0) (limits : Limits) (options after : ℕ) (a : Ask) (old new : ServerState Asking)
+    (writer writer_after : Written) (outcome : Result ℕ Error)
+    → old.fs.call.now ≡ nothing
+    → Follows (server_tells Notes GivesNone wanted old writer outcome writer_after new) limits options a after
+    → Noted a old.fs new.fs writer outcome writer_after
+asking_notes wanted limits options after (Ends reply) old new writer writer_after outcome start f =
+    record { is_noted = (none_noted old.fs new.fs start f.0, f.1); same_record = stayed old.fs new.fs f.0 }
+asking_notes wanted limits options after (Asks echo c) old new writer writer_after outcome start f =
+    let n = noted c f.0 echo.ctx _ old.fs new.fs
+        (λ e. seen_none (length writer.left) (reply_of limits echo after (kind_of c) f.0) (node_answered (kind_of c) f.0)
+        (ap (node_answered (kind_of c)) e ∙ no_node (kind_of c))) start f.1 in
+    record { is_noted = n.noted; same_record = n.same_record }
+asking_notes wanted limits options after (Lists echo l) old new writer writer_after outcome start f =
+    let n = listed l f.0 f.1 old.fs new.fs f.2.run start f.2.is_run f.2.is_read in
+    record { is_noted = n.noted; same_record = n.same_record }
+asking_notes wanted limits options after (WithMemory rest) old new writer writer_after outcome start (inl f) =
+    let n = asking_notes wanted limits options after rest old new writer writer_after outcome start f in
+    record { is_noted = inl n.is_noted; same_record = n.same_record }
+asking_notes wanted limits options after (WithMemory rest) old new writer writer_after outcome start (inr f) =
+    record { is_noted = inr (none_noted old.fs new.fs start f.0.0, f.1); same_record = stayed old.fs new.fs f.0.0 }

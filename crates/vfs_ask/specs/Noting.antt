@@ -1,0 +1,24 @@
+-- What is told of a request that was handled over a file system that notes its call.
+use Rattle.std.specs.Prelude.{◌≡◌, ◌⊎◌, Result, ℕ}
+use Rattle.vfs_segments.specs.Written.{Written}
+use Rattle.vfs_files.specs.Calls.{Readdir}
+use Rattle.vfs_messages.specs.Rooms.{Replies}
+use Rattle.vfs_grammar.specs.Forms.{Ask, Ends, Asks, Lists, WithMemory}
+use Rattle.vfs_grammar.specs.Reply.{Refusal}
+use Rattle.vfs_grammar.specs.declared.error.Error.{Error}
+use Rattle.vfs_grammar.specs.declared.error.Error.TheVariants.{OutOfMemory}
+use Rattle.vfs_calls.specs.Shapes.{shape_of, nothing}
+use Rattle.vfs_calls.specs.declared.call.CallData.{CallData}
+
+-- A call was noted exactly where one is asked for, and that very call; and a request that ends without
+-- one is finished: what comes back of it is in the writer.
+abbrev pub IsNoted : Ask → (writer : Written) → Result ℕ Error → (writer_after : Written) → CallData
+    → Type 0
+IsNoted (Ends reply) writer outcome writer_after call =
+    (call ≡ nothing) × Replies reply writer outcome writer_after
+IsNoted (Asks echo asked) writer outcome writer_after call = call ≡ shape_of asked
+IsNoted (Lists echo l) writer outcome writer_after call =
+    call ≡ shape_of (Readdir l.ctx l.parent l.handle l.size l.offset)
+IsNoted (WithMemory rest) writer outcome writer_after call =
+    IsNoted rest writer outcome writer_after call
+    ⊎ ((call ≡ nothing) × Replies (Refusal OutOfMemory) writer outcome writer_after)

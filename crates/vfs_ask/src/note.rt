@@ -1,0 +1,56 @@
+//! Noting the call of a request, with names and values by their lengths.
+
+ghost use Rattle.std.specs.Prelude.{◌≡◌, length};
+ghost use Rattle.vfs_flags.specs.Flags.{fs_options_bits};
+ghost use Rattle.vfs_grammar.specs.Ask.{ask_header};
+ghost use Rattle.vfs_grammar.specs.Limits.{AreLimits};
+ghost use Rattle.vfs_calls.specs.Shapes.{nothing};
+ghost use Rattle.vfs_ask.specs.Noting.{IsNoted};
+
+use vfs_calls::{Asking, CallData};
+use vfs_flags::FsOptions;
+use vfs_grammar::{Limits, Result};
+use vfs_handlers::{Request, Session};
+use vfs_segments::Writer;
+
+// Has a request handled over a file system that notes its call.
+fn handle(session: &mut Session<Asking<'_>>, q: Request<'_, '_>, w: &mut Writer) -> Result<usize>
+    requires { session.old.fs.call.now ≡ nothing }
+    ensures same_record { session.new.fs.call.ghost_name ≡ session.old.fs.call.ghost_name }
+    ensures noted { IsNoted
+        (ask_header session.old.limits session.old.options (length w.old.left) q.entry.header.now
+        q.entry.r.now.left)
+        w.old result w.new session.new.fs.call.now }
+{
+    session.handle_header(q, w)
+}
+
+/// Notes the call that a request with this header asks for, in a record that has none. Else it
+/// finishes the request: the reply is put into the room that `w` has left.
+pub fn note(
+    limits: Limits,
+    options: FsOptions,
+    q: Request<'_, '_>,
+    w: &mut Writer,
+    call: &mut CallData,
+) -> Result<usize>
+    requires limits { AreLimits limits }
+    requires none { call.old ≡ nothing }
+    ensures { IsNoted
+        (ask_header limits (fs_options_bits options) (length w.old.left) q.entry.header.now
+        q.entry.r.now.left)
+        w.old result w.new call.new }
+{
+    let mut session = Session {
+        fs: Asking { call },
+        options,
+        limits,
+    };
+    let outcome = handle(&mut session, q, w);
+    let Session {
+        fs: Asking { call: _noted },
+        options: _,
+        limits: _,
+    } = session;
+    outcome
+}
