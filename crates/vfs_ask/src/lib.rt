@@ -1,4 +1,9 @@
 //! What a request asks: a call as data, or that it is finished.
 #![tactic(auto)]
 
+mod asked;
+mod init;
 mod note;
+mod parts;
+
+pub use asked::Asked;

@@ -1,0 +1,158 @@
+-- What is told of a request: its call as data, or that it is finished.
+use Rattle.std.specs.Prelude.{◌≡◌, ◌⊎◌, ⊤, ◌==◌, ◌*◌, ℕ, List, length, take, drop, nat_lt, if◌then◌else◌, Option, Some, None, Result, Ok, Err}
+use Rattle.vfs_segments.specs.Written.{Written}
+use Rattle.vfs_wire.specs.Headers.{in_header}
+use Rattle.vfs_wire.specs.declared.headers.InHeader.{InHeader}
+use Rattle.vfs_wire_more.specs.Locks.{interrupt_in}
+use Rattle.vfs_wire_more.specs.declared.locks.InterruptIn.{InterruptIn}
+use Rattle.vfs_files.specs.Calls.{Call, Lookup, Symlink, Mknod, Mkdir, Unlink, Rmdir, Rename, Link, Read, Write, Setxattr, Getxattr, Removexattr, Readdir, Create, BatchForget}
+use Rattle.vfs_messages.specs.Rooms.{Replies}
+use Rattle.vfs_grammar.specs.Ask.{ask}
+use Rattle.vfs_grammar.specs.Forms.{Ask, Ends, Asks, Lists, WithMemory, Listing, pairs_of}
+use Rattle.vfs_grammar.specs.Limits.{max_len}
+use Rattle.vfs_grammar.specs.Records.{size_of, record_of, pair_size}
+use Rattle.vfs_grammar.specs.Reply.{Reply, Refusal, Echo}
+use Rattle.vfs_grammar.specs.declared.limits.Limits.{Limits}
+use Rattle.vfs_grammar.specs.declared.error.Error.{Error}
+use Rattle.vfs_grammar.specs.declared.error.Error.TheVariants.{OutOfMemory}
+use Rattle.vfs_calls.specs.Shapes.{bit, nothing, shape_of, unplaced}
+use Rattle.vfs_calls.specs.declared.call.CallData.{CallData}
+use Rattle.vfs_calls.specs.declared.call.Range.{Range}
+use Rattle.vfs_ask.specs.declared.asked.Asked.{Asked}
+use Rattle.vfs_ask.specs.declared.asked.Asked.TheVariants as asked
+
+-- ---- a call as data
+
+-- the count of a call: of a READ how many bytes of data there is room for
+abbrev pub count_of : Call → ℕ
+count_of (Read ctx inode handle room size offset lock_owner flags) = room
+count_of call = (shape_of call).count
+
+-- the value of a call by its length: of a WRITE its data, of a BATCH_FORGET its pairs
+abbrev pub value_of_call : Call → Range
+value_of_call (Write ctx inode handle bytes size offset lock_owner delayed kill_priv flags) =
+    unplaced bytes
+value_of_call (BatchForget ctx pairs) = record { at = 0; len = length pairs * pair_size }
+value_of_call call = (shape_of call).value
+
+-- a call as data, without the places of its names and values: what of it stands in the request with this
+-- echo, the options that were agreed on when it was asked, and the room for its reply
+abbrev pub told_of : (options room : ℕ) → Echo → Call → CallData
+told_of options room echo call = record (shape_of call) {
+  unique = echo.unique;
+  readahead = echo.max_readahead;
+  options = options;
+  room = room;
+  count = count_of call;
+  value = value_of_call call;
+}
+
+-- the same of a directory that is to be read
+abbrev pub told_of_listing : (options room : ℕ) → Echo → Listing → CallData
+told_of_listing options room echo l =
+    record (told_of options room echo (Readdir l.ctx l.parent l.handle l.size l.offset)) {
+      has = bit l.plus 512;
+    }
+
+-- a range without its place
+abbrev pub long : Range → Range
+long range = record { at = 0; len = range.len }
+
+-- a call as data without the places of its names and values
+abbrev pub without_places : CallData → CallData
+without_places told = record told {
+  name = long told.name;
+  other_name = long told.other_name;
+  value = long told.value;
+  context_name = long told.context_name;
+  context = long told.context;
+}
+
+-- ---- the places of its names and values
+
+-- the bytes of a request in this range
+abbrev pub bytes_in : (request : List ℕ) → Range → List ℕ
+bytes_in request range = take range.len (drop range.at request)
+
+-- The names and the value of a call are the bytes of the request in the ranges that are told, and the pairs
+-- of a BATCH_FORGET are those that these bytes spell.
+abbrev pub ArePlaced : (request : List ℕ) → Call → CallData → Type 0
+ArePlaced q (Lookup ctx parent name) told = bytes_in q told.name ≡ name
+ArePlaced q (Symlink ctx text parent name ext) told =
+    (bytes_in q told.name ≡ name) × (bytes_in q told.other_name ≡ text)
+ArePlaced q (Mknod ctx inode name mode rdev umask ext) told = bytes_in q told.name ≡ name
+ArePlaced q (Mkdir ctx parent name mode umask ext) told = bytes_in q told.name ≡ name
+ArePlaced q (Unlink ctx parent name) told = bytes_in q told.name ≡ name
+ArePlaced q (Rmdir ctx parent name) told = bytes_in q told.name ≡ name
+ArePlaced q (Rename ctx olddir oldname newdir newname flags) told =
+    (bytes_in q told.name ≡ oldname) × (bytes_in q told.other_name ≡ newname)
+ArePlaced q (Link ctx inode newparent newname) told = bytes_in q told.name ≡ newname
+ArePlaced q (Write ctx inode handle bytes size offset lock_owner delayed kill_priv flags) told =
+    bytes_in q told.value ≡ bytes
+ArePlaced q (Setxattr ctx inode name value flags extra) told =
+    (bytes_in q told.name ≡ name) × (bytes_in q told.value ≡ value)
+ArePlaced q (Getxattr ctx inode name size) told = bytes_in q told.name ≡ name
+ArePlaced q (Removexattr ctx inode name) told = bytes_in q told.name ≡ name
+ArePlaced q (Create ctx parent name mode kill_priv flags umask ext) told = bytes_in q told.name ≡ name
+ArePlaced q (BatchForget ctx pairs) told = pairs_of told.count (bytes_in q told.value) ≡ pairs
+ArePlaced q call told = ⊤
+
+-- ---- what is told
+
+-- this very call of a request is told
+pub record IsTold (request : List ℕ) (options room : ℕ) (echo : Echo) (call : Call) (told : CallData)
+    : Type 0 where
+  pub numbers : without_places told ≡ told_of options room echo call
+  pub places : ArePlaced request call told
+
+-- a request is finished: this comes back of it, and it interrupts this one
+abbrev pub IsFinished : Reply → (interrupts : ℕ) → (writer : Written) → Asked → (writer_after : Written)
+    → CallData → Type 0
+IsFinished reply interrupts writer (asked.Finished outcome interrupted) writer_after told =
+    Replies reply writer outcome writer_after × (interrupted ≡ interrupts) × (told ≡ nothing)
+IsFinished reply interrupts writer asked.Call writer_after told = ⊥
+
+-- what is told of a request that asks this
+abbrev pub Tells : (request : List ℕ) → (options interrupts : ℕ) → Ask → (writer : Written) → Asked
+    → (writer_after : Written) → CallData → Type 0
+Tells q options interrupts (Ends reply) writer result writer_after told =
+    IsFinished reply interrupts writer result writer_after told
+Tells q options interrupts (Asks echo call) writer result writer_after told =
+    (result ≡ asked.Call) × IsTold q options (length writer.left) echo call told
+Tells q options interrupts (Lists echo l) writer result writer_after told =
+    (result ≡ asked.Call) × (told ≡ told_of_listing options (length writer.left) echo l)
+Tells q options interrupts (WithMemory rest) writer result writer_after told =
+    Tells q options interrupts rest writer result writer_after told
+    ⊎ IsFinished (Refusal OutOfMemory) interrupts writer result writer_after told
+
+-- the number in the record of an INTERRUPT, 0 where the record isn't whole
+abbrev pub unique_or_none : Result InterruptIn Error → ℕ
+unique_or_none (Ok r) = r.unique
+unique_or_none (Err error) = 0
+
+-- the number of INTERRUPT
+abbrev pub interrupt_number : ℕ
+interrupt_number = 36
+
+-- the request that one with this header interrupts, and 0 where it interrupts none
+abbrev pub interrupted_behind : Limits → InHeader → (rest : List ℕ) → ℕ
+interrupted_behind limits h rest =
+    if nat_lt (max_len limits) h.len then 0
+    else if h.opcode == interrupt_number then unique_or_none (record_of interrupt_in rest) else 0
+
+abbrev pub interrupted_or_none : Limits → Result InHeader Error → (rest : List ℕ) → ℕ
+interrupted_or_none limits (Ok h) rest = interrupted_behind limits h rest
+interrupted_or_none limits (Err error) rest = 0
+
+-- the request that a request interrupts, and 0 where it interrupts none
+abbrev pub interrupted_by : Limits → (request : List ℕ) → ℕ
+interrupted_by limits q =
+    interrupted_or_none limits (record_of in_header q) (drop (size_of in_header) q)
+
+-- What is told of a request, with so much room for a reply, under these limits and agreed options: the call
+-- that the grammar says, where it says one; and else that the request is finished, as the grammar says.
+abbrev pub IsAsked : Limits → (options : ℕ) → (request : List ℕ) → (writer : Written) → Asked
+    → (writer_after : Written) → CallData → Type 0
+IsAsked limits options q writer result writer_after told =
+    Tells q options (interrupted_by limits q) (ask limits options (length writer.left) q) writer result
+    writer_after told

@@ -1,0 +1,69 @@
+//! What an INIT asks.
+
+ghost use Rattle.std.specs.Prelude.{◌≡◌, ℕ, List};
+ghost use Rattle.vfs_flags.specs.Flags.{fs_options_bits};
+ghost use Rattle.vfs_grammar.specs.Forms.{Versions, ask_form, ask_version};
+ghost use Rattle.vfs_calls.specs.Shapes.{nothing};
+ghost use Rattle.vfs_ask.specs.Asked.{Tells};
+
+use crate::asked::Asked;
+use bitflags::Flags;
+use vfs_calls::{CallData, kind, number};
+use vfs_flags::{Errno, FsOptions, KERNEL_VERSION, MIN_KERNEL_MINOR_VERSION};
+use vfs_messages::{offered_options, read_record, read_second_flags, reply_failed, reply_version};
+use vfs_segments::{Reader, Writer};
+use vfs_wire::{InHeader, InitInCompat};
+
+/// What an INIT with this header asks, behind which `r` stands: its one or two records.
+pub fn ask_init(
+    header: &InHeader,
+    options: FsOptions,
+    r: &mut Reader<'_>,
+    w: &mut Writer,
+    call: &mut CallData,
+) -> Asked
+    requires { call.old ≡ nothing }
+    ensures { (request : List ℕ) → Tells request (fs_options_bits options) 0
+        (ask_form header.now r.old.left Versions) w.old result w.new call.new }
+{
+    let init_in = match read_record::<InitInCompat>(r) {
+        Ok(init_in) => init_in,
+        Err(error) => return Asked::finished(Err(error)),
+    };
+    match read_second_flags(init_in.flags, r) {
+        Ok(flags2) => ask_of_version(header, &init_in, flags2, options, w, call),
+        Err(error) => Asked::finished(Err(error)),
+    }
+}
+
+// What an INIT of this version asks: an older one is refused, and a newer major one is told ours.
+fn ask_of_version(
+    header: &InHeader,
+    init_in: &InitInCompat,
+    flags2: u32,
+    options: FsOptions,
+    w: &mut Writer,
+    call: &mut CallData,
+) -> Asked
+    requires { call.old ≡ nothing }
+    ensures { (request : List ℕ) → Tells request (fs_options_bits options) 0
+        (ask_version header.now init_in.now flags2) w.old result w.new call.new }
+{
+    if init_in.major < KERNEL_VERSION {
+        return Asked::finished(reply_failed(Some(Errno::EPROTO), header.unique, w));
+    }
+    if init_in.major > KERNEL_VERSION {
+        return Asked::finished(reply_version(header.unique, w));
+    }
+    if init_in.minor < MIN_KERNEL_MINOR_VERSION {
+        return Asked::finished(reply_failed(Some(Errno::EPROTO), header.unique, w));
+    }
+    call.call = number::INIT;
+    call.answer = kind::WANT;
+    call.unique = header.unique;
+    call.readahead = init_in.max_readahead;
+    call.options = options.bits();
+    call.room = w.available_bytes() as u64;
+    call.count = offered_options(init_in.flags, flags2).bits();
+    Asked::Call
+}
