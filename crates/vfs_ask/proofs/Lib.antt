@@ -1,1 +1,4 @@
+pub mod Cutting
 pub mod Noting
+pub mod Placing
+pub mod Telling

@@ -1,10 +1,10 @@
 -- A file system that notes its call is asked for what the grammar says.
-use Rattle.std.proofs.Common.{◌≡◌, ◌∙◌, ℕ, List, [], ◌∷◌, Option, None, Some, Result, Ok, Err, length, refl, ap, sym, inl, inr}
+use Rattle.std.proofs.Common.{◌≡◌, ◌∙◌, ℕ, List, [], ◌∷◌, Option, None, Some, Result, length, refl, ap, inl, inr}
 use Rattle.vfs_segments.specs.Written.{Written}
 use Rattle.vfs_files.specs.Items.{Item}
-use Rattle.vfs_files.specs.Calls.{Call, Readdir, Answer, Done, Failed, Found, Created, Handed, Plain, Iterator, kind_of}
+use Rattle.vfs_files.specs.Calls.{Call, Readdir, Answer, Failed, Handed, Plain, kind_of}
 use Rattle.vfs_files.specs.Answers.{Kind, Quiet, Told, Untold, Data, Agreements, Entries, TimedAttributes, Openings, Creations, Capacities, Texts, TextsOrCounts, Offsets, Writes, Iterators, Faults}
-use Rattle.vfs_files.specs.Runs.{Happening, Calls, Opens, Takes, IsRun, events_of, Event, Called, OpenedDirectory, Taken}
+use Rattle.vfs_files.specs.Runs.{Happening, Calls, Opens, Takes, IsRun, events_of, Event, Called, OpenedDirectory}
 use Rattle.vfs_files.specs.declared.entry.Context.{Context}
 use Rattle.vfs_grammar.specs.Forms.{Ask, Ends, Asks, Lists, WithMemory, Listing}
 use Rattle.vfs_grammar.specs.Reply.{Reply, reply_of}
@@ -82,7 +82,8 @@ one_call call fault old new ((Calls c answer, s) ∷ []) start r e =
     let l = leaves c (Plain answer) old s start r.0 in
     record {
       noted = ap (λ (s : Asking). s.call.now) r.1 ∙ l.noted ∙ ap shape_of same;
-      same_record = ap (λ (s : Asking). s.call.ghost_name) r.1 ∙ l.same_record }
+      same_record = ap (λ (s : Asking). s.call.ghost_name) r.1 ∙ l.same_record;
+    }
 one_call call fault old new ((Opens c it, s) ∷ rest) start r e = absurd (let a = e in cc)
 one_call call fault old new ((Takes b i a, s) ∷ rest) start r e = absurd (let x = e in cc)
 one_call call fault old new ((Calls c answer, s) ∷ x ∷ rest) start r e = absurd (let a = e in cc)
@@ -122,8 +123,8 @@ asking_notes wanted limits options after (Ends reply) old new writer writer_afte
     record { is_noted = (none_noted old.fs new.fs start f.0, f.1); same_record = stayed old.fs new.fs f.0 }
 asking_notes wanted limits options after (Asks echo c) old new writer writer_after outcome start f =
     let n = noted c f.0 echo.ctx _ old.fs new.fs
-        (λ e. seen_none (length writer.left) (reply_of limits echo after (kind_of c) f.0) (node_answered (kind_of c) f.0)
-        (ap (node_answered (kind_of c)) e ∙ no_node (kind_of c))) start f.1 in
+    (λ e. seen_none (length writer.left) (reply_of limits echo after (kind_of c) f.0) (node_answered (kind_of c) f.0)
+    (ap (node_answered (kind_of c)) e ∙ no_node (kind_of c))) start f.1 in
     record { is_noted = n.noted; same_record = n.same_record }
 asking_notes wanted limits options after (Lists echo l) old new writer writer_after outcome start f =
     let n = listed l f.0 f.1 old.fs new.fs f.2.run start f.2.is_run f.2.is_read in

@@ -1,5 +1,5 @@
 -- What is told of a request: its call as data, or that it is finished.
-use Rattle.std.specs.Prelude.{◌≡◌, ◌⊎◌, ⊤, ◌==◌, ◌*◌, ℕ, List, length, take, drop, nat_lt, if◌then◌else◌, Option, Some, None, Result, Ok, Err}
+use Rattle.std.specs.Prelude.{◌≡◌, ◌⊎◌, ⊤, ◌==◌, ◌*◌, ℕ, List, length, take, drop, nat_lt, if◌then◌else◌, Result, Ok, Err}
 use Rattle.vfs_segments.specs.Written.{Written}
 use Rattle.vfs_wire.specs.Headers.{in_header}
 use Rattle.vfs_wire.specs.declared.headers.InHeader.{InHeader}
@@ -55,17 +55,17 @@ told_of_listing options room echo l =
     }
 
 -- a range without its place
-abbrev pub long : Range → Range
-long range = record { at = 0; len = range.len }
+abbrev pub long_range : Range → Range
+long_range range = record { at = 0; len = range.len }
 
 -- a call as data without the places of its names and values
 abbrev pub without_places : CallData → CallData
 without_places told = record told {
-  name = long told.name;
-  other_name = long told.other_name;
-  value = long told.value;
-  context_name = long told.context_name;
-  context = long told.context;
+  name = long_range told.name;
+  other_name = long_range told.other_name;
+  value = long_range told.value;
+  context_name = long_range told.context_name;
+  context = long_range told.context;
 }
 
 -- ---- the places of its names and values

@@ -1,9 +1,31 @@
 //! What a request asks.
 
-ghost use Rattle.std.specs.Prelude.{◌≡◌};
+ghost use Rattle.std.specs.Prelude.{◌≡◌, ◌≢◌, ◌≤◌, ℕ, List, Some, drop, length};
+ghost use Rattle.vfs_flags.specs.Flags.{fs_options_bits};
+ghost use Rattle.vfs_flags.specs.Opcode.{opcode_of};
+ghost use Rattle.vfs_flags.specs.declared.opcode.Opcode.{Opcode};
+ghost use Rattle.vfs_wire.specs.Headers.{in_header};
+ghost use Rattle.vfs_wire_more.specs.Locks.{interrupt_in};
+ghost use Rattle.vfs_grammar.specs.Ask.{ask_header, ask_opcode};
+ghost use Rattle.vfs_grammar.specs.Limits.{AreLimits, max_len};
+ghost use Rattle.vfs_grammar.specs.Records.{record_of, size_of};
+ghost use Rattle.vfs_calls.specs.Shapes.{nothing};
 ghost use Rattle.vfs_ask.specs.declared.asked.Asked.TheVariants.{Finished};
+ghost use Rattle.vfs_ask.specs.Asked.{IsAsked, Tells, interrupted_behind, unique_or_none};
 
-use vfs_grammar::Result;
+use crate::init::ask_init;
+use crate::note::note;
+use crate::parts::Parts;
+use bitflags::Flags;
+use std::alloc::Global;
+use vfs_calls::CallData;
+use vfs_flags::{Errno, FsOptions, Opcode};
+use vfs_grammar::{Limits, Result};
+use vfs_handlers::Request;
+use vfs_messages::{read_record, reply_failed};
+use vfs_segments::{Reader, Writer};
+use vfs_wire::InHeader;
+use vfs_wire_more::InterruptIn;
 
 /// What a request asks.
 #[derive(Drop)]
@@ -29,4 +51,109 @@ impl Asked {
             interrupts: 0,
         }
     }
+}
+
+/// What the request asks that `r` has left, with the options that are agreed on and the room that `w`
+/// has left: a call, which is told in `call`, or that it is finished, and what it came to.
+///
+/// A finished request has its reply in the room, and `call` is none. Of a told call the room holds
+/// nothing of worth: `w` is to be made anew for the answer.
+pub fn ask(
+    alloc: Global,
+    limits: Limits,
+    options: FsOptions,
+    mut r: Reader<'_>,
+    w: &mut Writer,
+    call: &mut CallData,
+) -> Asked
+    requires { AreLimits limits }
+    ensures { IsAsked limits (fs_options_bits options) r.entry.left w.old result w.new call.new }
+{
+    *call = CallData::NONE;
+    let len = r.available_bytes() as u64;
+    match read_record::<InHeader>(&mut r) {
+        Ok(header) => {
+            let (header, r) = (&header, &mut r);
+            ask_behind(limits, options, len, Request { alloc, header, r }, w, call)
+        }
+        Err(error) => Asked::finished(Err(error)),
+    }
+}
+
+// What a request of `len` bytes with this header asks.
+fn ask_behind(
+    limits: Limits,
+    options: FsOptions,
+    len: u64,
+    q: Request<'_, '_>,
+    w: &mut Writer,
+    call: &mut CallData,
+) -> Asked
+    requires limits { AreLimits limits }
+    requires none { call.old ≡ nothing }
+    ensures { (request : List ℕ) → length request ≡ len
+        → drop (size_of in_header) request ≡ q.entry.r.now.left
+        → Tells request (fs_options_bits options)
+        (interrupted_behind limits q.entry.header.now q.entry.r.now.left)
+        (ask_header limits (fs_options_bits options) (length w.old.left) q.entry.header.now
+        q.entry.r.now.left)
+        w.old result w.new call.new }
+{
+    if q.header.len > limits.max_len() {
+        return Asked::finished(reply_failed(Some(Errno::ENOMEM), q.header.unique, w));
+    }
+    match Opcode::try_from(q.header.opcode) {
+        Ok(Opcode::Init) => ask_init(q.header, options, q.r, w, call),
+        Ok(Opcode::Interrupt) => Asked::Finished {
+            outcome: Ok(0),
+            interrupts: interrupted(q.r),
+        },
+        Ok(opcode) => ask_of_opcode(opcode, limits, options, len, q, w, call),
+        Err(()) => Asked::finished(reply_failed(Some(Errno::ENOSYS), q.header.unique, w)),
+    }
+}
+
+// The request that an INTERRUPT means, whose record is next.
+fn interrupted(r: &mut Reader<'_>) -> u64
+    ensures { result ≡ unique_or_none (record_of interrupt_in r.old.left) }
+{
+    match read_record::<InterruptIn>(r) {
+        Ok(interrupt_in) => interrupt_in.unique,
+        Err(_) => 0,
+    }
+}
+
+// What a request of `len` bytes and this opcode asks, which is no INIT and no INTERRUPT.
+fn ask_of_opcode(
+    opcode: Opcode,
+    limits: Limits,
+    options: FsOptions,
+    len: u64,
+    q: Request<'_, '_>,
+    w: &mut Writer,
+    call: &mut CallData,
+) -> Asked
+    requires limits { AreLimits limits }
+    requires none { call.old ≡ nothing }
+    requires known { opcode_of q.header.now.opcode ≡ Some opcode }
+    requires below { q.header.now.len ≤ max_len limits }
+    requires no_init { opcode ≢ Opcode.Init }
+    ensures { (request : List ℕ) → length request ≡ len
+        → drop (size_of in_header) request ≡ q.entry.r.now.left
+        → Tells request (fs_options_bits options) 0
+        (ask_opcode limits (fs_options_bits options) (length w.old.left) opcode q.entry.header.now
+        q.entry.r.now.left)
+        w.old result w.new call.new }
+{
+    let unique = q.header.unique;
+    let room = w.available_bytes() as u64;
+    let outcome = note(limits, options, q, w, call);
+    if call.call == 0 {
+        return Asked::finished(outcome);
+    }
+    call.unique = unique;
+    call.options = options.bits();
+    call.room = room;
+    Parts::of(opcode, options).place(len, room, call);
+    Asked::Call
 }

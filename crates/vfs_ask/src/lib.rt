@@ -6,4 +6,4 @@ mod init;
 mod note;
 mod parts;
 
-pub use asked::Asked;
+pub use asked::{Asked, ask};

@@ -1,0 +1,140 @@
+-- Names and values stand in the tail that they are read from.
+use Rattle.std.proofs.Common.{◌≡◌, ◌∙◌, ◌+◌, ◌-◌, ◌==◌, ◌<◌, ℕ, zero, suc, Bool, true, false, if◌then◌else◌, nat_lt, List, [], ◌∷◌, length, take, drop, position, Option, None, Some, Result, Ok, Err, refl, ap, sym, arith, length-take}
+use Rattle.std.proofs.lemmas.List.{take_min, take_all}
+use Rattle.std.proofs.lemmas.List.Quantifiers.{position-Some}
+use Rattle.vfs_wire.specs.Headers.{in_header}
+use Rattle.vfs_wire.specs.declared.headers.InHeader.{InHeader}
+use Rattle.vfs_files.specs.Names.{name_of, name_to, first_name, cut_at}
+use Rattle.vfs_files.specs.Extensions.{ExtensionValues}
+use Rattle.vfs_grammar.specs.Extensions.{error_or, extensions_in}
+use Rattle.vfs_grammar.specs.Forms.{tail_of, name_in, name_or_refusal, names_in, both_or_refusal, second_or_refusal, value_in, sized_or_refusal, extended_in, extended_or_refusal, behind_name, link_in_tail, link_or_refusal}
+use Rattle.vfs_grammar.specs.Records.{size_of}
+use Rattle.vfs_grammar.specs.declared.error.Error.{Error}
+
+abbrev is_nul : ℕ → Bool
+is_nul = λ b. b == 0
+
+-- a beginning is the beginning of its own length
+pub own : (n : ℕ) (xs ys : List ℕ) → xs ≡ take n ys → xs ≡ take (length xs) ys
+own n xs ys e = e ∙ sym (take_min n ys) ∙ ap (λ k. take k ys) (sym (ap length e ∙ length-take n ys))
+
+prefix : (a n : ℕ) (ys : List ℕ) → take a (take n ys) ≡ take (length (take a (take n ys))) ys
+prefix zero n ys = refl
+prefix (suc a) zero ys = refl
+prefix (suc a) (suc n) [] = refl
+prefix (suc a) (suc n) (y ∷ ys) = ap (λ (zs : List ℕ). y ∷ zs) (prefix a n ys)
+
+-- a beginning of a beginning stands there
+pub stands_in : (a n : ℕ) (x ys : List ℕ) → x ≡ take a (take n ys) → x ≡ take (length x) ys
+stands_in a n x ys e = e ∙ prefix a n ys ∙ ap (λ (zs : List ℕ). take (length zs) ys) (sym e)
+
+-- what is behind a place in a beginning is a beginning of what is behind that place
+pub dropped : (d n : ℕ) (ys : List ℕ) → (k : ℕ) × (drop d (take n ys) ≡ take k (drop d ys))
+dropped zero n ys = (n, refl)
+dropped (suc d) zero ys = (0, refl)
+dropped (suc d) (suc n) [] = (0, refl)
+dropped (suc d) (suc n) (y ∷ ys) = dropped d n ys
+
+-- ---- results
+
+else_ok : {A : Type 0} (b : Bool) (e : Error) (next : Result A Error) (x : A) → (if b then Err e else next) ≡ Ok x → next ≡ Ok x
+else_ok true e next x h = absurd (let a = h in cc)
+else_ok false e next x h = h
+
+then_ok : {A : Type 0} (b : Bool) (y : A) (e : Error) (x : A) → (if b then Ok y else Err e) ≡ Ok x → y ≡ x
+then_ok true y e x h = let a = h in cc
+then_ok false y e x h = absurd (let a = h in cc)
+
+abbrev Same : {A : Type 0} → Result A Error → Result A Error → Type 0
+Same r s = r ≡ s
+
+same_ok : {A : Type 0} (y x : A) → Same (Ok y) (Ok x) → y ≡ x
+same_ok y x h = let a = h in cc
+
+or_ok : {A B : Type 0} (r : Result A Error) (next : A → Result B Error) (x : B) → error_or r next ≡ Ok x → (part : A) × (r ≡ Ok part) × (next part ≡ Ok x)
+or_ok (Err e) next x h = absurd (let a = h in cc)
+or_ok (Ok part) next x h = (part, refl, h)
+
+-- ---- parts
+
+pub tail_stands : (h : InHeader) (size : ℕ) (behind tail : List ℕ) → tail_of h size behind ≡ Ok tail → (n : ℕ) × (tail ≡ take n behind)
+tail_stands h size behind tail e =
+    let a = else_ok (nat_lt h.len (size_of in_header + size)) _ _ tail e in
+    let b = else_ok (nat_lt (length behind) (h.len - (size_of in_header + size))) _ _ tail a in
+    (h.len - (size_of in_header + size), sym (same_ok _ tail b))
+
+-- a name of bytes, whose first 0 stands at this place
+name_at : (bytes : List ℕ) (p : Option ℕ) (name : List ℕ) → name_to bytes p ≡ Some name → (j : ℕ) × (name ≡ take j bytes)
+name_at bytes None name e = absurd (let a = e in cc)
+name_at bytes (Some i) name e = pick (i + 1 == length bytes) e
+  where
+    pick : (b : Bool) → (if b then Some (take i bytes) else None) ≡ Some name → (j : ℕ) × (name ≡ take j bytes)
+    pick true h = (i, let a = h in cc)
+    pick false h = absurd (let a = h in cc)
+
+refused_name : (o : Option (List ℕ)) (name : List ℕ) → name_or_refusal o ≡ Ok name → o ≡ Some name
+refused_name None name e = absurd (let a = e in cc)
+refused_name (Some x) name e = let a = e in cc
+
+pub name_stands : (tail name : List ℕ) → name_in tail ≡ Ok name → (i : ℕ) × (name ≡ take i tail)
+name_stands tail name e = name_at tail (position is_nul tail) name (refused_name _ name e)
+
+-- two parts of a tail: the first ends at a place within it, and the second is behind it
+pub record Both (tail first second : List ℕ) : Type 0 where
+  pub n : ℕ
+  pub within : length first < length tail
+  pub first_is : first ≡ take (length first) tail
+  pub second_is : second ≡ take n (drop (length first + 1) tail)
+
+long : (tail : List ℕ) (i : ℕ) → position is_nul tail ≡ Some i → length (take i tail) ≡ i
+long tail i e = let p = (position-Some is_nul tail i 0 e).0 in length-take i tail ∙ omega (arith, p)
+
+both : (tail first second : List ℕ) (i n : ℕ) → position is_nul tail ≡ Some i → first ≡ take i tail → second ≡ take n (drop (i + 1) tail) → Both tail first second
+both tail first second i n e f s =
+    let l : length first ≡ i = ap length f ∙ long tail i e in
+    record { n = n; within = omega (arith, l, (position-Some is_nul tail i 0 e).0); first_is = f ∙ ap (λ k. take k tail) (sym l); second_is = s ∙ ap (λ k. take n (drop (k + 1) tail)) (sym l) }
+
+second_stands : (first d : List ℕ) (o : Option (List ℕ)) (x : List ℕ × List ℕ) → second_or_refusal first o ≡ Ok x → (x.0 ≡ first) × (o ≡ Some x.1)
+second_stands first d None x e = absurd (let a = e in cc)
+second_stands first d (Some y) x e = let same : (first, y) ≡ x = same_ok _ x e in (sym (ap (λ (p : List ℕ × List ℕ). p.0) same), ap (λ (p : List ℕ × List ℕ). Some p.1) same)
+
+names_at : (tail : List ℕ) (p : Option ℕ) → position is_nul tail ≡ p → (x : List ℕ × List ℕ) → both_or_refusal (cut_at tail p) ≡ Ok x → Both tail x.0 x.1
+names_at tail None at x e = absurd (let a = e in cc)
+names_at tail (Some i) at x e =
+    let s = second_stands (take i tail) (drop (i + 1) tail) (name_of (drop (i + 1) tail)) x e in
+    let n = name_at (drop (i + 1) tail) (position is_nul (drop (i + 1) tail)) x.1 s.1 in
+    both tail x.0 x.1 i n.0 at s.0 n.1
+
+pub names_stand : (tail : List ℕ) (x : List ℕ × List ℕ) → names_in tail ≡ Ok x → Both tail x.0 x.1
+names_stand tail x e = names_at tail (position is_nul tail) refl x e
+
+value_at : (size : ℕ) (tail : List ℕ) (p : Option ℕ) → position is_nul tail ≡ p → (x : List ℕ × List ℕ) → sized_or_refusal size (cut_at tail p) ≡ Ok x → Both tail x.0 x.1
+value_at size tail None at x e = absurd (let a = e in cc)
+value_at size tail (Some i) at x e =
+    let same : (take i tail, drop (i + 1) tail) ≡ x = then_ok (length (drop (i + 1) tail) == size) _ _ x e in
+    let s : x.1 ≡ drop (i + 1) tail = sym (ap (λ (p : List ℕ × List ℕ). p.1) same) in
+    both tail x.0 x.1 i (length (drop (i + 1) tail)) at (sym (ap (λ (p : List ℕ × List ℕ). p.0) same)) (s ∙ sym (take_all (length (drop (i + 1) tail)) (drop (i + 1) tail) (omega arith)))
+
+pub value_stands : (size : ℕ) (tail : List ℕ) (x : List ℕ × List ℕ) → value_in size tail ≡ Ok x → Both tail x.0 x.1
+value_stands size tail x e = value_at size tail (position is_nul tail) refl x e
+
+extended_at : (bytes : List ℕ) (p : Option ℕ) (ext : ExtensionValues) (x : List ℕ × ExtensionValues) → extended_or_refusal (cut_at bytes p) ext ≡ Ok x → (i : ℕ) × (x.0 ≡ take i bytes)
+extended_at bytes None ext x e = absurd (let a = e in cc)
+extended_at bytes (Some i) ext x e = let same : (take i bytes, ext) ≡ x = same_ok _ x e in (i, sym (ap (λ (p : List ℕ × ExtensionValues). p.0) same))
+
+pub extended_stands : (options : ℕ) (bytes : List ℕ) (x : List ℕ × ExtensionValues) → extended_in options bytes ≡ Ok x → (i : ℕ) × (x.0 ≡ take i bytes)
+extended_stands options [] x e = absurd (let a = e in cc)
+extended_stands options (b ∷ bytes) x e =
+    let o = or_ok (extensions_in options (behind_name (first_name (b ∷ bytes)))) _ x e in
+    extended_at (b ∷ bytes) (position is_nul (b ∷ bytes)) o.0 x o.2
+
+link_at : (options : ℕ) (tail : List ℕ) (p : Option ℕ) → position is_nul tail ≡ p → (x : List ℕ × List ℕ × ExtensionValues) → link_or_refusal options (cut_at tail p) ≡ Ok x → Both tail x.0 x.1
+link_at options tail None at x e = absurd (let a = e in cc)
+link_at options tail (Some i) at x e =
+    let o = or_ok (extended_in options (drop (i + 1) tail)) _ x e in
+    let same : (take i tail, o.0.0, o.0.1) ≡ x = same_ok _ x o.2 in
+    let t = extended_stands options (drop (i + 1) tail) o.0 o.1 in
+    both tail x.0 x.1 i t.0 at (sym (ap (λ (p : List ℕ × List ℕ × ExtensionValues). p.0) same)) (sym (ap (λ (p : List ℕ × List ℕ × ExtensionValues). p.1) same) ∙ t.1)
+
+pub link_stands : (options : ℕ) (tail : List ℕ) (x : List ℕ × List ℕ × ExtensionValues) → link_in_tail options tail ≡ Ok x → Both tail x.0 x.1
+link_stands options tail x e = link_at options tail (position is_nul tail) refl x e

@@ -1,0 +1,89 @@
+-- From the call that was noted to the call that is told.
+use Rattle.std.proofs.Common.{◌≡◌, ◌==◌, ◌∙◌, ℕ, true, false, List, length, Result, refl, ap, subst, sym, inl, inr}
+use Rattle.vfs_flags.specs.declared.opcode.Opcode.{Opcode}
+use Rattle.vfs_segments.specs.Written.{Written}
+use Rattle.vfs_wire.specs.declared.headers.InHeader.{InHeader}
+use Rattle.vfs_files.specs.Calls.{Call}
+use Rattle.vfs_files.specs.Calls as call
+use Rattle.vfs_grammar.specs.Forms.{Ask, Ends, Asks, Lists, WithMemory}
+use Rattle.vfs_grammar.specs.declared.error.Error.{Error}
+use Rattle.vfs_calls.specs.Shapes.{shape_of}
+use Rattle.vfs_calls.specs.declared.call.CallData.{CallData}
+use Rattle.vfs_ask.specs.Asked.{IsTold, Tells}
+use Rattle.vfs_ask.specs.Noting.{IsNoted}
+use Rattle.vfs_ask.specs.declared.asked.Asked.TheVariants as asked
+use Rattle.vfs_ask.proofs.Placing.{CallIsTold, ListingIsTold, OfCall, told}
+
+-- no call has the number 0
+is_some_call : (c : Call) → ((shape_of c).call == 0) ≡ false
+is_some_call (call.Lookup ctx parent name) = refl
+is_some_call (call.Forget ctx inode count) = refl
+is_some_call (call.Getattr ctx inode handle) = refl
+is_some_call (call.Setattr ctx inode attr handle valid) = refl
+is_some_call (call.Readlink ctx inode) = refl
+is_some_call (call.Symlink ctx linkname parent name ext) = refl
+is_some_call (call.Mknod ctx inode name mode rdev umask ext) = refl
+is_some_call (call.Mkdir ctx parent name mode umask ext) = refl
+is_some_call (call.Unlink ctx parent name) = refl
+is_some_call (call.Rmdir ctx parent name) = refl
+is_some_call (call.Rename ctx olddir oldname newdir newname flags) = refl
+is_some_call (call.Link ctx inode newparent newname) = refl
+is_some_call (call.Open ctx inode kill_priv flags) = refl
+is_some_call (call.Read ctx inode handle room size offset lock_owner flags) = refl
+is_some_call (call.Write ctx inode handle bytes size offset lock_owner delayed kill_priv flags) = refl
+is_some_call (call.Statfs ctx inode) = refl
+is_some_call (call.Release ctx inode flags handle flush flock_release lock_owner) = refl
+is_some_call (call.Fsync ctx inode datasync handle) = refl
+is_some_call (call.Setxattr ctx inode name value flags extra) = refl
+is_some_call (call.Getxattr ctx inode name size) = refl
+is_some_call (call.Listxattr ctx inode size) = refl
+is_some_call (call.Removexattr ctx inode name) = refl
+is_some_call (call.Flush ctx inode handle lock_owner) = refl
+is_some_call (call.Init capable) = refl
+is_some_call (call.Opendir ctx inode flags) = refl
+is_some_call (call.Readdir ctx inode handle size offset) = refl
+is_some_call (call.Releasedir ctx inode flags handle) = refl
+is_some_call (call.Fsyncdir ctx inode datasync handle) = refl
+is_some_call call.Getlk = refl
+is_some_call call.Setlk = refl
+is_some_call call.Setlkw = refl
+is_some_call (call.Access ctx inode mask) = refl
+is_some_call (call.Create ctx parent name mode kill_priv flags umask ext) = refl
+is_some_call call.Bmap = refl
+is_some_call call.Destroy = refl
+is_some_call call.Ioctl = refl
+is_some_call call.Poll = refl
+is_some_call call.NotifyReply = refl
+is_some_call (call.BatchForget ctx requests) = refl
+is_some_call (call.Fallocate ctx inode handle mode offset length) = refl
+is_some_call (call.Lseek ctx inode handle offset whence) = refl
+is_some_call (call.Copyfilerange ctx inode_in handle_in offset_in inode_out handle_out offset_out len flags) = refl
+is_some_call (call.Syncfs ctx inode) = refl
+is_some_call call.Tmpfile = refl
+
+-- so the record of one that was noted has none
+not_none : (c : CallData) → (c.call == 0) ≡ false → c.call ≡ 0 → ⊥
+not_none c some none = let e : (c.call == 0) ≡ true = ap (λ n. n == 0) none in let f = sym e ∙ some in cc
+
+module _ (q : List ℕ) (options : ℕ) (writer : Written) (outcome : Result ℕ Error) (writer_after : Written) (noted : CallData) where
+  -- where no call was noted, the request is finished
+  pub finished_where_none : (a : Ask) → noted.call ≡ 0 → IsNoted a writer outcome writer_after noted
+      → Tells q options 0 a writer (asked.Finished outcome 0) writer_after noted
+  finished_where_none (Ends reply) none n = (n.1, refl, n.0)
+  finished_where_none (Asks echo c) none n = absurd (not_none (shape_of c) (is_some_call c) (ap (λ (d : CallData). d.call) (sym n) ∙ none))
+  finished_where_none (Lists echo l) none n = absurd (not_none noted (ap (λ (d : CallData). d.call == 0) n) none)
+  finished_where_none (WithMemory rest) none (inl n) = inl (finished_where_none rest none n)
+  finished_where_none (WithMemory rest) none (inr n) = inr (n.1, refl, n.0)
+
+  -- and else that call is told
+  pub told_where_noted : (h : InHeader) (len : ℕ) (o : Opcode) (a : Ask)
+      → OfCall (CallIsTold q h options (length writer.left) len o) (ListingIsTold q h options (length writer.left) len o) a
+      → (noted.call ≡ 0 → ⊥) → IsNoted a writer outcome writer_after noted
+      → Tells q options 0 a writer asked.Call writer_after (told q h options (length writer.left) len o noted)
+  told_where_noted h len o (Ends reply) is some n = absurd (some (ap (λ (d : CallData). d.call) n.0))
+  told_where_noted h len o (Asks echo c) is some n =
+      (refl, subst (λ (d : CallData). IsTold q options (length writer.left) echo c (told q h options (length writer.left) len o d)) (sym n) is)
+  told_where_noted h len o (Lists echo l) is some n =
+      (refl, ap (told q h options (length writer.left) len o) n ∙ is)
+  told_where_noted h len o (WithMemory rest) is some (inl n) = inl (told_where_noted h len o rest is some n)
+  told_where_noted h len o (WithMemory rest) is some (inr n) = absurd (some (ap (λ (d : CallData). d.call) n.0))
