@@ -21,32 +21,31 @@ use Rattle.vfs_files.specs.Calls as call
 use Rattle.vfs_files.specs.Entries.{context_of}
 use Rattle.vfs_files.specs.Extensions.{ExtensionValues}
 use Rattle.vfs_grammar.specs.Ask.{form_of, ask_opcode, has_flag, if_set}
-use Rattle.vfs_grammar.specs.Forms.{Ask, Ends, Asks, Lists, WithMemory, Listing, refused_or, within, tail_of, name_in, names_in, value_in, extended_in, link_in_tail, pairs_in, pairs_of, space_behind_header, Layout, layout_size, layout_record, behind, Form, NoTail, NameTail, TwoNames, NameAndValue, NameAndExtensions, LinkAndExtensions, Pairs, WithRest, IntoRoom, Directories, Versions, Silent, NotServed, ask_form}
+use Rattle.vfs_grammar.specs.Forms.{Ask, Ends, Asks, Lists, WithMemory, Listing, Without, Record, refused_or, within, tail_of, name_in, names_in, value_in, extended_in, link_in_tail, pairs_in, pairs_of, space_behind_header, Layout, layout_size, layout_record, behind, Form, NoTail, NameTail, TwoNames, NameAndValue, NameAndExtensions, LinkAndExtensions, Pairs, WithRest, IntoRoom, Directories, Versions, Silent, NotServed, ask_form}
 use Rattle.vfs_grammar.specs.Reply.{Echo, echo_of}
-use Rattle.vfs_grammar.specs.Records.{size_of}
+use Rattle.vfs_grammar.specs.Records.{record_of, size_of}
 use Rattle.vfs_grammar.specs.declared.limits.Limits.{Limits}
 use Rattle.vfs_grammar.specs.declared.error.Error.{Error}
 use Rattle.vfs_grammar.specs.declared.error.Error.TheVariants.{DecodeMessage, EncodeMessage}
 use Rattle.vfs_calls.specs.Shapes.{context_name_of, context_value_of, shape_of, unplaced}
 use Rattle.vfs_calls.specs.declared.call.CallData.{CallData}
-use Rattle.vfs_ask.specs.Asked.{IsTold, bytes_in, long_range, told_of, told_of_listing, without_places}
+use Rattle.vfs_ask.specs.Asked.{IsTold, Stand, long_range, told_of, told_of_listing, without_places}
 use Rattle.vfs_ask.specs.Parts.{parts_of, with_parts, place_behind}
 use Rattle.vfs_ask.proofs.Cutting.{stands_in, dropped, tail_stands, name_stands, Both, names_stand, value_stands, extended_stands, link_stands}
 
 -- these bytes stand at this place
 abbrev Stands : (request : List ℕ) → (at : ℕ) → (bytes : List ℕ) → Type 0
-Stands q at bytes = take (length bytes) (drop at q) ≡ bytes
+Stands q at bytes = Stand q (record { at = at; len = length bytes }) bytes
 
 -- one behind the other, with a byte between them, which is there
 record StandBoth (q : List ℕ) (at : ℕ) (first second : List ℕ) : Type 0 where
   front : Stands q at first
   back : Stands q (at + (length first + 1)) second
-  fits : at + (length first + 1) ≤ length q
 
 -- these pairs are spelled at this place, whole
-record Spell (q : List ℕ) (at count : ℕ) (pairs : List (ℕ × ℕ)) : Type 0 where
+record SpelledAt (q : List ℕ) (at count : ℕ) (pairs : List (ℕ × ℕ)) : Type 0 where
   many : length pairs ≡ count
-  whole : count * 16 ≤ length (drop at q)
+  within : at + count * 16 ≤ length q
   spelled : pairs ≡ pairs_of count (drop at q)
 
 -- where a record of this layout ends
@@ -74,9 +73,18 @@ length-pairs_of : (count : ℕ) (bytes : List ℕ) → length (pairs_of count by
 length-pairs_of zero bytes = refl
 length-pairs_of (suc n) bytes = ap suc (length-pairs_of n (drop 16 bytes))
 
+-- a header that is whole lies within the request
+header_in : (short : Bool) (long : ℕ) (v r : InHeader) → nat_lt long (size_of in_header) ≡ short
+    → (if short then Err DecodeMessage else Ok v) ≡ Ok r → size_of in_header ≤ long
+header_in true long v r b e = absurd (let a = e in cc)
+header_in false long v r b e = grind (arith, nat_tests, b)
+
+pub header_fits : (q : List ℕ) (h : InHeader) → record_of in_header q ≡ Ok h → size_of in_header ≤ length q
+header_fits q h e = header_in (nat_lt (length q) (size_of in_header)) (length q) (value_of in_header q) h refl e
+
 -- ---- parts of a request
 
-module _ (q : List ℕ) (h : InHeader) (P : Echo → Call → Type 0) (L : Echo → Listing → Type 0) where
+module _ (q : List ℕ) (h : InHeader) (head : size_of in_header ≤ length q) (P : Echo → Call → Type 0) (L : Echo → Listing → Type 0) where
   -- what is to be shown of the call of a form
   abbrev Shown : Form → Type 0
   Shown (NoTail {R} layout above call) = (r : R) → P (echo_of h) (call r)
@@ -91,8 +99,8 @@ module _ (q : List ℕ) (h : InHeader) (P : Echo → Call → Type 0) (L : Echo 
   Shown (LinkAndExtensions {R} layout options call) =
       (r : R) (name text : List ℕ) (ext : ExtensionValues) → StandBoth q (behind_record layout) name text → P (echo_of h) (call r name text ext)
   Shown (Pairs {R} layout above count call) =
-      (r : R) (pairs : List (ℕ × ℕ)) → Spell q (behind_record layout) (count r) pairs → P (echo_of h) (call r pairs)
-  Shown (WithRest {R} layout call) = (r : R) → P (echo_of h) (call r (drop (behind_record layout) q))
+      (r : R) (pairs : List (ℕ × ℕ)) → SpelledAt q (behind_record layout) (count r) pairs → P (echo_of h) (call r pairs)
+  Shown (WithRest {R} layout call) = (r : R) → behind_record layout ≤ length q → P (echo_of h) (call r (drop (behind_record layout) q))
   Shown (IntoRoom {R} layout space call) = (r : R) → P (echo_of h) (call r (space - size_of out_header))
   Shown (Directories {R} layout above space listing) = (r : R) (n : ℕ) → L (echo_of h) (listing r n)
   Shown Versions = ⊥
@@ -116,16 +124,40 @@ module _ (q : List ℕ) (h : InHeader) (P : Echo → Call → Type 0) (L : Echo 
   place : {R : Type 0} (layout : Layout R) → behind layout rest ≡ drop (behind_record layout) q
   place layout = drop-drop (layout_size layout) (size_of in_header) q
 
-  -- a beginning of the tail stands behind the record
-  first_stands : {R : Type 0} (layout : Layout R) (tail x : List ℕ) (a : ℕ) → tail_of h (layout_size layout) (behind layout rest) ≡ Ok tail
-      → x ≡ take a tail → Stands q (behind_record layout) x
-  first_stands layout tail x a whole e =
-      let t = tail_stands h (layout_size layout) (behind layout rest) tail whole in
-      sym (stands_in a t.0 x (behind layout rest) (e ∙ ap (take a) t.1) ∙ ap (take (length x)) (place layout))
+  -- a record that is whole ends within the request
+  whole_table : (short : Bool) (size long : ℕ) {R : Type 0} (v r : R) → nat_lt long size ≡ short
+      → (if short then Err DecodeMessage else Ok v) ≡ Ok r → size ≤ long
+  whole_table true size long v r b e = absurd (let a = e in cc)
+  whole_table false size long v r b e = grind (arith, nat_tests, b)
 
-  both_stand : {R : Type 0} (layout : Layout R) (tail first second : List ℕ) → tail_of h (layout_size layout) (behind layout rest) ≡ Ok tail
+  layout_fits : {R : Type 0} (layout : Layout R) (r : R) → layout_record layout rest ≡ Ok r → layout_size layout ≤ length rest
+  layout_fits (Without v) r e = omega arith
+  layout_fits (Record t) r e = whole_table (nat_lt (length rest) (size_of t)) (size_of t) (length rest) (value_of t rest) r refl e
+
+  ends : {R : Type 0} (layout : Layout R) (r : R) → layout_record layout rest ≡ Ok r → behind_record layout ≤ length q
+  ends layout r e = omega (arith, head, layout_fits layout r e, length-drop (size_of in_header) q)
+
+  -- a tail ends within the request
+  tail_ends : {R : Type 0} (layout : Layout R) (tail : List ℕ) → behind_record layout ≤ length q
+      → tail_of h (layout_size layout) (behind layout rest) ≡ Ok tail → behind_record layout + length tail ≤ length q
+  tail_ends layout tail end whole =
+      let t = tail_stands h (layout_size layout) (behind layout rest) tail whole in
+      omega (arith, end, ap length t.1, length-take t.0 (behind layout rest), ap length (place layout), length-drop (behind_record layout) q)
+
+  -- a beginning of the tail stands behind the record
+  first_stands : {R : Type 0} (layout : Layout R) (tail x : List ℕ) (a : ℕ) → behind_record layout ≤ length q
+      → tail_of h (layout_size layout) (behind layout rest) ≡ Ok tail → x ≡ take a tail → Stands q (behind_record layout) x
+  first_stands layout tail x a end whole e =
+      let t = tail_stands h (layout_size layout) (behind layout rest) tail whole in
+      record {
+        within = omega (arith, tail_ends layout tail end whole, ap length e, length-take a tail);
+        bytes_are = sym (stands_in a t.0 x (behind layout rest) (e ∙ ap (take a) t.1) ∙ ap (take (length x)) (place layout));
+      }
+
+  both_stand : {R : Type 0} (layout : Layout R) (tail first second : List ℕ) → behind_record layout ≤ length q
+      → tail_of h (layout_size layout) (behind layout rest) ≡ Ok tail
       → Both tail first second → StandBoth q (behind_record layout) first second
-  both_stand layout tail first second whole b =
+  both_stand layout tail first second end whole b =
       let t = tail_stands h (layout_size layout) (behind layout rest) tail whole in
       let d = length first + 1 in
       let k = dropped d t.0 (behind layout rest) in
@@ -133,12 +165,13 @@ module _ (q : List ℕ) (h : InHeader) (P : Echo → Call → Type 0) (L : Echo 
       let s = stands_in b.n k.0 second (drop d (behind layout rest)) e in
       let at : drop d (behind layout rest) ≡ drop (behind_record layout + d) q =
       ap (drop d) (place layout) ∙ drop-drop d (behind_record layout) q in
-      let long : length tail ≤ length q - behind_record layout =
-      omega (arith, ap length t.1, length-take t.0 (behind layout rest), ap length (place layout), length-drop (behind_record layout) q) in
+      let long = tail_ends layout tail end whole in
       record {
-        front = first_stands layout tail first (length first) whole b.first_is;
-        back = sym (s ∙ ap (take (length second)) at);
-        fits = omega (arith, b.within, long);
+        front = first_stands layout tail first (length first) end whole b.first_is;
+        back = record {
+          within = omega (arith, b.within, long, ap length b.second_is, length-take b.n (drop d tail), length-drop d tail);
+          bytes_are = sym (s ∙ ap (take (length second)) at);
+        };
       }
 
   spelled_in : (short : Bool) (count : ℕ) (bytes : List ℕ) (pairs : List (ℕ × ℕ)) → nat_lt (length bytes) (count * 16) ≡ short
@@ -147,13 +180,13 @@ module _ (q : List ℕ) (h : InHeader) (P : Echo → Call → Type 0) (L : Echo 
   spelled_in true count bytes pairs b e = absurd (let a = e in cc)
   spelled_in false count bytes pairs b e = (grind (arith, nat_tests, b), let a = e in cc)
 
-  pairs_spell : {R : Type 0} (layout : Layout R) (count : ℕ) (pairs : List (ℕ × ℕ)) → pairs_in count (behind layout rest) ≡ Ok pairs
-      → Spell q (behind_record layout) count pairs
-  pairs_spell layout count pairs e =
+  pairs_spell : {R : Type 0} (layout : Layout R) (count : ℕ) (pairs : List (ℕ × ℕ)) → behind_record layout ≤ length q → pairs_in count (behind layout rest) ≡ Ok pairs
+      → SpelledAt q (behind_record layout) count pairs
+  pairs_spell layout count pairs end e =
       let s = spelled_in (nat_lt (length (behind layout rest)) (count * 16)) count (behind layout rest) pairs refl e in
       record {
         many = ap length s.1 ∙ length-pairs_of count (behind layout rest);
-        whole = rw (place layout) at s.0;
+        within = omega (arith, end, s.0, ap length (place layout), length-drop (behind_record layout) q);
         spelled = s.1 ∙ ap (pairs_of count) (place layout);
       }
 
@@ -166,23 +199,23 @@ module _ (q : List ℕ) (h : InHeader) (P : Echo → Call → Type 0) (L : Echo 
       part (layout_record layout rest) _ (λ r is. limit (above r) _ (s r))
   form_shown (NameTail layout above call) s =
       part (layout_record layout rest) _ (λ r is. part (tail_of h (layout_size layout) (behind layout rest)) _ (λ tail whole.
-      limit (above r) _ (part (name_in tail) _ (λ name found. let n = name_stands tail name found in s r name (first_stands layout tail name n.0 whole n.1)))))
+      limit (above r) _ (part (name_in tail) _ (λ name found. let n = name_stands tail name found in s r name (first_stands layout tail name n.0 (ends layout r is) whole n.1)))))
   form_shown (TwoNames layout call) s =
       part (layout_record layout rest) _ (λ r is. part (tail_of h (layout_size layout) (behind layout rest)) _ (λ tail whole.
-      part (names_in tail) _ (λ x found. s r x.0 x.1 (both_stand layout tail x.0 x.1 whole (names_stand tail x found)))))
+      part (names_in tail) _ (λ x found. s r x.0 x.1 (both_stand layout tail x.0 x.1 (ends layout r is) whole (names_stand tail x found)))))
   form_shown (NameAndValue layout size call) s =
       part (layout_record layout rest) _ (λ r is. part (tail_of h (layout_size layout) (behind layout rest)) _ (λ tail whole.
-      part (value_in (size r) tail) _ (λ x found. s r x.0 x.1 (both_stand layout tail x.0 x.1 whole (value_stands (size r) tail x found)))))
+      part (value_in (size r) tail) _ (λ x found. s r x.0 x.1 (both_stand layout tail x.0 x.1 (ends layout r is) whole (value_stands (size r) tail x found)))))
   form_shown (NameAndExtensions layout options call) s =
       part (layout_record layout rest) _ (λ r is. part (tail_of h (layout_size layout) (behind layout rest)) _ (λ tail whole.
-      part (extended_in options tail) _ (λ x found. let n = extended_stands options tail x found in s r x.0 x.1 (first_stands layout tail x.0 n.0 whole n.1))))
+      part (extended_in options tail) _ (λ x found. let n = extended_stands options tail x found in s r x.0 x.1 (first_stands layout tail x.0 n.0 (ends layout r is) whole n.1))))
   form_shown (LinkAndExtensions layout options call) s =
       part (layout_record layout rest) _ (λ r is. part (tail_of h (layout_size layout) (behind layout rest)) _ (λ tail whole.
-      part (link_in_tail options tail) _ (λ x found. s r x.0 x.1 x.2 (both_stand layout tail x.0 x.1 whole (link_stands options tail x found)))))
+      part (link_in_tail options tail) _ (λ x found. s r x.0 x.1 x.2 (both_stand layout tail x.0 x.1 (ends layout r is) whole (link_stands options tail x found)))))
   form_shown (Pairs layout above count call) s =
-      part (layout_record layout rest) _ (λ r is. limit (above r) _ (part (pairs_in (count r) (behind layout rest)) _ (λ pairs whole. s r pairs (pairs_spell layout (count r) pairs whole))))
+      part (layout_record layout rest) _ (λ r is. limit (above r) _ (part (pairs_in (count r) (behind layout rest)) _ (λ pairs whole. s r pairs (pairs_spell layout (count r) pairs (ends layout r is) whole))))
   form_shown (WithRest layout call) s =
-      part (layout_record layout rest) _ (λ r is. rw (place layout) (s r))
+      part (layout_record layout rest) _ (λ r is. rw (place layout) (s r (ends layout r is)))
   form_shown (IntoRoom layout space call) s =
       part (layout_record layout rest) _ (λ r is. part (space_behind_header space) _ (λ n fits. rw (behind_header (nat_lt space (size_of out_header)) space n fits) (s r)))
   form_shown (Directories layout above space listing) s =
@@ -205,7 +238,7 @@ module _ (q : List ℕ) (h : InHeader) (options space len : ℕ) where
   ListingIsTold o echo l =
       told o (shape_of (Readdir l.ctx l.parent l.handle l.size l.offset)) ≡ told_of_listing options space echo l
 
-module _ (q : List ℕ) (h : InHeader) (limits : Limits) (options space len : ℕ) (long : length q ≡ len) (small : len < 2 ^ 64) where
+module _ (q : List ℕ) (h : InHeader) (head : size_of in_header ≤ length q) (limits : Limits) (options space len : ℕ) (long : length q ≡ len) (small : len < 2 ^ 64) where
   abbrev CallIs : Opcode → Echo → Call → Type 0
   CallIs = CallIsTold q h options space len
 
@@ -214,11 +247,10 @@ module _ (q : List ℕ) (h : InHeader) (limits : Limits) (options space len : �
 
   -- the place of the second part
   second_place : (at : ℕ) (first second : List ℕ) → StandBoth q at first second → place_behind at (unplaced first) ≡ at + (length first + 1)
-  second_place at first second b = omega (arith, b.fits, long, small)
+  second_place at first second b = omega (arith, b.back.within, long, small)
 
-  second : (at : ℕ) (one other : List ℕ) → StandBoth q at one other
-      → bytes_in q (record { at = place_behind at (unplaced one); len = length other }) ≡ other
-  second at one other b = ap (λ (n : ℕ). take (length other) (drop n q)) (second_place at one other b) ∙ b.back
+  second : (at : ℕ) (one other : List ℕ) → StandBoth q at one other → Stands q (place_behind at (unplaced one)) other
+  second at one other b = rw (second_place at one other b) b.back
 
   rest_is : (at : ℕ) → length (drop at q) ≡ len - at
   rest_is at = omega (arith, length-drop at q, long)
@@ -237,22 +269,25 @@ module _ (q : List ℕ) (h : InHeader) (limits : Limits) (options space len : �
       (if_set r.write_flags WRITE_LOCKOWNER r.lock_owner) (has_flag r.write_flags WRITE_CACHE)
       (has_flag r.write_flags WRITE_KILL_PRIV) r.flags
 
-  write_told : (r : WriteIn) → CallIs opcode.Write (echo_of h) (write_of r)
-  write_told r = record {
+  write_told : (r : WriteIn) → 80 ≤ length q → CallIs opcode.Write (echo_of h) (write_of r)
+  write_told r end = record {
     numbers = sized (told_of options space (echo_of h) (write_of r)) (len - 80) (length (drop 80 q)) (sym (rest_is 80));
-    places = all_rest 80;
+    places = record { within = omega (arith, end, long); bytes_are = all_rest 80 };
   }
 
-  pairs_told : (count : ℕ) (pairs : List (ℕ × ℕ)) → Spell q 48 count pairs
+  pairs_told : (count : ℕ) (pairs : List (ℕ × ℕ)) → SpelledAt q 48 count pairs
       → CallIs opcode.BatchForget (echo_of h) (call.BatchForget (context_of h) pairs)
   pairs_told count pairs s =
-      let size : min (length pairs * 16) (2 ^ 64 - 1) ≡ length pairs * 16 = omega (arith, s.many, s.whole, rest_is 48, small) in
+      let size : min (length pairs * 16) (2 ^ 64 - 1) ≡ length pairs * 16 = omega (arith, s.many, s.within, long, small) in
       let all : length pairs * 16 ≡ count * 16 = ap (λ (n : ℕ). n * 16) s.many in
       record {
         numbers = sized (told_of options space (echo_of h) (call.BatchForget (context_of h) pairs)) _ _ size;
-        places = ap (λ (n : ℕ). pairs_of (length pairs) (take n (drop 48 q))) (size ∙ all)
-            ∙ ap (λ (n : ℕ). pairs_of n (take (count * 16) (drop 48 q))) s.many
-            ∙ pairs_of-take count (drop 48 q) s.whole ∙ sym s.spelled;
+        places = record {
+          within = omega (arith, s.within, size, all);
+          pairs_are = ap (λ (n : ℕ). pairs_of (length pairs) (take n (drop 48 q))) (size ∙ all)
+              ∙ ap (λ (n : ℕ). pairs_of n (take (count * 16) (drop 48 q))) s.many
+              ∙ pairs_of-take count (drop 48 q) (omega (arith, s.within, length-drop 48 q)) ∙ sym s.spelled;
+        };
       }
 
   -- a context's ranges without their places
@@ -290,7 +325,7 @@ module _ (q : List ℕ) (h : InHeader) (limits : Limits) (options space len : �
       → without_places (told_of options space (echo_of h) call) ≡ told_of options space (echo_of h) call
   extended_numbers call ext e f = e ∙ contexts (told_of options space (echo_of h) call) ext.context ∙ sym f
 
-  table : (o : Opcode) → o ≢ opcode.Init → Shown q h (CallIs o) (ListingIs o) (form_of limits options space h o)
+  table : (o : Opcode) → o ≢ opcode.Init → Shown q h head (CallIs o) (ListingIs o) (form_of limits options space h o)
   table opcode.Lookup not_init = λ r name s. record { numbers = refl; places = s }
   table opcode.Forget not_init = λ r. record { numbers = refl; places = tt {0} }
   table opcode.Getattr not_init = λ r. record { numbers = refl; places = tt {0} }
@@ -305,7 +340,7 @@ module _ (q : List ℕ) (h : InHeader) (limits : Limits) (options space len : �
   table opcode.Link not_init = λ r name s. record { numbers = refl; places = s }
   table opcode.Open not_init = λ r. record { numbers = refl; places = tt {0} }
   table opcode.Read not_init = λ r. record { numbers = refl; places = tt {0} }
-  table opcode.Write not_init = λ r. write_told r
+  table opcode.Write not_init = λ r end. write_told r end
   table opcode.Statfs not_init = λ r. record { numbers = refl; places = tt {0} }
   table opcode.Release not_init = λ r. record { numbers = refl; places = tt {0} }
   table opcode.Fsync not_init = λ r. record { numbers = refl; places = tt {0} }
@@ -344,4 +379,4 @@ module _ (q : List ℕ) (h : InHeader) (limits : Limits) (options space len : �
   -- the call or the listing that the bytes behind a header ask for is told
   pub told_by_opcode : (o : Opcode) → o ≢ opcode.Init
       → OfCall (CallIs o) (ListingIs o) (ask_opcode limits options space o h (drop (size_of in_header) q))
-  told_by_opcode o not_init = form_shown q h (CallIs o) (ListingIs o) (form_of limits options space h o) (table o not_init)
+  told_by_opcode o not_init = form_shown q h head (CallIs o) (ListingIs o) (form_of limits options space h o) (table o not_init)

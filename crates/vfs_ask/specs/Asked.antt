@@ -1,5 +1,5 @@
 -- What is told of a request: its call as data, or that it is finished.
-use Rattle.std.specs.Prelude.{◌≡◌, ◌⊎◌, ⊤, ◌==◌, ◌*◌, ℕ, List, length, take, drop, nat_lt, if◌then◌else◌, Result, Ok, Err}
+use Rattle.std.specs.Prelude.{◌≡◌, ◌≤◌, ◌⊎◌, ⊤, ◌==◌, ◌+◌, ◌*◌, ℕ, List, length, take, drop, nat_lt, if◌then◌else◌, Result, Ok, Err}
 use Rattle.vfs_segments.specs.Written.{Written}
 use Rattle.vfs_wire.specs.Headers.{in_header}
 use Rattle.vfs_wire.specs.declared.headers.InHeader.{InHeader}
@@ -74,27 +74,37 @@ without_places told = record told {
 abbrev pub bytes_in : (request : List ℕ) → Range → List ℕ
 bytes_in request range = take range.len (drop range.at request)
 
+-- this range lies within the request, and has these bytes there
+pub record Stand (request : List ℕ) (range : Range) (bytes : List ℕ) : Type 0 where
+  pub within : range.at + range.len ≤ length request
+  pub bytes_are : bytes_in request range ≡ bytes
+
+-- this range lies within the request, and its bytes spell these pairs of a node and a count
+pub record Spell (request : List ℕ) (range : Range) (pairs : List (ℕ × ℕ)) : Type 0 where
+  pub within : range.at + range.len ≤ length request
+  pub pairs_are : pairs_of (length pairs) (bytes_in request range) ≡ pairs
+
 -- The names and the value of a call are the bytes of the request in the ranges that are told, and the pairs
 -- of a BATCH_FORGET are those that these bytes spell.
 abbrev pub ArePlaced : (request : List ℕ) → Call → CallData → Type 0
-ArePlaced q (Lookup ctx parent name) told = bytes_in q told.name ≡ name
+ArePlaced q (Lookup ctx parent name) told = Stand q told.name name
 ArePlaced q (Symlink ctx text parent name ext) told =
-    (bytes_in q told.name ≡ name) × (bytes_in q told.other_name ≡ text)
-ArePlaced q (Mknod ctx inode name mode rdev umask ext) told = bytes_in q told.name ≡ name
-ArePlaced q (Mkdir ctx parent name mode umask ext) told = bytes_in q told.name ≡ name
-ArePlaced q (Unlink ctx parent name) told = bytes_in q told.name ≡ name
-ArePlaced q (Rmdir ctx parent name) told = bytes_in q told.name ≡ name
+    Stand q told.name name × Stand q told.other_name text
+ArePlaced q (Mknod ctx inode name mode rdev umask ext) told = Stand q told.name name
+ArePlaced q (Mkdir ctx parent name mode umask ext) told = Stand q told.name name
+ArePlaced q (Unlink ctx parent name) told = Stand q told.name name
+ArePlaced q (Rmdir ctx parent name) told = Stand q told.name name
 ArePlaced q (Rename ctx olddir oldname newdir newname flags) told =
-    (bytes_in q told.name ≡ oldname) × (bytes_in q told.other_name ≡ newname)
-ArePlaced q (Link ctx inode newparent newname) told = bytes_in q told.name ≡ newname
+    Stand q told.name oldname × Stand q told.other_name newname
+ArePlaced q (Link ctx inode newparent newname) told = Stand q told.name newname
 ArePlaced q (Write ctx inode handle bytes size offset lock_owner delayed kill_priv flags) told =
-    bytes_in q told.value ≡ bytes
+    Stand q told.value bytes
 ArePlaced q (Setxattr ctx inode name value flags extra) told =
-    (bytes_in q told.name ≡ name) × (bytes_in q told.value ≡ value)
-ArePlaced q (Getxattr ctx inode name size) told = bytes_in q told.name ≡ name
-ArePlaced q (Removexattr ctx inode name) told = bytes_in q told.name ≡ name
-ArePlaced q (Create ctx parent name mode kill_priv flags umask ext) told = bytes_in q told.name ≡ name
-ArePlaced q (BatchForget ctx pairs) told = pairs_of told.count (bytes_in q told.value) ≡ pairs
+    Stand q told.name name × Stand q told.value value
+ArePlaced q (Getxattr ctx inode name size) told = Stand q told.name name
+ArePlaced q (Removexattr ctx inode name) told = Stand q told.name name
+ArePlaced q (Create ctx parent name mode kill_priv flags umask ext) told = Stand q told.name name
+ArePlaced q (BatchForget ctx pairs) told = Spell q told.value pairs
 ArePlaced q call told = ⊤
 
 -- ---- what is told

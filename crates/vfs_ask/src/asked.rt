@@ -1,6 +1,6 @@
 //! What a request asks.
 
-ghost use Rattle.std.specs.Prelude.{◌≡◌, ◌≢◌, ◌≤◌, ℕ, List, Some, drop, length};
+ghost use Rattle.std.specs.Prelude.{◌≡◌, ◌≢◌, ◌≤◌, ℕ, List, Ok, Some, drop, length};
 ghost use Rattle.vfs_flags.specs.Flags.{fs_options_bits};
 ghost use Rattle.vfs_flags.specs.Opcode.{opcode_of};
 ghost use Rattle.vfs_flags.specs.declared.opcode.Opcode.{Opcode};
@@ -92,6 +92,7 @@ fn ask_behind(
     requires limits { AreLimits limits }
     requires none { call.old ≡ nothing }
     ensures { (request : List ℕ) → length request ≡ len
+        → record_of in_header request ≡ Ok q.entry.header.now
         → drop (size_of in_header) request ≡ q.entry.r.now.left
         → Tells request (fs_options_bits options)
         (interrupted_behind limits q.entry.header.now q.entry.r.now.left)
@@ -102,12 +103,14 @@ fn ask_behind(
     if q.header.len > limits.max_len() {
         return Asked::finished(reply_failed(Some(Errno::ENOMEM), q.header.unique, w));
     }
-    match Opcode::try_from(q.header.opcode) {
-        Ok(Opcode::Init) => ask_init(q.header, options, q.r, w, call),
-        Ok(Opcode::Interrupt) => Asked::Finished {
+    if q.header.opcode == Opcode::Interrupt as u32 {
+        return Asked::Finished {
             outcome: Ok(0),
             interrupts: interrupted(q.r),
-        },
+        };
+    }
+    match Opcode::try_from(q.header.opcode) {
+        Ok(Opcode::Init) => ask_init(q.header, options, q.r, w, call),
         Ok(opcode) => ask_of_opcode(opcode, limits, options, len, q, w, call),
         Err(()) => Asked::finished(reply_failed(Some(Errno::ENOSYS), q.header.unique, w)),
     }
@@ -139,6 +142,7 @@ fn ask_of_opcode(
     requires below { q.header.now.len ≤ max_len limits }
     requires no_init { opcode ≢ Opcode.Init }
     ensures { (request : List ℕ) → length request ≡ len
+        → record_of in_header request ≡ Ok q.entry.header.now
         → drop (size_of in_header) request ≡ q.entry.r.now.left
         → Tells request (fs_options_bits options) 0
         (ask_opcode limits (fs_options_bits options) (length w.old.left) opcode q.entry.header.now
