@@ -1,3 +1,4 @@
 pub mod Asked
 pub mod Noting
 pub mod Parts
+pub mod Uses

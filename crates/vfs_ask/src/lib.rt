@@ -5,5 +5,6 @@ mod asked;
 mod init;
 mod note;
 mod parts;
+mod uses;
 
 pub use asked::{Asked, ask};

@@ -1,0 +1,56 @@
+-- What is told of some requests.
+use Rattle.std.specs.Prelude.{◌≡◌, ◌++◌, ℕ, List, [], ◌∷◌}
+use Rattle.vfs_grammar.specs.Samples.{eight, header_9, lookup_of_a}
+use Rattle.vfs_calls.specs.Shapes.{nothing}
+use Rattle.vfs_calls.specs.declared.call.CallData.{CallData}
+use Rattle.vfs_ask.specs.Asked.{bytes_in, without_places}
+use Rattle.vfs_ask.specs.declared.asked.Asked.{Asked}
+use Rattle.vfs_ask.specs.declared.asked.Asked.TheVariants.{Call}
+
+-- request 9: a LOOKUP of `a` in node 1
+pub record LooksUpA (options room : ℕ) (asked : Asked) (told : CallData) : Type 0 where
+  pub is_call : asked ≡ Call
+  pub numbers : without_places told ≡ record nothing {
+    unique = 9;
+    options = options;
+    room = room;
+    node = 1;
+    name = record { at = 0; len = 1 };
+    call = 1;
+    answer = 5;
+  }
+  pub name : bytes_in lookup_of_a told.name ≡ 0x61 ∷ []
+
+-- request 9: a RENAME of `a` in node 1 to `b` in node 2
+abbrev pub rename_of_a_to_b : List ℕ
+rename_of_a_to_b = header_9 52 12 ++ (eight 2 ++ (0x61 ∷ 0 ∷ 0x62 ∷ 0 ∷ []))
+
+pub record RenamesAToB (options room : ℕ) (asked : Asked) (told : CallData) : Type 0 where
+  pub is_call : asked ≡ Call
+  pub numbers : without_places told ≡ record nothing {
+    unique = 9;
+    options = options;
+    room = room;
+    node = 1;
+    name = record { at = 0; len = 1 };
+    other_node = 2;
+    other_name = record { at = 0; len = 1 };
+    call = 12;
+    answer = 1;
+  }
+  pub old_name : bytes_in rename_of_a_to_b told.name ≡ 0x61 ∷ []
+  pub new_name : bytes_in rename_of_a_to_b told.other_name ≡ 0x62 ∷ []
+
+-- a READ of three bytes with a room of twenty, which has room for four of data
+pub record ReadsThree (options room : ℕ) (asked : Asked) (told : CallData) : Type 0 where
+  pub is_call : asked ≡ Call
+  pub numbers : without_places told ≡ record nothing {
+    unique = 9;
+    options = options;
+    room = room;
+    node = 1;
+    size = 3;
+    count = 4;
+    call = 15;
+    answer = 3;
+  }

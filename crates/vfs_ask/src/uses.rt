@@ -1,0 +1,103 @@
+//! Small callers.
+
+ghost use Rattle.std.specs.Prelude.{◌≡◌, ◌⊎◌, ◌++◌, length};
+ghost use Rattle.vfs_flags.specs.Flags.{fs_options_bits};
+ghost use Rattle.vfs_grammar.specs.Reply.{Refusal};
+ghost use Rattle.vfs_grammar.specs.Samples.{eight, header_9, lookup_of_a, request_for_data};
+ghost use Rattle.vfs_grammar.specs.declared.error.Error.{Error};
+ghost use Rattle.vfs_calls.specs.Shapes.{nothing};
+ghost use Rattle.vfs_ask.specs.Asked.{IsFinished};
+ghost use Rattle.vfs_ask.specs.Uses.{LooksUpA, ReadsThree, RenamesAToB, rename_of_a_to_b};
+
+use crate::asked::{Asked, ask};
+use std::alloc::Global;
+use vfs_calls::CallData;
+use vfs_flags::{DEFAULT_MAX_BUFFER, FsOptions};
+use vfs_grammar::Limits;
+use vfs_segments::{Reader, Writer};
+
+const LIMITS: Limits = Limits {
+    page_size: 4096,
+    max_buffer: DEFAULT_MAX_BUFFER,
+};
+
+/// A LOOKUP of `a` in the root tells its directory, its options and its room, and a range of the
+/// request whose one byte is `a`; or there was no memory for a name that is cut.
+fn look_up_a(
+    alloc: Global,
+    options: FsOptions,
+    r: Reader<'_>,
+    w: &mut Writer,
+    call: &mut CallData,
+) -> Asked
+    requires { r.left ≡ lookup_of_a }
+    ensures { LooksUpA (fs_options_bits options) (length w.old.left) result call.new
+        ⊎ IsFinished (Refusal Error.OutOfMemory) 0 w.old result w.new call.new }
+{
+    ask(alloc, LIMITS, options, r, w, call)
+}
+
+/// A RENAME of `a` to `b` tells the two names in this order.
+fn rename_a_to_b(
+    alloc: Global,
+    options: FsOptions,
+    r: Reader<'_>,
+    w: &mut Writer,
+    call: &mut CallData,
+) -> Asked
+    requires { r.left ≡ rename_of_a_to_b }
+    ensures { RenamesAToB (fs_options_bits options) (length w.old.left) result call.new
+        ⊎ IsFinished (Refusal Error.OutOfMemory) 0 w.old result w.new call.new }
+{
+    ask(alloc, LIMITS, options, r, w, call)
+}
+
+/// A READ of three bytes into a room of twenty tells that there is room for four.
+fn read_three(
+    alloc: Global,
+    options: FsOptions,
+    r: Reader<'_>,
+    w: &mut Writer,
+    call: &mut CallData,
+) -> Asked
+    requires request { r.left ≡ request_for_data 15 3 }
+    requires room { length w.old.left ≡ 20 }
+    ensures { ReadsThree (fs_options_bits options) (length w.old.left) result call.new }
+{
+    ask(alloc, LIMITS, options, r, w, call)
+}
+
+/// A GETATTR without its record is refused, no call is told, and nothing is put into the room.
+fn getattr_of_a_header_alone(
+    alloc: Global,
+    options: FsOptions,
+    r: Reader<'_>,
+    w: &mut Writer,
+    call: &mut CallData,
+) -> Asked
+    requires { r.left ≡ header_9 40 3 }
+    ensures { IsFinished (Refusal Error.DecodeMessage) 0 w.old result w.new call.new }
+{
+    ask(alloc, LIMITS, options, r, w, call)
+}
+
+/// An INTERRUPT of request 7 tells its number, and no call.
+fn interrupt_seven(
+    alloc: Global,
+    options: FsOptions,
+    r: Reader<'_>,
+    w: &mut Writer,
+    call: &mut CallData,
+) -> u64
+    requires { r.left ≡ header_9 48 36 ++ eight 7 }
+    ensures told { result ≡ 7 }
+    ensures no_call { call.new ≡ nothing }
+{
+    match ask(alloc, LIMITS, options, r, w, call) {
+        Asked::Finished {
+            outcome: _,
+            interrupts,
+        } => interrupts,
+        Asked::Call => 0,
+    }
+}
