@@ -11,7 +11,7 @@ use Rattle.vfs_grammar.specs.Forms.{tail_of, name_in, name_or_refusal, names_in,
 use Rattle.vfs_grammar.specs.Records.{size_of}
 use Rattle.vfs_grammar.specs.declared.error.Error.{Error}
 
-abbrev is_nul : ℕ → Bool
+abbrev pub is_nul : ℕ → Bool
 is_nul = λ b. b == 0
 
 -- a beginning is the beginning of its own length
@@ -37,21 +37,21 @@ dropped (suc d) (suc n) (y ∷ ys) = dropped d n ys
 
 -- ---- results
 
-else_ok : {A : Type 0} (b : Bool) (e : Error) (next : Result A Error) (x : A) → (if b then Err e else next) ≡ Ok x → next ≡ Ok x
+pub else_ok : {A : Type 0} (b : Bool) (e : Error) (next : Result A Error) (x : A) → (if b then Err e else next) ≡ Ok x → next ≡ Ok x
 else_ok true e next x h = absurd (let a = h in cc)
 else_ok false e next x h = h
 
-then_ok : {A : Type 0} (b : Bool) (y : A) (e : Error) (x : A) → (if b then Ok y else Err e) ≡ Ok x → y ≡ x
+pub then_ok : {A : Type 0} (b : Bool) (y : A) (e : Error) (x : A) → (if b then Ok y else Err e) ≡ Ok x → y ≡ x
 then_ok true y e x h = let a = h in cc
 then_ok false y e x h = absurd (let a = h in cc)
 
 abbrev Same : {A : Type 0} → Result A Error → Result A Error → Type 0
 Same r s = r ≡ s
 
-same_ok : {A : Type 0} (y x : A) → Same (Ok y) (Ok x) → y ≡ x
+pub same_ok : {A : Type 0} (y x : A) → Same (Ok y) (Ok x) → y ≡ x
 same_ok y x h = let a = h in cc
 
-or_ok : {A B : Type 0} (r : Result A Error) (next : A → Result B Error) (x : B) → error_or r next ≡ Ok x → (part : A) × (r ≡ Ok part) × (next part ≡ Ok x)
+pub or_ok : {A B : Type 0} (r : Result A Error) (next : A → Result B Error) (x : B) → error_or r next ≡ Ok x → (part : A) × (r ≡ Ok part) × (next part ≡ Ok x)
 or_ok (Err e) next x h = absurd (let a = h in cc)
 or_ok (Ok part) next x h = (part, refl, h)
 
@@ -86,10 +86,10 @@ pub record Both (tail first second : List ℕ) : Type 0 where
   pub first_is : first ≡ take (length first) tail
   pub second_is : second ≡ take n (drop (length first + 1) tail)
 
-long : (tail : List ℕ) (i : ℕ) → position is_nul tail ≡ Some i → length (take i tail) ≡ i
+pub long : (tail : List ℕ) (i : ℕ) → position is_nul tail ≡ Some i → length (take i tail) ≡ i
 long tail i e = let p = (position-Some is_nul tail i 0 e).0 in length-take i tail ∙ omega (arith, p)
 
-both : (tail first second : List ℕ) (i n : ℕ) → position is_nul tail ≡ Some i → first ≡ take i tail → second ≡ take n (drop (i + 1) tail) → Both tail first second
+pub both : (tail first second : List ℕ) (i n : ℕ) → position is_nul tail ≡ Some i → first ≡ take i tail → second ≡ take n (drop (i + 1) tail) → Both tail first second
 both tail first second i n e f s =
     let l : length first ≡ i = ap length f ∙ long tail i e in
     record { n = n; within = omega (arith, l, (position-Some is_nul tail i 0 e).0); first_is = f ∙ ap (λ k. take k tail) (sym l); second_is = s ∙ ap (λ k. take n (drop (k + 1) tail)) (sym l) }

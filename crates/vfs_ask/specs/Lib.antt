@@ -1,4 +1,5 @@
 pub mod Asked
+pub mod Contexts
 pub mod Noting
 pub mod Parts
 pub mod Uses

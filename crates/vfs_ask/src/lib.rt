@@ -2,6 +2,7 @@
 #![tactic(auto)]
 
 mod asked;
+mod contexts;
 mod init;
 mod note;
 mod parts;
