@@ -297,3 +297,33 @@ stands_here options q left at ext c is l s one =
     let body : n.block.body ≡ take (block_size left - 8) (drop (at + 8) q) = n.first.body_is ∙ ap (λ (xs : List ℕ). take (block_size left - 8) (drop 8 xs)) is
     ∙ ap (take (block_size left - 8)) (drop-drop 8 at q) in
     rw (sym same) (context_stands q (at + 8) (block_size left - 8) n.block.body says.context body says.says)
+
+-- ---- where no context was agreed on
+
+none_kind : (options : ℕ) (received more : Received) (kind : Option ExtType) (body : List ℕ) → has_option options security_ctx ≡ false
+    → receive_kind options received kind body ≡ Ok more → more.values.context ≡ received.values.context
+none_kind options received more None body lacks h = absurd (let a = h in cc)
+none_kind options received more (Some (SecCtx nr)) body lacks h = absurd (let a = rw lacks at h in let b = a in cc)
+none_kind options received more (Some SupGroups) body lacks h =
+    let o = or_ok (group_in body) (λ group. Ok (with_group received group)) more (else_ok (not (has_option options create_supp_group) || is_some received.values.group) _ _ more h) in
+    let same : with_group received o.0 ≡ more = same_ok _ more o.2 in
+    sym (ap (λ (r : Received). r.values.context) same)
+
+none_agreed : (options : ℕ) (fault : Option Error) (blocks : List Block) (received : Received) (ext : ExtensionValues) → has_option options security_ctx ≡ false
+    → error_or (receive_all options received blocks) (received_at_end options fault) ≡ Ok ext → ext.context ≡ received.values.context
+none_agreed options fault [] received ext lacks h = kept_to_end options fault received ext h
+none_agreed options fault (block ∷ blocks) received ext lacks h =
+    let o = or_ok (receive_all options received (block ∷ blocks)) (received_at_end options fault) ext h in
+    let p = or_ok (receive options received block) (λ more. receive_all options more blocks) o.0 o.1 in
+    let again : error_or (receive_all options p.0 blocks) (received_at_end options fault) ≡ Ok ext = ap (λ r. error_or r (received_at_end options fault)) p.2 ∙ o.2 in
+    none_agreed options fault blocks p.0 ext lacks again ∙ none_kind options received p.0 (ext_type_of block.ext_type) block.body lacks p.1
+
+none_either : (options : ℕ) (b : Bool) (blocks : List ℕ) (ext : ExtensionValues) → has_option options security_ctx ≡ false
+    → (if b then extensions_of options nothing_received (cut_of_most (length blocks) blocks) else Ok no_extensions) ≡ Ok ext → ext.context ≡ None
+none_either options true blocks ext lacks e =
+    none_agreed options (cut_of_most (length blocks) blocks).fault (cut_of_most (length blocks) blocks).blocks nothing_received ext lacks e
+none_either options false blocks ext lacks e = sym (ap (λ (x : ExtensionValues). x.context) (same_ok no_extensions ext e))
+
+pub no_contexts : (options : ℕ) (blocks : List ℕ) (ext : ExtensionValues) → has_option options security_ctx ≡ false → extensions_in options blocks ≡ Ok ext → ext.context ≡ None
+unfolding extensions_in cut_of
+no_contexts options blocks ext lacks e = none_either options (reads_extensions options) blocks ext lacks e

@@ -1,5 +1,5 @@
 -- Names and values stand in the tail that they are read from.
-use Rattle.std.proofs.Common.{◌≡◌, ◌∙◌, ◌+◌, ◌-◌, ◌==◌, ◌<◌, ℕ, zero, suc, Bool, true, false, if◌then◌else◌, nat_lt, List, [], ◌∷◌, length, take, drop, position, Option, None, Some, Result, Ok, Err, refl, ap, sym, arith, length-take}
+use Rattle.std.proofs.Common.{◌≡◌, ◌∙◌, ◌+◌, ◌-◌, ◌==◌, ◌<◌, ℕ, zero, suc, Bool, true, false, if◌then◌else◌, nat_lt, List, [], ◌∷◌, length, take, drop, position, Option, None, Some, Result, Ok, Err, refl, ap, sym, arith, length-take, length-drop}
 use Rattle.std.proofs.lemmas.List.{take_min, take_all}
 use Rattle.std.proofs.lemmas.List.Quantifiers.{position-Some}
 use Rattle.vfs_wire.specs.Headers.{in_header}
@@ -118,23 +118,55 @@ value_at size tail (Some i) at x e =
 pub value_stands : (size : ℕ) (tail : List ℕ) (x : List ℕ × List ℕ) → value_in size tail ≡ Ok x → Both tail x.0 x.1
 value_stands size tail x e = value_at size tail (position is_nul tail) refl x e
 
-extended_at : (bytes : List ℕ) (p : Option ℕ) (ext : ExtensionValues) (x : List ℕ × ExtensionValues) → extended_or_refusal (cut_at bytes p) ext ≡ Ok x → (i : ℕ) × (x.0 ≡ take i bytes)
-extended_at bytes None ext x e = absurd (let a = e in cc)
-extended_at bytes (Some i) ext x e = let same : (take i bytes, ext) ≡ x = same_ok _ x e in (i, sym (ap (λ (p : List ℕ × ExtensionValues). p.0) same))
+-- a name at the front of bytes, and the extensions behind it
+pub record Extended (options : ℕ) (bytes name : List ℕ) (ext : ExtensionValues) : Type 0 where
+  pub i : ℕ
+  pub within : length name < length bytes
+  pub name_is : name ≡ take i bytes
+  pub says : extensions_in options (drop (length name + 1) bytes) ≡ Ok ext
 
-pub extended_stands : (options : ℕ) (bytes : List ℕ) (x : List ℕ × ExtensionValues) → extended_in options bytes ≡ Ok x → (i : ℕ) × (x.0 ≡ take i bytes)
+extended_at : (options : ℕ) (bytes : List ℕ) (p : Option ℕ) → position is_nul bytes ≡ p → (ext : ExtensionValues) (x : List ℕ × ExtensionValues)
+    → extensions_in options (behind_name (cut_at bytes p)) ≡ Ok ext → extended_or_refusal (cut_at bytes p) ext ≡ Ok x → Extended options bytes x.0 x.1
+extended_at options bytes None at ext x says e = absurd (let a = e in cc)
+extended_at options bytes (Some i) at ext x says e =
+    let same : (take i bytes, ext) ≡ x = same_ok _ x e in
+    let name : x.0 ≡ take i bytes = sym (ap (λ (p : List ℕ × ExtensionValues). p.0) same) in
+    let l : length x.0 ≡ i = ap length name ∙ long bytes i at in
+    record {
+      i = i;
+      within = omega (arith, l, (position-Some is_nul bytes i 0 at).0);
+      name_is = name;
+      says = ap (λ k. extensions_in options (drop (k + 1) bytes)) l ∙ says ∙ ap (λ (p : List ℕ × ExtensionValues). Ok p.1) same;
+    }
+
+pub extended_stands : (options : ℕ) (bytes : List ℕ) (x : List ℕ × ExtensionValues) → extended_in options bytes ≡ Ok x → Extended options bytes x.0 x.1
 extended_stands options [] x e = absurd (let a = e in cc)
 extended_stands options (b ∷ bytes) x e =
     let o = or_ok (extensions_in options (behind_name (first_name (b ∷ bytes)))) _ x e in
-    extended_at (b ∷ bytes) (position is_nul (b ∷ bytes)) o.0 x o.2
+    extended_at options (b ∷ bytes) (position is_nul (b ∷ bytes)) refl o.0 x o.1 o.2
 
-link_at : (options : ℕ) (tail : List ℕ) (p : Option ℕ) → position is_nul tail ≡ p → (x : List ℕ × List ℕ × ExtensionValues) → link_or_refusal options (cut_at tail p) ≡ Ok x → Both tail x.0 x.1
+-- a link's name and its text, and the extensions behind them
+pub record Linked (options : ℕ) (tail name text : List ℕ) (ext : ExtensionValues) : Type 0 where
+  pub parts : Both tail name text
+  pub within : length text < length (drop (length name + 1) tail)
+  pub says : extensions_in options (drop (length text + 1) (drop (length name + 1) tail)) ≡ Ok ext
+
+link_at : (options : ℕ) (tail : List ℕ) (p : Option ℕ) → position is_nul tail ≡ p → (x : List ℕ × List ℕ × ExtensionValues) → link_or_refusal options (cut_at tail p) ≡ Ok x → Linked options tail x.0 x.1 x.2
 link_at options tail None at x e = absurd (let a = e in cc)
 link_at options tail (Some i) at x e =
     let o = or_ok (extended_in options (drop (i + 1) tail)) _ x e in
     let same : (take i tail, o.0.0, o.0.1) ≡ x = same_ok _ x o.2 in
     let t = extended_stands options (drop (i + 1) tail) o.0 o.1 in
-    both tail x.0 x.1 i t.0 at (sym (ap (λ (p : List ℕ × List ℕ × ExtensionValues). p.0) same)) (sym (ap (λ (p : List ℕ × List ℕ × ExtensionValues). p.1) same) ∙ t.1)
+    let name : x.0 ≡ take i tail = sym (ap (λ (p : List ℕ × List ℕ × ExtensionValues). p.0) same) in
+    let text : x.1 ≡ o.0.0 = sym (ap (λ (p : List ℕ × List ℕ × ExtensionValues). p.1) same) in
+    let l : length x.0 ≡ i = ap length name ∙ long tail i at in
+    record {
+      parts = both tail x.0 x.1 i t.i at name (text ∙ t.name_is);
+      within = omega (arith, t.within, ap length text, l, length-drop (i + 1) tail, length-drop (length x.0 + 1) tail);
+      says = ap (λ k. extensions_in options (drop (length x.1 + 1) (drop (k + 1) tail))) l
+          ∙ ap (λ (xs : List ℕ). extensions_in options (drop (length xs + 1) (drop (i + 1) tail))) text
+          ∙ t.says ∙ ap (λ (p : List ℕ × List ℕ × ExtensionValues). Ok p.2) same;
+    }
 
-pub link_stands : (options : ℕ) (tail : List ℕ) (x : List ℕ × List ℕ × ExtensionValues) → link_in_tail options tail ≡ Ok x → Both tail x.0 x.1
+pub link_stands : (options : ℕ) (tail : List ℕ) (x : List ℕ × List ℕ × ExtensionValues) → link_in_tail options tail ≡ Ok x → Linked options tail x.0 x.1 x.2
 link_stands options tail x e = link_at options tail (position is_nul tail) refl x e

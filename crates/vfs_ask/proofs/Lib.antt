@@ -1,5 +1,6 @@
 pub mod Blocks
 pub mod Cutting
+pub mod Holding
 pub mod Noting
 pub mod Placing
 pub mod Telling

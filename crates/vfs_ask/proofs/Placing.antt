@@ -21,6 +21,7 @@ use Rattle.vfs_files.specs.Calls as call
 use Rattle.vfs_files.specs.Entries.{context_of}
 use Rattle.vfs_files.specs.Extensions.{ExtensionValues}
 use Rattle.vfs_grammar.specs.Ask.{form_of, ask_opcode, has_flag, if_set}
+use Rattle.vfs_grammar.specs.Extensions.{extensions_in}
 use Rattle.vfs_grammar.specs.Forms.{Ask, Ends, Asks, Lists, WithMemory, Listing, Without, Record, refused_or, within, tail_of, name_in, names_in, value_in, extended_in, link_in_tail, pairs_in, pairs_of, space_behind_header, Layout, layout_size, layout_record, behind, Form, NoTail, NameTail, TwoNames, NameAndValue, NameAndExtensions, LinkAndExtensions, Pairs, WithRest, IntoRoom, Directories, Versions, Silent, NotServed, ask_form}
 use Rattle.vfs_grammar.specs.Reply.{Echo, echo_of}
 use Rattle.vfs_grammar.specs.Records.{record_of, size_of}
@@ -29,27 +30,29 @@ use Rattle.vfs_grammar.specs.declared.error.Error.{Error}
 use Rattle.vfs_grammar.specs.declared.error.Error.TheVariants.{DecodeMessage, EncodeMessage}
 use Rattle.vfs_calls.specs.Shapes.{context_name_of, context_value_of, shape_of, unplaced}
 use Rattle.vfs_calls.specs.declared.call.CallData.{CallData}
-use Rattle.vfs_ask.specs.Asked.{IsTold, Stand, long_range, told_of, told_of_listing, without_places}
+use Rattle.vfs_ask.specs.Asked.{IsContextPlaced, IsTold, Stand, long_range, told_of, told_of_listing, without_places}
+use Rattle.vfs_ask.specs.Contexts.{may_have_context}
 use Rattle.vfs_ask.specs.Parts.{parts_of, with_parts, place_behind}
+use Rattle.vfs_ask.proofs.Blocks.{no_contexts}
 use Rattle.vfs_ask.proofs.Cutting.{stands_in, dropped, tail_stands, name_stands, Both, names_stand, value_stands, extended_stands, link_stands}
 
 -- these bytes stand at this place
-abbrev Stands : (request : List ℕ) → (at : ℕ) → (bytes : List ℕ) → Type 0
+abbrev pub Stands : (request : List ℕ) → (at : ℕ) → (bytes : List ℕ) → Type 0
 Stands q at bytes = Stand q (record { at = at; len = length bytes }) bytes
 
 -- one behind the other, with a byte between them, which is there
-record StandBoth (q : List ℕ) (at : ℕ) (first second : List ℕ) : Type 0 where
-  front : Stands q at first
-  back : Stands q (at + (length first + 1)) second
+pub record StandBoth (q : List ℕ) (at : ℕ) (first second : List ℕ) : Type 0 where
+  pub front : Stands q at first
+  pub back : Stands q (at + (length first + 1)) second
 
 -- these pairs are spelled at this place, whole
-record SpelledAt (q : List ℕ) (at count : ℕ) (pairs : List (ℕ × ℕ)) : Type 0 where
-  many : length pairs ≡ count
-  within : at + count * 16 ≤ length q
-  spelled : pairs ≡ pairs_of count (drop at q)
+pub record SpelledAt (q : List ℕ) (at count : ℕ) (pairs : List (ℕ × ℕ)) : Type 0 where
+  pub many : length pairs ≡ count
+  pub within : at + count * 16 ≤ length q
+  pub spelled : pairs ≡ pairs_of count (drop at q)
 
 -- where a record of this layout ends
-abbrev behind_record : {R : Type 0} → Layout R → ℕ
+abbrev pub behind_record : {R : Type 0} → Layout R → ℕ
 behind_record layout = size_of in_header + layout_size layout
 
 -- a fact of the call that is asked for, or of the directory that is to be read
@@ -86,7 +89,7 @@ header_fits q h e = header_in (nat_lt (length q) (size_of in_header)) (length q)
 
 module _ (q : List ℕ) (h : InHeader) (head : size_of in_header ≤ length q) (P : Echo → Call → Type 0) (L : Echo → Listing → Type 0) where
   -- what is to be shown of the call of a form
-  abbrev Shown : Form → Type 0
+  abbrev pub Shown : Form → Type 0
   Shown (NoTail {R} layout above call) = (r : R) → P (echo_of h) (call r)
   Shown (NameTail {R} layout above call) =
       (r : R) (name : List ℕ) → Stands q (behind_record layout) name → P (echo_of h) (call r name)
@@ -95,9 +98,12 @@ module _ (q : List ℕ) (h : InHeader) (head : size_of in_header ≤ length q) (
   Shown (NameAndValue {R} layout size call) =
       (r : R) (name value : List ℕ) → StandBoth q (behind_record layout) name value → P (echo_of h) (call r name value)
   Shown (NameAndExtensions {R} layout options call) =
-      (r : R) (name : List ℕ) (ext : ExtensionValues) → Stands q (behind_record layout) name → P (echo_of h) (call r name ext)
+      (r : R) (name : List ℕ) (ext : ExtensionValues) (tail : List ℕ) → tail_of h (layout_size layout) (behind layout (drop (size_of in_header) q)) ≡ Ok tail
+      → Stands q (behind_record layout) name → length name < length tail → extensions_in options (drop (length name + 1) tail) ≡ Ok ext → P (echo_of h) (call r name ext)
   Shown (LinkAndExtensions {R} layout options call) =
-      (r : R) (name text : List ℕ) (ext : ExtensionValues) → StandBoth q (behind_record layout) name text → P (echo_of h) (call r name text ext)
+      (r : R) (name text : List ℕ) (ext : ExtensionValues) (tail : List ℕ) → tail_of h (layout_size layout) (behind layout (drop (size_of in_header) q)) ≡ Ok tail
+      → StandBoth q (behind_record layout) name text → length text < length (drop (length name + 1) tail)
+      → extensions_in options (drop (length text + 1) (drop (length name + 1) tail)) ≡ Ok ext → P (echo_of h) (call r name text ext)
   Shown (Pairs {R} layout above count call) =
       (r : R) (pairs : List (ℕ × ℕ)) → SpelledAt q (behind_record layout) (count r) pairs → P (echo_of h) (call r pairs)
   Shown (WithRest {R} layout call) = (r : R) → behind_record layout ≤ length q → P (echo_of h) (call r (drop (behind_record layout) q))
@@ -121,7 +127,7 @@ module _ (q : List ℕ) (h : InHeader) (head : size_of in_header ≤ length q) (
   abbrev rest : List ℕ
   rest = drop (size_of in_header) q
 
-  place : {R : Type 0} (layout : Layout R) → behind layout rest ≡ drop (behind_record layout) q
+  pub place : {R : Type 0} (layout : Layout R) → behind layout rest ≡ drop (behind_record layout) q
   place layout = drop-drop (layout_size layout) (size_of in_header) q
 
   -- a record that is whole ends within the request
@@ -134,11 +140,11 @@ module _ (q : List ℕ) (h : InHeader) (head : size_of in_header ≤ length q) (
   layout_fits (Without v) r e = omega arith
   layout_fits (Record t) r e = whole_table (nat_lt (length rest) (size_of t)) (size_of t) (length rest) (value_of t rest) r refl e
 
-  ends : {R : Type 0} (layout : Layout R) (r : R) → layout_record layout rest ≡ Ok r → behind_record layout ≤ length q
+  pub ends : {R : Type 0} (layout : Layout R) (r : R) → layout_record layout rest ≡ Ok r → behind_record layout ≤ length q
   ends layout r e = omega (arith, head, layout_fits layout r e, length-drop (size_of in_header) q)
 
   -- a tail ends within the request
-  tail_ends : {R : Type 0} (layout : Layout R) (tail : List ℕ) → behind_record layout ≤ length q
+  pub tail_ends : {R : Type 0} (layout : Layout R) (tail : List ℕ) → behind_record layout ≤ length q
       → tail_of h (layout_size layout) (behind layout rest) ≡ Ok tail → behind_record layout + length tail ≤ length q
   tail_ends layout tail end whole =
       let t = tail_stands h (layout_size layout) (behind layout rest) tail whole in
@@ -194,7 +200,7 @@ module _ (q : List ℕ) (h : InHeader) (head : size_of in_header ≤ length q) (
   behind_header true space n e = absurd (let a = e in cc)
   behind_header false space n e = let a = e in cc
 
-  form_shown : (form : Form) → Shown form → Of (ask_form h rest form)
+  pub form_shown : (form : Form) → Shown form → Of (ask_form h rest form)
   form_shown (NoTail layout above call) s =
       part (layout_record layout rest) _ (λ r is. limit (above r) _ (s r))
   form_shown (NameTail layout above call) s =
@@ -208,10 +214,10 @@ module _ (q : List ℕ) (h : InHeader) (head : size_of in_header ≤ length q) (
       part (value_in (size r) tail) _ (λ x found. s r x.0 x.1 (both_stand layout tail x.0 x.1 (ends layout r is) whole (value_stands (size r) tail x found)))))
   form_shown (NameAndExtensions layout options call) s =
       part (layout_record layout rest) _ (λ r is. part (tail_of h (layout_size layout) (behind layout rest)) _ (λ tail whole.
-      part (extended_in options tail) _ (λ x found. let n = extended_stands options tail x found in s r x.0 x.1 (first_stands layout tail x.0 n.0 (ends layout r is) whole n.1))))
+      part (extended_in options tail) _ (λ x found. let n = extended_stands options tail x found in s r x.0 x.1 tail whole (first_stands layout tail x.0 n.i (ends layout r is) whole n.name_is) n.within n.says)))
   form_shown (LinkAndExtensions layout options call) s =
       part (layout_record layout rest) _ (λ r is. part (tail_of h (layout_size layout) (behind layout rest)) _ (λ tail whole.
-      part (link_in_tail options tail) _ (λ x found. s r x.0 x.1 x.2 (both_stand layout tail x.0 x.1 (ends layout r is) whole (link_stands options tail x found)))))
+      part (link_in_tail options tail) _ (λ x found. let n = link_stands options tail x found in s r x.0 x.1 x.2 tail whole (both_stand layout tail x.0 x.1 (ends layout r is) whole n.parts) n.within n.says)))
   form_shown (Pairs layout above count call) s =
       part (layout_record layout rest) _ (λ r is. limit (above r) _ (part (pairs_in (count r) (behind layout rest)) _ (λ pairs whole. s r pairs (pairs_spell layout (count r) pairs (ends layout r is) whole))))
   form_shown (WithRest layout call) s =
@@ -325,58 +331,75 @@ module _ (q : List ℕ) (h : InHeader) (head : size_of in_header ≤ length q) (
       → without_places (told_of options space (echo_of h) call) ≡ told_of options space (echo_of h) call
   extended_numbers call ext e f = e ∙ contexts (told_of options space (echo_of h) call) ext.context ∙ sym f
 
-  table : (o : Opcode) → o ≢ opcode.Init → Shown q h head (CallIs o) (ListingIs o) (form_of limits options space h o)
-  table opcode.Lookup not_init = λ r name s. record { numbers = refl; places = s }
-  table opcode.Forget not_init = λ r. record { numbers = refl; places = tt {0} }
-  table opcode.Getattr not_init = λ r. record { numbers = refl; places = tt {0} }
-  table opcode.Setattr not_init = λ r. record { numbers = refl; places = tt {0} }
-  table opcode.Readlink not_init = λ r. record { numbers = refl; places = tt {0} }
-  table opcode.Symlink not_init = λ r name text ext s. record { numbers = extended_numbers (symlink_of name text ext) ext refl refl; places = (s.front, second 40 name text s) }
-  table opcode.Mknod not_init = λ r name ext s. record { numbers = extended_numbers (mknod_of r name ext) ext refl refl; places = s }
-  table opcode.Mkdir not_init = λ r name ext s. record { numbers = extended_numbers (mkdir_of r name ext) ext refl refl; places = s }
-  table opcode.Unlink not_init = λ r name s. record { numbers = refl; places = s }
-  table opcode.Rmdir not_init = λ r name s. record { numbers = refl; places = s }
-  table opcode.Rename not_init = λ r old new s. record { numbers = refl; places = (s.front, second _ old new s) }
-  table opcode.Link not_init = λ r name s. record { numbers = refl; places = s }
-  table opcode.Open not_init = λ r. record { numbers = refl; places = tt {0} }
-  table opcode.Read not_init = λ r. record { numbers = refl; places = tt {0} }
-  table opcode.Write not_init = λ r end. write_told r end
-  table opcode.Statfs not_init = λ r. record { numbers = refl; places = tt {0} }
-  table opcode.Release not_init = λ r. record { numbers = refl; places = tt {0} }
-  table opcode.Fsync not_init = λ r. record { numbers = refl; places = tt {0} }
-  table opcode.Setxattr not_init = λ r name value s. record { numbers = refl; places = (s.front, second _ name value s) }
-  table opcode.Getxattr not_init = λ r name s. record { numbers = refl; places = s }
-  table opcode.Listxattr not_init = λ r. record { numbers = refl; places = tt {0} }
-  table opcode.Removexattr not_init = λ r name s. record { numbers = refl; places = s }
-  table opcode.Flush not_init = λ r. record { numbers = refl; places = tt {0} }
-  table opcode.Init not_init = absurd (not_init refl)
-  table opcode.Opendir not_init = λ r. record { numbers = refl; places = tt {0} }
-  table opcode.Readdir not_init = λ r n. refl
-  table opcode.Releasedir not_init = λ r. record { numbers = refl; places = tt {0} }
-  table opcode.Fsyncdir not_init = λ r. record { numbers = refl; places = tt {0} }
-  table opcode.Getlk not_init = λ r. record { numbers = refl; places = tt {0} }
-  table opcode.Setlk not_init = λ r. record { numbers = refl; places = tt {0} }
-  table opcode.Setlkw not_init = λ r. record { numbers = refl; places = tt {0} }
-  table opcode.Access not_init = λ r. record { numbers = refl; places = tt {0} }
-  table opcode.Create not_init = λ r name ext s. record { numbers = extended_numbers (create_of r name ext) ext refl refl; places = s }
-  table opcode.Interrupt not_init = tt {0}
-  table opcode.Bmap not_init = λ r. record { numbers = refl; places = tt {0} }
-  table opcode.Destroy not_init = λ r. record { numbers = refl; places = tt {0} }
-  table opcode.Ioctl not_init = λ r. record { numbers = refl; places = tt {0} }
-  table opcode.Poll not_init = λ r. record { numbers = refl; places = tt {0} }
-  table opcode.NotifyReply not_init = λ r. record { numbers = refl; places = tt {0} }
-  table opcode.BatchForget not_init = λ r pairs s. pairs_told r.count pairs s
-  table opcode.Fallocate not_init = λ r. record { numbers = refl; places = tt {0} }
-  table opcode.Readdirplus not_init = λ r n. refl
-  table opcode.Rename2 not_init = λ r old new s. record { numbers = refl; places = (s.front, second _ old new s) }
-  table opcode.Lseek not_init = λ r. record { numbers = refl; places = tt {0} }
-  table opcode.CopyFileRange not_init = λ r. record { numbers = refl; places = tt {0} }
-  table opcode.SetupMapping not_init = tt {0}
-  table opcode.RemoveMapping not_init = tt {0}
-  table opcode.Syncfs not_init = λ r. record { numbers = refl; places = tt {0} }
-  table opcode.TmpFile not_init = λ r. record { numbers = refl; places = tt {0} }
+  -- none was agreed on
+  none_placed : (context : Option (List ℕ × List ℕ)) (c : CallData) → context ≡ None → IsContextPlaced q context c
+  none_placed None c e = tt {0}
+  none_placed (Some context) c e = absurd (let a = e in cc)
+
+  table : (o : Opcode) → o ≢ opcode.Init → may_have_context options o ≡ false → Shown q h head (CallIs o) (ListingIs o) (form_of limits options space h o)
+  table opcode.Lookup not_init lacks = λ r name s. record { numbers = refl; places = s }
+  table opcode.Forget not_init lacks = λ r. record { numbers = refl; places = tt {0} }
+  table opcode.Getattr not_init lacks = λ r. record { numbers = refl; places = tt {0} }
+  table opcode.Setattr not_init lacks = λ r. record { numbers = refl; places = tt {0} }
+  table opcode.Readlink not_init lacks = λ r. record { numbers = refl; places = tt {0} }
+  table opcode.Symlink not_init lacks = λ r name text ext tail whole s within says. record {
+    numbers = extended_numbers (symlink_of name text ext) ext refl refl;
+    places = (s.front, second 40 name text s, none_placed ext.context _ (no_contexts options _ ext lacks says));
+  }
+  table opcode.Mknod not_init lacks = λ r name ext tail whole s within says. record {
+    numbers = extended_numbers (mknod_of r name ext) ext refl refl;
+    places = (s, none_placed ext.context _ (no_contexts options _ ext lacks says));
+  }
+  table opcode.Mkdir not_init lacks = λ r name ext tail whole s within says. record {
+    numbers = extended_numbers (mkdir_of r name ext) ext refl refl;
+    places = (s, none_placed ext.context _ (no_contexts options _ ext lacks says));
+  }
+  table opcode.Unlink not_init lacks = λ r name s. record { numbers = refl; places = s }
+  table opcode.Rmdir not_init lacks = λ r name s. record { numbers = refl; places = s }
+  table opcode.Rename not_init lacks = λ r old new s. record { numbers = refl; places = (s.front, second _ old new s) }
+  table opcode.Link not_init lacks = λ r name s. record { numbers = refl; places = s }
+  table opcode.Open not_init lacks = λ r. record { numbers = refl; places = tt {0} }
+  table opcode.Read not_init lacks = λ r. record { numbers = refl; places = tt {0} }
+  table opcode.Write not_init lacks = λ r end. write_told r end
+  table opcode.Statfs not_init lacks = λ r. record { numbers = refl; places = tt {0} }
+  table opcode.Release not_init lacks = λ r. record { numbers = refl; places = tt {0} }
+  table opcode.Fsync not_init lacks = λ r. record { numbers = refl; places = tt {0} }
+  table opcode.Setxattr not_init lacks = λ r name value s. record { numbers = refl; places = (s.front, second _ name value s) }
+  table opcode.Getxattr not_init lacks = λ r name s. record { numbers = refl; places = s }
+  table opcode.Listxattr not_init lacks = λ r. record { numbers = refl; places = tt {0} }
+  table opcode.Removexattr not_init lacks = λ r name s. record { numbers = refl; places = s }
+  table opcode.Flush not_init lacks = λ r. record { numbers = refl; places = tt {0} }
+  table opcode.Init not_init lacks = absurd (not_init refl)
+  table opcode.Opendir not_init lacks = λ r. record { numbers = refl; places = tt {0} }
+  table opcode.Readdir not_init lacks = λ r n. refl
+  table opcode.Releasedir not_init lacks = λ r. record { numbers = refl; places = tt {0} }
+  table opcode.Fsyncdir not_init lacks = λ r. record { numbers = refl; places = tt {0} }
+  table opcode.Getlk not_init lacks = λ r. record { numbers = refl; places = tt {0} }
+  table opcode.Setlk not_init lacks = λ r. record { numbers = refl; places = tt {0} }
+  table opcode.Setlkw not_init lacks = λ r. record { numbers = refl; places = tt {0} }
+  table opcode.Access not_init lacks = λ r. record { numbers = refl; places = tt {0} }
+  table opcode.Create not_init lacks = λ r name ext tail whole s within says. record {
+    numbers = extended_numbers (create_of r name ext) ext refl refl;
+    places = (s, none_placed ext.context _ (no_contexts options _ ext lacks says));
+  }
+  table opcode.Interrupt not_init lacks = tt {0}
+  table opcode.Bmap not_init lacks = λ r. record { numbers = refl; places = tt {0} }
+  table opcode.Destroy not_init lacks = λ r. record { numbers = refl; places = tt {0} }
+  table opcode.Ioctl not_init lacks = λ r. record { numbers = refl; places = tt {0} }
+  table opcode.Poll not_init lacks = λ r. record { numbers = refl; places = tt {0} }
+  table opcode.NotifyReply not_init lacks = λ r. record { numbers = refl; places = tt {0} }
+  table opcode.BatchForget not_init lacks = λ r pairs s. pairs_told r.count pairs s
+  table opcode.Fallocate not_init lacks = λ r. record { numbers = refl; places = tt {0} }
+  table opcode.Readdirplus not_init lacks = λ r n. refl
+  table opcode.Rename2 not_init lacks = λ r old new s. record { numbers = refl; places = (s.front, second _ old new s) }
+  table opcode.Lseek not_init lacks = λ r. record { numbers = refl; places = tt {0} }
+  table opcode.CopyFileRange not_init lacks = λ r. record { numbers = refl; places = tt {0} }
+  table opcode.SetupMapping not_init lacks = tt {0}
+  table opcode.RemoveMapping not_init lacks = tt {0}
+  table opcode.Syncfs not_init lacks = λ r. record { numbers = refl; places = tt {0} }
+  table opcode.TmpFile not_init lacks = λ r. record { numbers = refl; places = tt {0} }
 
   -- the call or the listing that the bytes behind a header ask for is told
-  pub told_by_opcode : (o : Opcode) → o ≢ opcode.Init
+  pub told_by_opcode : (o : Opcode) → o ≢ opcode.Init → may_have_context options o ≡ false
       → OfCall (CallIs o) (ListingIs o) (ask_opcode limits options space o h (drop (size_of in_header) q))
-  told_by_opcode o not_init = form_shown q h head (CallIs o) (ListingIs o) (form_of limits options space h o) (table o not_init)
+  told_by_opcode o not_init lacks = form_shown q h head (CallIs o) (ListingIs o) (form_of limits options space h o) (table o not_init lacks)

@@ -7,10 +7,12 @@ use Rattle.vfs_files.specs.Calls.{Call}
 use Rattle.vfs_files.specs.Calls as call
 use Rattle.vfs_grammar.specs.Forms.{Ask, Ends, Asks, Lists, WithMemory}
 use Rattle.vfs_grammar.specs.declared.error.Error.{Error}
-use Rattle.vfs_calls.specs.Shapes.{shape_of}
+use Rattle.vfs_calls.specs.Shapes.{nothing, shape_of}
 use Rattle.vfs_calls.specs.declared.call.CallData.{CallData}
 use Rattle.vfs_ask.specs.Asked.{IsTold, Tells}
-use Rattle.vfs_ask.specs.Noting.{IsNoted}
+use Rattle.vfs_ask.specs.Noting.{IsNoted, NotedAndTold}
+use Rattle.vfs_ask.specs.Parts.{told_with}
+use Rattle.vfs_ask.specs.declared.asked.Asked.{Asked}
 use Rattle.vfs_ask.specs.declared.asked.Asked.TheVariants as asked
 use Rattle.vfs_ask.proofs.Placing.{CallIsTold, ListingIsTold, OfCall, told}
 
@@ -87,3 +89,22 @@ module _ (q : List ℕ) (options : ℕ) (writer : Written) (outcome : Result ℕ
       (refl, ap (told q h options (length writer.left) len o) n ∙ is)
   told_where_noted h len o (WithMemory rest) is some (inl n) = inl (told_where_noted h len o rest is some n)
   told_where_noted h len o (WithMemory rest) is some (inr n) = absurd (some (ap (λ (d : CallData). d.call) n.0))
+
+-- a record in which no call was noted has nothing
+pub none_is_nothing : (writer : Written) (outcome : Result ℕ Error) (writer_after : Written) (noted : CallData) (a : Ask) → noted.call ≡ 0
+    → IsNoted a writer outcome writer_after noted → noted ≡ nothing
+none_is_nothing writer outcome writer_after noted (Ends reply) none n = n.0
+none_is_nothing writer outcome writer_after noted (Asks echo c) none n = absurd (not_none (shape_of c) (is_some_call c) (ap (λ (d : CallData). d.call) (sym n) ∙ none))
+none_is_nothing writer outcome writer_after noted (Lists echo l) none n = absurd (not_none noted (ap (λ (d : CallData). d.call == 0) n) none)
+none_is_nothing writer outcome writer_after noted (WithMemory rest) none (inl n) = none_is_nothing writer outcome writer_after noted rest none n
+none_is_nothing writer outcome writer_after noted (WithMemory rest) none (inr n) = n.0
+
+-- so what was noted and told is what is asked
+pub tells_noted : (q : List ℕ) (options : ℕ) (writer writer_after : Written) (h : InHeader) (len : ℕ) (o : Opcode) (a : Ask) (result : Asked) (told_call : CallData)
+    → OfCall (CallIsTold q h options (length writer.left) len o) (ListingIsTold q h options (length writer.left) len o) a
+    → NotedAndTold a (told_with h.unique options (length writer.left) len o) writer result writer_after told_call
+    → Tells q options 0 a writer result writer_after told_call
+tells_noted q options writer writer_after h len o a result told_call is n = elim n.told_so [
+  | inl x ↦ rw (x.1, x.2) (finished_where_none q options writer n.outcome writer_after n.noted a x.0 n.is_noted)
+  | inr x ↦ rw (x.1, x.2) (told_where_noted q options writer n.outcome writer_after n.noted h len o a is x.0 n.is_noted)
+]

@@ -1,5 +1,5 @@
 -- What is told of a request: its call as data, or that it is finished.
-use Rattle.std.specs.Prelude.{◌≡◌, ◌≤◌, ◌⊎◌, ⊤, ◌==◌, ◌+◌, ◌*◌, ℕ, List, length, take, drop, nat_lt, if◌then◌else◌, Result, Ok, Err}
+use Rattle.std.specs.Prelude.{◌≡◌, ◌≤◌, ◌⊎◌, ⊤, ◌==◌, ◌+◌, ◌*◌, ℕ, List, length, take, drop, nat_lt, if◌then◌else◌, Option, None, Some, Result, Ok, Err}
 use Rattle.vfs_segments.specs.Written.{Written}
 use Rattle.vfs_wire.specs.Headers.{in_header}
 use Rattle.vfs_wire.specs.declared.headers.InHeader.{InHeader}
@@ -84,14 +84,23 @@ pub record Spell (request : List ℕ) (range : Range) (pairs : List (ℕ × ℕ)
   pub within : range.at + range.len ≤ length request
   pub pairs_are : pairs_of (length pairs) (bytes_in request range) ≡ pairs
 
+-- the name and the value of a context, where there is one, are the bytes of the request in the ranges that
+-- are told
+abbrev pub IsContextPlaced : (request : List ℕ) → Option (List ℕ × List ℕ) → CallData → Type 0
+IsContextPlaced q None told = ⊤
+IsContextPlaced q (Some context) told =
+    Stand q told.context_name context.0 × Stand q told.context context.1
+
 -- The names and the value of a call are the bytes of the request in the ranges that are told, and the pairs
 -- of a BATCH_FORGET are those that these bytes spell.
 abbrev pub ArePlaced : (request : List ℕ) → Call → CallData → Type 0
 ArePlaced q (Lookup ctx parent name) told = Stand q told.name name
 ArePlaced q (Symlink ctx text parent name ext) told =
-    Stand q told.name name × Stand q told.other_name text
-ArePlaced q (Mknod ctx inode name mode rdev umask ext) told = Stand q told.name name
-ArePlaced q (Mkdir ctx parent name mode umask ext) told = Stand q told.name name
+    Stand q told.name name × Stand q told.other_name text × IsContextPlaced q ext.context told
+ArePlaced q (Mknod ctx inode name mode rdev umask ext) told =
+    Stand q told.name name × IsContextPlaced q ext.context told
+ArePlaced q (Mkdir ctx parent name mode umask ext) told =
+    Stand q told.name name × IsContextPlaced q ext.context told
 ArePlaced q (Unlink ctx parent name) told = Stand q told.name name
 ArePlaced q (Rmdir ctx parent name) told = Stand q told.name name
 ArePlaced q (Rename ctx olddir oldname newdir newname flags) told =
@@ -103,7 +112,8 @@ ArePlaced q (Setxattr ctx inode name value flags extra) told =
     Stand q told.name name × Stand q told.value value
 ArePlaced q (Getxattr ctx inode name size) told = Stand q told.name name
 ArePlaced q (Removexattr ctx inode name) told = Stand q told.name name
-ArePlaced q (Create ctx parent name mode kill_priv flags umask ext) told = Stand q told.name name
+ArePlaced q (Create ctx parent name mode kill_priv flags umask ext) told =
+    Stand q told.name name × IsContextPlaced q ext.context told
 ArePlaced q (BatchForget ctx pairs) told = Spell q told.value pairs
 ArePlaced q call told = ⊤
 

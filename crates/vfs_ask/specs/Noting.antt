@@ -9,6 +9,8 @@ use Rattle.vfs_grammar.specs.declared.error.Error.{Error}
 use Rattle.vfs_grammar.specs.declared.error.Error.TheVariants.{OutOfMemory}
 use Rattle.vfs_calls.specs.Shapes.{shape_of, nothing}
 use Rattle.vfs_calls.specs.declared.call.CallData.{CallData}
+use Rattle.vfs_ask.specs.declared.asked.Asked.{Asked}
+use Rattle.vfs_ask.specs.declared.asked.Asked.TheVariants as asked
 
 -- A call was noted exactly where one is asked for, and that very call; and a request that ends without
 -- one is finished: what comes back of it is in the writer.
@@ -22,3 +24,12 @@ IsNoted (Lists echo l) writer outcome writer_after call =
 IsNoted (WithMemory rest) writer outcome writer_after call =
     IsNoted rest writer outcome writer_after call
     ⊎ ((call ≡ nothing) × Replies (Refusal OutOfMemory) writer outcome writer_after)
+
+-- a call was noted, and is told with its places, or none was, and the request is finished
+pub record NotedAndTold (a : Ask) (place : CallData → CallData) (writer : Written) (result : Asked)
+    (writer_after : Written) (told : CallData) : Type 0 where
+  pub noted : CallData
+  pub outcome : Result ℕ Error
+  pub is_noted : IsNoted a writer outcome writer_after noted
+  pub told_so : ((noted.call ≡ 0) × (result ≡ asked.Finished outcome 0) × (told ≡ noted))
+      ⊎ ((noted.call ≡ 0 → ⊥) × (result ≡ asked.Call) × (told ≡ place noted))

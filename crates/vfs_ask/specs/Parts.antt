@@ -62,3 +62,12 @@ with_parts length room (Pairs at) c = record c {
 with_parts length room (Rest at) c = record c { value = record { at = at; len = length - at } }
 with_parts length room Room c = record c { count = room - size_of out_header }
 with_parts length room Entries c = record c { has = 512 }
+
+-- a noted call with what is told besides
+abbrev pub told_with : (unique options room length : ℕ) → Opcode → CallData → CallData
+told_with unique options room length o c =
+    with_parts length room (parts_of options o) (record c {
+      unique = unique;
+      options = options;
+      room = room;
+    })

@@ -1,6 +1,6 @@
 //! What a request asks.
 
-ghost use Rattle.std.specs.Prelude.{◌≡◌, ◌≢◌, ◌≤◌, ℕ, List, Ok, Some, drop, length};
+ghost use Rattle.std.specs.Prelude.{◌≡◌, ◌≢◌, ◌≤◌, ℕ, List, Ok, Some, drop, false, length, true};
 ghost use Rattle.vfs_flags.specs.Flags.{fs_options_bits};
 ghost use Rattle.vfs_flags.specs.Opcode.{opcode_of};
 ghost use Rattle.vfs_flags.specs.declared.opcode.Opcode.{Opcode};
@@ -11,8 +11,12 @@ ghost use Rattle.vfs_grammar.specs.Limits.{AreLimits, max_len};
 ghost use Rattle.vfs_grammar.specs.Records.{record_of, size_of};
 ghost use Rattle.vfs_calls.specs.Shapes.{nothing};
 ghost use Rattle.vfs_ask.specs.declared.asked.Asked.TheVariants.{Finished};
+ghost use Rattle.vfs_ask.specs.Contexts.{may_have_context};
+ghost use Rattle.vfs_ask.specs.Noting.{NotedAndTold};
+ghost use Rattle.vfs_ask.specs.Parts.{told_with};
 ghost use Rattle.vfs_ask.specs.Asked.{IsAsked, Tells, interrupted_behind, unique_or_none};
 
+use crate::contexts::{may_have_context, place_context, read_tail_of, refusal_of_tail};
 use crate::init::ask_init;
 use crate::note::note;
 use crate::parts::Parts;
@@ -147,6 +151,98 @@ fn ask_of_opcode(
         → Tells request (fs_options_bits options) 0
         (ask_opcode limits (fs_options_bits options) (length w.old.left) opcode q.entry.header.now
         q.entry.r.now.left)
+        w.old result w.new call.new }
+{
+    if may_have_context(opcode, options) {
+        ask_with_context(opcode, limits, options, len, q, w, call)
+    } else {
+        ask_without_context(opcode, limits, options, len, q, w, call)
+    }
+}
+
+// What a request of this opcode asks, which has no context.
+fn ask_without_context(
+    opcode: Opcode,
+    limits: Limits,
+    options: FsOptions,
+    len: u64,
+    q: Request<'_, '_>,
+    w: &mut Writer,
+    call: &mut CallData,
+) -> Asked
+    requires limits { AreLimits limits }
+    requires none { call.old ≡ nothing }
+    requires known { opcode_of q.header.now.opcode ≡ Some opcode }
+    requires below { q.header.now.len ≤ max_len limits }
+    requires no_init { opcode ≢ Opcode.Init }
+    requires no_context { may_have_context (fs_options_bits options) opcode ≡ false }
+    ensures { (request : List ℕ) → length request ≡ len
+        → record_of in_header request ≡ Ok q.entry.header.now
+        → drop (size_of in_header) request ≡ q.entry.r.now.left
+        → Tells request (fs_options_bits options) 0
+        (ask_opcode limits (fs_options_bits options) (length w.old.left) opcode q.entry.header.now
+        q.entry.r.now.left)
+        w.old result w.new call.new }
+{
+    tell(opcode, limits, options, len, q, w, call)
+}
+
+// What a request of this opcode asks, which may have a context.
+fn ask_with_context(
+    opcode: Opcode,
+    limits: Limits,
+    options: FsOptions,
+    len: u64,
+    q: Request<'_, '_>,
+    w: &mut Writer,
+    call: &mut CallData,
+) -> Asked
+    requires limits { AreLimits limits }
+    requires none { call.old ≡ nothing }
+    requires known { opcode_of q.header.now.opcode ≡ Some opcode }
+    requires below { q.header.now.len ≤ max_len limits }
+    requires context { may_have_context (fs_options_bits options) opcode ≡ true }
+    ensures { (request : List ℕ) → length request ≡ len
+        → record_of in_header request ≡ Ok q.entry.header.now
+        → drop (size_of in_header) request ≡ q.entry.r.now.left
+        → Tells request (fs_options_bits options) 0
+        (ask_opcode limits (fs_options_bits options) (length w.old.left) opcode q.entry.header.now
+        q.entry.r.now.left)
+        w.old result w.new call.new }
+{
+    let mut again = match q.r.clone() {
+        Ok(again) => again,
+        Err(_) => {
+            return Asked::finished(Err(refusal_of_tail(opcode, q.alloc, q.header, q.r)));
+        }
+    };
+    let tail = match read_tail_of(opcode, q.alloc, q.header, &mut again) {
+        Ok(tail) => tail,
+        Err(error) => return Asked::finished(Err(error)),
+    };
+    let asked = tell(opcode, limits, options, len, q, w, call);
+    place_context(opcode, tail.as_bytes(), call);
+    asked
+}
+
+// Notes the call of a request of `len` bytes, and tells it with the places of its names and values.
+fn tell(
+    opcode: Opcode,
+    limits: Limits,
+    options: FsOptions,
+    len: u64,
+    q: Request<'_, '_>,
+    w: &mut Writer,
+    call: &mut CallData,
+) -> Asked
+    requires limits { AreLimits limits }
+    requires none { call.old ≡ nothing }
+    requires known { opcode_of q.header.now.opcode ≡ Some opcode }
+    requires below { q.header.now.len ≤ max_len limits }
+    ensures { NotedAndTold
+        (ask_opcode limits (fs_options_bits options) (length w.old.left) opcode q.entry.header.now
+        q.entry.r.now.left)
+        (told_with q.entry.header.now.unique (fs_options_bits options) (length w.old.left) len opcode)
         w.old result w.new call.new }
 {
     let unique = q.header.unique;

@@ -99,8 +99,8 @@ impl Parts {
     }
 }
 
-// The place behind a name and its 0.
-fn place_behind(name: Range) -> u64
+/// The place behind a name and its 0.
+pub fn place_behind(name: Range) -> u64
     ensures { result ≡ place_behind name.at name }
 {
     name.at.saturating_add(name.len).saturating_add(1)
