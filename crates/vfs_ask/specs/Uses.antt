@@ -1,6 +1,6 @@
 -- What is told of some requests.
 use Rattle.std.specs.Prelude.{◌≡◌, ◌++◌, ℕ, List, [], ◌∷◌}
-use Rattle.vfs_grammar.specs.Samples.{eight, header_9, lookup_of_a}
+use Rattle.vfs_grammar.specs.Samples.{eight, four, header_9, lookup_of_a, zeros}
 use Rattle.vfs_calls.specs.Shapes.{nothing}
 use Rattle.vfs_calls.specs.declared.call.CallData.{CallData}
 use Rattle.vfs_ask.specs.Asked.{bytes_in, without_places}
@@ -54,3 +54,15 @@ pub record ReadsThree (options room : ℕ) (asked : Asked) (told : CallData) : T
     call = 15;
     answer = 3;
   }
+
+-- request 9: a MKDIR of `d` in node 1 with the context of name `s` and value `v`: a block of 19 bytes
+abbrev pub mkdir_with_context : List ℕ
+mkdir_with_context =
+    header_9 69 9
+    ++ (zeros 8 ++ (0x64 ∷ 0 ∷ (four 19 ++ (four 1 ++ (four 1 ++ (zeros 4 ++ (0x73 ∷ 0 ∷ 0x76 ∷ [])))))))
+
+pub record HasContext (asked : Asked) (told : CallData) : Type 0 where
+  pub is_call : asked ≡ Call
+  pub name : bytes_in mkdir_with_context told.name ≡ 0x64 ∷ []
+  pub context_name : bytes_in mkdir_with_context told.context_name ≡ 0x73 ∷ []
+  pub context : bytes_in mkdir_with_context told.context ≡ 0x76 ∷ []

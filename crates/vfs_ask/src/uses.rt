@@ -1,13 +1,13 @@
 //! Small callers.
 
 ghost use Rattle.std.specs.Prelude.{◌≡◌, ◌⊎◌, ◌++◌, length};
-ghost use Rattle.vfs_flags.specs.Flags.{fs_options_bits};
+ghost use Rattle.vfs_flags.specs.Flags.{fs_options_bits, security_ctx};
 ghost use Rattle.vfs_grammar.specs.Reply.{Refusal};
 ghost use Rattle.vfs_grammar.specs.Samples.{eight, header_9, lookup_of_a, request_for_data};
 ghost use Rattle.vfs_grammar.specs.declared.error.Error.{Error};
 ghost use Rattle.vfs_calls.specs.Shapes.{nothing};
 ghost use Rattle.vfs_ask.specs.Asked.{IsFinished};
-ghost use Rattle.vfs_ask.specs.Uses.{LooksUpA, ReadsThree, RenamesAToB, rename_of_a_to_b};
+ghost use Rattle.vfs_ask.specs.Uses.{HasContext, LooksUpA, mkdir_with_context, ReadsThree, RenamesAToB, rename_of_a_to_b};
 
 use crate::asked::{Asked, ask};
 use std::alloc::Global;
@@ -47,6 +47,22 @@ fn rename_a_to_b(
 ) -> Asked
     requires { r.left ≡ rename_of_a_to_b }
     ensures { RenamesAToB (fs_options_bits options) (length w.old.left) result call.new
+        ⊎ IsFinished (Refusal Error.OutOfMemory) 0 w.old result w.new call.new }
+{
+    ask(alloc, LIMITS, options, r, w, call)
+}
+
+/// A MKDIR with a context tells its name and its value, where contexts were agreed on.
+fn make_with_context(
+    alloc: Global,
+    options: FsOptions,
+    r: Reader<'_>,
+    w: &mut Writer,
+    call: &mut CallData,
+) -> Asked
+    requires request { r.left ≡ mkdir_with_context }
+    requires options { fs_options_bits options ≡ security_ctx }
+    ensures { HasContext result call.new
         ⊎ IsFinished (Refusal Error.OutOfMemory) 0 w.old result w.new call.new }
 {
     ask(alloc, LIMITS, options, r, w, call)

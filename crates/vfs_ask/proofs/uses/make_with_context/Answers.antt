@@ -1,0 +1,17 @@
+use Rattle.std.proofs.Common.{inl, inr}
+use Rattle.vfs_flags.specs.Opcode.{opcode_of}
+use Rattle.vfs_wire.specs.Fields.{number}
+use Rattle.vfs_grammar.specs.Extensions.{cut_of, extensions_in}
+use Rattle.vfs_ask.proofs.uses.make_with_context.Goals as goal
+
+pub returns : goal.returns
+unfolding number opcode_of extensions_in cut_of
+returns c = elim (rw (c.requires.request, c.requires.options) at c.ask.ensures) [
+  | inl t ↦ inl (record {
+    is_call = t.0;
+    name = t.1.places.0.bytes_are;
+    context_name = t.1.places.1.0.bytes_are;
+    context = t.1.places.1.1.bytes_are;
+  })
+  | inr t ↦ inr t
+]
