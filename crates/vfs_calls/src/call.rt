@@ -157,7 +157,9 @@ pub mod has {
 #[repr(C)]
 #[derive(Clone, Copy)]
 pub struct Range {
+    /// The place of the first one, counted from the first byte of the request's header.
     pub at: u64,
+    /// How many they are.
     pub len: u64,
 }
 
@@ -219,40 +221,73 @@ impl SetattrData {
     };
 }
 
-/// A call as data. `include/nizwarf_door.h` says which call has which fields.
+/// A call as data. What a call does not have is 0.
 #[repr(C)]
 #[derive(Clone, Copy)]
 pub struct CallData {
+    /// The number of the request, which its reply repeats.
     pub unique: u64,
+    /// The options that were agreed on when it was asked.
     pub options: u64,
+    /// How many bytes of room there were for the reply, its header among them.
     pub room: u64,
+    /// The node of the header; of a LINK the node that gets a name.
     pub node: u64,
+    /// The open file or directory; of a GETATTR or a SETATTR where `has` has `HANDLE`.
     pub handle: u64,
+    /// Where in the file or the directory the call begins.
     pub offset: u64,
+    /// Of a FORGET the lookups that are taken back, of a READ the room for data, of an INIT the
+    /// options that are offered, of a BATCH_FORGET its pairs, of a FALLOCATE or a COPY its bytes.
     pub count: u64,
+    /// The owner of locks, of a READ, a WRITE or a RELEASE where `has` has `OWNER`; of a COPY its
+    /// flags.
     pub lock_owner: u64,
+    /// Of a RENAME or a LINK the directory of the new name, of a COPY the node that is written.
     pub other_node: u64,
+    /// Of a COPY the open file that is written.
     pub other_handle: u64,
+    /// Of a COPY where in it.
     pub other_offset: u64,
+    /// The name without its 0; of a RENAME the old one.
     pub name: Range,
+    /// Of a RENAME the new name, of a SYMLINK the text.
     pub other_name: Range,
+    /// Of a SETXATTR the value, of a WRITE the data, of a BATCH_FORGET its pairs of 16 bytes.
     pub value: Range,
+    /// The name of the security context where `has` has `CONTEXT`.
     pub context_name: Range,
+    /// The value of that context.
     pub context: Range,
+    /// The record of a SETATTR.
     pub attr: SetattrData,
+    /// Which call it is, by [`number`]; 0 of none.
     pub call: u32,
+    /// Which kind of answer it has, by [`kind`].
     pub answer: u32,
+    /// What it has besides, by the bits of [`has`].
     pub has: u32,
+    /// The user that calls, as the guest numbers it.
     pub uid: u32,
+    /// The group that calls.
     pub gid: u32,
+    /// The process that calls.
     pub pid: i32,
+    /// The flags of the call; of a SETATTR which fields are to be set.
     pub flags: u32,
+    /// Kind and permissions of what is made; of a FALLOCATE its mode.
     pub mode: u32,
+    /// The permissions that the caller does not give.
     pub umask: u32,
+    /// The number of a device that is made.
     pub rdev: u32,
+    /// The most bytes that are wanted or given.
     pub size: u32,
+    /// Of a SETXATTR its further flags, of an ACCESS the mask, of an LSEEK whence.
     pub more: u32,
+    /// A further group of the caller where `has` has `GROUP`.
     pub group: u32,
+    /// Of an INIT the most bytes that the client reads ahead.
     pub readahead: u32,
 }
 
