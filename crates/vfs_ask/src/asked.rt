@@ -60,8 +60,13 @@ impl Asked {
 /// What the request asks that `r` has left, with the options that are agreed on and the room that `w`
 /// has left: a call, which is told in `call`, or that it is finished, and what it came to.
 ///
-/// A finished request has its reply in the room, and `call` is none. Of a told call the room holds
-/// nothing of worth: `w` is to be made anew for the answer.
+/// A finished request has its reply in the room, and `call` is none. It is refused by the errors of a
+/// server's `handle_message`; after each but `EncodeMessage` the room is as it was. Of a told call the
+/// room holds nothing of worth: `w` is to be made anew for the answer.
+///
+/// Memory is taken for a tail that is cut between two segments, for the pairs of a BATCH_FORGET, for a
+/// security context, and, where contexts are agreed on, for a second reader of more than four
+/// segments.
 pub fn ask(
     alloc: Global,
     limits: Limits,

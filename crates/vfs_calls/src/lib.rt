@@ -1,5 +1,5 @@
-//! Calls of a file system, and their answers, as data: plain numbers, which another language can read
-//! and write.
+//! Calls of a file system, and their answers, as data: plain numbers, which another language can
+//! read and write.
 #![tactic(auto)]
 
 mod asking;
