@@ -1,15 +1,18 @@
 -- What comes of an answer.
-use Rattle.std.specs.Prelude.{◌≡◌, ◌==◌, if◌then◌else◌, ◌+◌, ◌++◌, ℕ, List, Option, Some, None, length, unwrap_or}
-use Rattle.vfs_segments.specs.Written.{Written}
-use Rattle.vfs_files.specs.Calls.{Call, Init, Kind, Quiet, Agreements, Answer, Options, IsAnswer, kind_of}
-use Rattle.vfs_files.specs.declared.entry.Context.{Context}
+use Rattle.std.specs.Prelude.{◌≡◌, ◌==◌, ◌&&◌, if◌then◌else◌, ◌+◌, ◌-◌, ◌^◌, ◌++◌, ⊤, ℕ, List, Bool, true, false, Option, Some, None, length, drop, nat_le, nat_lt, unwrap_or}
+use Rattle.vfs_wire.specs.Headers.{out_header}
+use Rattle.vfs_segments.specs.Written.{Written, whole}
+use Rattle.vfs_files.specs.Calls.{Kind, Quiet, Data, Agreements, Iterators, Answer, Options, IsAnswer}
 use Rattle.vfs_messages.specs.Rooms.{Replies}
 use Rattle.vfs_grammar.specs.Options.{agreed}
-use Rattle.vfs_grammar.specs.Reply.{Reply, Echo, reply_of}
+use Rattle.vfs_grammar.specs.Records.{size_of}
+use Rattle.vfs_grammar.specs.Reply.{Echo, reply_of}
 use Rattle.vfs_grammar.specs.Room.{unseen}
 use Rattle.vfs_grammar.specs.Turn.{node_answered}
 use Rattle.vfs_grammar.specs.declared.limits.Limits.{Limits}
 use Rattle.vfs_calls.specs.declared.call.CallData.{CallData}
+use Rattle.vfs_calls.specs.declared.data.AnswerData.{AnswerData}
+use Rattle.vfs_answer.specs.Said.{IsSaid}
 use Rattle.vfs_answer.specs.declared.answered.Answered.{Answered}
 
 -- what a call's data keep of its request
@@ -35,3 +38,22 @@ Comes limits call kind answer old came new =
     × (came.options ≡ options_told call kind answer)
     × (came.given ≡ unwrap_or (unseen (length old.left) (reply_of limits (echo_told call) came.options kind answer) (node_answered kind answer)) 0)
     × (came.taken ≡ 0)
+
+-- a writer whose room goes on behind what it has left
+abbrev pub with_behind : Written → (behind : List ℕ) → Written
+with_behind w behind = record w { left = w.left ++ behind }
+
+-- behind the place of the reply's header, where the data of a READ stand, nothing changes
+abbrev pub KeepsData : Kind → (old new : Written) → Type 0
+KeepsData (Data size) old new =
+    (header : List ℕ) × (length header ≡ size_of out_header)
+    × (whole new ≡ old.passed ++ (header ++ drop (size_of out_header) old.left))
+KeepsData kind old new = ⊤
+
+-- A call of this kind was answered: there is an answer which these data say, and this comes of it.
+pub record IsAnswered (limits : Limits) (call : CallData) (kind : Kind) (a : AnswerData) (text : List ℕ)
+    (old : Written) (came : Answered) (new : Written) : Type 0 where
+  pub answer : Answer
+  pub said : IsSaid a text old.left kind answer
+  pub comes : Comes limits call kind answer old came new
+  pub kept : KeepsData kind old new

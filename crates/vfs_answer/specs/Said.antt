@@ -1,11 +1,11 @@
 -- What an answer as data says: the answer of the call, by its kind.
-use Rattle.std.specs.Prelude.{◌≡◌, ◌≢◌, ◌⊎◌, ◌<◌, ◌≤◌, ◌+◌, ◌-◌, ◌^◌, ⊤, ℕ, pos, length, min, take, drop, bit_and, List, Option, Some}
+use Rattle.std.specs.Prelude.{◌≡◌, ◌≢◌, ◌⊎◌, ◌<◌, ◌≤◌, ◌+◌, ◌-◌, ◌^◌, ⊤, ℕ, pos, length, min, take, drop, bit_and, List, Option, Some, None, Result, Ok, Err}
 use Rattle.vfs_flags.specs.Errors.{eio, erange}
 use Rattle.vfs_flags.specs.Flags.{known_fs_options, known_open_options}
 use Rattle.vfs_wire.specs.Headers.{out_header}
 use Rattle.vfs_files.specs.Entries.{entry_out_of, whole_seconds, nanoseconds_beyond}
 use Rattle.vfs_files.specs.Calls.{Kind, Quiet, Told, Untold, Data, Agreements, Entries, TimedAttributes, Openings, Creations, Capacities, Texts, TextsOrCounts, Offsets, Writes, Iterators, Faults}
-use Rattle.vfs_files.specs.Calls.{Answer, Done, Failed, Options, Found, Attributes, Put, Opened, Created, Statistics, Text, Count, Offset, Wrote, FitsText}
+use Rattle.vfs_files.specs.Calls.{Answer, Done, Failed, Options, Found, Attributes, Put, Opened, Created, Statistics, Text, Count, Offset, Wrote}
 use Rattle.vfs_calls.specs.Values.{IsFaultOf, attr_of, entry_out_for, statistics_of, handle_of, most_nanoseconds}
 use Rattle.vfs_calls.specs.declared.data.AnswerData.{AnswerData}
 use Rattle.vfs_grammar.specs.Records.{size_of}
@@ -76,3 +76,14 @@ IsSaid a text room Quiet answer = answer ≡ Done
 IsSaid a text room kind (Failed fault) =
     IsFailed a fault ⊎ ((a.error ≡ pos 0) × IsUnfit a text room kind fault)
 IsSaid a text room kind answer = (a.error ≡ pos 0) × IsValue a text room kind answer
+
+-- the answer of a call that answers a text, where it stands beside
+abbrev pub text_said : Result (Unit {0}) (Option ℕ) → (text : List ℕ) → Answer
+text_said (Ok _) text = Text text
+text_said (Err fault) text = Failed fault
+
+-- the answer of a call that answers a text, which stands beside, or a count
+abbrev pub value_said : Result (Option ℕ) (Option ℕ) → (text : List ℕ) → Answer
+value_said (Ok None) text = Text text
+value_said (Ok (Some count)) text = Count count
+value_said (Err fault) text = Failed fault

@@ -4,6 +4,7 @@
 #![tactic(auto)]
 
 mod answered;
+mod reply;
 mod value;
 
 pub use answered::Answered;

@@ -1,17 +1,18 @@
 //! The answer of a call, as its kind has it, from an answer as data.
 
-ghost use Rattle.std.specs.Prelude.{◌≡◌, ◌≢◌, ◌<◌, ◌-◌, ◌^◌, ℕ, List, pos, length, bit_and, MatchResult};
+ghost use Rattle.std.specs.Prelude.{◌≡◌, ◌≢◌, ◌<◌, ◌-◌, ◌^◌, ◌+◌, ℕ, List, pos, length, take, drop, bit_and, IfOk, MatchResult};
+ghost use Rattle.vfs_flags.specs.Errors.{eio};
 ghost use Rattle.vfs_flags.specs.Flags.{fs_options_bits, open_options_bits, known_fs_options, known_open_options};
-ghost use Rattle.vfs_files.specs.Answers.{Told, Untold, Entries, TimedAttributes, Openings, Creations, Capacities, Offsets, Writes, Agreements, Faults, Failed, init_answer, done_answer, entry_answer, attr_answer, opened_answer, created_answer, statistics_answer, offset_answer, written_answer};
+ghost use Rattle.vfs_files.specs.Answers.{Told, Untold, Entries, TimedAttributes, Openings, Creations, Capacities, Offsets, Writes, Agreements, Texts, TextsOrCounts, Data, Faults, Failed, KeepsTextShort, read_answer, init_answer, done_answer, entry_answer, attr_answer, opened_answer, created_answer, statistics_answer, offset_answer, written_answer};
 ghost use Rattle.vfs_calls.specs.Values.{handle_of};
-ghost use Rattle.vfs_answer.specs.Said.{IsFailed, IsSaid, IsUncounted};
+ghost use Rattle.vfs_answer.specs.Said.{FitsData, IsFailed, IsSaid, IsTooLong, IsTooMuch, IsUncounted, text_said, value_said};
 
 use bitflags::Flags;
 use std::time::Duration;
-use vfs_calls::{AnswerData, fault_of};
+use vfs_calls::{AnswerData, CallData, fault_of};
 use vfs_files::Entry;
-use vfs_flags::{Errno, Fault, FsOptions, OpenOptions};
-use vfs_wire::{Attr, Statvfs64};
+use vfs_flags::{Errno, Fault, FsOptions, MAX_REPLY_DATA, OpenOptions};
+use vfs_wire::{Attr, ByteValued, OutHeader, Statvfs64};
 
 /// The fault that was answered, if one was.
 pub(crate) fn done(answer: &AnswerData) -> Result<(), Fault>
@@ -142,4 +143,67 @@ pub(crate) fn written(answer: &AnswerData) -> Result<u32, Fault>
 {
     done(answer)?;
     count(answer)
+}
+
+/// That this text is short enough for a reply, or ERANGE.
+fn short(text: &[u8]) -> Result<(), Fault>
+    ensures short { IfOk result (λ _. length text.now < 2 ^ 32 - 16) }
+    ensures long { MatchResult result (λ _. length text.now < 2 ^ 32 - 16)
+        (λ fault. IsTooLong text.now fault) }
+{
+    if text.len() > MAX_REPLY_DATA as usize {
+        return Err(Some(Errno::ERANGE));
+    }
+    Ok(())
+}
+
+/// That the text beside is the answer, or the fault.
+pub(crate) fn text(answer: &AnswerData, text: &[u8]) -> Result<(), Fault>
+    ensures short { KeepsTextShort (text_said result text.now) }
+    ensures said { (room : List ℕ) →
+        IsSaid answer.now text.now room Texts (text_said result text.now) }
+{
+    done(answer)?;
+    short(text)
+}
+
+/// How many bytes a text has, or that the text beside is the answer, or the fault.
+pub(crate) fn value(answer: &AnswerData, text: &[u8]) -> Result<Option<u32>, Fault>
+    ensures short { KeepsTextShort (value_said result text.now) }
+    ensures said { (room : List ℕ) →
+        IsSaid answer.now text.now room TextsOrCounts (value_said result text.now) }
+{
+    done(answer)?;
+    if answer.has_count != 0 {
+        return Ok(Some(count(answer)?));
+    }
+    short(text)?;
+    Ok(None)
+}
+
+/// How many bytes of data there are, where the reply to a READ can have so many, and else EIO.
+fn data_count(call: &CallData, answer: &AnswerData) -> Result<u32, Fault>
+    ensures { MatchResult result
+        (λ count. (count ≡ answer.now.count) × FitsData call.now.size call.now.room answer.now.count)
+        (λ fault. (fault ≡ Some eio) × IsTooMuch call.now.size call.now.room answer.now.count) }
+{
+    if answer.count > u64::from(call.size.min(MAX_REPLY_DATA)) {
+        return Err(Some(Errno::EIO));
+    }
+    if answer.count + OutHeader::SIZE as u64 > call.room {
+        return Err(Some(Errno::EIO));
+    }
+    Ok(answer.count as u32)
+}
+
+/// How many bytes of data there are, or the fault.
+pub(crate) fn data(call: &CallData, answer: &AnswerData) -> Result<u32, Fault>
+    ensures count { IfOk result
+        (λ count. (count ≡ answer.now.count) × FitsData call.now.size call.now.room answer.now.count) }
+    ensures said { (text room : List ℕ) → length room ≡ call.now.room →
+        IsSaid answer.now text room (Data call.now.size)
+        (read_answer result (take answer.now.count (drop 16 room))) }
+{
+    done(answer)?;
+    data_count(call, answer)
 }
