@@ -57,3 +57,23 @@ pub record IsAnswered (limits : Limits) (call : CallData) (kind : Kind) (a : Ans
   pub said : IsSaid a text old.left kind answer
   pub comes : Comes limits call kind answer old came new
   pub kept : KeepsData kind old new
+
+-- Whether the data of a call of this kind can be answered in this space: in all the room that was told at the
+-- call; of a READ also in its first bytes, where the header has its place.
+abbrev pub can_answer : Option Kind → CallData → (space : ℕ) → Bool
+can_answer None call space = false
+can_answer (Some (Data size)) call space = nat_le (size_of out_header) space && nat_le space call.room
+can_answer (Some Iterators) call space = false
+can_answer (Some kind) call space = space == call.room
+
+-- What came of the answer to a call of this kind, where one can be answered: the reply, whatever stands in the
+-- room behind a READ's header. Where none can, nothing was put.
+abbrev pub Answers : Limits → Option Kind → CallData → AnswerData → (text : List ℕ) → (old : Written) → Option Answered
+    → (new : Written) → Type 0
+Answers limits kind call a text old None new =
+    (can_answer kind call (length old.left) ≡ false) × (new ≡ old)
+Answers limits None call a text old (Some came) new = ⊥
+Answers limits (Some kind) call a text old (Some came) new =
+    (can_answer (Some kind) call (length old.left) ≡ true)
+    × ((behind : List ℕ) → length old.left + length behind ≡ call.room
+    → IsAnswered limits call kind a text (with_behind old behind) came (with_behind new behind))

@@ -3,6 +3,7 @@
 //! Nothing here sees the request again, calls a file system or takes memory.
 #![tactic(auto)]
 
+mod answer;
 mod answered;
 mod reply;
 mod value;

@@ -1,6 +1,6 @@
 //! The reply to each kind of answer.
 
-ghost use Rattle.std.specs.Prelude.{◌≡◌, ◌≤◌, ◌<◌, ◌-◌, ◌^◌, ◌+◌, ◌++◌, ℕ, [], length, if◌then◌else◌, is_err, MatchResult, Ok};
+ghost use Rattle.std.specs.Prelude.{◌≡◌, ◌≤◌, ◌<◌, ◌-◌, ◌^◌, ◌+◌, ◌++◌, ℕ, [], length, if◌then◌else◌, is_err, IfOk, MatchResult, Ok};
 ghost use Rattle.vfs_wire.specs.Fields.{bytes_of};
 ghost use Rattle.vfs_wire.specs.Headers.{out_header};
 ghost use Rattle.vfs_segments.specs.Written.{wrote};
@@ -255,4 +255,27 @@ fn put_header(count: u32, unique: u64, w: &mut Writer) -> Result<usize>
     };
     let _ = w.write_obj(header);
     Ok(OutHeader::SIZE + count as usize)
+}
+
+/// Replies so many bytes of data, which stand behind the place of their header already, or the fault. The
+/// header alone is put.
+pub(crate) fn put_data(call: &CallData, said: Said<u32>, w: &mut Writer) -> Answered
+    requires short { IfOk said (λ count. count < 2 ^ 32 - 16) }
+    requires room { 16 ≤ length w.old.left }
+    ensures plain { result ≡ record {
+        outcome = result.outcome;
+        options = call.now.options;
+        given = 0;
+        taken = 0;
+    } }
+    ensures put { MatchResult said
+        (λ count. (result.outcome ≡ Ok (16 + count))
+        × (w.new ≡ wrote w.old (bytes_of out_header (data_header (Ok count) call.now.unique))))
+        (λ fault. IsFault fault
+        × Replies (Bytes (fault_reply fault call.now.unique)) w.old result.outcome w.new) }
+{
+    match said {
+        Ok(count) => Answered::plain(call, put_header(count, call.unique, w)),
+        Err(fault) => Answered::plain(call, reply_failed(fault, call.unique, w)),
+    }
 }

@@ -1,0 +1,71 @@
+-- What came of an answer, in the room that was told at the call.
+use Rattle.std.proofs.Common.{◌≡◌, ◌≤◌, ◌<◌, ◌+◌, ◌-◌, ◌^◌, ◌∙◌, ℕ, List, ◌++◌, Bool, true, length, take, drop, Option, Some, Result, Ok, Err, IfOk, MatchResult, refl, ap, sym, subst, arith, length-append, length-take, length-drop}
+use Rattle.vfs_wire.specs.Fields.{bytes_of}
+use Rattle.vfs_wire.specs.Headers.{out_header}
+use Rattle.vfs_segments.specs.Written.{Written, wrote}
+use Rattle.vfs_files.specs.Calls.{Kind, Data, Answer, IsFault, read_answer}
+use Rattle.vfs_messages.specs.Rooms.{data_header, Replies}
+use Rattle.vfs_grammar.specs.Reply.{Bytes, OpenBehind, body_reply, fault_reply}
+use Rattle.vfs_grammar.specs.declared.limits.Limits.{Limits}
+use Rattle.vfs_calls.specs.declared.call.CallData.{CallData}
+use Rattle.vfs_calls.specs.declared.data.AnswerData.{AnswerData}
+use Rattle.vfs_answer.specs.Said.{FitsData, IsSaid}
+use Rattle.vfs_answer.specs.Kinds.{kind_told}
+use Rattle.vfs_answer.specs.Answering.{with_behind, can_answer, Answers, Comes, KeepsData, IsAnswered}
+use Rattle.vfs_answer.specs.declared.answered.Answered.{Answered}
+use Rattle.vfs_answer.proofs.Behind.{data_replied, data_kept, fault_replied, fault_kept, with_none_behind}
+
+-- in all the room that was told, nothing stands behind
+pub answered : (limits : Limits) (call : CallData) (kind : Kind) (a : AnswerData) (text : List ℕ) (old : Written) (came : Answered) (new : Written) (answer : Answer)
+    → kind_told call.answer call.size ≡ Some kind → length old.left ≡ call.room → can_answer (Some kind) call (length old.left) ≡ true
+    → IsSaid a text old.left kind answer → Comes limits call kind answer old came new → KeepsData kind old new
+    → Answers limits (kind_told call.answer call.size) call a text old (Some came) new
+answered limits call kind a text old came new answer told room can said comes kept =
+    subst (λ (k : Option Kind). Answers limits k call a text old (Some came) new) (sym told) (can, λ behind all.
+      let none : length behind ≡ 0 = omega (arith, room, all) in
+      rw (with_none_behind old behind none, with_none_behind new behind none)
+      (record { answer = answer; said = said; comes = comes; kept = kept }))
+
+-- a READ
+pub read_answered : (limits : Limits) (call : CallData) (a : AnswerData) (text : List ℕ) (old new : Written) (came : Answered) (said : Result ℕ (Option ℕ))
+    → 16 ≤ length old.left
+    → IfOk said (λ count. (count ≡ a.count) × FitsData call.size call.room a.count)
+    → ((text room : List ℕ) → length room ≡ call.room → IsSaid a text room (Data call.size) (read_answer said (take a.count (drop 16 room))))
+    → came ≡ record { outcome = came.outcome; options = call.options; given = 0; taken = 0 }
+    → MatchResult said
+    (λ count. (came.outcome ≡ Ok (16 + count)) × (new ≡ wrote old (bytes_of out_header (data_header (Ok count) call.unique))))
+    (λ fault. IsFault fault × Replies (Bytes (fault_reply fault call.unique)) old came.outcome new)
+    → (behind : List ℕ) → length old.left + length behind ≡ call.room
+    → IsAnswered limits call (Data call.size) a text (with_behind old behind) came (with_behind new behind)
+read_answered limits call a text old new came (Ok count) room fits said plain put behind all =
+    let whole : length (old.left ++ behind) ≡ call.room = length-append old.left behind ∙ all in
+    let bytes = take a.count (drop 16 (old.left ++ behind)) in
+    let within : 16 + count ≤ length (old.left ++ behind) = omega (arith, whole, fits.0, fits.1.room_for) in
+    let long : length bytes ≡ a.count = omega (arith, within, fits.0, length-take a.count (drop 16 (old.left ++ behind)), length-drop 16 (old.left ++ behind)) in
+    let replied = data_replied old new behind count call.unique room within put.1 in
+    record {
+      answer = read_answer (Ok count) bytes;
+      said = said text (old.left ++ behind) whole;
+      comes = (
+        (omega (arith, long, fits.1.asked_for), omega (arith, long, fits.1.short)),
+        rw (put.0, ← fits.0) replied,
+        ap (λ (x : Answered). x.options) plain,
+        ap (λ (x : Answered). x.given) plain,
+        ap (λ (x : Answered). x.taken) plain,
+      );
+      kept = data_kept old new behind count call.unique room put.1;
+    }
+read_answered limits call a text old new came (Err fault) room fits said plain put behind all =
+    let whole : length (old.left ++ behind) ≡ call.room = length-append old.left behind ∙ all in
+    record {
+      answer = read_answer (Err fault) (take a.count (drop 16 (old.left ++ behind)));
+      said = said text (old.left ++ behind) whole;
+      comes = (
+        put.0,
+        fault_replied old new behind fault call.unique came.outcome room put.1,
+        ap (λ (x : Answered). x.options) plain,
+        ap (λ (x : Answered). x.given) plain,
+        ap (λ (x : Answered). x.taken) plain,
+      );
+      kept = fault_kept old new behind fault call.unique came.outcome room put.1;
+    }
