@@ -11,7 +11,7 @@ use Rattle.vfs_calls.specs.declared.call.CallData.{CallData}
 use Rattle.vfs_calls.specs.declared.data.AnswerData.{AnswerData}
 use Rattle.vfs_answer.specs.Said.{FitsData, IsSaid}
 use Rattle.vfs_answer.specs.Kinds.{kind_told}
-use Rattle.vfs_answer.specs.Answering.{with_behind, can_answer, Answers, Comes, KeepsData, IsAnswered}
+use Rattle.vfs_answer.specs.Answering.{with_behind, can_answer, AnswersCall, Comes, KeepsData, IsAnswered}
 use Rattle.vfs_answer.specs.declared.answered.Answered.{Answered}
 use Rattle.vfs_answer.proofs.Behind.{data_replied, data_kept, fault_replied, fault_kept, with_none_behind}
 
@@ -19,9 +19,9 @@ use Rattle.vfs_answer.proofs.Behind.{data_replied, data_kept, fault_replied, fau
 pub answered : (limits : Limits) (call : CallData) (kind : Kind) (a : AnswerData) (text : List ℕ) (old : Written) (came : Answered) (new : Written) (answer : Answer)
     → kind_told call.answer call.size ≡ Some kind → length old.left ≡ call.room → can_answer (Some kind) call (length old.left) ≡ true
     → IsSaid a text old.left kind answer → Comes limits call kind answer old came new → KeepsData kind old new
-    → Answers limits (kind_told call.answer call.size) call a text old (Some came) new
+    → AnswersCall limits (kind_told call.answer call.size) call a text old (Some came) new
 answered limits call kind a text old came new answer told room can said comes kept =
-    subst (λ (k : Option Kind). Answers limits k call a text old (Some came) new) (sym told) (can, λ behind all.
+    subst (λ (k : Option Kind). AnswersCall limits k call a text old (Some came) new) (sym told) (can, λ behind all.
       let none : length behind ≡ 0 = omega (arith, room, all) in
       rw (with_none_behind old behind none, with_none_behind new behind none)
       (record { answer = answer; said = said; comes = comes; kept = kept }))

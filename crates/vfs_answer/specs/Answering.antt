@@ -12,6 +12,8 @@ use Rattle.vfs_grammar.specs.Turn.{node_answered}
 use Rattle.vfs_grammar.specs.declared.limits.Limits.{Limits}
 use Rattle.vfs_calls.specs.declared.call.CallData.{CallData}
 use Rattle.vfs_calls.specs.declared.data.AnswerData.{AnswerData}
+use Rattle.vfs_calls.specs.declared.data.ItemData.{ItemData}
+use Rattle.vfs_answer.specs.Listing.{IsListed}
 use Rattle.vfs_answer.specs.Said.{IsSaid}
 use Rattle.vfs_answer.specs.declared.answered.Answered.{Answered}
 
@@ -58,22 +60,38 @@ pub record IsAnswered (limits : Limits) (call : CallData) (kind : Kind) (a : Ans
   pub comes : Comes limits call kind answer old came new
   pub kept : KeepsData kind old new
 
--- Whether the data of a call of this kind can be answered in this space: in all the room that was told at the
--- call; of a READ also in its first bytes, where the header has its place.
+-- Whether a call of this kind can be answered in this space: in all the room that was told at the call; of a READ
+-- also in its first bytes, where the header has its place. Of a directory no more can have been asked for than a
+-- reply can have.
 abbrev pub can_answer : Option Kind → CallData → (space : ℕ) → Bool
 can_answer None call space = false
 can_answer (Some (Data size)) call space = nat_le (size_of out_header) space && nat_le space call.room
-can_answer (Some Iterators) call space = false
+can_answer (Some Iterators) call space =
+    (space == call.room) && (nat_le (size_of out_header) space && nat_lt call.size (2 ^ 32 - 16))
 can_answer (Some kind) call space = space == call.room
 
--- What came of the answer to a call of this kind, where one can be answered: the reply, whatever stands in the
--- room behind a READ's header. Where none can, nothing was put.
-abbrev pub Answers : Limits → Option Kind → CallData → AnswerData → (text : List ℕ) → (old : Written) → Option Answered
-    → (new : Written) → Type 0
-Answers limits kind call a text old None new =
+-- What came of the answer to a call of this kind but READDIR, where one can be answered: the reply, whatever stands
+-- behind the first bytes of a READ's room. Where none can, nothing was put.
+abbrev pub AnswersCall : Limits → Option Kind → CallData → AnswerData → (text : List ℕ) → (old : Written)
+    → Option Answered → (new : Written) → Type 0
+AnswersCall limits kind call a text old None new =
     (can_answer kind call (length old.left) ≡ false) × (new ≡ old)
-Answers limits None call a text old (Some came) new = ⊥
-Answers limits (Some kind) call a text old (Some came) new =
+AnswersCall limits None call a text old (Some came) new = ⊥
+AnswersCall limits (Some kind) call a text old (Some came) new =
     (can_answer (Some kind) call (length old.left) ≡ true)
     × ((behind : List ℕ) → length old.left + length behind ≡ call.room
     → IsAnswered limits call kind a text (with_behind old behind) came (with_behind new behind))
+
+-- the same of READDIR and READDIRPLUS
+abbrev pub AnswersDirectory : CallData → AnswerData → (items : List ItemData) → (old : Written) → Option Answered
+    → (new : Written) → Type 0
+AnswersDirectory call a items old None new =
+    (can_answer (Some Iterators) call (length old.left) ≡ false) × (new ≡ old)
+AnswersDirectory call a items old (Some came) new =
+    (can_answer (Some Iterators) call (length old.left) ≡ true) × IsListed call a items old came new
+
+-- the same of any call
+abbrev pub Answers : Limits → Option Kind → CallData → AnswerData → (text : List ℕ) → (items : List ItemData)
+    → (old : Written) → Option Answered → (new : Written) → Type 0
+Answers limits (Some Iterators) call a text items old result new = AnswersDirectory call a items old result new
+Answers limits kind call a text items old result new = AnswersCall limits kind call a text old result new

@@ -1,3 +1,5 @@
-pub mod Said
 pub mod Kinds
+pub mod Said
+pub mod Offered
+pub mod Listing
 pub mod Answering

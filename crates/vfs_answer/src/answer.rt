@@ -5,7 +5,7 @@ ghost use Rattle.vfs_files.specs.Answers.{Data};
 ghost use Rattle.vfs_grammar.specs.Limits.{AreLimits};
 ghost use Rattle.vfs_grammar.specs.declared.limits.Limits.{Limits};
 ghost use Rattle.vfs_answer.specs.Kinds.{kind_told};
-ghost use Rattle.vfs_answer.specs.Answering.{Answers};
+ghost use Rattle.vfs_answer.specs.Answering.{AnswersCall};
 
 use crate::answered::Answered;
 use crate::reply::{
@@ -30,7 +30,7 @@ fn answer_told(
     requires room { length w.old.left ≡ call.now.room }
     requires no_data { call.now.answer ≢ 3 }
     requires no_directory { call.now.answer ≢ 14 }
-    ensures { Answers limits (kind_told call.now.answer call.now.size) call.now answer.now text.now
+    ensures { AnswersCall limits (kind_told call.now.answer call.now.size) call.now answer.now text.now
         w.old result w.new }
 {
     match call.answer {
@@ -55,7 +55,7 @@ fn answer_told(
 /// Answers a READ, whose data stand behind the place of the reply's header: that alone is put.
 fn answer_read(call: &CallData, answer: &AnswerData, w: &mut Writer) -> Option<Answered>
     ensures { (limits : Limits) (text : List ℕ) →
-        Answers limits (Some (Data call.now.size)) call.now answer.now text w.old result w.new }
+        AnswersCall limits (Some (Data call.now.size)) call.now answer.now text w.old result w.new }
 {
     let room = w.available_bytes();
     if room < OutHeader::SIZE || room as u64 > call.room {

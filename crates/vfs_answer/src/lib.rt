@@ -5,6 +5,7 @@
 
 mod answer;
 mod answered;
+mod listing;
 mod reply;
 mod value;
 

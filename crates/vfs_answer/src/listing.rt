@@ -1,0 +1,163 @@
+//! The records of a directory, from the items that were offered.
+
+ghost use Rattle.std.specs.Prelude.{◌≡◌, ◌==◌, ◌⊎◌, bit_and, not, pos, length, Ok, Err, Some, IfOk};
+ghost use Rattle.vfs_files.specs.Entries.{entry_out_of};
+ghost use Rattle.vfs_files.specs.Items.{item};
+ghost use Rattle.vfs_files.specs.Names.{name_of, name_text};
+ghost use Rattle.vfs_grammar.specs.Listing.{is_dot, dot_out, told};
+ghost use Rattle.vfs_listings.specs.Reading.{got_of, AddsGot};
+ghost use Rattle.vfs_answer.specs.Offered.{item_told, taken_by, AddsItem, IsFound, ReadsOffered};
+
+use std::time::Duration;
+use vfs_calls::{ItemData, fault_of};
+use vfs_files::{CStr, DirEntry, Entry};
+use vfs_flags::Fault;
+use vfs_listings::add_dirent;
+use vfs_segments::Writer;
+use vfs_wire::Attr;
+
+/// What was put of a directory.
+#[derive(Drop)]
+pub(crate) struct Listed {
+    /// How many bytes of records there are, or the fault that is replied in their place.
+    pub answer: Result<usize, Fault>,
+    /// How many items are in the reply.
+    pub taken: usize,
+}
+
+/// Whether a name is `.` or `..`.
+fn is_dot(name: &[u8]) -> bool
+    ensures { result ≡ is_dot name.now }
+{
+    name == b".".as_slice() || name == b"..".as_slice()
+}
+
+/// The entry of `.` and `..`: their number, and a mode that says their type and no more.
+fn dot_entry(dir_entry: DirEntry<'_>) -> Entry
+    ensures { entry_out_of result ≡ dot_out (item dir_entry.entry) }
+{
+    Entry {
+        inode: 0,
+        generation: 0,
+        attr: Attr {
+            ino: dir_entry.ino,
+            mode: dir_entry.type_.wrapping_mul(4096),
+            ..Attr::default()
+        },
+        attr_timeout: Duration::ZERO,
+        entry_timeout: Duration::ZERO,
+    }
+}
+
+/// What the lookup of an item got.
+#[inline(always)]
+fn found(offered: &ItemData<'_>) -> Result<Entry, Fault>
+    ensures { IsFound offered.now (got_of result) }
+{
+    match offered.error {
+        0 => Ok(offered.entry.entry()),
+        error => Err(fault_of(error)),
+    }
+}
+
+/// An item with this name.
+fn named<'a>(offered: &ItemData<'_>, name: CStr<'a>) -> DirEntry<'a>
+    ensures { item result ≡ item_told offered.now (name_text name.entry) }
+{
+    DirEntry {
+        ino: offered.ino,
+        offset: offered.offset,
+        type_: offered.type_,
+        name,
+    }
+}
+
+/// Adds the record of an item with what its lookup got; a fault of that is the answer.
+fn add_found(
+    found: Result<Entry, Fault>,
+    dir_entry: DirEntry<'_>,
+    max: usize,
+    w: &mut Writer,
+) -> Result<usize, Fault>
+    ensures { AddsGot max (length w.old.left) (got_of found) (item dir_entry.entry)
+        w.old result w.new }
+{
+    match found {
+        Ok(entry) => add_dirent(w, max, dir_entry, Some(entry)),
+        Err(fault) => Err(fault),
+    }
+}
+
+/// Adds the record of an item with this name, where `plus` with its entry.
+fn add_item(
+    offered: &ItemData<'_>,
+    name: CStr<'_>,
+    plus: bool,
+    max: usize,
+    w: &mut Writer,
+) -> Result<usize, Fault>
+    requires { name_of offered.now.name.now ≡ Some (name_text name) }
+    ensures { AddsItem plus max offered.now w.old result w.new }
+{
+    let dir_entry = named(offered, name);
+    if !plus {
+        return add_dirent(w, max, dir_entry, None);
+    }
+    if is_dot(name.to_bytes()) {
+        return add_dirent(w, max, dir_entry, Some(dot_entry(dir_entry)));
+    }
+    add_found(found(offered), dir_entry, max, w)
+}
+
+/// What is answered where an item fails behind so many bytes of records, of so many items.
+fn tell(plus: bool, written: usize, taken: usize, fault: Fault) -> Listed
+    ensures answer { result.answer ≡ told plus written fault }
+    ensures taken { result.taken ≡ taken_by result.answer taken }
+{
+    if plus && written > 0 {
+        return Listed {
+            answer: Ok(written),
+            taken,
+        };
+    }
+    Listed {
+        answer: Err(fault),
+        taken: 0,
+    }
+}
+
+/// Puts the records of items, at most `size` bytes of them, where `plus` with their entries, up to the first
+/// item that isn't written, or whose name is none.
+pub(crate) fn put_items(items: &[ItemData<'_>], plus: bool, size: usize, w: &mut Writer) -> Listed
+    ensures { ReadsOffered plus size items.now w.old result.answer result.taken w.new }
+{
+    let mut written = 0;
+    let mut taken = 0;
+    'items: for offered in items {
+        match CStr::from_bytes_with_nul(offered.name) {
+            None => {
+                return Listed {
+                    answer: Ok(written),
+                    taken,
+                };
+            }
+            Some(name) => match add_item(offered, name, plus, size - written, w) {
+                Ok(0) => {
+                    return Listed {
+                        answer: Ok(written),
+                        taken,
+                    };
+                }
+                Ok(len) => {
+                    written += len;
+                    taken += 1;
+                }
+                Err(fault) => return tell(plus, written, taken, fault),
+            },
+        }
+    }
+    Listed {
+        answer: Ok(written),
+        taken,
+    }
+}
