@@ -2,3 +2,4 @@ pub mod Behind
 pub mod Told
 pub mod Putting
 pub mod Taking
+pub mod Listed

@@ -1,5 +1,5 @@
 -- The items of a directory that are offered to a reply, and those that are taken.
-use Rattle.std.specs.Prelude.{◌≡◌, ◌≢◌, ⊤, ℕ, pos, length, List, [], ◌∷◌, ◌++◌, Bool, true, false, Option, None, Some, Result, Ok, Err, sum_by}
+use Rattle.std.specs.Prelude.{◌≡◌, ◌≢◌, ◌⊎◌, ⊤, ℕ, pos, length, List, [], ◌∷◌, ◌++◌, Bool, true, false, Option, None, Some, Result, Ok, Err, sum_by}
 use Rattle.std.specs.List.{flat_map}
 use Rattle.vfs_segments.specs.Written.{Written}
 use Rattle.vfs_files.specs.Entries.{entry_out_of}
@@ -8,7 +8,9 @@ use Rattle.vfs_files.specs.Names.{name_of}
 use Rattle.vfs_grammar.specs.Listing.{Got, Line, Stop, End, At, is_dot, IsGot, AreWritten, Stops, answer_of, line_len, line_bytes}
 use Rattle.vfs_listings.specs.Reading.{AddsGot, Puts, cut_short}
 use Rattle.vfs_calls.specs.Values.{IsFaultOf, entry_out_for}
+use Rattle.vfs_calls.specs.declared.data.AnswerData.{AnswerData}
 use Rattle.vfs_calls.specs.declared.data.ItemData.{ItemData}
+use Rattle.vfs_answer.specs.Said.{IsFailed}
 
 -- an item with this name
 abbrev pub item_told : ItemData → (name : List ℕ) → Item
@@ -73,3 +75,10 @@ pub record ReadsOffered (plus : Bool) (size : ℕ) (items : List ItemData) (old 
   pub taken_is : taken ≡ taken_by answer (length lines)
   pub puts : Puts old
       (flat_map line_bytes lines ++ cut_short size (length old.left) (sum_by line_len lines) stop) new
+
+-- The same, or where the directory was not opened the fault is the answer, and nothing was put.
+abbrev pub ListsOffered : (plus : Bool) (size : ℕ) → AnswerData → (items : List ItemData) → (old : Written)
+    → (answer : Result ℕ (Option ℕ)) → (taken : ℕ) → (new : Written) → Type 0
+ListsOffered plus size a items old answer taken new =
+    ((fault : Option ℕ) × IsFailed a fault × (answer ≡ Err fault) × (taken ≡ 0) × (new ≡ old))
+    ⊎ ((a.error ≡ pos 0) × ReadsOffered plus size items old answer taken new)

@@ -1,20 +1,27 @@
 //! The answer to a call, by its kind.
 
-ghost use Rattle.std.specs.Prelude.{◌≡◌, ◌≢◌, ℕ, List, length, Some};
-ghost use Rattle.vfs_files.specs.Answers.{Data};
+ghost use Rattle.std.specs.Prelude.{◌≡◌, ◌≢◌, ◌==◌, ◌<◌, ◌-◌, ◌^◌, ℕ, List, length, not, bit_and, IfOk, Some};
+ghost use Rattle.vfs_segments.specs.Written.{Written};
+ghost use Rattle.vfs_files.specs.Answers.{Counts, Data, IsAnswer, Iterators, read_answer};
+ghost use Rattle.vfs_messages.specs.Rooms.{PutsBehindHeader, Replies};
+ghost use Rattle.vfs_grammar.specs.Reply.{reply_to};
 ghost use Rattle.vfs_grammar.specs.Limits.{AreLimits};
 ghost use Rattle.vfs_grammar.specs.declared.limits.Limits.{Limits};
 ghost use Rattle.vfs_answer.specs.Kinds.{kind_told};
-ghost use Rattle.vfs_answer.specs.Answering.{AnswersCall};
+ghost use Rattle.vfs_answer.specs.Answering.{can_answer, AnswersCall, AnswersDirectory};
+ghost use Rattle.vfs_answer.specs.Offered.{ListsOffered};
 
 use crate::answered::Answered;
+use crate::listing::{Listed, put_items};
 use crate::reply::{
     put_agreed, put_attributes, put_created, put_data, put_done, put_entry, put_fault, put_fault_alone,
     put_nothing, put_offset, put_opened, put_statistics, put_text, put_value, put_written,
 };
 use crate::value;
-use vfs_calls::{AnswerData, CallData, kind};
+use vfs_calls::{AnswerData, CallData, ItemData, has, kind};
+use vfs_flags::MAX_REPLY_DATA;
 use vfs_grammar::Limits;
+use vfs_messages::{hold_header, reply_data};
 use vfs_segments::Writer;
 use vfs_wire::{ByteValued, OutHeader};
 
@@ -62,4 +69,76 @@ fn answer_read(call: &CallData, answer: &AnswerData, w: &mut Writer) -> Option<A
         return None;
     }
     Some(put_data(call, value::data(call, answer), w))
+}
+
+/// Whether the call is a READDIRPLUS.
+fn is_plus(call: &CallData) -> bool
+    ensures { result ≡ not (bit_and call.now.has 512 == 0) }
+{
+    call.has & has::PLUS != 0
+}
+
+/// Puts the records of the items that were offered, or answers the fault.
+fn list(
+    call: &CallData,
+    answer: &AnswerData,
+    items: &[ItemData<'_>],
+    w: &mut Writer,
+) -> Listed
+    ensures { ListsOffered (not (bit_and call.now.has 512 == 0)) call.now.size answer.now items.now
+        w.old result.answer result.taken w.new }
+{
+    match value::done(answer) {
+        Ok(()) => put_items(items, is_plus(call), call.size as usize, w),
+        Err(fault) => Listed {
+            answer: Err(fault),
+            taken: 0,
+        },
+    }
+}
+
+/// Whether a READDIR or READDIRPLUS can be answered in this room.
+fn can_list(call: &CallData, room: usize) -> bool
+    ensures { result ≡ can_answer (Some Iterators) call.now room }
+{
+    room as u64 == call.room && room >= OutHeader::SIZE && call.size <= MAX_REPLY_DATA
+}
+
+/// Fills in the header of what was put of a directory.
+fn answer_listed(call: &CallData, listed: Listed, w: &mut Writer) -> Answered
+    requires held { w.old.held ≡ 16 }
+    requires short { IfOk listed.answer (λ count. count < 2 ^ 32 - 16) }
+    ensures replied { (old : Written) (bytes : List ℕ) (size : ℕ) →
+        PutsBehindHeader old bytes w.old → Counts listed.answer bytes size →
+        Replies (reply_to call.now.unique (Data size) (read_answer listed.answer bytes))
+        old result.outcome w.new }
+    ensures kind { (bytes : List ℕ) (size : ℕ) → Counts listed.answer bytes size →
+        IsAnswer (Data size) (read_answer listed.answer bytes) }
+    ensures options { result.options ≡ call.now.options }
+    ensures given { result.given ≡ 0 }
+    ensures taken { result.taken ≡ listed.taken }
+{
+    let outcome = reply_data(listed.answer, call.unique, w);
+    Answered {
+        taken: listed.taken,
+        ..Answered::plain(call, outcome)
+    }
+}
+
+/// Answers a READDIR or READDIRPLUS of the items that were offered.
+fn answer_directory(
+    call: &CallData,
+    answer: &AnswerData,
+    items: &[ItemData<'_>],
+    w: &mut Writer,
+) -> Option<Answered>
+    ensures { AnswersDirectory call.now answer.now items.now w.old result w.new }
+{
+    if !can_list(call, w.available_bytes()) {
+        return None;
+    }
+    match hold_header(w) {
+        Ok(()) => Some(answer_listed(call, list(call, answer, items, w), w)),
+        Err(_) => None,
+    }
 }
