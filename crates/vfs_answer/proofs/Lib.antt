@@ -3,3 +3,4 @@ pub mod Told
 pub mod Putting
 pub mod Taking
 pub mod Listed
+pub mod Telling

@@ -3,3 +3,4 @@ pub mod Said
 pub mod Offered
 pub mod Listing
 pub mod Answering
+pub mod Told

@@ -3,10 +3,11 @@
 //! Nothing here sees the request again, calls a file system or takes memory.
 #![tactic(auto)]
 
-mod answer;
+mod call;
 mod answered;
 mod listing;
 mod reply;
 mod value;
 
 pub use answered::Answered;
+pub use call::answer;

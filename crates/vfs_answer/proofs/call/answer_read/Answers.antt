@@ -2,7 +2,7 @@
 use Rattle.std.proofs.Common.{◌≡◌, ◌≤◌, ◌&&◌, nat_le, true, length, arith}
 use Rattle.std.proofs.lemmas.Bool.Decides.{nat_tests}
 use Rattle.vfs_answer.proofs.Told.{read_answered}
-use Rattle.vfs_answer.proofs.answer.answer_read.Goals as goal
+use Rattle.vfs_answer.proofs.call.answer_read.Goals as goal
 
 pub returns : goal.returns
 returns c limits text =

@@ -8,8 +8,9 @@ ghost use Rattle.vfs_grammar.specs.Reply.{reply_to};
 ghost use Rattle.vfs_grammar.specs.Limits.{AreLimits};
 ghost use Rattle.vfs_grammar.specs.declared.limits.Limits.{Limits};
 ghost use Rattle.vfs_answer.specs.Kinds.{kind_told};
-ghost use Rattle.vfs_answer.specs.Answering.{can_answer, AnswersCall, AnswersDirectory};
+ghost use Rattle.vfs_answer.specs.Answering.{can_answer, Answers, AnswersCall, AnswersDirectory};
 ghost use Rattle.vfs_answer.specs.Offered.{ListsOffered};
+ghost use Rattle.vfs_answer.specs.Told.{AnswersEachCall, AnswersEachListing};
 
 use crate::answered::Answered;
 use crate::listing::{Listed, put_items};
@@ -141,4 +142,54 @@ fn answer_directory(
         Ok(()) => Some(answer_listed(call, list(call, answer, items, w), w)),
         Err(_) => None,
     }
+}
+
+/// Answers a call by its kind.
+fn answer_kind(
+    limits: Limits,
+    call: &CallData,
+    answer: &AnswerData,
+    text: &[u8],
+    items: &[ItemData<'_>],
+    w: &mut Writer,
+) -> Option<Answered>
+    requires { AreLimits limits }
+    ensures { Answers limits (kind_told call.now.answer call.now.size) call.now answer.now text.now
+        items.now w.old result w.new }
+{
+    match call.answer {
+        kind::DATA => answer_read(call, answer, w),
+        kind::DIRECTORY => answer_directory(call, answer, items, w),
+        _ if w.available_bytes() as u64 == call.room => {
+            answer_told(limits, call, answer, text, w)
+        }
+        _ => None,
+    }
+}
+
+/// Answers a call: puts the reply into the room that `w` has left. Of a READ only the header is put, and what
+/// stands behind it is not touched: there the data are.
+///
+/// `text` is the text of a link, the value of an extended attribute, or the names of all, where the answer is one,
+/// and `items` are those of a directory, one after another from the offset that was asked for, up to the first
+/// whose name is none.
+///
+/// None where the data can't be those of a call that is to be answered in this room: their kind is none, or the room
+/// is not as long as it was at the call. Then nothing is put. The room of a READ may be shorter, but not than a
+/// header.
+pub fn answer(
+    limits: Limits,
+    call: &CallData,
+    answer: &AnswerData,
+    text: &[u8],
+    items: &[ItemData<'_>],
+    w: &mut Writer,
+) -> Option<Answered>
+    requires { AreLimits limits }
+    ensures by_kind { Answers limits (kind_told call.now.answer call.now.size) call.now answer.now text.now
+        items.now w.old result w.new }
+    ensures calls { AnswersEachCall limits call.now answer.now text.now w.old result w.new }
+    ensures listings { AnswersEachListing limits call.now answer.now items.now w.old result w.new }
+{
+    answer_kind(limits, call, answer, text, items, w)
 }

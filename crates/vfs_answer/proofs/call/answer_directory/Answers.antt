@@ -5,7 +5,7 @@ use Rattle.vfs_files.specs.Calls.{Iterators}
 use Rattle.vfs_answer.specs.Answering.{can_answer}
 use Rattle.vfs_answer.specs.Offered.{ListsOffered}
 use Rattle.vfs_answer.proofs.Listed.{short, listed, can_facts}
-use Rattle.vfs_answer.proofs.answer.answer_directory.Goals as goal
+use Rattle.vfs_answer.proofs.call.answer_directory.Goals as goal
 
 pub answer_listed-requires-clause-short : goal.answer_listed-requires-clause-short
 answer_listed-requires-clause-short c =

@@ -5,7 +5,7 @@ use Rattle.vfs_files.specs.Answers.{Quiet, Told, Untold, Agreements, Entries, Ti
 use Rattle.vfs_answer.specs.Kinds.{kind_told}
 use Rattle.vfs_answer.specs.Said.{text_said, value_said}
 use Rattle.vfs_answer.proofs.Told.{answered}
-use Rattle.vfs_answer.proofs.answer.answer_told.Goals as goal
+use Rattle.vfs_answer.proofs.call.answer_told.Goals as goal
 
 pub returns-in-0 : goal.returns-in-0
 returns-in-0 c =
