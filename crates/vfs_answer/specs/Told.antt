@@ -1,11 +1,13 @@
 -- Which calls the data of a call tell, and what comes of the answer to each.
-use Rattle.std.specs.Prelude.{◌≡◌, ◌≢◌, ◌+◌, ⊤, ℕ, List, length, unwrap_or, Option, None, MatchOption, Result}
+use Rattle.std.specs.Prelude.{◌≡◌, ◌≢◌, ◌⊎◌, ◌<◌, ◌≤◌, ◌+◌, ◌-◌, ◌^◌, ⊤, ℕ, List, length, unwrap_or, Option, None, MatchOption, Result}
+use Rattle.vfs_wire.specs.Headers.{out_header}
 use Rattle.vfs_segments.specs.Written.{Written}
-use Rattle.vfs_files.specs.Calls.{Call, Init, kind_of, Answer, IsAnswer, Data, Iterators, read_answer}
+use Rattle.vfs_files.specs.Calls.{Call, Init, Kind, kind_of, Answer, IsAnswer, Data, Iterators, read_answer}
 use Rattle.vfs_files.specs.Runs.{Event}
 use Rattle.vfs_messages.specs.Rooms.{Replies}
 use Rattle.vfs_grammar.specs.Forms.{Listing}
 use Rattle.vfs_grammar.specs.Options.{options_after}
+use Rattle.vfs_grammar.specs.Records.{size_of}
 use Rattle.vfs_grammar.specs.Reply.{Echo, reply_of}
 use Rattle.vfs_grammar.specs.Room.{unseen}
 use Rattle.vfs_grammar.specs.Turn.{IsRead, node_answered}
@@ -56,15 +58,23 @@ pub record CallIsAnswered (limits : Limits) (echo : Echo) (call : Call) (options
       ≡ unwrap_or (unseen (length old.left) (reply_of limits echo came.options (kind_of call) answer)
       (node_answered (kind_of call) answer)) 0
   pub kept : KeepsData (kind_of call) old new
+  pub none_taken : came.taken ≡ 0
 
--- each call that these data tell was answered, whatever stands behind the room that was written
+-- The room of a writer is too short for an answer: of a READ for the header, else for what was told at the call, of
+-- which so much stands behind.
+abbrev pub IsShort : Kind → (space behind : ℕ) → Type 0
+IsShort (Data size) space behind = space < size_of out_header
+IsShort kind space behind = 0 < behind
+
+-- Each call that these data tell was answered, whatever stands behind the writer's room up to the room that was told
+-- at the call; only where the writer's is too short it wasn't.
 abbrev pub AnswersEachCall : Limits → CallData → AnswerData → (text : List ℕ) → (old : Written) → Option Answered
     → (new : Written) → Type 0
 AnswersEachCall limits told a text old result new =
     (echo : Echo) (call : Call) (behind : List ℕ)
     → TellsEcho told echo → TellsCall told call → kind_of call ≢ Iterators
     → length old.left + length behind ≡ told.room
-    → MatchOption result ⊤ (λ came.
+    → MatchOption result (IsShort (kind_of call) (length old.left) (length behind)) (λ came.
     CallIsAnswered limits echo call told.options a text (with_behind old behind) came (with_behind new behind))
 
 -- A directory was read from the items that were offered: its records are the reply, by the rule of rooms.
@@ -82,10 +92,11 @@ pub record ListingIsAnswered (limits : Limits) (echo : Echo) (listing : Listing)
   pub same_options : came.options ≡ options
   pub none_given : came.given ≡ 0
 
--- each directory that these data tell was read
+-- Each directory that these data tell was read, where there is the room that was told at the call; only where that has
+-- no place for a header, or more was asked for than a reply can have, it wasn't.
 abbrev pub AnswersEachListing : Limits → CallData → AnswerData → (items : List ItemData) → (old : Written)
     → Option Answered → (new : Written) → Type 0
 AnswersEachListing limits told a items old result new =
     (echo : Echo) (listing : Listing)
-    → TellsEcho told echo → TellsListing told listing
-    → MatchOption result ⊤ (λ came. ListingIsAnswered limits echo listing told.options a items old came new)
+    → TellsEcho told echo → TellsListing told listing → length old.left ≡ told.room
+    → MatchOption result ((length old.left < size_of out_header) ⊎ (2 ^ 32 - 16 ≤ listing.size)) (λ came. ListingIsAnswered limits echo listing told.options a items old came new)

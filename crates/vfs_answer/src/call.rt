@@ -91,10 +91,7 @@ fn list(
 {
     match value::done(answer) {
         Ok(()) => put_items(items, is_plus(call), call.size as usize, w),
-        Err(fault) => Listed {
-            answer: Err(fault),
-            taken: 0,
-        },
+        Err(fault) => Listed::failed(fault),
     }
 }
 

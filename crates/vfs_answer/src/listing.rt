@@ -25,6 +25,28 @@ pub(crate) struct Listed {
     pub taken: usize,
 }
 
+impl Listed {
+    /// So many bytes of records, of so many items.
+    fn of(written: usize, taken: usize) -> Listed
+        ensures { result ≡ record { answer = Ok written; taken = taken } }
+    {
+        Listed {
+            answer: Ok(written),
+            taken,
+        }
+    }
+
+    /// The fault in place of records: no item is in the reply.
+    pub(crate) fn failed(fault: Fault) -> Listed
+        ensures { result ≡ record { answer = Err fault; taken = 0 } }
+    {
+        Listed {
+            answer: Err(fault),
+            taken: 0,
+        }
+    }
+}
+
 /// Whether a name is `.` or `..`.
 fn is_dot(name: &[u8]) -> bool
     ensures { result ≡ is_dot name.now }
@@ -115,14 +137,9 @@ fn tell(plus: bool, written: usize, taken: usize, fault: Fault) -> Listed
     ensures taken { result.taken ≡ taken_by result.answer taken }
 {
     if plus && written > 0 {
-        return Listed {
-            answer: Ok(written),
-            taken,
-        };
-    }
-    Listed {
-        answer: Err(fault),
-        taken: 0,
+        Listed::of(written, taken)
+    } else {
+        Listed::failed(fault)
     }
 }
 
@@ -135,19 +152,9 @@ pub(crate) fn put_items(items: &[ItemData<'_>], plus: bool, size: usize, w: &mut
     let mut taken = 0;
     'items: for offered in items {
         match CStr::from_bytes_with_nul(offered.name) {
-            None => {
-                return Listed {
-                    answer: Ok(written),
-                    taken,
-                };
-            }
+            None => return Listed::of(written, taken),
             Some(name) => match add_item(offered, name, plus, size - written, w) {
-                Ok(0) => {
-                    return Listed {
-                        answer: Ok(written),
-                        taken,
-                    };
-                }
+                Ok(0) => return Listed::of(written, taken),
                 Ok(len) => {
                     written += len;
                     taken += 1;
@@ -156,8 +163,5 @@ pub(crate) fn put_items(items: &[ItemData<'_>], plus: bool, size: usize, w: &mut
             },
         }
     }
-    Listed {
-        answer: Ok(written),
-        taken,
-    }
+    Listed::of(written, taken)
 }

@@ -6,13 +6,14 @@ pub items-init : goal.items-init
 items-init c = taking_start c.args.plus c.args.size c.args.items.now c.args.w.now
 
 pub returns-in-None : goal.returns-in-None
-returns-in-None c = taking_unnamed _ _ _ _ c.items.invariant _ c.items-test.true c.in-None.ensures
+returns-in-None c = rw c.of.ensures (taking_unnamed _ _ _ _ c.items.invariant _ c.items-test.true c.in-None.ensures)
 
 pub overflow_sub-size : goal.overflow_sub-size
 overflow_sub-size c = c.items.invariant.within
 
 pub returns-in-Ok-eq0 : goal.returns-in-Ok-eq0
-returns-in-Ok-eq0 c = taking_full _ _ _ _ c.items.invariant _ c.items-test.true (rw c.in-Ok-eq0.field-0-test at c.in-Ok-eq0.ensures)
+returns-in-Ok-eq0 c =
+    rw c.of-in-Ok-eq0.ensures (taking_full _ _ _ _ c.items.invariant _ c.items-test.true (rw c.in-Ok-eq0.field-0-test at c.in-Ok-eq0.ensures))
 
 pub returns-in-Err : goal.returns-in-Err
 returns-in-Err c = taking_failed _ _ _ _ c.items.invariant _ c.items-test.true c.in-Err.ensures c.tell.ensures.answer c.tell.ensures.taken
@@ -21,4 +22,4 @@ pub items-preserved : goal.items-preserved
 items-preserved c = taking_more _ _ _ _ c.items.invariant _ c.items-test.true c.in-Ok.ensures (omega arith)
 
 pub returns : goal.returns
-returns c = taking_end _ _ _ _ c.items.invariant (omega arith)
+returns c = rw c.of-2.ensures (taking_end _ _ _ _ c.items.invariant (omega arith))
