@@ -4,3 +4,4 @@ pub mod Putting
 pub mod Taking
 pub mod Listed
 pub mod Telling
+pub mod Using

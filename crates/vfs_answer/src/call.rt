@@ -1,6 +1,6 @@
 //! The answer to a call, by its kind.
 
-ghost use Rattle.std.specs.Prelude.{◌≡◌, ◌≢◌, ◌==◌, ◌<◌, ◌-◌, ◌^◌, ℕ, List, length, not, bit_and, IfOk, Some};
+ghost use Rattle.std.specs.Prelude.{◌≡◌, ◌≢◌, ◌==◌, ◌<◌, ◌≤◌, ◌-◌, ◌^◌, ℕ, List, length, not, bit_and, IfOk, IfSome, Some};
 ghost use Rattle.vfs_segments.specs.Written.{Written};
 ghost use Rattle.vfs_files.specs.Answers.{Counts, Data, IsAnswer, Iterators, read_answer};
 ghost use Rattle.vfs_messages.specs.Rooms.{PutsBehindHeader, Replies};
@@ -38,8 +38,9 @@ fn answer_told(
     requires room { length w.old.left ≡ call.now.room }
     requires no_data { call.now.answer ≢ 3 }
     requires no_directory { call.now.answer ≢ 14 }
-    ensures { AnswersCall limits (kind_told call.now.answer call.now.size) call.now answer.now text.now
-        w.old result w.new }
+    ensures answers { AnswersCall limits (kind_told call.now.answer call.now.size) call.now answer.now
+        text.now w.old result w.new }
+    ensures none_taken { IfSome result (λ came. came.taken ≡ 0) }
 {
     match call.answer {
         kind::QUIET => Some(put_nothing(call, w)),
@@ -62,8 +63,9 @@ fn answer_told(
 
 /// Answers a READ, whose data stand behind the place of the reply's header: that alone is put.
 fn answer_read(call: &CallData, answer: &AnswerData, w: &mut Writer) -> Option<Answered>
-    ensures { (limits : Limits) (text : List ℕ) →
+    ensures answers { (limits : Limits) (text : List ℕ) →
         AnswersCall limits (Some (Data call.now.size)) call.now answer.now text w.old result w.new }
+    ensures none_taken { IfSome result (λ came. came.taken ≡ 0) }
 {
     let room = w.available_bytes();
     if room < OutHeader::SIZE || room as u64 > call.room {
@@ -86,8 +88,9 @@ fn list(
     items: &[ItemData<'_>],
     w: &mut Writer,
 ) -> Listed
-    ensures { ListsOffered (not (bit_and call.now.has 512 == 0)) call.now.size answer.now items.now
+    ensures lists { ListsOffered (not (bit_and call.now.has 512 == 0)) call.now.size answer.now items.now
         w.old result.answer result.taken w.new }
+    ensures within { result.taken ≤ length items.now }
 {
     match value::done(answer) {
         Ok(()) => put_items(items, is_plus(call), call.size as usize, w),
@@ -130,7 +133,8 @@ fn answer_directory(
     items: &[ItemData<'_>],
     w: &mut Writer,
 ) -> Option<Answered>
-    ensures { AnswersDirectory call.now answer.now items.now w.old result w.new }
+    ensures answers { AnswersDirectory call.now answer.now items.now w.old result w.new }
+    ensures within { IfSome result (λ came. came.taken ≤ length items.now) }
 {
     if !can_list(call, w.available_bytes()) {
         return None;
@@ -151,8 +155,9 @@ fn answer_kind(
     w: &mut Writer,
 ) -> Option<Answered>
     requires { AreLimits limits }
-    ensures { Answers limits (kind_told call.now.answer call.now.size) call.now answer.now text.now
+    ensures answers { Answers limits (kind_told call.now.answer call.now.size) call.now answer.now text.now
         items.now w.old result w.new }
+    ensures within { IfSome result (λ came. came.taken ≤ length items.now) }
 {
     match call.answer {
         kind::DATA => answer_read(call, answer, w),
@@ -187,6 +192,7 @@ pub fn answer(
         items.now w.old result w.new }
     ensures calls { AnswersEachCall limits call.now answer.now text.now w.old result w.new }
     ensures listings { AnswersEachListing limits call.now answer.now items.now w.old result w.new }
+    ensures within { IfSome result (λ came. came.taken ≤ length items.now) }
 {
     answer_kind(limits, call, answer, text, items, w)
 }

@@ -3,10 +3,11 @@
 //! Nothing here sees the request again, calls a file system or takes memory.
 #![tactic(auto)]
 
-mod call;
 mod answered;
+mod call;
 mod listing;
 mod reply;
+mod uses;
 mod value;
 
 pub use answered::Answered;

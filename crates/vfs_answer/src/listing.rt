@@ -1,6 +1,6 @@
 //! The records of a directory, from the items that were offered.
 
-ghost use Rattle.std.specs.Prelude.{◌≡◌, ◌==◌, ◌⊎◌, bit_and, not, pos, length, Ok, Err, Some, IfOk};
+ghost use Rattle.std.specs.Prelude.{◌≡◌, ◌≤◌, length, Ok, Err, Some};
 ghost use Rattle.vfs_files.specs.Entries.{entry_out_of};
 ghost use Rattle.vfs_files.specs.Items.{item};
 ghost use Rattle.vfs_files.specs.Names.{name_of, name_text};
@@ -135,6 +135,7 @@ fn add_item(
 fn tell(plus: bool, written: usize, taken: usize, fault: Fault) -> Listed
     ensures answer { result.answer ≡ told plus written fault }
     ensures taken { result.taken ≡ taken_by result.answer taken }
+    ensures within { result.taken ≤ taken }
 {
     if plus && written > 0 {
         Listed::of(written, taken)
@@ -146,7 +147,8 @@ fn tell(plus: bool, written: usize, taken: usize, fault: Fault) -> Listed
 /// Puts the records of items, at most `size` bytes of them, where `plus` with their entries, up to the first
 /// item that isn't written, or whose name is none.
 pub(crate) fn put_items(items: &[ItemData<'_>], plus: bool, size: usize, w: &mut Writer) -> Listed
-    ensures { ReadsOffered plus size items.now w.old result.answer result.taken w.new }
+    ensures reads { ReadsOffered plus size items.now w.old result.answer result.taken w.new }
+    ensures within { result.taken ≤ length items.now }
 {
     let mut written = 0;
     let mut taken = 0;

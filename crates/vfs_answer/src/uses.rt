@@ -1,0 +1,91 @@
+//! Answers of calls.
+
+ghost use Rattle.std.specs.Prelude.{◌≡◌, ◌≢◌, ◌<◌, ℕ, List, Option, length, drop, bit_and, pos, Some, Err, MatchOption};
+ghost use Rattle.vfs_flags.specs.Flags.{known_fs_options};
+ghost use Rattle.vfs_files.specs.Calls.{Getattr, Init, Lookup};
+ghost use Rattle.vfs_files.specs.declared.entry.Context.{Context};
+ghost use Rattle.vfs_grammar.specs.Forms.{Listing};
+ghost use Rattle.vfs_grammar.specs.Limits.{AreLimits};
+ghost use Rattle.vfs_grammar.specs.Options.{agreed};
+ghost use Rattle.vfs_grammar.specs.Reply.{Bytes, Echo, fault_reply};
+ghost use Rattle.vfs_messages.specs.Rooms.{Replies};
+ghost use Rattle.vfs_answer.specs.Told.{TellsCall, TellsEcho, TellsListing};
+
+use crate::answered::Answered;
+use crate::call::answer;
+use vfs_calls::{AnswerData, CallData, EntryData, ItemData};
+use vfs_grammar::{Error, Limits};
+use vfs_segments::Writer;
+
+/// Answers a GETATTR by the fault EIO, which is 5.
+fn refuse_getattr(limits: Limits, call: &CallData, w: &mut Writer) -> Option<Answered>
+    requires limits { AreLimits limits }
+    requires room { length w.old.left ≡ call.now.room }
+    ensures { (echo : Echo) (ctx : Context) (node : ℕ) (handle : Option ℕ) →
+        TellsEcho call.now echo → TellsCall call.now (Getattr ctx node handle) →
+        MatchOption result ⊥ (λ came.
+        Replies (Bytes (fault_reply (Some 5) echo.unique)) w.old came.outcome w.new
+        × (came.options ≡ call.now.options) × (came.given ≡ 0)) }
+{
+    let refusal = AnswerData {
+        error: 5,
+        ..AnswerData::default()
+    };
+    answer(limits, call, &refusal, &[], &[], w)
+}
+
+/// Answers a LOOKUP by an entry for which there is no room: it is to be given back.
+fn find_without_room(limits: Limits, call: &CallData, node: u64, w: &mut Writer) -> Option<Answered>
+    requires limits { AreLimits limits }
+    requires room { length w.old.left ≡ call.now.room }
+    requires small { length w.old.left < 144 }
+    ensures { (echo : Echo) (ctx : Context) (parent : ℕ) (name : List ℕ) →
+        TellsEcho call.now echo → TellsCall call.now (Lookup ctx parent name) →
+        MatchOption result ⊥ (λ came.
+        (came.given ≡ node) × (came.outcome ≡ Err Error.EncodeMessage)) }
+{
+    let entry = EntryData {
+        node,
+        ..EntryData::default()
+    };
+    let found = AnswerData {
+        error: 0,
+        entry,
+        ..AnswerData::default()
+    };
+    answer(limits, call, &found, &[], &[], w)
+}
+
+/// Answers an INIT that these options are wanted: of those that it offers they are agreed on, with those
+/// that the server supports.
+fn agree(limits: Limits, call: &CallData, want: u64, w: &mut Writer) -> Option<Answered>
+    requires limits { AreLimits limits }
+    requires room { length w.old.left ≡ call.now.room }
+    ensures { (echo : Echo) (offered : ℕ) →
+        TellsEcho call.now echo → TellsCall call.now (Init offered) →
+        MatchOption result ⊥ (λ came.
+        came.options ≡ agreed offered (bit_and want known_fs_options)) }
+{
+    let wanted = AnswerData {
+        error: 0,
+        count: want,
+        ..AnswerData::default()
+    };
+    answer(limits, call, &wanted, &[], &[], w)
+}
+
+/// Answers a READDIR or READDIRPLUS of these items, and tells those that are not in the reply.
+fn list_and_rest<'a>(
+    limits: Limits,
+    call: &CallData,
+    items: &'a [ItemData<'a>],
+    w: &mut Writer,
+) -> &'a [ItemData<'a>]
+    requires { AreLimits limits }
+{
+    let opened = AnswerData::default();
+    match answer(limits, call, &opened, &[], items, w) {
+        Some(came) => &items[came.taken..],
+        None => items,
+    }
+}
