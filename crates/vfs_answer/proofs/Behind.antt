@@ -1,11 +1,11 @@
 -- A reply whose header alone is put: its data stand behind the header already, in the writer's room or further
 -- behind.
-use Rattle.std.proofs.Common.{◌≡◌, ◌≤◌, ◌+◌, ◌∙◌, ℕ, List, [], ◌++◌, length, take, drop, pos, Option, Result, Ok, refl, ap, sym, subst, arith, append_assoc, append-nil, length-append, length-take, length-drop}
+use Rattle.std.proofs.Common.{◌≡◌, ◌≤◌, ◌+◌, ◌∙◌, ℕ, List, ◌++◌, length, take, drop, Option, Result, Ok, refl, ap, sym, arith, append_assoc, append-nil, length-append, length-take, length-drop}
 use Rattle.std.proofs.lemmas.List.{take_at, drop-append-le, take-append-drop, nil_from_length}
 use Rattle.vfs_wire.specs.Fields.{bytes_of}
 use Rattle.vfs_wire.specs.Headers.{out_header}
 use Rattle.vfs_segments.specs.Written.{Written, whole, wrote}
-use Rattle.vfs_messages.specs.Rooms.{data_header, Replies, Writes}
+use Rattle.vfs_messages.specs.Rooms.{data_header, Replies}
 use Rattle.vfs_grammar.specs.Reply.{Bytes, OpenBehind, body_reply, fault_reply}
 use Rattle.vfs_grammar.specs.declared.error.Error.{Error}
 use Rattle.vfs_grammar.proofs.Rooms.{length-header, length-body_reply, length-fault_reply, put_outcome-fits, put_room-fits}

@@ -1,5 +1,5 @@
 -- The reply to a READDIR or READDIRPLUS, of the items that were offered.
-use Rattle.std.proofs.Common.{◌≡◌, ◌≤◌, ◌<◌, ◌+◌, ◌-◌, ◌^◌, ◌⊎◌, ℕ, pos, Bool, true, false, ◌&&◌, ◌==◌, nat_le, nat_lt, List, [], ◌∷◌, ◌++◌, length, Option, Result, Ok, Err, IfOk, inl, inr, refl, sym, ap, subst, ◌∙◌, arith, append-nil, length-drop, sum_by}
+use Rattle.std.proofs.Common.{◌≡◌, ◌≤◌, ◌<◌, ◌-◌, ◌^◌, ℕ, pos, Bool, true, false, ◌&&◌, ◌==◌, nat_le, nat_lt, List, [], ◌∷◌, ◌++◌, length, Option, Result, Ok, Err, IfOk, inl, inr, refl, sym, ap, subst, ◌∙◌, arith, append-nil, length-drop, sum_by}
 use Rattle.std.proofs.lemmas.Bool.Decides.{nat_tests}
 use Rattle.std.specs.List.{flat_map}
 use Rattle.vfs_segments.specs.Written.{Written, Moves, held_over}
@@ -7,12 +7,10 @@ use Rattle.vfs_files.specs.declared.entry.Context.{Context}
 use Rattle.vfs_files.specs.Calls.{Readdir, Failed, Data, Counts, IsAnswer, read_answer}
 use Rattle.vfs_files.specs.Runs.{Event, Called, OpenedDirectory}
 use Rattle.vfs_messages.specs.Rooms.{PutsBehindHeader, Replies}
-use Rattle.vfs_grammar.specs.Forms.{Listing}
 use Rattle.vfs_grammar.specs.Listing.{Line, Stop, IsListing, AreWritten, Stops, answer_of, line_events, stop_events, line_bytes, line_len}
 use Rattle.vfs_grammar.specs.Reply.{reply_to}
-use Rattle.vfs_grammar.specs.declared.error.Error.{Error}
 use Rattle.vfs_grammar.proofs.Listings.{length-listing, listing_within}
-use Rattle.vfs_listings.specs.Reading.{Puts, cut_short}
+use Rattle.vfs_listings.specs.Reading.{Puts}
 use Rattle.vfs_calls.specs.declared.call.CallData.{CallData}
 use Rattle.vfs_calls.specs.declared.data.AnswerData.{AnswerData}
 use Rattle.vfs_calls.specs.declared.data.ItemData.{ItemData}

@@ -1,5 +1,5 @@
 -- A record that was added, or why it wasn't.
-use Rattle.std.proofs.Common.{◌≡◌, ◌≢◌, ◌≤◌, ◌<◌, ◌+◌, ℕ, List, [], ◌++◌, Option, Some, None, Result, Ok, Err, length, take, arith, refl, ap, ◌∙◌, length-append, length-drop, length-take}
+use Rattle.std.proofs.Common.{◌≡◌, ◌≢◌, ◌<◌, ◌+◌, ℕ, List, [], ◌++◌, Option, Some, None, Result, Ok, Err, length, arith, refl, ap, ◌∙◌, length-append, length-drop, length-take}
 use Rattle.std.proofs.Math.Seq.{take-nil}
 use Rattle.vfs_segments.specs.Written.{Written, wrote}
 use Rattle.vfs_files.specs.Items.{Item}

@@ -1,6 +1,6 @@
 -- The loop over the items that are offered: one more is taken, and each stop.
 use Rattle.std.proofs.Common.{◌≡◌, ◌≢◌, ◌≤◌, ◌<◌, ◌+◌, ◌-◌, ℕ, suc, List, [], ◌∷◌, ◌++◌, Bool, Option, None, Result, Ok, Err, length, take, drop, get_or, arith, refl, sym, ap, subst, ◌∙◌, sum_by, append-nil}
-use Rattle.std.proofs.Math.Seq.{drop-cons, take-length}
+use Rattle.std.proofs.Math.Seq.{drop-cons}
 use Rattle.std.proofs.lemmas.List.{length_push, take_more, take_all, take-append-drop}
 use Rattle.std.proofs.lemmas.List.Sums.{sum_by_push, sum_by-cons}
 use Rattle.std.proofs.lemmas.Grind.{flat_map-append}

@@ -1,6 +1,6 @@
 -- What is told of a call is told of its kind.
-use Rattle.std.proofs.Common.{◌≡◌, ◌≢◌, ◌==◌, ◌&&◌, ◌⊎◌, ◌<◌, ◌≤◌, ◌+◌, ◌-◌, ◌^◌, ℕ, List, ◌++◌, length, Bool, true, false, nat_le, nat_lt, inl, inr, Option, Some, None, MatchOption, Result, refl, sym, ap, subst, ◌∙◌, arith}
-use Rattle.std.specs.Prelude.{if◌then◌else◌, ⊤, unwrap_or}
+use Rattle.std.proofs.Common.{◌≡◌, ◌≢◌, ◌==◌, ◌&&◌, ◌⊎◌, ◌<◌, ◌≤◌, ◌+◌, ◌-◌, ◌^◌, ℕ, List, ◌++◌, length, Bool, true, false, nat_le, nat_lt, inl, inr, Option, Some, None, MatchOption, refl, ap, subst, ◌∙◌, arith}
+use Rattle.std.specs.Prelude.{if◌then◌else◌, unwrap_or}
 use Rattle.std.proofs.lemmas.Bool.Decides.{nat_tests}
 use Rattle.vfs_segments.specs.Written.{Written}
 use Rattle.vfs_files.specs.Calls.{Call, kind_of, Answer, Options, Kind, Quiet, Told, Untold, Data, Agreements, Entries, TimedAttributes, Openings, Creations, Capacities, Texts, TextsOrCounts, Offsets, Writes, Iterators, Faults}
@@ -18,7 +18,7 @@ use Rattle.vfs_calls.specs.declared.data.AnswerData.{AnswerData}
 use Rattle.vfs_calls.specs.declared.data.ItemData.{ItemData}
 use Rattle.vfs_answer.specs.Kinds.{kind_told}
 use Rattle.vfs_answer.specs.Answering.{Answers, AnswersCall, IsAnswered, can_answer, echo_told, options_told, with_behind}
-use Rattle.vfs_answer.specs.Told.{IsShort, TellsEcho, TellsOffer, TellsCall, TellsListing, CallIsAnswered, ListingIsAnswered, AnswersEachCall, AnswersEachListing}
+use Rattle.vfs_answer.specs.Told.{IsShort, IsUnlisted, TellsEcho, TellsOffer, TellsCall, TellsListing, CallIsAnswered, ListingIsAnswered, AnswersEachCall, AnswersEachListing}
 use Rattle.vfs_answer.specs.declared.answered.Answered.{Answered}
 
 -- the kind that a call's shape tells is the call's
@@ -121,9 +121,9 @@ module _ (limits : Limits) (told : CallData) (a : AnswerData) (text : List ℕ) 
 
   listing_answered : (result : Option Answered) (echo : Echo) (listing : Listing) → TellsEcho told echo → TellsListing told listing → length old.left ≡ told.room
       → Answers limits (Some Iterators) told a text items old result new
-      → MatchOption result ((length old.left < 16) ⊎ (2 ^ 32 - 16 ≤ listing.size)) (λ came. ListingIsAnswered limits echo listing told.options a items old came new)
+      → MatchOption result (IsUnlisted (length old.left) listing) (λ came. ListingIsAnswered limits echo listing told.options a items old came new)
   listing_answered None echo listing e t room h =
-      subst (λ (x : Listing). (length old.left < 16) ⊎ (2 ^ 32 - 16 ≤ x.size)) t.listing_is (list_short (length old.left) told.room told.size room h.0)
+      subst (λ (x : Listing). IsUnlisted (length old.left) x) t.listing_is (list_short (length old.left) told.room told.size room h.0)
   listing_answered (Some came) echo listing e t room h =
       let l = h.1 in
       subst (λ (x : Listing). ListingIsAnswered limits echo x told.options a items old came new) t.listing_is (record {

@@ -1,11 +1,11 @@
 -- What came of an answer, in the room that was told at the call.
-use Rattle.std.proofs.Common.{◌≡◌, ◌≤◌, ◌<◌, ◌+◌, ◌-◌, ◌^◌, ◌∙◌, ℕ, List, ◌++◌, Bool, true, length, take, drop, Option, Some, Result, Ok, Err, IfOk, MatchResult, refl, ap, sym, subst, arith, length-append, length-take, length-drop}
+use Rattle.std.proofs.Common.{◌≡◌, ◌≤◌, ◌+◌, ◌∙◌, ℕ, List, ◌++◌, true, length, take, drop, Option, Some, Result, Ok, Err, IfOk, MatchResult, ap, sym, subst, arith, length-append, length-take, length-drop}
 use Rattle.vfs_wire.specs.Fields.{bytes_of}
 use Rattle.vfs_wire.specs.Headers.{out_header}
 use Rattle.vfs_segments.specs.Written.{Written, wrote}
 use Rattle.vfs_files.specs.Calls.{Kind, Data, Answer, IsFault, read_answer}
 use Rattle.vfs_messages.specs.Rooms.{data_header, Replies}
-use Rattle.vfs_grammar.specs.Reply.{Bytes, OpenBehind, body_reply, fault_reply}
+use Rattle.vfs_grammar.specs.Reply.{Bytes, fault_reply}
 use Rattle.vfs_grammar.specs.declared.limits.Limits.{Limits}
 use Rattle.vfs_calls.specs.declared.call.CallData.{CallData}
 use Rattle.vfs_calls.specs.declared.data.AnswerData.{AnswerData}
@@ -21,10 +21,13 @@ pub answered : (limits : Limits) (call : CallData) (kind : Kind) (a : AnswerData
     → IsSaid a text old.left kind answer → Comes limits call kind answer old came new → KeepsData kind old new
     → AnswersCall limits (kind_told call.answer call.size) call a text old (Some came) new
 answered limits call kind a text old came new answer told room can said comes kept =
-    subst (λ (k : Option Kind). AnswersCall limits k call a text old (Some came) new) (sym told) (can, λ behind all.
-      let none : length behind ≡ 0 = omega (arith, room, all) in
-      rw (with_none_behind old behind none, with_none_behind new behind none)
-      (record { answer = answer; said = said; comes = comes; kept = kept }))
+    subst (λ (k : Option Kind). AnswersCall limits k call a text old (Some came) new) (sym told) (
+      can,
+      λ behind all.
+          let none : length behind ≡ 0 = omega (arith, room, all) in
+          rw (with_none_behind old behind none, with_none_behind new behind none)
+          (record { answer = answer; said = said; comes = comes; kept = kept }),
+    )
 
 -- a READ
 pub read_answered : (limits : Limits) (call : CallData) (a : AnswerData) (text : List ℕ) (old new : Written) (came : Answered) (said : Result ℕ (Option ℕ))

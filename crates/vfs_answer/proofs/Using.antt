@@ -1,5 +1,5 @@
 -- What a caller is told of an answer for which there is all the room that was told.
-use Rattle.std.proofs.Common.{◌≡◌, ◌≢◌, ◌==◌, ◌<◌, ◌≤◌, ◌+◌, ℕ, pos, List, [], length, Bool, true, false, nat_le, Option, Some, None, MatchOption, Err, refl, sym, ap, subst, ◌∙◌, inl, inr, arith}
+use Rattle.std.proofs.Common.{◌≡◌, ◌≢◌, ◌==◌, ◌<◌, ℕ, pos, List, [], length, Bool, true, false, nat_le, Option, Some, None, MatchOption, Err, refl, ap, subst, ◌∙◌, inl, inr, arith}
 use Rattle.std.specs.Prelude.{bit_and, unwrap_or, if◌then◌else◌}
 use Rattle.std.proofs.lemmas.Bool.Decides.{nat_tests}
 use Rattle.std.proofs.lemmas.Int.{ints}
@@ -9,13 +9,13 @@ use Rattle.vfs_wire.specs.FieldLaws.{length-bytes_of}
 use Rattle.vfs_wire.specs.Entries.{entry_out}
 use Rattle.vfs_wire.specs.declared.entries.EntryOut.{EntryOut}
 use Rattle.vfs_segments.specs.Written.{Written}
-use Rattle.vfs_files.specs.Calls.{Call, kind_of, Getattr, Lookup, Init, Answer, Failed, Found, Options, FitsEntry, IsAnswer, Kind, TimedAttributes, Entries, Agreements, Iterators}
+use Rattle.vfs_files.specs.Calls.{Call, kind_of, Getattr, Lookup, Init, Answer, Failed, Found, Options, FitsEntry, IsAnswer, TimedAttributes, Entries, Agreements, Iterators}
 use Rattle.vfs_files.specs.Entries.{entry_out_of}
 use Rattle.vfs_files.specs.declared.entry.Context.{Context}
 use Rattle.vfs_files.specs.declared.entry.Entry.{Entry}
 use Rattle.vfs_messages.specs.Rooms.{Replies}
 use Rattle.vfs_grammar.specs.Options.{agreed, options_after}
-use Rattle.vfs_grammar.specs.Reply.{Reply, Bytes, Echo, reply_of, fault_reply, body_reply}
+use Rattle.vfs_grammar.specs.Reply.{Bytes, Echo, reply_of, fault_reply, body_reply}
 use Rattle.vfs_grammar.specs.Room.{unseen}
 use Rattle.vfs_grammar.specs.Turn.{counted, node_answered}
 use Rattle.vfs_grammar.specs.declared.limits.Limits.{Limits}
@@ -95,8 +95,7 @@ unfit limits echo ctx parent name options node a text old new came none e small 
     let full : nat_le (length reply) (length old.left) ≡ false = grind (arith, nat_tests) in
     let given : came.given ≡ unwrap_or (unseen (length old.left) (Bytes reply) (counted entry.inode)) 0 =
     subst (λ (x : Answer). came.given ≡ unwrap_or (unseen (length old.left) (reply_of limits echo came.options Entries x) (node_answered Entries x)) 0) found.1 h.given_is in
-    let replied : Replies (Bytes reply) old came.outcome new = subst (λ (x : Answer). Replies (reply_of limits echo came.options Entries x) old came.outcome new) found.1 h.replied in
-    (
+    let replied : Replies (Bytes reply) old came.outcome new = subst (λ (x : Answer). Replies (reply_of limits echo came.options Entries x) old came.outcome new) found.1 h.replied in (
       given ∙ unseen_by (entry.inode == 0) entry.inode (length old.left) reply refl full ∙ ap (λ (o : EntryOut). o.nodeid) found.2 ∙ e,
       replied.says.says ∙ put_outcome-full reply old.left long,
     )

@@ -25,20 +25,24 @@ echo_told call = record {
   ctx = record { uid = call.uid; gid = call.gid; pid = call.pid };
 }
 
--- the options after an answer to a call of this kind: INIT's are those agreed, and DESTROY, whose number is 38, leaves none
+-- the options after an answer to a call of this kind: INIT's are those agreed, and DESTROY, whose number
+-- is 38, leaves none
 abbrev pub options_told : CallData → Kind → Answer → ℕ
 options_told call Agreements (Options want) = agreed call.count want
 options_told call Quiet answer = if call.call == 38 then 0 else call.options
 options_told call kind answer = call.options
 
--- what comes of this answer to a call of this kind: the reply, by the rule of rooms; the options; and the node
--- of an entry whose reply doesn't fit, or 0, which is to be given back
-abbrev pub Comes : Limits → CallData → Kind → Answer → (old : Written) → Answered → (new : Written) → Type 0
+-- what comes of this answer to a call of this kind: the reply, by the rule of rooms; the options; and the
+-- node of an entry whose reply doesn't fit, or 0, which is to be given back
+abbrev pub Comes : Limits → CallData → Kind → Answer → (old : Written) → Answered → (new : Written)
+    → Type 0
 Comes limits call kind answer old came new =
     IsAnswer kind answer
     × Replies (reply_of limits (echo_told call) came.options kind answer) old came.outcome new
     × (came.options ≡ options_told call kind answer)
-    × (came.given ≡ unwrap_or (unseen (length old.left) (reply_of limits (echo_told call) came.options kind answer) (node_answered kind answer)) 0)
+    × (came.given
+    ≡ unwrap_or (unseen (length old.left) (reply_of limits (echo_told call) came.options kind answer)
+    (node_answered kind answer)) 0)
     × (came.taken ≡ 0)
 
 -- a writer whose room goes on behind what it has left
@@ -60,9 +64,9 @@ pub record IsAnswered (limits : Limits) (call : CallData) (kind : Kind) (a : Ans
   pub comes : Comes limits call kind answer old came new
   pub kept : KeepsData kind old new
 
--- Whether a call of this kind can be answered in this space: in all the room that was told at the call; of a READ
--- also in its first bytes, where the header has its place. Of a directory no more can have been asked for than a
--- reply can have.
+-- Whether a call of this kind can be answered in this space: in all the room that was told at the call; of
+-- a READ also in its first bytes, where the header has its place. Of a directory no more can have been asked
+-- for than a reply can have.
 abbrev pub can_answer : Option Kind → CallData → (space : ℕ) → Bool
 can_answer None call space = false
 can_answer (Some (Data size)) call space = nat_le (size_of out_header) space && nat_le space call.room
@@ -70,8 +74,8 @@ can_answer (Some Iterators) call space =
     (space == call.room) && (nat_le (size_of out_header) space && nat_lt call.size (2 ^ 32 - 16))
 can_answer (Some kind) call space = space == call.room
 
--- What came of the answer to a call of this kind but READDIR, where one can be answered: the reply, whatever stands
--- behind the first bytes of a READ's room. Where none can, nothing was put.
+-- What came of the answer to a call of this kind but READDIR, where one can be answered: the reply,
+-- whatever stands behind the first bytes of a READ's room. Where none can, nothing was put.
 abbrev pub AnswersCall : Limits → Option Kind → CallData → AnswerData → (text : List ℕ) → (old : Written)
     → Option Answered → (new : Written) → Type 0
 AnswersCall limits kind call a text old None new =
@@ -83,15 +87,16 @@ AnswersCall limits (Some kind) call a text old (Some came) new =
     → IsAnswered limits call kind a text (with_behind old behind) came (with_behind new behind))
 
 -- the same of READDIR and READDIRPLUS
-abbrev pub AnswersDirectory : CallData → AnswerData → (items : List ItemData) → (old : Written) → Option Answered
-    → (new : Written) → Type 0
+abbrev pub AnswersDirectory : CallData → AnswerData → (items : List ItemData) → (old : Written)
+    → Option Answered → (new : Written) → Type 0
 AnswersDirectory call a items old None new =
     (can_answer (Some Iterators) call (length old.left) ≡ false) × (new ≡ old)
 AnswersDirectory call a items old (Some came) new =
     (can_answer (Some Iterators) call (length old.left) ≡ true) × IsListed call a items old came new
 
 -- the same of any call
-abbrev pub Answers : Limits → Option Kind → CallData → AnswerData → (text : List ℕ) → (items : List ItemData)
-    → (old : Written) → Option Answered → (new : Written) → Type 0
-Answers limits (Some Iterators) call a text items old result new = AnswersDirectory call a items old result new
+abbrev pub Answers : Limits → Option Kind → CallData → AnswerData → (text : List ℕ)
+    → (items : List ItemData) → (old : Written) → Option Answered → (new : Written) → Type 0
+Answers limits (Some Iterators) call a text items old result new =
+    AnswersDirectory call a items old result new
 Answers limits kind call a text items old result new = AnswersCall limits kind call a text old result new

@@ -29,10 +29,11 @@ listing_told call = record {
   space = call.room - size_of out_header;
 }
 
--- It was not opened, by the fault that was answered; or it was read from the items that were offered, of which so
--- many are in the reply.
-abbrev pub IsOfferedBy : AnswerData → (items : List ItemData) → (l : Listing) → (events : List Event) → (records : List ℕ)
-    → (answer : Result ℕ (Option ℕ)) → IsRead l events records answer → (taken : ℕ) → Type 0
+-- It was not opened, by the fault that was answered; or it was read from the items that were offered, of
+-- which so many are in the reply.
+abbrev pub IsOfferedBy : AnswerData → (items : List ItemData) → (l : Listing) → (events : List Event)
+    → (records : List ℕ) → (answer : Result ℕ (Option ℕ)) → IsRead l events records answer
+    → (taken : ℕ) → Type 0
 IsOfferedBy a items l events records answer (inl unopened) taken =
     IsFailed a unopened.fault × (taken ≡ 0)
 IsOfferedBy a items l events records answer (inr opened) taken =
@@ -40,15 +41,17 @@ IsOfferedBy a items l events records answer (inr opened) taken =
     × AreOffered l.plus items opened.listing.lines opened.listing.stop
     × (taken ≡ taken_by answer (length opened.listing.lines))
 
--- A READDIR or READDIRPLUS was answered: the directory was read so, and its records are the data of the reply.
-pub record IsListed (call : CallData) (a : AnswerData) (items : List ItemData) (old : Written) (came : Answered)
-    (new : Written) : Type 0 where
+-- A READDIR or READDIRPLUS was answered: the directory was read so, and its records are the data of the
+-- reply.
+pub record IsListed (call : CallData) (a : AnswerData) (items : List ItemData) (old : Written)
+    (came : Answered) (new : Written) : Type 0 where
   pub events : List Event
   pub records : List ℕ
   pub answer : Result ℕ (Option ℕ)
   pub read : IsRead (listing_told call) events records answer
   pub offered : IsOfferedBy a items (listing_told call) events records answer read came.taken
   pub fits : IsAnswer (Data call.size) (read_answer answer records)
-  pub replied : Replies (reply_to call.unique (Data call.size) (read_answer answer records)) old came.outcome new
+  pub replied :
+      Replies (reply_to call.unique (Data call.size) (read_answer answer records)) old came.outcome new
   pub same_options : came.options ≡ call.options
   pub none_given : came.given ≡ 0

@@ -40,8 +40,8 @@ AreTaken plus [] [] = ⊤
 AreTaken plus (i ∷ items) (l ∷ lines) = IsLine plus i l × AreTaken plus items lines
 AreTaken plus items lines = ⊥
 
--- The items that were offered, of which these lines were taken: the next one, if there is one, stopped the
--- reading. Items end at the first whose name is none.
+-- The items that were offered, of which these lines were taken: the next one, if there is one, stopped
+-- the reading. Items end at the first whose name is none.
 abbrev pub AreOffered : (plus : Bool) → List ItemData → List Line → Stop → Type 0
 AreOffered plus [] [] End = ⊤
 AreOffered plus (i ∷ items) [] End = name_of i.name.now ≡ None
@@ -62,8 +62,8 @@ pub record AddsItem (plus : Bool) (max : ℕ) (i : ItemData) (old : Written) (re
   pub is_got : IsGot plus line
   pub adds : AddsGot max (length old.left) line.got line.item old result new
 
--- A directory was read from these items, which were offered: their records were put, and behind them perhaps the
--- beginning of one more.
+-- A directory was read from these items, which were offered: their records were put, and behind them
+-- perhaps the beginning of one more.
 pub record ReadsOffered (plus : Bool) (size : ℕ) (items : List ItemData) (old : Written)
     (answer : Result ℕ (Option ℕ)) (taken : ℕ) (new : Written) : Type 0 where
   pub lines : List Line
@@ -77,8 +77,8 @@ pub record ReadsOffered (plus : Bool) (size : ℕ) (items : List ItemData) (old 
       (flat_map line_bytes lines ++ cut_short size (length old.left) (sum_by line_len lines) stop) new
 
 -- The same, or where the directory was not opened the fault is the answer, and nothing was put.
-abbrev pub ListsOffered : (plus : Bool) (size : ℕ) → AnswerData → (items : List ItemData) → (old : Written)
-    → (answer : Result ℕ (Option ℕ)) → (taken : ℕ) → (new : Written) → Type 0
+abbrev pub ListsOffered : (plus : Bool) (size : ℕ) → AnswerData → (items : List ItemData)
+    → (old : Written) → (answer : Result ℕ (Option ℕ)) → (taken : ℕ) → (new : Written) → Type 0
 ListsOffered plus size a items old answer taken new =
     ((fault : Option ℕ) × IsFailed a fault × (answer ≡ Err fault) × (taken ≡ 0) × (new ≡ old))
     ⊎ ((a.error ≡ pos 0) × ReadsOffered plus size items old answer taken new)

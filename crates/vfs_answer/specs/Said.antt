@@ -4,7 +4,7 @@ use Rattle.vfs_flags.specs.Errors.{eio, erange}
 use Rattle.vfs_flags.specs.Flags.{known_fs_options, known_open_options}
 use Rattle.vfs_wire.specs.Headers.{out_header}
 use Rattle.vfs_files.specs.Entries.{entry_out_of, whole_seconds, nanoseconds_beyond}
-use Rattle.vfs_files.specs.Calls.{Kind, Quiet, Told, Untold, Data, Agreements, Entries, TimedAttributes, Openings, Creations, Capacities, Texts, TextsOrCounts, Offsets, Writes, Iterators, Faults}
+use Rattle.vfs_files.specs.Calls.{Kind, Quiet, Told, Untold, Data, Agreements, Entries, TimedAttributes, Openings, Creations, Capacities, Texts, TextsOrCounts, Offsets, Writes, Faults}
 use Rattle.vfs_files.specs.Calls.{Answer, Done, Failed, Options, Found, Attributes, Put, Opened, Created, Statistics, Text, Count, Offset, Wrote}
 use Rattle.vfs_calls.specs.Values.{IsFaultOf, attr_of, entry_out_for, statistics_of, handle_of, most_nanoseconds}
 use Rattle.vfs_calls.specs.declared.data.AnswerData.{AnswerData}
@@ -25,8 +25,8 @@ IsTooMuch size space count =
 abbrev pub IsFailed : AnswerData → (fault : Option ℕ) → Type 0
 IsFailed a fault = (a.error ≢ pos 0) × IsFaultOf a.error fault
 
--- The value of an answer to a call of this kind. The text stands beside the answer, and the data of a READ in
--- the room, behind the place of the reply's header.
+-- The value of an answer to a call of this kind. The text stands beside the answer, and the data of a READ
+-- in the room, behind the place of the reply's header.
 abbrev pub IsValue : AnswerData → (text room : List ℕ) → Kind → Answer → Type 0
 IsValue a text room Told Done = ⊤
 IsValue a text room Untold Done = ⊤

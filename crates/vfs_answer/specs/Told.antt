@@ -1,5 +1,5 @@
 -- Which calls the data of a call tell, and what comes of the answer to each.
-use Rattle.std.specs.Prelude.{◌≡◌, ◌≢◌, ◌⊎◌, ◌<◌, ◌≤◌, ◌+◌, ◌-◌, ◌^◌, ⊤, ℕ, List, length, unwrap_or, Option, None, MatchOption, Result}
+use Rattle.std.specs.Prelude.{◌≡◌, ◌≢◌, ◌⊎◌, ◌<◌, ◌≤◌, ◌+◌, ◌-◌, ◌^◌, ⊤, ℕ, List, length, unwrap_or, Option, MatchOption, Result}
 use Rattle.vfs_wire.specs.Headers.{out_header}
 use Rattle.vfs_segments.specs.Written.{Written}
 use Rattle.vfs_files.specs.Calls.{Call, Init, Kind, kind_of, Answer, IsAnswer, Data, Iterators, read_answer}
@@ -31,8 +31,8 @@ abbrev pub TellsOffer : CallData → Call → Type 0
 TellsOffer told (Init offered) = told.count ≡ offered
 TellsOffer told call = ⊤
 
--- The data tell this call. Of its numbers an answer wants these alone: which call it is, its kind, the size of a
--- READ, and what INIT offers.
+-- The data tell this call. Of its numbers an answer wants these alone: which call it is, its kind, the size
+-- of a READ, and what INIT offers.
 pub record TellsCall (told : CallData) (call : Call) : Type 0 where
   pub number : told.call ≡ (shape_of call).call
   pub kind : told.answer ≡ (shape_of call).answer
@@ -44,10 +44,11 @@ pub record TellsListing (told : CallData) (listing : Listing) : Type 0 where
   pub kind : told.answer ≡ 14
   pub listing_is : listing_told told ≡ listing
 
--- A call was answered: there is an answer which the data of it say; the reply is the grammar's, by the rule of rooms;
--- the options are those after it; and an entry whose reply doesn't fit is to be given back, and nothing else.
-pub record CallIsAnswered (limits : Limits) (echo : Echo) (call : Call) (options : ℕ) (a : AnswerData) (text : List ℕ)
-    (old : Written) (came : Answered) (new : Written) : Type 0 where
+-- A call was answered: there is an answer which the data of it say; the reply is the grammar's, by the rule
+-- of rooms; the options are those after it; and an entry whose reply doesn't fit is to be given back, and
+-- nothing else.
+pub record CallIsAnswered (limits : Limits) (echo : Echo) (call : Call) (options : ℕ) (a : AnswerData)
+    (text : List ℕ) (old : Written) (came : Answered) (new : Written) : Type 0 where
   pub answer : Answer
   pub said : IsSaid a text old.left (kind_of call) answer
   pub fits : IsAnswer (kind_of call) answer
@@ -60,43 +61,51 @@ pub record CallIsAnswered (limits : Limits) (echo : Echo) (call : Call) (options
   pub kept : KeepsData (kind_of call) old new
   pub none_taken : came.taken ≡ 0
 
--- The room of a writer is too short for an answer: of a READ for the header, else for what was told at the call, of
--- which so much stands behind.
+-- The room of a writer is too short for an answer: of a READ for the header; else it is not all that was
+-- told at the call, of which so much stands behind.
 abbrev pub IsShort : Kind → (space behind : ℕ) → Type 0
 IsShort (Data size) space behind = space < size_of out_header
 IsShort kind space behind = 0 < behind
 
--- Each call that these data tell was answered, whatever stands behind the writer's room up to the room that was told
--- at the call; only where the writer's is too short it wasn't.
-abbrev pub AnswersEachCall : Limits → CallData → AnswerData → (text : List ℕ) → (old : Written) → Option Answered
-    → (new : Written) → Type 0
+-- Each call that these data tell was answered, whatever stands behind the writer's room up to the room that
+-- was told at the call; only where the writer's is too short it wasn't.
+abbrev pub AnswersEachCall : Limits → CallData → AnswerData → (text : List ℕ) → (old : Written)
+    → Option Answered → (new : Written) → Type 0
 AnswersEachCall limits told a text old result new =
     (echo : Echo) (call : Call) (behind : List ℕ)
     → TellsEcho told echo → TellsCall told call → kind_of call ≢ Iterators
     → length old.left + length behind ≡ told.room
     → MatchOption result (IsShort (kind_of call) (length old.left) (length behind)) (λ came.
-    CallIsAnswered limits echo call told.options a text (with_behind old behind) came (with_behind new behind))
+    CallIsAnswered limits echo call told.options a text (with_behind old behind) came
+    (with_behind new behind))
 
--- A directory was read from the items that were offered: its records are the reply, by the rule of rooms.
-pub record ListingIsAnswered (limits : Limits) (echo : Echo) (listing : Listing) (options : ℕ) (a : AnswerData)
-    (items : List ItemData) (old : Written) (came : Answered) (new : Written) : Type 0 where
-  pub events : List Event
-  pub records : List ℕ
-  pub answer : Result ℕ (Option ℕ)
-  pub read : IsRead listing events records answer
-  pub offered : IsOfferedBy a items listing events records answer read came.taken
-  pub fits : IsAnswer (Data listing.size) (read_answer answer records)
-  pub replied :
-      Replies (reply_of limits echo came.options (Data listing.size) (read_answer answer records))
-      old came.outcome new
-  pub same_options : came.options ≡ options
-  pub none_given : came.given ≡ 0
+-- A directory was read from the items that were offered: its records are the reply, by the rule of rooms,
+-- and so many of the items are in it.
+pub record ListingIsAnswered (limits : Limits) (echo : Echo) (listing : Listing) (options : ℕ)
+    (a : AnswerData) (items : List ItemData) (old : Written) (came : Answered) (new : Written) : Type 0
+  where
+    pub events : List Event
+    pub records : List ℕ
+    pub answer : Result ℕ (Option ℕ)
+    pub read : IsRead listing events records answer
+    pub offered : IsOfferedBy a items listing events records answer read came.taken
+    pub fits : IsAnswer (Data listing.size) (read_answer answer records)
+    pub replied :
+        Replies (reply_of limits echo came.options (Data listing.size) (read_answer answer records))
+        old came.outcome new
+    pub same_options : came.options ≡ options
+    pub none_given : came.given ≡ 0
 
--- Each directory that these data tell was read, where there is the room that was told at the call; only where that has
--- no place for a header, or more was asked for than a reply can have, it wasn't.
-abbrev pub AnswersEachListing : Limits → CallData → AnswerData → (items : List ItemData) → (old : Written)
-    → Option Answered → (new : Written) → Type 0
+-- a directory can't be answered: there is no place for a header, or more was asked for than a reply can
+-- have
+abbrev pub IsUnlisted : (space : ℕ) → Listing → Type 0
+IsUnlisted space listing = (space < size_of out_header) ⊎ (2 ^ 32 - 16 ≤ listing.size)
+
+-- each directory that these data tell was read, where there is all the room that was told at the call
+abbrev pub AnswersEachListing : Limits → CallData → AnswerData → (items : List ItemData)
+    → (old : Written) → Option Answered → (new : Written) → Type 0
 AnswersEachListing limits told a items old result new =
     (echo : Echo) (listing : Listing)
     → TellsEcho told echo → TellsListing told listing → length old.left ≡ told.room
-    → MatchOption result ((length old.left < size_of out_header) ⊎ (2 ^ 32 - 16 ≤ listing.size)) (λ came. ListingIsAnswered limits echo listing told.options a items old came new)
+    → MatchOption result (IsUnlisted (length old.left) listing) (λ came.
+    ListingIsAnswered limits echo listing told.options a items old came new)

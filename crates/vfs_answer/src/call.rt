@@ -1,6 +1,6 @@
 //! The answer to a call, by its kind.
 
-ghost use Rattle.std.specs.Prelude.{◌≡◌, ◌≢◌, ◌==◌, ◌<◌, ◌≤◌, ◌-◌, ◌^◌, ℕ, List, length, not, bit_and, IfOk, IfSome, Some};
+ghost use Rattle.std.specs.Prelude.{◌≡◌, ◌≢◌, ◌==◌, ◌<◌, ◌≤◌, ◌-◌, ◌^◌, ℕ, List, length, IfOk, IfSome, Some};
 ghost use Rattle.vfs_segments.specs.Written.{Written};
 ghost use Rattle.vfs_files.specs.Answers.{Counts, Data, IsAnswer, Iterators, read_answer};
 ghost use Rattle.vfs_messages.specs.Rooms.{PutsBehindHeader, Replies};
@@ -9,14 +9,16 @@ ghost use Rattle.vfs_grammar.specs.Limits.{AreLimits};
 ghost use Rattle.vfs_grammar.specs.declared.limits.Limits.{Limits};
 ghost use Rattle.vfs_answer.specs.Kinds.{kind_told};
 ghost use Rattle.vfs_answer.specs.Answering.{can_answer, Answers, AnswersCall, AnswersDirectory};
+ghost use Rattle.vfs_answer.specs.Listing.{listing_told};
 ghost use Rattle.vfs_answer.specs.Offered.{ListsOffered};
 ghost use Rattle.vfs_answer.specs.Told.{AnswersEachCall, AnswersEachListing};
 
 use crate::answered::Answered;
 use crate::listing::{Listed, put_items};
 use crate::reply::{
-    put_agreed, put_attributes, put_created, put_data, put_done, put_entry, put_fault, put_fault_alone,
-    put_nothing, put_offset, put_opened, put_statistics, put_text, put_value, put_written,
+    put_agreed, put_attributes, put_created, put_data, put_done, put_entry, put_fault,
+    put_fault_alone, put_nothing, put_offset, put_opened, put_statistics, put_text, put_value,
+    put_written,
 };
 use crate::value;
 use vfs_calls::{AnswerData, CallData, ItemData, has, kind};
@@ -26,7 +28,7 @@ use vfs_messages::{hold_header, reply_data};
 use vfs_segments::Writer;
 use vfs_wire::{ByteValued, OutHeader};
 
-/// Answers a call of any kind but READ and READDIR, for whose reply there is the room that was told.
+/// Answers a call of any kind but READ and READDIR, in the room that was told.
 fn answer_told(
     limits: Limits,
     call: &CallData,
@@ -38,8 +40,8 @@ fn answer_told(
     requires room { length w.old.left ≡ call.now.room }
     requires no_data { call.now.answer ≢ 3 }
     requires no_directory { call.now.answer ≢ 14 }
-    ensures answers { AnswersCall limits (kind_told call.now.answer call.now.size) call.now answer.now
-        text.now w.old result w.new }
+    ensures answers { AnswersCall limits (kind_told call.now.answer call.now.size) call.now
+        answer.now text.now w.old result w.new }
     ensures none_taken { IfSome result (λ came. came.taken ≡ 0) }
 {
     match call.answer {
@@ -76,19 +78,14 @@ fn answer_read(call: &CallData, answer: &AnswerData, w: &mut Writer) -> Option<A
 
 /// Whether the call is a READDIRPLUS.
 fn is_plus(call: &CallData) -> bool
-    ensures { result ≡ not (bit_and call.now.has 512 == 0) }
+    ensures { result ≡ (listing_told call.now).plus }
 {
     call.has & has::PLUS != 0
 }
 
 /// Puts the records of the items that were offered, or answers the fault.
-fn list(
-    call: &CallData,
-    answer: &AnswerData,
-    items: &[ItemData<'_>],
-    w: &mut Writer,
-) -> Listed
-    ensures lists { ListsOffered (not (bit_and call.now.has 512 == 0)) call.now.size answer.now items.now
+fn list(call: &CallData, answer: &AnswerData, items: &[ItemData<'_>], w: &mut Writer) -> Listed
+    ensures lists { ListsOffered (listing_told call.now).plus call.now.size answer.now items.now
         w.old result.answer result.taken w.new }
     ensures within { result.taken ≤ length items.now }
 {
@@ -155,8 +152,8 @@ fn answer_kind(
     w: &mut Writer,
 ) -> Option<Answered>
     requires { AreLimits limits }
-    ensures answers { Answers limits (kind_told call.now.answer call.now.size) call.now answer.now text.now
-        items.now w.old result w.new }
+    ensures answers { Answers limits (kind_told call.now.answer call.now.size) call.now answer.now
+        text.now items.now w.old result w.new }
     ensures within { IfSome result (λ came. came.taken ≤ length items.now) }
 {
     match call.answer {
@@ -169,16 +166,18 @@ fn answer_kind(
     }
 }
 
-/// Answers a call: puts the reply into the room that `w` has left. Of a READ only the header is put, and what
-/// stands behind it is not touched: there the data are.
+/// Answers a call: puts the reply into the room that `w` has left. Of a READ the header alone is
+/// put, and what stands behind it is not touched: there the data are.
 ///
-/// `text` is the text of a link, the value of an extended attribute, or the names of all, where the answer is one,
-/// and `items` are those of a directory, one after another from the offset that was asked for, up to the first
-/// whose name is none.
+/// `text` is the text of a link, the value of an extended attribute, or the names of all, where the
+/// answer is one. `items` are those of a directory from the offset that was asked for, one after
+/// another, up to the first whose name is none.
 ///
-/// None where the data can't be those of a call that is to be answered in this room: their kind is none, or the room
-/// is not as long as it was at the call. Then nothing is put. The room of a READ may be shorter, but not than a
-/// header.
+/// What can't be is EIO: more data of a READ than its size or its room, a count of 2^32 or more, a
+/// TMPFILE that succeeds. A text whose reply would have 2^32 bytes or more is ERANGE.
+///
+/// None where `call` can't be answered in this room: its kind is none, or the room is another than
+/// that of the call. Then nothing is put. The room of a READ may be shorter, but not than a header.
 pub fn answer(
     limits: Limits,
     call: &CallData,
@@ -188,8 +187,8 @@ pub fn answer(
     w: &mut Writer,
 ) -> Option<Answered>
     requires { AreLimits limits }
-    ensures by_kind { Answers limits (kind_told call.now.answer call.now.size) call.now answer.now text.now
-        items.now w.old result w.new }
+    ensures by_kind { Answers limits (kind_told call.now.answer call.now.size) call.now answer.now
+        text.now items.now w.old result w.new }
     ensures calls { AnswersEachCall limits call.now answer.now text.now w.old result w.new }
     ensures listings { AnswersEachListing limits call.now answer.now items.now w.old result w.new }
     ensures within { IfSome result (λ came. came.taken ≤ length items.now) }

@@ -144,8 +144,8 @@ fn tell(plus: bool, written: usize, taken: usize, fault: Fault) -> Listed
     }
 }
 
-/// Puts the records of items, at most `size` bytes of them, where `plus` with their entries, up to the first
-/// item that isn't written, or whose name is none.
+/// Puts the records of items, at most `size` bytes of them, where `plus` with their entries, up to
+/// the first item that isn't written, or whose name is none.
 pub(crate) fn put_items(items: &[ItemData<'_>], plus: bool, size: usize, w: &mut Writer) -> Listed
     ensures reads { ReadsOffered plus size items.now w.old result.answer result.taken w.new }
     ensures within { result.taken ≤ length items.now }

@@ -54,7 +54,8 @@ pub(crate) fn put_done(call: &CallData, said: Said<()>, w: &mut Writer) -> Answe
 
 /// Replies the fault, if there is one.
 pub(crate) fn put_fault(call: &CallData, said: Said<()>, w: &mut Writer) -> Answered
-    ensures { (limits : Limits) → Comes limits call.now Untold (done_answer said) w.old result w.new }
+    ensures { (limits : Limits) →
+        Comes limits call.now Untold (done_answer said) w.old result w.new }
 {
     Answered::plain(call, reply_fault(said, call.unique, w))
 }
@@ -77,19 +78,8 @@ pub(crate) fn put_agreed(
     ensures { Comes limits call.now Agreements (init_answer want) w.old result w.new }
 {
     let offered = FsOptions::from_bits_retain(call.count);
-    let options = agreed_options(
-        &want,
-        offered,
-        FsOptions::from_bits_retain(call.options),
-    );
-    let outcome = reply_init(
-        want,
-        options,
-        limits,
-        call.readahead,
-        call.unique,
-        w,
-    );
+    let options = agreed_options(&want, offered, FsOptions::from_bits_retain(call.options));
+    let outcome = reply_init(want, options, limits, call.readahead, call.unique, w);
     Answered {
         options: options.bits(),
         ..Answered::plain(call, outcome)
@@ -106,7 +96,8 @@ fn given(outcome: &Result<usize>, node: u64) -> u64
 /// Replies an entry, or the fault. An entry whose reply doesn't fit is to be given back.
 #[inline(always)]
 pub(crate) fn put_entry(call: &CallData, said: Said<Entry>, w: &mut Writer) -> Answered
-    ensures { (limits : Limits) → Comes limits call.now Entries (entry_answer said) w.old result w.new }
+    ensures { (limits : Limits) →
+        Comes limits call.now Entries (entry_answer said) w.old result w.new }
 {
     let node = match &said {
         Ok(entry) => entry.inode,
@@ -119,8 +110,8 @@ pub(crate) fn put_entry(call: &CallData, said: Said<Entry>, w: &mut Writer) -> A
     }
 }
 
-/// Replies an entry and what was opened with it, or the fault. An entry whose reply doesn't fit is to be given
-/// back, and what was opened stays open.
+/// Replies an entry and what was opened with it, or the fault. An entry whose reply doesn't fit is
+/// to be given back, and what was opened stays open.
 pub(crate) fn put_created(
     call: &CallData,
     said: Said<(Entry, Option<u64>, OpenOptions)>,
@@ -162,10 +153,7 @@ pub(crate) fn put_opened(
     ensures { (limits : Limits) →
         Comes limits call.now Openings (opened_answer (λ h. h) said) w.old result w.new }
 {
-    Answered::plain(
-        call,
-        reply_opened::<u64>(said, call.unique, w),
-    )
+    Answered::plain(call, reply_opened::<u64>(said, call.unique, w))
 }
 
 /// Replies what the file system holds, or the fault.
@@ -229,14 +217,16 @@ pub(crate) fn put_value(
 
 /// Replies a place in a file, or the fault.
 pub(crate) fn put_offset(call: &CallData, said: Said<u64>, w: &mut Writer) -> Answered
-    ensures { (limits : Limits) → Comes limits call.now Offsets (offset_answer said) w.old result w.new }
+    ensures { (limits : Limits) →
+        Comes limits call.now Offsets (offset_answer said) w.old result w.new }
 {
     Answered::plain(call, reply_offset(said, call.unique, w))
 }
 
 /// Replies how many bytes were written, or the fault.
 pub(crate) fn put_written(call: &CallData, said: Said<u32>, w: &mut Writer) -> Answered
-    ensures { (limits : Limits) → Comes limits call.now Writes (written_answer said) w.old result w.new }
+    ensures { (limits : Limits) →
+        Comes limits call.now Writes (written_answer said) w.old result w.new }
 {
     Answered::plain(call, reply_written(said, call.unique, w))
 }
@@ -257,16 +247,16 @@ fn put_header(count: u32, unique: u64, w: &mut Writer) -> Result<usize>
     Ok(OutHeader::SIZE + count as usize)
 }
 
-/// Replies so many bytes of data, which stand behind the place of their header already, or the fault. The
-/// header alone is put.
+/// Replies so many bytes of data, which stand behind the place of their header already, or the
+/// fault. The header alone is put.
 pub(crate) fn put_data(call: &CallData, said: Said<u32>, w: &mut Writer) -> Answered
     requires short { IfOk said (λ count. count < 2 ^ 32 - 16) }
     requires room { 16 ≤ length w.old.left }
     ensures plain { result ≡ record {
-        outcome = result.outcome;
-        options = call.now.options;
-        given = 0;
-        taken = 0;
+      outcome = result.outcome;
+      options = call.now.options;
+      given = 0;
+      taken = 0;
     } }
     ensures put { MatchResult said
         (λ count. (result.outcome ≡ Ok (16 + count))

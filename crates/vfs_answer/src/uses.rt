@@ -56,8 +56,8 @@ fn find_without_room(limits: Limits, call: &CallData, node: u64, w: &mut Writer)
     answer(limits, call, &found, &[], &[], w)
 }
 
-/// Answers an INIT that these options are wanted: of those that it offers they are agreed on, with those
-/// that the server supports.
+/// Answers an INIT that these options are wanted: of those that it offers they are agreed on, with
+/// those that the server supports.
 fn agree(limits: Limits, call: &CallData, want: u64, w: &mut Writer) -> Option<Answered>
     requires limits { AreLimits limits }
     requires room { length w.old.left ≡ call.now.room }

@@ -20,7 +20,8 @@ pub(crate) fn done(answer: &AnswerData) -> Result<(), Fault>
         (λ _. answer.now.error ≡ pos 0)
         (λ fault. IsFailed answer.now fault) }
     ensures told { (text room : List ℕ) → IsSaid answer.now text room Told (done_answer result) }
-    ensures untold { (text room : List ℕ) → IsSaid answer.now text room Untold (done_answer result) }
+    ensures untold { (text room : List ℕ) →
+        IsSaid answer.now text room Untold (done_answer result) }
 {
     match answer.error {
         0 => Ok(()),
@@ -66,7 +67,8 @@ pub(crate) fn entry(answer: &AnswerData) -> Result<Entry, Fault>
 /// The attributes and how long they hold, or the fault.
 #[inline(always)]
 pub(crate) fn attributes(answer: &AnswerData) -> Result<(Attr, Duration), Fault>
-    ensures { (text room : List ℕ) → IsSaid answer.now text room TimedAttributes (attr_answer result) }
+    ensures { (text room : List ℕ) →
+        IsSaid answer.now text room TimedAttributes (attr_answer result) }
 {
     done(answer)?;
     Ok((answer.entry.attr.attr(), answer.entry.attr_timeout()))
@@ -111,7 +113,8 @@ pub(crate) fn created(answer: &AnswerData) -> Result<(Entry, Option<u64>, OpenOp
 
 /// What the file system holds, or the fault.
 pub(crate) fn statistics(answer: &AnswerData) -> Result<Statvfs64, Fault>
-    ensures { (text room : List ℕ) → IsSaid answer.now text room Capacities (statistics_answer result) }
+    ensures { (text room : List ℕ) →
+        IsSaid answer.now text room Capacities (statistics_answer result) }
 {
     done(answer)?;
     Ok(answer.statistics.statistics())
@@ -184,7 +187,8 @@ pub(crate) fn value(answer: &AnswerData, text: &[u8]) -> Result<Option<u32>, Fau
 /// How many bytes of data there are, where the reply to a READ can have so many, and else EIO.
 fn data_count(call: &CallData, answer: &AnswerData) -> Result<u32, Fault>
     ensures { MatchResult result
-        (λ count. (count ≡ answer.now.count) × FitsData call.now.size call.now.room answer.now.count)
+        (λ count. (count ≡ answer.now.count)
+        × FitsData call.now.size call.now.room answer.now.count)
         (λ fault. (fault ≡ Some eio) × IsTooMuch call.now.size call.now.room answer.now.count) }
 {
     if answer.count > u64::from(call.size.min(MAX_REPLY_DATA)) {
@@ -198,8 +202,8 @@ fn data_count(call: &CallData, answer: &AnswerData) -> Result<u32, Fault>
 
 /// How many bytes of data there are, or the fault.
 pub(crate) fn data(call: &CallData, answer: &AnswerData) -> Result<u32, Fault>
-    ensures count { IfOk result
-        (λ count. (count ≡ answer.now.count) × FitsData call.now.size call.now.room answer.now.count) }
+    ensures count { IfOk result (λ count. (count ≡ answer.now.count)
+        × FitsData call.now.size call.now.room answer.now.count) }
     ensures said { (text room : List ℕ) → length room ≡ call.now.room →
         IsSaid answer.now text room (Data call.now.size)
         (read_answer result (take answer.now.count (drop 16 room))) }

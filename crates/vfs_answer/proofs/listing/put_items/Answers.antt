@@ -1,4 +1,4 @@
-use Rattle.std.proofs.Common.{refl, arith}
+use Rattle.std.proofs.Common.{arith}
 use Rattle.vfs_answer.proofs.Taking.{taking_start, taking_more, taking_end, taking_unnamed, taking_full, taking_failed}
 use Rattle.vfs_answer.proofs.listing.put_items.Goals as goal
 
