@@ -5,3 +5,4 @@ pub mod Taking
 pub mod Listed
 pub mod Telling
 pub mod Using
+pub mod One

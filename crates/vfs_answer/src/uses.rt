@@ -1,6 +1,6 @@
 //! Answers of calls.
 
-ghost use Rattle.std.specs.Prelude.{◌≡◌, ◌≢◌, ◌<◌, ℕ, List, Option, length, drop, bit_and, pos, Some, Err, MatchOption};
+ghost use Rattle.std.specs.Prelude.{◌≡◌, ◌<◌, ◌≤◌, ◌-◌, ◌^◌, ℕ, List, Option, length, bit_and, false, Some, Ok, Err, MatchOption};
 ghost use Rattle.vfs_flags.specs.Flags.{known_fs_options};
 ghost use Rattle.vfs_files.specs.Calls.{Getattr, Init, Lookup};
 ghost use Rattle.vfs_files.specs.declared.entry.Context.{Context};
@@ -88,4 +88,31 @@ fn list_and_rest<'a>(
         Some(came) => &items[came.taken..],
         None => items,
     }
+}
+
+/// Answers a READDIR of one item of the name "a", whose record of 32 bytes has room: it is in the
+/// reply.
+fn list_one(limits: Limits, call: &CallData, w: &mut Writer) -> Option<Answered>
+    requires limits { AreLimits limits }
+    requires room { length w.old.left ≡ call.now.room }
+    requires space { 48 ≤ length w.old.left }
+    requires size { 32 ≤ call.now.size }
+    requires short { call.now.size < 2 ^ 32 - 16 }
+    ensures { (echo : Echo) (listing : Listing) →
+        TellsEcho call.now echo → TellsListing call.now listing → listing.plus ≡ false →
+        MatchOption result ⊥ (λ came. (came.taken ≡ 1) × (came.outcome ≡ Ok 48)) }
+{
+    let opened = AnswerData {
+        error: 0,
+        ..AnswerData::default()
+    };
+    let item = ItemData {
+        ino: 5,
+        offset: 1,
+        name: b"a\0".as_slice(),
+        entry: EntryData::default(),
+        type_: 8,
+        error: 0,
+    };
+    answer(limits, call, &opened, &[], &[item], w)
 }
