@@ -1,6 +1,6 @@
 //! Answers of calls.
 
-ghost use Rattle.std.specs.Prelude.{◌≡◌, ◌<◌, ◌≤◌, ◌-◌, ◌^◌, ℕ, List, Option, length, bit_and, false, Some, Ok, Err, MatchOption};
+ghost use Rattle.std.specs.Prelude.{◌≡◌, ◌<◌, ◌≤◌, ◌-◌, ◌^◌, ℕ, List, Option, length, drop, bit_and, false, Some, Ok, Err, MatchOption};
 ghost use Rattle.vfs_flags.specs.Flags.{known_fs_options};
 ghost use Rattle.vfs_files.specs.Calls.{Getattr, Init, Lookup};
 ghost use Rattle.vfs_files.specs.declared.entry.Context.{Context};
@@ -9,7 +9,8 @@ ghost use Rattle.vfs_grammar.specs.Limits.{AreLimits};
 ghost use Rattle.vfs_grammar.specs.Options.{agreed};
 ghost use Rattle.vfs_grammar.specs.Reply.{Bytes, Echo, fault_reply};
 ghost use Rattle.vfs_messages.specs.Rooms.{Replies};
-ghost use Rattle.vfs_answer.specs.Told.{TellsCall, TellsEcho, TellsListing};
+ghost use Rattle.vfs_calls.specs.declared.data.AnswerData.{AnswerData};
+ghost use Rattle.vfs_answer.specs.Told.{ListingIsAnswered, TellsCall, TellsEcho, TellsListing};
 
 use crate::answered::Answered;
 use crate::call::answer;
@@ -74,14 +75,23 @@ fn agree(limits: Limits, call: &CallData, want: u64, w: &mut Writer) -> Option<A
     answer(limits, call, &wanted, &[], &[], w)
 }
 
-/// Answers a READDIR or READDIRPLUS of these items, and tells those that are not in the reply.
+/// Answers a READDIR or READDIRPLUS of these items, and hands back those that are not in the reply:
+/// of a READDIRPLUS their lookups are to be given back.
 fn list_and_rest<'a>(
     limits: Limits,
     call: &CallData,
     items: &'a [ItemData<'a>],
     w: &mut Writer,
 ) -> &'a [ItemData<'a>]
-    requires { AreLimits limits }
+    requires limits { AreLimits limits }
+    requires room { length w.old.left ≡ call.now.room }
+    requires header { 16 ≤ length w.old.left }
+    requires short { call.now.size < 2 ^ 32 - 16 }
+    ensures { (echo : Echo) (listing : Listing) →
+        TellsEcho call.now echo → TellsListing call.now listing →
+        (a : AnswerData) × (came : Answered)
+        × ListingIsAnswered limits echo listing call.now.options a items.now w.old came w.new
+        × (result.now ≡ drop came.taken items.now) }
 {
     let opened = AnswerData::default();
     match answer(limits, call, &opened, &[], items, w) {
