@@ -18,9 +18,22 @@ most_nanoseconds = 999_999_999
 
 abbrev pub attr_of : AttrData → Attr
 attr_of a = record {
-  ino = a.ino; size = a.size; blocks = a.blocks; atime = a.atime; mtime = a.mtime; ctime = a.ctime;
-  atimensec = a.atimensec; mtimensec = a.mtimensec; ctimensec = a.ctimensec; mode = a.mode; nlink = a.nlink;
-  uid = a.uid; gid = a.gid; rdev = a.rdev; blksize = a.blksize; flags = a.flags;
+  ino = a.ino;
+  size = a.size;
+  blocks = a.blocks;
+  atime = a.atime;
+  mtime = a.mtime;
+  ctime = a.ctime;
+  atimensec = a.atimensec;
+  mtimensec = a.mtimensec;
+  ctimensec = a.ctimensec;
+  mode = a.mode;
+  nlink = a.nlink;
+  uid = a.uid;
+  gid = a.gid;
+  rdev = a.rdev;
+  blksize = a.blksize;
+  flags = a.flags;
 }
 
 -- the record of a reply with this entry
@@ -37,8 +50,14 @@ entry_out_for e = record {
 
 abbrev pub statistics_of : StatisticsData → Statvfs64
 statistics_of s = record {
-  f_bsize = s.bsize; f_frsize = s.frsize; f_blocks = s.blocks; f_bfree = s.bfree; f_bavail = s.bavail;
-  f_files = s.files; f_ffree = s.ffree; f_namemax = s.namemax;
+  f_bsize = s.bsize;
+  f_frsize = s.frsize;
+  f_blocks = s.blocks;
+  f_bfree = s.bfree;
+  f_bavail = s.bavail;
+  f_files = s.files;
+  f_ffree = s.ffree;
+  f_namemax = s.namemax;
 }
 
 abbrev pub handle_of : AnswerData → Option ℕ
