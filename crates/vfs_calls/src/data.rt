@@ -13,21 +13,37 @@ use vfs_wire::{Attr, Statvfs64};
 #[repr(C)]
 #[derive(Clone, Copy, Debug, Default)]
 pub struct AttrData {
+    /// The number of the file, as `st_ino`.
     pub ino: u64,
+    /// How many bytes it has.
     pub size: u64,
+    /// How much it takes, in units of 512 bytes.
     pub blocks: u64,
+    /// When it was read last, in seconds since 1970.
     pub atime: u64,
+    /// When its bytes were changed last, in seconds since 1970.
     pub mtime: u64,
+    /// When anything of it was changed last, in seconds since 1970.
     pub ctime: u64,
+    /// The nanoseconds beyond `atime`.
     pub atimensec: u32,
+    /// The nanoseconds beyond `mtime`.
     pub mtimensec: u32,
+    /// The nanoseconds beyond `ctime`.
     pub ctimensec: u32,
+    /// Its kind and its permissions, as `st_mode`.
     pub mode: u32,
+    /// How many names it has.
     pub nlink: u32,
+    /// The user whom it belongs to, as the guest numbers it.
     pub uid: u32,
+    /// The group that it belongs to, as the guest numbers it.
     pub gid: u32,
+    /// The number of a device.
     pub rdev: u32,
+    /// How many bytes are best read and written at a time.
     pub blksize: u32,
+    /// Flags of `struct fuse_attr`, as `FUSE_ATTR_SUBMOUNT`.
     pub flags: u32,
 }
 
@@ -35,40 +51,67 @@ pub struct AttrData {
 #[repr(C)]
 #[derive(Clone, Copy, Debug, Default)]
 pub struct EntryData {
+    /// The number of the node, or 0, which says that there is no such name.
     pub node: u64,
+    /// Tells apart nodes that bear one number at different times.
     pub generation: u64,
+    /// How long the kernel may take the name for this node's, in whole seconds.
     pub entry_seconds: u64,
+    /// How long it may take the attributes for true, in whole seconds.
     pub attr_seconds: u64,
+    /// The nanoseconds beyond `entry_seconds`. More than 999,999,999 stand for that many.
     pub entry_nanoseconds: u32,
+    /// The nanoseconds beyond `attr_seconds`. More than 999,999,999 stand for that many.
     pub attr_nanoseconds: u32,
+    /// The attributes of the node.
     pub attr: AttrData,
 }
 
-/// What a file system holds.
+/// What a file system holds, as `statvfs(3)` says it.
 #[repr(C)]
 #[derive(Clone, Copy, Debug, Default)]
 pub struct StatisticsData {
+    /// How many bytes are best read and written at a time.
     pub bsize: u64,
+    /// How many bytes a block has.
     pub frsize: u64,
+    /// How many blocks there are.
     pub blocks: u64,
+    /// How many of them are free.
     pub bfree: u64,
+    /// How many of these anyone may take.
     pub bavail: u64,
+    /// How many files there can be.
     pub files: u64,
+    /// How many of them are not there yet.
     pub ffree: u64,
+    /// How many bytes a name has at most.
     pub namemax: u64,
 }
 
-/// An answer: the fault that `error` is, or where that is 0 what the call's kind of answer names.
+/// An answer: the fault that `error` is, or where that is 0 what the call's kind of answer names. A
+/// text, the data of a READ and the items of a directory stand beside it.
 #[repr(C)]
 #[derive(Clone, Copy, Debug, Default)]
 pub struct AnswerData {
+    /// The number of the fault, or 0. One below 0 is a fault without a number, which is replied as
+    /// EIO.
     pub error: i32,
+    /// Whether what was opened has a handle: 0 where it has none.
     pub has_handle: u32,
+    /// The number of the handle.
     pub handle: u64,
+    /// By the kind: how many bytes of data were read, or were written; how many bytes a text has; a
+    /// place in a file; or the bits of the options that INIT wants, of which unknown ones are left
+    /// out.
     pub count: u64,
+    /// How what was opened is to be used, as bits of `OpenOptions`. Unknown ones are left out.
     pub open_flags: u32,
+    /// Whether the length of a text is answered in its place: 0 where the text is.
     pub has_count: u32,
+    /// The entry. Of GETATTR and SETATTR its attributes, and how long they hold, are the answer.
     pub entry: EntryData,
+    /// What the file system holds.
     pub statistics: StatisticsData,
 }
 
@@ -76,12 +119,17 @@ pub struct AnswerData {
 #[repr(C)]
 #[derive(Clone, Copy)]
 pub struct ItemData<'a> {
+    /// The number of the node, which counts no lookup.
     pub ino: u64,
+    /// Where a reading that goes on behind this item begins.
     pub offset: u64,
     /// The name with the 0 that ends it.
     pub name: &'a [u8],
+    /// The entry that the lookup answered. For READDIR, and of `.` and `..`, it is not looked at.
     pub entry: EntryData,
+    /// The kind of file, as the `d_type` of `readdir(3)`.
     pub type_: u32,
+    /// The number of the fault that the lookup answered, or 0, as in `AnswerData`.
     pub error: i32,
 }
 
