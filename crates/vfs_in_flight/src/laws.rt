@@ -1,0 +1,26 @@
+//! What holds of requests that are in flight at the same time.
+//!
+//! A transport keeps three things, which no law can see: it makes each call that it is told, once; it
+//! answers with what came of it; and it gives back what it is told to, before it completes the request.
+
+ghost use Rattle.std.specs.Prelude.{ℕ, List, []};
+ghost use Rattle.vfs_grammar.specs.Books.{KeepsBooks};
+ghost use Rattle.vfs_grammar.specs.Turn.{AreTurns};
+ghost use Rattle.vfs_grammar.specs.declared.limits.Limits.{Limits};
+ghost use Rattle.vfs_in_flight.specs.Flight.{Waiting, Moment, turns_answered, AreInFlight, AreAskedInTime};
+
+/// However requests are interleaved, the turns in the order of their answers keep the books: for each
+/// node but 0 they balance, and a client that after each answer has given back no more than was delivered
+/// to it drives no count below zero.
+pub fn turns_in_flight_keep_books()
+    ensures { (limits : Limits) (waiting : List Waiting) (moments : List Moment) →
+        AreInFlight limits waiting moments → KeepsBooks (turns_answered moments) }
+{}
+
+/// If each request is asked under the options of then, and INIT and DESTROY are alone in flight, the turns
+/// in the order of their answers are turns in order, as those of a session that one caller hands over.
+pub fn turns_in_flight_are_in_order()
+    ensures { (limits : Limits) (options : ℕ) (moments : List Moment) →
+        AreAskedInTime limits options [] moments →
+        (after : ℕ) × AreTurns limits options (turns_answered moments) after }
+{}

@@ -1,0 +1,6 @@
+//! Requests of one client in flight at the same time: in whatever order they are asked and answered, the
+//! books of lookups and forgets are kept. Laws alone.
+#![tactic(auto)]
+
+pub mod laws;
+mod uses;
