@@ -1,1 +1,3 @@
 pub mod Flight
+pub mod Asking
+pub mod OneTurn

@@ -8,6 +8,15 @@ ghost use Rattle.vfs_grammar.specs.Books.{KeepsBooks};
 ghost use Rattle.vfs_grammar.specs.Turn.{AreTurns};
 ghost use Rattle.vfs_grammar.specs.declared.limits.Limits.{Limits};
 ghost use Rattle.vfs_in_flight.specs.Flight.{Waiting, Moment, turns_answered, AreInFlight, AreAskedInTime};
+ghost use Rattle.vfs_in_flight.specs.OneTurn.{AreOneTurn};
+
+/// A request that was asked for its call, and whose call was answered, is one turn of the grammar, under the
+/// options that it was asked with: its call is the one that was told, the answer the one that the data say,
+/// and an entry that was told to be given back was given back. Of a directory, it was read from the items
+/// that were offered.
+pub fn asked_and_answered_is_one_turn()
+    ensures { AreOneTurn }
+{}
 
 /// However requests are interleaved, the turns in the order of their answers keep the books: for each
 /// node but 0 they balance, and a client that after each answer has given back no more than was delivered

@@ -1,12 +1,52 @@
 //! What a transport knows of requests in flight, by the laws alone.
 
-ghost use Rattle.std.specs.Prelude.{◌≡◌, ℕ, List, [], ◌∷◌, ◌++◌};
+ghost use Rattle.std.specs.Prelude.{◌≡◌, ℕ, List, [], ◌∷◌, length, IfSome};
+ghost use Rattle.vfs_flags.specs.Flags.{fs_options_bits};
+ghost use Rattle.vfs_grammar.specs.Limits.{AreLimits};
+ghost use Rattle.vfs_answer.specs.Answering.{with_behind};
 ghost use Rattle.vfs_grammar.specs.Books.{KeepsBooks};
 ghost use Rattle.vfs_grammar.specs.Turn.{AreTurns, Turn};
 ghost use Rattle.vfs_grammar.specs.declared.limits.Limits.{Limits};
-ghost use Rattle.vfs_in_flight.specs.Flight.{Waiting, IsTurnOf, IsAlone};
+ghost use Rattle.vfs_in_flight.specs.Flight.{Waiting, IsTurnOf};
+ghost use Rattle.vfs_in_flight.specs.OneTurn.{IsAnsweredTurn};
 
-use crate::laws::{turns_in_flight_are_in_order, turns_in_flight_keep_books};
+use crate::laws::{
+    asked_and_answered_is_one_turn, turns_in_flight_are_in_order, turns_in_flight_keep_books,
+};
+use std::alloc::Global;
+use vfs_answer::{Answered, answer};
+use vfs_ask::{Asked, ask};
+use vfs_calls::{AnswerData, CallData, ItemData};
+use vfs_flags::FsOptions;
+use vfs_grammar::Limits;
+use vfs_segments::{Reader, Writer};
+
+/// Asks a request for its call, and answers that by these data, whatever they are, in as much room. If both
+/// are done, that was one turn of the grammar.
+fn ask_and_answer(
+    alloc: Global,
+    limits: Limits,
+    options: FsOptions,
+    r: Reader<'_>,
+    w: &mut Writer,
+    told: &mut CallData,
+    a: &AnswerData,
+    text: &[u8],
+    items: &[ItemData<'_>],
+    reply: &mut Writer,
+) -> Option<Answered>
+    requires limits { AreLimits limits }
+    requires room { length reply.old.left ≡ length w.old.left }
+    ensures { IfSome result (λ came.
+        IsAnsweredTurn limits (fs_options_bits options) r.entry.left a.now text.now items.now
+        (with_behind reply.old []) came (with_behind reply.new [])) }
+{
+    asked_and_answered_is_one_turn();
+    match ask(alloc, limits, options, r, w, told) {
+        Asked::Call => answer(limits, told, a, text, items, reply),
+        Asked::Finished { .. } => None,
+    }
+}
 
 /// Two requests are asked, and answered in the other order: the books of both are kept.
 fn answer_in_other_order()
