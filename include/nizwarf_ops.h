@@ -1,0 +1,532 @@
+/* A file system as a table of functions, like libfuse's fuse_lowlevel_ops, over the door of
+ * nizwarf.h.
+ *
+ * Names are libfuse's where they mean the same. Each function answers 0, or the number of an error,
+ * as ENOENT. What else it answers goes where the pointers at its end point to, which are zeros
+ * before. What it is handed is lent until then.
+ *
+ * A function that is NULL answers ENOSYS. But OPEN, OPENDIR, RELEASE and RELEASEDIR are done
+ * without one, INIT, DESTROY and FORGET are too, and STATFS tells of names of 255 bytes. Locks,
+ * BMAP, IOCTL, POLL and TMPFILE, of which nothing is told, are answered ENOSYS.
+ *
+ * Nothing here has a state: any number of threads may serve one client with one table, each with a
+ * slot, a request, a room and items of its own.
+ */
+#ifndef NIZWARF_OPS_H
+#define NIZWARF_OPS_H
+
+#include <errno.h>
+#include <time.h>
+#include "nizwarf.h"
+
+#ifdef __cplusplus
+extern "C" {
+#endif
+
+/* What is asked. `user` is yours, `call` has the caller: uid, gid, pid, umask, and what is said of
+ * a new node by its extensions. `request` has the bytes that ranges are of. */
+typedef struct {
+	void *user;
+	const nizwarf_call *call;
+	const uint8_t *request;
+} nizwarf_req;
+
+/* An open file. `flags` are those of open(2), `fh` is what OPEN or CREATE answered, `open_flags`
+ * are FOPEN_KEEP_CACHE .. of linux/fuse.h, which OPEN, OPENDIR and CREATE answer. */
+typedef struct {
+	uint64_t fh, lock_owner;
+	uint32_t flags, open_flags;
+} nizwarf_file_info;
+
+/* An entry. `ino` is the number of the node, `attr.ino` that which programs see. */
+typedef struct {
+	uint64_t ino, generation;
+	nizwarf_attr attr;
+	struct timespec attr_timeout, entry_timeout;
+} nizwarf_entry_param;
+
+/* The items of a directory while it is read: see nizwarf_add_direntry. */
+typedef struct nizwarf_dir nizwarf_dir;
+
+typedef struct nizwarf_ops {
+	/* `want` begins as READDIRPLUS, if it is in the table and was offered. */
+	int (*init)(const nizwarf_req *req, uint64_t capable, uint64_t *want);
+	void (*destroy)(const nizwarf_req *req);
+	int (*lookup)(const nizwarf_req *req, uint64_t parent, const char *name,
+		      nizwarf_entry_param *e);
+	/* BATCH_FORGET comes as a forget for each of its pairs. */
+	void (*forget)(const nizwarf_req *req, uint64_t ino, uint64_t nlookup);
+	/* `fi` is NULL where the file isn't open, here and in setattr. */
+	int (*getattr)(const nizwarf_req *req, uint64_t ino, const nizwarf_file_info *fi,
+		       nizwarf_attr *attr, struct timespec *attr_timeout);
+	int (*setattr)(const nizwarf_req *req, uint64_t ino, const nizwarf_setattr *set,
+		       uint32_t to_set, const nizwarf_file_info *fi,
+		       nizwarf_attr *attr, struct timespec *attr_timeout);
+	int (*readlink)(const nizwarf_req *req, uint64_t ino,
+			char *link, size_t size, size_t *len);
+	int (*mknod)(const nizwarf_req *req, uint64_t parent, const char *name, uint32_t mode,
+		     uint32_t rdev, nizwarf_entry_param *e);
+	int (*mkdir)(const nizwarf_req *req, uint64_t parent, const char *name, uint32_t mode,
+		     nizwarf_entry_param *e);
+	int (*unlink)(const nizwarf_req *req, uint64_t parent, const char *name);
+	int (*rmdir)(const nizwarf_req *req, uint64_t parent, const char *name);
+	int (*symlink)(const nizwarf_req *req, const char *link, uint64_t parent, const char *name,
+		       nizwarf_entry_param *e);
+	int (*rename)(const nizwarf_req *req, uint64_t parent, const char *name,
+		      uint64_t newparent, const char *newname, uint32_t flags);
+	int (*link)(const nizwarf_req *req, uint64_t ino, uint64_t newparent, const char *newname,
+		    nizwarf_entry_param *e);
+	int (*open)(const nizwarf_req *req, uint64_t ino, nizwarf_file_info *fi);
+	int (*read)(const nizwarf_req *req, uint64_t ino, size_t size, uint64_t off,
+		    const nizwarf_file_info *fi, void *buf, size_t *len);
+	int (*write)(const nizwarf_req *req, uint64_t ino, const void *buf, size_t size,
+		     uint64_t off, const nizwarf_file_info *fi, size_t *len);
+	int (*flush)(const nizwarf_req *req, uint64_t ino, const nizwarf_file_info *fi);
+	int (*release)(const nizwarf_req *req, uint64_t ino, const nizwarf_file_info *fi);
+	int (*fsync)(const nizwarf_req *req, uint64_t ino, int datasync,
+		     const nizwarf_file_info *fi);
+	int (*opendir)(const nizwarf_req *req, uint64_t ino, nizwarf_file_info *fi);
+	int (*readdir)(const nizwarf_req *req, uint64_t ino, uint64_t off,
+		       const nizwarf_file_info *fi, nizwarf_dir *dir);
+	int (*readdirplus)(const nizwarf_req *req, uint64_t ino, uint64_t off,
+			   const nizwarf_file_info *fi, nizwarf_dir *dir);
+	int (*releasedir)(const nizwarf_req *req, uint64_t ino, const nizwarf_file_info *fi);
+	int (*fsyncdir)(const nizwarf_req *req, uint64_t ino, int datasync,
+			const nizwarf_file_info *fi);
+	int (*statfs)(const nizwarf_req *req, uint64_t ino, nizwarf_statfs *stat);
+	int (*setxattr)(const nizwarf_req *req, uint64_t ino, const char *name, const void *value,
+			size_t size, uint32_t flags);
+	/* Where `size` is 0, only `len` is asked for, here and in listxattr. */
+	int (*getxattr)(const nizwarf_req *req, uint64_t ino, const char *name, size_t size,
+			void *value, size_t *len);
+	int (*listxattr)(const nizwarf_req *req, uint64_t ino, size_t size,
+			 char *list, size_t *len);
+	int (*removexattr)(const nizwarf_req *req, uint64_t ino, const char *name);
+	int (*access)(const nizwarf_req *req, uint64_t ino, uint32_t mask);
+	int (*create)(const nizwarf_req *req, uint64_t parent, const char *name, uint32_t mode,
+		      nizwarf_file_info *fi, nizwarf_entry_param *e);
+	int (*fallocate)(const nizwarf_req *req, uint64_t ino, uint32_t mode, uint64_t offset,
+			 uint64_t length, const nizwarf_file_info *fi);
+	int (*lseek)(const nizwarf_req *req, uint64_t ino, uint64_t off, uint32_t whence,
+		     const nizwarf_file_info *fi, uint64_t *found);
+	int (*copy_file_range)(const nizwarf_req *req, uint64_t ino_in, uint64_t off_in,
+			       const nizwarf_file_info *fi_in, uint64_t ino_out, uint64_t off_out,
+			       const nizwarf_file_info *fi_out, uint64_t size, uint64_t flags,
+			       size_t *len);
+	int (*syncfs)(const nizwarf_req *req, uint64_t ino);
+} nizwarf_ops;
+
+struct nizwarf_dir {
+	const nizwarf_ops *ops;
+	const nizwarf_req *req;
+	nizwarf_item *items;
+	size_t len, most;
+	/* Where the next name is copied to, and how many bytes of records there is room for. */
+	uint8_t *names;
+	size_t left;
+};
+
+/* Options of INIT. */
+enum { NIZWARF_WANT_READDIRPLUS = 3 << 13 };
+
+static inline int nizwarf_is_dot(const char *name)
+{
+	return !strcmp(name, ".") || !strcmp(name, "..");
+}
+
+static inline nizwarf_entry nizwarf_entry_of(const nizwarf_entry_param *e)
+{
+	nizwarf_entry entry;
+
+	entry.node = e->ino;
+	entry.generation = e->generation;
+	entry.entry_seconds = (uint64_t)e->entry_timeout.tv_sec;
+	entry.attr_seconds = (uint64_t)e->attr_timeout.tv_sec;
+	entry.entry_nanoseconds = (uint32_t)e->entry_timeout.tv_nsec;
+	entry.attr_nanoseconds = (uint32_t)e->attr_timeout.tv_nsec;
+	entry.attr = e->attr;
+	return entry;
+}
+
+/* Gives a lookup back. Of node 0 there is none. */
+static inline void nizwarf_give_back(const nizwarf_dir *dir, uint64_t ino)
+{
+	if (ino && dir->ops->forget)
+		dir->ops->forget(dir->req, ino, 1);
+}
+
+/* Adds an item, whose name is copied. 0: there is no more room. */
+static inline int nizwarf_add_item(nizwarf_dir *dir, const char *name, nizwarf_item *item, int plus)
+{
+	size_t size;
+
+	item->name = dir->names;
+	item->name_size = strlen(name) + 1;
+	size = nizwarf_record_size(item->name_size, plus);
+	if (dir->len == dir->most || size > dir->left)
+		return 0;
+	memcpy(dir->names, name, item->name_size);
+	dir->names += item->name_size;
+	dir->left -= size;
+	dir->items[dir->len++] = *item;
+	return 1;
+}
+
+/* Adds an item for readdir. `type` is DT_REG .., `off` that of a reading that goes on behind it. 0:
+ * it wasn't added, since there is no more room. */
+static inline int nizwarf_add_direntry(nizwarf_dir *dir, const char *name, uint64_t ino,
+				       uint32_t type, uint64_t off)
+{
+	nizwarf_item item;
+
+	memset(&item, 0, sizeof(item));
+	item.ino = ino;
+	item.offset = off;
+	item.type = type;
+	return nizwarf_add_item(dir, name, &item, 0);
+}
+
+/* Adds an item for readdirplus, with what a lookup of the name answers; of `.` and `..` only their
+ * attributes are looked at. 0: it wasn't added, since there is no more room, and was given back. */
+static inline int nizwarf_add_direntry_plus(nizwarf_dir *dir, const char *name,
+					    const nizwarf_entry_param *e, uint64_t off)
+{
+	nizwarf_item item;
+
+	memset(&item, 0, sizeof(item));
+	item.ino = e->attr.ino;
+	item.offset = off;
+	item.type = e->attr.mode >> 12 & 15;
+	item.entry = nizwarf_entry_of(e);
+	if (nizwarf_is_dot(name))
+		item.entry.node = 0;
+	if (nizwarf_add_item(dir, name, &item, 1))
+		return 1;
+	nizwarf_give_back(dir, item.entry.node);
+	return 0;
+}
+
+/* From here on to nizwarf_serve_ops: how a call is made by the table, by the kind of its answer. */
+#define NIZWARF_DO(op, ...) (ops->op ? ops->op(req, __VA_ARGS__) : ENOSYS)
+#define NIZWARF_NAME(range) ((const char *)req->request + (range).at)
+
+static inline nizwarf_file_info nizwarf_file_of(const nizwarf_call *call)
+{
+	nizwarf_file_info fi;
+
+	fi.fh = call->handle;
+	fi.lock_owner = call->lock_owner;
+	fi.flags = call->flags;
+	fi.open_flags = 0;
+	return fi;
+}
+
+static inline int nizwarf_do_quiet(const nizwarf_ops *ops, const nizwarf_req *req)
+{
+	const nizwarf_call *c = req->call;
+	const uint8_t *pairs = req->request + c->data.at;
+	uint64_t pair[2], i;
+
+	if (c->call == NIZWARF_DESTROY && ops->destroy)
+		ops->destroy(req);
+	if (c->call == NIZWARF_FORGET && ops->forget)
+		ops->forget(req, c->node, c->length);
+	if (c->call == NIZWARF_BATCH_FORGET && ops->forget)
+		for (i = 0; i < c->length; i++) {
+			memcpy(pair, pairs + 16 * i, sizeof(pair));
+			ops->forget(req, pair[0], pair[1]);
+		}
+	return 0;
+}
+
+static inline int nizwarf_do_done(const nizwarf_ops *ops, const nizwarf_req *req)
+{
+	const nizwarf_call *c = req->call;
+	const nizwarf_file_info fi = nizwarf_file_of(c);
+	const char *name = NIZWARF_NAME(c->name);
+	const int datasync = (c->has & NIZWARF_DATASYNC) != 0;
+
+	switch (c->call) {
+	case NIZWARF_UNLINK:
+		return NIZWARF_DO(unlink, c->node, name);
+	case NIZWARF_RMDIR:
+		return NIZWARF_DO(rmdir, c->node, name);
+	case NIZWARF_RENAME:
+		return NIZWARF_DO(rename, c->node, name, c->other_node,
+				  NIZWARF_NAME(c->other_name), c->flags);
+	case NIZWARF_RELEASE:
+		return ops->release ? ops->release(req, c->node, &fi) : 0;
+	case NIZWARF_FSYNC:
+		return NIZWARF_DO(fsync, c->node, datasync, &fi);
+	case NIZWARF_SETXATTR:
+		return NIZWARF_DO(setxattr, c->node, name, req->request + c->data.at,
+				  (size_t)c->data.len, c->flags);
+	case NIZWARF_REMOVEXATTR:
+		return NIZWARF_DO(removexattr, c->node, name);
+	case NIZWARF_FLUSH:
+		return NIZWARF_DO(flush, c->node, &fi);
+	case NIZWARF_RELEASEDIR:
+		return ops->releasedir ? ops->releasedir(req, c->node, &fi) : 0;
+	case NIZWARF_FSYNCDIR:
+		return NIZWARF_DO(fsyncdir, c->node, datasync, &fi);
+	case NIZWARF_ACCESS:
+		return NIZWARF_DO(access, c->node, c->more);
+	case NIZWARF_FALLOCATE:
+		return NIZWARF_DO(fallocate, c->node, c->mode, c->offset, c->length, &fi);
+	case NIZWARF_SYNCFS:
+		return NIZWARF_DO(syncfs, c->node);
+	default:
+		return ENOSYS;
+	}
+}
+
+static inline int nizwarf_do_entry(const nizwarf_ops *ops, const nizwarf_req *req,
+				   nizwarf_answer *answer)
+{
+	const nizwarf_call *c = req->call;
+	const char *name = NIZWARF_NAME(c->name);
+	nizwarf_entry_param e;
+	int error = ENOSYS;
+
+	memset(&e, 0, sizeof(e));
+	switch (c->call) {
+	case NIZWARF_LOOKUP:
+		error = NIZWARF_DO(lookup, c->node, name, &e);
+		break;
+	case NIZWARF_SYMLINK:
+		error = NIZWARF_DO(symlink, NIZWARF_NAME(c->other_name), c->node, name, &e);
+		break;
+	case NIZWARF_MKNOD:
+		error = NIZWARF_DO(mknod, c->node, name, c->mode, c->rdev, &e);
+		break;
+	case NIZWARF_MKDIR:
+		error = NIZWARF_DO(mkdir, c->node, name, c->mode, &e);
+		break;
+	case NIZWARF_LINK:
+		error = NIZWARF_DO(link, c->node, c->other_node, name, &e);
+		break;
+	}
+	answer->entry = nizwarf_entry_of(&e);
+	return error;
+}
+
+static inline int nizwarf_do_attr(const nizwarf_ops *ops, const nizwarf_req *req,
+				  nizwarf_answer *answer)
+{
+	const nizwarf_call *c = req->call;
+	const nizwarf_file_info fi = nizwarf_file_of(c);
+	const nizwarf_file_info *open = c->has & NIZWARF_HAS_HANDLE ? &fi : NULL;
+	struct timespec timeout = { 0, 0 };
+	int error = ENOSYS;
+
+	if (c->call == NIZWARF_GETATTR)
+		error = NIZWARF_DO(getattr, c->node, open, &answer->entry.attr, &timeout);
+	else if (c->call == NIZWARF_SETATTR)
+		error = NIZWARF_DO(setattr, c->node, &c->attr, c->flags, open, &answer->entry.attr,
+				   &timeout);
+	answer->entry.attr_seconds = (uint64_t)timeout.tv_sec;
+	answer->entry.attr_nanoseconds = (uint32_t)timeout.tv_nsec;
+	return error;
+}
+
+/* OPEN and OPENDIR, which are done where they are not in the table, and CREATE. */
+static inline int nizwarf_do_open(const nizwarf_ops *ops, const nizwarf_req *req,
+				  nizwarf_answer *answer)
+{
+	const nizwarf_call *c = req->call;
+	nizwarf_file_info fi = nizwarf_file_of(c);
+	nizwarf_entry_param e;
+	int error = 0;
+
+	memset(&e, 0, sizeof(e));
+	if (c->call == NIZWARF_CREATE)
+		error = NIZWARF_DO(create, c->node, NIZWARF_NAME(c->name), c->mode, &fi, &e);
+	else if (c->call == NIZWARF_OPENDIR)
+		error = ops->opendir ? ops->opendir(req, c->node, &fi) : 0;
+	else if (ops->open)
+		error = ops->open(req, c->node, &fi);
+	answer->entry = nizwarf_entry_of(&e);
+	answer->has_handle = 1;
+	answer->handle = fi.fh;
+	answer->open_flags = fi.open_flags;
+	return error;
+}
+
+/* READ, and what answers a text: it is put where it has its place in the reply. */
+static inline int nizwarf_do_data(const nizwarf_ops *ops, const nizwarf_req *req, uint8_t *room,
+				  size_t space, nizwarf_answer *answer)
+{
+	const nizwarf_call *c = req->call;
+	const nizwarf_file_info fi = nizwarf_file_of(c);
+	const size_t size = c->call != NIZWARF_READLINK && c->size < space ? c->size : space;
+	size_t len = 0;
+	int error = ENOSYS;
+
+	switch (c->call) {
+	case NIZWARF_READ:
+		error = NIZWARF_DO(read, c->node, size, c->offset, &fi, room, &len);
+		break;
+	case NIZWARF_READLINK:
+		error = NIZWARF_DO(readlink, c->node, (char *)room, size, &len);
+		break;
+	case NIZWARF_GETXATTR:
+		error = NIZWARF_DO(getxattr, c->node, NIZWARF_NAME(c->name), size, room, &len);
+		break;
+	case NIZWARF_LISTXATTR:
+		error = NIZWARF_DO(listxattr, c->node, size, (char *)room, &len);
+		break;
+	}
+	answer->count = len;
+	answer->text = room;
+	if (c->answer == NIZWARF_TEXT_OR_COUNT && !c->size)
+		answer->has_count = 1;
+	else if (len <= size)
+		answer->text_len = len;
+	else if (!error)
+		error = ERANGE;
+	return error;
+}
+
+static inline int nizwarf_do_directory(const nizwarf_ops *ops, const nizwarf_req *req,
+				       nizwarf_dir *dir, nizwarf_answer *answer)
+{
+	const nizwarf_call *c = req->call;
+	const nizwarf_file_info fi = nizwarf_file_of(c);
+	int error;
+
+	dir->left = c->size < dir->left ? c->size : dir->left;
+	if (c->has & NIZWARF_PLUS)
+		error = NIZWARF_DO(readdirplus, c->node, c->offset, &fi, dir);
+	else
+		error = NIZWARF_DO(readdir, c->node, c->offset, &fi, dir);
+	answer->items = dir->items;
+	answer->items_len = dir->len;
+	return error;
+}
+
+static inline int nizwarf_do_written(const nizwarf_ops *ops, const nizwarf_req *req,
+				     nizwarf_answer *answer)
+{
+	const nizwarf_call *c = req->call;
+	const nizwarf_file_info fi = nizwarf_file_of(c);
+	nizwarf_file_info out = fi;
+	size_t size = c->size < c->data.len ? c->size : (size_t)c->data.len, len = 0;
+	int error = ENOSYS;
+
+	out.fh = c->other_handle;
+	if (c->call == NIZWARF_WRITE)
+		error = NIZWARF_DO(write, c->node, req->request + c->data.at, size, c->offset, &fi,
+				   &len);
+	else if (c->call == NIZWARF_COPY)
+		/* (its flags stand where others have the owner of a lock) */
+		error = NIZWARF_DO(copy_file_range, c->node, c->offset, &fi, c->other_node,
+				   c->other_offset, &out, c->length, c->lock_owner, &len);
+	answer->count = len;
+	return error;
+}
+
+static inline int nizwarf_do_others(const nizwarf_ops *ops, const nizwarf_req *req,
+				    nizwarf_answer *answer)
+{
+	const nizwarf_call *c = req->call;
+	const nizwarf_file_info fi = nizwarf_file_of(c);
+
+	switch (c->call) {
+	case NIZWARF_INIT:
+		if (ops->readdirplus)
+			answer->count = c->length & NIZWARF_WANT_READDIRPLUS;
+		return ops->init ? ops->init(req, c->length, &answer->count) : 0;
+	case NIZWARF_STATFS:
+		answer->statfs.namemax = 255;
+		answer->statfs.bsize = answer->statfs.frsize = 512;
+		return ops->statfs ? ops->statfs(req, c->node, &answer->statfs) : 0;
+	case NIZWARF_LSEEK:
+		return NIZWARF_DO(lseek, c->node, c->offset, c->more, &fi, &answer->count);
+	default:
+		return ENOSYS;
+	}
+}
+
+#undef NIZWARF_DO
+#undef NIZWARF_NAME
+
+/* Makes the call, by the kind of its answer. */
+static inline int nizwarf_make_call(const nizwarf_ops *ops, const nizwarf_req *req,
+				    nizwarf_dir *dir, nizwarf_answer *answer)
+{
+	switch (req->call->answer) {
+	case NIZWARF_QUIET:
+		return nizwarf_do_quiet(ops, req);
+	case NIZWARF_DONE:
+		return nizwarf_do_done(ops, req);
+	case NIZWARF_ENTRY:
+		return nizwarf_do_entry(ops, req, answer);
+	case NIZWARF_ATTR:
+		return nizwarf_do_attr(ops, req, answer);
+	case NIZWARF_OPENED:
+	case NIZWARF_CREATED:
+		return nizwarf_do_open(ops, req, answer);
+	case NIZWARF_DATA:
+	case NIZWARF_TEXT:
+	case NIZWARF_TEXT_OR_COUNT:
+		return nizwarf_do_data(ops, req, dir->names, dir->left, answer);
+	case NIZWARF_DIRECTORY:
+		return nizwarf_do_directory(ops, req, dir, answer);
+	case NIZWARF_WRITTEN:
+		return nizwarf_do_written(ops, req, answer);
+	default:
+		return nizwarf_do_others(ops, req, answer);
+	}
+}
+
+/* Serves one request, of `len` bytes in one piece, with one room. The answer is as that of
+ * nizwarf_message: NIZWARF_OK, and the first `*reply_len` bytes of the room are the reply; any
+ * other code, and there is none. `session->options` change with INIT and DESTROY. What the client
+ * does not get is given back by `forget`. `items` are room for the items of a directory: of those
+ * that don't fit there the client asks again. */
+static inline int32_t nizwarf_serve_ops(const nizwarf_ops *ops, void *user, nizwarf_slot *slot,
+					nizwarf_session *session, const void *request, size_t len,
+					void *room, size_t room_len, nizwarf_item *items,
+					size_t most, size_t *reply_len)
+{
+	const nizwarf_segment piece = { request, len };
+	const nizwarf_room whole = { room, room_len };
+	nizwarf_answer answer = NIZWARF_NO_ANSWER;
+	nizwarf_call call;
+	nizwarf_told told;
+	nizwarf_dir dir;
+	nizwarf_req req;
+	int32_t code;
+	size_t i;
+
+	*reply_len = 0;
+	code = nizwarf_ask(slot, session, &piece, 1, &whole, 1, &call, &told);
+	*reply_len = (size_t)told.len;
+	if (code != NIZWARF_ASKED)
+		return code;
+	req.user = user;
+	req.call = &call;
+	req.request = (const uint8_t *)request;
+	dir.ops = ops;
+	dir.req = &req;
+	dir.items = items;
+	dir.len = 0;
+	dir.most = most;
+	dir.names = (uint8_t *)room + (room_len < 16 ? room_len : 16);
+	dir.left = room_len < 16 ? 0 : room_len - 16;
+	answer.error = nizwarf_make_call(ops, &req, &dir, &answer);
+	code = nizwarf_reply(slot, session, &call, &answer, &whole, 1, &told);
+	*reply_len = (size_t)told.len;
+	if (call.call == NIZWARF_INIT || call.call == NIZWARF_DESTROY)
+		session->options = told.options;
+	nizwarf_give_back(&dir, told.give_back);
+	for (i = (size_t)told.taken; i < dir.len; i++)
+		nizwarf_give_back(&dir, items[i].entry.node);
+	return code;
+}
+
+#ifdef __cplusplus
+}
+#endif
+
+#endif
