@@ -1,13 +1,17 @@
 #!/usr/bin/env bash
 # Compiles examples/c/serve.c against include/nizwarf.h, links the library for C, and runs it: it answers
 # an INIT, a MKDIR and a LOOKUP, and checks the replies. Then tools/c-example.c holds the library against what the
-# header says, also where each allocation is refused in turn, and under the sanitizers of the compiler, if
-# it has them. Last, all names that the library defines begin with `nizwarf_`.
+# header says, also where each allocation is refused in turn. tools/c-hello.c asks a few requests of
+# examples/c/hello.c, a file system over the library vfs_door; tools/c-door.c, tools/c-door-cases.c,
+# tools/c-door-threads.c and tools/c-ops.c hold that library against what the headers say. All that runs
+# under the sanitizers of the compiler too, if it has them. Last, all names that the libraries define begin
+# with `nizwarf_`.
 #
 # Usage: tools/c-example.sh [--prove]
-# It takes the proved library where that is built and no source is newer; otherwise tools/unproved.sh
-# builds it without a proof, which takes a minute. With --prove it is proved first, as crates/vfs_c/out has
-# it then: a minute or two, and half an hour where no lower crate was proved before.
+# It takes each proved library where that is built and no source is newer; otherwise tools/unproved.sh
+# builds it without a proof, which takes a minute. With --prove they are proved first, as crates/vfs_c/out
+# and crates/vfs_door/out have them then: a few minutes, and half an hour where no lower crate was proved
+# before.
 # Status 0: all is as it should be; 1: not so; 2: it could not start.
 set -euo pipefail
 . "$(dirname "$0")/usage.sh"
@@ -23,10 +27,15 @@ folder=$(mktemp -d)
 trap 'rm -rf "$folder"' EXIT
 if [ $# = 1 ]; then
     need_toolchain
-    echo "Proving and building the library .." >&2
-    (cd "$here/crates/vfs_c" && rt lib) > "$folder/said" 2>&1 || { tail -n 20 "$folder/said" >&2 && exit 1; }
+    for name in vfs_c vfs_door; do
+        echo "Proving and building the library $name .." >&2
+        (cd "$here/crates/$name" && rt lib) > "$folder/said" 2>&1 || { tail -n 20 "$folder/said" >&2 && exit 1; }
+    done
 fi
+find_library vfs_door
+door=${library[0]}
 find_library
+library=("$door" "${library[@]}")
 
 # Compiles and links a source of here, with flags behind it.
 compile() {
@@ -36,22 +45,52 @@ compile() {
         "${library[@]}" "$@"
 }
 
+# Whether the compiler has these flags, and what it makes by them runs.
+has_flags() {
+    echo 'int main(void) { return 0; }' | cc -x c "$@" -o "$folder/program" - 2> /dev/null \
+        && "$folder/program" 2> /dev/null
+}
+
 counted=(-Wl,--wrap=malloc -Wl,--wrap=realloc -Wl,--wrap=free)
 sanitized=(-g -O1 -fsanitize=address,undefined -fno-sanitize-recover=all)
-compile examples/c/serve.c -O2
-"$folder/program"
-compile tools/c-example.c -O2 "${counted[@]}"
-"$folder/program"
-if echo 'int main(void) { return 0; }' | cc -x c "${sanitized[@]}" -o "$folder/program" - 2> /dev/null; then
-    compile examples/c/serve.c "${sanitized[@]}"
-    "$folder/program" > /dev/null
-    compile tools/c-example.c "${sanitized[@]}" "${counted[@]}"
-    "$folder/program" > /dev/null
+threaded=(-g -O1 -fsanitize=thread -pthread)
+
+# The examples and the tests, compiled with these flags.
+run_all() {
+    compile examples/c/serve.c "$@"
+    "$folder/program"
+    compile tools/c-example.c "$@" "${counted[@]}"
+    "$folder/program"
+    compile examples/c/hello.c "$@"
+    mv "$folder/program" "$folder/hello"
+    compile tools/c-hello.c "$@"
+    timeout 60 "$folder/program" "$folder/hello"
+    compile tools/c-ops.c "$@"
+    "$folder/program"
+    compile tools/c-door.c "$@"
+    "$folder/program"
+    compile tools/c-door-cases.c "$@" "${counted[@]}"
+    "$folder/program"
+    compile tools/c-door-threads.c "$@" -pthread
+    timeout 60 "$folder/program"
+}
+
+run_all -O2
+if command -v c++ > /dev/null; then
+    echo '#include "nizwarf_ops.h"' \
+        | c++ -std=c++11 -Wall -Wextra -Werror -I "$here/include" -fsyntax-only -x c++ -
+fi
+if has_flags "${sanitized[@]}"; then
+    run_all "${sanitized[@]}" > /dev/null
+    if has_flags "${threaded[@]}"; then
+        compile tools/c-door-threads.c "${threaded[@]}"
+        timeout 60 "$folder/program" > /dev/null
+    fi
     echo "The sanitizers found nothing."
 fi
 
-others=$(nm --defined-only --extern-only "${library[0]}" | awk 'NF == 3 && $3 !~ /^nizwarf_/ { print $3 }')
+others=$(nm --defined-only --extern-only "${library[@]:0:2}" | awk 'NF == 3 && $3 !~ /^nizwarf_/ { print $3 }')
 if [ -n "$others" ]; then
-    echo "Names of the library that do not begin with nizwarf_:" $others >&2
+    echo "Names of the libraries that do not begin with nizwarf_:" $others >&2
     exit 1
 fi
