@@ -1,0 +1,120 @@
+-- What C is told of a call that was answered.
+use Rattle.std.proofs.Common.{◌≡◌, ◌≤◌, ◌+◌, ◌-◌, ◌++◌, ◌∙◌, ℕ, ℤ, List, length, take, drop, replicate, true, Option, Some, None, IfSome, ap, sym, subst, inl, arith, rules, length-append, append_assoc}
+use Rattle.std.proofs.lemmas.List.{length-replicate, length-take-le, take_at}
+use Rattle.std.proofs.Math.Seq.{take-append-add}
+use Rattle.vfs_segments.specs.Segments.{flat_bytes, lengths_of}
+use Rattle.vfs_segments.specs.Written.{Written, whole}
+use Rattle.vfs_files.specs.Calls.{Kind, Data, Iterators}
+use Rattle.vfs_grammar.specs.Reply.{reply_of, reply_to}
+use Rattle.vfs_files.specs.Calls.{read_answer}
+use Rattle.vfs_grammar.specs.declared.limits.Limits.{Limits}
+use Rattle.vfs_calls.specs.declared.call.CallData.{CallData}
+use Rattle.vfs_calls.specs.declared.data.AnswerData.{AnswerData}
+use Rattle.vfs_calls.specs.declared.data.ItemData.{ItemData}
+use Rattle.vfs_answer.specs.Kinds.{kind_told}
+use Rattle.vfs_answer.specs.Answering.{Answers, AnswersCall, can_answer, echo_told, with_behind}
+use Rattle.vfs_answer.specs.Told.{AnswersEachCall, AnswersEachListing}
+use Rattle.vfs_answer.specs.declared.answered.Answered.{Answered}
+use Rattle.vfs_rooms.specs.Codes.{number_of, length_of}
+use Rattle.vfs_door.specs.Answering.{AnswersOrNot, put_of}
+use Rattle.vfs_door.specs.declared.data.ToldData.{ToldData}
+use Rattle.vfs_door.proofs.Leaving.{Keeps, replied_keeps, are_first}
+
+-- a writer has no more room than was told
+within : (kind : Kind) (call : CallData) (space : ℕ) → can_answer (Some kind) call space ≡ true
+    → space ≤ call.room
+within (Data size) call space is = search rules
+within Iterators call space is = search rules
+within kind call space is = search rules
+
+-- what holds with more room behind a writer's own holds of that alone
+shorter : (old new : Written) (behind : List ℕ) → Keeps (with_behind old behind) (with_behind new behind)
+    → Keeps old new
+shorter old new behind k =
+    let n = length old.left in
+    let all : whole new ++ behind ≡ old.passed ++ k.room_after =
+    append_assoc new.passed new.left behind ∙ k.leaves.kept in
+    let e1 = sym (length-append (whole new) behind) ∙ ap length all ∙ length-append old.passed k.room_after in
+    let e2 : length k.room_after ≡ n + length behind = k.leaves.same_length ∙ length-append old.left behind in
+    let long : length (whole new) ≡ length old.passed + n = omega (arith, e1, e2) in
+    let enough : n ≤ length k.room_after = omega (arith, e2) in
+    record {
+      room_after = take n k.room_after;
+      leaves = record {
+        kept =
+            sym (take_at (whole new) behind (length old.passed + n) long)
+            ∙ ap (take (length old.passed + n)) all
+            ∙ take-append-add old.passed k.room_after n;
+        same_length = length-take-le n k.room_after enough;
+        same_segments = k.leaves.same_segments;
+      };
+    }
+
+module _ (limits : Limits) (call : CallData) (a : AnswerData) (text : List ℕ) (items : List ItemData)
+    (before after : Written) (came : Answered) where
+  call_keeps : (kind : Kind) → AnswersCall limits (Some kind) call a text before (Some came) after
+      → Keeps before after
+  call_keeps kind h =
+      let behind : List ℕ = replicate (call.room - length before.left) 0 in
+      let n : length behind ≡ call.room - length before.left = length-replicate (call.room - length before.left) 0 in
+      let fits = within kind call (length before.left) h.0 in
+      let all : length before.left + length behind ≡ call.room = omega (arith, n, fits) in
+      let is = h.1 behind all in
+      shorter before after behind (replied_keeps (reply_of limits (echo_told call) came.options kind is.answer)
+      (with_behind before behind) (with_behind after behind) came.outcome is.comes.1)
+
+  -- a writer through which a call was answered keeps what it had passed
+  answered_keeps : (kind : Option Kind) → Answers limits kind call a text items before (Some came) after
+      → Keeps before after
+  answered_keeps None h = absurd h
+  answered_keeps (Some Iterators) h =
+      replied_keeps (reply_to call.unique (Data call.size) (read_answer h.1.answer h.1.records)) before after
+      came.outcome h.1.replied
+  answered_keeps (Some kind) h = call_keeps kind h
+
+module _ (limits : Limits) (call : CallData) (a : AnswerData) (text : List ℕ) (items : List ItemData)
+    (total : ℕ) (told : ToldData) (before after : Written) (result : Option Answered) (room : List ℕ)
+    (space : length before.left ≡ total) (total_is : total ≡ put_of call call.room)
+    (by_kind : Answers limits (kind_told call.answer call.size) call a text items before result after)
+    (calls : AnswersEachCall limits call a text before result after)
+    (listings : AnswersEachListing limits call a items before result after)
+    (taken : IfSome result (λ came. came.taken ≤ length items)) where
+  -- it was answered
+  pub told_answered : (code : ℤ) (len put : ℕ) (came : Answered) (segments : List (List ℕ))
+      → result ≡ Some came → length before.lengths ≡ 1
+      → flat_bytes segments ≡ whole after → lengths_of segments ≡ after.lengths
+      → (length (lengths_of segments) ≡ 1
+      → room ≡ drop (length (flat_bytes segments) - total) (flat_bytes segments))
+      → code ≡ number_of came.outcome → len ≡ length_of came.outcome → put ≡ put_of call len
+      → AnswersOrNot limits call a text items code told
+      (record told {
+        len = len;
+        put = put;
+        options = came.options;
+        give_back = came.given;
+        taken = came.taken;
+      })
+      (take put room)
+  told_answered code len put came segments some_is one bytes lengths last number length_is put_is =
+      let kind = kind_told call.answer call.size in
+      let by : Answers limits kind call a text items before (Some came) after =
+      subst (λ (r : Option Answered). Answers limits kind call a text items before r after) some_is by_kind in
+      let keeps = answered_keeps limits call a text items before after came kind by in
+      let puts : put ≡ put_of call (length_of came.outcome) = put_is ∙ ap (put_of call) length_is in
+      inl (record {
+        before = before;
+        space = space ∙ total_is;
+        result = Some came;
+        after = after;
+        by_kind = by;
+        calls = subst (λ (r : Option Answered). AnswersEachCall limits call a text before r after) some_is calls;
+        listings = subst (λ (r : Option Answered). AnswersEachListing limits call a items before r after) some_is listings;
+        within = subst (λ (r : Option Answered). IfSome r (λ (came : Answered). came.taken ≤ length items)) some_is taken;
+        passed_on = (
+          number,
+          ap (λ (n : ℕ). let t : ToldData = record told { len = n; put = put; options = came.options; give_back = came.given; taken = came.taken } in t) length_is
+              ∙ ap (λ (n : ℕ). let t : ToldData = record told { len = length_of came.outcome; put = n; options = came.options; give_back = came.given; taken = came.taken } in t) puts,
+          rw puts (are_first (put_of call (length_of came.outcome)) total before after segments room keeps space one
+              bytes lengths last),
+        );
+      })

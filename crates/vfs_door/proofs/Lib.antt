@@ -1,0 +1,3 @@
+mod Leaving
+mod Asking
+mod Answering

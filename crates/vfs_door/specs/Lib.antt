@@ -1,0 +1,5 @@
+pub mod Handle
+pub mod Session
+pub mod Shown
+pub mod Asking
+pub mod Answering

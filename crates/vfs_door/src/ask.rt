@@ -1,0 +1,90 @@
+//! Asking a request for its call.
+
+ghost use Rattle.std.specs.Prelude.{◌≡◌};
+ghost use Rattle.vfs_flags.specs.Flags.{fs_options_bits};
+ghost use Rattle.vfs_segments.specs.Segments.{segments_of, flat_bytes};
+ghost use Rattle.vfs_grammar.specs.Limits.{AreLimits};
+ghost use Rattle.vfs_rooms.specs.Codes.{number_of, length_of};
+ghost use Rattle.vfs_door.specs.Asking.{AsksOrNot};
+ghost use Rattle.vfs_door.specs.Shown.{bytes_shown};
+
+use crate::data::ToldData;
+use crate::memory::Memory;
+use std::alloc::Global;
+use vfs_ask::{Asked, ask};
+use vfs_calls::CallData;
+use vfs_flags::FsOptions;
+use vfs_grammar::{Limits, Result};
+use vfs_rooms::codes::{ASKED, OK, OUT_OF_MEMORY, TOO_LONG, told as code_of};
+use vfs_segments::Reader;
+
+/// The number of an outcome, and the length of the reply, 0 where there is none.
+pub fn number_and_length(outcome: &Result<usize>) -> (i32, usize)
+    ensures number { result.0 ≡ number_of outcome.now }
+    ensures length { result.1 ≡ length_of outcome.now }
+{
+    match outcome {
+        Ok(len) => (OK, *len),
+        Err(error) => (code_of(error, 0).0, 0),
+    }
+}
+
+/// Asks the request in these segments, with `room` bytes of room: the code of what came of it.
+pub fn ask_segments(
+    alloc: Global,
+    memory: &mut Memory,
+    limits: Limits,
+    options: FsOptions,
+    request: &[&[u8]],
+    room: usize,
+    call: &mut CallData,
+    told: &mut ToldData,
+) -> i32
+    requires { AreLimits limits }
+    ensures { AsksOrNot limits (fs_options_bits options) (flat_bytes (segments_of request.now)) room
+        result call.old call.new told.old told.new (bytes_shown memory.new) }
+{
+    memory.shown = 0;
+    match Reader::new(alloc, request) {
+        Ok(reader) => ask_reader(alloc, memory, limits, options, reader, room, call, told),
+        Err(vfs_segments::Error::DescriptorChainOverflow) => TOO_LONG,
+        Err(_) => OUT_OF_MEMORY,
+    }
+}
+
+// Asks the request that this reader has left.
+fn ask_reader(
+    alloc: Global,
+    memory: &mut Memory,
+    limits: Limits,
+    options: FsOptions,
+    reader: Reader<'_>,
+    room: usize,
+    call: &mut CallData,
+    told: &mut ToldData,
+) -> i32
+    requires limits { AreLimits limits }
+    requires none_shown { memory.old.shown ≡ 0 }
+    ensures { AsksOrNot limits (fs_options_bits options) reader.entry.left room
+        result call.old call.new told.old told.new (bytes_shown memory.new) }
+{
+    let Some(mut writer) = memory.lend(alloc, room) else {
+        return OUT_OF_MEMORY;
+    };
+    let asked = ask(alloc, limits, options, reader, &mut writer, call);
+    memory.keep(alloc, writer.into_segments(), room);
+    match asked {
+        Asked::Call => ASKED,
+        Asked::Finished {
+            outcome,
+            interrupts,
+        } => {
+            let (code, len) = number_and_length(&outcome);
+            memory.shown = len;
+            told.len = len as u64;
+            told.put = len as u64;
+            told.interrupts = interrupts;
+            code
+        }
+    }
+}

@@ -1,0 +1,168 @@
+//! The door for a file system that stands outside, in any language: a request is asked for its call,
+//! which is told as data, and the answer to the call becomes the reply.
+//!
+//! The header is `include/nizwarf.h`. The functions there look at pointers first, since no function
+//! here can: for a reference of the signatures below C gives a pointer to what is there, never NULL. A
+//! slice is a pointer and then a length to C, also as an element of a list and as the name of an item;
+//! `alloc` is nothing.
+//!
+//! A slot has memory, and nothing else: each call is told all it goes by. C may break the conditions
+//! that the header states, and then nothing is promised.
+#![tactic(auto)]
+
+mod answer;
+mod ask;
+mod data;
+mod handle;
+mod memory;
+
+ghost use Rattle.std.specs.Prelude.{◌≡◌, ◌++◌, length, take, drop, min, MatchOption};
+ghost use Rattle.std.specs.declared.option.Option.TheVariants.{None};
+ghost use Rattle.vfs_segments.specs.Segments.{segments_of, flat_bytes};
+ghost use Rattle.vfs_grammar.specs.Limits.{AreLimits};
+ghost use Rattle.vfs_rooms.specs.Codes.{ok, no_server, wrong_size};
+ghost use Rattle.vfs_door.specs.Answering.{AnswersOrNot};
+ghost use Rattle.vfs_door.specs.Asking.{AsksOrNot};
+ghost use Rattle.vfs_door.specs.Session.{limits_of, options_of};
+ghost use Rattle.vfs_door.specs.Shown.{shown_in};
+
+use crate::answer::{answer_call, entry_of};
+use crate::ask::ask_segments;
+use crate::data::{SessionData, ToldData};
+use crate::handle::Handle;
+use crate::memory::Memory;
+use std::alloc::Global;
+use vfs_calls::{AnswerData, CallData, ItemData};
+use vfs_rooms::codes::{NO_SERVER, OK, OUT_OF_MEMORY, WRONG_SIZE};
+
+// The memory behind a handle, or new. `None` where there is no memory.
+fn memory_of(alloc: Global, handle: &mut Handle) -> Option<Box<Memory>>
+    ensures { handle.new.value ≡ None }
+{
+    match handle.take(alloc) {
+        Some(memory) => Some(memory),
+        None => Box::new(alloc, Memory::new(alloc)).ok(),
+    }
+}
+
+/// Asks the request in these segments for its call, of which any may be empty. `room` is how many bytes
+/// there are for the reply.
+///
+/// Answers 15 where it asks for a call, which is told in `call`. Else it is finished, and `call` is
+/// none: the outcome's number, 0 where there is a reply or none is needed, else the error's, 1 to 10.
+/// `told` has the length of the reply, and what an INTERRUPT means; the reply is there to be copied out
+/// up to the next call with this handle. 10 is also answered where there was no memory to begin with, 13
+/// where the lengths sum past `usize::MAX`, and 12 where there is no server for the sizes of the
+/// session: then nothing is told.
+#[unsafe(no_mangle)]
+pub extern "C" fn nizwarf_ask_at(
+    alloc: Global,
+    handle: &mut Handle,
+    session: &SessionData,
+    request: &[&[u8]],
+    room: usize,
+    call: &mut CallData,
+    told: &mut ToldData,
+) -> i32
+    ensures wrong { (AreLimits (limits_of session.now) → ⊥) →
+        (result ≡ wrong_size) × (handle.new.value ≡ handle.old.value)
+        × (call.new ≡ call.old) × (told.new ≡ told.old) }
+    ensures asked { AreLimits (limits_of session.now) →
+        AsksOrNot (limits_of session.now) (options_of session.now)
+        (flat_bytes (segments_of request.now)) room
+        result call.old call.new told.old told.new (shown_in handle.new.value) }
+{
+    let Some(limits) = session.limits() else {
+        return WRONG_SIZE;
+    };
+    let Some(mut memory) = memory_of(alloc, handle) else {
+        return OUT_OF_MEMORY;
+    };
+    let options = session.options();
+    let code = ask_segments(
+        alloc,
+        &mut memory,
+        limits,
+        options,
+        request,
+        room,
+        call,
+        told,
+    );
+    handle.put(memory);
+    code
+}
+
+/// Answers a call that was asked. `text` is the text of a link, the value of an extended attribute, or
+/// the names of all; `items` are those of a directory.
+///
+/// Answers the outcome's number, as [`nizwarf_ask_at`] does. `told` has the length of the reply, and how
+/// many of its bytes are there to be copied out: of a READ the 16 of its header, since the data stand in
+/// the room already; the options from then on; the node of an entry that the client doesn't get to see,
+/// of which a lookup is to be given back; and how many items are in the reply. 16 is answered where the
+/// call is none that was asked, and 12 where there is no server for the sizes of the session: then
+/// nothing is told. 10 where there is no memory: then an entry is to be given back.
+#[unsafe(no_mangle)]
+pub extern "C" fn nizwarf_answer_at(
+    alloc: Global,
+    handle: &mut Handle,
+    session: &SessionData,
+    call: &CallData,
+    answer: &AnswerData,
+    text: &[u8],
+    items: &[ItemData<'_>],
+    told: &mut ToldData,
+) -> i32
+    ensures wrong { (AreLimits (limits_of session.now) → ⊥) →
+        (result ≡ wrong_size) × (handle.new.value ≡ handle.old.value) × (told.new ≡ told.old) }
+    ensures answered { AreLimits (limits_of session.now) →
+        AnswersOrNot (limits_of session.now) call.now answer.now text.now items.now
+        result told.old told.new (shown_in handle.new.value) }
+{
+    let Some(limits) = session.limits() else {
+        return WRONG_SIZE;
+    };
+    let Some(mut memory) = memory_of(alloc, handle) else {
+        told.give_back = entry_of(call, answer);
+        return OUT_OF_MEMORY;
+    };
+    let code = answer_call(alloc, &mut memory, limits, call, answer, text, items, told);
+    handle.put(memory);
+    code
+}
+
+/// Copies bytes that the last call left, from place `at` on, over the first ones of a piece, as many as
+/// both have. Answers how many.
+#[unsafe(no_mangle)]
+pub extern "C" fn nizwarf_copy_slot_at(
+    alloc: Global,
+    handle: &mut Handle,
+    at: usize,
+    piece: &mut [u8],
+) -> usize
+    ensures same { handle.new.value ≡ handle.old.value }
+    ensures count { result ≡
+        min (length (drop at (shown_in handle.old.value))) (length piece.old) }
+    ensures copied { piece.new ≡
+        take result (drop at (shown_in handle.old.value)) ++ drop result piece.old }
+{
+    let Some(memory) = handle.take(alloc) else {
+        return 0;
+    };
+    let count = memory.copy_out(at, piece);
+    handle.put(memory);
+    count
+}
+
+/// Gives the memory of a slot back. Answers 0, or 11 where it had none.
+#[unsafe(no_mangle)]
+pub extern "C" fn nizwarf_end_slot_at(alloc: Global, handle: &mut Handle) -> i32
+    ensures ended { handle.new.value ≡ None }
+    ensures code { MatchOption handle.old.value (result ≡ no_server) (λ _. result ≡ ok) }
+{
+    let Some(memory) = handle.take(alloc) else {
+        return NO_SERVER;
+    };
+    drop(memory);
+    OK
+}
