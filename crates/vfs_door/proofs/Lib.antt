@@ -1,3 +1,4 @@
 mod Leaving
 mod Asking
 mod Answering
+mod Lookup

@@ -3,3 +3,4 @@ pub mod Session
 pub mod Shown
 pub mod Asking
 pub mod Answering
+pub mod Uses

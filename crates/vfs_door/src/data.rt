@@ -63,3 +63,15 @@ pub struct ToldData {
     /// The number of the request that an INTERRUPT means, or 0.
     pub interrupts: u64,
 }
+
+impl ToldData {
+    /// Nothing is told.
+    pub const NOTHING: ToldData = ToldData {
+        len: 0,
+        put: 0,
+        options: 0,
+        give_back: 0,
+        taken: 0,
+        interrupts: 0,
+    };
+}

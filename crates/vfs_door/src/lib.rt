@@ -15,6 +15,7 @@ mod ask;
 mod data;
 mod handle;
 mod memory;
+mod uses;
 
 ghost use Rattle.std.specs.Prelude.{◌≡◌, ◌++◌, length, take, drop, min, MatchOption};
 ghost use Rattle.std.specs.declared.option.Option.TheVariants.{None};

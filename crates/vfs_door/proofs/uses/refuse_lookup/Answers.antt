@@ -1,0 +1,19 @@
+use Rattle.std.proofs.Common.{◌≡◌, refl, rules}
+use Rattle.vfs_rooms.specs.Codes.{ok}
+use Rattle.vfs_door.proofs.Lookup.{are_limits, refused}
+use Rattle.vfs_door.proofs.uses.refuse_lookup.Goals as goal
+
+pub returns-clause-bytes : goal.returns-clause-bytes
+returns-clause-bytes c = λ is.
+    let fine : c.nizwarf_answer_at.result ≡ ok = search rules in
+    (refused _ _ _ _ _ _ _ _ c.requires refl (c.nizwarf_answer_at.ensures.answered are_limits) fine).0
+
+pub returns-clause-length : goal.returns-clause-length
+returns-clause-length c = λ is.
+    let fine : c.nizwarf_answer_at.result ≡ ok = search rules in
+    (refused _ _ _ _ _ _ _ _ c.requires refl (c.nizwarf_answer_at.ensures.answered are_limits) fine).1
+
+pub returns-clause-none_back : goal.returns-clause-none_back
+returns-clause-none_back c = λ is.
+    let fine : c.nizwarf_answer_at.result ≡ ok = search rules in
+    (refused _ _ _ _ _ _ _ _ c.requires refl (c.nizwarf_answer_at.ensures.answered are_limits) fine).2

@@ -1,0 +1,130 @@
+//! A program that calls the library in a row, as one does that has a file system.
+
+ghost use Rattle.std.specs.Prelude.{◌≡◌, ◌≢◌, ◌≤◌, ◌⊎◌, [], length};
+ghost use Rattle.std.specs.declared.option.Option.TheVariants.{None};
+ghost use Rattle.vfs_grammar.specs.Samples.{lookup_of_a};
+ghost use Rattle.vfs_segments.specs.Segments.{segments_of, flat_bytes};
+ghost use Rattle.vfs_rooms.specs.Codes.{ok, no_memory, not_asked, is_asked};
+ghost use Rattle.vfs_door.specs.Shown.{shown_in};
+ghost use Rattle.vfs_door.specs.Uses.{IsLookupOfA, no_such_name};
+
+use crate::data::{SessionData, ToldData};
+use crate::handle::Handle;
+use crate::{nizwarf_answer_at, nizwarf_ask_at, nizwarf_copy_slot_at, nizwarf_end_slot_at};
+use std::alloc::Global;
+use vfs_calls::{AnswerData, CallData, EntryData, kind, number};
+use vfs_rooms::codes::{ASKED, OK};
+
+/// A session before its INIT, as virtiofsd has it.
+const SESSION: SessionData = SessionData {
+    options: 0,
+    page_size: 4096,
+    max_buffer: 1_048_576,
+};
+
+/// Asks a LOOKUP of the name `a` for its call: it is told, and nothing is there to be copied out; unless
+/// there is no memory.
+fn ask_lookup(
+    alloc: Global,
+    handle: &mut Handle,
+    lookup: &[&[u8]],
+    call: &mut CallData,
+    told: &mut ToldData,
+) -> i32
+    requires { flat_bytes (segments_of lookup.now) ≡ lookup_of_a }
+    ensures code { (result ≡ is_asked) ⊎ (result ≡ no_memory) }
+    ensures call { result ≡ is_asked → IsLookupOfA call.new }
+    ensures untold { result ≡ is_asked → told.new ≡ told.old }
+    ensures nothing { result ≡ is_asked → shown_in handle.new.value ≡ [] }
+{
+    nizwarf_ask_at(alloc, handle, &SESSION, lookup, 4096, call, told)
+}
+
+/// Answers that LOOKUP by ENOENT, which is 2: these are the bytes of the reply.
+fn refuse_lookup(alloc: Global, handle: &mut Handle, call: &CallData, told: &mut ToldData) -> i32
+    requires { IsLookupOfA call.now }
+    ensures bytes { result ≡ ok → shown_in handle.new.value ≡ no_such_name }
+    ensures length { result ≡ ok → (told.new.len ≡ 16) × (told.new.put ≡ 16) }
+    ensures none_back { result ≡ ok → told.new.give_back ≡ 0 }
+{
+    let no_entry = AnswerData {
+        error: 2,
+        ..AnswerData::default()
+    };
+    nizwarf_answer_at(alloc, handle, &SESSION, call, &no_entry, &[], &[], told)
+}
+
+/// Answers that LOOKUP by an entry. Where there is no memory for the reply, it is to be given back.
+fn find(alloc: Global, handle: &mut Handle, call: &CallData, node: u64, told: &mut ToldData) -> i32
+    requires { IsLookupOfA call.now }
+    ensures { result ≡ no_memory → told.new.give_back ≡ node }
+{
+    let entry = EntryData {
+        node,
+        ..EntryData::default()
+    };
+    let found = AnswerData {
+        error: 0,
+        entry,
+        ..AnswerData::default()
+    };
+    nizwarf_answer_at(alloc, handle, &SESSION, call, &found, &[], &[], told)
+}
+
+/// Asks a LOOKUP of a name for its call, answers that there is none, copies the reply out, and gives the
+/// memory back. If all is answered, the reply is these sixteen bytes.
+fn nothing_is_found(alloc: Global, handle: &mut Handle, lookup: &[&[u8]], reply: &mut [u8]) -> i32
+    requires lookup { flat_bytes (segments_of lookup.now) ≡ lookup_of_a }
+    requires reply { length reply.old ≡ 16 }
+    ensures bytes { result ≡ ok → reply.new ≡ no_such_name }
+    ensures ended { result ≡ ok → handle.new.value ≡ None }
+{
+    let mut call = CallData::NONE;
+    let mut told = ToldData::NOTHING;
+    let asked = ask_lookup(alloc, handle, lookup, &mut call, &mut told);
+    if asked != ASKED {
+        return asked;
+    }
+    let answered = refuse_lookup(alloc, handle, &call, &mut told);
+    if answered != OK {
+        return answered;
+    }
+    let _ = nizwarf_copy_slot_at(alloc, handle, 0, reply);
+    nizwarf_end_slot_at(alloc, handle)
+}
+
+/// Answers a READ whose room is too short for a header: it is none that was asked, and nothing is told.
+fn read_without_room(alloc: Global, handle: &mut Handle, told: &mut ToldData) -> i32
+    ensures code { (result ≡ not_asked) ⊎ (result ≡ no_memory) }
+    ensures untold { result ≡ not_asked → told.new ≡ told.old }
+    ensures nothing { shown_in handle.new.value ≡ [] }
+{
+    let call = CallData {
+        call: number::READ,
+        answer: kind::DATA,
+        room: 15,
+        ..CallData::NONE
+    };
+    let answer = AnswerData::default();
+    nizwarf_answer_at(alloc, handle, &SESSION, &call, &answer, &[], &[], told)
+}
+
+/// Answers a READ: of the reply no more than the header is there to be copied out.
+fn read_some(
+    alloc: Global,
+    handle: &mut Handle,
+    call: &CallData,
+    count: u64,
+    told: &mut ToldData,
+) -> i32
+    requires { call.now.answer ≡ 3 }
+    ensures put { result ≡ ok → told.new.put ≤ 16 }
+    ensures header { length (shown_in handle.new.value) ≤ 16 }
+{
+    let some = AnswerData {
+        error: 0,
+        count,
+        ..AnswerData::default()
+    };
+    nizwarf_answer_at(alloc, handle, &SESSION, call, &some, &[], &[], told)
+}
