@@ -2,7 +2,7 @@
 use Rattle.std.proofs.Common.{◌≡◌, ◌≤◌, ◌^◌, ◌⊎◌, length, ℕ, ℤ, List, [], ◌∷◌, Option, Some, None, IfSome, MatchOption, refl, subst, inl, inr}
 use Rattle.vfs_server.specs.Step.{ServerState}
 use Rattle.vfs_history.specs.History.{Moment, Handled, Changed, IsHistory, HistoriesKeepBooks}
-use Rattle.vfs_c.specs.Codes.{ok, no_memory, too_long}
+use Rattle.vfs_rooms.specs.Codes.{ok, no_memory, too_long}
 use Rattle.vfs_c.specs.Files.{State, Allows, Gives, told}
 use Rattle.vfs_c.specs.History.{Turned, Answered, Told, HandlesTwo}
 

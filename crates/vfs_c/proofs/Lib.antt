@@ -1,4 +1,3 @@
-mod Rooms
 mod Steps
 mod Histories
 mod Calling

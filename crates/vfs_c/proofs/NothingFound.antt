@@ -17,10 +17,11 @@ use Rattle.vfs_grammar.specs.declared.error.Error.{Error}
 use Rattle.vfs_grammar.specs.declared.limits.Limits.{Limits}
 use Rattle.vfs_server.specs.Step.{ServerState}
 use Rattle.vfs_history.specs.History.{Handled, IsHistory, IsHandled}
-use Rattle.vfs_c.specs.Codes.{ok, number_of, shown_of}
+use Rattle.vfs_rooms.specs.Codes.{ok, number_of, shown_of}
 use Rattle.vfs_c.specs.Files.{State, Iterator, Allows, Gives, new_state, told}
 use Rattle.vfs_c.specs.History.{Turned, Answered, HandlesTwo}
-use Rattle.vfs_c.specs.Served.{new_server, told_time, part_from}
+use Rattle.vfs_rooms.specs.Parts.{part_from}
+use Rattle.vfs_c.specs.Served.{new_server, told_time}
 use Rattle.vfs_c.specs.Uses.{no_such_name}
 use Rattle.vfs_c.specs.declared.files.Settings.{Settings}
 use Rattle.vfs_c.proofs.Calling.{turned}

@@ -4,7 +4,7 @@ use Rattle.std.proofs.lemmas.List.{drop_at}
 use Rattle.vfs_segments.specs.Written.{Written, whole}
 use Rattle.vfs_grammar.specs.declared.error.Error.{Error}
 use Rattle.vfs_server.specs.Step.{ServerState, IsStep, ReadsDirectories}
-use Rattle.vfs_c.specs.Codes.{number_of, length_of, shown_of}
+use Rattle.vfs_rooms.specs.Codes.{number_of, length_of, shown_of}
 use Rattle.vfs_c.specs.Files.{State, Allows, Gives}
 use Rattle.vfs_c.specs.Served.{Served}
 

@@ -4,7 +4,7 @@ use Rattle.vfs_grammar.specs.Books.{KeepsBooks}
 use Rattle.vfs_grammar.specs.Turn.{Turn}
 use Rattle.vfs_server.specs.Step.{ServerState}
 use Rattle.vfs_history.specs.History.{Moment, Handled, Changed, IsHistory}
-use Rattle.vfs_c.specs.Codes.{number_of, length_of, shown_of}
+use Rattle.vfs_rooms.specs.Codes.{number_of, length_of, shown_of}
 use Rattle.vfs_c.specs.Files.{State, Allows, Gives, told}
 use Rattle.vfs_c.specs.Served.{Refused}
 

@@ -1,4 +1,3 @@
-pub mod Codes
 pub mod Files
 pub mod Handle
 pub mod History

@@ -1,11 +1,11 @@
 -- What calls tell of the server behind a handle.
-use Rattle.std.specs.Prelude.{◌≡◌, ◌≤◌, ◌^◌, ◌⊎◌, ℕ, ℤ, List, ◌++◌, length, take, drop, Result}
+use Rattle.std.specs.Prelude.{◌≡◌, ◌≤◌, ◌^◌, ◌⊎◌, ℕ, ℤ, List, ◌++◌, length, Result}
 use Rattle.vfs_segments.specs.Written.{Written, whole}
 use Rattle.vfs_grammar.specs.declared.error.Error.{Error}
 use Rattle.vfs_server.specs.Step.{ServerState, IsStep, ReadsDirectories}
 use Rattle.vfs_c.specs.Files.{State, new_state, told, Allows, Gives}
 use Rattle.vfs_c.specs.declared.files.Settings.{Settings}
-use Rattle.vfs_c.specs.Codes.{no_memory, too_long, number_of, length_of, shown_of}
+use Rattle.vfs_rooms.specs.Codes.{no_memory, too_long, number_of, length_of, shown_of}
 
 -- a new server over a new file system: no options are agreed on
 abbrev pub new_server : (page_size max_buffer : ℕ) → Settings → ServerState State
@@ -51,7 +51,3 @@ abbrev pub Served : (old : ServerState State) → (request : List ℕ) → (tota
 Served old request total number len room shown new =
     Stepped old request total number len room shown new
     ⊎ Refused old request number len shown new
-
--- the bytes that are there to be copied out, from place `at` on
-abbrev pub part_from : (at : ℕ) → (room : List ℕ) → (shown : ℕ) → List ℕ
-part_from at room shown = drop at (take shown room)

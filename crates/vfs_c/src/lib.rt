@@ -10,7 +10,6 @@
 //! states, and then nothing is promised.
 #![tactic(auto)]
 
-mod codes;
 mod files;
 mod handle;
 mod laws;
@@ -21,11 +20,11 @@ ghost use Rattle.std.specs.Prelude.{◌≡◌, ◌≢◌, ◌≤◌, ◌<◌, �
 ghost use Rattle.std.specs.declared.option.Option.TheVariants.{None, Some};
 ghost use Rattle.vfs_flags.specs.declared.constants.TheConstants.{LEAST_MAX_BUFFER, GREATEST_MAX_BUFFER};
 ghost use Rattle.vfs_segments.specs.Segments.{segments_of, flat_bytes};
-ghost use Rattle.vfs_c.specs.Codes.{ok, no_memory, no_server, wrong_size};
+ghost use Rattle.vfs_rooms.specs.Codes.{ok, no_memory, no_server, wrong_size};
 ghost use Rattle.vfs_c.specs.History.{Answered, Told};
-ghost use Rattle.vfs_c.specs.Served.{new_server, told_time, Served, part_from};
+ghost use Rattle.vfs_c.specs.Served.{new_server, told_time, Served};
+ghost use Rattle.vfs_rooms.specs.Parts.{part_from};
 
-use crate::codes::{NO_SERVER, OK, OUT_OF_MEMORY, WRONG_SIZE};
 use crate::files::{Files, Settings};
 use crate::handle::Handle;
 use crate::session::Session;
@@ -33,6 +32,7 @@ use bitflags::Flags;
 use std::alloc::Global;
 use vfs_flags::{GREATEST_MAX_BUFFER, LEAST_MAX_BUFFER};
 use vfs_history::laws::history_goes_on;
+use vfs_rooms::codes::{NO_SERVER, OK, OUT_OF_MEMORY, WRONG_SIZE};
 
 /// Puts a new server over a new file system of these settings into the handle, for this size of a
 /// page and this largest payload, both in bytes. A server that is there is ended first. Answers 0;

@@ -1,14 +1,16 @@
 //! A server and the room of its replies, as they live between calls.
 
-ghost use Rattle.std.specs.Prelude.{◌≡◌, ◌≤◌, ◌-◌, ◌++◌, ◌∷◌, [], length, take, drop, min, vec_len, IfSome};
+ghost use Rattle.std.specs.Prelude.{◌≡◌, ◌≤◌, ◌-◌, ◌++◌, length, take, drop, min, IfSome};
 ghost use Rattle.vfs_flags.specs.declared.constants.TheConstants.{LEAST_MAX_BUFFER, GREATEST_MAX_BUFFER};
 ghost use Rattle.vfs_segments.specs.Segments.{segments_of, contents, flat_bytes, lengths_of};
-ghost use Rattle.vfs_c.specs.Served.{new_server, told_time, Served, part_from};
+ghost use Rattle.vfs_c.specs.Served.{new_server, told_time, Served};
+ghost use Rattle.vfs_rooms.specs.Parts.{part_from};
 
-use crate::codes::{OK, OUT_OF_MEMORY, TOO_LONG, told};
 use crate::files::{Files, Settings, new_files, tell_time};
 use std::alloc::Global;
 use std::mem;
+use vfs_rooms::codes::{OK, OUT_OF_MEMORY, TOO_LONG, told};
+use vfs_rooms::{copy_part, lend, only_room};
 use vfs_segments::{Reader, Writer};
 use vfs_server::server::Server;
 
@@ -107,7 +109,7 @@ impl Session {
     {
         let room = mem::replace(&mut self.room, Vec::new(alloc));
         let list = mem::replace(&mut self.list, Vec::new(alloc));
-        end_of(alloc, list, grown(room, total)?, total)
+        lend(alloc, list, room, total)
     }
 
     // Takes the memory back, and keeps the list that it stood in. The last room is its last `total`
@@ -120,7 +122,7 @@ impl Session {
             drop (length (flat_bytes (contents rooms.items)) - total)
             (flat_bytes (contents rooms.items)) }
     {
-        self.room = take_only(alloc, &mut rooms);
+        self.room = only_room(alloc, &mut rooms);
         self.start = self.room.len().saturating_sub(total);
         self.list = rooms;
     }
@@ -135,78 +137,6 @@ impl Session {
             take result (part_from at (drop self.now.start self.now.room.items) self.now.shown)
             ++ drop result piece.old }
     {
-        let room = &self.room[self.start.min(self.room.len())..];
-        copy_first(part(room, self.shown, at), piece)
+        copy_part(&self.room, self.start, self.shown, at, piece)
     }
-}
-
-// The room, made longer where it has less than `total` bytes. `None` where there is no memory.
-fn grown(mut room: Vec<u8>, total: usize) -> Option<Vec<u8>>
-    ensures { IfSome result (λ room. total ≤ vec_len room) }
-{
-    if total <= room.len() {
-        return Some(room);
-    }
-    match room.resize(total, 0) {
-        Ok(()) => Some(room),
-        Err(_) => None,
-    }
-}
-
-// A writer with the last `total` bytes of the room left. `None` where there is no memory.
-#[tactic(auto, using(crate::proofs::Rooms::end_left))]
-fn end_of(alloc: Global, list: Vec<Vec<u8>>, room: Vec<u8>, total: usize) -> Option<Writer>
-    requires { total ≤ vec_len room }
-    ensures left { IfSome result (λ w. length w.left ≡ total) }
-    ensures one { IfSome result (λ w. length w.lengths ≡ 1) }
-{
-    let before = room.len() - total;
-    let Ok(mut writer) = Writer::new(alloc, list_of(list, room)?) else {
-        return None;
-    };
-    match writer.hold(before) {
-        Ok(()) => Some(writer),
-        Err(_) => None,
-    }
-}
-
-// The list with this room alone in it. `None` where there is no memory.
-fn list_of(mut list: Vec<Vec<u8>>, room: Vec<u8>) -> Option<Vec<Vec<u8>>>
-    ensures { IfSome result (λ rooms. rooms.items ≡ room ∷ []) }
-{
-    list.clear();
-    match list.push(room) {
-        Ok(()) => Some(list),
-        Err(_) => None,
-    }
-}
-
-// The only room of a list of one.
-#[tactic(auto, using(crate::proofs::Rooms::only_room))]
-fn take_only(alloc: Global, rooms: &mut Vec<Vec<u8>>) -> Vec<u8>
-    requires { length (lengths_of (contents rooms.old.items)) ≡ 1 }
-    ensures { result.items ≡ flat_bytes (contents rooms.old.items) }
-{
-    match rooms.pop() {
-        Some(room) => room,
-        None => Vec::new(alloc),
-    }
-}
-
-// The first `shown` bytes, without those before place `at`.
-fn part(room: &[u8], shown: usize, at: usize) -> &[u8]
-    ensures { result.now ≡ part_from at room.now shown }
-{
-    let front = &room[..shown.min(room.len())];
-    &front[at.min(front.len())..]
-}
-
-// Copies as many bytes as both have, and answers how many.
-fn copy_first(from: &[u8], to: &mut [u8]) -> usize
-    ensures count { result ≡ min (length from.now) (length to.old) }
-    ensures copied { to.new ≡ take result from.now ++ drop result to.old }
-{
-    let count = from.len().min(to.len());
-    to[..count].copy_from_slice(&from[..count]);
-    count
 }

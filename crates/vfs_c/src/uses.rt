@@ -4,14 +4,13 @@ ghost use Rattle.std.specs.Prelude.{◌≡◌, MatchOption, None, length};
 ghost use Rattle.vfs_grammar.specs.Samples.{lookup_of_a};
 ghost use Rattle.vfs_history.specs.Calls.{forget_of_5};
 ghost use Rattle.vfs_segments.specs.Segments.{segments_of, flat_bytes};
-ghost use Rattle.vfs_c.specs.Codes.{ok};
+ghost use Rattle.vfs_rooms.specs.Codes.{ok};
 ghost use Rattle.vfs_c.specs.Files.{State};
 ghost use Rattle.vfs_c.specs.History.{HandlesTwo};
 ghost use Rattle.vfs_c.specs.Served.{new_server};
 ghost use Rattle.vfs_c.specs.Uses.{no_such_name};
 ghost use Rattle.vfs_server.specs.Step.{ServerState};
 
-use crate::codes::OK;
 use crate::files::{Files, Settings};
 use crate::handle::Handle;
 use crate::{
@@ -19,6 +18,7 @@ use crate::{
 };
 use std::alloc::Global;
 use vfs_history::laws::history_keeps_books;
+use vfs_rooms::codes::OK;
 
 /// Makes a server, and has it handle two messages, each after it was told the time. If both are
 /// answered, the server's history is these four moments, and the books of both turns are kept.

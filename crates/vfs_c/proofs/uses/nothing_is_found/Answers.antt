@@ -1,5 +1,5 @@
 use Rattle.std.proofs.Common.{◌≡◌, drop, refl, rules, subst, IfSome, MatchOption}
-use Rattle.vfs_c.specs.Codes.{ok}
+use Rattle.vfs_rooms.specs.Codes.{ok}
 use Rattle.vfs_c.specs.History.{Told}
 use Rattle.vfs_c.specs.Served.{told_time}
 use Rattle.vfs_c.proofs.Calling.{in_a_row}

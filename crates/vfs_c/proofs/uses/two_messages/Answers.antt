@@ -1,5 +1,5 @@
 use Rattle.std.proofs.Common.{◌≡◌, drop, rules}
-use Rattle.vfs_c.specs.Codes.{ok}
+use Rattle.vfs_rooms.specs.Codes.{ok}
 use Rattle.vfs_c.proofs.Calling.{in_a_row}
 use Rattle.vfs_c.proofs.uses.two_messages.Goals as goal
 

@@ -1,5 +1,5 @@
 use Rattle.std.proofs.Common.{sym, ap, refl, rules}
-use Rattle.vfs_c.specs.Codes.{number_of, length_of}
+use Rattle.vfs_rooms.specs.Codes.{number_of, length_of}
 use Rattle.vfs_c.proofs.Steps.{stepped}
 use Rattle.vfs_c.proofs.session.Session.answer_reader.Goals as goal
 
