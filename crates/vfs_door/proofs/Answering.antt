@@ -34,8 +34,10 @@ shorter old new behind k =
     let n = length old.left in
     let all : whole new ++ behind ≡ old.passed ++ k.room_after =
     append_assoc new.passed new.left behind ∙ k.leaves.kept in
-    let e1 = sym (length-append (whole new) behind) ∙ ap length all ∙ length-append old.passed k.room_after in
-    let e2 : length k.room_after ≡ n + length behind = k.leaves.same_length ∙ length-append old.left behind in
+    let e1 = sym (length-append (whole new) behind) ∙ ap length all
+    ∙ length-append old.passed k.room_after in
+    let e2 : length k.room_after ≡ n + length behind =
+    k.leaves.same_length ∙ length-append old.left behind in
     let long : length (whole new) ≡ length old.passed + n = omega (arith, e1, e2) in
     let enough : n ≤ length k.room_after = omega (arith, e2) in
     record {
@@ -55,12 +57,14 @@ module _ (limits : Limits) (call : CallData) (a : AnswerData) (text : List ℕ) 
   call_keeps : (kind : Kind) → AnswersCall limits (Some kind) call a text before (Some came) after
       → Keeps before after
   call_keeps kind h =
-      let behind : List ℕ = replicate (call.room - length before.left) 0 in
-      let n : length behind ≡ call.room - length before.left = length-replicate (call.room - length before.left) 0 in
+      let more = call.room - length before.left in
+      let behind : List ℕ = replicate more 0 in
+      let n : length behind ≡ more = length-replicate more 0 in
       let fits = within kind call (length before.left) h.0 in
       let all : length before.left + length behind ≡ call.room = omega (arith, n, fits) in
       let is = h.1 behind all in
-      shorter before after behind (replied_keeps (reply_of limits (echo_told call) came.options kind is.answer)
+      let reply = reply_of limits (echo_told call) came.options kind is.answer in
+      shorter before after behind (replied_keeps reply
       (with_behind before behind) (with_behind after behind) came.outcome is.comes.1)
 
   -- a writer through which a call was answered keeps what it had passed
@@ -68,53 +72,59 @@ module _ (limits : Limits) (call : CallData) (a : AnswerData) (text : List ℕ) 
       → Keeps before after
   answered_keeps None h = absurd h
   answered_keeps (Some Iterators) h =
-      replied_keeps (reply_to call.unique (Data call.size) (read_answer h.1.answer h.1.records)) before after
-      came.outcome h.1.replied
+      let reply = reply_to call.unique (Data call.size) (read_answer h.1.answer h.1.records) in
+      replied_keeps reply before after came.outcome h.1.replied
   answered_keeps (Some kind) h = call_keeps kind h
+
+-- an answer is told so, with this length and so many bytes put
+abbrev told_by : ToldData → Answered → (len put : ℕ) → ToldData
+told_by told came len put = record told {
+  len = len;
+  put = put;
+  options = came.options;
+  give_back = came.given;
+  taken = came.taken;
+}
 
 module _ (limits : Limits) (call : CallData) (a : AnswerData) (text : List ℕ) (items : List ItemData)
     (total : ℕ) (told : ToldData) (before after : Written) (result : Option Answered) (room : List ℕ)
-    (space : length before.left ≡ total) (total_is : total ≡ put_of call call.room)
-    (by_kind : Answers limits (kind_told call.answer call.size) call a text items before result after)
-    (calls : AnswersEachCall limits call a text before result after)
-    (listings : AnswersEachListing limits call a items before result after)
-    (taken : IfSome result (λ came. came.taken ≤ length items)) where
+    (space : length before.left ≡ total) (total_is : total ≡ put_of call call.room) where
+  -- the clauses of `answer`
+  abbrev Clauses : Option Answered → Type 0
+  Clauses r =
+      Answers limits (kind_told call.answer call.size) call a text items before r after
+      × AnswersEachCall limits call a text before r after
+      × AnswersEachListing limits call a items before r after
+      × IfSome r (λ came. came.taken ≤ length items)
+
   -- it was answered
   pub told_answered : (code : ℤ) (len put : ℕ) (came : Answered) (segments : List (List ℕ))
-      → result ≡ Some came → length before.lengths ≡ 1
+      → Clauses result → result ≡ Some came → length before.lengths ≡ 1
       → flat_bytes segments ≡ whole after → lengths_of segments ≡ after.lengths
       → (length (lengths_of segments) ≡ 1
       → room ≡ drop (length (flat_bytes segments) - total) (flat_bytes segments))
       → code ≡ number_of came.outcome → len ≡ length_of came.outcome → put ≡ put_of call len
-      → AnswersOrNot limits call a text items code told
-      (record told {
-        len = len;
-        put = put;
-        options = came.options;
-        give_back = came.given;
-        taken = came.taken;
-      })
-      (take put room)
-  told_answered code len put came segments some_is one bytes lengths last number length_is put_is =
-      let kind = kind_told call.answer call.size in
-      let by : Answers limits kind call a text items before (Some came) after =
-      subst (λ (r : Option Answered). Answers limits kind call a text items before r after) some_is by_kind in
-      let keeps = answered_keeps limits call a text items before after came kind by in
-      let puts : put ≡ put_of call (length_of came.outcome) = put_is ∙ ap (put_of call) length_is in
+      → AnswersOrNot limits call a text items code told (told_by told came len put) (take put room)
+  told_answered code len put came segments clauses some_is one bytes lengths last number length_is put_is =
+      let n = length_of came.outcome in
+      let is : Clauses (Some came) = subst Clauses some_is clauses in
+      let keeps = answered_keeps limits call a text items before after came
+      (kind_told call.answer call.size) is.0 in
+      let puts : put ≡ put_of call n = put_is ∙ ap (put_of call) length_is in
+      let first = are_first (put_of call n) total before after segments room keeps space one bytes
+      lengths last in
       inl (record {
         before = before;
         space = space ∙ total_is;
         result = Some came;
         after = after;
-        by_kind = by;
-        calls = subst (λ (r : Option Answered). AnswersEachCall limits call a text before r after) some_is calls;
-        listings = subst (λ (r : Option Answered). AnswersEachListing limits call a items before r after) some_is listings;
-        within = subst (λ (r : Option Answered). IfSome r (λ (came : Answered). came.taken ≤ length items)) some_is taken;
+        by_kind = is.0;
+        calls = is.1;
+        listings = is.2;
+        within = is.3;
         passed_on = (
           number,
-          ap (λ (n : ℕ). let t : ToldData = record told { len = n; put = put; options = came.options; give_back = came.given; taken = came.taken } in t) length_is
-              ∙ ap (λ (n : ℕ). let t : ToldData = record told { len = length_of came.outcome; put = n; options = came.options; give_back = came.given; taken = came.taken } in t) puts,
-          rw puts (are_first (put_of call (length_of came.outcome)) total before after segments room keeps space one
-              bytes lengths last),
+          ap (λ (k : ℕ). told_by told came k put) length_is ∙ ap (told_by told came n) puts,
+          rw puts first,
         );
       })

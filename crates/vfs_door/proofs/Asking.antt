@@ -31,10 +31,17 @@ finished_keeps q o n (WithMemory rest) before after outcome i call (inl t) =
 finished_keeps q o n (WithMemory rest) before after outcome i call (inr t) =
     replied_keeps (Refusal OutOfMemory) before after outcome t.0
 
+-- a request is told finished so, with this length
+abbrev told_by : ToldData → (len interrupts : ℕ) → ToldData
+told_by told len interrupts = record told { len = len; put = len; interrupts = interrupts }
+
 module _ (limits : Limits) (options : ℕ) (request : List ℕ) (total : ℕ) (call call_after : CallData)
     (told : ToldData) (before after : Written) (result : Asked) (room : List ℕ)
     (is : IsAsked limits options request before result after call_after)
     (space : length before.left ≡ total) where
+  asked_as : (r : Asked) → result ≡ r → IsAsked limits options request before r after call_after
+  asked_as r e = subst (λ (r : Asked). IsAsked limits options request before r after call_after) e is
+
   -- a call is told
   pub told_call : (shown : ℕ) → result ≡ asked.Call → shown ≡ 0
       → AsksOrNot limits options request total is_asked call call_after told told (take shown room)
@@ -44,7 +51,7 @@ module _ (limits : Limits) (options : ℕ) (request : List ℕ) (total : ℕ) (c
         space = space;
         result = asked.Call;
         after = after;
-        asked = subst (λ (r : Asked). IsAsked limits options request before r after call_after) call_is is;
+        asked = asked_as asked.Call call_is;
         passed_on = (refl, refl, ap (λ (n : ℕ). take n room) none);
       })
 
@@ -56,13 +63,15 @@ module _ (limits : Limits) (options : ℕ) (request : List ℕ) (total : ℕ) (c
       → (length (lengths_of segments) ≡ 1
       → room ≡ drop (length (flat_bytes segments) - total) (flat_bytes segments))
       → code ≡ number_of outcome → len ≡ length_of outcome
-      → AsksOrNot limits options request total code call call_after told
-      (record told { len = len; put = len; interrupts = interrupts }) (take len room)
-  told_finished code len outcome interrupts segments finished_is one bytes lengths last number length_is =
-      let tells : IsAsked limits options request before (asked.Finished outcome interrupts) after call_after =
-      subst (λ (r : Asked). IsAsked limits options request before r after call_after) finished_is is in
+      → AsksOrNot limits options request total code call call_after told (told_by told len interrupts)
+      (take len room)
+  told_finished code len outcome interrupts segments finished one bytes lengths last number length_is =
+      let n = length_of outcome in
+      let tells = asked_as (asked.Finished outcome interrupts) finished in
       let keeps = finished_keeps request options (interrupted_by limits request)
-      (ask limits options (length before.left) request) before after outcome interrupts call_after tells in
+      (ask limits options (length before.left) request) before after outcome interrupts call_after
+      tells in
+      let first = are_first n total before after segments room keeps space one bytes lengths last in
       inl (record {
         before = before;
         space = space;
@@ -71,8 +80,7 @@ module _ (limits : Limits) (options : ℕ) (request : List ℕ) (total : ℕ) (c
         asked = tells;
         passed_on = (
           number,
-          ap (λ (n : ℕ). let t : ToldData = record told { len = n; put = n; interrupts = interrupts } in t) length_is,
-          rw length_is (are_first (length_of outcome) total before after segments room keeps space one bytes
-              lengths last),
+          ap (λ (k : ℕ). told_by told k interrupts) length_is,
+          rw length_is first,
         );
       })

@@ -33,9 +33,11 @@ replied_keeps (OpenBehind reply) old new outcome h =
 room_behind : (passed room_after all : List ℕ) (total : ℕ) → all ≡ passed ++ room_after
     → length room_after ≡ total → drop (length all - total) all ≡ room_after
 room_behind passed room_after all total kept long =
-    let n : length all ≡ length passed + length room_after = ap length kept ∙ length-append passed room_after in
-    let at : length passed ≡ length all - total = omega (arith, n, long) in
-    ap (λ (bs : List ℕ). drop (length all - total) bs) kept ∙ drop_at passed room_after (length all - total) at
+    let n : length all ≡ length passed + length room_after =
+    ap length kept ∙ length-append passed room_after in
+    let before = length all - total in
+    let at : length passed ≡ before = omega (arith, n, long) in
+    ap (λ (bs : List ℕ). drop before bs) kept ∙ drop_at passed room_after before at
 
 -- the first bytes of the room that came back
 pub are_first : (count total : ℕ) (before after : Written) (segments : List (List ℕ)) (room : List ℕ)
@@ -45,7 +47,8 @@ pub are_first : (count total : ℕ) (before after : Written) (segments : List (L
     → room ≡ drop (length (flat_bytes segments) - total) (flat_bytes segments))
     → AreFirst count before after (take count room)
 are_first count total before after segments room keeps space one bytes lengths is =
-    let same : length (lengths_of segments) ≡ 1 = ap length (lengths ∙ keeps.leaves.same_segments) ∙ one in
+    let same : length (lengths_of segments) ≡ 1 =
+    ap length (lengths ∙ keeps.leaves.same_segments) ∙ one in
     let behind = room_behind before.passed keeps.room_after (flat_bytes segments) total
     (bytes ∙ keeps.leaves.kept) (keeps.leaves.same_length ∙ space) in
     record {

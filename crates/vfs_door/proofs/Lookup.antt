@@ -1,5 +1,5 @@
 -- A LOOKUP of a name: its call, and what is copied out of the reply.
-use Rattle.std.proofs.Common.{◌≡◌, ◌≢◌, ◌⊎◌, ◌≤◌, ◌^◌, ◌+◌, ◌∙◌, ℕ, ℤ, pos, List, [], ◌∷◌, ◌++◌, length, take, drop, Bool, true, false, nat_le, Option, Some, None, MatchOption, Result, Ok, refl, ap, sym, subst, inl, inr, arith, rules}
+use Rattle.std.proofs.Common.{◌≡◌, ◌⊎◌, ◌≤◌, ◌^◌, ◌∙◌, ℕ, ℤ, pos, List, [], ◌∷◌, ◌++◌, length, take, Bool, true, false, nat_le, Option, Some, None, MatchOption, Result, Ok, refl, ap, sym, subst, inl, inr, arith}
 use Rattle.std.proofs.lemmas.Int.{ints}
 use Rattle.std.proofs.lemmas.List.{append_cancel_left}
 use Rattle.vfs_flags.specs.Opcode.{opcode_of}
@@ -7,7 +7,7 @@ use Rattle.vfs_wire.specs.Entries.{entry_out}
 use Rattle.vfs_wire.specs.Fields.{little, number, value_of, bytes_of}
 use Rattle.vfs_wire.specs.Headers.{in_header}
 use Rattle.vfs_segments.specs.Written.{Written, whole}
-use Rattle.vfs_files.specs.Calls.{Call, Lookup, Answer, Failed, Found, Entries, Iterators, kind_of}
+use Rattle.vfs_files.specs.Calls.{Call, Lookup, Answer, Failed, Found, Entries}
 use Rattle.vfs_files.specs.Entries.{context_of, entry_out_of}
 use Rattle.vfs_files.specs.declared.entry.Entry.{Entry}
 use Rattle.vfs_grammar.specs.Ask.{ask}
@@ -26,12 +26,12 @@ use Rattle.vfs_ask.specs.Asked.{IsAsked, IsTold, Tells, interrupted_by}
 use Rattle.vfs_ask.specs.declared.asked.Asked.{Asked}
 use Rattle.vfs_ask.specs.declared.asked.Asked.TheVariants as asked
 use Rattle.vfs_answer.specs.Said.{IsSaid}
-use Rattle.vfs_answer.specs.Told.{TellsEcho, TellsCall, CallIsAnswered, AnswersEachCall}
+use Rattle.vfs_answer.specs.Told.{TellsEcho, TellsCall, CallIsAnswered}
 use Rattle.vfs_answer.specs.declared.answered.Answered.{Answered}
 use Rattle.vfs_answer.proofs.Using.{in_room}
 use Rattle.vfs_rooms.specs.Codes.{ok, no_memory, is_asked, number_of, length_of}
 use Rattle.vfs_door.specs.Answering.{AnswersIn, AnswersOrNot, IsPassedOn, put_of}
-use Rattle.vfs_door.specs.Asking.{Asks, AsksOrNot}
+use Rattle.vfs_door.specs.Asking.{AsksOrNot}
 use Rattle.vfs_door.specs.Asking.{IsPassedOn as IsAskedOn}
 use Rattle.vfs_door.specs.Shown.{AreFirst}
 use Rattle.vfs_door.specs.Uses.{IsLookupOfA, no_such_name}
@@ -88,7 +88,7 @@ by_asked i space before after result call code told told_after shown room is (in
     let told_is : IsTold lookup_of_a 0 4096 echo lookup call =
     subst (λ (n : ℕ). IsTold lookup_of_a 0 n echo lookup call) (is ∙ room) t.1 in
     inl (p.0, told_lookup call told_is, p.1, p.2)
-by_asked i space before after (asked.Finished outcome n) call code told told_after shown room is (inr t) on =
+by_asked i space before after (asked.Finished outcome n) call code told told_after shown r is (inr t) on =
     inr (on.0 ∙ ap number_of t.0.0)
 by_asked i space before after asked.Call call code told told_after shown room is (inr t) on = absurd t
 
@@ -99,10 +99,12 @@ pub looked_up : (request : List ℕ) (code : ℤ) (call call_after : CallData) (
 looked_up request code call call_after told told_after shown is (inl s) =
     let of_a : IsAsked limits 0 lookup_of_a s.before s.result s.after call_after =
     subst (λ (q : List ℕ). IsAsked limits 0 q s.before s.result s.after call_after) is s.asked in
-    by_asked (interrupted_by limits lookup_of_a) 4096 s.before s.after s.result call_after code told told_after
-    shown refl s.space
-    (subst (λ (a : Ask). Tells lookup_of_a 0 (interrupted_by limits lookup_of_a) a s.before s.result s.after call_after)
-    (asks (length s.before.left)) of_a) s.passed_on
+    let by = interrupted_by limits lookup_of_a in
+    let tells : Tells lookup_of_a 0 by (WithMemory (asks_call echo lookup)) s.before s.result s.after call_after =
+    subst (λ (a : Ask). Tells lookup_of_a 0 by a s.before s.result s.after call_after)
+    (asks (length s.before.left)) of_a in
+    by_asked by 4096 s.before s.after s.result call_after code told told_after shown refl s.space tells
+    s.passed_on
 looked_up request code call call_after told told_after shown is (inr s) = refused s.why
   where
     refused : (code ≡ no_memory) ⊎ ((code ≡ pos 13) × (2 ^ 64 ≤ length request))
@@ -138,6 +140,18 @@ unfolding number little
 reply_is after room outcome room_after long is =
     (is.says ∙ rw long refl, ap (take 16) is.leaves ∙ rw long refl)
 
+-- the LOOKUP was answered, and this came back
+abbrev AnsweredSo : CallData → AnswerData → (text : List ℕ) → (before after : Written) → Answered
+    → Type 0
+AnsweredSo call a text before after came =
+    CallIsAnswered limits echo lookup call.options a text before came after
+
+-- the reply with this answer came back
+abbrev Came : (options : ℕ) → Answer → (before : Written) → Result ℕ Error → (after : Written)
+    → Type 0
+Came options answer before outcome after =
+    Replies (reply_of limits echo options Entries answer) before outcome after
+
 -- the first bytes of the room that came back
 first_of : (before after : Written) (count : ℕ) (bytes room_after : List ℕ)
     → AreFirst count before after bytes → whole after ≡ before.passed ++ room_after
@@ -156,11 +170,12 @@ of_came : (call : CallData) (a : AnswerData) (text : List ℕ) (before after : W
     → IsPassedOn (Some came) call before after code told told_after shown → IsRefused told_after shown
 of_came call a text before after came code told told_after shown is two space h on =
     let no : h.answer ≡ Failed (Some 2) = refused_by a text before.left h.answer two h.said in
-    let w : Replies (reply_of limits echo came.options Entries (Failed (Some 2))) before came.outcome after =
-    subst (λ (x : Answer). Replies (reply_of limits echo came.options Entries x) before came.outcome after) no h.replied in
+    let w : Came came.options (Failed (Some 2)) before came.outcome after =
+    subst (λ (x : Answer). Came came.options x before came.outcome after) no h.replied in
     let r = reply_is came.options before.left came.outcome w.room_after space w.says in
     let put : put_of call 16 ≡ 16 = rw is.kind refl in
-    let puts : put_of call (length_of came.outcome) ≡ 16 = ap (λ (o : Result ℕ Error). put_of call (length_of o)) r.0 ∙ put in
+    let puts : put_of call (length_of came.outcome) ≡ 16 =
+    ap (λ (o : Result ℕ Error). put_of call (length_of o)) r.0 ∙ put in
     let given : came.given ≡ 0 = h.given_is ∙ rw no refl in (
       first_of before after _ shown w.room_after on.2 w.leaves.kept
           ∙ ap (λ (n : ℕ). take n w.room_after) puts ∙ r.1,
@@ -174,7 +189,7 @@ of_came call a text before after came code told told_after shown is two space h 
 by_result : (call : CallData) (a : AnswerData) (text : List ℕ) (before after : Written)
     (result : Option Answered) (code : ℤ) (told told_after : ToldData) (shown : List ℕ)
     → IsLookupOfA call → a.error ≡ pos 2 → length before.left ≡ 4096
-    → MatchOption result ⊥ (λ came. CallIsAnswered limits echo lookup call.options a text before came after)
+    → MatchOption result ⊥ (AnsweredSo call a text before after)
     → IsPassedOn result call before after code told told_after shown → code ≡ ok
     → IsRefused told_after shown
 by_result call a text before after None code told told_after shown is two space h on fine = absurd h
@@ -188,7 +203,7 @@ space_of call n is e = e ∙ rw (is.kind, is.room) refl
 answered_in : (call : CallData) (a : AnswerData) (text : List ℕ) (items : List ItemData) (code : ℤ)
     (told told_after : ToldData) (shown : List ℕ) → IsLookupOfA call
     → (s : AnswersIn limits call a text items code told told_after shown)
-    → MatchOption s.result ⊥ (λ came. CallIsAnswered limits echo lookup call.options a text s.before came s.after)
+    → MatchOption s.result ⊥ (AnsweredSo call a text s.before s.after)
 answered_in call a text items code told told_after shown is s =
     let space = space_of call (length s.before.left) is s.space in
     in_room limits call a text s.before s.after echo lookup s.result s.calls (tells_echo call is)
@@ -222,14 +237,13 @@ put_or_cut reply room false fits is = let e : pos 2 ≡ no_memory = rw fits at i
 no_want : (call : CallData) (a : AnswerData) (text : List ℕ) (before after : Written)
     (result : Option Answered) (code : ℤ) (told told_after : ToldData) (shown : List ℕ)
     → a.error ≡ pos 0
-    → MatchOption result ⊥ (λ came. CallIsAnswered limits echo lookup call.options a text before came after)
+    → MatchOption result ⊥ (AnsweredSo call a text before after)
     → IsPassedOn result call before after code told told_after shown → code ≡ no_memory → ⊥
 no_want call a text before after None code told told_after shown fine h on want = h
 no_want call a text before after (Some came) code told told_after shown fine h on want =
     let found = found_by a text before.left h.answer fine h.said in
-    let w : Replies (reply_of limits echo came.options Entries (Found found.0)) before came.outcome after =
-    subst (λ (x : Answer). Replies (reply_of limits echo came.options Entries x) before came.outcome after)
-    found.1 h.replied in
+    let w : Came came.options (Found found.0) before came.outcome after =
+    subst (λ (x : Answer). Came came.options x before came.outcome after) found.1 h.replied in
     put_or_cut (body_reply (bytes_of entry_out (entry_out_of found.0)) echo.unique) before.left _ refl
     (sym (ap number_of w.says.says) ∙ sym on.0 ∙ want)
 

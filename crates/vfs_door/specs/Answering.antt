@@ -14,8 +14,8 @@ use Rattle.vfs_rooms.specs.Codes.{no_memory, not_asked, number_of, length_of}
 use Rattle.vfs_door.specs.Shown.{AreFirst}
 use Rattle.vfs_door.specs.declared.data.ToldData.{ToldData}
 
--- Of so many bytes of a reply, or of its room, those that are put: all, but of a READ, whose kind is 3, the
--- header's 16 at most. Behind them the data are the caller's.
+-- Of so many bytes of a reply, or of its room, those that are put: all, but of a READ, whose kind is 3,
+-- the header's 16 at most. Behind them the data are the caller's.
 abbrev pub put_of : CallData → (len : ℕ) → ℕ
 put_of call len = if call.answer == 3 then min len 16 else len
 
@@ -34,8 +34,8 @@ answered call came told = record told {
   taken = came.taken;
 }
 
--- What is told of this: the number of the outcome, and the reply's bytes to be copied out; or that the call
--- can't be answered.
+-- What is told of this: the number of the outcome, and the reply's bytes to be copied out; or that the
+-- call can't be answered.
 abbrev pub IsPassedOn : Option Answered → CallData → (before after : Written) → (code : ℤ)
     → (told told_after : ToldData) → (shown : List ℕ) → Type 0
 IsPassedOn None call before after code told told_after shown =
@@ -59,8 +59,8 @@ pub record AnswersIn (limits : Limits) (call : CallData) (a : AnswerData) (text 
   pub within : IfSome result (λ came. came.taken ≤ length items)
   pub passed_on : IsPassedOn result call before after code told told_after shown
 
--- The call was not answered, for want of memory: an entry is to be given back, and nothing is there to be
--- copied out.
+-- The call was not answered, for want of memory: an entry is to be given back, and nothing is there to
+-- be copied out.
 pub record IsNotAnswered (call : CallData) (a : AnswerData) (code : ℤ) (told told_after : ToldData)
     (shown : List ℕ) : Type 0 where
   pub why : code ≡ no_memory

@@ -4,8 +4,8 @@ use Rattle.vfs_grammar.specs.Samples.{lookup_of_a}
 use Rattle.vfs_calls.specs.declared.call.CallData.{CallData}
 use Rattle.vfs_ask.specs.Asked.{Stand}
 
--- the call that request 9 asks for, a LOOKUP of the name `a` in node 1, with 4096 bytes of room: number 1,
--- whose answers are of kind 5
+-- the call that request 9 asks for, a LOOKUP of the name `a` in node 1, with 4096 bytes of room: number
+-- 1, whose answers are of kind 5
 pub record IsLookupOfA (call : CallData) : Type 0 where
   pub unique : call.unique ≡ 9
   pub readahead : call.readahead ≡ 0

@@ -13,7 +13,8 @@ use vfs_grammar::Limits;
 #[repr(C)]
 #[derive(Clone, Copy)]
 pub struct SessionData {
-    /// The options: `flags` of INIT are bits 0 to 31, its `flags2` bits 32 to 63. None before an INIT.
+    /// The options: `flags` of INIT are bits 0 to 31, its `flags2` bits 32 to 63. None before an
+    /// INIT.
     pub options: u64,
     /// The size of a page of the machine, in bytes.
     pub page_size: u32,
@@ -52,7 +53,8 @@ impl SessionData {
 pub struct ToldData {
     /// The length of the reply in bytes, 0 where there is none.
     pub len: u64,
-    /// How many of its bytes are there to be copied out: all, but of a READ the header's 16 at most.
+    /// How many of its bytes are there to be copied out: all, but of a READ the header's 16 at
+    /// most.
     pub put: u64,
     /// The options from now on.
     pub options: u64,

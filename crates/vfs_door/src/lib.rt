@@ -1,13 +1,13 @@
-//! The door for a file system that stands outside, in any language: a request is asked for its call,
-//! which is told as data, and the answer to the call becomes the reply.
+//! The door for a file system that stands outside, in any language: a request is asked for its
+//! call, which is told as data, and the answer to the call becomes the reply.
 //!
 //! The header is `include/nizwarf.h`. The functions there look at pointers first, since no function
-//! here can: for a reference of the signatures below C gives a pointer to what is there, never NULL. A
-//! slice is a pointer and then a length to C, also as an element of a list and as the name of an item;
-//! `alloc` is nothing.
+//! here can: for a reference of the signatures below C gives a pointer to what is there, never
+//! NULL. A slice is a pointer and then a length to C, also as an element of a list and as the name
+//! of an item; `alloc` is nothing.
 //!
-//! A slot has memory, and nothing else: each call is told all it goes by. C may break the conditions
-//! that the header states, and then nothing is promised.
+//! A slot has memory, and nothing else: each call is told all it goes by. C may break the
+//! conditions that the header states, and then nothing is promised.
 #![tactic(auto)]
 
 mod answer;
@@ -46,15 +46,15 @@ fn memory_of(alloc: Global, handle: &mut Handle) -> Option<Box<Memory>>
     }
 }
 
-/// Asks the request in these segments for its call, of which any may be empty. `room` is how many bytes
-/// there are for the reply.
+/// Asks the request in these segments for its call, of which any may be empty. `room` is how many
+/// bytes there are for the reply.
 ///
 /// Answers 15 where it asks for a call, which is told in `call`. Else it is finished, and `call` is
-/// none: the outcome's number, 0 where there is a reply or none is needed, else the error's, 1 to 10.
-/// `told` has the length of the reply, and what an INTERRUPT means; the reply is there to be copied out
-/// up to the next call with this handle. 10 is also answered where there was no memory to begin with, 13
-/// where the lengths sum past `usize::MAX`, and 12 where there is no server for the sizes of the
-/// session: then nothing is told.
+/// none: the outcome's number, 0 where there is a reply or none is needed, else the error's, 1 to
+/// 10. `told` has the length of the reply, and what an INTERRUPT means; the reply is there to be
+/// copied out up to the next call with this handle. 10 is also answered where there was no memory
+/// to begin with, 13 where the lengths sum past `usize::MAX`, and 12 where there is no server for
+/// the sizes of the session: then nothing is told.
 #[unsafe(no_mangle)]
 pub extern "C" fn nizwarf_ask_at(
     alloc: Global,
@@ -94,15 +94,16 @@ pub extern "C" fn nizwarf_ask_at(
     code
 }
 
-/// Answers a call that was asked. `text` is the text of a link, the value of an extended attribute, or
-/// the names of all; `items` are those of a directory.
+/// Answers a call that was asked. `text` is the text of a link, the value of an extended attribute,
+/// or the names of all; `items` are those of a directory.
 ///
-/// Answers the outcome's number, as [`nizwarf_ask_at`] does. `told` has the length of the reply, and how
-/// many of its bytes are there to be copied out: of a READ the 16 of its header, since the data stand in
-/// the room already; the options from then on; the node of an entry that the client doesn't get to see,
-/// of which a lookup is to be given back; and how many items are in the reply. 16 is answered where the
-/// call is none that was asked, and 12 where there is no server for the sizes of the session: then
-/// nothing is told. 10 where there is no memory: then an entry is to be given back.
+/// Answers the outcome's number, as [`nizwarf_ask_at`] does. `told` has the length of the reply,
+/// and how many of its bytes are there to be copied out: of a READ the 16 of its header, since the
+/// data stand in the room already; the options from then on; the node of an entry that the client
+/// doesn't get to see, of which a lookup is to be given back; and how many items are in the reply.
+/// 16 is answered where the call is none that was asked, and 12 where there is no server for the
+/// sizes of the session: then nothing is told. 10 where there is no memory: then an entry is to be
+/// given back.
 #[unsafe(no_mangle)]
 pub extern "C" fn nizwarf_answer_at(
     alloc: Global,
@@ -132,8 +133,8 @@ pub extern "C" fn nizwarf_answer_at(
     code
 }
 
-/// Copies bytes that the last call left, from place `at` on, over the first ones of a piece, as many as
-/// both have. Answers how many.
+/// Copies bytes that the last call left, from place `at` on, over the first ones of a piece, as
+/// many as both have. Answers how many.
 #[unsafe(no_mangle)]
 pub extern "C" fn nizwarf_copy_slot_at(
     alloc: Global,

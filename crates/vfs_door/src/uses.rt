@@ -22,8 +22,8 @@ const SESSION: SessionData = SessionData {
     max_buffer: 1_048_576,
 };
 
-/// Asks a LOOKUP of the name `a` for its call: it is told, and nothing is there to be copied out; unless
-/// there is no memory.
+/// Asks a LOOKUP of the name `a` for its call: it is told, and nothing is there to be copied out;
+/// unless there is no memory.
 fn ask_lookup(
     alloc: Global,
     handle: &mut Handle,
@@ -71,8 +71,8 @@ fn find(alloc: Global, handle: &mut Handle, call: &CallData, node: u64, told: &m
     nizwarf_answer_at(alloc, handle, &SESSION, call, &found, &[], &[], told)
 }
 
-/// Asks a LOOKUP of a name for its call, answers that there is none, copies the reply out, and gives the
-/// memory back. If all is answered, the reply is these sixteen bytes.
+/// Asks a LOOKUP of a name for its call, answers that there is none, copies the reply out, and
+/// gives the memory back. If all is answered, the reply is these sixteen bytes.
 fn nothing_is_found(alloc: Global, handle: &mut Handle, lookup: &[&[u8]], reply: &mut [u8]) -> i32
     requires lookup { flat_bytes (segments_of lookup.now) ≡ lookup_of_a }
     requires reply { length reply.old ≡ 16 }
@@ -93,7 +93,8 @@ fn nothing_is_found(alloc: Global, handle: &mut Handle, lookup: &[&[u8]], reply:
     nizwarf_end_slot_at(alloc, handle)
 }
 
-/// Answers a READ whose room is too short for a header: it is none that was asked, and nothing is told.
+/// Answers a READ whose room is too short for a header: it is none that was asked, and nothing is
+/// told.
 fn read_without_room(alloc: Global, handle: &mut Handle, told: &mut ToldData) -> i32
     ensures code { (result ≡ not_asked) ⊎ (result ≡ no_memory) }
     ensures untold { result ≡ not_asked → told.new ≡ told.old }

@@ -1,5 +1,5 @@
-//! What the libraries for C share: the room in which a reply is put together, kept between calls, and the
-//! numbers that C sees of what a call came to.
+//! What the libraries for C share: the room in which a reply is put together, kept between calls,
+//! and the numbers that C sees of what a call came to.
 #![tactic(auto)]
 
 pub mod codes;

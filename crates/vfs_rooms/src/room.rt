@@ -1,5 +1,5 @@
-//! The room of a reply. Its memory never gets shorter, so that a room as long as an earlier one costs
-//! nothing: the last room is its end.
+//! The room of a reply. Its memory never gets shorter, so that a room as long as an earlier one
+//! costs nothing: the last room is its end.
 
 ghost use Rattle.std.specs.Prelude.{◌≡◌, ◌≤◌, ◌++◌, ◌∷◌, [], length, take, drop, min, vec_len, IfSome};
 ghost use Rattle.vfs_segments.specs.Segments.{contents, flat_bytes, lengths_of};
@@ -49,8 +49,8 @@ fn end_of(alloc: Global, list: Vec<Vec<u8>>, room: Vec<u8>, total: usize) -> Opt
     }
 }
 
-/// A writer with `total` bytes left, the last ones of this memory, which grows where it has less; the
-/// list is what the memory stands in. `None` where there is no memory.
+/// A writer with `total` bytes left, the last ones of this memory, which grows where it has less;
+/// the list is what the memory stands in. `None` where there is no memory.
 pub fn lend(alloc: Global, list: Vec<Vec<u8>>, room: Vec<u8>, total: usize) -> Option<Writer>
     ensures left { IfSome result (λ w. length w.left ≡ total) }
     ensures one { IfSome result (λ w. length w.lengths ≡ 1) }
@@ -88,9 +88,9 @@ fn copy_first(from: &[u8], to: &mut [u8]) -> usize
     count
 }
 
-/// Copies bytes of the last room, which begins at `start` and of which the first `shown` are there to
-/// be copied out, from place `at` on, over the first ones of a piece, as many as both have. Answers how
-/// many.
+/// Copies bytes of the last room, which begins at `start` and of which the first `shown` are there
+/// to be copied out, from place `at` on, over the first ones of a piece, as many as both have.
+/// Answers how many.
 pub fn copy_part(memory: &[u8], start: usize, shown: usize, at: usize, piece: &mut [u8]) -> usize
     ensures count { result ≡ min (length (part_from at (drop start memory.now) shown))
         (length piece.old) }

@@ -6,4 +6,5 @@ use Rattle.vfs_door.proofs.uses.find.Goals as goal
 pub returns : goal.returns
 returns c = λ is.
     let want : c.nizwarf_answer_at.result ≡ no_memory = search rules in
-    entry_back _ _ _ _ _ _ _ _ _ c.requires refl refl (c.nizwarf_answer_at.ensures.answered are_limits) want
+    entry_back _ _ _ _ _ _ _ _ _ c.requires refl refl
+    (c.nizwarf_answer_at.ensures.answered are_limits) want
