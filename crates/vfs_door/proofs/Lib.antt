@@ -2,3 +2,4 @@ mod Leaving
 mod Asking
 mod Answering
 mod Lookup
+mod OneTurn

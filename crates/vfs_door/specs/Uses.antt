@@ -1,8 +1,15 @@
 -- What small callers of the library say.
-use Rattle.std.specs.Prelude.{◌≡◌, ℕ, List, [], ◌∷◌}
+use Rattle.std.specs.Prelude.{◌≡◌, ◌+◌, ℕ, List, [], ◌∷◌, length}
+use Rattle.vfs_segments.specs.Written.{Written}
 use Rattle.vfs_grammar.specs.Samples.{lookup_of_a}
 use Rattle.vfs_calls.specs.declared.call.CallData.{CallData}
+use Rattle.vfs_calls.specs.declared.data.AnswerData.{AnswerData}
+use Rattle.vfs_calls.specs.declared.data.ItemData.{ItemData}
+use Rattle.vfs_grammar.specs.declared.limits.Limits.{Limits}
 use Rattle.vfs_ask.specs.Asked.{Stand}
+use Rattle.vfs_answer.specs.Answering.{with_behind}
+use Rattle.vfs_answer.specs.declared.answered.Answered.{Answered}
+use Rattle.vfs_in_flight.specs.OneTurn.{IsAnsweredTurn}
 
 -- the call that request 9 asks for, a LOOKUP of the name `a` in node 1, with 4096 bytes of room: number
 -- 1, whose answers are of kind 5
@@ -21,3 +28,14 @@ pub record IsLookupOfA (call : CallData) : Type 0 where
 abbrev pub no_such_name : List ℕ
 no_such_name =
     0x10 ∷ 0 ∷ 0 ∷ 0 ∷ 0xfe ∷ 0xff ∷ 0xff ∷ 0xff ∷ 9 ∷ 0 ∷ 0 ∷ 0 ∷ 0 ∷ 0 ∷ 0 ∷ 0 ∷ []
+
+-- A request with so much room was one turn of the grammar, with this answer, whatever stood in the room
+-- behind the first bytes that were put.
+pub record IsOneTurn (limits : Limits) (options : ℕ) (request : List ℕ) (room : ℕ) (a : AnswerData)
+    (text : List ℕ) (items : List ItemData) : Type 0 where
+  pub before : Written
+  pub came : Answered
+  pub after : Written
+  pub turn : (behind : List ℕ) → length before.left + length behind ≡ room
+      → IsAnsweredTurn limits options request a text items (with_behind before behind) came
+      (with_behind after behind)

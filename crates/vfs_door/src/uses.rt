@@ -5,15 +5,18 @@ ghost use Rattle.std.specs.declared.option.Option.TheVariants.{None};
 ghost use Rattle.vfs_grammar.specs.Samples.{lookup_of_a};
 ghost use Rattle.vfs_segments.specs.Segments.{segments_of, flat_bytes};
 ghost use Rattle.vfs_rooms.specs.Codes.{ok, no_memory, not_asked, is_asked};
+ghost use Rattle.vfs_grammar.specs.Limits.{AreLimits};
+ghost use Rattle.vfs_door.specs.Session.{limits_of, options_of};
 ghost use Rattle.vfs_door.specs.Shown.{shown_in};
-ghost use Rattle.vfs_door.specs.Uses.{IsLookupOfA, no_such_name};
+ghost use Rattle.vfs_door.specs.Uses.{IsLookupOfA, IsOneTurn, no_such_name};
 
 use crate::data::{SessionData, ToldData};
 use crate::handle::Handle;
 use crate::{nizwarf_answer_at, nizwarf_ask_at, nizwarf_copy_slot_at, nizwarf_end_slot_at};
 use std::alloc::Global;
-use vfs_calls::{AnswerData, CallData, EntryData, kind, number};
-use vfs_rooms::codes::{ASKED, OK};
+use vfs_calls::{AnswerData, CallData, EntryData, ItemData, kind, number};
+use vfs_in_flight::laws::asked_and_answered_is_one_turn;
+use vfs_rooms::codes::{ASKED, NOT_ASKED, OK};
 
 /// A session before its INIT, as virtiofsd has it.
 const SESSION: SessionData = SessionData {
@@ -128,4 +131,33 @@ fn read_some(
         ..AnswerData::default()
     };
     nizwarf_answer_at(alloc, handle, &SESSION, call, &some, &[], &[], told)
+}
+
+/// Asks any request for its call, and answers that by these data, whatever they are. If both are
+/// done, that was one turn of the grammar.
+fn ask_and_answer(
+    alloc: Global,
+    handle: &mut Handle,
+    session: &SessionData,
+    request: &[&[u8]],
+    room: usize,
+    answer: &AnswerData,
+    text: &[u8],
+    items: &[ItemData<'_>],
+) -> i32
+    requires { AreLimits (limits_of session.now) }
+    ensures { result ≡ ok →
+        IsOneTurn (limits_of session.now) (options_of session.now)
+        (flat_bytes (segments_of request.now)) room answer.now text.now items.now }
+{
+    asked_and_answered_is_one_turn();
+    let mut call = CallData::NONE;
+    let mut told = ToldData::NOTHING;
+    let asked = nizwarf_ask_at(alloc, handle, session, request, room, &mut call, &mut told);
+    if asked != ASKED {
+        return NOT_ASKED;
+    }
+    nizwarf_answer_at(
+        alloc, handle, session, &call, answer, text, items, &mut told,
+    )
 }

@@ -1,0 +1,130 @@
+-- A request that was asked, and whose call was answered, by the library's functions, is one turn.
+use Rattle.std.proofs.Common.{◌≡◌, ◌≤◌, ◌^◌, ◌⊎◌, ◌+◌, ◌∙◌, ◌==◌, if◌then◌else◌, ℕ, ℤ, List, length, min, Bool, true, false, Option, Some, None, Result, Ok, Err, refl, ap, sym, subst, inl, inr, arith, length-append}
+use Rattle.std.proofs.lemmas.Bool.Decides.{nat_tests}
+use Rattle.vfs_segments.specs.Written.{Written}
+use Rattle.vfs_grammar.specs.Ask.{ask}
+use Rattle.vfs_grammar.specs.Forms.{Ask, Ends, Asks as asks_call, Lists, WithMemory}
+use Rattle.vfs_grammar.specs.declared.error.Error.{Error}
+use Rattle.vfs_grammar.specs.declared.error.Error.TheVariants as error
+use Rattle.vfs_grammar.specs.declared.limits.Limits.{Limits}
+use Rattle.vfs_calls.specs.declared.call.CallData.{CallData}
+use Rattle.vfs_calls.specs.declared.data.AnswerData.{AnswerData}
+use Rattle.vfs_calls.specs.declared.data.ItemData.{ItemData}
+use Rattle.vfs_ask.specs.Asked.{IsAsked, Tells, interrupted_by}
+use Rattle.vfs_ask.specs.declared.asked.Asked.{Asked}
+use Rattle.vfs_ask.specs.declared.asked.Asked.TheVariants as asked
+use Rattle.vfs_answer.specs.Answering.{with_behind}
+use Rattle.vfs_answer.specs.Told.{AnswersEachCall, AnswersEachListing}
+use Rattle.vfs_answer.specs.declared.answered.Answered.{Answered}
+use Rattle.vfs_answer.proofs.Behind.{with_none_behind}
+use Rattle.vfs_in_flight.specs.OneTurn.{AreOneTurn}
+use Rattle.vfs_rooms.specs.Codes.{ok, no_memory, too_long, is_asked, number_of}
+use Rattle.vfs_door.specs.Answering.{AnswersOrNot, put_of}
+use Rattle.vfs_door.specs.Answering.{IsPassedOn as IsAnswerTold}
+use Rattle.vfs_door.specs.Asking.{AsksOrNot, IsPassedOn}
+use Rattle.vfs_door.specs.Uses.{IsOneTurn}
+use Rattle.vfs_door.specs.declared.data.ToldData.{ToldData}
+
+-- no outcome has the number of a call
+no_call : (outcome : Result ℕ Error) → number_of outcome ≡ is_asked → ⊥
+no_call (Ok len) is = cc
+no_call (Err error.DecodeMessage) is = cc
+no_call (Err error.EncodeMessage) is = cc
+no_call (Err error.FlushMessage) is = cc
+no_call (Err error.MissingParameter) is = cc
+no_call (Err error.InvalidCString) is = cc
+no_call (Err error.InvalidCString2) is = cc
+no_call (Err error.InvalidHeaderLength) is = cc
+no_call (Err (error.InvalidXattrSize sizes)) is = cc
+no_call (Err error.MissingExtension) is = cc
+no_call (Err error.OutOfMemory) is = cc
+
+call_told : (result : Asked) (before after : Written) (code : ℤ) (told told_after : ToldData)
+    (shown : List ℕ) → IsPassedOn result before after code told told_after shown → code ≡ is_asked
+    → result ≡ asked.Call
+call_told asked.Call before after code told told_after shown on is = refl
+call_told (asked.Finished outcome n) before after code told told_after shown on is =
+    absurd (no_call outcome (sym on.0 ∙ is))
+
+-- a call is told with all the room that there was
+room_told : (request : List ℕ) (options interrupts : ℕ) (a : Ask) (before after : Written)
+    (call : CallData) → Tells request options interrupts a before asked.Call after call
+    → call.room ≡ length before.left
+room_told q o n (Ends reply) before after call t = absurd t
+room_told q o n (asks_call echo asked) before after call t =
+    ap (λ (c : CallData). c.room) t.1.numbers
+room_told q o n (Lists echo l) before after call t = ap (λ (c : CallData). c.room) t.1
+room_told q o n (WithMemory rest) before after call (inl t) = room_told q o n rest before after call t
+room_told q o n (WithMemory rest) before after call (inr t) = absurd t
+
+-- a directory has all its room
+listing_behind : (limits : Limits) (call : CallData) (a : AnswerData) (items : List ItemData)
+    (old new : Written) (came : Answered) (behind : List ℕ) (only : Bool) → (call.answer == 3) ≡ only
+    → length old.left ≡ (if only then min call.room 16 else call.room)
+    → length old.left + length behind ≡ call.room
+    → AnswersEachListing limits call a items old (Some came) new
+    → AnswersEachListing limits call a items (with_behind old behind) (Some came) (with_behind new behind)
+listing_behind limits call a items old new came behind true is space all h = λ echo l te tl same.
+    let no = tl.kind in absurd (grind (arith, nat_tests, no, is))
+listing_behind limits call a items old new came behind false is space all h =
+    let none : length behind ≡ 0 = omega (arith, space, all) in
+    subst (λ (w : Written). AnswersEachListing limits call a items w (Some came) (with_behind new behind))
+    (sym (with_none_behind old behind none))
+    (subst (λ (w : Written). AnswersEachListing limits call a items old (Some came) w)
+    (sym (with_none_behind new behind none)) h)
+
+module _ (law : AreOneTurn) (limits : Limits) (options : ℕ) (request : List ℕ) (room : ℕ)
+    (call : CallData) (a : AnswerData) (text : List ℕ) (items : List ItemData) where
+  of_came : (asked_in asked_after old new : Written) (came : Answered)
+      → IsAsked limits options request asked_in asked.Call asked_after call
+      → length asked_in.left ≡ room → length old.left ≡ put_of call call.room
+      → AnswersEachCall limits call a text old (Some came) new
+      → AnswersEachListing limits call a items old (Some came) new
+      → IsOneTurn limits options request room a text items
+  of_came asked_in asked_after old new came is space put calls listings =
+      let told = room_told request options (interrupted_by limits request)
+      (ask limits options (length asked_in.left) request) asked_in asked_after call is in
+      record {
+        before = old;
+        came = came;
+        after = new;
+        turn = λ behind all. law limits options request asked_in asked_after call a text items old behind
+            came new (record {
+              is_asked = is;
+              same_room = length-append old.left behind ∙ all ∙ sym space;
+              call = calls;
+              listing = listing_behind limits call a items old new came behind (call.answer == 3) refl put
+                  (all ∙ sym space ∙ sym told) listings;
+            });
+      }
+
+  by_result : (asked_in asked_after old new : Written) (result : Option Answered) (code : ℤ)
+      (told told_after : ToldData) (shown : List ℕ)
+      → IsAsked limits options request asked_in asked.Call asked_after call
+      → length asked_in.left ≡ room → length old.left ≡ put_of call call.room
+      → AnswersEachCall limits call a text old result new
+      → AnswersEachListing limits call a items old result new
+      → IsAnswerTold result call old new code told told_after shown → code ≡ ok
+      → IsOneTurn limits options request room a text items
+  by_result asked_in asked_after old new None code told told_after shown is space put calls listings on fine =
+      absurd (let e = on.0 in cc (e, fine))
+  by_result asked_in asked_after old new (Some came) code told told_after shown is space put calls listings on fine =
+      of_came asked_in asked_after old new came is space put calls listings
+
+  -- both by the library's functions
+  pub one_turn : (first second : ℤ) (call_before : CallData) (t t1 u u1 : ToldData) (k l : List ℕ)
+      → AsksOrNot limits options request room first call_before call t t1 k → first ≡ is_asked
+      → AnswersOrNot limits call a text items second u u1 l → second ≡ ok
+      → IsOneTurn limits options request room a text items
+  one_turn first second call_before t t1 u u1 k l (inl s) asks (inl r) fine =
+      let told = call_told s.result s.before s.after first t t1 k s.passed_on asks in
+      let is = subst (λ (x : Asked). IsAsked limits options request s.before x s.after call) told s.asked in
+      by_result s.before s.after r.before r.after r.result second u u1 l is s.space r.space r.calls r.listings
+      r.passed_on fine
+  one_turn first second call_before t t1 u u1 k l (inl s) asks (inr r) fine =
+      absurd (cc (r.why, fine))
+  one_turn first second call_before t t1 u u1 k l (inr s) asks h fine = absurd (refused s.why)
+    where
+      refused : (first ≡ no_memory) ⊎ ((first ≡ too_long) × (2 ^ 64 ≤ length request)) → ⊥
+      refused (inl none) = cc (none, asks)
+      refused (inr long) = cc (long.0, asks)
