@@ -9,7 +9,7 @@ use crate::ask::number_and_length;
 use crate::data::ToldData;
 use crate::memory::Memory;
 use std::alloc::Global;
-use vfs_answer::{Answered, answer as put_answer};
+use vfs_answer::answer as put_answer;
 use vfs_calls::{AnswerData, CallData, ItemData, kind};
 use vfs_grammar::Limits;
 use vfs_rooms::codes::{NOT_ASKED, OUT_OF_MEMORY};

@@ -1,6 +1,6 @@
 //! What C hands in and is told, in the order of the header's fields.
 
-ghost use Rattle.std.specs.Prelude.{◌≡◌, bit_and, MatchOption};
+ghost use Rattle.std.specs.Prelude.{◌≡◌, MatchOption};
 ghost use Rattle.vfs_flags.specs.Flags.{fs_options_bits};
 ghost use Rattle.vfs_grammar.specs.Limits.{AreLimits};
 ghost use Rattle.vfs_door.specs.Session.{limits_of, options_of};
