@@ -5,35 +5,8 @@
  * tools/c-example.sh links it with both libraries, and --wrap=malloc, --wrap=realloc and
  * --wrap=free. Status 0: all is as it should be, and no memory is left behind. */
 #include <errno.h>
+#include "c-allocations.h"
 #include "c-door.h"
-
-void *__real_malloc(size_t size);
-void *__real_realloc(void *at, size_t size);
-void __real_free(void *at);
-
-static long asked, refused, live;
-
-void *__wrap_malloc(size_t size)
-{
-	void *at = ++asked == refused ? NULL : __real_malloc(size);
-
-	live += at != NULL;
-	return at;
-}
-
-void *__wrap_realloc(void *old, size_t size)
-{
-	void *at = ++asked == refused ? NULL : __real_realloc(old, size);
-
-	live += !old && at;
-	return at;
-}
-
-void __wrap_free(void *at)
-{
-	live -= at != NULL;
-	__real_free(at);
-}
 
 static uint8_t text[ROOM];
 

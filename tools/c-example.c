@@ -8,6 +8,7 @@
 #include <stdio.h>
 #include <stdlib.h>
 #include <string.h>
+#include "c-allocations.h"
 #include "nizwarf.h"
 
 #define CHECK(fact)                                                                       \
@@ -18,34 +19,6 @@
 			exit(1);                                                          \
 		}                                                                         \
 	} while (0)
-
-void *__real_malloc(size_t size);
-void *__real_realloc(void *at, size_t size);
-void __real_free(void *at);
-
-static long asked, refused, live;
-
-void *__wrap_malloc(size_t size)
-{
-	void *at = ++asked == refused ? NULL : __real_malloc(size);
-
-	live += at != NULL;
-	return at;
-}
-
-void *__wrap_realloc(void *old, size_t size)
-{
-	void *at = ++asked == refused ? NULL : __real_realloc(old, size);
-
-	live += !old && at;
-	return at;
-}
-
-void __wrap_free(void *at)
-{
-	live -= at != NULL;
-	__real_free(at);
-}
 
 static struct {
 	struct fuse_in_header header;
