@@ -1,6 +1,5 @@
 pub mod Behind
 pub mod Told
-pub mod Putting
 pub mod Taking
 pub mod Listed
 pub mod Telling

@@ -9,8 +9,8 @@ use Rattle.vfs_files.specs.Runs.{Event, Called, OpenedDirectory}
 use Rattle.vfs_messages.specs.Rooms.{PutsBehindHeader, Replies}
 use Rattle.vfs_grammar.specs.Listing.{Line, Stop, IsListing, AreWritten, Stops, answer_of, line_events, stop_events, line_bytes, line_len}
 use Rattle.vfs_grammar.specs.Reply.{reply_to}
-use Rattle.vfs_grammar.proofs.Listings.{length-listing, listing_within}
 use Rattle.vfs_listings.specs.Reading.{Puts}
+use Rattle.vfs_listings.proofs.Filling.{moves_of, counts_of_listing}
 use Rattle.vfs_calls.specs.declared.call.CallData.{CallData}
 use Rattle.vfs_calls.specs.declared.data.AnswerData.{AnswerData}
 use Rattle.vfs_calls.specs.declared.data.ItemData.{ItemData}
@@ -18,15 +18,6 @@ use Rattle.vfs_answer.specs.Said.{IsFailed}
 use Rattle.vfs_answer.specs.Offered.{ReadsOffered, ListsOffered}
 use Rattle.vfs_answer.specs.Listing.{listing_told, IsListed}
 use Rattle.vfs_answer.specs.declared.answered.Answered.{Answered}
-
-moves_of : (old new : Written) (bytes : List ℕ) → Puts old bytes new → Moves old bytes new
-moves_of old new bytes puts = rw puts.wrote (record {
-  passed = refl;
-  left = omega (arith, puts.within, length-drop (length bytes) old.left);
-  held_at = refl;
-  held = refl;
-  lengths = refl;
-})
 
 -- records were put, and perhaps the beginning of one more
 records_behind : (old held new : Written) (records beyond : List ℕ) → held ≡ held_over old 16 → 16 ≤ length old.left → Puts held (records ++ beyond) new
@@ -50,15 +41,6 @@ none_behind old held new e enough same = record {
     lengths = refl;
   }));
 }
-
--- the records that are answered are counted
-counts : (plus : Bool) (ctx : Context) (parent size room : ℕ) (events : List Event) (body : List ℕ) (answer : Result ℕ (Option ℕ))
-    → IsListing plus ctx parent size room events body answer → size < 2 ^ 32 - 16 → Counts answer body size
-counts plus ctx parent size room events body (Ok n) h small =
-    let long = length-listing h n refl in
-    let within = listing_within h in
-    (long, omega (arith, long, within), omega (arith, within, small))
-counts plus ctx parent size room events body (Err fault) h small = tt
 
 -- items that were offered and read are a listing of these events and records
 abbrev offered_events : (ctx : Context) (parent : ℕ) (plus : Bool) → List Line → Stop → List Event
@@ -87,7 +69,7 @@ pub short : (plus : Bool) (size : ℕ) (a : AnswerData) (items : List ItemData) 
 short plus size a items old answer taken new small (inl h) = rw h.2 tt
 short plus size a items old answer taken new small (inr h) =
     let nobody : Context = record { uid = 0; gid = 0; pid = pos 0 } in
-    short_by answer _ size (counts plus nobody 0 size (length old.left) _ _ answer (listing_of nobody 0 (length old.left) plus size items old answer taken new refl h.1) small)
+    short_by answer _ size (counts_of_listing plus nobody 0 size (length old.left) _ _ answer (listing_of nobody 0 (length old.left) plus size items old answer taken new refl h.1) small)
 
 module _ (call : CallData) (a : AnswerData) (items : List ItemData) (old held mid : Written) (answer : Result ℕ (Option ℕ)) (came : Answered) (new : Written)
     (holds : held ≡ held_over old 16) (enough : 16 ≤ length old.left) (room : length old.left ≡ call.room) (small : call.size < 2 ^ 32 - 16)
@@ -121,7 +103,7 @@ module _ (call : CallData) (a : AnswerData) (items : List ItemData) (old held mi
       let events = offered_events l.ctx l.parent l.plus r.lines r.stop in
       let records = flat_map line_bytes r.lines in
       let listing = listing_of l.ctx l.parent l.space l.plus l.size items held answer came.taken mid space r in
-      let counted = counts l.plus l.ctx l.parent l.size l.space events records answer listing small in
+      let counted = counts_of_listing l.plus l.ctx l.parent l.size l.space events records answer listing small in
       record {
         events = OpenedDirectory (Readdir l.ctx l.parent l.handle l.size l.offset) ∷ events;
         records = records;

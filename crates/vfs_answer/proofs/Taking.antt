@@ -12,9 +12,9 @@ use Rattle.vfs_grammar.specs.Listing.{Line, End, At, IsGot, FitsGot, line_len, l
 use Rattle.vfs_grammar.proofs.Listings.{fits_within, length-bytes_got}
 use Rattle.vfs_listings.specs.Reading.{Puts, cut_by}
 use Rattle.vfs_listings.specs.ReadingLaws.{puts_nothing}
+use Rattle.vfs_listings.proofs.Filling.{length-puts, puts_on, was_put, was_full, has_failed, cut_put, written_more, flat_map-push}
 use Rattle.vfs_calls.specs.declared.data.ItemData.{ItemData}
 use Rattle.vfs_answer.specs.Offered.{IsLine, AreTaken, AreOffered, taken_by, AddsItem, ReadsOffered}
-use Rattle.vfs_answer.proofs.Putting.{length-puts, puts_on, was_put, was_full, has_failed, cut_put}
 
 -- one more is taken
 taken_more : (plus : Bool) (items : List ItemData) (lines : List Line) (i : ItemData) (l : Line) → AreTaken plus items lines → IsLine plus i l
@@ -44,23 +44,6 @@ offered_at plus (j ∷ items) rest (k ∷ lines) i l t h = (t.0, offered_at plus
 split_at : (items : List ItemData) (index : ℕ) (d : ItemData) → index < length items
     → take index items ++ get_or items index d ∷ drop (suc index) items ≡ items
 split_at items index d h = ap (λ (x : List ItemData). take index items ++ x) (sym (drop-cons items index d h)) ∙ take-append-drop index items
-
-written_more : (plus : Bool) (size room written : ℕ) (ls : List Line) (l : Line) → AreWritten plus size room written ls
-    → fate size room (written + sum_by line_len ls) l ≡ Fits → IsGot plus l → FitsGot l.got
-    → AreWritten plus size room written (ls ++ l ∷ [])
-written_more plus size room written [] l w f got fits =
-    (subst (λ n. fate size room n l ≡ Fits) (omega arith) f, got, fits, tt)
-written_more plus size room written (k ∷ ls) l w f got fits = (
-  w.0,
-  w.1,
-  w.2,
-  written_more plus size room (written + line_len k) ls l w.3
-      (subst (λ n. fate size room n l ≡ Fits) (omega (arith, sum_by-cons line_len k ls)) f) got
-      fits,
-)
-
-flat_map-push : {X A : Type 0} (f : X → List A) (xs : List X) (x : X) → flat_map f (xs ++ x ∷ []) ≡ flat_map f xs ++ f x
-flat_map-push f xs x = flat_map-append f xs (x ∷ []) ∙ ap (λ l. flat_map f xs ++ l) (append-nil (f x))
 
 module _ (plus : Bool) (size : ℕ) (items : List ItemData) (old : Written) where
   -- what the loop keeps: the items before this index were taken, and their records put

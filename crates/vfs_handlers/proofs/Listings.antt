@@ -4,14 +4,12 @@ use Rattle.std.proofs.Common.{◌≡◌, ◌≤◌, ◌<◌, ◌-◌, ◌^◌, �
 use Rattle.std.proofs.lemmas.Bool.Decides.{nat_tests}
 use Rattle.vfs_segments.specs.Written.{Written, Moves, held_over}
 use Rattle.vfs_wire_more.specs.declared.files.ReadIn.{ReadIn}
-use Rattle.vfs_files.specs.declared.entry.Context.{Context}
 use Rattle.vfs_files.specs.Answers.{Handed, Counts}
 use Rattle.vfs_files.specs.Calls.{Call}
 use Rattle.vfs_files.specs.Items.{Item}
 use Rattle.vfs_files.specs.Runs.{Event, Happening, IsRun}
-use Rattle.vfs_grammar.specs.Listing.{IsListing}
-use Rattle.vfs_grammar.proofs.Listings.{length-listing, listing_within}
 use Rattle.vfs_listings.specs.Reading.{Puts}
+use Rattle.vfs_listings.proofs.Filling.{moves_of, counts_of_listing}
 use Rattle.vfs_grammar.specs.Ask.{lists_too_much}
 use Rattle.vfs_grammar.specs.Forms.{Listing}
 use Rattle.vfs_messages.specs.Rooms.{PutsBehindHeader}
@@ -27,15 +25,6 @@ data_behind old held new bytes e enough moves = record {
   moves = rw (append-nil bytes) (subst (λ (w : Written). Moves w bytes new) e moves);
 }
 
-moves_of : (old new : Written) (bytes : List ℕ) → Puts old bytes new → Moves old bytes new
-moves_of old new bytes puts = rw puts.wrote (record {
-  passed = refl;
-  left = omega (arith, puts.within, length-drop (length bytes) old.left);
-  held_at = refl;
-  held = refl;
-  lengths = refl;
-})
-
 -- records were put, and perhaps the beginning of one more
 pub records_behind : (old held new : Written) (records beyond : List ℕ) → held ≡ held_over old 16 → 16 ≤ length old.left → Puts held (records ++ beyond) new
     → PutsBehindHeader old records new
@@ -45,19 +34,11 @@ records_behind old held new records beyond e enough puts = record {
   moves = subst (λ (w : Written). Moves w (records ++ beyond) new) e (moves_of held new (records ++ beyond) puts);
 }
 
-counts_by : (plus : Bool) (ctx : Context) (parent size room : ℕ) (events : List Event) (body : List ℕ) (answer : Result ℕ (Option ℕ))
-    → IsListing plus ctx parent size room events body answer → size < 2 ^ 32 - 16 → Counts answer body size
-counts_by plus ctx parent size room events body (Ok n) h small =
-    let long = length-listing h n refl in
-    let within = listing_within h in
-    (long, omega (arith, long, within), omega (arith, within, small))
-counts_by plus ctx parent size room events body (Err fault) h small = tt
-
 -- the records that are answered are counted
 pub directory_counts : (listing : Listing) (events : List Event) (body : List ℕ) (answer : Result ℕ (Option ℕ))
     → IsRead listing events body answer → listing.size < 2 ^ 32 - 16 → Counts answer body listing.size
 directory_counts l events body answer (inl u) small = rw u.answer_is tt
-directory_counts l events body answer (inr o) small = counts_by l.plus l.ctx l.parent l.size l.space o.takings body answer o.listing small
+directory_counts l events body answer (inr o) small = counts_of_listing l.plus l.ctx l.parent l.size l.space o.takings body answer o.listing small
 
 -- what asks for no more than the limit and than there is room for
 pub within_limit : (limits : Limits) (room : ℕ) (r : ReadIn) → lists_too_much limits room r ≡ false → r.size ≤ limits.max_buffer

@@ -1,18 +1,19 @@
 -- The loop over a directory's items: a line more, and each stop.
-use Rattle.std.proofs.Common.{◌≡◌, ◌≢◌, ◌≤◌, ◌<◌, ◌+◌, ◌-◌, ℕ, List, [], ◌∷◌, ◌++◌, Bool, true, false, Option, Some, None, Result, Ok, Err, IfOk, length, arith, refl, sym, ap, subst, ◌∙◌, length-append, length-drop, length-take, sum_by, append-nil}
+use Rattle.std.proofs.Common.{◌≡◌, ◌≢◌, ◌≤◌, ◌<◌, ◌+◌, ◌-◌, ◌^◌, ℕ, List, [], ◌∷◌, ◌++◌, Bool, true, false, Option, Some, None, Result, Ok, Err, IfOk, length, arith, refl, sym, ap, subst, ◌∙◌, length-append, length-drop, length-take, sum_by, append-nil}
 use Rattle.std.proofs.Math.Seq.{take-nil}
 use Rattle.std.proofs.lemmas.List.Sums.{sum_by_push, sum_by-cons}
 use Rattle.std.proofs.lemmas.Grind.{flat_map-append}
 use Rattle.std.specs.List.{flat_map}
-use Rattle.vfs_segments.specs.Written.{Written, wrote}
-use Rattle.vfs_files.specs.Calls.{Call, Lookup, Forget, Handed, Found, Failed, Done}
+use Rattle.vfs_segments.specs.Written.{Written, Moves, wrote}
+use Rattle.vfs_files.specs.Calls.{Call, Lookup, Forget, Handed, Found, Failed, Done, Counts}
 use Rattle.vfs_files.specs.Items.{Item}
+use Rattle.vfs_files.specs.Runs.{Event}
 use Rattle.vfs_files.specs.RunLaws.{Ran, ran_on, ran_nothing, ran_taking, ran_call}
 use Rattle.vfs_files.specs.declared.entry.Context.{Context}
 use Rattle.vfs_files.specs.declared.entry.Entry.{Entry}
 use Rattle.vfs_grammar.specs.Dirents.{Verdict, Fits, Full, Fails, verdict, record_bytes, record_len, FitsOption}
 use Rattle.vfs_listings.specs.Reading.{Adds, cut_by, AddsGot, Puts, LooksUpName, LooksUp, GivesBack, AddsLine, ReadsItems}
-use Rattle.vfs_grammar.specs.Listing.{Got, Line, End, At, Gets, IsGot, FitsGot, is_dot, lookup_of, lookups, line_events, given_back, node_got, line_len, line_bytes, len_of, bytes_got, judged, fate, AreWritten, told, answer_at}
+use Rattle.vfs_grammar.specs.Listing.{Got, Line, End, At, Gets, IsListing, IsGot, FitsGot, is_dot, lookup_of, lookups, line_events, given_back, node_got, line_len, line_bytes, len_of, bytes_got, judged, fate, AreWritten, told, answer_at}
 use Rattle.vfs_grammar.proofs.Listings.{fits_within, length-bytes_got, length-listing, listing_within}
 use Rattle.vfs_listings.specs.ReadingLaws.{puts_nothing}
 use Rattle.vfs_listings.proofs.Putting.{wrote-wrote}
@@ -94,14 +95,14 @@ module _ {S I : Type 0} (allows : S → Call → Handed I → S → Type 0)
 
 -- ---- bytes that are put
 
-length-puts : (old new : Written) (a : List ℕ) → Puts old a new
+pub length-puts : (old new : Written) (a : List ℕ) → Puts old a new
     → length new.left + length a ≡ length old.left
 length-puts old new a p =
     let left =
     ap (λ (w : Written). length w.left) p.wrote ∙ length-drop (length a) old.left in
     omega (arith, left, p.within)
 
-puts_on : (old middle new : Written) (a b : List ℕ) → Puts old a middle → Puts middle b new
+pub puts_on : (old middle new : Written) (a b : List ℕ) → Puts old a middle → Puts middle b new
     → Puts old (a ++ b) new
 puts_on old middle new a b p q = record {
   within =
@@ -121,7 +122,7 @@ put_by Full entry i old n new h some = let zero : n ≡ 0 = cc in absurd (omega 
 put_by (Fails None) entry i old n new h some = cc
 put_by (Fails (Some number)) entry i old n new h some = cc
 
-was_put : (max room : ℕ) (got : Got) (i : Item) (old : Written) (n : ℕ) (new : Written)
+pub was_put : (max room : ℕ) (got : Got) (i : Item) (old : Written) (n : ℕ) (new : Written)
     → AddsGot max room got i old (Ok n) new → 0 < n
     → (judged max room got i ≡ Fits) × (n ≡ len_of got i) × (new ≡ wrote old (bytes_got got i))
     × FitsGot got
@@ -137,7 +138,7 @@ full_by (Fails None) entry i old new h = cc
 full_by (Fails (Some number)) entry i old new h = cc
 
 -- 0 came of one that is too long
-was_full : (max room : ℕ) (got : Got) (i : Item) (old new : Written)
+pub was_full : (max room : ℕ) (got : Got) (i : Item) (old new : Written)
     → AddsGot max room got i old (Ok 0) new → judged max room got i ≡ Full
 was_full max room (Ok entry) i old new h = full_by (verdict max room entry i) entry i old new h
 was_full max room (Err fault) i old new h = cc
@@ -160,7 +161,7 @@ cut_none : (fault : Option ℕ) (room : ℕ) → cut_by (Fails fault) room [] �
 cut_none None room = take-nil room
 cut_none (Some number) room = refl
 
-cut_put : (max : ℕ) (got : Got) (i : Item) (old : Written) (result : Result ℕ (Option ℕ))
+pub cut_put : (max : ℕ) (got : Got) (i : Item) (old : Written) (result : Result ℕ (Option ℕ))
     (new : Written) → AddsGot max (length old.left) got i old result new
     → judged max (length old.left) got i ≢ Fits
     → Puts old (cut_by (judged max (length old.left) got i) (length old.left) (bytes_got got i))
@@ -179,16 +180,37 @@ failed_by (Fails (Some number)) entry i old fault new h = let same : Some number
     ap Fails same
 
 -- a fault came of one that fails
-has_failed : (max room : ℕ) (got : Got) (i : Item) (old : Written) (fault : Option ℕ)
+pub has_failed : (max room : ℕ) (got : Got) (i : Item) (old : Written) (fault : Option ℕ)
     (new : Written) → AddsGot max room got i old (Err fault) new
     → judged max room got i ≡ Fails fault
 has_failed max room (Ok entry) i old fault new h =
     failed_by (verdict max room entry i) entry i old fault new h
 has_failed max room (Err other) i old fault new h = let same : other ≡ fault = cc in ap Fails same
 
+-- what was put moved the writer on
+pub moves_of : (old new : Written) (bytes : List ℕ) → Puts old bytes new → Moves old bytes new
+moves_of old new bytes puts = rw puts.wrote (record {
+  passed = refl;
+  left = omega (arith, puts.within, length-drop (length bytes) old.left);
+  held_at = refl;
+  held = refl;
+  lengths = refl;
+})
+
 -- ---- lines
 
-written_more : (plus : Bool) (size room written : ℕ) (ls : List Line) (l : Line)
+-- the records that are answered are counted
+pub counts_of_listing : (plus : Bool) (ctx : Context) (parent size room : ℕ) (events : List Event)
+    (body : List ℕ) (answer : Result ℕ (Option ℕ))
+    → IsListing plus ctx parent size room events body answer → size < 2 ^ 32 - 16
+    → Counts answer body size
+counts_of_listing plus ctx parent size room events body (Ok n) h small =
+    let long = length-listing h n refl in
+    let within = listing_within h in
+    (long, omega (arith, long, within), omega (arith, within, small))
+counts_of_listing plus ctx parent size room events body (Err fault) h small = tt
+
+pub written_more : (plus : Bool) (size room written : ℕ) (ls : List Line) (l : Line)
     → AreWritten plus size room written ls
     → fate size room (written + sum_by line_len ls) l ≡ Fits → IsGot plus l → FitsGot l.got
     → AreWritten plus size room written (ls ++ l ∷ [])
@@ -203,7 +225,7 @@ written_more plus size room written (k ∷ ls) l w f got fits = (
       fits,
 )
 
-flat_map-push : {X A : Type 0} (f : X → List A) (xs : List X) (x : X)
+pub flat_map-push : {X A : Type 0} (f : X → List A) (xs : List X) (x : X)
     → flat_map f (xs ++ x ∷ []) ≡ flat_map f xs ++ f x
 flat_map-push f xs x = flat_map-append f xs (x ∷ [])
     ∙ ap (λ l. flat_map f xs ++ l) (append-nil (f x))
