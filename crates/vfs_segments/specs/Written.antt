@@ -45,6 +45,15 @@ rest_room w n = record {
   lengths = lengths_from (length w.passed + n) w.lengths;
 }
 
+-- all bytes are left again, and nothing is passed or held
+abbrev pub rewound : Written → Written
+rewound w = record w {
+  passed = [];
+  left = w.passed ++ w.left;
+  held_at = 0;
+  held = 0;
+}
+
 -- the next n bytes are passed over and held
 abbrev pub held_over : Written → ℕ → Written
 held_over w n = record w {

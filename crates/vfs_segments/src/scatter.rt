@@ -22,6 +22,13 @@ fn spell_over<S: Spelled>(segment: &mut Vec<u8>, at: usize, len: usize, x: &S)
 }
 
 impl Segments<Vec<Vec<u8>>> {
+    // The list, lent.
+    pub(crate) fn list(&self) -> &[Vec<u8>]
+        ensures { contents result.now ≡ self.now }
+    {
+        &self.list
+    }
+
     // The list.
     pub(crate) fn into_list(self) -> Vec<Vec<u8>>
         ensures { contents result.items ≡ self }

@@ -6,7 +6,7 @@ ghost use Rattle.std.specs.Io.{WritesAtMost};
 ghost use Rattle.std.specs.Io.KnownBytes.{Appends, Keeps, WriteAppends};
 ghost use Rattle.vfs_segments.specs.Segments.{contents, flat_bytes, lengths_of};
 ghost use Rattle.vfs_segments.specs.Transfer.{moved_bytes, taken_in};
-ghost use Rattle.vfs_segments.specs.Written.{unwritten, wrote, first_room, rest_room, held_over, held_filled, whole};
+ghost use Rattle.vfs_segments.specs.Written.{unwritten, wrote, first_room, rest_room, rewound, held_over, held_filled, whole};
 ghost use Rattle.vfs_wire.specs.Fields.{Fit, bytes_of};
 
 use crate::error::{Error, Result};
@@ -152,6 +152,15 @@ impl Writer {
         self.held = n;
         self.at += n;
         Ok(())
+    }
+
+    /// Begins anew: all bytes of the segments are left, and nothing is passed or held.
+    pub fn rewind(&mut self)
+        ensures { self.new ≡ rewound self.old }
+    {
+        self.at = 0;
+        self.held_at = 0;
+        self.held = 0;
     }
 
     /// Writes the bytes over those that are held, which must be as many. Nothing is held then.
@@ -369,6 +378,14 @@ impl Writer {
             }
             Err(fault) => Err(fault),
         }
+    }
+
+    /// The segments as they stand now, with what was written.
+    pub fn segments(&self) -> &[Vec<u8>]
+        ensures bytes { flat_bytes (contents result.now) ≡ whole self.now }
+        ensures lengths { lengths_of (contents result.now) ≡ self.now.lengths }
+    {
+        self.segments.list()
     }
 
     /// The segments, with what was written. Each has the length that it came with, but for one that
