@@ -5,11 +5,11 @@ use Rattle.std.proofs.lemmas.List.{take_at, drop-append-le, take-append-drop, ni
 use Rattle.vfs_wire.specs.Fields.{bytes_of}
 use Rattle.vfs_wire.specs.Headers.{out_header}
 use Rattle.vfs_segments.specs.Written.{Written, whole, wrote}
-use Rattle.vfs_messages.specs.Rooms.{data_header, Replies}
+use Rattle.vfs_messages.specs.Rooms.{data_header, Replies, with_behind}
+use Rattle.vfs_messages.proofs.Rooms.{whole_behind}
 use Rattle.vfs_grammar.specs.Reply.{Bytes, OpenBehind, body_reply, fault_reply}
 use Rattle.vfs_grammar.specs.declared.error.Error.{Error}
 use Rattle.vfs_grammar.proofs.Rooms.{length-header, length-body_reply, length-fault_reply, put_outcome-fits, put_room-fits}
-use Rattle.vfs_answer.specs.Answering.{with_behind}
 
 abbrev header : (count unique : ℕ) → List ℕ
 header count unique = bytes_of out_header (data_header (Ok count) unique)
@@ -58,10 +58,6 @@ data_kept old new behind count unique room e =
     let n = length-header (data_header (Ok count) unique) in
     (header count unique, n, ap (λ (w : Written). whole (with_behind w behind)) e ∙ header_whole old (header count unique) behind n room)
 
--- all bytes of a writer with more room behind
-whole_behind : (w : Written) (behind : List ℕ) → whole (with_behind w behind) ≡ whole w ++ behind
-whole_behind w behind = sym (append_assoc w.passed w.left behind)
-
 -- a reply that fits, with what stands behind it and further behind
 fault_whole : (old new : Written) (behind reply : List ℕ) (outcome : Result ℕ Error) → length reply ≡ 16 → 16 ≤ length old.left
     → Replies (Bytes reply) old outcome new → whole (with_behind new behind) ≡ old.passed ++ (reply ++ drop 16 (old.left ++ behind))
@@ -101,7 +97,3 @@ pub fault_kept : (old new : Written) (behind : List ℕ) (fault : Option ℕ) (u
 fault_kept old new behind fault unique outcome room w =
     let n = length-fault_reply fault unique in
     (fault_reply fault unique, n, fault_whole old new behind (fault_reply fault unique) outcome n room w)
-
--- where no room is behind
-pub with_none_behind : (w : Written) (behind : List ℕ) → length behind ≡ 0 → with_behind w behind ≡ w
-with_none_behind w behind e = rw (nil_from_length behind e, append-nil w.left) refl

@@ -5,7 +5,7 @@ use Rattle.std.proofs.lemmas.Bool.Decides.{nat_tests}
 use Rattle.vfs_segments.specs.Written.{Written}
 use Rattle.vfs_files.specs.Calls.{Call, kind_of, Answer, Options, Kind, Quiet, Told, Untold, Data, Agreements, Entries, TimedAttributes, Openings, Creations, Capacities, Texts, TextsOrCounts, Offsets, Writes, Iterators, Faults}
 use Rattle.vfs_files.specs.Calls as call
-use Rattle.vfs_messages.specs.Rooms.{Replies}
+use Rattle.vfs_messages.specs.Rooms.{Replies, with_behind}
 use Rattle.vfs_grammar.specs.Forms.{Listing}
 use Rattle.vfs_grammar.specs.Options.{agreed, options_after}
 use Rattle.vfs_grammar.specs.Reply.{Reply, Echo, reply_to, reply_of}
@@ -17,7 +17,7 @@ use Rattle.vfs_calls.specs.declared.call.CallData.{CallData}
 use Rattle.vfs_calls.specs.declared.data.AnswerData.{AnswerData}
 use Rattle.vfs_calls.specs.declared.data.ItemData.{ItemData}
 use Rattle.vfs_answer.specs.Kinds.{kind_told}
-use Rattle.vfs_answer.specs.Answering.{Answers, AnswersCall, IsAnswered, can_answer, echo_told, options_told, with_behind}
+use Rattle.vfs_answer.specs.Answering.{Answers, AnswersCall, IsAnswered, can_answer, echo_told, options_told}
 use Rattle.vfs_answer.specs.Told.{IsShort, IsUnlisted, TellsEcho, TellsOffer, TellsCall, TellsListing, CallIsAnswered, ListingIsAnswered, AnswersEachCall, AnswersEachListing}
 use Rattle.vfs_answer.specs.declared.answered.Answered.{Answered}
 

@@ -4,16 +4,17 @@ use Rattle.vfs_wire.specs.Fields.{bytes_of}
 use Rattle.vfs_wire.specs.Headers.{out_header}
 use Rattle.vfs_segments.specs.Written.{Written, wrote}
 use Rattle.vfs_files.specs.Calls.{Kind, Data, Answer, IsFault, read_answer}
-use Rattle.vfs_messages.specs.Rooms.{data_header, Replies}
+use Rattle.vfs_messages.specs.Rooms.{data_header, Replies, with_behind}
 use Rattle.vfs_grammar.specs.Reply.{Bytes, fault_reply}
 use Rattle.vfs_grammar.specs.declared.limits.Limits.{Limits}
 use Rattle.vfs_calls.specs.declared.call.CallData.{CallData}
 use Rattle.vfs_calls.specs.declared.data.AnswerData.{AnswerData}
 use Rattle.vfs_answer.specs.Said.{FitsData, IsSaid}
 use Rattle.vfs_answer.specs.Kinds.{kind_told}
-use Rattle.vfs_answer.specs.Answering.{with_behind, can_answer, AnswersCall, Comes, KeepsData, IsAnswered}
+use Rattle.vfs_answer.specs.Answering.{can_answer, AnswersCall, Comes, KeepsData, IsAnswered}
 use Rattle.vfs_answer.specs.declared.answered.Answered.{Answered}
-use Rattle.vfs_answer.proofs.Behind.{data_replied, data_kept, fault_replied, fault_kept, with_none_behind}
+use Rattle.vfs_messages.proofs.Rooms.{with_none_behind}
+use Rattle.vfs_answer.proofs.Behind.{data_replied, data_kept, fault_replied, fault_kept}
 
 -- in all the room that was told, nothing stands behind
 pub answered : (limits : Limits) (call : CallData) (kind : Kind) (a : AnswerData) (text : List ℕ) (old : Written) (came : Answered) (new : Written) (answer : Answer)

@@ -13,7 +13,7 @@ use Rattle.vfs_files.specs.Calls.{Call, kind_of, Getattr, Lookup, Init, Answer, 
 use Rattle.vfs_files.specs.Entries.{entry_out_of}
 use Rattle.vfs_files.specs.declared.entry.Context.{Context}
 use Rattle.vfs_files.specs.declared.entry.Entry.{Entry}
-use Rattle.vfs_messages.specs.Rooms.{Replies}
+use Rattle.vfs_messages.specs.Rooms.{Replies, with_behind}
 use Rattle.vfs_grammar.specs.Options.{agreed, options_after}
 use Rattle.vfs_grammar.specs.Reply.{Bytes, Echo, reply_of, fault_reply, body_reply}
 use Rattle.vfs_grammar.specs.Room.{unseen}
@@ -25,10 +25,9 @@ use Rattle.vfs_calls.specs.Values.{entry_out_for}
 use Rattle.vfs_calls.specs.declared.call.CallData.{CallData}
 use Rattle.vfs_calls.specs.declared.data.AnswerData.{AnswerData}
 use Rattle.vfs_answer.specs.Said.{IsSaid}
-use Rattle.vfs_answer.specs.Answering.{with_behind}
 use Rattle.vfs_answer.specs.Told.{IsShort, TellsEcho, TellsCall, CallIsAnswered, AnswersEachCall}
 use Rattle.vfs_answer.specs.declared.answered.Answered.{Answered}
-use Rattle.vfs_answer.proofs.Behind.{with_none_behind}
+use Rattle.vfs_messages.proofs.Rooms.{with_none_behind}
 
 module _ (limits : Limits) (told : CallData) (a : AnswerData) (text : List ℕ) (old new : Written) (echo : Echo) (c : Call) where
   at_end : (came : Answered) → CallIsAnswered limits echo c told.options a text (with_behind old []) came (with_behind new [])

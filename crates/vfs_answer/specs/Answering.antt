@@ -3,7 +3,7 @@ use Rattle.std.specs.Prelude.{◌≡◌, ◌==◌, ◌&&◌, if◌then◌else◌
 use Rattle.vfs_wire.specs.Headers.{out_header}
 use Rattle.vfs_segments.specs.Written.{Written, whole}
 use Rattle.vfs_files.specs.Calls.{Kind, Quiet, Data, Agreements, Iterators, Answer, Options, IsAnswer}
-use Rattle.vfs_messages.specs.Rooms.{Replies}
+use Rattle.vfs_messages.specs.Rooms.{Replies, with_behind}
 use Rattle.vfs_grammar.specs.Options.{agreed}
 use Rattle.vfs_grammar.specs.Records.{size_of}
 use Rattle.vfs_grammar.specs.Reply.{Echo, reply_of}
@@ -44,10 +44,6 @@ Comes limits call kind answer old came new =
     ≡ unwrap_or (unseen (length old.left) (reply_of limits (echo_told call) came.options kind answer)
     (node_answered kind answer)) 0)
     × (came.taken ≡ 0)
-
--- a writer whose room goes on behind what it has left
-abbrev pub with_behind : Written → (behind : List ℕ) → Written
-with_behind w behind = record w { left = w.left ++ behind }
 
 -- behind the place of the reply's header, where the data of a READ stand, nothing changes
 abbrev pub KeepsData : Kind → (old new : Written) → Type 0

@@ -4,7 +4,7 @@ use Rattle.vfs_wire.specs.Headers.{out_header}
 use Rattle.vfs_segments.specs.Written.{Written}
 use Rattle.vfs_files.specs.Calls.{Call, Init, Kind, kind_of, Answer, IsAnswer, Data, Iterators, read_answer}
 use Rattle.vfs_files.specs.Runs.{Event}
-use Rattle.vfs_messages.specs.Rooms.{Replies}
+use Rattle.vfs_messages.specs.Rooms.{Replies, with_behind}
 use Rattle.vfs_grammar.specs.Forms.{Listing}
 use Rattle.vfs_grammar.specs.Options.{options_after}
 use Rattle.vfs_grammar.specs.Records.{size_of}
@@ -18,7 +18,7 @@ use Rattle.vfs_calls.specs.declared.data.AnswerData.{AnswerData}
 use Rattle.vfs_calls.specs.declared.data.ItemData.{ItemData}
 use Rattle.vfs_answer.specs.Said.{IsSaid}
 use Rattle.vfs_answer.specs.Listing.{listing_told, IsOfferedBy}
-use Rattle.vfs_answer.specs.Answering.{KeepsData, with_behind}
+use Rattle.vfs_answer.specs.Answering.{KeepsData}
 use Rattle.vfs_answer.specs.declared.answered.Answered.{Answered}
 
 -- the data tell what the reply repeats of its request

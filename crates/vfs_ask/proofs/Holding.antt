@@ -90,9 +90,9 @@ of_four P symlink mknod mkdir create options opcode.TmpFile may = absurd (let a 
 
 -- ---- a tail that is refused
 
-module _ (q : List ℕ) (options : ℕ) (writer : Written) (e : Error) where
+module _ (q : List ℕ) (options room : ℕ) (writer : Written) (e : Error) where
   abbrev Refused : Ask → Type 0
-  Refused a = Tells q options 0 a writer (asked.Finished (Err e) 0) writer nothing
+  Refused a = Tells q options 0 room a writer (asked.Finished (Err e) 0) writer nothing
 
   refused_tail : (t : Result (List ℕ) Error) (next : List ℕ → Ask) → GivesTailOf (Err e) t → Refused (refused_or t (λ tail. WithMemory (next tail)))
   refused_tail (Err f) next (inl is) = let same : e ≡ f = let a = is in cc in ((ap Err same, refl), refl, refl)
@@ -274,27 +274,27 @@ module _ (q : List ℕ) (h : InHeader) (head : size_of in_header ≤ length q) (
     abbrev Is : Ask → Type 0
     Is a = OfCall (CallHas o tail) None_listed a
 
-    held_where_noted : (a : Ask) → Is a → space ≡ length writer.left → (noted.call ≡ 0 → ⊥) → old ≡ with_parts_told o noted → IsNoted a writer outcome writer_after noted
-        → Tells q options 0 a writer asked.Call writer_after new
-    held_where_noted (Ends reply) is room some e n = absurd (some (ap (λ (d : CallData). d.call) n.0))
-    held_where_noted (Asks echo c) is room some e n =
+    held_where_noted : (a : Ask) → Is a → (noted.call ≡ 0 → ⊥) → old ≡ with_parts_told o noted → IsNoted a writer outcome writer_after noted
+        → Tells q options 0 space a writer asked.Call writer_after new
+    held_where_noted (Ends reply) is some e n = absurd (some (ap (λ (d : CallData). d.call) n.0))
+    held_where_noted (Asks echo c) is some e n =
         let same : old ≡ with_parts_told o (shape_of c) = e ∙ ap (with_parts_told o) n in
         let stands = subst (λ (d : CallData). StandsInBlocks (blocks_of o d tail) placed.place) same placed.stands in
         let new_is = placed.new_is ∙ ap (λ (d : CallData). with_context_at (sum_or_most (blocks_place o d) placed.place) d) same in
-        (refl, rw room at (subst (λ (d : CallData). IsTold q options space echo c d) (sym new_is) (is placed.place stands)))
-    held_where_noted (Lists echo l) is room some e n = absurd is
-    held_where_noted (WithMemory next) is room some e (inl n) = inl (held_where_noted next is room some e n)
-    held_where_noted (WithMemory next) is room some e (inr n) = absurd (some (ap (λ (d : CallData). d.call) n.0))
+        (refl, subst (λ (d : CallData). IsTold q options space echo c d) (sym new_is) (is placed.place stands))
+    held_where_noted (Lists echo l) is some e n = absurd is
+    held_where_noted (WithMemory next) is some e (inl n) = inl (held_where_noted next is some e n)
+    held_where_noted (WithMemory next) is some e (inr n) = absurd (some (ap (λ (d : CallData). d.call) n.0))
 
-pub tells_held : (q : List ℕ) (h : InHeader) (head : size_of in_header ≤ length q) (limits : Limits) (options len : ℕ) (long : length q ≡ len) (small : len < 2 ^ 64)
+pub tells_held : (q : List ℕ) (h : InHeader) (head : size_of in_header ≤ length q) (limits : Limits) (options space len : ℕ) (long : length q ≡ len) (small : len < 2 ^ 64)
     (writer writer_after : Written) (o : Opcode) (tail : List ℕ) (a : Ask) (result : Asked) (old new : CallData)
-    → OfCall (CallHas q h head limits options (length writer.left) len long small o tail) (λ echo l. ⊥) a
-    → NotedAndTold a (told_with h.unique options (length writer.left) len o) writer result writer_after old
-    → PlacesContext o tail old new → Tells q options 0 a writer result writer_after new
-tells_held q h head limits options len long small writer writer_after o tail a result old new is n p = elim n.told_so [
+    → OfCall (CallHas q h head limits options space len long small o tail) (λ echo l. ⊥) a
+    → NotedAndTold a (told_with h.unique options space len o) writer result writer_after old
+    → PlacesContext o tail old new → Tells q options 0 space a writer result writer_after new
+tells_held q h head limits options space len long small writer writer_after o tail a result old new is n p = elim n.told_so [
   | inl x ↦ (
       let none : n.noted ≡ nothing = none_is_nothing writer n.outcome writer_after n.noted a x.0 n.is_noted in
       let new_is : new ≡ n.noted = p.new_is ∙ ap (λ (d : CallData). with_context_at (sum_or_most (blocks_place o d) p.place) d) (x.2 ∙ none) ∙ sym none in
-      rw (x.1, new_is) (finished_where_none q options writer n.outcome writer_after n.noted a x.0 n.is_noted))
-  | inr x ↦ rw (x.1) (held_where_noted q h head limits options (length writer.left) len long small writer n.outcome writer_after o tail n.noted old new p a is refl x.0 x.2 n.is_noted)
+      rw (x.1, new_is) (finished_where_none q options space writer n.outcome writer_after n.noted a x.0 n.is_noted))
+  | inr x ↦ rw (x.1) (held_where_noted q h head limits options space len long small writer n.outcome writer_after o tail n.noted old new p a is x.0 x.2 n.is_noted)
 ]

@@ -4,3 +4,5 @@ pub mod Holding
 pub mod Noting
 pub mod Placing
 pub mod Telling
+pub mod InRoom
+pub mod Short

@@ -1,5 +1,5 @@
 -- From the call that was noted to the call that is told.
-use Rattle.std.proofs.Common.{◌≡◌, ◌==◌, ◌∙◌, ℕ, true, false, List, length, Result, refl, ap, subst, sym, inl, inr}
+use Rattle.std.proofs.Common.{◌≡◌, ◌==◌, ◌∙◌, ℕ, true, false, List, Result, refl, ap, subst, sym, inl, inr}
 use Rattle.vfs_flags.specs.declared.opcode.Opcode.{Opcode}
 use Rattle.vfs_segments.specs.Written.{Written}
 use Rattle.vfs_wire.specs.declared.headers.InHeader.{InHeader}
@@ -67,10 +67,10 @@ is_some_call call.Tmpfile = refl
 not_none : (c : CallData) → (c.call == 0) ≡ false → c.call ≡ 0 → ⊥
 not_none c some none = let e : (c.call == 0) ≡ true = ap (λ n. n == 0) none in let f = sym e ∙ some in cc
 
-module _ (q : List ℕ) (options : ℕ) (writer : Written) (outcome : Result ℕ Error) (writer_after : Written) (noted : CallData) where
+module _ (q : List ℕ) (options room : ℕ) (writer : Written) (outcome : Result ℕ Error) (writer_after : Written) (noted : CallData) where
   -- where no call was noted, the request is finished
   pub finished_where_none : (a : Ask) → noted.call ≡ 0 → IsNoted a writer outcome writer_after noted
-      → Tells q options 0 a writer (asked.Finished outcome 0) writer_after noted
+      → Tells q options 0 room a writer (asked.Finished outcome 0) writer_after noted
   finished_where_none (Ends reply) none n = (n.1, refl, n.0)
   finished_where_none (Asks echo c) none n = absurd (not_none (shape_of c) (is_some_call c) (ap (λ (d : CallData). d.call) (sym n) ∙ none))
   finished_where_none (Lists echo l) none n = absurd (not_none noted (ap (λ (d : CallData). d.call == 0) n) none)
@@ -79,14 +79,14 @@ module _ (q : List ℕ) (options : ℕ) (writer : Written) (outcome : Result ℕ
 
   -- and else that call is told
   pub told_where_noted : (h : InHeader) (len : ℕ) (o : Opcode) (a : Ask)
-      → OfCall (CallIsTold q h options (length writer.left) len o) (ListingIsTold q h options (length writer.left) len o) a
+      → OfCall (CallIsTold q h options room len o) (ListingIsTold q h options room len o) a
       → (noted.call ≡ 0 → ⊥) → IsNoted a writer outcome writer_after noted
-      → Tells q options 0 a writer asked.Call writer_after (told q h options (length writer.left) len o noted)
+      → Tells q options 0 room a writer asked.Call writer_after (told q h options room len o noted)
   told_where_noted h len o (Ends reply) is some n = absurd (some (ap (λ (d : CallData). d.call) n.0))
   told_where_noted h len o (Asks echo c) is some n =
-      (refl, subst (λ (d : CallData). IsTold q options (length writer.left) echo c (told q h options (length writer.left) len o d)) (sym n) is)
+      (refl, subst (λ (d : CallData). IsTold q options room echo c (told q h options room len o d)) (sym n) is)
   told_where_noted h len o (Lists echo l) is some n =
-      (refl, ap (told q h options (length writer.left) len o) n ∙ is)
+      (refl, ap (told q h options room len o) n ∙ is)
   told_where_noted h len o (WithMemory rest) is some (inl n) = inl (told_where_noted h len o rest is some n)
   told_where_noted h len o (WithMemory rest) is some (inr n) = absurd (some (ap (λ (d : CallData). d.call) n.0))
 
@@ -100,11 +100,11 @@ none_is_nothing writer outcome writer_after noted (WithMemory rest) none (inl n)
 none_is_nothing writer outcome writer_after noted (WithMemory rest) none (inr n) = n.0
 
 -- so what was noted and told is what is asked
-pub tells_noted : (q : List ℕ) (options : ℕ) (writer writer_after : Written) (h : InHeader) (len : ℕ) (o : Opcode) (a : Ask) (result : Asked) (told_call : CallData)
-    → OfCall (CallIsTold q h options (length writer.left) len o) (ListingIsTold q h options (length writer.left) len o) a
-    → NotedAndTold a (told_with h.unique options (length writer.left) len o) writer result writer_after told_call
-    → Tells q options 0 a writer result writer_after told_call
-tells_noted q options writer writer_after h len o a result told_call is n = elim n.told_so [
-  | inl x ↦ rw (x.1, x.2) (finished_where_none q options writer n.outcome writer_after n.noted a x.0 n.is_noted)
-  | inr x ↦ rw (x.1, x.2) (told_where_noted q options writer n.outcome writer_after n.noted h len o a is x.0 n.is_noted)
+pub tells_noted : (q : List ℕ) (options room : ℕ) (writer writer_after : Written) (h : InHeader) (len : ℕ) (o : Opcode) (a : Ask) (result : Asked) (told_call : CallData)
+    → OfCall (CallIsTold q h options room len o) (ListingIsTold q h options room len o) a
+    → NotedAndTold a (told_with h.unique options room len o) writer result writer_after told_call
+    → Tells q options 0 room a writer result writer_after told_call
+tells_noted q options room writer writer_after h len o a result told_call is n = elim n.told_so [
+  | inl x ↦ rw (x.1, x.2) (finished_where_none q options room writer n.outcome writer_after n.noted a x.0 n.is_noted)
+  | inr x ↦ rw (x.1, x.2) (told_where_noted q options room writer n.outcome writer_after n.noted h len o a is x.0 n.is_noted)
 ]

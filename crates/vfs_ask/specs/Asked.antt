@@ -1,7 +1,8 @@
 -- What is told of a request: its call as data, or that it is finished.
-use Rattle.std.specs.Prelude.{◌≡◌, ◌≤◌, ◌⊎◌, ⊤, ◌==◌, ◌+◌, ◌*◌, ℕ, List, length, take, drop, nat_lt, if◌then◌else◌, Option, None, Some, Result, Ok, Err}
+use Rattle.std.specs.Prelude.{◌≡◌, ◌≤◌, ◌⊎◌, ⊤, ◌==◌, ◌+◌, ◌*◌, ℕ, List, length, take, drop, nat_lt, if◌then◌else◌, Option, None, Some, Result, Ok, Err, IfOk}
 use Rattle.vfs_segments.specs.Written.{Written}
-use Rattle.vfs_wire.specs.Headers.{in_header}
+use Rattle.vfs_wire.specs.Headers.{in_header, out_header}
+use Rattle.vfs_wire.specs.Init.{init_out}
 use Rattle.vfs_wire.specs.declared.headers.InHeader.{InHeader}
 use Rattle.vfs_wire_more.specs.Locks.{interrupt_in}
 use Rattle.vfs_wire_more.specs.declared.locks.InterruptIn.{InterruptIn}
@@ -119,6 +120,11 @@ ArePlaced q call told = ⊤
 
 -- ---- what is told
 
+-- how many bytes a reply to a request that asks for no call has at most: our version, as a newer client is
+-- told it
+abbrev pub longest_reply : ℕ
+longest_reply = size_of out_header + size_of init_out
+
 -- this very call of a request is told
 pub record IsTold (request : List ℕ) (options room : ℕ) (echo : Echo) (call : Call) (told : CallData)
     : Type 0 where
@@ -132,17 +138,17 @@ IsFinished reply interrupts writer (asked.Finished outcome interrupted) writer_a
     Replies reply writer outcome writer_after × (interrupted ≡ interrupts) × (told ≡ nothing)
 IsFinished reply interrupts writer asked.Call writer_after told = ⊥
 
--- what is told of a request that asks this
-abbrev pub Tells : (request : List ℕ) → (options interrupts : ℕ) → Ask → (writer : Written) → Asked
+-- what is told of a request that asks this, with so much room for a reply
+abbrev pub Tells : (request : List ℕ) → (options interrupts room : ℕ) → Ask → (writer : Written) → Asked
     → (writer_after : Written) → CallData → Type 0
-Tells q options interrupts (Ends reply) writer result writer_after told =
+Tells q options interrupts room (Ends reply) writer result writer_after told =
     IsFinished reply interrupts writer result writer_after told
-Tells q options interrupts (Asks echo call) writer result writer_after told =
-    (result ≡ asked.Call) × IsTold q options (length writer.left) echo call told
-Tells q options interrupts (Lists echo l) writer result writer_after told =
-    (result ≡ asked.Call) × (told ≡ told_of_listing options (length writer.left) echo l)
-Tells q options interrupts (WithMemory rest) writer result writer_after told =
-    Tells q options interrupts rest writer result writer_after told
+Tells q options interrupts room (Asks echo call) writer result writer_after told =
+    (result ≡ asked.Call) × IsTold q options room echo call told
+Tells q options interrupts room (Lists echo l) writer result writer_after told =
+    (result ≡ asked.Call) × (told ≡ told_of_listing options room echo l)
+Tells q options interrupts room (WithMemory rest) writer result writer_after told =
+    Tells q options interrupts room rest writer result writer_after told
     ⊎ IsFinished (Refusal OutOfMemory) interrupts writer result writer_after told
 
 -- the number in the record of an INTERRUPT, 0 where the record isn't whole
@@ -174,5 +180,15 @@ interrupted_by limits q =
 abbrev pub IsAsked : Limits → (options : ℕ) → (request : List ℕ) → (writer : Written) → Asked
     → (writer_after : Written) → CallData → Type 0
 IsAsked limits options q writer result writer_after told =
-    Tells q options (interrupted_by limits q) (ask limits options (length writer.left) q) writer result
-    writer_after told
+    Tells q options (interrupted_by limits q) (length writer.left) (ask limits options (length writer.left) q)
+    writer result writer_after told
+
+-- the room that a writer has left is all of a reply's, or the beginning of it, as long as the longest reply
+-- to a request that asks for no call
+abbrev pub IsEnough : (left room : ℕ) → Type 0
+IsEnough left room = (left ≡ room) ⊎ ((longest_reply ≤ left) × (left ≤ room))
+
+-- the reply, where there is one, has no more bytes than these
+abbrev pub LiesWithin : (space : ℕ) → Asked → Type 0
+LiesWithin space asked.Call = ⊤
+LiesWithin space (asked.Finished outcome interrupts) = IfOk outcome (λ len. len ≤ space)

@@ -13,7 +13,7 @@ use Rattle.vfs_grammar.specs.Records.{size_of, pair_size}
 use Rattle.vfs_calls.specs.declared.call.CallData.{CallData}
 use Rattle.vfs_calls.specs.declared.call.Range.{Range}
 use Rattle.vfs_ask.specs.declared.parts.Parts.{Parts}
-use Rattle.vfs_ask.specs.declared.parts.Parts.TheVariants.{Nowhere, Name, Names, NameAndValue, Pairs, Rest, Room, Entries}
+use Rattle.vfs_ask.specs.declared.parts.Parts.TheVariants.{Nowhere, Name, Names, NameAndValue, Pairs, Rest, Room}
 
 -- the parts of a request of this opcode, under these options: behind its record, if it has one
 abbrev pub parts_of : (options : ℕ) → Opcode → Parts
@@ -32,7 +32,6 @@ parts_of options opcode.Getxattr = Name (size_of in_header + size_of getxattr_in
 parts_of options opcode.Removexattr = Name (size_of in_header)
 parts_of options opcode.Create = Name (size_of in_header + size_of create_in)
 parts_of options opcode.BatchForget = Pairs (size_of in_header + size_of batch_forget_in)
-parts_of options opcode.Readdirplus = Entries
 parts_of options opcode.Rename2 = Names (size_of in_header + size_of rename2_in)
 parts_of options opcode = Nowhere
 
@@ -61,7 +60,6 @@ with_parts length room (Pairs at) c = record c {
 }
 with_parts length room (Rest at) c = record c { value = record { at = at; len = length - at } }
 with_parts length room Room c = record c { count = room - size_of out_header }
-with_parts length room Entries c = record c { has = 512 }
 
 -- a noted call with what is told besides
 abbrev pub told_with : (unique options room length : ℕ) → Opcode → CallData → CallData

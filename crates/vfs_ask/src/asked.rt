@@ -1,23 +1,26 @@
 //! What a request asks.
 
-ghost use Rattle.std.specs.Prelude.{◌≡◌, ◌≢◌, ◌≤◌, ℕ, List, Ok, Some, drop, false, length, true};
+ghost use Rattle.std.specs.Prelude.{◌≡◌, ◌≢◌, ◌≤◌, ◌+◌, ℕ, List, Ok, Some, drop, false, length, true};
 ghost use Rattle.vfs_flags.specs.Flags.{fs_options_bits};
 ghost use Rattle.vfs_flags.specs.Opcode.{opcode_of};
 ghost use Rattle.vfs_flags.specs.declared.opcode.Opcode.{Opcode};
 ghost use Rattle.vfs_wire.specs.Headers.{in_header};
 ghost use Rattle.vfs_wire_more.specs.Locks.{interrupt_in};
+ghost use Rattle.vfs_messages.specs.Rooms.{with_behind};
 ghost use Rattle.vfs_grammar.specs.Ask.{ask_header, ask_opcode};
 ghost use Rattle.vfs_grammar.specs.Limits.{AreLimits, max_len};
 ghost use Rattle.vfs_grammar.specs.Records.{record_of, size_of};
 ghost use Rattle.vfs_calls.specs.Shapes.{nothing};
 ghost use Rattle.vfs_ask.specs.declared.asked.Asked.TheVariants.{Finished};
 ghost use Rattle.vfs_ask.specs.Contexts.{may_have_context};
-ghost use Rattle.vfs_ask.specs.Noting.{NotedAndTold};
+ghost use Rattle.vfs_ask.specs.Noting.{IsNoted, NotedAndTold};
 ghost use Rattle.vfs_ask.specs.Parts.{told_with};
-ghost use Rattle.vfs_ask.specs.Asked.{IsAsked, Tells, interrupted_behind, unique_or_none};
+ghost use Rattle.vfs_ask.specs.Asked.{IsAsked, IsEnough, LiesWithin, Tells, interrupted_behind, unique_or_none};
 
 use crate::contexts::{may_have_context, place_context, read_tail_of, refusal_of_tail};
+use crate::direct::{note_getattr, note_lookup, note_read, note_write};
 use crate::init::ask_init;
+use crate::listing::ask_listing;
 use crate::note::note;
 use crate::parts::Parts;
 use bitflags::Flags;
@@ -57,12 +60,16 @@ impl Asked {
     }
 }
 
-/// What the request asks that `r` has left, with the options that are agreed on and the room that `w`
-/// has left: a call, which is told in `call`, or that it is finished, and what it came to.
+/// How many bytes a reply to a request that asks for no call has at most.
+pub const LONGEST_REPLY: usize = 80;
+
+/// What the request asks that `r` has left, with the options that are agreed on and `room` bytes of room
+/// for the reply: a call, which is told in `call`, or that it is finished, and what it came to.
 ///
-/// A finished request has its reply in the room, and `call` is none. It is refused by the errors of a
-/// server's `handle_message`; after each but `EncodeMessage` the room is as it was. Of a told call the
-/// room holds nothing of worth: `w` is to be made anew for the answer.
+/// `w` has the room left, or the first `LONGEST_REPLY` bytes of it. A finished request has its reply
+/// there, and `call` is none. It is refused by the errors of a server's `handle_message`; after each
+/// but `EncodeMessage` the room is as it was. Of a told call the room holds nothing of worth: `w` is
+/// to be made anew for the answer.
 ///
 /// Memory is taken for a tail that is cut between two segments, for the pairs of a BATCH_FORGET, for a
 /// security context, and, where contexts are agreed on, for a second reader of more than four
@@ -72,18 +79,31 @@ pub fn ask(
     limits: Limits,
     options: FsOptions,
     mut r: Reader<'_>,
+    room: usize,
     w: &mut Writer,
     call: &mut CallData,
 ) -> Asked
-    requires { AreLimits limits }
-    ensures { IsAsked limits (fs_options_bits options) r.entry.left w.old result w.new call.new }
+    requires limits { AreLimits limits }
+    requires enough { IsEnough (length w.old.left) room }
+    ensures asked { (behind : List ℕ) → length w.old.left + length behind ≡ room →
+        IsAsked limits (fs_options_bits options) r.entry.left (with_behind w.old behind) result
+        (with_behind w.new behind) call.new }
+    ensures within { LiesWithin (length w.old.left) result }
 {
     *call = CallData::NONE;
     let len = r.available_bytes() as u64;
     match read_record::<InHeader>(&mut r) {
         Ok(header) => {
             let (header, r) = (&header, &mut r);
-            ask_behind(limits, options, len, Request { alloc, header, r }, w, call)
+            ask_behind(
+                limits,
+                options,
+                len,
+                Request { alloc, header, r },
+                room,
+                w,
+                call,
+            )
         }
         Err(error) => Asked::finished(Err(error)),
     }
@@ -95,18 +115,19 @@ fn ask_behind(
     options: FsOptions,
     len: u64,
     q: Request<'_, '_>,
+    room: usize,
     w: &mut Writer,
     call: &mut CallData,
 ) -> Asked
     requires limits { AreLimits limits }
+    requires enough { IsEnough (length w.old.left) room }
     requires none { call.old ≡ nothing }
     ensures { (request : List ℕ) → length request ≡ len
         → record_of in_header request ≡ Ok q.entry.header.now
         → drop (size_of in_header) request ≡ q.entry.r.now.left
         → Tells request (fs_options_bits options)
-        (interrupted_behind limits q.entry.header.now q.entry.r.now.left)
-        (ask_header limits (fs_options_bits options) (length w.old.left) q.entry.header.now
-        q.entry.r.now.left)
+        (interrupted_behind limits q.entry.header.now q.entry.r.now.left) room
+        (ask_header limits (fs_options_bits options) room q.entry.header.now q.entry.r.now.left)
         w.old result w.new call.new }
 {
     if q.header.len > limits.max_len() {
@@ -119,8 +140,10 @@ fn ask_behind(
         };
     }
     match Opcode::try_from(q.header.opcode) {
-        Ok(Opcode::Init) => ask_init(q.header, options, q.r, w, call),
-        Ok(opcode) => ask_of_opcode(opcode, limits, options, len, q, w, call),
+        Ok(Opcode::Init) => ask_init(q.header, options, q.r, room, w, call),
+        Ok(Opcode::Readdir) => ask_listing(false, limits, options, q, room, w, call),
+        Ok(Opcode::Readdirplus) => ask_listing(true, limits, options, q, room, w, call),
+        Ok(opcode) => ask_of_opcode(opcode, limits, options, len, q, room, w, call),
         Err(()) => Asked::finished(reply_failed(Some(Errno::ENOSYS), q.header.unique, w)),
     }
 }
@@ -135,33 +158,38 @@ fn interrupted(r: &mut Reader<'_>) -> u64
     }
 }
 
-// What a request of `len` bytes and this opcode asks, which is no INIT and no INTERRUPT.
+// What a request of `len` bytes and this opcode asks, which is no INIT, no INTERRUPT and
+// reads no directory.
 fn ask_of_opcode(
     opcode: Opcode,
     limits: Limits,
     options: FsOptions,
     len: u64,
     q: Request<'_, '_>,
+    room: usize,
     w: &mut Writer,
     call: &mut CallData,
 ) -> Asked
     requires limits { AreLimits limits }
+    requires enough { IsEnough (length w.old.left) room }
     requires none { call.old ≡ nothing }
     requires known { opcode_of q.header.now.opcode ≡ Some opcode }
     requires below { q.header.now.len ≤ max_len limits }
+    requires no_readdir { opcode ≢ Opcode.Readdir }
+    requires no_readdirplus { opcode ≢ Opcode.Readdirplus }
     requires no_init { opcode ≢ Opcode.Init }
     ensures { (request : List ℕ) → length request ≡ len
         → record_of in_header request ≡ Ok q.entry.header.now
         → drop (size_of in_header) request ≡ q.entry.r.now.left
-        → Tells request (fs_options_bits options) 0
-        (ask_opcode limits (fs_options_bits options) (length w.old.left) opcode q.entry.header.now
+        → Tells request (fs_options_bits options) 0 room
+        (ask_opcode limits (fs_options_bits options) room opcode q.entry.header.now
         q.entry.r.now.left)
         w.old result w.new call.new }
 {
     if may_have_context(opcode, options) {
-        ask_with_context(opcode, limits, options, len, q, w, call)
+        ask_with_context(opcode, limits, options, len, q, room, w, call)
     } else {
-        ask_without_context(opcode, limits, options, len, q, w, call)
+        ask_without_context(opcode, limits, options, len, q, room, w, call)
     }
 }
 
@@ -172,24 +200,28 @@ fn ask_without_context(
     options: FsOptions,
     len: u64,
     q: Request<'_, '_>,
+    room: usize,
     w: &mut Writer,
     call: &mut CallData,
 ) -> Asked
     requires limits { AreLimits limits }
+    requires enough { IsEnough (length w.old.left) room }
     requires none { call.old ≡ nothing }
     requires known { opcode_of q.header.now.opcode ≡ Some opcode }
     requires below { q.header.now.len ≤ max_len limits }
+    requires no_readdir { opcode ≢ Opcode.Readdir }
+    requires no_readdirplus { opcode ≢ Opcode.Readdirplus }
     requires no_init { opcode ≢ Opcode.Init }
     requires no_context { may_have_context (fs_options_bits options) opcode ≡ false }
     ensures { (request : List ℕ) → length request ≡ len
         → record_of in_header request ≡ Ok q.entry.header.now
         → drop (size_of in_header) request ≡ q.entry.r.now.left
-        → Tells request (fs_options_bits options) 0
-        (ask_opcode limits (fs_options_bits options) (length w.old.left) opcode q.entry.header.now
+        → Tells request (fs_options_bits options) 0 room
+        (ask_opcode limits (fs_options_bits options) room opcode q.entry.header.now
         q.entry.r.now.left)
         w.old result w.new call.new }
 {
-    tell(opcode, limits, options, len, q, w, call)
+    tell(opcode, limits, options, len, q, room, w, call)
 }
 
 // What a request of this opcode asks, which may have a context.
@@ -199,19 +231,23 @@ fn ask_with_context(
     options: FsOptions,
     len: u64,
     q: Request<'_, '_>,
+    room: usize,
     w: &mut Writer,
     call: &mut CallData,
 ) -> Asked
     requires limits { AreLimits limits }
+    requires enough { IsEnough (length w.old.left) room }
     requires none { call.old ≡ nothing }
     requires known { opcode_of q.header.now.opcode ≡ Some opcode }
     requires below { q.header.now.len ≤ max_len limits }
+    requires no_readdir { opcode ≢ Opcode.Readdir }
+    requires no_readdirplus { opcode ≢ Opcode.Readdirplus }
     requires context { may_have_context (fs_options_bits options) opcode ≡ true }
     ensures { (request : List ℕ) → length request ≡ len
         → record_of in_header request ≡ Ok q.entry.header.now
         → drop (size_of in_header) request ≡ q.entry.r.now.left
-        → Tells request (fs_options_bits options) 0
-        (ask_opcode limits (fs_options_bits options) (length w.old.left) opcode q.entry.header.now
+        → Tells request (fs_options_bits options) 0 room
+        (ask_opcode limits (fs_options_bits options) room opcode q.entry.header.now
         q.entry.r.now.left)
         w.old result w.new call.new }
 {
@@ -225,9 +261,41 @@ fn ask_with_context(
         Ok(tail) => tail,
         Err(error) => return Asked::finished(Err(error)),
     };
-    let asked = tell(opcode, limits, options, len, q, w, call);
+    let asked = tell(opcode, limits, options, len, q, room, w, call);
     place_context(opcode, tail.as_bytes(), call);
     asked
+}
+
+// Notes the call of a request of this opcode, or finishes the request: those that are asked for most
+// by themselves, and the others over a handler.
+fn note_opcode(
+    opcode: Opcode,
+    limits: Limits,
+    options: FsOptions,
+    q: Request<'_, '_>,
+    room: usize,
+    w: &mut Writer,
+    call: &mut CallData,
+) -> Result<usize>
+    requires limits { AreLimits limits }
+    requires enough { IsEnough (length w.old.left) room }
+    requires none { call.old ≡ nothing }
+    requires known { opcode_of q.header.now.opcode ≡ Some opcode }
+    requires below { q.header.now.len ≤ max_len limits }
+    requires no_readdir { opcode ≢ Opcode.Readdir }
+    requires no_readdirplus { opcode ≢ Opcode.Readdirplus }
+    ensures { IsNoted
+        (ask_opcode limits (fs_options_bits options) room opcode q.entry.header.now
+        q.entry.r.now.left)
+        w.old result w.new call.new }
+{
+    match opcode {
+        Opcode::Lookup => note_lookup(q, call),
+        Opcode::Getattr => note_getattr(q, call),
+        Opcode::Read => note_read(room, q, call),
+        Opcode::Write => note_write(q, call),
+        _ => note(limits, options, q, w, call),
+    }
 }
 
 // Notes the call of a request of `len` bytes, and tells it with the places of its names and values.
@@ -237,28 +305,31 @@ fn tell(
     options: FsOptions,
     len: u64,
     q: Request<'_, '_>,
+    room: usize,
     w: &mut Writer,
     call: &mut CallData,
 ) -> Asked
     requires limits { AreLimits limits }
+    requires enough { IsEnough (length w.old.left) room }
     requires none { call.old ≡ nothing }
     requires known { opcode_of q.header.now.opcode ≡ Some opcode }
     requires below { q.header.now.len ≤ max_len limits }
+    requires no_readdir { opcode ≢ Opcode.Readdir }
+    requires no_readdirplus { opcode ≢ Opcode.Readdirplus }
     ensures { NotedAndTold
-        (ask_opcode limits (fs_options_bits options) (length w.old.left) opcode q.entry.header.now
+        (ask_opcode limits (fs_options_bits options) room opcode q.entry.header.now
         q.entry.r.now.left)
-        (told_with q.entry.header.now.unique (fs_options_bits options) (length w.old.left) len opcode)
+        (told_with q.entry.header.now.unique (fs_options_bits options) room len opcode)
         w.old result w.new call.new }
 {
     let unique = q.header.unique;
-    let room = w.available_bytes() as u64;
-    let outcome = note(limits, options, q, w, call);
+    let outcome = note_opcode(opcode, limits, options, q, room, w, call);
     if call.call == 0 {
         return Asked::finished(outcome);
     }
     call.unique = unique;
     call.options = options.bits();
-    call.room = room;
-    Parts::of(opcode, options).place(len, room, call);
+    call.room = room as u64;
+    Parts::of(opcode, options).place(len, room as u64, call);
     Asked::Call
 }

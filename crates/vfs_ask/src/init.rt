@@ -19,11 +19,12 @@ pub fn ask_init(
     header: &InHeader,
     options: FsOptions,
     r: &mut Reader<'_>,
+    room: usize,
     w: &mut Writer,
     call: &mut CallData,
 ) -> Asked
     requires { call.old ≡ nothing }
-    ensures { (request : List ℕ) → Tells request (fs_options_bits options) 0
+    ensures { (request : List ℕ) → Tells request (fs_options_bits options) 0 room
         (ask_form header.now r.old.left Versions) w.old result w.new call.new }
 {
     let init_in = match read_record::<InitInCompat>(r) {
@@ -31,7 +32,7 @@ pub fn ask_init(
         Err(error) => return Asked::finished(Err(error)),
     };
     match read_second_flags(init_in.flags, r) {
-        Ok(flags2) => ask_of_version(header, &init_in, flags2, options, w, call),
+        Ok(flags2) => ask_of_version(header, &init_in, flags2, options, room, w, call),
         Err(error) => Asked::finished(Err(error)),
     }
 }
@@ -42,11 +43,12 @@ fn ask_of_version(
     init_in: &InitInCompat,
     flags2: u32,
     options: FsOptions,
+    room: usize,
     w: &mut Writer,
     call: &mut CallData,
 ) -> Asked
     requires { call.old ≡ nothing }
-    ensures { (request : List ℕ) → Tells request (fs_options_bits options) 0
+    ensures { (request : List ℕ) → Tells request (fs_options_bits options) 0 room
         (ask_version header.now init_in.now flags2) w.old result w.new call.new }
 {
     if init_in.major < KERNEL_VERSION {
@@ -63,7 +65,7 @@ fn ask_of_version(
     call.unique = header.unique;
     call.readahead = init_in.max_readahead;
     call.options = options.bits();
-    call.room = w.available_bytes() as u64;
+    call.room = room as u64;
     call.count = offered_options(init_in.flags, flags2).bits();
     Asked::Call
 }

@@ -3,9 +3,11 @@
 
 mod asked;
 mod contexts;
+mod direct;
 mod init;
+mod listing;
 mod note;
 mod parts;
 mod uses;
 
-pub use asked::{Asked, ask};
+pub use asked::{Asked, LONGEST_REPLY, ask};

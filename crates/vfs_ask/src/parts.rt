@@ -8,7 +8,7 @@ ghost use Rattle.vfs_grammar.specs.Records.{size_of};
 ghost use Rattle.vfs_ask.specs.Parts.{parts_of, place_behind, with_parts};
 
 use bitflags::Flags;
-use vfs_calls::{CallData, Range, has};
+use vfs_calls::{CallData, Range};
 use vfs_flags::{FsOptions, Opcode};
 use vfs_messages::setxattr_size;
 use vfs_wire::{BatchForgetIn, ByteValued, ForgetOne, InHeader, OutHeader};
@@ -31,8 +31,6 @@ pub enum Parts {
     Rest(u64),
     /// None, but data are put into the room for the reply.
     Room,
-    /// None, but a directory's items are to have entries.
-    Entries,
 }
 
 // Where the parts behind a record of this size begin.
@@ -64,7 +62,6 @@ impl Parts {
             Opcode::BatchForget => Parts::Pairs(behind(BatchForgetIn::SIZE)),
             Opcode::Write => Parts::Rest(behind(WriteIn::SIZE)),
             Opcode::Read => Parts::Room,
-            Opcode::Readdirplus => Parts::Entries,
             _ => Parts::Nowhere,
         }
     }
@@ -94,7 +91,6 @@ impl Parts {
                 call.value = Range { at, len };
             }
             Parts::Room => call.count = room.saturating_sub(OutHeader::SIZE as u64),
-            Parts::Entries => call.has = has::PLUS,
         }
     }
 }

@@ -34,7 +34,8 @@ fn look_up_a(
     ensures { LooksUpA (fs_options_bits options) (length w.old.left) result call.new
         ⊎ IsFinished (Refusal Error.OutOfMemory) 0 w.old result w.new call.new }
 {
-    ask(alloc, LIMITS, options, r, w, call)
+    let room = w.available_bytes();
+    ask(alloc, LIMITS, options, r, room, w, call)
 }
 
 /// A RENAME of `a` to `b` tells the two names in this order.
@@ -49,7 +50,8 @@ fn rename_a_to_b(
     ensures { RenamesAToB (fs_options_bits options) (length w.old.left) result call.new
         ⊎ IsFinished (Refusal Error.OutOfMemory) 0 w.old result w.new call.new }
 {
-    ask(alloc, LIMITS, options, r, w, call)
+    let room = w.available_bytes();
+    ask(alloc, LIMITS, options, r, room, w, call)
 }
 
 /// A MKDIR with a context tells its name and its value, where contexts were agreed on.
@@ -65,7 +67,8 @@ fn make_with_context(
     ensures { HasContext result call.new
         ⊎ IsFinished (Refusal Error.OutOfMemory) 0 w.old result w.new call.new }
 {
-    ask(alloc, LIMITS, options, r, w, call)
+    let room = w.available_bytes();
+    ask(alloc, LIMITS, options, r, room, w, call)
 }
 
 /// A READ of three bytes into a room of twenty tells that there is room for four.
@@ -80,7 +83,8 @@ fn read_three(
     requires room { length w.old.left ≡ 20 }
     ensures { ReadsThree (fs_options_bits options) (length w.old.left) result call.new }
 {
-    ask(alloc, LIMITS, options, r, w, call)
+    let room = w.available_bytes();
+    ask(alloc, LIMITS, options, r, room, w, call)
 }
 
 /// A GETATTR without its record is refused, no call is told, and nothing is put into the room.
@@ -94,7 +98,8 @@ fn getattr_of_a_header_alone(
     requires { r.left ≡ header_9 40 3 }
     ensures { IsFinished (Refusal Error.DecodeMessage) 0 w.old result w.new call.new }
 {
-    ask(alloc, LIMITS, options, r, w, call)
+    let room = w.available_bytes();
+    ask(alloc, LIMITS, options, r, room, w, call)
 }
 
 /// An INTERRUPT of request 7 tells its number, and no call.
@@ -109,7 +114,8 @@ fn interrupt_seven(
     ensures told { result ≡ 7 }
     ensures no_call { call.new ≡ nothing }
 {
-    match ask(alloc, LIMITS, options, r, w, call) {
+    let room = w.available_bytes();
+    match ask(alloc, LIMITS, options, r, room, w, call) {
         Asked::Finished {
             outcome: _,
             interrupts,

@@ -2,9 +2,9 @@
 use Rattle.std.proofs.Common.{◌≡◌, ◌≤◌, ◌+◌, ◌-◌, ◌++◌, ◌∙◌, ℕ, ℤ, List, length, take, drop, replicate, true, Option, Some, None, IfSome, ap, sym, subst, inl, arith, rules, length-append, append_assoc}
 use Rattle.std.proofs.lemmas.List.{length-replicate, length-take-le, take_at}
 use Rattle.std.proofs.Math.Seq.{take-append-add}
-use Rattle.vfs_segments.specs.Segments.{flat_bytes, lengths_of}
 use Rattle.vfs_segments.specs.Written.{Written, whole}
 use Rattle.vfs_files.specs.Calls.{Kind, Data, Iterators}
+use Rattle.vfs_messages.specs.Rooms.{with_behind}
 use Rattle.vfs_grammar.specs.Reply.{reply_of, reply_to}
 use Rattle.vfs_files.specs.Calls.{read_answer}
 use Rattle.vfs_grammar.specs.declared.limits.Limits.{Limits}
@@ -12,13 +12,14 @@ use Rattle.vfs_calls.specs.declared.call.CallData.{CallData}
 use Rattle.vfs_calls.specs.declared.data.AnswerData.{AnswerData}
 use Rattle.vfs_calls.specs.declared.data.ItemData.{ItemData}
 use Rattle.vfs_answer.specs.Kinds.{kind_told}
-use Rattle.vfs_answer.specs.Answering.{Answers, AnswersCall, can_answer, echo_told, with_behind}
+use Rattle.vfs_answer.specs.Answering.{Answers, AnswersCall, can_answer, echo_told}
 use Rattle.vfs_answer.specs.Told.{AnswersEachCall, AnswersEachListing}
 use Rattle.vfs_answer.specs.declared.answered.Answered.{Answered}
 use Rattle.vfs_rooms.specs.Codes.{number_of, length_of}
 use Rattle.vfs_door.specs.Answering.{AnswersOrNot, put_of}
+use Rattle.vfs_door.specs.Shown.{shown_of}
 use Rattle.vfs_door.specs.declared.data.ToldData.{ToldData}
-use Rattle.vfs_door.proofs.Leaving.{Keeps, replied_keeps, are_first}
+use Rattle.vfs_door.proofs.Leaving.{Keeps, replied_keeps, are_first, shorter}
 
 -- a writer has no more room than was told
 within : (kind : Kind) (call : CallData) (space : ℕ) → can_answer (Some kind) call space ≡ true
@@ -26,31 +27,6 @@ within : (kind : Kind) (call : CallData) (space : ℕ) → can_answer (Some kind
 within (Data size) call space is = search rules
 within Iterators call space is = search rules
 within kind call space is = search rules
-
--- what holds with more room behind a writer's own holds of that alone
-shorter : (old new : Written) (behind : List ℕ) → Keeps (with_behind old behind) (with_behind new behind)
-    → Keeps old new
-shorter old new behind k =
-    let n = length old.left in
-    let all : whole new ++ behind ≡ old.passed ++ k.room_after =
-    append_assoc new.passed new.left behind ∙ k.leaves.kept in
-    let e1 = sym (length-append (whole new) behind) ∙ ap length all
-    ∙ length-append old.passed k.room_after in
-    let e2 : length k.room_after ≡ n + length behind =
-    k.leaves.same_length ∙ length-append old.left behind in
-    let long : length (whole new) ≡ length old.passed + n = omega (arith, e1, e2) in
-    let enough : n ≤ length k.room_after = omega (arith, e2) in
-    record {
-      room_after = take n k.room_after;
-      leaves = record {
-        kept =
-            sym (take_at (whole new) behind (length old.passed + n) long)
-            ∙ ap (take (length old.passed + n)) all
-            ∙ take-append-add old.passed k.room_after n;
-        same_length = length-take-le n k.room_after enough;
-        same_segments = k.leaves.same_segments;
-      };
-    }
 
 module _ (limits : Limits) (call : CallData) (a : AnswerData) (text : List ℕ) (items : List ItemData)
     (before after : Written) (came : Answered) where
@@ -87,7 +63,7 @@ told_by told came len put = record told {
 }
 
 module _ (limits : Limits) (call : CallData) (a : AnswerData) (text : List ℕ) (items : List ItemData)
-    (total : ℕ) (told : ToldData) (before after : Written) (result : Option Answered) (room : List ℕ)
+    (total : ℕ) (told : ToldData) (before after : Written) (result : Option Answered)
     (space : length before.left ≡ total) (total_is : total ≡ put_of call call.room) where
   -- the clauses of `answer`
   abbrev Clauses : Option Answered → Type 0
@@ -98,21 +74,18 @@ module _ (limits : Limits) (call : CallData) (a : AnswerData) (text : List ℕ) 
       × IfSome r (λ came. came.taken ≤ length items)
 
   -- it was answered
-  pub told_answered : (code : ℤ) (len put : ℕ) (came : Answered) (segments : List (List ℕ))
-      → Clauses result → result ≡ Some came → length before.lengths ≡ 1
-      → flat_bytes segments ≡ whole after → lengths_of segments ≡ after.lengths
-      → (length (lengths_of segments) ≡ 1
-      → room ≡ drop (length (flat_bytes segments) - total) (flat_bytes segments))
+  pub told_answered : (code : ℤ) (start len put : ℕ) (came : Answered)
+      → Clauses result → result ≡ Some came → start ≡ length before.passed → length before.lengths ≡ 1
       → code ≡ number_of came.outcome → len ≡ length_of came.outcome → put ≡ put_of call len
-      → AnswersOrNot limits call a text items code told (told_by told came len put) (take put room)
-  told_answered code len put came segments clauses some_is one bytes lengths last number length_is put_is =
+      → AnswersOrNot limits call a text items code told (told_by told came len put)
+      (shown_of after.lengths (whole after) start put)
+  told_answered code start len put came clauses some_is at one number length_is put_is =
       let n = length_of came.outcome in
       let is : Clauses (Some came) = subst Clauses some_is clauses in
       let keeps = answered_keeps limits call a text items before after came
       (kind_told call.answer call.size) is.0 in
       let puts : put ≡ put_of call n = put_is ∙ ap (put_of call) length_is in
-      let first = are_first (put_of call n) total before after segments room keeps space one bytes
-      lengths last in
+      let first = are_first (put_of call n) start before after keeps at one in
       inl (record {
         before = before;
         space = space ∙ total_is;

@@ -1,6 +1,6 @@
 -- What C is told of a request that was asked.
-use Rattle.std.proofs.Common.{◌≡◌, ◌-◌, ℕ, ℤ, List, length, take, drop, Result, refl, ap, subst, inl, inr}
-use Rattle.vfs_segments.specs.Segments.{flat_bytes, lengths_of}
+use Rattle.std.proofs.Common.{◌≡◌, ◌≤◌, ◌+◌, ◌-◌, ◌++◌, ◌∙◌, ℕ, ℤ, List, [], length, take, drop, replicate, Result, Ok, Err, IfOk, refl, ap, sym, subst, inl, inr, arith, length-append, append_assoc}
+use Rattle.std.proofs.lemmas.List.{length-replicate, take-append-le}
 use Rattle.vfs_segments.specs.Written.{Written, whole}
 use Rattle.vfs_grammar.specs.Ask.{ask}
 use Rattle.vfs_grammar.specs.Forms.{Ask, Ends, Asks, Lists, WithMemory}
@@ -9,74 +9,105 @@ use Rattle.vfs_grammar.specs.declared.error.Error.{Error}
 use Rattle.vfs_grammar.specs.declared.error.Error.TheVariants.{OutOfMemory}
 use Rattle.vfs_grammar.specs.declared.limits.Limits.{Limits}
 use Rattle.vfs_calls.specs.declared.call.CallData.{CallData}
-use Rattle.vfs_ask.specs.Asked.{IsAsked, Tells, interrupted_by}
+use Rattle.vfs_messages.specs.Rooms.{with_behind}
+use Rattle.vfs_messages.proofs.Rooms.{whole_behind}
+use Rattle.vfs_ask.specs.Asked.{IsAsked, LiesWithin, Tells, interrupted_by}
 use Rattle.vfs_ask.specs.declared.asked.Asked.{Asked}
 use Rattle.vfs_ask.specs.declared.asked.Asked.TheVariants as asked
 use Rattle.vfs_rooms.specs.Codes.{is_asked, number_of, length_of}
 use Rattle.vfs_door.specs.Asking.{AsksOrNot}
 use Rattle.vfs_door.specs.declared.data.ToldData.{ToldData}
-use Rattle.vfs_door.proofs.Leaving.{Keeps, replied_keeps, are_first}
+use Rattle.vfs_door.specs.Shown.{AreFirst, shown_of}
+use Rattle.vfs_door.proofs.Leaving.{Keeps, replied_keeps, are_first, none_shown, shorter}
 
 -- a writer through which a request was finished keeps what it had passed
-finished_keeps : (request : List ℕ) (options interrupts : ℕ) (asks : Ask) (before after : Written)
+finished_keeps : (request : List ℕ) (options interrupts room : ℕ) (asks : Ask) (before after : Written)
     (outcome : Result ℕ Error) (interrupted : ℕ) (call : CallData)
-    → Tells request options interrupts asks before (asked.Finished outcome interrupted) after call
+    → Tells request options interrupts room asks before (asked.Finished outcome interrupted) after call
     → Keeps before after
-finished_keeps q o n (Ends reply) before after outcome i call t =
+finished_keeps q o n room (Ends reply) before after outcome i call t =
     replied_keeps reply before after outcome t.0
-finished_keeps q o n (Asks echo asked) before after outcome i call t = absurd (let e = t.0 in cc)
-finished_keeps q o n (Lists echo l) before after outcome i call t = absurd (let e = t.0 in cc)
-finished_keeps q o n (WithMemory rest) before after outcome i call (inl t) =
-    finished_keeps q o n rest before after outcome i call t
-finished_keeps q o n (WithMemory rest) before after outcome i call (inr t) =
+finished_keeps q o n room (Asks echo asked) before after outcome i call t = absurd (let e = t.0 in cc)
+finished_keeps q o n room (Lists echo l) before after outcome i call t = absurd (let e = t.0 in cc)
+finished_keeps q o n room (WithMemory rest) before after outcome i call (inl t) =
+    finished_keeps q o n room rest before after outcome i call t
+finished_keeps q o n room (WithMemory rest) before after outcome i call (inr t) =
     replied_keeps (Refusal OutOfMemory) before after outcome t.0
 
 -- a request is told finished so, with this length
 abbrev told_by : ToldData → (len interrupts : ℕ) → ToldData
 told_by told len interrupts = record told { len = len; put = len; interrupts = interrupts }
 
-module _ (limits : Limits) (options : ℕ) (request : List ℕ) (total : ℕ) (call call_after : CallData)
-    (told : ToldData) (before after : Written) (result : Asked) (room : List ℕ)
-    (is : IsAsked limits options request before result after call_after)
-    (space : length before.left ≡ total) where
-  asked_as : (r : Asked) → result ≡ r → IsAsked limits options request before r after call_after
-  asked_as r e = subst (λ (r : Asked). IsAsked limits options request before r after call_after) e is
+length_within : (outcome : Result ℕ Error) (space : ℕ) → IfOk outcome (λ len. len ≤ space) → length_of outcome ≤ space
+length_within (Ok len) space h = h
+length_within (Err error) space h = omega arith
+
+-- what of a room is shown lies in the beginning that a writer had
+first_of_room : (count space start : ℕ) (before after : Written) (behind bytes : List ℕ) → length before.left ≡ space → count ≤ space
+    → Keeps before after → AreFirst count before after bytes
+    → AreFirst count (with_behind before behind) (with_behind after behind) bytes
+first_of_room count space start before after behind bytes long within keeps first =
+    let n : length first.room ≡ length before.left = omega (arith, ap length (sym first.kept ∙ keeps.leaves.kept), keeps.leaves.same_length, length-append before.passed first.room, length-append before.passed keeps.room_after) in
+    record {
+      room = first.room ++ behind;
+      kept = whole_behind after behind ∙ ap (λ (x : List ℕ). x ++ behind) first.kept ∙ append_assoc before.passed first.room behind;
+      first = first.first ∙ sym (take-append-le count first.room behind (omega (arith, n, long, within)));
+    }
+
+module _ (limits : Limits) (options : ℕ) (request : List ℕ) (room : ℕ) (call call_after : CallData)
+    (told : ToldData) (before after : Written) (result : Asked)
+    (is : (behind : List ℕ) → length before.left + length behind ≡ room
+    → IsAsked limits options request (with_behind before behind) result (with_behind after behind) call_after)
+    (within : LiesWithin (length before.left) result) (enough : length before.left ≤ room) where
+  -- zeros stand for the room that the writer hasn't
+  abbrev zeros : List ℕ
+  zeros = replicate (room - length before.left) 0
+
+  all : length before.left + length zeros ≡ room
+  all =
+      let n : length zeros ≡ room - length before.left = length-replicate (room - length before.left) 0 in
+      omega (arith, n, enough)
+
+  space : length (before.left ++ zeros) ≡ room
+  space = length-append before.left zeros ∙ all
+
+  asked_as : (r : Asked) → result ≡ r → IsAsked limits options request (with_behind before zeros) r (with_behind after zeros) call_after
+  asked_as r e = subst (λ (r : Asked). IsAsked limits options request (with_behind before zeros) r (with_behind after zeros) call_after) e (is zeros all)
 
   -- a call is told
-  pub told_call : (shown : ℕ) → result ≡ asked.Call → shown ≡ 0
-      → AsksOrNot limits options request total is_asked call call_after told told (take shown room)
-  told_call shown call_is none =
+  pub told_call : (lengths bytes : List ℕ) (start shown : ℕ) → result ≡ asked.Call → shown ≡ 0
+      → AsksOrNot limits options request room is_asked call call_after told told (shown_of lengths bytes start shown)
+  told_call lengths bytes start shown call_is none =
       inl (record {
-        before = before;
+        before = with_behind before zeros;
         space = space;
         result = asked.Call;
-        after = after;
+        after = with_behind after zeros;
         asked = asked_as asked.Call call_is;
-        passed_on = (refl, refl, ap (λ (n : ℕ). take n room) none);
+        passed_on = (refl, refl, ap (λ (n : ℕ). shown_of lengths bytes start n) none ∙ none_shown lengths bytes start);
       })
 
   -- a request is finished
-  pub told_finished : (code : ℤ) (len : ℕ) (outcome : Result ℕ Error) (interrupts : ℕ)
-      (segments : List (List ℕ)) → result ≡ asked.Finished outcome interrupts
-      → length before.lengths ≡ 1
-      → flat_bytes segments ≡ whole after → lengths_of segments ≡ after.lengths
-      → (length (lengths_of segments) ≡ 1
-      → room ≡ drop (length (flat_bytes segments) - total) (flat_bytes segments))
+  pub told_finished : (code : ℤ) (start len : ℕ) (outcome : Result ℕ Error) (interrupts : ℕ)
+      → result ≡ asked.Finished outcome interrupts
+      → start ≡ length before.passed → length before.lengths ≡ 1
       → code ≡ number_of outcome → len ≡ length_of outcome
-      → AsksOrNot limits options request total code call call_after told (told_by told len interrupts)
-      (take len room)
-  told_finished code len outcome interrupts segments finished one bytes lengths last number length_is =
+      → AsksOrNot limits options request room code call call_after told (told_by told len interrupts)
+      (shown_of after.lengths (whole after) start len)
+  told_finished code start len outcome interrupts finished at one number length_is =
       let n = length_of outcome in
       let tells = asked_as (asked.Finished outcome interrupts) finished in
-      let keeps = finished_keeps request options (interrupted_by limits request)
-      (ask limits options (length before.left) request) before after outcome interrupts call_after
-      tells in
-      let first = are_first n total before after segments room keeps space one bytes lengths last in
+      let keeps = shorter before after zeros (finished_keeps request options (interrupted_by limits request) (length (before.left ++ zeros))
+      (ask limits options (length (before.left ++ zeros)) request) (with_behind before zeros) (with_behind after zeros) outcome interrupts call_after
+      tells) in
+      let lies : LiesWithin (length before.left) (asked.Finished outcome interrupts) = subst (LiesWithin (length before.left)) finished within in
+      let first = first_of_room n (length before.left) start before after zeros _ refl (length_within outcome (length before.left) lies) keeps
+      (are_first n start before after keeps at one) in
       inl (record {
-        before = before;
+        before = with_behind before zeros;
         space = space;
         result = asked.Finished outcome interrupts;
-        after = after;
+        after = with_behind after zeros;
         asked = tells;
         passed_on = (
           number,

@@ -1,12 +1,12 @@
 -- What a writer leaves of its room, and what of that is there to be copied out.
-use Rattle.std.proofs.Common.{◌≡◌, ◌+◌, ◌-◌, ◌++◌, ◌∙◌, ℕ, List, length, take, drop, Result, refl, ap, arith, length-append}
-use Rattle.std.proofs.lemmas.List.{drop_at}
-use Rattle.vfs_segments.specs.Segments.{flat_bytes, lengths_of}
+use Rattle.std.proofs.Common.{◌≡◌, ◌≤◌, ◌+◌, ◌++◌, ◌∙◌, ℕ, List, [], ◌∷◌, length, take, drop, Result, refl, ap, sym, arith, length-append, append_assoc}
+use Rattle.std.proofs.lemmas.List.{drop_at, length-take-le, take_at}
+use Rattle.std.proofs.Math.Seq.{take-append-add}
 use Rattle.vfs_segments.specs.Written.{Written, whole}
-use Rattle.vfs_messages.specs.Rooms.{Leaves, Replies}
+use Rattle.vfs_messages.specs.Rooms.{Leaves, Replies, with_behind}
 use Rattle.vfs_grammar.specs.Reply.{Reply, Refusal, NoReply, Bytes, OpenBehind}
 use Rattle.vfs_grammar.specs.declared.error.Error.{Error}
-use Rattle.vfs_door.specs.Shown.{AreFirst}
+use Rattle.vfs_door.specs.Shown.{AreFirst, shown_of}
 
 -- a writer keeps what it had passed
 pub record Keeps (old new : Written) : Type 0 where
@@ -29,30 +29,53 @@ replied_keeps (Bytes reply) old new outcome h =
 replied_keeps (OpenBehind reply) old new outcome h =
     record { room_after = h.room_after; leaves = h.leaves }
 
--- the last bytes of all are those behind the bytes that were passed before
-room_behind : (passed room_after all : List ℕ) (total : ℕ) → all ≡ passed ++ room_after
-    → length room_after ≡ total → drop (length all - total) all ≡ room_after
-room_behind passed room_after all total kept long =
-    let n : length all ≡ length passed + length room_after =
-    ap length kept ∙ length-append passed room_after in
-    let before = length all - total in
-    let at : length passed ≡ before = omega (arith, n, long) in
-    ap (λ (bs : List ℕ). drop before bs) kept ∙ drop_at passed room_after before at
+-- what holds with more room behind a writer's own holds of that alone
+pub shorter : (old new : Written) (behind : List ℕ) → Keeps (with_behind old behind) (with_behind new behind)
+    → Keeps old new
+shorter old new behind k =
+    let n = length old.left in
+    let all : whole new ++ behind ≡ old.passed ++ k.room_after =
+    append_assoc new.passed new.left behind ∙ k.leaves.kept in
+    let e1 = sym (length-append (whole new) behind) ∙ ap length all
+    ∙ length-append old.passed k.room_after in
+    let e2 : length k.room_after ≡ n + length behind =
+    k.leaves.same_length ∙ length-append old.left behind in
+    let long : length (whole new) ≡ length old.passed + n = omega (arith, e1, e2) in
+    let enough : n ≤ length k.room_after = omega (arith, e2) in
+    record {
+      room_after = take n k.room_after;
+      leaves = record {
+        kept =
+            sym (take_at (whole new) behind (length old.passed + n) long)
+            ∙ ap (take (length old.passed + n)) all
+            ∙ take-append-add old.passed k.room_after n;
+        same_length = length-take-le n k.room_after enough;
+        same_segments = k.leaves.same_segments;
+      };
+    }
+
+one_segment : (lengths bytes : List ℕ) (start shown : ℕ) → length lengths ≡ 1
+    → shown_of lengths bytes start shown ≡ take shown (drop start bytes)
+one_segment (n ∷ []) bytes start shown one = refl
+one_segment [] bytes start shown one = absurd (let e = one in cc)
+one_segment (n ∷ m ∷ lengths) bytes start shown one = absurd (omega (arith, one))
 
 -- the first bytes of the room that came back
-pub are_first : (count total : ℕ) (before after : Written) (segments : List (List ℕ)) (room : List ℕ)
-    → Keeps before after → length before.left ≡ total → length before.lengths ≡ 1
-    → flat_bytes segments ≡ whole after → lengths_of segments ≡ after.lengths
-    → (length (lengths_of segments) ≡ 1
-    → room ≡ drop (length (flat_bytes segments) - total) (flat_bytes segments))
-    → AreFirst count before after (take count room)
-are_first count total before after segments room keeps space one bytes lengths is =
-    let same : length (lengths_of segments) ≡ 1 =
-    ap length (lengths ∙ keeps.leaves.same_segments) ∙ one in
-    let behind = room_behind before.passed keeps.room_after (flat_bytes segments) total
-    (bytes ∙ keeps.leaves.kept) (keeps.leaves.same_length ∙ space) in
+pub are_first : (count start : ℕ) (before after : Written) → Keeps before after
+    → start ≡ length before.passed → length before.lengths ≡ 1
+    → AreFirst count before after (shown_of after.lengths (whole after) start count)
+are_first count start before after keeps at one =
+    let same : length after.lengths ≡ 1 = ap length keeps.leaves.same_segments ∙ one in
+    let behind : drop start (whole after) ≡ keeps.room_after =
+    ap (drop start) keeps.leaves.kept ∙ drop_at before.passed keeps.room_after start (sym at) in
     record {
       room = keeps.room_after;
       kept = keeps.leaves.kept;
-      first = ap (take count) (is same ∙ behind);
+      first = one_segment after.lengths (whole after) start count same ∙ ap (take count) behind;
     }
+
+-- nothing is shown of no byte
+pub none_shown : (lengths bytes : List ℕ) (start : ℕ) → shown_of lengths bytes start 0 ≡ []
+none_shown [] bytes start = refl
+none_shown (n ∷ []) bytes start = refl
+none_shown (n ∷ m ∷ lengths) bytes start = refl

@@ -79,7 +79,7 @@ IsLookedUp code call told told_after shown =
 
 by_asked : (interrupts space : ℕ) (before after : Written) (result : Asked) (call : CallData)
     (code : ℤ) (told told_after : ToldData) (shown : List ℕ) → space ≡ 4096 → length before.left ≡ space
-    → Tells lookup_of_a 0 interrupts (WithMemory (asks_call echo lookup)) before result after call
+    → Tells lookup_of_a 0 interrupts (length before.left) (WithMemory (asks_call echo lookup)) before result after call
     → IsAskedOn result before after code told told_after shown
     → IsLookedUp code call told told_after shown
 by_asked i space before after result call code told told_after shown room is (inl t) on =
@@ -100,8 +100,8 @@ looked_up request code call call_after told told_after shown is (inl s) =
     let of_a : IsAsked limits 0 lookup_of_a s.before s.result s.after call_after =
     subst (λ (q : List ℕ). IsAsked limits 0 q s.before s.result s.after call_after) is s.asked in
     let by = interrupted_by limits lookup_of_a in
-    let tells : Tells lookup_of_a 0 by (WithMemory (asks_call echo lookup)) s.before s.result s.after call_after =
-    subst (λ (a : Ask). Tells lookup_of_a 0 by a s.before s.result s.after call_after)
+    let tells : Tells lookup_of_a 0 by (length s.before.left) (WithMemory (asks_call echo lookup)) s.before s.result s.after call_after =
+    subst (λ (a : Ask). Tells lookup_of_a 0 by (length s.before.left) a s.before s.result s.after call_after)
     (asks (length s.before.left)) of_a in
     by_asked by 4096 s.before s.after s.result call_after code told told_after shown refl s.space tells
     s.passed_on

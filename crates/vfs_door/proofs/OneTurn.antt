@@ -2,6 +2,7 @@
 use Rattle.std.proofs.Common.{◌≡◌, ◌≤◌, ◌^◌, ◌⊎◌, ◌+◌, ◌∙◌, ◌==◌, if◌then◌else◌, ℕ, ℤ, List, length, min, Bool, true, false, Option, Some, None, Result, Ok, Err, refl, ap, sym, subst, inl, inr, arith, length-append}
 use Rattle.std.proofs.lemmas.Bool.Decides.{nat_tests}
 use Rattle.vfs_segments.specs.Written.{Written}
+use Rattle.vfs_messages.specs.Rooms.{with_behind}
 use Rattle.vfs_grammar.specs.Ask.{ask}
 use Rattle.vfs_grammar.specs.Forms.{Ask, Ends, Asks as asks_call, Lists, WithMemory}
 use Rattle.vfs_grammar.specs.declared.error.Error.{Error}
@@ -13,10 +14,9 @@ use Rattle.vfs_calls.specs.declared.data.ItemData.{ItemData}
 use Rattle.vfs_ask.specs.Asked.{IsAsked, Tells, interrupted_by}
 use Rattle.vfs_ask.specs.declared.asked.Asked.{Asked}
 use Rattle.vfs_ask.specs.declared.asked.Asked.TheVariants as asked
-use Rattle.vfs_answer.specs.Answering.{with_behind}
 use Rattle.vfs_answer.specs.Told.{AnswersEachCall, AnswersEachListing}
 use Rattle.vfs_answer.specs.declared.answered.Answered.{Answered}
-use Rattle.vfs_answer.proofs.Behind.{with_none_behind}
+use Rattle.vfs_messages.proofs.Rooms.{with_none_behind}
 use Rattle.vfs_in_flight.specs.OneTurn.{AreOneTurn}
 use Rattle.vfs_rooms.specs.Codes.{ok, no_memory, too_long, is_asked, number_of}
 use Rattle.vfs_door.specs.Answering.{AnswersOrNot, put_of}
@@ -47,15 +47,15 @@ call_told (asked.Finished outcome n) before after code told told_after shown on 
     absurd (no_call outcome (sym on.0 ∙ is))
 
 -- a call is told with all the room that there was
-room_told : (request : List ℕ) (options interrupts : ℕ) (a : Ask) (before after : Written)
-    (call : CallData) → Tells request options interrupts a before asked.Call after call
-    → call.room ≡ length before.left
-room_told q o n (Ends reply) before after call t = absurd t
-room_told q o n (asks_call echo asked) before after call t =
+room_told : (request : List ℕ) (options interrupts room : ℕ) (a : Ask) (before after : Written)
+    (call : CallData) → Tells request options interrupts room a before asked.Call after call
+    → call.room ≡ room
+room_told q o n room (Ends reply) before after call t = absurd t
+room_told q o n room (asks_call echo asked) before after call t =
     ap (λ (c : CallData). c.room) t.1.numbers
-room_told q o n (Lists echo l) before after call t = ap (λ (c : CallData). c.room) t.1
-room_told q o n (WithMemory rest) before after call (inl t) = room_told q o n rest before after call t
-room_told q o n (WithMemory rest) before after call (inr t) = absurd t
+room_told q o n room (Lists echo l) before after call t = ap (λ (c : CallData). c.room) t.1
+room_told q o n room (WithMemory rest) before after call (inl t) = room_told q o n room rest before after call t
+room_told q o n room (WithMemory rest) before after call (inr t) = absurd t
 
 -- a directory has all its room
 listing_behind : (limits : Limits) (call : CallData) (a : AnswerData) (items : List ItemData)
@@ -82,7 +82,7 @@ module _ (law : AreOneTurn) (limits : Limits) (options : ℕ) (request : List �
       → AnswersEachListing limits call a items old (Some came) new
       → IsOneTurn limits options request room a text items
   of_came asked_in asked_after old new came is space put calls listings =
-      let told = room_told request options (interrupted_by limits request)
+      let told = room_told request options (interrupted_by limits request) (length asked_in.left)
       (ask limits options (length asked_in.left) request) asked_in asked_after call is in
       record {
         before = old;

@@ -1,11 +1,16 @@
 -- What is there to be copied out.
-use Rattle.std.specs.Prelude.{◌≡◌, ◌++◌, ℕ, List, [], take, drop, Option, None, Some}
+use Rattle.std.specs.Prelude.{◌≡◌, ◌++◌, ℕ, List, [], ◌∷◌, take, drop, Option, None, Some}
 use Rattle.vfs_segments.specs.Written.{Written, whole}
 use Rattle.vfs_door.specs.declared.memory.Memory.{Memory}
 
--- the bytes that are there to be copied out of this memory: the first ones of its last room
+-- of memory with one segment, the first bytes of its last room
+abbrev pub shown_of : (lengths : List ℕ) → (bytes : List ℕ) → (start shown : ℕ) → List ℕ
+shown_of (n ∷ []) bytes start shown = take shown (drop start bytes)
+shown_of lengths bytes start shown = []
+
+-- the bytes that are there to be copied out of this memory
 abbrev pub bytes_shown : Memory → List ℕ
-bytes_shown m = take m.shown (drop m.start m.room.items)
+bytes_shown m = shown_of m.writer.lengths (whole m.writer) m.start m.shown
 
 -- those of a slot
 abbrev pub shown_in : Option Memory → List ℕ

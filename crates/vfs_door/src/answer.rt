@@ -54,15 +54,12 @@ pub fn answer_call(
     ensures { AnswersOrNot limits call.now answer.now text.now items.now result told.old told.new
         (bytes_shown memory.new) }
 {
-    memory.shown = 0;
     let room = put_of(call, call.room as usize);
-    let Some(mut writer) = memory.lend(alloc, room) else {
+    if !memory.begin(alloc, room) {
         told.give_back = entry_of(call, answer);
         return OUT_OF_MEMORY;
-    };
-    let answered = put_answer(limits, call, answer, text, items, &mut writer);
-    memory.keep(alloc, writer.into_segments(), room);
-    match answered {
+    }
+    match put_answer(limits, call, answer, text, items, &mut memory.writer) {
         None => NOT_ASKED,
         Some(came) => {
             let (code, len) = number_and_length(&came.outcome);

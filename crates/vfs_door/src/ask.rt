@@ -11,7 +11,7 @@ ghost use Rattle.vfs_door.specs.Shown.{bytes_shown};
 use crate::data::ToldData;
 use crate::memory::Memory;
 use std::alloc::Global;
-use vfs_ask::{Asked, ask};
+use vfs_ask::{Asked, LONGEST_REPLY, ask};
 use vfs_calls::CallData;
 use vfs_flags::FsOptions;
 use vfs_grammar::{Limits, Result};
@@ -63,16 +63,22 @@ fn ask_reader(
     call: &mut CallData,
     told: &mut ToldData,
 ) -> i32
-    requires limits { AreLimits limits }
-    requires none_shown { memory.old.shown ≡ 0 }
+    requires { AreLimits limits }
     ensures { AsksOrNot limits (fs_options_bits options) reader.entry.left room
         result call.old call.new told.old told.new (bytes_shown memory.new) }
 {
-    let Some(mut writer) = memory.lend(alloc, room) else {
+    if !memory.begin(alloc, room.min(LONGEST_REPLY)) {
         return OUT_OF_MEMORY;
-    };
-    let asked = ask(alloc, limits, options, reader, &mut writer, call);
-    memory.keep(alloc, writer.into_segments(), room);
+    }
+    let asked = ask(
+        alloc,
+        limits,
+        options,
+        reader,
+        room,
+        &mut memory.writer,
+        call,
+    );
     match asked {
         Asked::Call => ASKED,
         Asked::Finished {

@@ -1,25 +1,29 @@
 //! The memory of one call at a time: the room in which a reply is put together.
 
-ghost use Rattle.std.specs.Prelude.{◌≡◌, ◌-◌, ◌++◌, length, take, drop, min, IfSome};
-ghost use Rattle.vfs_segments.specs.Segments.{contents, flat_bytes, lengths_of};
-ghost use Rattle.vfs_rooms.specs.Parts.{part_from};
+ghost use Rattle.std.specs.Prelude.{◌≡◌, ◌≤◌, ◌++◌, true, length, take, drop, min};
+ghost use Rattle.vfs_door.specs.Shown.{bytes_shown};
 
 use std::alloc::Global;
-use std::mem;
-use vfs_rooms::{copy_part, lend, only_room};
+use vfs_rooms::{copy_part, lend};
 use vfs_segments::Writer;
 
 /// Memory in which replies are put together.
 #[derive(Drop)]
 pub struct Memory {
-    /// It never gets shorter: the last room is its end.
-    pub room: Vec<u8>,
+    /// Its one segment never gets shorter: the last room is its end.
+    pub writer: Writer,
     /// Where the last room begins.
     pub start: usize,
     /// How many bytes at the front of the last room are there to be copied out.
     pub shown: usize,
-    /// What holds `room` during a call, kept for its memory.
-    list: Vec<Vec<u8>>,
+}
+
+// A writer without a segment. It takes no memory.
+fn no_room(alloc: Global) -> Writer {
+    match Writer::new(alloc, Vec::new(alloc)) {
+        Ok(writer) => writer,
+        Err(_) => unreachable!(),
+    }
 }
 
 impl Memory {
@@ -28,47 +32,66 @@ impl Memory {
         ensures { result.shown ≡ 0 }
     {
         Memory {
-            room: Vec::new(alloc),
+            writer: no_room(alloc),
             start: 0,
             shown: 0,
-            list: Vec::new(alloc),
         }
     }
 
-    /// A writer with `total` bytes left. `None` where there is no memory.
-    pub fn lend(&mut self, alloc: Global, total: usize) -> Option<Writer>
-        ensures shown { self.new.shown ≡ self.old.shown }
-        ensures left { IfSome result (λ w. length w.left ≡ total) }
-        ensures one { IfSome result (λ w. length w.lengths ≡ 1) }
+    // Whether it has so many bytes, in one segment.
+    #[inline(always)]
+    fn has(&self, total: usize) -> bool
+        ensures one { result ≡ true → length self.now.writer.lengths ≡ 1 }
+        ensures enough { result ≡ true → total ≤ length self.now.writer.left }
     {
-        let room = mem::replace(&mut self.room, Vec::new(alloc));
-        let list = mem::replace(&mut self.list, Vec::new(alloc));
-        lend(alloc, list, room, total)
+        self.writer.segments().len() == 1 && total <= self.writer.available_bytes()
     }
 
-    /// Takes the memory back, of which the last `total` bytes are the last room.
-    pub fn keep(&mut self, alloc: Global, mut rooms: Vec<Vec<u8>>, total: usize)
-        ensures shown { self.new.shown ≡ self.old.shown }
-        ensures room { length (lengths_of (contents rooms.items)) ≡ 1 →
-            drop self.new.start self.new.room.items ≡
-            drop (length (flat_bytes (contents rooms.items)) - total)
-            (flat_bytes (contents rooms.items)) }
+    // Takes memory for `total` bytes of room. False where there is none.
+    #[cold]
+    fn grow(&mut self, alloc: Global, total: usize) -> bool
+        ensures same_shown { self.new.shown ≡ self.old.shown }
+        ensures left { result ≡ true → length self.new.writer.left ≡ total }
+        ensures one { result ≡ true → length self.new.writer.lengths ≡ 1 }
+        ensures start { result ≡ true → self.new.start ≡ length self.new.writer.passed }
     {
-        self.room = only_room(alloc, &mut rooms);
-        self.start = self.room.len().saturating_sub(total);
-        self.list = rooms;
+        let Some(writer) = lend(alloc, Vec::new(alloc), Vec::new(alloc), total) else {
+            return false;
+        };
+        self.writer = writer;
+        self.start = self.writer.bytes_written();
+        true
+    }
+
+    /// Begins a call with `total` bytes of room, and nothing there to be copied out. False where
+    /// there is no memory.
+    #[inline(always)]
+    pub fn begin(&mut self, alloc: Global, total: usize) -> bool
+        ensures none_shown { self.new.shown ≡ 0 }
+        ensures left { result ≡ true → length self.new.writer.left ≡ total }
+        ensures one { result ≡ true → length self.new.writer.lengths ≡ 1 }
+        ensures start { result ≡ true → self.new.start ≡ length self.new.writer.passed }
+    {
+        self.shown = 0;
+        self.writer.rewind();
+        if !self.has(total) {
+            return self.grow(alloc, total);
+        }
+        self.start = self.writer.available_bytes() - total;
+        self.writer.hold(self.start).is_ok()
     }
 
     /// Copies bytes that are there to be copied out, from place `at` on, over the first ones of a
     /// piece, as many as both have. Answers how many.
     pub fn copy_out(&self, at: usize, piece: &mut [u8]) -> usize
-        ensures count { result ≡ min (length
-            (part_from at (drop self.now.start self.now.room.items) self.now.shown))
-            (length piece.old) }
+        ensures count { result ≡ min (length (drop at (bytes_shown self.now))) (length piece.old) }
         ensures copied { piece.new ≡
-            take result (part_from at (drop self.now.start self.now.room.items) self.now.shown)
-            ++ drop result piece.old }
+            take result (drop at (bytes_shown self.now)) ++ drop result piece.old }
     {
-        copy_part(&self.room, self.start, self.shown, at, piece)
+        let segments = self.writer.segments();
+        if segments.len() != 1 {
+            return 0;
+        }
+        copy_part(&segments[0], self.start, self.shown, at, piece)
     }
 }

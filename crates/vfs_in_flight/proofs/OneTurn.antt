@@ -3,7 +3,7 @@ use Rattle.std.proofs.Common.{◌≡◌, ◌+◌, ◌-◌, ◌++◌, ◌∙◌, 
 use Rattle.vfs_segments.specs.Written.{Written}
 use Rattle.vfs_files.specs.Calls.{Call, Init, Data, kind_of, read_answer}
 use Rattle.vfs_files.specs.Runs.{Event, Called}
-use Rattle.vfs_messages.specs.Rooms.{Leaves, Replies}
+use Rattle.vfs_messages.specs.Rooms.{Leaves, Replies, with_behind}
 use Rattle.vfs_grammar.specs.Ask.{ask}
 use Rattle.vfs_grammar.specs.Forms.{Ask, Ends, Asks, Lists, WithMemory, Listing}
 use Rattle.vfs_grammar.specs.Listing.{given_back}
@@ -16,7 +16,6 @@ use Rattle.vfs_calls.specs.Shapes.{bit}
 use Rattle.vfs_calls.specs.declared.call.CallData.{CallData}
 use Rattle.vfs_calls.specs.declared.data.AnswerData.{AnswerData}
 use Rattle.vfs_calls.specs.declared.data.ItemData.{ItemData}
-use Rattle.vfs_answer.specs.Answering.{with_behind}
 use Rattle.vfs_answer.specs.Listing.{listing_told}
 use Rattle.vfs_answer.specs.Told.{TellsEcho, TellsOffer, TellsCall, CallIsAnswered, AnswersEachCall, ListingIsAnswered, AnswersEachListing}
 use Rattle.vfs_answer.specs.declared.answered.Answered.{Answered}
@@ -139,7 +138,7 @@ module _ (limits : Limits) (options interrupts : ℕ) (request : List ℕ) (aske
     (calls : AnswersEachCall limits told a text old (Some came) new)
     (listings : AnswersEachListing limits told a items (with_behind old behind) (Some came) (with_behind new behind)) where
   turned : (asks : Ask) → IsUsual (length asked_in.left) asks
-      → Tells request options interrupts asks asked_in asked.Call after told
+      → Tells request options interrupts (length asked_in.left) asks asked_in asked.Call after told
       → Turned limits options request a text items (with_behind old behind) came (with_behind new behind) asks
   turned (Ends reply) usual t = absurd t
   turned (Asks echo call) usual t =

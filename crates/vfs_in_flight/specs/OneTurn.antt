@@ -3,7 +3,7 @@ use Rattle.std.specs.Prelude.{◌≡◌, ◌++◌, ℕ, List, ◌∷◌, length,
 use Rattle.vfs_segments.specs.Written.{Written}
 use Rattle.vfs_files.specs.Calls.{Answer, kind_of}
 use Rattle.vfs_files.specs.Runs.{Event, Called}
-use Rattle.vfs_messages.specs.Rooms.{Leaves}
+use Rattle.vfs_messages.specs.Rooms.{Leaves, with_behind}
 use Rattle.vfs_grammar.specs.Ask.{ask}
 use Rattle.vfs_grammar.specs.Forms.{Ask, Ends, Asks, Lists, WithMemory, Listing}
 use Rattle.vfs_grammar.specs.Listing.{given_back}
@@ -14,7 +14,6 @@ use Rattle.vfs_grammar.specs.declared.limits.Limits.{Limits}
 use Rattle.vfs_calls.specs.declared.call.CallData.{CallData}
 use Rattle.vfs_calls.specs.declared.data.AnswerData.{AnswerData}
 use Rattle.vfs_calls.specs.declared.data.ItemData.{ItemData}
-use Rattle.vfs_answer.specs.Answering.{with_behind}
 use Rattle.vfs_answer.specs.Listing.{IsOfferedBy}
 use Rattle.vfs_answer.specs.Said.{IsSaid}
 use Rattle.vfs_answer.specs.Told.{AnswersEachCall, AnswersEachListing}

@@ -2,11 +2,12 @@
 
 ghost use Rattle.std.specs.Prelude.{◌≡◌, ℕ, List, [], ◌∷◌, length, IfSome};
 ghost use Rattle.vfs_flags.specs.Flags.{fs_options_bits};
+ghost use Rattle.vfs_messages.specs.Rooms.{with_behind};
 ghost use Rattle.vfs_grammar.specs.Limits.{AreLimits};
-ghost use Rattle.vfs_answer.specs.Answering.{with_behind};
 ghost use Rattle.vfs_grammar.specs.Books.{KeepsBooks};
 ghost use Rattle.vfs_grammar.specs.Turn.{AreTurns, Turn};
 ghost use Rattle.vfs_grammar.specs.declared.limits.Limits.{Limits};
+ghost use Rattle.vfs_ask.specs.Asked.{IsEnough};
 ghost use Rattle.vfs_in_flight.specs.Flight.{Waiting, IsTurnOf};
 ghost use Rattle.vfs_in_flight.specs.OneTurn.{IsAnsweredTurn};
 
@@ -21,13 +22,14 @@ use vfs_flags::FsOptions;
 use vfs_grammar::Limits;
 use vfs_segments::{Reader, Writer};
 
-/// Asks a request for its call, and answers that by these data, whatever they are, in as much room. If both
-/// are done, that was one turn of the grammar.
+/// Asks a request for its call, and answers that by these data, whatever they are, in the room that was told. If
+/// both are done, that was one turn of the grammar.
 fn ask_and_answer(
     alloc: Global,
     limits: Limits,
     options: FsOptions,
     r: Reader<'_>,
+    room: usize,
     w: &mut Writer,
     told: &mut CallData,
     a: &AnswerData,
@@ -36,13 +38,14 @@ fn ask_and_answer(
     reply: &mut Writer,
 ) -> Option<Answered>
     requires limits { AreLimits limits }
-    requires room { length reply.old.left ≡ length w.old.left }
+    requires enough { IsEnough (length w.old.left) room }
+    requires room { length reply.old.left ≡ room }
     ensures { IfSome result (λ came.
         IsAnsweredTurn limits (fs_options_bits options) r.entry.left a.now text.now items.now
         (with_behind reply.old []) came (with_behind reply.new [])) }
 {
     asked_and_answered_is_one_turn();
-    match ask(alloc, limits, options, r, w, told) {
+    match ask(alloc, limits, options, r, room, w, told) {
         Asked::Call => answer(limits, told, a, text, items, reply),
         Asked::Finished { .. } => None,
     }

@@ -1,5 +1,5 @@
 -- Replies as they are put through a writer.
-use Rattle.std.specs.Prelude.{ℕ, List, [], Option, Some, None, pos, ◌+◌, ◌-ℤ◌, Result, Ok, Err, ◌≡◌, ◌≤◌, ◌++◌, length}
+use Rattle.std.specs.Prelude.{⊤, ℕ, List, [], Option, Some, None, pos, ◌+◌, ◌-ℤ◌, Result, Ok, Err, ◌≡◌, ◌≤◌, ◌++◌, length}
 use Rattle.vfs_wire.specs.Fields.{Table, bytes_of}
 use Rattle.vfs_wire.specs.Headers.{out_header}
 use Rattle.vfs_wire.specs.declared.headers.OutHeader.{OutHeader}
@@ -35,6 +35,10 @@ data_header (Err fault) unique =
       unique = unique;
     }
 
+-- a writer whose room goes on behind what it has left
+abbrev pub with_behind : Written → (behind : List ℕ) → Written
+with_behind w behind = record w { left = w.left ++ behind }
+
 -- A writer keeps the bytes that it had passed, and those of its room are `room_after`, as many as
 -- before, in segments of the same lengths. Where it stands isn't said.
 pub record Leaves (old : Written) (room_after : List ℕ) (new : Written) : Type 0 where
@@ -56,6 +60,13 @@ Replies (Refusal error) old outcome new = (outcome ≡ Err error) × (new ≡ ol
 Replies NoReply old outcome new = (outcome ≡ Ok 0) × (new ≡ old)
 Replies (Bytes reply) old outcome new = Writes (Bytes reply) old outcome new
 Replies (OpenBehind reply) old outcome new = Writes (OpenBehind reply) old outcome new
+
+-- a reply of at most so many bytes, behind which the room stays as it was
+abbrev pub IsShortReply : (most : ℕ) → Reply → Type 0
+IsShortReply most (Refusal error) = ⊤
+IsShortReply most NoReply = ⊤
+IsShortReply most (Bytes reply) = length reply ≤ most
+IsShortReply most (OpenBehind reply) = ⊥
 
 -- These bytes were put into a writer behind the place of a reply's header, which it holds, and
 -- perhaps others beyond them, which don't count. What stands behind them in the room isn't said.

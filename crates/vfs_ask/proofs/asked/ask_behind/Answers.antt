@@ -1,7 +1,7 @@
 use Rattle.std.proofs.Common.{◌≡◌, ◌==◌, ◌≤◌, ◌∙◌, ℕ, true, false, nat_lt, arith, ap, refl, sym, Some}
 use Rattle.std.proofs.lemmas.Bool.Decides.{nat_tests}
 use Rattle.vfs_flags.specs.Opcode.{opcode_of}
-use Rattle.vfs_flags.specs.declared.opcode.Opcode.TheVariants.{Init, Interrupt}
+use Rattle.vfs_flags.specs.declared.opcode.Opcode.TheVariants.{Init, Interrupt, Readdir, Readdirplus}
 use Rattle.vfs_grammar.specs.Limits.{max_len}
 use Rattle.vfs_ask.proofs.asked.ask_behind.Goals as goal
 
@@ -41,3 +41,21 @@ returns-in-Ok c = λ request long first rest.
     let known : opcode_of h.opcode ≡ Some c.in-Ok.opcode = sym c.in-Ok.ensures.0 in
     let number = other_number h.opcode c.if-q.false in
     rw (below, known, number) (c.ask_of_opcode.ensures request long first rest)
+
+pub returns-in-Ok-Readdir : goal.returns-in-Ok-Readdir
+returns-in-Ok-Readdir c = λ request long first rest.
+    let h = c.args.q.header.now in
+    let below : nat_lt (max_len c.args.limits) h.len ≡ false =
+    not_above (max_len c.args.limits) h.len (omega (arith, c.max_len.ensures, c.if-q-max_len.false)) in
+    let known : opcode_of h.opcode ≡ Some Readdir = sym c.in-Ok-Readdir.ensures.0 ∙ ap Some c.in-Ok-Readdir.field-0-is in
+    let number = other_number h.opcode c.if-q.false in
+    rw (below, known, number) (c.ask_listing.ensures request)
+
+pub returns-in-Ok-Readdirplus : goal.returns-in-Ok-Readdirplus
+returns-in-Ok-Readdirplus c = λ request long first rest.
+    let h = c.args.q.header.now in
+    let below : nat_lt (max_len c.args.limits) h.len ≡ false =
+    not_above (max_len c.args.limits) h.len (omega (arith, c.max_len.ensures, c.if-q-max_len.false)) in
+    let known : opcode_of h.opcode ≡ Some Readdirplus = sym c.in-Ok-Readdirplus.ensures.0 ∙ ap Some c.in-Ok-Readdirplus.field-0-is in
+    let number = other_number h.opcode c.if-q.false in
+    rw (below, known, number) (c.ask_listing-in-Ok-Readdirplus.ensures request)

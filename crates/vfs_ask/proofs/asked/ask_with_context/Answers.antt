@@ -1,4 +1,3 @@
-use Rattle.std.proofs.Common.{length}
 use Rattle.vfs_flags.specs.Flags.{fs_options_bits}
 use Rattle.vfs_ask.proofs.Holding.{held_by_opcode, refused_with_tail, tells_held}
 use Rattle.vfs_ask.proofs.Placing.{header_fits}
@@ -8,18 +7,17 @@ pub returns-in-Err-read_tail_of : goal.returns-in-Err-read_tail_of
 returns-in-Err-read_tail_of c = λ request long first rest.
     let refused = rw (c.in-Ok.ensures.ok) at c.in-Err-read_tail_of.ensures in
     rw (c.finished-in-Err-read_tail_of.ensures, c.requires.none)
-    (refused_with_tail request (fs_options_bits c.args.options) c.args.w.now c.in-Err-read_tail_of.error c.args.limits
-    (length c.args.w.now.left) c.args.q.header.now c.args.q.r.now.left c.args.opcode c.requires.context refused)
+    (refused_with_tail request (fs_options_bits c.args.options) c.args.room c.args.w.now c.in-Err-read_tail_of.error c.args.limits
+    c.args.room c.args.q.header.now c.args.q.r.now.left c.args.opcode c.requires.context refused)
 
 pub returns : goal.returns
 returns c = λ request long first rest.
     let h = c.args.q.header.now in
     let options = fs_options_bits c.args.options in
     let head = header_fits request h first in
-    let space = length c.args.w.now.left in
     let whole = rw (c.in-Ok.ensures.ok, ← rest) at c.in-Ok-read_tail_of.ensures in
-    let is = rw rest at (held_by_opcode request h head c.args.limits options space c.args.len long c.ranges.len.fits c.args.opcode
+    let is = rw rest at (held_by_opcode request h head c.args.limits options c.args.room c.args.len long c.ranges.len.fits c.args.opcode
     c.requires.context c.in-Ok-read_tail_of.tail whole) in
     let placed = rw (c.as_bytes.ensures) at c.place_context.ensures in
-    tells_held request h head c.args.limits options c.args.len long c.ranges.len.fits c.args.w.now c.tell-asked.new.w c.args.opcode
+    tells_held request h head c.args.limits options c.args.room c.args.len long c.ranges.len.fits c.args.w.now c.tell-asked.new.w c.args.opcode
     c.in-Ok-read_tail_of.tail _ c.tell-asked.result c.tell-asked.new.call c.place_context.new.call is c.tell-asked.ensures placed

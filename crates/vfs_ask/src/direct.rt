@@ -1,0 +1,107 @@
+//! Noting the calls that are asked for most, without the handler of a file system: no reply is put that
+//! nobody sees.
+
+ghost use Rattle.std.specs.Prelude.{◌≡◌, ℕ};
+ghost use Rattle.vfs_segments.specs.Written.{Written};
+ghost use Rattle.vfs_calls.specs.Shapes.{bit, nothing};
+ghost use Rattle.vfs_grammar.specs.Ask.{ask_opcode};
+ghost use Rattle.vfs_grammar.specs.declared.limits.Limits.{Limits as AnyLimits};
+ghost use Rattle.vfs_ask.specs.Noting.{IsNoted};
+
+use vfs_calls::{Asking, CallData, has, kind, number};
+use vfs_files::FileSystem;
+use vfs_flags::{GETATTR_FH, Opcode, READ_LOCKOWNER, WRITE_CACHE, WRITE_KILL_PRIV, WRITE_LOCKOWNER};
+use vfs_grammar::{Error, Result};
+use vfs_handlers::Request;
+use vfs_messages::{handle_if, is_set, number_if, read_name, read_record};
+use vfs_wire::{ByteValued, GetattrIn, OutHeader};
+use vfs_wire_more::{ReadIn, WriteIn};
+
+// A bit that is set where this holds.
+fn bit_if(holds: bool, value: u32) -> u32
+    ensures { result ≡ bit holds value }
+{
+    if holds { value } else { 0 }
+}
+
+/// Notes the LOOKUP that a request asks for, or says why it asks for none.
+pub fn note_lookup(q: Request<'_, '_>, call: &mut CallData) -> Result<usize>
+    requires { call.old ≡ nothing }
+    ensures { (limits : AnyLimits) (options room : ℕ) (w : Written) →
+        IsNoted (ask_opcode limits options room Opcode.Lookup q.entry.header.now q.entry.r.now.left)
+        w result w call.new }
+{
+    let name = read_name(q.alloc, q.header, 0, q.r)?;
+    let _held_back = Asking { call }.lookup(q.context(), q.node(), name.as_c_str());
+    Ok(0)
+}
+
+/// Notes the GETATTR that a request asks for, or says why it asks for none.
+pub fn note_getattr(q: Request<'_, '_>, call: &mut CallData) -> Result<usize>
+    requires { call.old ≡ nothing }
+    ensures { (limits : AnyLimits) (options room : ℕ) (w : Written) →
+        IsNoted (ask_opcode limits options room Opcode.Getattr q.entry.header.now q.entry.r.now.left)
+        w result w call.new }
+{
+    let getattr_in = read_record::<GetattrIn>(q.r)?;
+    let handle = handle_if::<u64>(getattr_in.flags, GETATTR_FH, getattr_in.fh);
+    let _held_back = Asking { call }.getattr(q.context(), q.node(), handle);
+    Ok(0)
+}
+
+/// Notes the READ that a request asks for, with so much room for its reply, or says why it asks for
+/// none.
+pub fn note_read(room: usize, q: Request<'_, '_>, call: &mut CallData) -> Result<usize>
+    requires { call.old ≡ nothing }
+    ensures { (limits : AnyLimits) (options : ℕ) (w : Written) →
+        IsNoted (ask_opcode limits options room Opcode.Read q.entry.header.now q.entry.r.now.left)
+        w result w call.new }
+{
+    let read_in = read_record::<ReadIn>(q.r)?;
+    if room < OutHeader::SIZE {
+        return Err(Error::EncodeMessage);
+    }
+    let owner = number_if(read_in.read_flags, READ_LOCKOWNER, read_in.lock_owner);
+    let ctx = q.context();
+    call.call = number::READ;
+    call.answer = kind::DATA;
+    call.uid = ctx.uid.into_inner();
+    call.gid = ctx.gid.into_inner();
+    call.pid = ctx.pid;
+    call.node = q.header.nodeid;
+    call.handle = read_in.fh;
+    call.size = read_in.size;
+    call.offset = read_in.offset;
+    call.lock_owner = owner.unwrap_or(0);
+    call.has = bit_if(owner.is_some(), has::OWNER);
+    call.flags = read_in.flags;
+    Ok(0)
+}
+
+/// Notes the WRITE that a request asks for, or says why it asks for none.
+pub fn note_write(q: Request<'_, '_>, call: &mut CallData) -> Result<usize>
+    requires { call.old ≡ nothing }
+    ensures { (limits : AnyLimits) (options room : ℕ) (w : Written) →
+        IsNoted (ask_opcode limits options room Opcode.Write q.entry.header.now q.entry.r.now.left)
+        w result w call.new }
+{
+    let write_in = read_record::<WriteIn>(q.r)?;
+    let flags = write_in.write_flags;
+    let owner = number_if(flags, WRITE_LOCKOWNER, write_in.lock_owner);
+    let ctx = q.context();
+    call.call = number::WRITE;
+    call.answer = kind::WRITTEN;
+    call.uid = ctx.uid.into_inner();
+    call.gid = ctx.gid.into_inner();
+    call.pid = ctx.pid;
+    call.node = q.header.nodeid;
+    call.handle = write_in.fh;
+    call.size = write_in.size;
+    call.offset = write_in.offset;
+    call.lock_owner = owner.unwrap_or(0);
+    call.has = bit_if(owner.is_some(), has::OWNER)
+        + (bit_if(is_set(flags, WRITE_CACHE), has::DELAYED)
+            + bit_if(is_set(flags, WRITE_KILL_PRIV), has::KILL_PRIV));
+    call.flags = write_in.flags;
+    Ok(0)
+}

@@ -1,0 +1,64 @@
+//! What a READDIR or a READDIRPLUS asks.
+
+ghost use Rattle.std.specs.Prelude.{◌≡◌, ℕ, List};
+ghost use Rattle.vfs_flags.specs.Flags.{fs_options_bits};
+ghost use Rattle.vfs_wire_more.specs.Files.{read_in};
+ghost use Rattle.vfs_calls.specs.Shapes.{nothing};
+ghost use Rattle.vfs_grammar.specs.Ask.{listing_of, lists_too_much};
+ghost use Rattle.vfs_grammar.specs.Forms.{Directories, Record, ask_form};
+ghost use Rattle.vfs_ask.specs.Asked.{Tells};
+
+use crate::asked::Asked;
+use bitflags::Flags;
+use vfs_calls::{CallData, has, kind, number};
+use vfs_flags::{Errno, FsOptions};
+use vfs_grammar::{Error, Limits};
+use vfs_handlers::Request;
+use vfs_messages::{read_record, reply_failed};
+use vfs_segments::Writer;
+use vfs_wire::{ByteValued, OutHeader};
+use vfs_wire_more::ReadIn;
+
+/// What a READDIR asks, or with `plus` a READDIRPLUS: the directory is to be read.
+pub fn ask_listing(
+    plus: bool,
+    limits: Limits,
+    options: FsOptions,
+    q: Request<'_, '_>,
+    room: usize,
+    w: &mut Writer,
+    call: &mut CallData,
+) -> Asked
+    requires { call.old ≡ nothing }
+    ensures { (request : List ℕ) → Tells request (fs_options_bits options) 0 room
+        (ask_form q.entry.header.now q.entry.r.now.left
+        (Directories (Record read_in) (lists_too_much limits room) room
+        (listing_of plus q.entry.header.now)))
+        w.old result w.new call.new }
+{
+    let read_in = match read_record::<ReadIn>(q.r) {
+        Ok(read_in) => read_in,
+        Err(error) => return Asked::finished(Err(error)),
+    };
+    if read_in.size > limits.max_buffer || read_in.size as usize > room {
+        return Asked::finished(reply_failed(Some(Errno::ENOMEM), q.header.unique, w));
+    }
+    if room < OutHeader::SIZE {
+        return Asked::finished(Err(Error::EncodeMessage));
+    }
+    let ctx = q.context();
+    call.call = number::READDIR;
+    call.answer = kind::DIRECTORY;
+    call.unique = q.header.unique;
+    call.options = options.bits();
+    call.room = room as u64;
+    call.node = q.header.nodeid;
+    call.handle = read_in.fh;
+    call.size = read_in.size;
+    call.offset = read_in.offset;
+    call.uid = ctx.uid.into_inner();
+    call.gid = ctx.gid.into_inner();
+    call.pid = ctx.pid;
+    call.has = if plus { has::PLUS } else { 0 };
+    Asked::Call
+}
