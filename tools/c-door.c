@@ -6,6 +6,8 @@
  * tells is the one that tools/c-door-call.h finds; of the server's reply an answer is made by hand,
  * and for that the door puts the same bytes. Rooms of each small length follow the room rule.
  *
+ * Requests that kernels were recorded to ask go to both too, if it is given a file of them.
+ *
  * tools/c-example.sh links it with both libraries. Status 0: all is as it should be. */
 #include "c-door.h"
 
@@ -525,8 +527,59 @@ static void try_all(uint32_t max_buffer, uint64_t options)
 	CHECK(!session.options);
 }
 
-int main(void)
+/* The bytes that are spelled by two digits each. Where pieces are apart is the first `+`. */
+static void read_request(const char *text, size_t *cut)
 {
+	unsigned byte;
+
+	request_len = 0;
+	*cut = 0;
+	while (*text == '+' || sscanf(text, "%2x", &byte) == 1) {
+		if (*text == '+') {
+			*cut = *cut ? *cut : request_len;
+			text++;
+			continue;
+		}
+		CHECK(request_len < sizeof(request));
+		request[request_len++] = (uint8_t)byte;
+		text += 2;
+	}
+}
+
+/* Requests that kernels were recorded to ask, a line each: its room, which is a large one here, and its
+ * bytes. */
+static long try_recorded(const char *path)
+{
+	static const nizwarf_settings settings = { .seconds = 100, .nodes = 4096, .bytes = 1 << 24,
+						   .file = 1 << 22, .mode = 0755 };
+	static char line[1 << 19];
+	FILE *lines = fopen(path, "r");
+	long count = 0;
+	size_t cut;
+
+	if (!lines) {
+		perror(path);
+		exit(2);
+	}
+	CHECK(nizwarf_new(&server, 4096, ROOM, &settings) == NIZWARF_OK);
+	session = (nizwarf_session){ 0, 4096, ROOM };
+	while (fgets(line, sizeof(line), lines)) {
+		const char *bytes = strchr(line, ' ');
+
+		if (*line < '0' || *line > '9' || !bytes)
+			continue;
+		read_request(bytes + 1, &cut);
+		compare(request_len, cut);
+		count++;
+	}
+	fclose(lines);
+	return count;
+}
+
+/* It may be given a file of recorded requests. */
+int main(int argc, char **argv)
+{
+	long recorded = 0;
 	uint32_t opcode;
 
 	try_all(ROOM, FUSE_DO_READDIRPLUS | FUSE_BIG_WRITES);
@@ -535,7 +588,10 @@ int main(void)
 	for (opcode = 0; opcode < 52; opcode++)
 		if (forms[opcode].record || forms[opcode].kind)
 			CHECK(told_calls[opcode] || opcode == READDIRPLUS || opcode == RENAME2);
+	if (argc > 1)
+		recorded = try_recorded(argv[1]);
 	CHECK(nizwarf_end_slot(&slot) == NIZWARF_OK && nizwarf_end(&server) == NIZWARF_OK);
-	printf("%ld requests had the server's replies by the door.\n", compared);
+	printf("%ld requests had the server's replies by the door, of them %ld that kernels asked.\n",
+	       compared, recorded);
 	return 0;
 }

@@ -68,12 +68,15 @@ run_all() {
     compile tools/c-ops.c "$@"
     "$folder/program"
     compile tools/c-door.c "$@"
-    "$folder/program"
+    "$folder/program" "$folder/recorded"
     compile tools/c-door-cases.c "$@" "${counted[@]}"
     "$folder/program"
     compile tools/c-door-threads.c "$@" -pthread
     timeout 60 "$folder/program"
 }
+
+# Those that kernels were recorded to ask.
+sed -n '/^# What kernels asked/,/^# The corpus/p' "$here/crates/vfs_script/stdin" > "$folder/recorded"
 
 run_all -O2
 if command -v c++ > /dev/null; then
