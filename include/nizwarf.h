@@ -39,14 +39,22 @@
 #include <stdint.h>
 #include <string.h>
 
-/* The version of this header, 256 times the major one and the minor one. A later minor version may
- * add functions, codes, calls, kinds of answers and bits, but moves no field and changes no number.
- * A program for an earlier one runs as it did, if it answers ENOSYS to a call it doesn't know. */
-#define NIZWARF_VERSION 0x0100
+/* The version of this header, of which NIZWARF_VERSION has a byte for each number. A later patch
+ * changes nothing here. A later minor version may add functions, codes, calls, kinds of answers and
+ * bits, but moves no field and changes no number: a program for an earlier one runs as it did, if it
+ * answers ENOSYS to a call it doesn't know. Anything may change with the major one. */
+#define NIZWARF_VERSION_MAJOR 0
+#define NIZWARF_VERSION_MINOR 2
+#define NIZWARF_VERSION_PATCH 0
+#define NIZWARF_VERSION \
+	(NIZWARF_VERSION_MAJOR << 16 | NIZWARF_VERSION_MINOR << 8 | NIZWARF_VERSION_PATCH)
 
 #ifdef __cplusplus
 extern "C" {
 #endif
+
+/* The version of the library that is linked, as NIZWARF_VERSION is that of the header. */
+uint32_t nizwarf_version(void);
 
 /* A server, or none. */
 typedef struct {

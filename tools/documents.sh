@@ -25,6 +25,7 @@
 #   the promise         is quoted alike in README.md and PROMISES.md, whose table has words of it
 #   the toolchain       README.md's has the logic of `rt version`, whose kits have several letters for one
 #                       logic; figures keep the one that they were made with
+#   the version         is one in CHANGELOG.md, include/nizwarf.h and, if it is there, bindings/rust/Cargo.toml
 #   pictures            are those that tools/pictures.sh draws
 set -eu
 . "$(dirname "$0")/usage.sh"
@@ -301,6 +302,18 @@ items = [(int(number), re.findall(r"(\w+\.(?:antt|rt))`", files))
 check_order(lambda text: faults.append(f"docs/PROOFS.md: {text}"), items)
 for crate, edit in sorted(edits - named_edits):
     faults.append(f"docs/PROOFS.md: no row names the edit {edit} of {crate}")
+VERSIONS = {
+    "CHANGELOG.md": r"^## (\d+\.\d+\.\d+)",
+    "include/nizwarf.h": r"^#define NIZWARF_VERSION_(?:MAJOR|MINOR|PATCH) (\d+)$",
+    "bindings/rust/Cargo.toml": r'^version = "([^"]+)"',
+}
+version = None
+for path in filter(os.path.exists, VERSIONS):
+    found = re.findall(VERSIONS[path], read(path), re.M)
+    said = ".".join(found[:3] if path.endswith(".h") else found[:1])
+    version = version or said
+    if said != version:
+        faults.append(f"{path}: the version is {said or 'not there'}, and that of CHANGELOG.md {version}")
 faults += subprocess.run(["tools/pictures.sh", "--check"], stdout=subprocess.PIPE,
                          stderr=subprocess.STDOUT, text=True).stdout.splitlines()
 
