@@ -1,0 +1,82 @@
+#!/bin/sh
+# Installs what lies beside it: headers, libraries, programs and pages.
+#
+# Usage: ./install.sh [--uninstall] [DESTDIR [PREFIX]]
+# It goes into the folder DESTDIR/PREFIX, and is used from PREFIX: that is /usr/local if none is named, and
+# DESTDIR is empty. What was installed there before is removed first. The list of all that it installs is
+# PREFIX/share/nizwarf/installed; with --uninstall that is removed, and nothing is installed.
+# Status 0: that is done; 1: something failed; 2: the words can't be.
+set -eu
+export LC_ALL=C
+umask 022
+case ${1:-} in
+    -h | --help)
+        sed -n '2,${/^#/!q;s/^# \{0,1\}//p;}' "$0"
+        exit 0
+        ;;
+esac
+
+uninstall=
+if [ "${1:-}" = --uninstall ]; then
+    uninstall=yes
+    shift
+fi
+destdir=${1:-}
+prefix=${2:-/usr/local}
+case $#:$prefix:${destdir:-/} in
+    [012]:/*:/*) ;;
+    *)
+        echo "Usage: ./install.sh [--uninstall] [DESTDIR [PREFIX]], two full paths; DESTDIR may be ''." >&2
+        exit 2
+        ;;
+esac
+cd "$(dirname "$0")"
+root=$destdir${prefix%/}
+list=$root/share/nizwarf/installed
+
+# Removes what the list has: files, and folders that were made for them, if they are empty.
+remove() {
+    sort -r "$list" | while IFS= read -r path; do
+        case $path in
+            */) rmdir "$root/$path" 2> /dev/null || true ;;
+            *) rm -f "$root/$path" ;;
+        esac
+    done
+}
+
+if [ -e "$list" ]; then
+    remove
+elif [ -n "$uninstall" ]; then
+    echo "Nothing is installed in $root: there is no $list." >&2
+    exit 1
+fi
+if [ -n "$uninstall" ]; then
+    echo "Nizwarf is removed from $root."
+    exit 0
+fi
+
+mkdir -p "$root"
+made=$(mktemp)
+trap 'rm -f "$made" "$made.files"' EXIT
+find . -mindepth 1 -type d | sed 's,^\./,,' | sort | while IFS= read -r folder; do
+    if [ ! -d "$root/$folder" ]; then
+        mkdir "$root/$folder"
+        echo "$folder/" >> "$made"
+    fi
+done
+find . -mindepth 2 ! -type d | sed 's,^\./,,' | sort > "$made.files"
+while IFS= read -r file; do
+    rm -f "$root/$file"
+    cp -P "$file" "$root/$file"
+done < "$made.files"
+awk -v prefix="$prefix" '/^prefix=/ { $0 = "prefix=" prefix } { print }' lib/pkgconfig/nizwarf.pc \
+    > "$root/lib/pkgconfig/nizwarf.pc"
+{
+    cat "$made" "$made.files"
+    echo share/nizwarf/installed
+} > "$list"
+
+echo "Nizwarf is in $root."
+if [ -z "$destdir" ]; then
+    echo "\`ldconfig\`, as root, tells the linker of the shared library there."
+fi

@@ -1,0 +1,465 @@
+#!/usr/bin/env bash
+# Packs the libraries for C as one, shared and static, with headers, pages and programs: as packages of Debian,
+# and as a tarball that installs into any prefix.
+#
+# Usage: tools/package.sh [--check] [--no-demo] [--out FOLDER]
+# It leaves in out/packages, or in FOLDER:
+#
+#   libnizwarf0_VERSION_ARCH.deb       the shared library
+#   libnizwarf-dev_VERSION_ARCH.deb    headers, the static library, pages, examples
+#   nizwarf_VERSION_ARCH.deb           the programs that packaging/programs lists, and nizwarf-demo
+#   nizwarf-VERSION-linux-ARCH.tar.gz  all of it, with an install.sh
+#
+# The libraries, and the demo's programs, are the proved ones if each is built and no source is newer.
+# Otherwise tools/unproved.sh builds those that are missing without a proof, in a minute or two each, and the
+# version says so of all that is made: 0.2.0~unproved. The same objects and compiler give the same bytes.
+#
+#   --check     makes all twice, and compares; lintian must find no error in the packages, and mandoc none in
+#               the pages
+#   --no-demo   leaves out nizwarf-demo
+#
+# It wants a C compiler with binutils, and the Rattle toolchain. Without dpkg-deb it makes the tarball alone, and
+# says so.
+# Status 0: all is made, and as it should be; 1: not so; 2: it could not start.
+set -euo pipefail
+. "$(dirname "$0")/usage.sh"
+. "$(dirname "$0")/transport.sh"
+. "$(dirname "$0")/messages.sh"
+# shellcheck disable=SC2154
+session=$crate library=()
+
+check=
+demo=yes
+out=
+while [ $# -gt 0 ]; do
+    case $1 in
+        --check) check=yes ;;
+        --no-demo) demo= ;;
+        --out)
+            [ $# -ge 2 ] || { echo "--out wants a folder." >&2 && exit 2; }
+            out=$(realpath -m "$2")
+            shift
+            ;;
+        *)
+            echo "Usage: tools/package.sh [--check] [--no-demo] [--out FOLDER]" >&2
+            exit 2
+            ;;
+    esac
+    shift
+done
+out=${out:-$here/out/packages}
+if [ "$(uname -m)" != x86_64 ]; then
+    echo "It is made for x86-64 alone." >&2
+    exit 2
+fi
+for command in ld nm objcopy objdump readelf strip; do
+    need "$command" "Install it: apt-get install binutils."
+done
+need cc "Install a C compiler: apt-get install gcc libc6-dev."
+need gzip "Install it: apt-get install gzip."
+
+packaging=$here/packaging
+architecture=amd64
+triplet=x86_64-linux-gnu
+release=$(sed -nE 's/^#define NIZWARF_VERSION_(MAJOR|MINOR|PATCH) ([0-9]+)$/\2/p' "$here/include/nizwarf.h" | paste -sd .)
+soname=libnizwarf.so.${release%%.*}
+# The time of the last commit; in sources that are no clone, that of their changes.
+SOURCE_DATE_EPOCH=${SOURCE_DATE_EPOCH:-$(git -C "$here" log -1 --format=%ct 2> /dev/null || stat -c %Y "$here/CHANGELOG.md")}
+export SOURCE_DATE_EPOCH
+export DPKG_DEB_THREADS_MAX=1 LC_ALL=C
+umask 022
+
+work=$(mktemp -d)
+trap 'rm -rf "$work"' EXIT
+
+# Stops, since something is not as it should be.
+wrong() {
+    echo "FAILED: $*" >&2
+    exit 1
+}
+
+# Finds what is packed, and sets `version` by whether all of it is proved.
+find_parts() {
+    local name
+    proved=yes
+    for name in vfs_door vfs_c; do
+        find_library "$name"
+        [[ ${library[0]} != "$here/out/unproved/"* ]] || proved=
+        parts+=("${library[0]}")
+    done
+    heap=${library[1]}
+    if [ -n "$demo" ]; then
+        build_programs vfs_demo vfs_decode
+        is_built vfs_demo && is_built vfs_decode || proved=
+    fi
+    version=$release
+    note=", proved"
+    if [ -z "$proved" ]; then
+        version=$release~unproved
+        note=" (NOT PROVED: this build stands on no proof)"
+        echo "NOT PROVED: the version of all that is packed is $version." >&2
+    fi
+}
+
+# Joins a library and what it stands on to one object, in which the library's own names alone are global:
+# join_library LIBRARY OBJECT.
+join_library() {
+    ld -r -o "$2" --whole-archive "$1" --no-whole-archive "$heap"
+    objcopy --wildcard --keep-global-symbol='nizwarf_*' --strip-unneeded --remove-section=.comment \
+        --remove-section='.note.gnu*' --remove-section=.llvm_addrsig --remove-section='.rela.llvm_addrsig' "$2"
+}
+
+# The functions that the headers declare, or all that they have, inline ones too.
+declared() {
+    sed -nE 's/^(u?int[0-9]+_t|size_t) (nizwarf_\w+)\(.*/\2/p' "$here"/include/*.h | sort
+}
+functions() {
+    { declared && sed -nE 's/^static inline .*\b(nizwarf_\w+)\(.*/\1/p' "$here"/include/*.h; } | sort
+}
+
+# Makes the two libraries in a folder.
+make_libraries() {
+    local folder=$1 others needed
+    mkdir -p "$folder"
+    join_library "${parts[0]}" "$work/door.o"
+    join_library "${parts[1]}" "$work/tree.o"
+    rm -f "$folder/libnizwarf.a"
+    ar rcsD "$folder/libnizwarf.a" "$work/door.o" "$work/tree.o"
+    cc -shared -o "$folder/$soname.${release#*.}" -Wl,-soname,"$soname" \
+        -Wl,--version-script="$packaging/nizwarf.map" -Wl,-z,defs,-z,relro,-z,now,--gc-sections,--build-id=sha1 \
+        -Wl,--whole-archive "$folder/libnizwarf.a" -Wl,--no-whole-archive
+    strip --strip-unneeded --remove-section=.comment "$folder/$soname.${release#*.}"
+    chmod 644 "$folder/$soname.${release#*.}"
+    ln -sf "$soname.${release#*.}" "$folder/$soname"
+    ln -sf "$soname" "$folder/libnizwarf.so"
+
+    others=$(nm --defined-only --extern-only "$folder/libnizwarf.a" | awk 'NF == 3 && $3 !~ /^nizwarf_/ { print $3 }' | paste -sd ' ')
+    [ -z "$others" ] || wrong "names of libnizwarf.a do not begin with nizwarf_: $others"
+    needed=$(needed_by "$folder/$soname" | paste -sd ' ')
+    [ "$needed" = libc.so.6 ] || wrong "$soname needs $needed, and not the C library alone."
+    [ "$(declared)" = "$(mapped | sed 's/@.*//' | sort)" ] \
+        || wrong "packaging/nizwarf.map does not have the functions that the headers declare."
+    others=$(exported "$folder/$soname" | comm -23 - <(mapped | sort))
+    [ -z "$others" ] || wrong "$soname exports more than packaging/nizwarf.map has: $others"
+}
+
+# The libraries that a program or a library needs.
+needed_by() {
+    readelf -d "$1" | sed -nE 's/.*\(NEEDED\).*\[(.*)\]$/\1/p' | sort
+}
+
+# The functions of the map, each with its node, as NAME@NODE.
+mapped() {
+    awk '/^NIZWARF_/ { node = $1 } /^\tnizwarf_/ { sub(";", "", $1); print $1 "@" node }' "$packaging/nizwarf.map"
+}
+
+# The functions that a shared library exports, likewise.
+exported() {
+    nm -D --defined-only "$1" | awk '$2 == "T" { sub("@@", "@", $3); print $3 }' | sort
+}
+
+# Calls a command with the words of each line of packaging/programs: for_programs COMMAND..
+for_programs() {
+    local words
+    while read -ra words; do
+        case ${words[*]:-#} in
+            '#'*) ;;
+            *) "$@" "${words[@]}" ;;
+        esac
+    done < "$packaging/programs"
+}
+
+# Sets `sources`, `options` and `optional` to those among the words of such a line.
+sort_words() {
+    local word file
+    sources=() options=() optional=()
+    for word in "$@"; do
+        case $word in
+            -*) options+=("$word") ;;
+            \?*) optional+=("${word#?}") ;;
+            *)
+                for file in "$here/examples/c/"$word; do
+                    sources+=("${file##*/}")
+                done
+                ;;
+        esac
+    done
+}
+
+# The flags behind the name of an optional library.
+flags_of() {
+    tr , '\n' <<< "$1" | sed 1d | paste -sd ' '
+}
+
+# Builds a program into a folder, unless it is an example alone: build_program FOLDER LIBRARY NAME SECTION WORDS..
+build_program() {
+    local folder=$1 own=$2 name=$3 word sources options optional
+    [ "$4" != - ] || return 0
+    sort_words "${@:5}"
+    for word in "${optional[@]}"; do
+        # shellcheck disable=SC2207
+        ! pkg-config --exists "${word%%,*}" || options+=($(pkg-config --cflags --libs "${word%%,*}") $(flags_of "$word"))
+    done
+    mkdir -p "$folder"
+    cc -std=c11 -O2 -Wall -Wextra -D_FORTIFY_SOURCE=2 -fstack-protector-strong -fstack-clash-protection -fPIE -pie \
+        -fcf-protection "-ffile-prefix-map=$here=." -Wl,-z,relro,-z,now -I "$here/include" -o "$folder/$name" \
+        "${sources[@]/#/$here/examples/c/}" "$own" "${options[@]}"
+    strip --remove-section=.comment --remove-section=.note "$folder/$name"
+}
+
+# Puts the demo below a folder, with its programs and its session.
+put_demo() {
+    local name
+    [ -n "$demo" ] || return 0
+    mkdir -p "$1"/{bin,libexec/nizwarf,share/nizwarf}
+    install -m 755 "$packaging/nizwarf-demo" "$1/bin/"
+    for name in vfs_demo vfs_decode; do
+        install -m 755 "$(path_of "$name")" "$1/libexec/nizwarf/"
+        strip --remove-section=.comment --remove-section=.note "$1/libexec/nizwarf/$name"
+    done
+    install -m 644 "$session/stdin" "$1/share/nizwarf/session"
+    install -m 644 "$session/stdout" "$1/share/nizwarf/answers"
+}
+
+# The name of the program that an example's first source makes, and the lines of the Makefile by which it does.
+target_of() {
+    echo "${3%.c}"
+}
+rule_of() {
+    local target=${3%.c} word sources options optional
+    sort_words "${@:3}"
+    echo "$target: ${sources[*]}"
+    for word in "${optional[@]}"; do
+        options+=("\$(shell \$(PKG_CONFIG) --silence-errors --cflags --libs ${word%%,*} && echo $(flags_of "$word"))")
+    done
+    [ ${#options[@]} = 0 ] || echo "$target: LDLIBS += ${options[*]}"
+}
+
+# Puts the examples, with their Makefile, into a folder.
+put_examples() {
+    mkdir -p "$1"
+    (cd "$here/examples/c" && find . -name '*.[ch]' -exec install -Dm 644 {} "$1/{}" \;)
+    for_programs rule_of > "$work/rules"
+    sed -e "s/@PROGRAMS@/$(for_programs target_of | paste -sd ' ')/" -e "/^@RULES@/{r $work/rules" -e 'd}' \
+        "$packaging/Makefile.in" > "$1/Makefile"
+}
+
+# Puts a page into a folder, if what it is of is packed. A page of functions has links, by the names of its
+# section NAME.
+put_page() {
+    local page=$1 folder=$2 name=${1##*/} section=${1##*.} function
+    case $section in
+        3)
+            mkdir -p "$folder/man3"
+            install -m 644 "$page" "$folder/man3/"
+            sed -nE '/^\.Sh NAME/,/^\.Sh [^N]/s/^\.Nm (\w+).*/\1/p' "$page" | while read -r function; do
+                [ "$function.3" = "$name" ] || echo ".so man3/$name" > "$folder/man3/$function.3"
+            done
+            ;;
+        *)
+            ! [ -e "$folder/../../bin/${name%.*}" ] || install -Dm 644 "$page" "$folder/man$section/$name"
+            ;;
+    esac
+}
+
+# Names a program whose page is not below a folder: page_missing FOLDER NAME SECTION WORDS..
+page_missing() {
+    [ "$3" = - ] || [ -e "$1/man$3/$2.$3" ] || echo "$2($3)"
+}
+
+# The prototypes that pages of functions have, as C.
+prototypes() {
+    awk '
+        /^\.Sh / { shown = $2 == "SYNOPSIS" }
+        !shown { next }
+        /^\.Ft / { type = substr($0, 5) }
+        /^\.Fo / { words = "" }
+        /^\.Fa / { words = words " " substr($0, 5) }
+        /^\.Fn / { words = substr($0, index($0, $3)) }
+        /^\.F[on] / { name = $2 }
+        /^\.F(c|n )/ {
+            gsub(/" "/, ", ", words)
+            gsub(/"/, "", words)
+            print type, name "(" words ");"
+        }
+    ' "$packaging"/man/*.3
+}
+
+# The tree of the tarball, into a folder. The programs stand alone.
+make_tree() {
+    local tree=$1 page missing
+    mkdir -p "$tree"/{include,lib/pkgconfig,share/doc/nizwarf,share/man,share/nizwarf}
+    make_libraries "$tree/lib"
+    install -m 644 "$here"/include/*.h "$tree/include/"
+    sed -e "s/@NOTE@/$note/" -e "s/@VERSION@/$release/" "$packaging/nizwarf.pc.in" > "$tree/lib/pkgconfig/nizwarf.pc"
+    for_programs build_program "$tree/bin" "$tree/lib/libnizwarf.a"
+    put_demo "$tree"
+    put_examples "$tree/share/doc/nizwarf/examples"
+    for page in "$packaging"/man/*.[1-8]; do
+        put_page "$page" "$tree/share/man"
+    done
+    missing=$(functions | while read -r name; do
+        { [ -e "$tree/share/man/man3/$name.3" ] && grep -qx "\.Ss $name" "$packaging"/man/*.3; } || echo "$name"
+    done)
+    [ -z "$missing" ] || wrong "functions of the headers without a page: $missing"
+    prototypes | cc -fsyntax-only -Werror -I "$here/include" -include nizwarf_ops.h -x c - \
+        || wrong "a page shows a function in another form than the headers."
+    missing=$(for_programs page_missing "$tree/share/man")
+    [ -z "$missing" ] || wrong "programs without a page: $missing"
+    install -m 644 "$here"/{CHANGELOG.md,NOTICE.md,LICENSE-*} "$tree/share/doc/nizwarf/"
+    install -m 755 "$packaging/install.sh" "$tree/"
+}
+
+# Sets all times below a folder to that of the last commit.
+set_times() {
+    find "$1" -exec touch -h -d "@$SOURCE_DATE_EPOCH" {} +
+}
+
+make_tarball() {
+    local tree=$1 name=nizwarf-$version-linux-x86_64
+    set_times "$tree"
+    tar --sort=name --owner=0 --group=0 --numeric-owner --format=gnu --transform "s,^\.,$name," -C "$tree" -cf - . \
+        | gzip -9n > "$2/$name.tar.gz"
+}
+
+# The packages of Debian that what lies below a folder needs, a line each.
+depends_of() {
+    local file name glibc
+    glibc=$(mktemp -p "$work")
+    while read -r file; do
+        for name in $(needed_by "$file" 2> /dev/null); do
+            case $name in
+                libc.so.6) objdump -T "$file" | sed -nE 's/.*GLIBC_([0-9.]+).*/\1/p' >> "$glibc" ;;
+                "$soname") echo "libnizwarf0 (>= $release~)" ;;
+                ld-linux*) ;;
+                *) dpkg-query -S "*/$name" | sed 's/[:,].*//;q' ;;
+            esac
+        done
+    done < <(find "$1" -type f ! -name '*.a')
+    sort -V "$glibc" | sed -n '$s/.*/libc6 (>= &)/p'
+}
+
+# Fills in a template of packaging/copyright.in, and of packaging/control the part of a package.
+fill_copyright() {
+    sed -e "/^@LICENSE-BSD-3-Clause@/{r $here/LICENSE-BSD-3-Clause" -e 'd}' \
+        -e "/^@LICENSE-MIT@/{r $here/LICENSE-MIT" -e 'd}' "$packaging/copyright.in"
+}
+fill_control() {
+    local package=$1 depends=$2 size=$3 said='/^@NOTE@$/d'
+    [ -n "$proved" ] || said='s/^@NOTE@$/ .\n NOT PROVED: this build stands on no proof./'
+    sed -n "/^Package: $package\$/,/^\$/p" "$packaging/control" \
+        | sed -e '/^$/d' -e "s/@VERSION@/$version-1/" -e "s/@ARCHITECTURE@/$architecture/" -e "s/@SIZE@/$size/" \
+            -e "s/@DEPENDS@/$depends/" -e "$said"
+}
+
+# The changes of the packages, as Debian has them.
+debian_changes() {
+    printf 'nizwarf (%s-1) unstable; urgency=medium\n\n' "$version"
+    [ -n "$proved" ] || printf '  * NOT PROVED: this build stands on no proof.\n'
+    printf '  * Version %s: changelog.gz has what changed.\n\n' "$release"
+    printf ' -- %s  %s\n' "$(sed -n 's/^Maintainer: //p' "$packaging/control" | sed -n 1p)" \
+        "$(date -uRd "@$SOURCE_DATE_EPOCH")"
+}
+
+# The KiB of what is below a folder, as packages count them: one for what is no file.
+size_of() {
+    find "$1" -printf '%y %s\n' | awk '{ sum += $1 == "f" ? int(($2 + 1023) / 1024) : 1 } END { print sum }'
+}
+
+# Makes the package whose files are below a folder: make_deb PACKAGE ROOT OUT [DEPENDS].
+make_deb() {
+    local package=$1 root=$2 out=$3 doc=$2/usr/share/doc/$1 depends
+    depends=$({ printf '%s\n' "${@:4}" && depends_of "$root"; } | sed '/^$/d' | sort -u | paste -sd , | sed 's/,/, /g')
+    mkdir -p "$root/DEBIAN" "$doc"
+    fill_copyright > "$doc/copyright"
+    gzip -9nc "$here/CHANGELOG.md" > "$doc/changelog.gz"
+    debian_changes | gzip -9nc > "$doc/changelog.Debian.gz"
+    if [ -e "$packaging/lintian/$package" ]; then
+        install -Dm 644 "$packaging/lintian/$package" "$root/usr/share/lintian/overrides/$package"
+    fi
+    if [ -d "$root/usr/share/man" ]; then
+        find "$root/usr/share/man" -type f -exec gzip -9n {} +
+    fi
+    (cd "$root" && find usr -type f -print0 | sort -z | xargs -0 md5sum) > "$root/DEBIAN/md5sums"
+    fill_control "$package" "$depends" "$(size_of "$root/usr")" > "$root/DEBIAN/control"
+    set_times "$root"
+    dpkg-deb --root-owner-group -Zxz --build "$root" "$out/${package}_$version-1_$architecture.deb" > /dev/null
+}
+
+# The packages of Debian, from the tree of the tarball. Programs link the shared library there.
+make_debs() {
+    local tree=$1 folder=$2 out=$3 lib=usr/lib/$triplet root
+    root=$folder/libnizwarf0
+    mkdir -p "$root/$lib" "$root/DEBIAN"
+    cp -P "$tree/lib/$soname"* "$root/$lib/"
+    echo "libnizwarf ${release%%.*} libnizwarf0 (>= $release~)" > "$root/DEBIAN/shlibs"
+    {
+        echo "$soname libnizwarf0 #MINVER#"
+        echo "* Build-Depends-Package: libnizwarf-dev"
+        # (a node of NIZWARF_0.3 came with 0.3.0)
+        sed -nE 's/^(NIZWARF_([0-9.]+)) \{$/ \1@\1 \2.0~/p' "$packaging/nizwarf.map"
+        exported "$root/$lib/$soname" | sed -E 's/^(.*@NIZWARF_(.*))$/ \1 \2.0~/'
+    } > "$root/DEBIAN/symbols"
+    echo "activate-noawait ldconfig" > "$root/DEBIAN/triggers"
+    make_deb libnizwarf0 "$root" "$out"
+
+    root=$folder/libnizwarf-dev
+    mkdir -p "$root/$lib/pkgconfig" "$root/usr/share/doc/libnizwarf-dev" "$root/usr/share/man"
+    cp -P "$tree"/lib/libnizwarf.{a,so} "$root/$lib/"
+    cp -R "$tree/include" "$root/usr/"
+    cp -R "$tree/share/man/man3" "$root/usr/share/man/"
+    cp -R "$tree/share/doc/nizwarf/examples" "$root/usr/share/doc/libnizwarf-dev/"
+    sed -e 's,^prefix=.*,prefix=/usr,' -e "s,/lib\$,/lib/$triplet," "$tree/lib/pkgconfig/nizwarf.pc" \
+        > "$root/$lib/pkgconfig/nizwarf.pc"
+    make_deb libnizwarf-dev "$root" "$out" "libnizwarf0 (= $version-1)"
+
+    root=$folder/nizwarf
+    mkdir -p "$root/usr/share/man"
+    for_programs build_program "$root/usr/bin" "$tree/lib/$soname"
+    put_demo "$root/usr"
+    find "$tree/share/man" -mindepth 1 -maxdepth 1 ! -name man3 -exec cp -R {} "$root/usr/share/man/" \;
+    make_deb nizwarf "$root" "$out"
+}
+
+# Makes all that there is to make, into a folder.
+make_all() {
+    local folder
+    folder=$(mktemp -d -p "$work")
+    mkdir -p "$1"
+    make_tree "$folder/tree"
+    make_tarball "$folder/tree" "$1"
+    if [ -n "$debs" ]; then
+        make_debs "$folder/tree" "$folder" "$1"
+    fi
+}
+
+parts=()
+find_parts
+debs=yes
+if ! command -v dpkg-deb > /dev/null; then
+    debs=
+    echo "Missing: the command \`dpkg-deb\`, so the tarball alone is made." >&2
+fi
+make_all "$work/out"
+if [ -n "$check" ]; then
+    make_all "$work/again"
+    diff -r "$work/out" "$work/again" || wrong "what was made twice differs."
+    echo "Made twice, and the same."
+    if [ -n "$debs" ] && command -v lintian > /dev/null; then
+        lintian --allow-root --tag-display-limit 0 --fail-on error "$work"/out/*.deb || wrong "lintian."
+        echo "lintian finds no error."
+    else
+        echo "Missing: the command \`lintian\`, or the packages that it looks at: apt-get install lintian." >&2
+    fi
+    if command -v mandoc > /dev/null; then
+        mandoc -T lint -W warning "$packaging"/man/*.[1-8] || wrong "mandoc."
+        echo "mandoc finds nothing in the pages."
+    else
+        echo "Missing: the command \`mandoc\`: apt-get install mandoc." >&2
+    fi
+fi
+mkdir -p "$out"
+rm -f "$out"/*nizwarf*.deb "$out"/nizwarf-*.tar.gz
+mv "$work"/out/* "$out/"
+(cd "$out" && stat -c '%8s  %n' ./*nizwarf* | sed 's,\./,,')
+echo "They are in $out."
