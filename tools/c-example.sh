@@ -4,8 +4,9 @@
 # header says, also where each allocation is refused in turn. tools/c-hello.c asks a few requests of
 # examples/c/hello.c, a file system over the library vfs_door; tools/c-door.c, tools/c-door-cases.c,
 # tools/c-door-threads.c and tools/c-ops.c hold that library against what the headers say. All that runs
-# under the sanitizers of the compiler too, if it has them. Last, all names that the libraries define begin
-# with `nizwarf_`.
+# under the sanitizers of the compiler too, if it has them. All names that the libraries define begin
+# with `nizwarf_`. Last, tools/package.sh packs the libraries, and the examples are built by pkg-config against
+# what is installed of that, shared and static, and do the same.
 #
 # Usage: tools/c-example.sh [--prove]
 # It takes each proved library where that is built and no source is newer; otherwise tools/unproved.sh
@@ -97,3 +98,41 @@ if [ -n "$others" ]; then
     echo "Names of the libraries that do not begin with nizwarf_:" $others >&2
     exit 1
 fi
+
+# Builds the examples serve and hello by pkg-config alone, with flags, and runs them.
+run_installed() {
+    local name sources words
+    read -ra words < <(pkg-config --cflags --libs "$@" nizwarf)
+    for name in serve hello; do
+        read -ra sources < <(sed -nE "s/^$name +- +//p" "$here/packaging/programs")
+        (cd "$here/examples/c" && cc -std=c11 -O2 -Wall -Wextra -Werror -o "$folder/$name" "${sources[@]}" \
+            "${words[@]}" "${@/#--static/-static}")
+    done
+    LD_LIBRARY_PATH=$folder/installed/usr/local/lib "$folder/serve" > /dev/null
+    LD_LIBRARY_PATH=$folder/installed/usr/local/lib timeout 60 "$folder/program" "$folder/hello" > /dev/null
+}
+
+if ! command -v pkg-config > /dev/null; then
+    echo "Missing: the command \`pkg-config\`, so nothing is packed: apt-get install pkg-config." >&2
+    exit
+fi
+compile tools/c-hello.c
+"$here/tools/package.sh" --no-demo --out "$folder/packages" > "$folder/said" 2>&1 || { cat "$folder/said" >&2 && exit 1; }
+grep '^Missing' "$folder/said" >&2 || true
+tar -xzf "$folder"/packages/*.tar.gz -C "$folder"
+installer=$(echo "$folder"/nizwarf-*/install.sh)
+"$installer" "$folder/installed" /usr/local > /dev/null
+export PKG_CONFIG_SYSROOT_DIR=$folder/installed PKG_CONFIG_LIBDIR=$folder/installed/usr/local/lib/pkgconfig
+run_installed
+if ! readelf -d "$folder/hello" | grep -q 'NEEDED.*libnizwarf\.so\.0'; then
+    echo "A program that is linked by pkg-config does not need the shared library." >&2
+    exit 1
+fi
+run_installed --static
+"$installer" --uninstall "$folder/installed" /usr/local > /dev/null
+left=$(find "$folder/installed" ! -type d)
+if [ -n "$left" ]; then
+    echo "The installer left: $left" >&2
+    exit 1
+fi
+echo "What is packed installs: serve and hello run with its shared library, and with its static one."
