@@ -108,6 +108,13 @@ run_installed() {
         (cd "$here/examples/c" && cc -std=c11 -O2 -Wall -Wextra -Werror -o "$folder/$name" "${sources[@]}" \
             "${words[@]}" "${@/#--static/-static}")
     done
+    echo '#include "nizwarf.h"
+int main(void) { return nizwarf_version() != NIZWARF_VERSION; }' | cc -o "$folder/version" -x c - "${words[@]}" \
+        "${@/#--static/-static}"
+    if ! LD_LIBRARY_PATH=$folder/installed/usr/local/lib "$folder/version"; then
+        echo "The library does not tell the header's version." >&2
+        exit 1
+    fi
     LD_LIBRARY_PATH=$folder/installed/usr/local/lib "$folder/serve" > /dev/null
     LD_LIBRARY_PATH=$folder/installed/usr/local/lib timeout 60 "$folder/program" "$folder/hello" > /dev/null
 }

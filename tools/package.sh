@@ -139,8 +139,8 @@ make_libraries() {
     [ "$needed" = libc.so.6 ] || wrong "$soname needs $needed, and not the C library alone."
     [ "$(declared)" = "$(mapped | sed 's/@.*//' | sort)" ] \
         || wrong "packaging/nizwarf.map does not have the functions that the headers declare."
-    others=$(exported "$folder/$soname" | comm -23 - <(mapped | sort))
-    [ -z "$others" ] || wrong "$soname exports more than packaging/nizwarf.map has: $others"
+    others=$(exported "$folder/$soname" | comm -3 - <(mapped | sort) | tr -d '\t' | paste -sd ' ')
+    [ -z "$others" ] || wrong "$soname and packaging/nizwarf.map differ in: $others"
 }
 
 # The libraries that a program or a library needs.
