@@ -279,7 +279,8 @@ static inline int32_t nizwarf_end(nizwarf_server *server)
  * requests in flight, and with requests that are answered on another thread. A session is only
  * read; you write its options. No request is in flight beside an INIT or a DESTROY of a kernel.
  *
- * Memory is that of slots. It grows up to the longest room that a slot was lent to.
+ * Memory is that of slots. One is as long as the longest room in which a reply was put together: to ask
+ * takes 80 bytes at most, and to answer a READ 16. nizwarf_end_slot gives it back.
  *
  * Nothing here can see whether you make the call that was told, once, and answer what came of it,
  * and whether you give back what you are told to.

@@ -1,0 +1,41 @@
+#!/usr/bin/env bash
+# Counts the instructions of an ask by the door (include/nizwarf.h), and of an ask with its answer, for some
+# requests in one piece, and takes their time: a line for each class, as a row of a table.
+#
+# Usage: tools/door-speed.sh
+# It takes the proved library where that is built (`rt lib` in crates/vfs_door), and says which one it is.
+# Instructions are those of all that runs, the inline functions of the header too, by the difference of a long
+# run and a short one under valgrind. Times are the least of 15 runs, and move with the machine.
+set -euo pipefail
+. "$(dirname "$0")/usage.sh"
+. "$(dirname "$0")/transport.sh"
+take_none "$@"
+need valgrind "Install it: apt-get install valgrind."
+find_library vfs_door
+folder=$(mktemp -d)
+trap 'rm -rf "$folder"' EXIT
+program=$folder/c-door-speed
+cc -std=c11 -O2 -Wall -Wextra -Werror -I "$here/include" -o "$program" "$here/tools/c-door-speed.c" "${library[@]}"
+
+# How many instructions a run takes: counted WORD..
+counted() {
+    valgrind --tool=callgrind --callgrind-out-file=/dev/null "$program" "$@" 2>&1 \
+        | sed -n 's/.*Collected : \([0-9]*\).*/\1/p'
+}
+
+# Those of one request: instructions CLASS [ask]
+instructions() {
+    local class=$1 short long
+    shift
+    short=$(counted "$class" 100 "$@")
+    long=$(counted "$class" 300 "$@")
+    echo $(((long - short) / 200))
+}
+
+echo "| Request | instructions of an ask | of an ask and its answer | ns of both |"
+echo "|---|---|---|---|"
+for class in $("$program" || true); do
+    times=1000000
+    [[ $class == readdir* ]] && times=20000
+    echo "| $class | $(instructions "$class" ask) | $(instructions "$class") | $("$program" "$class" $times) |"
+done
