@@ -1,0 +1,80 @@
+//! Finds the library: in the folder `NIZWARF_LIB_DIR` if that is set, else by `pkg-config nizwarf`.
+
+use std::env;
+use std::path::Path;
+use std::process::{exit, Command};
+
+const NAME: &str = "nizwarf";
+const VERSION: &str = "0.2";
+
+fn main() {
+    for name in ["NIZWARF_LIB_DIR", "PKG_CONFIG", "PKG_CONFIG_PATH"] {
+        println!("cargo:rerun-if-env-changed={name}");
+    }
+    println!("cargo:rerun-if-changed=build.rs");
+    let found = match env::var("NIZWARF_LIB_DIR") {
+        Ok(folder) => link_folder(&folder),
+        Err(_) => link_installed(),
+    };
+    if let Err(fault) = found {
+        eprintln!("The library libnizwarf is not there: {fault}.");
+        eprintln!("Install its development package, so that `pkg-config {NAME}` finds it, or set");
+        eprintln!("NIZWARF_LIB_DIR to a folder with libnizwarf.a, with libnizwarf.so, or with");
+        eprintln!("libvfs_door.a and liblibc_c.a.");
+        exit(1);
+    }
+}
+
+/// Links what the folder has.
+fn link_folder(folder: &str) -> Result<(), String> {
+    let has = |file: &str| Path::new(folder).join(file).exists();
+    let libraries: &[&str] = if has("libnizwarf.a") {
+        &["static=nizwarf"]
+    } else if has("libvfs_door.a") && has("liblibc_c.a") {
+        &["static=vfs_door", "static=libc_c"]
+    } else if has("libnizwarf.so") {
+        &["dylib=nizwarf"]
+    } else {
+        return Err(format!("NIZWARF_LIB_DIR={folder} has none of its files"));
+    };
+    // (cargo runs this program in the package's folder, and the linker elsewhere)
+    let folder = Path::new(folder)
+        .canonicalize()
+        .map_err(|fault| format!("NIZWARF_LIB_DIR={folder}: {fault}"))?;
+    println!("cargo:rustc-link-search=native={}", folder.display());
+    for library in libraries {
+        println!("cargo:rustc-link-lib={library}");
+    }
+    for file in ["libnizwarf.a", "libvfs_door.a", "liblibc_c.a", "libnizwarf.so"] {
+        println!("cargo:rerun-if-changed={}", folder.join(file).display());
+    }
+    Ok(())
+}
+
+/// Links what `pkg-config` says.
+fn link_installed() -> Result<(), String> {
+    let program = env::var("PKG_CONFIG").unwrap_or_else(|_| "pkg-config".into());
+    let said = Command::new(&program)
+        .args(["--libs", "--print-errors", &format!("{NAME} >= {VERSION}")])
+        .output()
+        .map_err(|fault| format!("NIZWARF_LIB_DIR is not set, and `{program}`: {fault}"))?;
+    if !said.status.success() {
+        let why = String::from_utf8_lossy(&said.stderr);
+        return Err(format!("NIZWARF_LIB_DIR is not set, and `{program}` says: {}", why.trim()));
+    }
+    let mut named = false;
+    for word in String::from_utf8_lossy(&said.stdout).split_whitespace() {
+        if let Some(folder) = word.strip_prefix("-L") {
+            println!("cargo:rustc-link-search=native={folder}");
+        } else if let Some(library) = word.strip_prefix("-l") {
+            println!("cargo:rustc-link-lib={library}");
+            named = true;
+        }
+    }
+    // (of a folder that the linker knows by itself it says nothing)
+    if named {
+        Ok(())
+    } else {
+        Err(format!("`{program}` names no library"))
+    }
+}

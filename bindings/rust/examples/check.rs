@@ -1,0 +1,253 @@
+//! A check in front of someone else's session: it hands on the requests that are whole, and no others.
+//!
+//! The library is asked what each request says, and no call is made. Requests that need no file system are
+//! answered here, as the library does; a refused one is answered EIO; all others go to the session, whose
+//! replies go back as they are.
+
+use nizwarf::{Asked, Call, FsOptions, Session, Slot};
+use std::env;
+use std::fs::File;
+use std::io::{self, IoSlice, Read, Write};
+use std::os::raw::c_int;
+use std::os::unix::io::{AsFd, FromRawFd};
+use std::process::{exit, Command};
+use std::sync::atomic::{AtomicU64, Ordering};
+use std::thread;
+
+const USAGE: &str =
+    "Usage: check MOUNTPOINT PROGRAM [WORD..], as root: mounts what PROGRAM serves at its
+       standard input, and hands it only requests that are whole.
+       check - PROGRAM [WORD..]: the same for what asks at standard input.";
+
+/// What is known of the session between a client and a program.
+struct Check {
+    session: Session,
+    options: AtomicU64,
+    /// The number of the last INIT that was handed on: its reply says the options.
+    init: AtomicU64,
+}
+
+/// What becomes of a request.
+#[derive(Debug, PartialEq)]
+enum Verdict {
+    /// It is whole.
+    HandOn,
+    /// It has this reply, or none.
+    Reply(Vec<u8>),
+}
+
+impl Check {
+    fn new(session: Session) -> Self {
+        Check { session, options: AtomicU64::new(0), init: AtomicU64::new(0) }
+    }
+
+    fn judge(&self, slot: &mut Slot, request: &[u8]) -> Verdict {
+        let mut session = self.session;
+        session.set_options(FsOptions::from_bits_truncate(self.options.load(Ordering::Acquire)));
+        let slices = [IoSlice::new(request)];
+        match slot.ask(&session, &slices, session.longest_message()) {
+            Asked::Call(pending) => {
+                if let Call::Init { to, .. } = &pending.call {
+                    self.init.store(to.unique(), Ordering::Release);
+                }
+                Verdict::HandOn
+            }
+            Asked::Finished(done) if done.interrupts.is_some() => Verdict::HandOn,
+            Asked::Finished(mut done) => match done.outcome {
+                Ok(()) => Verdict::Reply(done.reply.bytes().to_vec()),
+                Err(refusal) => {
+                    eprintln!("check: a request of {} bytes: {refusal}", request.len());
+                    Verdict::Reply(fault(request))
+                }
+            },
+        }
+    }
+
+    /// Sees a reply of the session.
+    fn see(&self, reply: &[u8]) {
+        let word = |at: usize| {
+            let bytes = reply.get(at..at + 4).and_then(|bytes| bytes.try_into().ok());
+            u64::from(u32::from_le_bytes(bytes.unwrap_or_default()))
+        };
+        let unique = word(8) | word(12) << 32;
+        if unique == self.init.load(Ordering::Acquire) && reply.len() == 80 && word(4) == 0 {
+            self.options.store(word(28) | word(48) << 32, Ordering::Release);
+        }
+    }
+}
+
+/// The fault EIO for a request, if its number can be read.
+fn fault(request: &[u8]) -> Vec<u8> {
+    const EIO: i32 = 5;
+    let unique = request.get(8..16).unwrap_or_default();
+    if unique.is_empty() {
+        return Vec::new();
+    }
+    [&16_u32.to_le_bytes(), &(-EIO).to_le_bytes(), unique].concat()
+}
+
+/// Reads one message. Empty: there are no more.
+fn next<'a>(mut from: &File, buffer: &'a mut [u8]) -> io::Result<&'a [u8]> {
+    const ENODEV: i32 = 19;
+    match from.read(buffer) {
+        Err(error) if error.raw_os_error() == Some(ENODEV) => Ok(&[]),
+        len => len.map(|len| &buffer[..len]),
+    }
+}
+
+/// Carries messages between the client's device and the session, until the client ends.
+fn relay(device: &File, program: &File) -> io::Result<()> {
+    let check = Check::new(Session::default());
+    let longest = check.session.longest_message();
+    thread::scope(|scope| {
+        let replies = scope.spawn(|| -> io::Result<()> {
+            let mut buffer = vec![0; longest];
+            loop {
+                let reply = next(program, &mut buffer)?;
+                if reply.is_empty() {
+                    return Ok(());
+                }
+                check.see(reply);
+                // (an answer that no one waits for any more is no fault)
+                let _ = (&mut &*device).write(reply)?;
+            }
+        });
+        let (mut slot, mut buffer) = (Slot::new(), vec![0; longest]);
+        loop {
+            let request = next(device, &mut buffer)?;
+            if request.is_empty() {
+                end_writing(program)?;
+                return replies.join().unwrap_or(Ok(()));
+            }
+            match check.judge(&mut slot, request) {
+                Verdict::HandOn => drop((&mut &*program).write(request)?),
+                Verdict::Reply(reply) if reply.is_empty() => {}
+                Verdict::Reply(reply) => drop((&mut &*device).write(&reply)?),
+            }
+        }
+    })
+}
+
+extern "C" {
+    fn socketpair(domain: c_int, kind: c_int, protocol: c_int, ends: *mut c_int) -> c_int;
+}
+
+/// Two ends of a socket that keeps messages apart.
+fn ends() -> io::Result<(File, File)> {
+    const AF_UNIX: c_int = 1;
+    const SOCK_SEQPACKET_CLOEXEC: c_int = 5 | 0o2_000_000;
+    let mut ends = [0; 2];
+    // SAFETY: there is room for two numbers, and both descriptors are new ones.
+    unsafe {
+        if socketpair(AF_UNIX, SOCK_SEQPACKET_CLOEXEC, 0, ends.as_mut_ptr()) < 0 {
+            return Err(io::Error::last_os_error());
+        }
+        Ok((File::from_raw_fd(ends[0]), File::from_raw_fd(ends[1])))
+    }
+}
+
+/// Tells the other end that nothing more comes.
+fn end_writing(socket: &File) -> io::Result<()> {
+    let socket = std::os::unix::net::UnixStream::from(socket.as_fd().try_clone_to_owned()?);
+    socket.shutdown(std::net::Shutdown::Write)
+}
+
+fn mount_on(folder: &str) -> io::Result<File> {
+    let device = File::options().read(true).write(true).open("/dev/fuse")?;
+    let options = "-ofd=0,rootmode=40000,user_id=0,group_id=0,default_permissions";
+    let mut mount = Command::new("mount");
+    mount.args(["-i", "-tfuse.check", options, "check", folder]).stdin(device.try_clone()?);
+    if mount.status()?.success() {
+        Ok(device)
+    } else {
+        exit(1)
+    }
+}
+
+fn main() -> io::Result<()> {
+    let words: Vec<_> = env::args().skip(1).collect();
+    let words: Vec<_> = words.iter().map(String::as_str).collect();
+    let (folder, program, words) = match words[..] {
+        ["--help"] => {
+            println!("{USAGE}");
+            return Ok(());
+        }
+        [folder, program, ref words @ ..] if folder == "-" || !folder.starts_with('-') => {
+            (folder, program, words)
+        }
+        _ => {
+            eprintln!("{USAGE}");
+            exit(2)
+        }
+    };
+    let (ours, theirs) = ends()?;
+    let mut child = Command::new(program).args(words).stdin(theirs).spawn()?;
+    let device = match folder {
+        "-" => File::from(io::stdin().as_fd().try_clone_to_owned()?),
+        folder => mount_on(folder)?,
+    };
+    relay(&device, &ours)?;
+    drop(ours);
+    exit(child.wait()?.code().unwrap_or(1))
+}
+
+#[cfg(test)]
+mod tests {
+    use super::*;
+
+    /// A request: its length, its opcode, its number, node 1, and what stands behind the header.
+    fn request(len: u8, opcode: u8, unique: u8, behind: &[u8]) -> Vec<u8> {
+        let mut bytes = vec![0; 40];
+        (bytes[0], bytes[4], bytes[8], bytes[16]) = (len, opcode, unique, 1);
+        bytes.extend_from_slice(behind);
+        bytes
+    }
+
+    fn told(from: &File) -> Vec<u8> {
+        let mut buffer = [0; 256];
+        next(from, &mut buffer).unwrap().to_vec()
+    }
+
+    #[test]
+    fn only_whole_requests_are_handed_on() {
+        let (client, device) = ends().unwrap();
+        let (ours, program) = ends().unwrap();
+        let relayed = thread::spawn(move || relay(&device, &ours));
+        let ask = |bytes: &[u8]| assert_eq!((&mut &client).write(bytes).unwrap(), bytes.len());
+        // INIT of version 7.38 that offers security contexts; the program's reply agrees on them.
+        let mut behind = vec![0; 64];
+        (behind[0], behind[4], behind[15], behind[16]) = (7, 38, 0x40, 1);
+        let init = request(104, 26, 1, &behind);
+        ask(&init);
+        assert_eq!(told(&program), init);
+        let mut reply = vec![0; 80];
+        (reply[0], reply[8], reply[16], reply[20], reply[48]) = (80, 1, 7, 38, 1);
+        assert_eq!((&mut &program).write(&reply).unwrap(), 80);
+        assert_eq!(told(&client), reply);
+        // What is cut short, has no name or no security context never comes to the program.
+        for broken in [
+            request(40, 1, 2, &[]),
+            request(43, 1, 2, b"abc"),
+            request(99, 1, 2, b"abc\0"),
+            request(50, 9, 2, &[0, 0, 0, 0, 0, 0, 0, 0, b'a', 0]),
+        ] {
+            ask(&broken);
+            let eio = [16, 0, 0, 0, 251, 255, 255, 255, 2, 0, 0, 0, 0, 0, 0, 0];
+            assert_eq!(told(&client), eio);
+        }
+        ask(&[1, 2, 3]);
+        // An opcode that there is not is answered ENOSYS.
+        ask(&request(40, 99, 3, &[]));
+        assert_eq!(told(&client), [16, 0, 0, 0, 218, 255, 255, 255, 3, 0, 0, 0, 0, 0, 0, 0]);
+        let whole = request(44, 1, 4, b"abc\0");
+        ask(&whole);
+        assert_eq!(told(&program), whole);
+        let interrupt = request(48, 36, 5, &[4, 0, 0, 0, 0, 0, 0, 0]);
+        ask(&interrupt);
+        assert_eq!(told(&program), interrupt);
+        drop(client);
+        assert_eq!(told(&program), []);
+        drop(program);
+        relayed.join().unwrap().unwrap();
+    }
+}

@@ -1,0 +1,60 @@
+//! A file system of one file, `hello`.
+#![allow(clippy::wildcard_imports)] // (on few lines)
+use nizwarf::*;
+use std::{env, ffi::CStr, fs::File, io::*, os::unix::io::AsFd, process::*, time::Duration};
+
+const TEXT: &[u8] = b"Hello, world!\n";
+const USAGE: &str = "Usage: hello MOUNTPOINT, as root: serves a file there until it is unmounted.
+       hello -: serves it to what is at the other end of standard input.";
+struct Hello;
+struct Items(u64);
+
+impl DirectoryIterator for Items {
+    fn next(&mut self) -> Option<DirEntry<'_>> {
+        let items = [(1, &b".\0"[..]), (1, b"..\0"), (2, b"hello\0")];
+        let (ino, name) = *items.get(usize::try_from(self.0).ok()?)?;
+        self.0 += 1;
+        let name = CStr::from_bytes_with_nul(name).ok()?;
+        Some(DirEntry { ino, offset: self.0, type_: DT_UNKNOWN, name })
+    }
+}
+#[rustfmt::skip] // (on few lines)
+impl FileSystem for Hello {
+    type Inode = u64;
+    type Handle = u64;
+    type DirIter = Items;
+    fn lookup(&self, ctx: Context, parent: u64, name: &CStr) -> Result<Entry> {
+        if parent != ROOT_ID || name.to_bytes() != b"hello" {
+            return Err(Error::from_raw_os_error(2)); // ENOENT
+        }
+        let (attr, time) = self.getattr(ctx, 2, None)?;
+        Ok(Entry { inode: 2, attr, attr_timeout: time, entry_timeout: time, ..Entry::default() })
+    }
+    fn getattr(&self, _: Context, ino: u64, _: Option<u64>) -> Result<(Attr, Duration)> {
+        let (mode, len) = if ino == ROOT_ID { (0o40_555, 0) } else { (0o100_444, TEXT.len()) };
+        Ok((Attr { ino, mode, nlink: 1, size: len as u64, ..Attr::default() }, Duration::from_secs(1)))
+    }
+    fn readdir(&self, _: Context, _: u64, _: u64, _: u32, offset: u64) -> Result<Items> {
+        Ok(Items(offset))
+    }
+    fn read<W: ZeroCopyWriter>(&self, _: Context, _: u64, _: u64, mut w: W, size: u32, at: u64,
+                               _: Option<u64>, _: u32) -> Result<usize> {
+        let left = &TEXT[TEXT.len().min(usize::try_from(at).unwrap_or(usize::MAX))..];
+        let data = &left[..left.len().min(size as usize)];
+        w.write_all(data).map(|()| data.len())
+    }
+}
+#[rustfmt::skip]
+fn main() -> Result<()> {
+    let word = env::args().nth(1).unwrap_or_default();
+    if word == "--help" { return writeln!(stdout(), "{USAGE}"); }
+    let mut device = File::from(stdin().as_fd().try_clone_to_owned()?);
+    if word.is_empty() || word.starts_with('-') && word != "-" { eprintln!("{USAGE}"); exit(2) }
+    if word != "-" {
+        device = File::options().read(true).write(true).open("/dev/fuse")?;
+        let options = "-ofd=0,rootmode=40000,user_id=0,group_id=0,default_permissions";
+        let words = ["-i", "-tfuse.hello", options, "hello", &word];
+        if !Command::new("mount").args(words).stdin(device.try_clone()?).status()?.success() { exit(1) }
+    }
+    Server::new(Hello).serve(&device)
+}

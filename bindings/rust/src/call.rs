@@ -1,0 +1,539 @@
+//! The calls that requests ask for.
+#![forbid(unsafe_code)]
+
+use crate::answer::{
+    Attributes, Created, Data, Destroyed, Directory, Done, EntryOf, Fault, FaultOrSilence, Offset,
+    Opened, Quiet, Statistics, Text, TextOrCount, To, Told, Want, Written,
+};
+use crate::bytes::{Bytes, Forgets};
+use crate::ffi::{Range, RawCall, RawSession, Slot};
+use crate::file_system::{Context, Extensions, SecContext, SetattrIn};
+use crate::flags::{FsOptions, SetattrValid, SetxattrFlags};
+use std::borrow::Cow;
+use std::ffi::CStr;
+use std::io::{self, IoSlice};
+
+const HAS_HANDLE: u32 = 1 << 0;
+const HAS_OWNER: u32 = 1 << 1;
+const HAS_CONTEXT: u32 = 1 << 2;
+const HAS_GROUP: u32 = 1 << 3;
+const KILL_PRIV: u32 = 1 << 4;
+const DELAYED: u32 = 1 << 5;
+const DATASYNC: u32 = 1 << 6;
+const FLUSHES: u32 = 1 << 7;
+const FLOCK_RELEASE: u32 = 1 << 8;
+const PLUS: u32 = 1 << 9;
+
+/// A request that asks for a call. It borrows the request; what answers it, the field `to` of each call,
+/// does not, and may go to another thread and be used later.
+#[must_use = "the client waits for the reply"]
+#[derive(Debug)]
+pub struct PendingCall<'r> {
+    /// Who asks. It is the root for INIT, DESTROY, and calls of which nothing is told.
+    pub context: Context,
+    /// The call.
+    pub call: Call<'r>,
+}
+
+/// A call, with what answers it.
+///
+/// Fields mean the same in each call, and are named as the arguments of
+/// [`FileSystem`](crate::FileSystem):
+///
+/// | Field | |
+/// |---|---|
+/// | `node` | the number of the node that the call is about |
+/// | `parent` | the number of the directory that has the name, or gets it |
+/// | `name` | a name: no path, and without a byte 0 |
+/// | `handle` | what OPEN, OPENDIR or CREATE answered |
+/// | `flags` | those of `open(2)`; of a rename those of `renameat2(2)`; of SETXATTR those of `setxattr(2)` |
+/// | `mode`, `umask`, `rdev` | those of `mknod(2)` |
+/// | `offset` | a place in a file, in bytes; of READDIR that of the last item before, or 0 |
+/// | `size` | the most bytes that are wanted, or how many are to be written |
+/// | `lock_owner` | who holds locks of POSIX |
+/// | `kill_priv` | the file loses its set-user-ID and set-group-ID bits |
+/// | `to` | what answers the call: its type says by what |
+#[non_exhaustive]
+#[allow(missing_docs)] // (of fields, which the table tells of)
+#[must_use = "the client waits for the reply"]
+#[derive(Debug)]
+pub enum Call<'r> {
+    /// Looks a name up.
+    Lookup { parent: u64, name: Cow<'r, CStr>, to: To<EntryOf> },
+    /// Gives `count` lookups of a node back.
+    Forget { node: u64, count: u64, to: To<Quiet> },
+    /// Asks for attributes.
+    Getattr { node: u64, handle: Option<u64>, to: To<Attributes> },
+    /// Sets those attributes that `valid` names.
+    Setattr {
+        node: u64,
+        attr: SetattrIn,
+        handle: Option<u64>,
+        valid: SetattrValid,
+        to: To<Attributes>,
+    },
+    /// Reads the text of a symbolic link.
+    Readlink { node: u64, to: To<Text> },
+    /// Makes a symbolic link with a text.
+    Symlink {
+        linkname: Cow<'r, CStr>,
+        parent: u64,
+        name: Cow<'r, CStr>,
+        extensions: Extensions,
+        to: To<EntryOf>,
+    },
+    /// Makes a node.
+    Mknod {
+        parent: u64,
+        name: Cow<'r, CStr>,
+        mode: u32,
+        rdev: u32,
+        umask: u32,
+        extensions: Extensions,
+        to: To<EntryOf>,
+    },
+    /// Makes a directory.
+    Mkdir {
+        parent: u64,
+        name: Cow<'r, CStr>,
+        mode: u32,
+        umask: u32,
+        extensions: Extensions,
+        to: To<EntryOf>,
+    },
+    /// Takes a name away.
+    Unlink { parent: u64, name: Cow<'r, CStr>, to: To<Done> },
+    /// Takes the name of a directory away.
+    Rmdir { parent: u64, name: Cow<'r, CStr>, to: To<Done> },
+    /// Gives a node another name.
+    Rename {
+        parent: u64,
+        name: Cow<'r, CStr>,
+        new_parent: u64,
+        new_name: Cow<'r, CStr>,
+        flags: u32,
+        to: To<Done>,
+    },
+    /// Gives a node one more name.
+    Link { node: u64, new_parent: u64, new_name: Cow<'r, CStr>, to: To<EntryOf> },
+    /// Opens a file.
+    Open { node: u64, kill_priv: bool, flags: u32, to: To<Opened> },
+    /// Reads data, which the caller puts behind the first 16 bytes of the room.
+    Read {
+        node: u64,
+        handle: u64,
+        size: u32,
+        offset: u64,
+        lock_owner: Option<u64>,
+        flags: u32,
+        to: To<Data>,
+    },
+    /// Writes `data`, which are `size` bytes, or fewer if the request has no more. `delayed_write` is
+    /// one from the client's cache.
+    Write {
+        node: u64,
+        handle: u64,
+        data: Bytes<'r>,
+        size: u32,
+        offset: u64,
+        lock_owner: Option<u64>,
+        delayed_write: bool,
+        kill_priv: bool,
+        flags: u32,
+        to: To<Written>,
+    },
+    /// Asks what the file system holds.
+    Statfs { node: u64, to: To<Statistics> },
+    /// Closes a file. `flush`: as a FLUSH does; `flock_release`: locks of `flock(2)` go.
+    Release {
+        node: u64,
+        flags: u32,
+        handle: u64,
+        flush: bool,
+        flock_release: bool,
+        lock_owner: Option<u64>,
+        to: To<Done>,
+    },
+    /// Synchronises a file. `datasync`: its data, and not what is said of it.
+    Fsync { node: u64, datasync: bool, handle: u64, to: To<Done> },
+    /// Sets an extended attribute.
+    Setxattr {
+        node: u64,
+        name: Cow<'r, CStr>,
+        value: Cow<'r, [u8]>,
+        flags: u32,
+        extra_flags: SetxattrFlags,
+        to: To<Done>,
+    },
+    /// Reads an extended attribute. `size` 0 asks for its length.
+    Getxattr { node: u64, name: Cow<'r, CStr>, size: u32, to: To<TextOrCount> },
+    /// Lists names of extended attributes, each with the 0 behind it. `size` 0 asks for their length.
+    Listxattr { node: u64, size: u32, to: To<TextOrCount> },
+    /// Takes an extended attribute away.
+    Removexattr { node: u64, name: Cow<'r, CStr>, to: To<Done> },
+    /// A descriptor of an open file is closed.
+    Flush { node: u64, handle: u64, lock_owner: u64, to: To<Done> },
+    /// Begins a session: `capable` are the options that the client offers, `readahead` the most bytes
+    /// that it reads ahead.
+    Init { capable: FsOptions, readahead: u32, to: To<Want> },
+    /// Opens a directory.
+    Opendir { node: u64, flags: u32, to: To<Opened> },
+    /// Lists a directory in records of `size` bytes in all. `plus`: each item with its entry.
+    Readdir { node: u64, handle: u64, size: u32, offset: u64, plus: bool, to: To<Directory> },
+    /// Closes a directory.
+    Releasedir { node: u64, flags: u32, handle: u64, to: To<Done> },
+    /// Synchronises a directory.
+    Fsyncdir { node: u64, datasync: bool, handle: u64, to: To<Done> },
+    /// Tests a lock. Nothing is told.
+    Getlk { to: To<FaultOrSilence> },
+    /// Sets a lock. Nothing is told.
+    Setlk { to: To<FaultOrSilence> },
+    /// Waits for a lock. Nothing is told.
+    Setlkw { to: To<FaultOrSilence> },
+    /// Asks whether the caller may do what `mask` says, as `access(2)`.
+    Access { node: u64, mask: u32, to: To<Done> },
+    /// Makes a file and opens it.
+    Create {
+        parent: u64,
+        name: Cow<'r, CStr>,
+        mode: u32,
+        kill_priv: bool,
+        flags: u32,
+        umask: u32,
+        extensions: Extensions,
+        to: To<Created>,
+    },
+    /// Maps a block of a file. Nothing is told.
+    Bmap { to: To<FaultOrSilence> },
+    /// Ends the session: the client holds no lookup from then on.
+    Destroy { to: To<Destroyed> },
+    /// Controls a device. Nothing is told.
+    Ioctl { to: To<FaultOrSilence> },
+    /// Polls a file. Nothing is told.
+    Poll { to: To<FaultOrSilence> },
+    /// Answers a notification. Nothing is told.
+    NotifyReply { to: To<FaultOrSilence> },
+    /// Gives lookups of many nodes back.
+    BatchForget { forgets: Forgets<'r>, to: To<Quiet> },
+    /// Makes room in a file, or a hole, as `fallocate(2)`.
+    Fallocate { node: u64, handle: u64, mode: u32, offset: u64, length: u64, to: To<Done> },
+    /// Finds data or holes, as `lseek(2)`.
+    Lseek { node: u64, handle: u64, offset: u64, whence: u32, to: To<Offset> },
+    /// Copies from one file to another, as `copy_file_range(2)`.
+    CopyFileRange {
+        node_in: u64,
+        handle_in: u64,
+        offset_in: u64,
+        node_out: u64,
+        handle_out: u64,
+        offset_out: u64,
+        len: u64,
+        flags: u64,
+        to: To<Written>,
+    },
+    /// Synchronises all that the file system holds.
+    Syncfs { node: u64, to: To<Done> },
+    /// Makes a file without a name. Nothing is told, and it can only be refused.
+    Tmpfile { to: To<Fault> },
+    /// A call that a later library tells, and that this crate does not know. It can only be refused.
+    Unknown { number: u32, to: To<Fault> },
+}
+
+/// Does the same to the field `to` of each call.
+macro_rules! of_each {
+    ($call:expr, $to:ident => $value:expr; $($name:ident)*) => {
+        match $call {
+            $(Call::$name { $to, .. } => $value,)*
+        }
+    };
+    ($call:expr, $to:ident => $value:expr) => {
+        of_each!($call, $to => $value;
+            Lookup Forget Getattr Setattr Readlink Symlink Mknod Mkdir Unlink Rmdir Rename Link Open
+            Read Write Statfs Release Fsync Setxattr Getxattr Listxattr Removexattr Flush Init Opendir
+            Readdir Releasedir Fsyncdir Getlk Setlk Setlkw Access Create Bmap Destroy Ioctl Poll
+            NotifyReply BatchForget Fallocate Lseek CopyFileRange Syncfs Tmpfile Unknown)
+    };
+}
+
+impl Call<'_> {
+    /// Answers the call with an error. One that has no number is the fault EIO. Calls that have no reply
+    /// have none here either.
+    ///
+    /// ```
+    /// use nizwarf::{Asked, Session, Slot};
+    /// use std::io::{Error, IoSlice};
+    ///
+    /// let mut request = [0; 40];
+    /// (request[0], request[4], request[8]) = (40, 17, 7); // STATFS
+    /// let mut slot = Slot::new();
+    /// if let Asked::Call(pending) = slot.ask(&Session::default(), &[IoSlice::new(&request)], 96) {
+    ///     let mut reply = pending.call.fail(&mut slot, &Error::from_raw_os_error(13)).reply();
+    ///     assert_eq!(reply.bytes()[4..8], (-13_i32).to_le_bytes());
+    /// }
+    /// # else { panic!() }
+    /// ```
+    pub fn fail<'s>(self, slot: &'s mut Slot, error: &io::Error) -> Told<'s> {
+        of_each!(self, to => to.fail(slot, error))
+    }
+
+    /// The number of the request.
+    #[must_use]
+    pub fn unique(&self) -> u64 {
+        of_each!(self, to => to.unique())
+    }
+}
+
+/// A call as the library told it, to be turned into a [`Call`].
+struct Decoder<'c, 'r> {
+    raw: &'c RawCall,
+    session: RawSession,
+    request: &'r [IoSlice<'r>],
+}
+
+impl<'r> Decoder<'_, 'r> {
+    fn has(&self, bit: u32) -> bool {
+        self.raw.has & bit != 0
+    }
+
+    fn handle(&self) -> Option<u64> {
+        self.has(HAS_HANDLE).then_some(self.raw.handle)
+    }
+
+    fn owner(&self) -> Option<u64> {
+        self.has(HAS_OWNER).then_some(self.raw.lock_owner)
+    }
+
+    fn bytes(&self, range: Range) -> Bytes<'r> {
+        let size = |number| usize::try_from(number).unwrap_or(usize::MAX);
+        Bytes::new(self.request, size(range.at), size(range.len))
+    }
+
+    /// The name in a range, behind which stands its 0.
+    fn text(&self, range: Range) -> Cow<'r, CStr> {
+        self.bytes(Range { len: range.len.saturating_add(1), ..range }).to_name()
+    }
+
+    fn name(&self) -> Cow<'r, CStr> {
+        self.text(self.raw.name)
+    }
+
+    fn other_name(&self) -> Cow<'r, CStr> {
+        self.text(self.raw.other_name)
+    }
+
+    fn extensions(&self) -> Extensions {
+        Extensions {
+            secctx: self.has(HAS_CONTEXT).then(|| SecContext {
+                name: self.text(self.raw.context_name).into_owned(),
+                secctx: self.bytes(self.raw.context).to_cow().into_owned(),
+            }),
+            sup_gid: self.has(HAS_GROUP).then_some(self.raw.group),
+        }
+    }
+
+    fn to<K>(&self) -> To<K> {
+        To::new(self.raw, self.session)
+    }
+
+    /// The calls that make, move or remove a name.
+    fn name_call(&self) -> Option<Call<'r>> {
+        let raw = self.raw;
+        let parent = raw.node;
+        Some(match raw.call {
+            1 => Call::Lookup { parent, name: self.name(), to: self.to() },
+            6 => Call::Symlink {
+                linkname: self.other_name(),
+                parent,
+                name: self.name(),
+                extensions: self.extensions(),
+                to: self.to(),
+            },
+            8 => Call::Mknod {
+                parent,
+                name: self.name(),
+                mode: raw.mode,
+                rdev: raw.rdev,
+                umask: raw.umask,
+                extensions: self.extensions(),
+                to: self.to(),
+            },
+            9 => Call::Mkdir {
+                parent,
+                name: self.name(),
+                mode: raw.mode,
+                umask: raw.umask,
+                extensions: self.extensions(),
+                to: self.to(),
+            },
+            10 => Call::Unlink { parent, name: self.name(), to: self.to() },
+            11 => Call::Rmdir { parent, name: self.name(), to: self.to() },
+            12 => Call::Rename {
+                parent,
+                name: self.name(),
+                new_parent: raw.other_node,
+                new_name: self.other_name(),
+                flags: raw.flags,
+                to: self.to(),
+            },
+            13 => Call::Link {
+                node: raw.node,
+                new_parent: raw.other_node,
+                new_name: self.name(),
+                to: self.to(),
+            },
+            35 => Call::Create {
+                parent,
+                name: self.name(),
+                mode: raw.mode,
+                kill_priv: self.has(KILL_PRIV),
+                flags: raw.flags,
+                umask: raw.umask,
+                extensions: self.extensions(),
+                to: self.to(),
+            },
+            _ => return None,
+        })
+    }
+
+    /// The calls about an open file.
+    fn file_call(&self) -> Option<Call<'r>> {
+        let raw = self.raw;
+        let (node, handle, flags) = (raw.node, raw.handle, raw.flags);
+        Some(match raw.call {
+            14 => Call::Open { node, kill_priv: self.has(KILL_PRIV), flags, to: self.to() },
+            15 => Call::Read {
+                node,
+                handle,
+                size: raw.size,
+                offset: raw.offset,
+                lock_owner: self.owner(),
+                flags,
+                to: self.to(),
+            },
+            16 => Call::Write {
+                node,
+                handle,
+                data: self.bytes(raw.data).first(raw.size as usize),
+                size: raw.size,
+                offset: raw.offset,
+                lock_owner: self.owner(),
+                delayed_write: self.has(DELAYED),
+                kill_priv: self.has(KILL_PRIV),
+                flags,
+                to: self.to(),
+            },
+            18 => Call::Release {
+                node,
+                flags,
+                handle,
+                flush: self.has(FLUSHES),
+                flock_release: self.has(FLOCK_RELEASE),
+                lock_owner: self.owner(),
+                to: self.to(),
+            },
+            20 => Call::Fsync { node, datasync: self.has(DATASYNC), handle, to: self.to() },
+            25 => Call::Flush { node, handle, lock_owner: raw.lock_owner, to: self.to() },
+            43 => Call::Fallocate {
+                node,
+                handle,
+                mode: raw.mode,
+                offset: raw.offset,
+                length: raw.length,
+                to: self.to(),
+            },
+            46 => Call::Lseek { node, handle, offset: raw.offset, whence: raw.more, to: self.to() },
+            47 => Call::CopyFileRange {
+                node_in: node,
+                handle_in: handle,
+                offset_in: raw.offset,
+                node_out: raw.other_node,
+                handle_out: raw.other_handle,
+                offset_out: raw.other_offset,
+                len: raw.length,
+                flags: raw.lock_owner,
+                to: self.to(),
+            },
+            _ => return None,
+        })
+    }
+
+    /// The calls about a node or an open directory.
+    fn node_call(&self) -> Option<Call<'r>> {
+        let raw = self.raw;
+        let (node, handle, size) = (raw.node, raw.handle, raw.size);
+        Some(match raw.call {
+            2 => Call::Forget { node, count: raw.length, to: self.to() },
+            3 => Call::Getattr { node, handle: self.handle(), to: self.to() },
+            4 => Call::Setattr {
+                node,
+                attr: raw.attr,
+                handle: self.handle(),
+                valid: SetattrValid::from_bits_truncate(raw.flags),
+                to: self.to(),
+            },
+            5 => Call::Readlink { node, to: self.to() },
+            17 => Call::Statfs { node, to: self.to() },
+            21 => Call::Setxattr {
+                node,
+                name: self.name(),
+                value: self.bytes(raw.data).to_cow(),
+                flags: raw.flags,
+                extra_flags: SetxattrFlags::from_bits_truncate(raw.more),
+                to: self.to(),
+            },
+            22 => Call::Getxattr { node, name: self.name(), size, to: self.to() },
+            23 => Call::Listxattr { node, size, to: self.to() },
+            24 => Call::Removexattr { node, name: self.name(), to: self.to() },
+            27 => Call::Opendir { node, flags: raw.flags, to: self.to() },
+            28 => Call::Readdir {
+                node,
+                handle,
+                size,
+                offset: raw.offset,
+                plus: self.has(PLUS),
+                to: self.to(),
+            },
+            29 => Call::Releasedir { node, flags: raw.flags, handle, to: self.to() },
+            30 => Call::Fsyncdir { node, datasync: self.has(DATASYNC), handle, to: self.to() },
+            34 => Call::Access { node, mask: raw.more, to: self.to() },
+            50 => Call::Syncfs { node, to: self.to() },
+            _ => return None,
+        })
+    }
+
+    /// The calls about the session, and those of which nothing is told.
+    fn other_call(&self) -> Call<'r> {
+        let raw = self.raw;
+        match raw.call {
+            26 => Call::Init {
+                capable: FsOptions::from_bits_truncate(raw.length),
+                readahead: raw.readahead,
+                to: self.to(),
+            },
+            31 => Call::Getlk { to: self.to() },
+            32 => Call::Setlk { to: self.to() },
+            33 => Call::Setlkw { to: self.to() },
+            37 => Call::Bmap { to: self.to() },
+            38 => Call::Destroy { to: self.to() },
+            39 => Call::Ioctl { to: self.to() },
+            40 => Call::Poll { to: self.to() },
+            41 => Call::NotifyReply { to: self.to() },
+            42 => Call::BatchForget { forgets: Forgets::new(self.bytes(raw.data)), to: self.to() },
+            51 => Call::Tmpfile { to: self.to() },
+            number => Call::Unknown { number, to: self.to() },
+        }
+    }
+}
+
+impl<'r> PendingCall<'r> {
+    pub(crate) fn new(raw: &RawCall, session: RawSession, request: &'r [IoSlice<'r>]) -> Self {
+        let decoder = Decoder { raw, session, request };
+        let call = decoder
+            .node_call()
+            .or_else(|| decoder.file_call())
+            .or_else(|| decoder.name_call())
+            .unwrap_or_else(|| decoder.other_call());
+        let context = Context { uid: raw.uid, gid: raw.gid, pid: raw.pid, unique: raw.unique };
+        PendingCall { context, call }
+    }
+}

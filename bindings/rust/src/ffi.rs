@@ -1,0 +1,521 @@
+//! The structs and the functions of the library, as its header has them. All unsafe code of the crate
+//! stands here.
+#![allow(unsafe_code)]
+
+use crate::file_system::{Attr, Entry, SetattrIn, Statvfs};
+use std::ffi::{c_void, CStr};
+use std::fmt;
+use std::io::{self, IoSlice};
+use std::marker::PhantomData;
+use std::ptr;
+
+/// A variable of C that the library keeps a box of its own behind.
+#[repr(C)]
+struct RawSlot {
+    at: *mut c_void,
+}
+
+/// `nizwarf_session`.
+#[repr(C)]
+#[derive(Clone, Copy, Debug, PartialEq, Eq)]
+pub(crate) struct RawSession {
+    pub options: u64,
+    pub page_size: u32,
+    pub max_buffer: u32,
+}
+
+/// `nizwarf_range`: bytes of a request.
+#[repr(C)]
+#[derive(Clone, Copy, Debug, Default, PartialEq, Eq)]
+pub(crate) struct Range {
+    pub at: u64,
+    pub len: u64,
+}
+
+/// `nizwarf_call`.
+#[repr(C)]
+#[derive(Clone, Copy, Debug)]
+pub(crate) struct RawCall {
+    pub unique: u64,
+    pub options: u64,
+    pub room: u64,
+    pub node: u64,
+    pub handle: u64,
+    pub offset: u64,
+    pub length: u64,
+    pub lock_owner: u64,
+    pub other_node: u64,
+    pub other_handle: u64,
+    pub other_offset: u64,
+    pub name: Range,
+    pub other_name: Range,
+    pub data: Range,
+    pub context_name: Range,
+    pub context: Range,
+    pub attr: SetattrIn,
+    pub call: u32,
+    pub answer: u32,
+    pub has: u32,
+    pub uid: u32,
+    pub gid: u32,
+    pub pid: i32,
+    pub flags: u32,
+    pub mode: u32,
+    pub umask: u32,
+    pub rdev: u32,
+    pub size: u32,
+    pub more: u32,
+    pub group: u32,
+    pub readahead: u32,
+}
+
+/// `nizwarf_entry`.
+#[repr(C)]
+#[derive(Clone, Copy, Debug)]
+pub(crate) struct RawEntry {
+    pub node: u64,
+    generation: u64,
+    entry_seconds: u64,
+    pub attr_seconds: u64,
+    entry_nanoseconds: u32,
+    pub attr_nanoseconds: u32,
+    pub attr: Attr,
+}
+
+/// `nizwarf_answer` up to its statistics, which is what the library reads: texts and items come to it
+/// by themselves.
+#[repr(C)]
+#[derive(Clone, Copy, Debug)]
+pub(crate) struct RawAnswer {
+    pub error: i32,
+    pub has_handle: u32,
+    pub handle: u64,
+    pub count: u64,
+    pub open_flags: u32,
+    pub has_count: u32,
+    pub entry: RawEntry,
+    pub statfs: Statvfs,
+}
+
+/// An item of a directory, as [`To<Directory>`](crate::To) is answered with.
+///
+/// ```
+/// use nizwarf::Item;
+/// use std::ffi::CString;
+///
+/// let name = CString::new("hello").unwrap();
+/// let item = Item::new(2, 1, nizwarf::DT_REG, &name);
+/// assert_eq!(item.record_len(false), 32);
+/// assert_eq!(item.record_len(true), 160);
+/// ```
+#[repr(C)]
+#[derive(Clone, Copy)]
+pub struct Item<'a> {
+    ino: u64,
+    offset: u64,
+    name: *const u8,
+    name_size: usize,
+    entry: RawEntry,
+    kind: u32,
+    error: i32,
+    lent: PhantomData<&'a CStr>,
+}
+
+/// `nizwarf_told`.
+#[repr(C)]
+#[derive(Clone, Copy, Debug, Default)]
+pub(crate) struct RawTold {
+    pub len: u64,
+    pub put: u64,
+    pub options: u64,
+    pub give_back: u64,
+    pub taken: u64,
+    pub interrupts: u64,
+}
+
+// (`IoSlice` is promised to be laid out as `iovec`, which is laid out as `nizwarf_segment`.)
+extern "C" {
+    fn nizwarf_ask_at(
+        slot: *mut RawSlot,
+        session: *const RawSession,
+        request: *const IoSlice<'_>,
+        segments: usize,
+        room: usize,
+        call: *mut RawCall,
+        told: *mut RawTold,
+    ) -> i32;
+    fn nizwarf_answer_at(
+        slot: *mut RawSlot,
+        session: *const RawSession,
+        call: *const RawCall,
+        answer: *const RawAnswer,
+        text: *const u8,
+        text_len: usize,
+        items: *const Item<'_>,
+        items_len: usize,
+        told: *mut RawTold,
+    ) -> i32;
+    fn nizwarf_copy_slot_at(
+        slot: *mut RawSlot,
+        at: usize,
+        piece: *mut u8,
+        piece_len: usize,
+    ) -> usize;
+    fn nizwarf_end_slot_at(slot: *mut RawSlot) -> i32;
+}
+
+/// The answer of the library to a request that asks for a call.
+pub(crate) const ASKED: i32 = 15;
+
+impl RawCall {
+    /// No call.
+    pub const NONE: Self = Self {
+        unique: 0,
+        options: 0,
+        room: 0,
+        node: 0,
+        handle: 0,
+        offset: 0,
+        length: 0,
+        lock_owner: 0,
+        other_node: 0,
+        other_handle: 0,
+        other_offset: 0,
+        name: Range { at: 0, len: 0 },
+        other_name: Range { at: 0, len: 0 },
+        data: Range { at: 0, len: 0 },
+        context_name: Range { at: 0, len: 0 },
+        context: Range { at: 0, len: 0 },
+        attr: SetattrIn::NONE,
+        call: 0,
+        answer: 0,
+        has: 0,
+        uid: 0,
+        gid: 0,
+        pid: 0,
+        flags: 0,
+        mode: 0,
+        umask: 0,
+        rdev: 0,
+        size: 0,
+        more: 0,
+        group: 0,
+        readahead: 0,
+    };
+}
+
+impl RawEntry {
+    /// No entry.
+    pub const NONE: Self = Self {
+        node: 0,
+        generation: 0,
+        entry_seconds: 0,
+        attr_seconds: 0,
+        entry_nanoseconds: 0,
+        attr_nanoseconds: 0,
+        attr: Attr::NONE,
+    };
+}
+
+impl From<&Entry> for RawEntry {
+    fn from(entry: &Entry) -> Self {
+        Self {
+            node: entry.inode,
+            generation: entry.generation,
+            entry_seconds: entry.entry_timeout.as_secs(),
+            attr_seconds: entry.attr_timeout.as_secs(),
+            entry_nanoseconds: entry.entry_timeout.subsec_nanos(),
+            attr_nanoseconds: entry.attr_timeout.subsec_nanos(),
+            attr: entry.attr,
+        }
+    }
+}
+
+impl RawAnswer {
+    /// An answer of zeros: what was asked is done.
+    pub const DONE: Self = Self {
+        error: 0,
+        has_handle: 0,
+        handle: 0,
+        count: 0,
+        open_flags: 0,
+        has_count: 0,
+        entry: RawEntry::NONE,
+        statfs: Statvfs::NONE,
+    };
+
+    /// A fault. An error without a number is the fault EIO, which the library says by -1.
+    pub fn fault(error: &io::Error) -> Self {
+        Self {
+            error: error.raw_os_error().filter(|number| *number > 0).unwrap_or(-1),
+            ..Self::DONE
+        }
+    }
+}
+
+impl<'a> Item<'a> {
+    const NONE: Item<'static> = Item {
+        ino: 0,
+        offset: 0,
+        name: ptr::null(),
+        name_size: 0,
+        entry: RawEntry::NONE,
+        kind: 0,
+        error: 0,
+        lent: PhantomData,
+    };
+
+    /// An item with what `readdir(3)` tells of it: `ino` is the number that programs see, `offset` that
+    /// of a reading that goes on behind it, `kind` its type, as [`DT_REG`](crate::DT_REG).
+    #[must_use]
+    pub fn new(ino: u64, offset: u64, kind: u32, name: &'a CStr) -> Self {
+        let bytes = name.to_bytes_with_nul();
+        Item { ino, offset, name: bytes.as_ptr(), name_size: bytes.len(), kind, ..Item::NONE }
+    }
+
+    /// The item with what a lookup of its name answered, as READDIRPLUS wants it. Of `.` and `..` there
+    /// is no lookup, and what is given here is not looked at.
+    #[must_use]
+    pub fn looked_up(self, result: &io::Result<Entry>) -> Self {
+        match result {
+            Ok(entry) => Item { entry: entry.into(), ..self },
+            Err(error) => Item { error: RawAnswer::fault(error).error, ..self },
+        }
+    }
+
+    /// The name.
+    #[must_use]
+    pub fn name(&self) -> &'a CStr {
+        // SAFETY: `new` got both from such a name, which is lent for `'a`, and nothing changes them.
+        unsafe {
+            let bytes = std::slice::from_raw_parts(self.name, self.name_size);
+            CStr::from_bytes_with_nul_unchecked(bytes)
+        }
+    }
+
+    /// Whether it is `.` or `..`.
+    #[must_use]
+    pub fn is_dot(&self) -> bool {
+        matches!(self.name().to_bytes(), b"." | b"..")
+    }
+
+    /// How many bytes it takes of the `size` of a READDIR, or of a READDIRPLUS.
+    #[must_use]
+    pub fn record_len(&self, plus: bool) -> usize {
+        let entry = if plus { 128 } else { 0 };
+        entry + ((24 + self.name_size - 1 + 7) & !7)
+    }
+
+    /// The node that it holds a lookup of, where it has one to give back.
+    pub(crate) fn held(&self) -> Option<u64> {
+        let held = self.error == 0 && self.entry.node != 0 && !self.is_dot();
+        held.then_some(self.entry.node)
+    }
+}
+
+impl fmt::Debug for Item<'_> {
+    fn fmt(&self, f: &mut fmt::Formatter<'_>) -> fmt::Result {
+        f.debug_struct("Item")
+            .field("name", &self.name())
+            .field("ino", &self.ino)
+            .field("offset", &self.offset)
+            .field("node", &self.entry.node)
+            .field("error", &self.error)
+            .finish_non_exhaustive()
+    }
+}
+
+// SAFETY: its pointer stands for a `&CStr`, which may go to other threads and be read there.
+unsafe impl Send for Item<'_> {}
+// SAFETY: as above.
+unsafe impl Sync for Item<'_> {}
+
+/// Memory that the library and this crate use for one request at a time.
+///
+/// It holds nothing from one call to the next, so one for each thread will do, with any number of
+/// requests in flight. It grows up to the longest room that it was lent to.
+///
+/// ```
+/// use nizwarf::{Asked, Refusal, Session, Slot};
+///
+/// let mut slot = Slot::new();
+/// match slot.ask(&Session::default(), &[], 4096) {
+///     Asked::Finished(done) => assert_eq!(done.outcome, Err(Refusal::DecodeMessage)),
+///     Asked::Call(_) => unreachable!("no bytes are no request"),
+/// }
+/// ```
+pub struct Slot {
+    raw: RawSlot,
+    reply: Vec<u8>,
+}
+
+// SAFETY: what it points to is memory of `malloc`, which no thread is bound to, and of which the
+// library keeps no other pointer.
+unsafe impl Send for Slot {}
+// SAFETY: a `&Slot` gives nothing of it away: each function of the library wants a `&mut Slot`.
+unsafe impl Sync for Slot {}
+
+impl Slot {
+    /// A slot without memory. It gets some by its first request.
+    #[must_use]
+    pub const fn new() -> Self {
+        Slot { raw: RawSlot { at: ptr::null_mut() }, reply: Vec::new() }
+    }
+
+    pub(crate) fn ask_raw(
+        &mut self,
+        session: &RawSession,
+        request: &[IoSlice<'_>],
+        room: usize,
+    ) -> (i32, RawCall, RawTold) {
+        let mut call = RawCall::NONE;
+        let mut told = RawTold { options: session.options, ..RawTold::default() };
+        // SAFETY: all are lent for the call and none is null; the slices are initialised bytes that do not
+        // change while they are borrowed; `call` and `told` come as the header says, as zeros but for
+        // the options.
+        let code = unsafe {
+            nizwarf_ask_at(
+                &mut self.raw,
+                session,
+                request.as_ptr(),
+                request.len(),
+                room,
+                &mut call,
+                &mut told,
+            )
+        };
+        (code, call, told)
+    }
+
+    pub(crate) fn answer_raw(
+        &mut self,
+        session: &RawSession,
+        call: &RawCall,
+        answer: &RawAnswer,
+        text: &[u8],
+        items: &[Item<'_>],
+    ) -> (i32, RawTold) {
+        let mut told = RawTold { options: call.options, ..RawTold::default() };
+        // SAFETY: all are lent for the call and none is null, where a length is 0 either; of the answer
+        // the library reads as much as there is; names of items are lent for longer than the items.
+        let code = unsafe {
+            nizwarf_answer_at(
+                &mut self.raw,
+                session,
+                call,
+                answer,
+                text.as_ptr(),
+                text.len(),
+                items.as_ptr(),
+                items.len(),
+                &mut told,
+            )
+        };
+        (code, told)
+    }
+
+    /// Copies bytes of the reply from a place on, and gives how many.
+    pub(crate) fn copy(&mut self, at: usize, piece: &mut [u8]) -> usize {
+        // SAFETY: the piece is lent for the call, and has room for as many bytes as it says.
+        unsafe { nizwarf_copy_slot_at(&mut self.raw, at, piece.as_mut_ptr(), piece.len()) }
+    }
+
+    /// The first bytes of the reply, in memory of the slot.
+    pub(crate) fn lend(&mut self, len: usize) -> &[u8] {
+        let mut reply = std::mem::take(&mut self.reply);
+        if reply.len() < len {
+            reply.resize(len, 0);
+        }
+        let copied = self.copy(0, &mut reply[..len]);
+        self.reply = reply;
+        &self.reply[..copied]
+    }
+}
+
+impl Default for Slot {
+    fn default() -> Self {
+        Self::new()
+    }
+}
+
+impl fmt::Debug for Slot {
+    fn fmt(&self, f: &mut fmt::Formatter<'_>) -> fmt::Result {
+        f.debug_struct("Slot").finish_non_exhaustive()
+    }
+}
+
+impl Drop for Slot {
+    fn drop(&mut self) {
+        // SAFETY: the slot is lent for the call, and used no more. Whether it had memory does not matter.
+        unsafe { nizwarf_end_slot_at(&mut self.raw) };
+    }
+}
+
+/// Where fields stand, held against the numbers of the header.
+#[allow(dead_code)] // (older compilers do not see what constants without a name use)
+mod layout {
+    use super::{
+        Attr, IoSlice, Item, Range, RawAnswer, RawCall, RawEntry, RawSession, RawSlot, RawTold,
+        SetattrIn, Statvfs,
+    };
+    use std::mem::{size_of, transmute};
+
+    /// Holds that a struct has a size and no padding, and that fields of it begin where the header says: a
+    /// value with a 1 in that field alone has its first 1 there.
+    macro_rules! laid_out {
+        ($name:ty, $size:literal, $none:expr $(, $field:ident: $one:expr => $at:literal)*) => {
+            $(const _: () = {
+                // SAFETY: a struct without padding is its bytes, and another size does not compile.
+                let bytes: [u8; $size] = unsafe { transmute::<$name, _>({
+                    let mut one = $none;
+                    one.$field = $one;
+                    one
+                }) };
+                let mut first = 0;
+                while bytes[first] == 0 {
+                    first += 1;
+                }
+                assert!(first == $at && bytes[first] == 1);
+            };)*
+        };
+    }
+
+    const RANGE: Range = Range { at: 1, len: 0 };
+    const ATTR: Attr = Attr { ino: 1, ..Attr::NONE };
+    const TOLD: RawTold =
+        RawTold { len: 0, put: 0, options: 0, give_back: 0, taken: 0, interrupts: 0 };
+    const SESSION: RawSession = RawSession { options: 0, page_size: 0, max_buffer: 0 };
+
+    laid_out!(RawSession, 16, SESSION, options: 1 => 0, page_size: 1 => 8, max_buffer: 1 => 12);
+    laid_out!(SetattrIn, 88, SetattrIn::NONE, valid: 1 => 0, fh: 1 => 8, size: 1 => 16,
+        lock_owner: 1 => 24, atime: 1 => 32, mtime: 1 => 40, ctime: 1 => 48, atimensec: 1 => 56,
+        mtimensec: 1 => 60, ctimensec: 1 => 64, mode: 1 => 68, uid: 1 => 76, gid: 1 => 80,
+        unused5: 1 => 84);
+    laid_out!(RawCall, 312, RawCall::NONE, unique: 1 => 0, options: 1 => 8, room: 1 => 16, node: 1 => 24,
+        handle: 1 => 32, offset: 1 => 40, length: 1 => 48, lock_owner: 1 => 56, other_node: 1 => 64,
+        other_handle: 1 => 72, other_offset: 1 => 80, name: RANGE => 88, other_name: RANGE => 104,
+        data: RANGE => 120, context_name: RANGE => 136, context: RANGE => 152,
+        attr: SetattrIn { valid: 1, ..SetattrIn::NONE } => 168, call: 1 => 256, answer: 1 => 260,
+        has: 1 => 264, uid: 1 => 268, gid: 1 => 272, pid: 1 => 276, flags: 1 => 280, mode: 1 => 284,
+        umask: 1 => 288, rdev: 1 => 292, size: 1 => 296, more: 1 => 300, group: 1 => 304,
+        readahead: 1 => 308);
+    laid_out!(Attr, 88, Attr::NONE, ino: 1 => 0, size: 1 => 8, blocks: 1 => 16, atime: 1 => 24,
+        mtime: 1 => 32, ctime: 1 => 40, atimensec: 1 => 48, mtimensec: 1 => 52, ctimensec: 1 => 56,
+        mode: 1 => 60, nlink: 1 => 64, uid: 1 => 68, gid: 1 => 72, rdev: 1 => 76, blksize: 1 => 80,
+        flags: 1 => 84);
+    laid_out!(RawEntry, 128, RawEntry::NONE, node: 1 => 0, generation: 1 => 8, entry_seconds: 1 => 16,
+        attr_seconds: 1 => 24, entry_nanoseconds: 1 => 32, attr_nanoseconds: 1 => 36, attr: ATTR => 40);
+    laid_out!(Statvfs, 64, Statvfs::NONE, f_bsize: 1 => 0, f_frsize: 1 => 8, f_blocks: 1 => 16,
+        f_bfree: 1 => 24, f_bavail: 1 => 32, f_files: 1 => 40, f_ffree: 1 => 48, f_namemax: 1 => 56);
+    laid_out!(Item<'static>, 168, Item::NONE, ino: 1 => 0, offset: 1 => 8, name: 1 as *const u8 => 16,
+        name_size: 1 => 24, entry: RawEntry { node: 1, ..RawEntry::NONE } => 32, kind: 1 => 160,
+        error: 1 => 164);
+    laid_out!(RawAnswer, 224, RawAnswer::DONE, error: 1 => 0, has_handle: 1 => 4, handle: 1 => 8,
+        count: 1 => 16, open_flags: 1 => 24, has_count: 1 => 28,
+        entry: RawEntry { node: 1, ..RawEntry::NONE } => 32,
+        statfs: Statvfs { f_bsize: 1, ..Statvfs::NONE } => 160);
+    laid_out!(RawTold, 48, TOLD, len: 1 => 0, put: 1 => 8, options: 1 => 16, give_back: 1 => 24,
+        taken: 1 => 32, interrupts: 1 => 40);
+    const _: () = assert!(size_of::<RawSlot>() == 8);
+    const _: () = assert!(size_of::<IoSlice<'_>>() == 16);
+}

@@ -1,0 +1,382 @@
+//! Replies, held against bytes that were put together by hand from the protocol.
+
+mod common;
+
+use common::{fault, reply, session, words, Request};
+use nizwarf::{
+    Asked, Attr, Call, Entry, FsOptions, GetxattrReply, Item, ListxattrReply, OpenOptions, Refusal,
+    Slot, Statvfs, Told, DT_DIR, DT_REG,
+};
+use std::ffi::CString;
+use std::io::{self, IoSlice, IoSliceMut};
+use std::time::Duration;
+
+/// What came of an answer: how it ended, what was given back, how many items were taken, and the options.
+#[derive(Debug, PartialEq)]
+struct Ended {
+    outcome: Result<(), Refusal>,
+    given_back: Vec<u64>,
+    taken: usize,
+    options: Option<FsOptions>,
+    len: usize,
+    bytes: Vec<u8>,
+}
+
+/// Asks for the call of a request with so much room, and answers it.
+fn answer(
+    request: &[u8],
+    room: usize,
+    answer: impl for<'s> FnOnce(&'s mut Slot, Call<'_>) -> Told<'s>,
+) -> Ended {
+    let mut slot = Slot::new();
+    let slices = [IoSlice::new(request)];
+    let told = match slot.ask(&session(FsOptions::empty()), &slices, room) {
+        Asked::Call(pending) => answer(&mut slot, pending.call),
+        Asked::Finished(done) => panic!("{done:?}"),
+    };
+    let (outcome, taken, options) = (told.outcome, told.taken, told.options);
+    let mut given_back = Vec::new();
+    let mut reply = told.give_back(|node| given_back.push(node));
+    let len = reply.len();
+    let bytes = reply.bytes().to_vec();
+    // A copy is the same bytes, and leaves what is behind them.
+    let mut copy = vec![0xaa; room + 9];
+    let (first, second) = copy.split_at_mut(room.min(5));
+    let mut pieces = [first, &mut [], second].map(IoSliceMut::new);
+    assert_eq!(reply.copy_to(&mut pieces), len);
+    assert!(copy.starts_with(&bytes) && copy[bytes.len()..].iter().all(|byte| *byte == 0xaa));
+    Ended { outcome, given_back, taken, options, len, bytes }
+}
+
+/// An end with a reply, and nothing besides.
+fn replied(bytes: Vec<u8>) -> Ended {
+    Ended {
+        outcome: Ok(()),
+        given_back: Vec::new(),
+        taken: 0,
+        options: None,
+        len: bytes.len(),
+        bytes,
+    }
+}
+
+/// Asks with room enough, and answers by the field `to` of a call.
+macro_rules! answers {
+    ($request:expr, $call:ident, $slot:ident, $to:ident => $answer:expr) => {
+        answer(&$request.done(), 4096, |$slot, call| match call {
+            Call::$call { $to, .. } => $answer,
+            other => panic!("{other:?}"),
+        })
+    };
+}
+
+const ATTR: Attr = Attr {
+    ino: 21,
+    size: 22,
+    blocks: 23,
+    atime: 24,
+    mtime: 25,
+    ctime: 26,
+    atimensec: 27,
+    mtimensec: 28,
+    ctimensec: 29,
+    mode: 0o100_644,
+    nlink: 31,
+    uid: 32,
+    gid: 33,
+    rdev: 34,
+    blksize: 35,
+    flags: 1,
+};
+
+/// `fuse_attr` of it, 88 bytes.
+fn attr_bytes() -> Vec<u8> {
+    words(&[21, 0, 22, 0, 23, 0, 24, 0, 25, 0, 26, 0, 27, 28, 29, 0o100_644, 31, 32, 33, 34, 35, 1])
+}
+
+fn entry(inode: u64) -> Entry {
+    Entry {
+        inode,
+        generation: 3,
+        attr: ATTR,
+        attr_timeout: Duration::new(5, 6),
+        entry_timeout: Duration::new(1 << 32, 999_999_999),
+    }
+}
+
+/// `fuse_entry_out` of it, 128 bytes.
+fn entry_bytes(inode: u32) -> Vec<u8> {
+    [words(&[inode, 0, 3, 0, 0, 1, 5, 0, 999_999_999, 6]), attr_bytes()].concat()
+}
+
+fn lookup() -> Request {
+    Request::new(1, 1).name("a")
+}
+
+fn os_error<T>(number: i32) -> io::Result<T> {
+    Err(io::Error::from_raw_os_error(number))
+}
+
+#[test]
+fn entries_and_attributes() {
+    let made = answers!(lookup(), Lookup, slot, to => to.answer(slot, Ok(entry(9))));
+    assert_eq!(made, replied(reply(&entry_bytes(9))));
+    let getattr = Request::new(3, 1).u32(0).u32(0).u64(0);
+    let hold = Duration::new(7, 8);
+    let made = answers!(getattr, Getattr, slot, to => to.answer(slot, Ok((ATTR, hold))));
+    assert_eq!(made, replied(reply(&[words(&[7, 0, 8, 0]), attr_bytes()].concat())));
+    let create = Request::new(35, 1).u32(1).u32(2).u32(0).u32(0).name("a");
+    let open = OpenOptions::KEEP_CACHE | OpenOptions::NOFLUSH;
+    let made = answers!(create, Create, slot, to =>
+        to.answer(slot, Ok((entry(9), Some(10), open))));
+    assert_eq!(made, replied(reply(&[entry_bytes(9), words(&[10, 0, 0x22, 0])].concat())));
+}
+
+#[test]
+fn small_answers() {
+    let open = || Request::new(14, 1).u32(0).u32(0);
+    let none = OpenOptions::empty();
+    let made = answers!(open(), Open, slot, to =>
+        to.answer(slot, Ok((Some(1 << 33), OpenOptions::DIRECT_IO))));
+    assert_eq!(made, replied(reply(&words(&[0, 2, 1, 0]))));
+    let made = answers!(open(), Open, slot, to => to.answer(slot, Ok((None, none))));
+    assert_eq!(made, replied(reply(&words(&[0, 0, 0, 0]))));
+    let access = Request::new(34, 1).u32(4).u32(0);
+    let made = answers!(access, Access, slot, to => to.answer(slot, Ok(())));
+    assert_eq!(made, replied(reply(&[])));
+    let lseek = Request::new(46, 1).u64(8).u64(9).u32(4).u32(0);
+    let made = answers!(lseek, Lseek, slot, to => to.answer(slot, Ok(1 << 40)));
+    assert_eq!(made, replied(reply(&words(&[0, 256]))));
+    let statfs = Statvfs {
+        f_bsize: 1,
+        f_frsize: 2,
+        f_blocks: 3,
+        f_bfree: 4,
+        f_bavail: 5,
+        f_files: 6,
+        f_ffree: 7,
+        f_namemax: 8,
+    };
+    let made = answers!(Request::new(17, 1), Statfs, slot, to => to.answer(slot, Ok(statfs)));
+    let body = words(&[3, 0, 4, 0, 5, 0, 6, 0, 7, 0, 1, 8, 2, 0, 0, 0, 0, 0, 0, 0]);
+    assert_eq!(made, replied(reply(&body)));
+}
+
+#[test]
+fn texts_and_counts() {
+    let made = answers!(Request::new(5, 1), Readlink, slot, to => to.answer(slot, Ok(b"to")));
+    assert_eq!(made, replied(reply(b"to")));
+    let getxattr = |size| Request::new(22, 1).u32(size).u32(0).name("a");
+    let value = || Ok(GetxattrReply::Value(b"value".to_vec()));
+    let made = answers!(getxattr(9), Getxattr, slot, to => to.answer(slot, value()));
+    assert_eq!(made, replied(reply(b"value")));
+    let count = || Ok(GetxattrReply::Count(5));
+    let made = answers!(getxattr(0), Getxattr, slot, to => to.answer(slot, count()));
+    assert_eq!(made, replied(reply(&words(&[5, 0]))));
+    let listxattr = Request::new(23, 1).u32(9).u32(0);
+    let names = || Ok(ListxattrReply::Names(b"a\0b\0".to_vec()));
+    let made = answers!(listxattr, Listxattr, slot, to => to.answer(slot, names()));
+    assert_eq!(made, replied(reply(b"a\0b\0")));
+}
+
+#[test]
+fn faults() {
+    for (number, expected) in [(2, 2), (i32::MAX, i32::MAX), (0, 5), (-2, 5)] {
+        let made = answers!(lookup(), Lookup, slot, to => to.answer(slot, os_error(number)));
+        assert_eq!(made, replied(fault(expected)));
+    }
+    let nameless = io::Error::from(io::ErrorKind::NotFound);
+    let made = answers!(lookup(), Lookup, slot, to => to.fail(slot, &nameless));
+    assert_eq!(made, replied(fault(5)));
+    let made = answers!(Request::new(51, 1), Tmpfile, slot, to =>
+        to.fail(slot, &io::Error::from_raw_os_error(95)));
+    assert_eq!(made, replied(fault(95)));
+    // (of a lock only a fault is replied)
+    let made = answers!(Request::new(31, 1), Getlk, slot, to => to.answer(slot, os_error(38)));
+    assert_eq!(made, replied(fault(38)));
+    let made = answers!(Request::new(31, 1), Getlk, slot, to => to.answer(slot, Ok(())));
+    assert_eq!(made, replied(Vec::new()));
+    // (and of a FORGET nothing)
+    let made = answers!(Request::new(2, 5).u64(1), Forget, slot, to => to.done(slot));
+    assert_eq!(made, replied(Vec::new()));
+    let made = answers!(Request::new(2, 5).u64(1), Forget, slot, to => to.fail(slot, &nameless));
+    assert_eq!(made, replied(Vec::new()));
+}
+
+/// A READ of so many bytes.
+fn read(size: u32) -> Request {
+    Request::new(15, 2).u64(8).u64(0).u32(size).u32(0).u64(0).u32(0).u32(0)
+}
+
+#[test]
+fn data_of_a_read_stand_in_the_room_already() {
+    let request = read(100).done();
+    let slices = [IoSlice::new(&request)];
+    let mut slot = Slot::new();
+    let mut room = vec![0xaa; 64];
+    if let Some(Call::Read { to, .. }) =
+        asked(slot.ask(&session(FsOptions::empty()), &slices, room.len()))
+    {
+        assert_eq!(to.most(), 48);
+        room[16..20].copy_from_slice(b"data");
+        let mut reply = to.answer(&mut slot, Ok(4)).reply();
+        assert_eq!(reply.bytes().len(), 16);
+        assert_eq!(reply.copy_to(&mut [IoSliceMut::new(&mut room)]), 20);
+        assert_eq!(room[..20], common::reply(b"data"));
+        assert!(room[20..].iter().all(|byte| *byte == 0xaa));
+    } else {
+        panic!("no READ");
+    }
+    // (a count that can't be is the fault EIO)
+    let made = answers!(read(100), Read, slot, to => to.answer(slot, Ok(101)));
+    assert_eq!(made, replied(fault(5)));
+}
+
+/// The call, if there is one.
+fn asked<'r>(asked: Asked<'_, 'r>) -> Option<Call<'r>> {
+    match asked {
+        Asked::Call(pending) => Some(pending.call),
+        Asked::Finished(_) => None,
+    }
+}
+
+#[test]
+fn a_write_says_how_much() {
+    let write = || Request::new(16, 2).u64(8).u64(0).u32(4).bytes(&[0; 20]).bytes(b"data");
+    let made = answers!(write(), Write, slot, to => to.answer(slot, Ok(3)));
+    assert_eq!(made, replied(reply(&words(&[3, 0]))));
+    let made = answers!(write(), Write, slot, to => to.answer(slot, Ok(1 << 32)));
+    assert_eq!(made, replied(fault(5)));
+}
+
+#[test]
+fn options_are_told_after_init_and_destroy() {
+    let init = Request::new(26, 0).u32(7).u32(38).u32(131_072).u32(1 << 13 | 1 << 14 | 1);
+    let want = FsOptions::DO_READDIRPLUS | FsOptions::POSIX_ACL;
+    let made = answers!(init.clone(), Init, slot, to => to.answer(slot, Ok(want)));
+    let agreed = FsOptions::DO_READDIRPLUS | FsOptions::ASYNC_READ;
+    // Version 7.38, the readahead, flags, 65535 in the background, congested at 49149, payloads of a
+    // mebibyte, times in nanoseconds, 256 pages.
+    let background = 65535 | 49149 << 16;
+    let mut body = words(&[7, 38, 131_072, 1 << 13 | 1, background, 1 << 20, 1, 256]);
+    body.resize(64, 0);
+    assert_eq!(made, Ended { options: Some(agreed), ..replied(reply(&body)) });
+    let made = answers!(init, Init, slot, to => to.answer(slot, os_error(13)));
+    assert_eq!(made, Ended { options: Some(FsOptions::empty()), ..replied(fault(13)) });
+    let made = answers!(Request::new(38, 0), Destroy, slot, to => to.done(slot));
+    assert_eq!(made, Ended { options: Some(FsOptions::empty()), ..replied(Vec::new()) });
+}
+
+#[test]
+fn an_entry_that_does_not_fit_is_given_back() {
+    let nothing = |given_back| Ended {
+        outcome: Err(Refusal::EncodeMessage),
+        given_back,
+        ..replied(Vec::new())
+    };
+    for room in 0..144 {
+        let made = answer(&lookup().done(), room, |slot, call| match call {
+            Call::Lookup { to, .. } => to.answer(slot, Ok(entry(9))),
+            other => panic!("{other:?}"),
+        });
+        assert_eq!(made, nothing(vec![9]));
+    }
+    // (node 0 counts no lookup, and a fault no entry)
+    let made = answer(&lookup().done(), 143, |slot, call| match call {
+        Call::Lookup { to, .. } => to.answer(slot, Ok(entry(0))),
+        other => panic!("{other:?}"),
+    });
+    assert_eq!(made, nothing(Vec::new()));
+    let made =
+        answer(&lookup().done(), 15, |slot, call| call.fail(slot, &io::ErrorKind::Other.into()));
+    assert_eq!(made, nothing(Vec::new()));
+}
+
+#[test]
+#[should_panic(expected = "a lookup of node 9 is to be given back")]
+fn what_is_to_be_given_back_is_not_forgotten() {
+    let request = lookup().done();
+    let slices = [IoSlice::new(&request)];
+    let mut slot = Slot::new();
+    if let Some(Call::Lookup { to, .. }) =
+        asked(slot.ask(&session(FsOptions::empty()), &slices, 100))
+    {
+        let _ = to.answer(&mut slot, Ok(entry(9))).reply();
+    }
+}
+
+/// A READDIR or a READDIRPLUS of so many bytes.
+fn readdir(opcode: u32, size: u32) -> Request {
+    Request::new(opcode, 1).u64(8).u64(0).u32(size).u32(0).u64(0).u32(0).u32(0)
+}
+
+/// `fuse_dirent` of 24 bytes, and the name up to a multiple of 8.
+fn record(ino: u32, offset: u32, kind: u32, name: &str) -> Vec<u8> {
+    let len = u32::try_from(name.len()).unwrap();
+    let mut bytes = [words(&[ino, 0, offset, 0, len, kind]), name.as_bytes().to_vec()].concat();
+    bytes.resize((bytes.len() + 7) / 8 * 8, 0);
+    bytes
+}
+
+#[test]
+fn directories_end_where_an_item_does_not_fit() {
+    let names = [".", "..", "name", "longer-name"].map(|name| CString::new(name).unwrap());
+    let items: Vec<_> = names
+        .iter()
+        .zip([DT_DIR, DT_DIR, DT_REG, DT_REG])
+        .zip(10..)
+        .map(|((name, kind), ino)| Item::new(ino, ino - 9, kind, name))
+        .collect();
+    let records = [
+        record(10, 1, 4, "."),
+        record(11, 2, 4, ".."),
+        record(12, 3, 8, "name"),
+        record(13, 4, 8, "longer-name"),
+    ];
+    // 32, 32, 32 and 40 bytes
+    for (size, taken) in [(31, 0), (32, 1), (95, 2), (96, 3), (135, 3), (136, 4), (4000, 4)] {
+        let made = answers!(readdir(28, size), Readdir, slot, to => to.answer(slot, Ok(&items)));
+        assert_eq!(made, Ended { taken, ..replied(reply(&records[..taken].concat())) });
+    }
+}
+
+#[test]
+fn readdirplus_gives_back_what_does_not_fit() {
+    let names = [".", "a", "b", "c", "d"].map(|name| CString::new(name).unwrap());
+    let items = [
+        Item::new(10, 1, DT_DIR, &names[0]).looked_up(&Ok(entry(99))),
+        Item::new(11, 2, DT_REG, &names[1]).looked_up(&Ok(entry(51))),
+        Item::new(12, 3, DT_REG, &names[2]).looked_up(&Ok(entry(52))),
+        Item::new(13, 4, DT_REG, &names[3]).looked_up(&Ok(entry(0))),
+        Item::new(14, 5, DT_REG, &names[4]).looked_up(&os_error(5)),
+    ];
+    assert!(items[0].is_dot() && !items[1].is_dot());
+    assert_eq!(items[2].name(), names[2].as_c_str());
+    // (that of `.` has an entry of zeros, but for its number and type)
+    let mut dot = vec![0; 128];
+    dot[40] = 10;
+    dot[100..104].copy_from_slice(&0o40_000_u32.to_le_bytes());
+    let records = [
+        [dot, record(10, 1, 4, ".")].concat(),
+        [entry_bytes(51), record(11, 2, 8, "a")].concat(),
+        [entry_bytes(52), record(12, 3, 8, "b")].concat(),
+        [entry_bytes(0), record(13, 4, 8, "c")].concat(),
+    ];
+    for (size, taken, given_back) in [
+        (159, 0, vec![51, 52]),
+        (160, 1, vec![51, 52]),
+        (479, 2, vec![52]),
+        (480, 3, vec![]),
+        (4000, 4, vec![]),
+    ] {
+        let made = answers!(readdir(44, size), Readdir, slot, to => to.answer(slot, Ok(&items)));
+        let expected = replied(reply(&records[..taken].concat()));
+        assert_eq!(made, Ended { given_back, taken, ..expected });
+    }
+    // (the error of the first lookup is the reply)
+    let made = answers!(readdir(44, 4000), Readdir, slot, to => to.answer(slot, Ok(&items[4..])));
+    assert_eq!(made, replied(fault(5)));
+    // (without PLUS no lookup is held)
+    let made = answers!(readdir(28, 31), Readdir, slot, to => to.answer(slot, Ok(&items)));
+    assert_eq!(made, replied(reply(&[])));
+}

@@ -1,0 +1,291 @@
+//! Each call, out of the bytes of a request that asks for it, in each cutting into two slices.
+
+mod common;
+
+use common::{each_cutting, words, Request, WHO};
+use nizwarf::{Call, Context, Extensions, FsOptions, SecContext, SetattrValid, SetxattrFlags};
+use std::ffi::{CStr, CString};
+
+/// Asks for the call of a request, and holds what it has: a pattern, and facts of what it binds.
+macro_rules! asks {
+    ($request:expr, $options:expr, $context:expr, $pattern:pat => $facts:expr) => {
+        each_cutting($options, &$request.done(), |context, call| match call {
+            $pattern => {
+                assert!($facts);
+                assert_eq!(context, $context);
+            }
+            other => panic!("{other:?}"),
+        })
+    };
+    ($request:expr, $pattern:pat => $facts:expr) => {
+        asks!($request, FsOptions::empty(), WHO, $pattern => $facts)
+    };
+}
+
+fn is(name: &CStr, text: &str) -> bool {
+    name.to_bytes() == text.as_bytes()
+}
+
+#[test]
+fn names() {
+    asks!(Request::new(1, 1).name("a.b"), Call::Lookup { parent: 1, name, .. } => is(&name, "a.b"));
+    asks!(Request::new(1, 1).name(""), Call::Lookup { name, .. } => is(&name, ""));
+    asks!(Request::new(10, 2).name("x"), Call::Unlink { parent: 2, name, .. } => is(&name, "x"));
+    asks!(Request::new(11, 2).name("x"), Call::Rmdir { parent: 2, name, .. } => is(&name, "x"));
+    asks!(
+        Request::new(12, 2).u64(3).name("old").name("new"),
+        Call::Rename { parent: 2, name, new_parent: 3, new_name, flags: 0, .. }
+            => is(&name, "old") && is(&new_name, "new")
+    );
+    // RENAME2: its flags are cut to NOREPLACE, EXCHANGE and WHITEOUT
+    asks!(
+        Request::new(45, 2).u64(3).u32(0xff).u32(0).name("old").name("new"),
+        Call::Rename { parent: 2, name, new_parent: 3, new_name, flags: 7, .. }
+            => is(&name, "old") && is(&new_name, "new")
+    );
+    asks!(
+        Request::new(13, 4).u64(9).name("more"),
+        Call::Link { node: 9, new_parent: 4, new_name, .. } => is(&new_name, "more")
+    );
+}
+
+#[test]
+fn new_nodes() {
+    let none = Extensions::default();
+    asks!(
+        Request::new(6, 2).name("link").name("to/where"),
+        Call::Symlink { linkname, parent: 2, name, extensions, .. }
+            => is(&linkname, "to/where") && is(&name, "link") && extensions == none
+    );
+    asks!(
+        Request::new(8, 2).u32(0o10644).u32(5).u32(0o22).u32(0).name("pipe"),
+        Call::Mknod { parent: 2, name, mode: 0o10644, rdev: 5, umask: 0o22, extensions, .. }
+            => is(&name, "pipe") && extensions == none
+    );
+    asks!(
+        Request::new(9, 2).u32(0o755).u32(0o22).name("dir"),
+        Call::Mkdir { parent: 2, name, mode: 0o755, umask: 0o22, extensions, .. }
+            => is(&name, "dir") && extensions == none
+    );
+    asks!(
+        Request::new(35, 2).u32(0x41).u32(0o100_600).u32(0o77).u32(1).name("file"),
+        Call::Create {
+            parent: 2,
+            name,
+            mode: 0o100_600,
+            kill_priv: true,
+            flags: 0x41,
+            umask: 0o77,
+            extensions,
+            ..
+        } => is(&name, "file") && extensions == none
+    );
+}
+
+#[test]
+fn extensions_of_new_nodes() {
+    // A block of groups, 16 bytes of type 32: one group. A block of contexts, 30 bytes of type 1: one of
+    // 5 bytes, with its name.
+    let group = words(&[16, 32, 1, 4242]);
+    let context = [words(&[30, 1, 5, 0]), b"security\0value".to_vec()].concat();
+    let options = FsOptions::SECURITY_CTX | FsOptions::CREATE_SUPP_GROUP;
+    let expected = Extensions {
+        secctx: Some(SecContext {
+            name: CString::new("security").unwrap(),
+            secctx: b"value".to_vec(),
+        }),
+        sup_gid: Some(4242),
+    };
+    for blocks in [[&group[..], &context], [&context, &group]] {
+        let request = Request::new(9, 2).u32(0o755).u32(0).name("dir").bytes(&blocks.concat());
+        asks!(request, options, WHO, Call::Mkdir { extensions, .. } => extensions == expected);
+    }
+    // (what is not agreed on is not read)
+    let request = Request::new(9, 2).u32(0o755).u32(0).name("dir").bytes(&context);
+    asks!(request, Call::Mkdir { extensions, .. } => extensions == Extensions::default());
+}
+
+#[test]
+fn nodes() {
+    asks!(Request::new(2, 5).u64(3), Call::Forget { node: 5, count: 3, .. } => true);
+    asks!(
+        Request::new(3, 5).u32(0).u32(0).u64(8),
+        Call::Getattr { node: 5, handle: None, .. } => true
+    );
+    asks!(
+        Request::new(3, 5).u32(1).u32(0).u64(8),
+        Call::Getattr { node: 5, handle: Some(8), .. } => true
+    );
+    // SETATTR of mode and size by a handle, with a bit that has no name
+    let record = Request::new(4, 5).u32(0x8000 | 1 | 8 | 64).u32(0).u64(8).u64(99).u64(0);
+    let record = record.u64(1).u64(2).u64(3).u32(4).u32(5).u32(6).u32(0o600).u32(0).u32(7).u32(8);
+    asks!(
+        record.u32(0),
+        Call::Setattr { node: 5, attr, handle: Some(8), valid, .. }
+            => valid == SetattrValid::MODE | SetattrValid::SIZE
+                && (attr.size, attr.mode, attr.uid, attr.gid) == (99, 0o600, 7, 8)
+                && (attr.atime, attr.mtime, attr.ctime) == (1, 2, 3)
+                && (attr.atimensec, attr.mtimensec, attr.ctimensec) == (4, 5, 6)
+    );
+    asks!(Request::new(5, 5), Call::Readlink { node: 5, .. } => true);
+    asks!(Request::new(17, 5), Call::Statfs { node: 5, .. } => true);
+    asks!(Request::new(34, 5).u32(6).u32(0), Call::Access { node: 5, mask: 6, .. } => true);
+    asks!(Request::new(50, 5).u64(0), Call::Syncfs { node: 5, .. } => true);
+    let pairs = Request::new(42, 0).u32(2).u32(0).u64(5).u64(1).u64(6).u64(9);
+    asks!(
+        pairs,
+        Call::BatchForget { forgets, .. } => forgets.collect::<Vec<_>>() == [(5, 1), (6, 9)]
+    );
+}
+
+#[test]
+fn extended_attributes() {
+    asks!(
+        Request::new(21, 5).u32(5).u32(1).name("user.a").bytes(b"value"),
+        Call::Setxattr { node: 5, name, value, flags: 1, extra_flags, .. }
+            => is(&name, "user.a") && *value == *b"value" && extra_flags.is_empty()
+    );
+    asks!(
+        Request::new(21, 5).u32(5).u32(2).u32(3).u32(0).name("user.a").bytes(b"value"),
+        FsOptions::SETXATTR_EXT, WHO,
+        Call::Setxattr { node: 5, name, value, flags: 2, extra_flags, .. }
+            => is(&name, "user.a")
+                && *value == *b"value"
+                && extra_flags == SetxattrFlags::SETXATTR_ACL_KILL_SGID
+    );
+    asks!(
+        Request::new(22, 5).u32(100).u32(0).name("user.a"),
+        Call::Getxattr { node: 5, name, size: 100, .. } => is(&name, "user.a")
+    );
+    asks!(Request::new(23, 5).u32(0).u32(0), Call::Listxattr { node: 5, size: 0, .. } => true);
+    asks!(
+        Request::new(24, 5).name("user.a"),
+        Call::Removexattr { node: 5, name, .. } => is(&name, "user.a")
+    );
+}
+
+/// `fuse_read_in` and `fuse_write_in`.
+fn moves(opcode: u32, size: u32, its_flags: u32) -> Request {
+    Request::new(opcode, 5).u64(8).u64(1 << 40).u32(size).u32(its_flags).u64(44).u32(2).u32(0)
+}
+
+#[test]
+fn open_files() {
+    asks!(
+        Request::new(14, 5).u32(0x8001).u32(1),
+        Call::Open { node: 5, kill_priv: true, flags: 0x8001, .. } => true
+    );
+    asks!(
+        Request::new(14, 5).u32(0).u32(0),
+        Call::Open { node: 5, kill_priv: false, flags: 0, .. } => true
+    );
+    asks!(
+        moves(15, 6000, 0),
+        Call::Read { node: 5, handle: 8, size: 6000, offset: 0x100_0000_0000, lock_owner: None,
+            flags: 2, to } => to.most() == 4080 && to.room() == 4096 && to.unique() == 7
+    );
+    asks!(
+        moves(15, 60, 2),
+        Call::Read { lock_owner: Some(44), to, .. } => to.most() == 60
+    );
+    asks!(
+        moves(16, 4, 0).bytes(b"data"),
+        Call::Write { node: 5, handle: 8, data, size: 4, offset: 0x100_0000_0000,
+            lock_owner: None, delayed_write: false, kill_priv: false, flags: 2, .. }
+            => *data.to_cow() == *b"data" && data.len() == 4
+    );
+    // (what is behind `size` is not to be written)
+    asks!(
+        moves(16, 2, 7).bytes(b"data"),
+        Call::Write { data, size: 2, lock_owner: Some(44), delayed_write: true,
+            kill_priv: true, .. } => *data.to_cow() == *b"da"
+    );
+    asks!(
+        moves(16, 9, 0).bytes(b"data"),
+        Call::Write { data, size: 9, .. } => *data.to_cow() == *b"data"
+    );
+    let release = Request::new(18, 5).u64(8).u32(0x8000);
+    asks!(
+        release.clone().u32(0).u64(44),
+        Call::Release { node: 5, flags: 0x8000, handle: 8, flush: false, flock_release: false,
+            lock_owner: None, .. } => true
+    );
+    asks!(
+        release.clone().u32(1).u64(44),
+        Call::Release { flush: true, flock_release: false, lock_owner: Some(44), .. } => true
+    );
+    asks!(
+        release.u32(2).u64(44),
+        Call::Release { flush: false, flock_release: true, lock_owner: Some(44), .. } => true
+    );
+    asks!(
+        Request::new(20, 5).u64(8).u32(1).u32(0),
+        Call::Fsync { node: 5, datasync: true, handle: 8, .. } => true
+    );
+    asks!(
+        Request::new(25, 5).u64(8).u32(0).u32(0).u64(44),
+        Call::Flush { node: 5, handle: 8, lock_owner: 44, .. } => true
+    );
+    asks!(
+        Request::new(43, 5).u64(8).u64(9).u64(10).u32(3).u32(0),
+        Call::Fallocate { node: 5, handle: 8, mode: 3, offset: 9, length: 10, .. } => true
+    );
+    asks!(
+        Request::new(46, 5).u64(8).u64(9).u32(4).u32(0),
+        Call::Lseek { node: 5, handle: 8, offset: 9, whence: 4, .. } => true
+    );
+    asks!(
+        Request::new(47, 5).u64(8).u64(9).u64(10).u64(11).u64(12).u64(13).u64(14),
+        Call::CopyFileRange { node_in: 5, handle_in: 8, offset_in: 9, node_out: 10,
+            handle_out: 11, offset_out: 12, len: 13, flags: 14, .. } => true
+    );
+}
+
+#[test]
+fn directories() {
+    asks!(
+        Request::new(27, 5).u32(0x10000).u32(0),
+        Call::Opendir { node: 5, flags: 0x10000, .. } => true
+    );
+    for (opcode, is_plus) in [(28, false), (44, true)] {
+        asks!(
+            moves(opcode, 4000, 0),
+            Call::Readdir { node: 5, handle: 8, size: 4000, offset: 0x100_0000_0000, plus, .. }
+                => plus == is_plus
+        );
+    }
+    asks!(
+        Request::new(29, 5).u64(8).u32(0x10000).u32(0).u64(0),
+        Call::Releasedir { node: 5, flags: 0x10000, handle: 8, .. } => true
+    );
+    asks!(
+        Request::new(30, 5).u64(8).u32(0).u32(0),
+        Call::Fsyncdir { node: 5, datasync: false, handle: 8, .. } => true
+    );
+}
+
+#[test]
+fn sessions() {
+    // (no one asks these)
+    let no_one = Context { unique: 7, ..Context::default() };
+    let options = FsOptions::empty();
+    let first = Request::new(26, 0).u32(7).u32(38).u32(131_072);
+    // Bit 26 is no option, and without bit 30 there is no second half.
+    asks!(
+        first.clone().u32(1 << 26 | 1 << 13).bytes(&[0xff; 48]), options, no_one,
+        Call::Init { capable: FsOptions::DO_READDIRPLUS, readahead: 131_072, .. } => true
+    );
+    asks!(
+        first.u32(1 << 30).u32(1).bytes(&[0; 44]), options, no_one,
+        Call::Init { capable, .. } => capable == FsOptions::INIT_EXT | FsOptions::SECURITY_CTX
+    );
+    asks!(Request::new(38, 0), options, no_one, Call::Destroy { .. } => true);
+    asks!(Request::new(31, 5), options, no_one, Call::Getlk { .. } => true);
+    asks!(Request::new(32, 5), options, no_one, Call::Setlk { .. } => true);
+    asks!(Request::new(33, 5), options, no_one, Call::Setlkw { .. } => true);
+    asks!(Request::new(37, 5), options, no_one, Call::Bmap { .. } => true);
+    asks!(Request::new(39, 5), options, no_one, Call::Ioctl { .. } => true);
+    asks!(Request::new(40, 5), options, no_one, Call::Poll { .. } => true);
+    asks!(Request::new(41, 5), options, no_one, Call::NotifyReply { .. } => true);
+    asks!(Request::new(51, 5), options, no_one, Call::Tmpfile { .. } => true);
+}

@@ -1,0 +1,84 @@
+//! Requests written by hand from the protocol, and the heads of replies.
+#![allow(dead_code)] // (each test uses some of it)
+
+use nizwarf::{Asked, Call, Context, FsOptions, Session, Slot};
+use std::io::IoSlice;
+
+/// What each request here has in its header besides: its number, and who asks.
+pub const WHO: Context = Context { uid: 1000, gid: 1001, pid: 77, unique: 7 };
+
+/// A request that is being written.
+#[derive(Clone)]
+pub struct Request(Vec<u8>);
+
+impl Request {
+    /// Begins with `fuse_in_header`, of 40 bytes.
+    pub fn new(opcode: u32, node: u64) -> Self {
+        Request(Vec::new()).u32(0).u32(opcode).u64(7).u64(node).u32(1000).u32(1001).u32(77).u32(0)
+    }
+
+    pub fn u32(self, number: u32) -> Self {
+        self.bytes(&number.to_le_bytes())
+    }
+
+    pub fn u64(self, number: u64) -> Self {
+        self.bytes(&number.to_le_bytes())
+    }
+
+    pub fn bytes(mut self, bytes: &[u8]) -> Self {
+        self.0.extend_from_slice(bytes);
+        self
+    }
+
+    /// A name, and the 0 behind it.
+    pub fn name(self, name: &str) -> Self {
+        self.bytes(name.as_bytes()).bytes(&[0])
+    }
+
+    /// The bytes, whose length is said in the first four.
+    pub fn done(self) -> Vec<u8> {
+        let len = u32::try_from(self.0.len()).unwrap();
+        self.long(len)
+    }
+
+    /// The bytes with a length of your own.
+    pub fn long(mut self, len: u32) -> Vec<u8> {
+        self.0[..4].copy_from_slice(&len.to_le_bytes());
+        self.0
+    }
+}
+
+/// A record of numbers of 4 bytes.
+pub fn words(words: &[u32]) -> Vec<u8> {
+    words.iter().flat_map(|word| word.to_le_bytes()).collect()
+}
+
+/// A reply: `fuse_out_header`, of 16 bytes, and a body.
+pub fn reply(body: &[u8]) -> Vec<u8> {
+    let len = u32::try_from(16 + body.len()).unwrap();
+    [words(&[len, 0, 7, 0]), body.to_vec()].concat()
+}
+
+/// The reply of an error.
+pub fn fault(error: i32) -> Vec<u8> {
+    [words(&[16]), (-error).to_le_bytes().to_vec(), words(&[7, 0])].concat()
+}
+
+pub fn session(options: FsOptions) -> Session {
+    let mut session = Session::default();
+    session.set_options(options);
+    session
+}
+
+/// Asks for the call of a request, and hands it on, once for each cutting into two slices.
+pub fn each_cutting(options: FsOptions, request: &[u8], mut test: impl FnMut(Context, Call<'_>)) {
+    let mut slot = Slot::new();
+    for cut in 0..=request.len() {
+        let (first, second) = request.split_at(cut);
+        let slices = [IoSlice::new(first), IoSlice::new(second)];
+        match slot.ask(&session(options), &slices, 4096) {
+            Asked::Call(pending) => test(pending.context, pending.call),
+            Asked::Finished(done) => panic!("cut at {cut}: {done:?}"),
+        }
+    }
+}

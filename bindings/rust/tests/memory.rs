@@ -1,0 +1,190 @@
+//! Memory that is refused to the library: each allocation of a session in turn. This program has a `malloc`
+//! of its own for it, which a sanitizer's would stand in the way of.
+#![deny(unsafe_op_in_unsafe_fn)]
+
+mod common;
+
+use common::{reply, session, words, Request};
+use nizwarf::{Asked, Call, Entry, FsOptions, Item, Refusal, Slot};
+use std::alloc::{GlobalAlloc, Layout, System};
+use std::cell::Cell;
+use std::ffi::{c_void, CString};
+use std::io::IoSlice;
+
+thread_local! {
+    /// The allocation of this thread that is refused, counted down; 0 refuses none.
+    static REFUSED: Cell<u32> = const { Cell::new(0) };
+}
+
+extern "C" {
+    fn __libc_malloc(size: usize) -> *mut c_void;
+    fn __libc_realloc(old: *mut c_void, size: usize) -> *mut c_void;
+}
+
+/// Whether this allocation is the one.
+fn is_refused() -> bool {
+    REFUSED
+        .try_with(|refused| {
+            let left = refused.get();
+            refused.set(left.saturating_sub(1));
+            left == 1
+        })
+        .unwrap_or(false)
+}
+
+#[no_mangle]
+extern "C" fn malloc(size: usize) -> *mut c_void {
+    if is_refused() {
+        return std::ptr::null_mut();
+    }
+    // SAFETY: it is the C library's own.
+    unsafe { __libc_malloc(size) }
+}
+
+/// # Safety
+/// As that of C: what is handed in is of `malloc`.
+#[no_mangle]
+unsafe extern "C" fn realloc(old: *mut c_void, size: usize) -> *mut c_void {
+    if is_refused() {
+        return std::ptr::null_mut();
+    }
+    // SAFETY: it is the C library's own, and what is handed in is the caller's matter.
+    unsafe { __libc_realloc(old, size) }
+}
+
+/// Memory of Rust, which is not refused.
+struct Rust;
+
+// SAFETY: it is the system's, but for the name of the function that is called.
+unsafe impl GlobalAlloc for Rust {
+    unsafe fn alloc(&self, layout: Layout) -> *mut u8 {
+        if layout.align() <= 16 {
+            // SAFETY: it is the C library's own, and aligns by 16.
+            unsafe { __libc_malloc(layout.size()).cast() }
+        } else {
+            // SAFETY: as the caller promises.
+            unsafe { System.alloc(layout) }
+        }
+    }
+
+    unsafe fn dealloc(&self, at: *mut u8, layout: Layout) {
+        // SAFETY: as the caller promises; the system's memory is the C library's.
+        unsafe { System.dealloc(at, layout) }
+    }
+}
+
+#[global_allocator]
+static RUST: Rust = Rust;
+
+/// Does it with an allocation of the library refused. Gives what it gave, and whether one was.
+fn refuse<T>(number: u32, call: impl FnOnce() -> T) -> (T, bool) {
+    REFUSED.with(|refused| refused.set(number));
+    let result = call();
+    (result, REFUSED.with(|refused| refused.replace(0)) == 0)
+}
+
+/// The longest cut: a LOOKUP whose name stands in two slices.
+fn lookup() -> Vec<u8> {
+    Request::new(1, 1).name("abc").done()
+}
+
+#[test]
+fn asking() {
+    let bytes = lookup();
+    let (first, second) = bytes.split_at(42);
+    let slices = [IoSlice::new(first), IoSlice::new(second)];
+    let mut refusals = 0;
+    for number in 1.. {
+        let mut slot = Slot::new();
+        let (code, was_refused) =
+            refuse(number, || match slot.ask(&session(FsOptions::empty()), &slices, 4096) {
+                Asked::Finished(done) => {
+                    assert!(done.reply.is_empty());
+                    done.outcome
+                }
+                Asked::Call(_) => Ok(()),
+            });
+        if code.is_ok() {
+            break;
+        }
+        assert!(was_refused);
+        assert_eq!(code, Err(Refusal::OutOfMemory));
+        refusals += 1;
+        // (the slot goes on)
+        assert!(matches!(slot.ask(&session(FsOptions::empty()), &slices, 4096), Asked::Call(_)));
+    }
+    assert!(refusals > 0);
+}
+
+#[test]
+fn answering() {
+    let bytes = lookup();
+    let slices = [IoSlice::new(&bytes)];
+    let mut refusals = 0;
+    for number in 1.. {
+        let mut slot = Slot::new();
+        let to = match slot.ask(&session(FsOptions::empty()), &slices, 4096) {
+            Asked::Call(pending) => match pending.call {
+                Call::Lookup { to, .. } => to,
+                other => panic!("{other:?}"),
+            },
+            Asked::Finished(done) => panic!("{done:?}"),
+        };
+        // (a slot without memory)
+        let mut slot = Slot::new();
+        let entry = Entry { inode: 9, ..Entry::default() };
+        let (told, was_refused) = refuse(number, || to.answer(&mut slot, Ok(entry)));
+        let outcome = told.outcome;
+        let mut given_back = Vec::new();
+        let length = told.give_back(|node| given_back.push(node)).len();
+        if outcome.is_ok() {
+            assert_eq!((length, given_back.len()), (144, 0));
+            break;
+        }
+        assert!(was_refused);
+        assert_eq!((outcome, length), (Err(Refusal::OutOfMemory), 0));
+        assert_eq!(given_back, [9]);
+        refusals += 1;
+    }
+    assert!(refusals > 0);
+}
+
+#[test]
+fn a_directory_gives_all_back() {
+    let bytes = Request::new(44, 1).u64(8).u64(0).u32(4000).u32(0).u64(0).u32(0).u32(0).done();
+    let slices = [IoSlice::new(&bytes)];
+    let names = ["a", "b"].map(|name| CString::new(name).unwrap());
+    let items = [
+        Item::new(2, 1, 8, &names[0]).looked_up(&Ok(Entry { inode: 51, ..Entry::default() })),
+        Item::new(3, 2, 8, &names[1]).looked_up(&Ok(Entry { inode: 52, ..Entry::default() })),
+    ];
+    let mut refusals = 0;
+    for number in 1.. {
+        let mut slot = Slot::new();
+        let asked = slot.ask(&session(FsOptions::empty()), &slices, 4096);
+        let to = match asked {
+            Asked::Call(pending) => match pending.call {
+                Call::Readdir { to, .. } => to,
+                other => panic!("{other:?}"),
+            },
+            Asked::Finished(done) => panic!("{done:?}"),
+        };
+        let mut slot = Slot::new();
+        let (told, was_refused) = refuse(number, || to.answer(&mut slot, Ok(&items)));
+        let (outcome, taken) = (told.outcome, told.taken);
+        let mut given_back = Vec::new();
+        let mut answered = told.give_back(|node| given_back.push(node));
+        if outcome.is_ok() {
+            assert_eq!((answered.len(), taken, given_back.len()), (16 + 2 * 160, 2, 0));
+            break;
+        }
+        assert!(was_refused);
+        assert_eq!((outcome, taken), (Err(Refusal::OutOfMemory), 0));
+        assert!(answered.bytes().is_empty());
+        assert_eq!(given_back, [51, 52]);
+        refusals += 1;
+    }
+    assert!(refusals > 0);
+    // (a reply of a header is 16 bytes)
+    assert_eq!(reply(&[]), words(&[16, 0, 7, 0]));
+}

@@ -1,0 +1,87 @@
+//! What asks for no call: each refusal, and what the library answers by itself.
+
+mod common;
+
+use common::{fault, session, words, Request};
+use nizwarf::{Asked, FsOptions, Refusal, Slot};
+use std::io::IoSlice;
+
+/// What comes of a request that asks for no call: its outcome, its reply, and what it interrupts.
+fn finished(
+    options: FsOptions,
+    request: &[u8],
+    room: usize,
+) -> (Result<(), Refusal>, Vec<u8>, Option<u64>) {
+    let mut slot = Slot::new();
+    let slices = [IoSlice::new(request)];
+    match slot.ask(&session(options), &slices, room) {
+        Asked::Call(pending) => panic!("{pending:?}"),
+        Asked::Finished(mut done) => {
+            let bytes = done.reply.bytes().to_vec();
+            assert_eq!(done.reply.is_empty(), bytes.is_empty());
+            assert_eq!(done.reply.len(), bytes.len());
+            (done.outcome, bytes, done.interrupts)
+        }
+    }
+}
+
+#[test]
+fn each_refusal() {
+    let lookup = Request::new(1, 1);
+    let read = Request::new(15, 1).u64(8).u64(0).u32(9).u32(0).u64(0).u32(0).u32(0);
+    let setxattr = Request::new(21, 1).u32(6).u32(0).name("a").bytes(b"short");
+    let mkdir = Request::new(9, 1).u32(0o755).u32(0).name("a");
+    let none = FsOptions::empty();
+    for (options, request, room, refusal) in [
+        (none, Vec::new(), 64, Refusal::DecodeMessage),
+        (none, lookup.clone().done()[..39].to_vec(), 64, Refusal::DecodeMessage),
+        (none, lookup.clone().name("a").long(43), 64, Refusal::DecodeMessage),
+        (none, read.done(), 15, Refusal::EncodeMessage),
+        (none, Request::new(255, 1).done(), 15, Refusal::EncodeMessage),
+        (none, Request::new(12, 1).u64(2).bytes(b"old").done(), 64, Refusal::MissingParameter),
+        (none, lookup.clone().bytes(b"a").done(), 64, Refusal::InvalidCString),
+        (none, lookup.clone().bytes(b"a\0b\0").done(), 64, Refusal::InvalidCString),
+        (none, lookup.name("a").long(39), 64, Refusal::InvalidHeaderLength),
+        (none, setxattr.done(), 64, Refusal::InvalidXattrSize),
+        (FsOptions::SECURITY_CTX, mkdir.done(), 64, Refusal::MissingExtension),
+    ] {
+        assert_eq!(finished(options, &request, room), (Err(refusal), Vec::new(), None));
+    }
+}
+
+#[test]
+fn what_needs_no_file_system() {
+    let none = FsOptions::empty();
+    // INTERRUPT of the request with number 9
+    let interrupt = Request::new(36, 0).u64(9).done();
+    assert_eq!(finished(none, &interrupt, 64), (Ok(()), Vec::new(), Some(9)));
+    // (no opcode; that of DAX; a length above all limits; another version)
+    for (request, number) in [
+        (Request::new(255, 1).done(), 38),
+        (Request::new(48, 1).bytes(&[0; 40]).done(), 38),
+        (Request::new(17, 1).long((1 << 20) + 4097), 12),
+        (Request::new(26, 0).bytes(&words(&[6, 38, 0, 0])).done(), 71),
+        (Request::new(26, 0).bytes(&words(&[7, 26, 0, 0])).done(), 71),
+    ] {
+        assert_eq!(finished(none, &request, 64), (Ok(()), fault(number), None));
+    }
+    let newer = Request::new(26, 0).bytes(&words(&[8, 0, 0, 0])).done();
+    let mut expected = words(&[80, 0, 7, 0, 7, 38]);
+    expected.resize(80, 0);
+    assert_eq!(finished(none, &newer, 80), (Ok(()), expected, None));
+}
+
+#[test]
+fn a_slot_is_used_again() {
+    let mut slot = Slot::default();
+    let long = Request::new(26, 0).bytes(&words(&[8, 0, 0, 0])).done();
+    let short = Request::new(255, 1).done();
+    for (request, len) in [(&long, 80), (&short, 16), (&long, 80)] {
+        let slices = [IoSlice::new(&[]), IoSlice::new(request)];
+        match slot.ask(&session(FsOptions::empty()), &slices, 1 << 20) {
+            Asked::Finished(mut done) => assert_eq!(done.reply.bytes().len(), len),
+            Asked::Call(pending) => panic!("{pending:?}"),
+        }
+    }
+    assert_eq!(format!("{slot:?}"), "Slot { .. }");
+}
