@@ -18,6 +18,7 @@ tools=$(cd "$(dirname "$0")/../../tools" && pwd)
 . "$tools/usage.sh"
 . "$tools/transport.sh"
 . "$tools/debian.sh"
+. "$tools/../bindings/hello.sh"
 
 if [ $# -gt 1 ] || [ "${1:---msrv}" != --msrv ]; then
     echo "Usage: bindings/rust/check.sh [--msrv]" >&2
@@ -36,19 +37,7 @@ cd "$here/bindings/rust"
 built=$here/out/rust
 target=x86_64-unknown-linux-gnu
 folder=$(mktemp -d)
-trap '{ umount -l "$folder/mount"; rm -rf "$folder"; } 2> /dev/null || true' EXIT
-
-# Runs a step, and shows what it says only if it fails: step "WHAT IT IS" COMMAND..
-step() {
-    local name=$1
-    shift
-    echo "$name .." >&2
-    if ! "$@" > "$folder/said" 2>&1; then
-        tail -n 100 "$folder/said" >&2
-        echo "FAILED: $name" >&2
-        exit 1
-    fi
-}
+trap clean_up EXIT
 
 # How many tests passed in the step before.
 passed() {
@@ -81,29 +70,6 @@ sanitize() {
     echo "The compiler has no $name sanitizer." >&2
 }
 
-# Waits until something is mounted on the folder, or the program is gone.
-mounted() {
-    for _ in $(seq 100); do
-        ! mountpoint -q "$folder/mount" || return 0
-        kill -0 "$1" 2> /dev/null || break
-        sleep 0.05
-    done
-    echo "FAILED: it was not mounted." >&2
-    exit 1
-}
-
-# Mounts what a program serves, lists and reads it, and unmounts it.
-use_mount() {
-    local server
-    mkdir -p "$folder/mount"
-    timeout 60 "$@" &
-    server=$!
-    mounted "$server"
-    [ "$(ls "$folder/mount")" = hello ] && [ "$(cat "$folder/mount/hello")" = 'Hello, world!' ] \
-        && [ "$(stat -c '%a %s' "$folder/mount/hello")" = '444 14' ] && ! cat "$folder/mount/none" 2> /dev/null \
-        && ! echo text 2> /dev/null > "$folder/mount/hello" && umount "$folder/mount" && wait "$server"
-}
-
 if command -v rustfmt > /dev/null; then
     step "The format" cargo fmt --check
 fi
@@ -120,9 +86,8 @@ cargo build --quiet --offline --examples
 # shellcheck disable=SC2016
 printf '#!/usr/bin/env bash\nexec "%s" - <&"$2"\n' "$built/debug/examples/hello" > "$folder/hello"
 chmod +x "$folder/hello"
-step "The client of hello.c" cc -O1 -o "$folder/client" "$here/tools/c-hello.c"
-step "hello.rs and that client" timeout 60 "$folder/client" "$folder/hello"
-if [ "$(id -u)" = 0 ] && [ -e /dev/fuse ]; then
+step "hello.rs, asked by a client" ask_hello "$folder/hello"
+if may_mount; then
     step "hello.rs, mounted" use_mount "$built/debug/examples/hello" "$folder/mount"
     step "check.rs in front of it, mounted" \
         use_mount "$built/debug/examples/check" "$folder/mount" "$built/debug/examples/hello" -

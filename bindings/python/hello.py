@@ -1,0 +1,118 @@
+#!/usr/bin/env python3
+"""A file system of one file, `hello`, over /dev/fuse and the door of nizwarf.h.
+
+Usage: hello.py MOUNTPOINT, or hello.py --fd N
+Mounts a file, as root, and serves it until it is unmounted; or serves what is at the other end of the
+descriptor N. NIZWARF_LIB names the library if it is not the installed libnizwarf.so.0.
+"""
+import ctypes, errno, os, stat, sys
+from ctypes import POINTER, Structure, byref, c_char, c_char_p, c_int, c_size_t, c_uint32, c_uint64, c_void_p
+
+
+# The structs of nizwarf.h. Fields that nothing here reads or sets are numbers without a name.
+def struct(name, size, *fields):
+    kind = type(name, (Structure,), {"_fields_": fields})
+    assert ctypes.sizeof(kind) == size, name
+    return kind
+
+
+Session = struct("Session", 16, ("options", c_uint64), ("page_size", c_uint32), ("max_buffer", c_uint32))
+Segment = struct("Segment", 16, ("at", c_char_p), ("len", c_size_t))
+Range = struct("Range", 16, ("at", c_uint64), ("len", c_uint64))
+Call = struct("Call", 312, ("_1", c_uint64 * 3), ("node", c_uint64), ("_2", c_uint64), ("offset", c_uint64),
+              ("_3", c_uint64 * 5), ("name", Range), ("_4", c_uint64 * 19), ("call", c_uint32),
+              ("_5", c_uint32 * 9), ("size", c_uint32), ("_6", c_uint32 * 3))
+Attr = struct("Attr", 88, ("ino", c_uint64), ("size", c_uint64), ("_1", c_uint64 * 4), ("_2", c_uint32 * 3),
+              ("mode", c_uint32), ("nlink", c_uint32), ("_3", c_uint32 * 5))
+Entry = struct("Entry", 128, ("node", c_uint64), ("_1", c_uint64), ("entry_seconds", c_uint64),
+               ("attr_seconds", c_uint64), ("_2", c_uint64), ("attr", Attr))
+Item = struct("Item", 168, ("ino", c_uint64), ("offset", c_uint64), ("name", c_char_p), ("name_size", c_size_t),
+              ("_1", Entry), ("_2", c_uint64))
+Answer = struct("Answer", 256, ("error", c_int), ("_1", c_uint32), ("_2", c_uint64), ("count", c_uint64),
+                ("_3", c_uint64), ("entry", Entry), ("_4", c_uint64 * 12))
+Told = struct("Told", 48, ("len", c_uint64), ("put", c_uint64), ("options", c_uint64), ("give_back", c_uint64),
+              ("taken", c_uint64), ("interrupts", c_uint64))
+
+OK, ASKED = 0, 15
+LOOKUP, GETATTR, OPEN, READ, RELEASE, INIT, OPENDIR, READDIR, RELEASEDIR, DESTROY = 1, 3, 14, 15, 18, 26, 27, 28, 29, 38
+ROOT, HELLO, TEXT, LONGEST = 1, 2, b"Hello, world!\n", (1 << 20) + 4096
+
+
+def set_attr(entry, node):
+    entry.attr_seconds = 1
+    entry.attr = Attr(ino=node, nlink=1, mode=stat.S_IFDIR | 0o555, size=0)
+    if node != ROOT:
+        entry.attr.mode, entry.attr.size = stat.S_IFREG | 0o444, len(TEXT)
+
+
+def make(call, request, answer):
+    """Makes a call: sets the answer, and gives the data of a READ, and the items of a directory."""
+    if call.call == LOOKUP:
+        name = request[call.name.at:call.name.at + call.name.len]
+        answer.error = 0 if call.node == ROOT and name == b"hello" else errno.ENOENT
+        answer.entry.node, answer.entry.entry_seconds = HELLO, 1
+        set_attr(answer.entry, HELLO)
+    elif call.call == GETATTR:
+        set_attr(answer.entry, call.node)
+    elif call.call == READDIR:
+        items = enumerate([b".", b"..", b"hello"])
+        return b"", [Item(HELLO if at == 2 else ROOT, at + 1, name, len(name) + 1) for at, name in items][call.offset:]
+    elif call.call == READ:
+        data = TEXT[call.offset:call.offset + call.size]
+        answer.count = len(data)
+        return data, []
+    elif call.call not in (OPEN, OPENDIR, RELEASE, RELEASEDIR, INIT, DESTROY):
+        answer.error = errno.ENOSYS
+    return b"", []
+
+
+def serve(library, slot, session, request):
+    """Answers a request. Gives the reply, which may be none."""
+    call, told, answer = Call(), Told(options=session.options), Answer()
+    segment, data, items = Segment(request, len(request)), b"", []
+    code = library.nizwarf_ask_at(byref(slot), byref(session), byref(segment), 1, LONGEST, byref(call), byref(told))
+    if code == ASKED:
+        data, items = make(call, request, answer)
+        told = Told(options=session.options)
+        code = library.nizwarf_answer_at(byref(slot), byref(session), byref(call), byref(answer), b"", 0,
+                                         (Item * len(items))(*items), len(items), byref(told))
+        session.options = told.options
+    if code != OK:
+        sys.exit(f"hello.py: outcome {code}")
+    reply = ctypes.create_string_buffer(told.put)
+    library.nizwarf_copy_slot_at(byref(slot), 0, reply, told.put)
+    return reply.raw + data[:told.len - told.put]
+
+
+def mount_on(folder):
+    device = os.open("/dev/fuse", os.O_RDWR)
+    options = f"fd={device},rootmode=40000,user_id=0,group_id=0,default_permissions"
+    libc = ctypes.CDLL(None, use_errno=True)
+    if libc.mount(b"hello", os.fsencode(folder), b"fuse.hello", 6, options.encode()):
+        sys.exit(f"hello.py: {folder}: {os.strerror(ctypes.get_errno())}")
+    return device
+
+
+def main(words):
+    if words == ["--help"]:
+        return print(__doc__)
+    if len(words) != (2 if words[:1] == ["--fd"] else 1) or words[0].startswith("-") and words[0] != "--fd":
+        print(__doc__, file=sys.stderr)
+        sys.exit(2)
+    library = ctypes.CDLL(os.environ.get("NIZWARF_LIB", "libnizwarf.so.0"))
+    library.nizwarf_copy_slot_at.argtypes = [c_void_p, c_size_t, POINTER(c_char), c_size_t]
+    library.nizwarf_ask_at.argtypes = [c_void_p] * 3 + [c_size_t] * 2 + [c_void_p] * 2
+    library.nizwarf_answer_at.argtypes = [c_void_p] * 4 + [c_char_p, c_size_t, c_void_p, c_size_t, c_void_p]
+    slot, session = c_void_p(), Session(0, 4096, 1 << 20)
+    device = int(words[1]) if words[0] == "--fd" else mount_on(words[0])
+    try:
+        while request := os.read(device, LONGEST):
+            if reply := serve(library, slot, session, request):
+                os.write(device, reply)
+    except OSError as error:
+        if error.errno != errno.ENODEV:  # which says that it is unmounted
+            raise
+    library.nizwarf_end_slot_at(byref(slot))
+
+
+main(sys.argv[1:])
