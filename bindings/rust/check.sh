@@ -4,8 +4,9 @@
 #
 # Usage: bindings/rust/check.sh [--msrv]
 # As root, where /dev/fuse is, the examples are mounted too. The tests run under the address, the leak and
-# the thread sanitizer of the compiler, if it has them. With --msrv they also run by Debian 12's rustc, the
-# oldest that is served, which is downloaded and unpacked into out/rust/debian, 400 MB, and not installed.
+# the thread sanitizer of the compiler, and under valgrind, so far as these are there. With --msrv they also
+# run by Debian 12's rustc, the oldest that is served, which is downloaded and unpacked into out/rust/debian,
+# 400 MB, and not installed.
 #
 # It takes the proved library where that is built and no source is newer; otherwise tools/unproved.sh builds
 # it without a proof, which takes a minute. What is built stands in out/rust.
@@ -45,7 +46,7 @@ passed() {
 }
 
 # Tests that do not replace malloc.
-tests=(--lib --test answers --test calls --test refusals --test server --test threads)
+tests=(--lib --test answers --test calls --test hostile --test refusals --test server --test threads)
 
 # Whether the compiler makes a program with these flags, and it runs.
 has_flags() {
@@ -98,6 +99,15 @@ sanitize address "${tests[@]}"
 sanitize leak "${tests[@]}"
 sanitize thread --test threads
 
+if command -v valgrind > /dev/null; then
+    # (it sees into the library, which no sanitizer was built into)
+    CARGO_TARGET_X86_64_UNKNOWN_LINUX_GNU_RUNNER="valgrind -q --error-exitcode=9 --leak-check=full \
+        --show-leak-kinds=definite --errors-for-leak-kinds=definite" \
+        step "The tests under valgrind" \
+        cargo test --offline --target "$target" --test answers --test calls --test hostile --test threads
+else
+    echo "Missing: the command \`valgrind\`. Nothing runs under it: apt-get install valgrind." >&2
+fi
 if [ $# = 1 ]; then
     debian=$built/debian
     export LD_LIBRARY_PATH=$debian/usr/lib/x86_64-linux-gnu
