@@ -120,8 +120,9 @@ if [ $# = 1 ]; then
         quietly "$folder/said" unpack_packages "$debian" "${packages[@]}"
         touch "$debian/unpacked"
     fi
-    RUSTC=$debian/usr/bin/rustc RUSTFLAGS="--sysroot $debian/usr -D warnings" \
-        step "The tests by $("$debian/usr/bin/rustc" --version)" \
-        "$debian/usr/bin/cargo" test --offline --target-dir "$built/oldest" --lib --tests --examples
+    export RUSTC=$debian/usr/bin/rustc RUSTDOC=$debian/usr/bin/rustdoc
+    export RUSTFLAGS="--sysroot $debian/usr -D warnings" RUSTDOCFLAGS="--sysroot $debian/usr"
+    step "The tests by $("$RUSTC" --version)" \
+        "$debian/usr/bin/cargo" test --offline --target-dir "$built/oldest"
 fi
 echo "The crate nizwarf is as it should be."

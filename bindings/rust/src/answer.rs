@@ -2,7 +2,7 @@
 #![forbid(unsafe_code)]
 
 use crate::door::{Refusal, Reply};
-use crate::ffi::{Item, RawAnswer, RawCall, RawEntry, RawSession, Slot};
+use crate::ffi::{Item, Pending, RawAnswer, RawEntry, Slot};
 use crate::file_system::{Attr, Entry, GetxattrReply, ListxattrReply, Statvfs};
 use crate::flags::{FsOptions, OpenOptions};
 use std::fmt;
@@ -56,10 +56,38 @@ kinds! {
 
 /// What answers one call, once, by an answer of its kind. It borrows nothing, so it may be kept, and go
 /// to another thread. One that is dropped leaves the request without a reply.
+///
+/// ```
+/// use nizwarf::{Asked, Call, Session, Slot};
+/// use std::io::IoSlice;
+/// use std::thread;
+///
+/// let mut request = [0; 40];
+/// (request[0], request[4], request[16]) = (40, 50, 1); // SYNCFS
+/// let request = [IoSlice::new(&request)];
+/// let mut slot = Slot::new();
+/// if let Asked::Call(pending) = slot.ask(&Session::default(), &request, 64) {
+///     if let Call::Syncfs { to, .. } = pending.call {
+///         let later = thread::spawn(move || to.answer(&mut Slot::new(), Ok(())).reply().len());
+///         assert_eq!(later.join().unwrap(), 16);
+///         return;
+///     }
+/// }
+/// # unreachable!()
+/// ```
+///
+/// What it may not be answered with does not compile:
+///
+/// ```compile_fail,E0308
+/// use nizwarf::{kinds, Slot, To};
+///
+/// fn answer(slot: &mut Slot, to: To<kinds::EntryOf>) {
+///     let _ = to.answer(slot, Ok(5)); // (a number is no entry)
+/// }
+/// ```
 #[must_use = "the client waits for the reply"]
 pub struct To<K> {
-    call: RawCall,
-    session: RawSession,
+    pending: Box<Pending>,
     kind: PhantomData<fn(K)>,
 }
 
@@ -120,20 +148,20 @@ impl<'s> Told<'s> {
 }
 
 impl<K> To<K> {
-    pub(crate) fn new(call: &RawCall, session: RawSession) -> Self {
-        To { call: *call, session, kind: PhantomData }
+    pub(crate) fn new(pending: Box<Pending>) -> Self {
+        To { pending, kind: PhantomData }
     }
 
     /// The number of the request.
     #[must_use]
     pub fn unique(&self) -> u64 {
-        self.call.unique
+        self.pending.call.unique
     }
 
     /// How many bytes of room the reply has.
     #[must_use]
     pub fn room(&self) -> usize {
-        usize::try_from(self.call.room).unwrap_or(usize::MAX)
+        usize::try_from(self.pending.call.room).unwrap_or(usize::MAX)
     }
 
     /// Answers with an error. One that has no number is the fault EIO. A call that has no reply has none
@@ -152,8 +180,8 @@ impl<K> To<K> {
         const INIT: u32 = 26;
         const DESTROY: u32 = 38;
         const READDIRPLUS: (u32, u32) = (28, 1 << 9);
-        let call = &self.call;
-        let (code, told) = slot.answer_raw(&self.session, call, answer, text, items);
+        let call = &self.pending.call;
+        let (code, told) = slot.answer_raw(&self.pending, answer, text, items);
         let taken = usize::try_from(told.taken).unwrap_or(usize::MAX);
         let mut held = Vec::new();
         if told.give_back != 0 {
@@ -162,10 +190,12 @@ impl<K> To<K> {
         if (call.call, call.has & READDIRPLUS.1) == READDIRPLUS {
             held.extend(items.iter().skip(taken).filter_map(Item::held));
         }
+        let options = matches!(call.call, INIT | DESTROY)
+            .then(|| FsOptions::from_bits_truncate(told.options));
+        slot.keep(self.pending);
         Told {
             outcome: Refusal::of(code),
-            options: matches!(call.call, INIT | DESTROY)
-                .then(|| FsOptions::from_bits_truncate(told.options)),
+            options,
             taken,
             held,
             reply: Reply::new(slot, told.len, told.put),
@@ -228,8 +258,8 @@ impl To<Data> {
     /// The most bytes of data that may be put: what is asked for, and what there is room for.
     #[must_use]
     pub fn most(&self) -> usize {
-        let room = usize::try_from(self.call.length).unwrap_or(usize::MAX);
-        room.min(self.call.size as usize)
+        let room = usize::try_from(self.pending.call.length).unwrap_or(usize::MAX);
+        room.min(self.pending.call.size as usize)
     }
 
     /// Answers how many bytes were put behind the first 16 of the room. More than the most are the fault
@@ -360,6 +390,6 @@ impl To<Directory> {
 
 impl<K> fmt::Debug for To<K> {
     fn fmt(&self, f: &mut fmt::Formatter<'_>) -> fmt::Result {
-        write!(f, "To(request {})", self.call.unique)
+        write!(f, "To(request {})", self.pending.call.unique)
     }
 }

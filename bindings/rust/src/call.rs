@@ -6,7 +6,7 @@ use crate::answer::{
     Opened, Quiet, Statistics, Text, TextOrCount, To, Told, Want, Written,
 };
 use crate::bytes::{Bytes, Forgets};
-use crate::ffi::{Range, RawCall, RawSession, Slot};
+use crate::ffi::{Pending, Range, RawCall, Slot};
 use crate::file_system::{Context, Extensions, SecContext, SetattrIn};
 use crate::flags::{FsOptions, SetattrValid, SetxattrFlags};
 use std::borrow::Cow;
@@ -36,6 +36,35 @@ pub struct PendingCall<'r> {
 }
 
 /// A call, with what answers it.
+///
+/// ```
+/// use nizwarf::{Asked, Attr, Call, Session, Slot};
+/// use std::io::{Error, IoSlice};
+/// use std::time::Duration;
+///
+/// /// Answers a GETATTR, and refuses all else.
+/// fn answer(slot: &mut Slot, call: Call<'_>) -> usize {
+///     let told = match call {
+///         Call::Getattr { node, to, .. } => {
+///             let attr = Attr { ino: node, mode: 0o100_644, nlink: 1, ..Attr::default() };
+///             to.answer(slot, Ok((attr, Duration::from_secs(1))))
+///         }
+///         other => other.fail(slot, &Error::from_raw_os_error(38)),
+///     };
+///     told.reply().len()
+/// }
+///
+/// let mut slot = Slot::new();
+/// for (opcode, len) in [(3, 16 + 104), (5, 16)] {
+///     let mut request = [0; 56];
+///     (request[0], request[4], request[16]) = (56, opcode, 5);
+///     let request = [IoSlice::new(&request)];
+///     match slot.ask(&Session::default(), &request, 4096) {
+///         Asked::Call(pending) => assert_eq!(answer(&mut slot, pending.call), len),
+///         Asked::Finished(done) => panic!("{done:?}"),
+///     }
+/// }
+/// ```
 ///
 /// Fields mean the same in each call, and are named as the arguments of
 /// [`FileSystem`](crate::FileSystem):
@@ -283,11 +312,13 @@ impl Call<'_> {
     }
 }
 
+/// The slices of a request.
+type Request<'r> = &'r [IoSlice<'r>];
+
 /// A call as the library told it, to be turned into a [`Call`].
 struct Decoder<'c, 'r> {
     raw: &'c RawCall,
-    session: RawSession,
-    request: &'r [IoSlice<'r>],
+    request: Request<'r>,
 }
 
 impl<'r> Decoder<'_, 'r> {
@@ -330,210 +361,213 @@ impl<'r> Decoder<'_, 'r> {
             sup_gid: self.has(HAS_GROUP).then_some(self.raw.group),
         }
     }
+}
 
-    fn to<K>(&self) -> To<K> {
-        To::new(self.raw, self.session)
-    }
+/// The calls that make, move or remove a name.
+fn name_call(pending: Box<Pending>, request: Request<'_>) -> Result<Call<'_>, Box<Pending>> {
+    let asked = Decoder { raw: &pending.call, request };
+    let raw = asked.raw;
+    let parent = raw.node;
+    Ok(match raw.call {
+        1 => Call::Lookup { parent, name: asked.name(), to: To::new(pending) },
+        6 => Call::Symlink {
+            linkname: asked.other_name(),
+            parent,
+            name: asked.name(),
+            extensions: asked.extensions(),
+            to: To::new(pending),
+        },
+        8 => Call::Mknod {
+            parent,
+            name: asked.name(),
+            mode: raw.mode,
+            rdev: raw.rdev,
+            umask: raw.umask,
+            extensions: asked.extensions(),
+            to: To::new(pending),
+        },
+        9 => Call::Mkdir {
+            parent,
+            name: asked.name(),
+            mode: raw.mode,
+            umask: raw.umask,
+            extensions: asked.extensions(),
+            to: To::new(pending),
+        },
+        10 => Call::Unlink { parent, name: asked.name(), to: To::new(pending) },
+        11 => Call::Rmdir { parent, name: asked.name(), to: To::new(pending) },
+        12 => Call::Rename {
+            parent,
+            name: asked.name(),
+            new_parent: raw.other_node,
+            new_name: asked.other_name(),
+            flags: raw.flags,
+            to: To::new(pending),
+        },
+        13 => Call::Link {
+            node: raw.node,
+            new_parent: raw.other_node,
+            new_name: asked.name(),
+            to: To::new(pending),
+        },
+        35 => Call::Create {
+            parent,
+            name: asked.name(),
+            mode: raw.mode,
+            kill_priv: asked.has(KILL_PRIV),
+            flags: raw.flags,
+            umask: raw.umask,
+            extensions: asked.extensions(),
+            to: To::new(pending),
+        },
+        _ => return Err(pending),
+    })
+}
 
-    /// The calls that make, move or remove a name.
-    fn name_call(&self) -> Option<Call<'r>> {
-        let raw = self.raw;
-        let parent = raw.node;
-        Some(match raw.call {
-            1 => Call::Lookup { parent, name: self.name(), to: self.to() },
-            6 => Call::Symlink {
-                linkname: self.other_name(),
-                parent,
-                name: self.name(),
-                extensions: self.extensions(),
-                to: self.to(),
-            },
-            8 => Call::Mknod {
-                parent,
-                name: self.name(),
-                mode: raw.mode,
-                rdev: raw.rdev,
-                umask: raw.umask,
-                extensions: self.extensions(),
-                to: self.to(),
-            },
-            9 => Call::Mkdir {
-                parent,
-                name: self.name(),
-                mode: raw.mode,
-                umask: raw.umask,
-                extensions: self.extensions(),
-                to: self.to(),
-            },
-            10 => Call::Unlink { parent, name: self.name(), to: self.to() },
-            11 => Call::Rmdir { parent, name: self.name(), to: self.to() },
-            12 => Call::Rename {
-                parent,
-                name: self.name(),
-                new_parent: raw.other_node,
-                new_name: self.other_name(),
-                flags: raw.flags,
-                to: self.to(),
-            },
-            13 => Call::Link {
-                node: raw.node,
-                new_parent: raw.other_node,
-                new_name: self.name(),
-                to: self.to(),
-            },
-            35 => Call::Create {
-                parent,
-                name: self.name(),
-                mode: raw.mode,
-                kill_priv: self.has(KILL_PRIV),
-                flags: raw.flags,
-                umask: raw.umask,
-                extensions: self.extensions(),
-                to: self.to(),
-            },
-            _ => return None,
-        })
-    }
-
-    /// The calls about an open file.
-    fn file_call(&self) -> Option<Call<'r>> {
-        let raw = self.raw;
-        let (node, handle, flags) = (raw.node, raw.handle, raw.flags);
-        Some(match raw.call {
-            14 => Call::Open { node, kill_priv: self.has(KILL_PRIV), flags, to: self.to() },
-            15 => Call::Read {
-                node,
-                handle,
-                size: raw.size,
-                offset: raw.offset,
-                lock_owner: self.owner(),
-                flags,
-                to: self.to(),
-            },
-            16 => Call::Write {
-                node,
-                handle,
-                data: self.bytes(raw.data).first(raw.size as usize),
-                size: raw.size,
-                offset: raw.offset,
-                lock_owner: self.owner(),
-                delayed_write: self.has(DELAYED),
-                kill_priv: self.has(KILL_PRIV),
-                flags,
-                to: self.to(),
-            },
-            18 => Call::Release {
-                node,
-                flags,
-                handle,
-                flush: self.has(FLUSHES),
-                flock_release: self.has(FLOCK_RELEASE),
-                lock_owner: self.owner(),
-                to: self.to(),
-            },
-            20 => Call::Fsync { node, datasync: self.has(DATASYNC), handle, to: self.to() },
-            25 => Call::Flush { node, handle, lock_owner: raw.lock_owner, to: self.to() },
-            43 => Call::Fallocate {
-                node,
-                handle,
-                mode: raw.mode,
-                offset: raw.offset,
-                length: raw.length,
-                to: self.to(),
-            },
-            46 => Call::Lseek { node, handle, offset: raw.offset, whence: raw.more, to: self.to() },
-            47 => Call::CopyFileRange {
-                node_in: node,
-                handle_in: handle,
-                offset_in: raw.offset,
-                node_out: raw.other_node,
-                handle_out: raw.other_handle,
-                offset_out: raw.other_offset,
-                len: raw.length,
-                flags: raw.lock_owner,
-                to: self.to(),
-            },
-            _ => return None,
-        })
-    }
-
-    /// The calls about a node or an open directory.
-    fn node_call(&self) -> Option<Call<'r>> {
-        let raw = self.raw;
-        let (node, handle, size) = (raw.node, raw.handle, raw.size);
-        Some(match raw.call {
-            2 => Call::Forget { node, count: raw.length, to: self.to() },
-            3 => Call::Getattr { node, handle: self.handle(), to: self.to() },
-            4 => Call::Setattr {
-                node,
-                attr: raw.attr,
-                handle: self.handle(),
-                valid: SetattrValid::from_bits_truncate(raw.flags),
-                to: self.to(),
-            },
-            5 => Call::Readlink { node, to: self.to() },
-            17 => Call::Statfs { node, to: self.to() },
-            21 => Call::Setxattr {
-                node,
-                name: self.name(),
-                value: self.bytes(raw.data).to_cow(),
-                flags: raw.flags,
-                extra_flags: SetxattrFlags::from_bits_truncate(raw.more),
-                to: self.to(),
-            },
-            22 => Call::Getxattr { node, name: self.name(), size, to: self.to() },
-            23 => Call::Listxattr { node, size, to: self.to() },
-            24 => Call::Removexattr { node, name: self.name(), to: self.to() },
-            27 => Call::Opendir { node, flags: raw.flags, to: self.to() },
-            28 => Call::Readdir {
-                node,
-                handle,
-                size,
-                offset: raw.offset,
-                plus: self.has(PLUS),
-                to: self.to(),
-            },
-            29 => Call::Releasedir { node, flags: raw.flags, handle, to: self.to() },
-            30 => Call::Fsyncdir { node, datasync: self.has(DATASYNC), handle, to: self.to() },
-            34 => Call::Access { node, mask: raw.more, to: self.to() },
-            50 => Call::Syncfs { node, to: self.to() },
-            _ => return None,
-        })
-    }
-
-    /// The calls about the session, and those of which nothing is told.
-    fn other_call(&self) -> Call<'r> {
-        let raw = self.raw;
-        match raw.call {
-            26 => Call::Init {
-                capable: FsOptions::from_bits_truncate(raw.length),
-                readahead: raw.readahead,
-                to: self.to(),
-            },
-            31 => Call::Getlk { to: self.to() },
-            32 => Call::Setlk { to: self.to() },
-            33 => Call::Setlkw { to: self.to() },
-            37 => Call::Bmap { to: self.to() },
-            38 => Call::Destroy { to: self.to() },
-            39 => Call::Ioctl { to: self.to() },
-            40 => Call::Poll { to: self.to() },
-            41 => Call::NotifyReply { to: self.to() },
-            42 => Call::BatchForget { forgets: Forgets::new(self.bytes(raw.data)), to: self.to() },
-            51 => Call::Tmpfile { to: self.to() },
-            number => Call::Unknown { number, to: self.to() },
+/// The calls about an open file.
+fn file_call(pending: Box<Pending>, request: Request<'_>) -> Result<Call<'_>, Box<Pending>> {
+    let asked = Decoder { raw: &pending.call, request };
+    let raw = asked.raw;
+    let (node, handle, flags) = (raw.node, raw.handle, raw.flags);
+    Ok(match raw.call {
+        14 => Call::Open { node, kill_priv: asked.has(KILL_PRIV), flags, to: To::new(pending) },
+        15 => Call::Read {
+            node,
+            handle,
+            size: raw.size,
+            offset: raw.offset,
+            lock_owner: asked.owner(),
+            flags,
+            to: To::new(pending),
+        },
+        16 => Call::Write {
+            node,
+            handle,
+            data: asked.bytes(raw.data).first(raw.size as usize),
+            size: raw.size,
+            offset: raw.offset,
+            lock_owner: asked.owner(),
+            delayed_write: asked.has(DELAYED),
+            kill_priv: asked.has(KILL_PRIV),
+            flags,
+            to: To::new(pending),
+        },
+        18 => Call::Release {
+            node,
+            flags,
+            handle,
+            flush: asked.has(FLUSHES),
+            flock_release: asked.has(FLOCK_RELEASE),
+            lock_owner: asked.owner(),
+            to: To::new(pending),
+        },
+        20 => Call::Fsync { node, datasync: asked.has(DATASYNC), handle, to: To::new(pending) },
+        25 => Call::Flush { node, handle, lock_owner: raw.lock_owner, to: To::new(pending) },
+        43 => Call::Fallocate {
+            node,
+            handle,
+            mode: raw.mode,
+            offset: raw.offset,
+            length: raw.length,
+            to: To::new(pending),
+        },
+        46 => {
+            Call::Lseek { node, handle, offset: raw.offset, whence: raw.more, to: To::new(pending) }
         }
+        47 => Call::CopyFileRange {
+            node_in: node,
+            handle_in: handle,
+            offset_in: raw.offset,
+            node_out: raw.other_node,
+            handle_out: raw.other_handle,
+            offset_out: raw.other_offset,
+            len: raw.length,
+            flags: raw.lock_owner,
+            to: To::new(pending),
+        },
+        _ => return Err(pending),
+    })
+}
+
+/// The calls about a node or an open directory.
+fn node_call(pending: Box<Pending>, request: Request<'_>) -> Result<Call<'_>, Box<Pending>> {
+    let asked = Decoder { raw: &pending.call, request };
+    let raw = asked.raw;
+    let (node, handle, size) = (raw.node, raw.handle, raw.size);
+    Ok(match raw.call {
+        2 => Call::Forget { node, count: raw.length, to: To::new(pending) },
+        3 => Call::Getattr { node, handle: asked.handle(), to: To::new(pending) },
+        4 => Call::Setattr {
+            node,
+            attr: raw.attr,
+            handle: asked.handle(),
+            valid: SetattrValid::from_bits_truncate(raw.flags),
+            to: To::new(pending),
+        },
+        5 => Call::Readlink { node, to: To::new(pending) },
+        17 => Call::Statfs { node, to: To::new(pending) },
+        21 => Call::Setxattr {
+            node,
+            name: asked.name(),
+            value: asked.bytes(raw.data).to_cow(),
+            flags: raw.flags,
+            extra_flags: SetxattrFlags::from_bits_truncate(raw.more),
+            to: To::new(pending),
+        },
+        22 => Call::Getxattr { node, name: asked.name(), size, to: To::new(pending) },
+        23 => Call::Listxattr { node, size, to: To::new(pending) },
+        24 => Call::Removexattr { node, name: asked.name(), to: To::new(pending) },
+        27 => Call::Opendir { node, flags: raw.flags, to: To::new(pending) },
+        28 => Call::Readdir {
+            node,
+            handle,
+            size,
+            offset: raw.offset,
+            plus: asked.has(PLUS),
+            to: To::new(pending),
+        },
+        29 => Call::Releasedir { node, flags: raw.flags, handle, to: To::new(pending) },
+        30 => Call::Fsyncdir { node, datasync: asked.has(DATASYNC), handle, to: To::new(pending) },
+        34 => Call::Access { node, mask: raw.more, to: To::new(pending) },
+        50 => Call::Syncfs { node, to: To::new(pending) },
+        _ => return Err(pending),
+    })
+}
+
+/// The calls about the session, and those of which nothing is told.
+fn other_call(pending: Box<Pending>, request: Request<'_>) -> Call<'_> {
+    let asked = Decoder { raw: &pending.call, request };
+    let raw = asked.raw;
+    match raw.call {
+        26 => Call::Init {
+            capable: FsOptions::from_bits_truncate(raw.length),
+            readahead: raw.readahead,
+            to: To::new(pending),
+        },
+        31 => Call::Getlk { to: To::new(pending) },
+        32 => Call::Setlk { to: To::new(pending) },
+        33 => Call::Setlkw { to: To::new(pending) },
+        37 => Call::Bmap { to: To::new(pending) },
+        38 => Call::Destroy { to: To::new(pending) },
+        39 => Call::Ioctl { to: To::new(pending) },
+        40 => Call::Poll { to: To::new(pending) },
+        41 => Call::NotifyReply { to: To::new(pending) },
+        42 => {
+            Call::BatchForget { forgets: Forgets::new(asked.bytes(raw.data)), to: To::new(pending) }
+        }
+        51 => Call::Tmpfile { to: To::new(pending) },
+        number => Call::Unknown { number, to: To::new(pending) },
     }
 }
 
 impl<'r> PendingCall<'r> {
-    pub(crate) fn new(raw: &RawCall, session: RawSession, request: &'r [IoSlice<'r>]) -> Self {
-        let decoder = Decoder { raw, session, request };
-        let call = decoder
-            .node_call()
-            .or_else(|| decoder.file_call())
-            .or_else(|| decoder.name_call())
-            .unwrap_or_else(|| decoder.other_call());
-        let context = Context { uid: raw.uid, gid: raw.gid, pid: raw.pid, unique: raw.unique };
+    pub(crate) fn new(pending: Box<Pending>, request: Request<'r>) -> Self {
+        let RawCall { uid, gid, pid, unique, .. } = pending.call;
+        let context = Context { uid, gid, pid, unique };
+        let call = node_call(pending, request)
+            .or_else(|pending| file_call(pending, request))
+            .or_else(|pending| name_call(pending, request))
+            .unwrap_or_else(|pending| other_call(pending, request));
         PendingCall { context, call }
     }
 }

@@ -148,6 +148,22 @@ impl fmt::Display for Refusal {
 impl Error for Refusal {}
 
 /// A reply in the memory of a slot: it is copied to a room, or lent.
+///
+/// ```
+/// use nizwarf::{Asked, Session, Slot};
+/// use std::io::{IoSlice, IoSliceMut};
+///
+/// let mut request = [0; 40];
+/// (request[0], request[4]) = (40, 255); // (no opcode)
+/// let (mut header, mut rest) = ([0; 10], [0; 100]);
+/// if let Asked::Finished(mut done) =
+///     Slot::new().ask(&Session::default(), &[IoSlice::new(&request)], 110)
+/// {
+///     let room = &mut [IoSliceMut::new(&mut header), IoSliceMut::new(&mut rest)];
+///     assert_eq!(done.reply.copy_to(room), 16);
+/// }
+/// assert_eq!(header[..8], [16, 0, 0, 0, 218, 255, 255, 255]);
+/// ```
 #[derive(Debug)]
 pub struct Reply<'s> {
     slot: &'s mut Slot,
@@ -207,7 +223,6 @@ pub struct Finished<'s> {
 
 /// What comes of asking.
 #[must_use = "the client waits for the reply"]
-#[allow(clippy::large_enum_variant)] // (in a box, each call would want memory)
 #[derive(Debug)]
 pub enum Asked<'s, 'r> {
     /// The request asks for a call.
@@ -241,10 +256,12 @@ impl Slot {
         request: &'r [IoSlice<'r>],
         room: usize,
     ) -> Asked<'s, 'r> {
-        let (code, call, told) = self.ask_raw(&session.0, request, room);
+        let mut pending = self.take(session.0);
+        let (code, told) = self.ask_raw(&mut pending, request, room);
         if code == ASKED {
-            return Asked::Call(PendingCall::new(&call, session.0, request));
+            return Asked::Call(PendingCall::new(pending, request));
         }
+        self.keep(pending);
         Asked::Finished(Finished {
             outcome: Refusal::of(code),
             interrupts: Some(told.interrupts).filter(|number| *number != 0),

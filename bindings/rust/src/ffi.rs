@@ -164,6 +164,13 @@ extern "C" {
     fn nizwarf_end_slot_at(slot: *mut RawSlot) -> i32;
 }
 
+/// A call that waits for its answer, and the session that it was asked in.
+#[derive(Debug)]
+pub(crate) struct Pending {
+    pub call: RawCall,
+    pub session: RawSession,
+}
+
 /// The answer of the library to a request that asks for a call.
 pub(crate) const ASKED: i32 = 15;
 
@@ -347,6 +354,8 @@ unsafe impl Sync for Item<'_> {}
 pub struct Slot {
     raw: RawSlot,
     reply: Vec<u8>,
+    /// Room for the next call: what an answered one had.
+    spare: Option<Box<Pending>>,
 }
 
 // SAFETY: what it points to is memory of `malloc`, which no thread is bound to, and of which the
@@ -359,20 +368,38 @@ impl Slot {
     /// A slot without memory. It gets some by its first request.
     #[must_use]
     pub const fn new() -> Self {
-        Slot { raw: RawSlot { at: ptr::null_mut() }, reply: Vec::new() }
+        Slot { raw: RawSlot { at: ptr::null_mut() }, reply: Vec::new(), spare: None }
     }
 
+    /// Room for a call.
+    pub(crate) fn take(&mut self, session: RawSession) -> Box<Pending> {
+        match self.spare.take() {
+            Some(mut pending) => {
+                pending.session = session;
+                pending
+            }
+            None => Box::new(Pending { call: RawCall::NONE, session }),
+        }
+    }
+
+    /// Keeps the room of a call for the next one.
+    pub(crate) fn keep(&mut self, pending: Box<Pending>) {
+        self.spare = Some(pending);
+    }
+
+    /// Asks for the call of a request, which is put there if the answer is [`ASKED`].
     pub(crate) fn ask_raw(
         &mut self,
-        session: &RawSession,
+        pending: &mut Pending,
         request: &[IoSlice<'_>],
         room: usize,
-    ) -> (i32, RawCall, RawTold) {
-        let mut call = RawCall::NONE;
+    ) -> (i32, RawTold) {
+        let Pending { call, session } = pending;
+        call.call = 0;
         let mut told = RawTold { options: session.options, ..RawTold::default() };
         // SAFETY: all are lent for the call and none is null; the slices are initialised bytes that do not
-        // change while they are borrowed; `call` and `told` come as the header says, as zeros but for
-        // the options.
+        // change while they are borrowed; `call` and `told` come as the header says, one with no call,
+        // the other as zeros but for the options.
         let code = unsafe {
             nizwarf_ask_at(
                 &mut self.raw,
@@ -380,21 +407,21 @@ impl Slot {
                 request.as_ptr(),
                 request.len(),
                 room,
-                &mut call,
+                call,
                 &mut told,
             )
         };
-        (code, call, told)
+        (code, told)
     }
 
     pub(crate) fn answer_raw(
         &mut self,
-        session: &RawSession,
-        call: &RawCall,
+        pending: &Pending,
         answer: &RawAnswer,
         text: &[u8],
         items: &[Item<'_>],
     ) -> (i32, RawTold) {
+        let Pending { call, session } = pending;
         let mut told = RawTold { options: call.options, ..RawTold::default() };
         // SAFETY: all are lent for the call and none is null, where a length is 0 either; of the answer
         // the library reads as much as there is; names of items are lent for longer than the items.

@@ -245,6 +245,26 @@ pub struct DirEntry<'a> {
 }
 
 /// Gives the items of a directory, one after another.
+///
+/// ```
+/// use nizwarf::{DirEntry, DirectoryIterator, DT_REG};
+/// use std::ffi::CString;
+///
+/// /// Files with these names, from a place on.
+/// struct Names(Vec<CString>, u64);
+///
+/// impl DirectoryIterator for Names {
+///     fn next(&mut self) -> Option<DirEntry<'_>> {
+///         let name = self.0.get(usize::try_from(self.1).ok()?)?;
+///         self.1 += 1;
+///         Some(DirEntry { ino: 100 + self.1, offset: self.1, type_: DT_REG, name })
+///     }
+/// }
+///
+/// let mut names = Names(vec![CString::new("a").unwrap(), CString::new("b").unwrap()], 1);
+/// assert_eq!(names.next().unwrap().name.to_bytes(), b"b");
+/// assert!(names.next().is_none());
+/// ```
 pub trait DirectoryIterator {
     /// The next item, if there is one.
     fn next(&mut self) -> Option<DirEntry<'_>>;
@@ -300,6 +320,17 @@ pub struct SecContext {
 }
 
 /// The data of a WRITE: they go to a file without a copy, or are read as bytes.
+///
+/// ```
+/// use nizwarf::ZeroCopyReader;
+/// use std::fs::File;
+/// use std::io;
+///
+/// /// What `FileSystem::write` does over a file.
+/// fn write<R: ZeroCopyReader>(file: &File, mut r: R, size: u32, offset: u64) -> io::Result<usize> {
+///     r.write_to_file_at(file, size as usize, offset)
+/// }
+/// ```
 pub trait ZeroCopyReader: io::Read {
     /// Writes at most `count` bytes to the file at a place, and gives how many. Fewer are written only if
     /// there are no more data, or the file takes no more.
@@ -315,7 +346,27 @@ impl<R: ZeroCopyReader> ZeroCopyReader for &mut R {
     }
 }
 
-/// The room for the data of a READ: they come from a file without a copy, or are written as bytes.
+/// The room for the data of a READ: they come from a file without a copy, or are written as bytes. A write of
+/// 0 bytes says that there is no more room.
+///
+/// ```
+/// use nizwarf::ZeroCopyWriter;
+/// use std::fs::File;
+/// use std::io;
+///
+/// /// What `FileSystem::read` does over a file.
+/// fn read<W: ZeroCopyWriter>(file: &File, mut w: W, size: u32, offset: u64) -> io::Result<usize> {
+///     w.read_from_file_at(file, size as usize, offset)
+/// }
+///
+/// /// And what it does over memory.
+/// fn read_text<W: ZeroCopyWriter>(mut w: W, size: u32, offset: u64) -> io::Result<usize> {
+///     let from = usize::try_from(offset).unwrap_or(usize::MAX);
+///     let text = b"some text".get(from..).unwrap_or_default();
+///     let text = &text[..text.len().min(size as usize)];
+///     w.write_all(text).map(|()| text.len())
+/// }
+/// ```
 pub trait ZeroCopyWriter: io::Write {
     /// Reads at most `count` bytes of the file from a place on, and gives how many. Fewer are read only
     /// if the file ends, or there is no more room.
@@ -363,7 +414,8 @@ impl<W: ZeroCopyWriter> ZeroCopyWriter for &mut W {
 /// let server = Server::new(Empty);
 /// assert!(server.options().is_empty());
 /// ```
-#[allow(unused_variables, clippy::too_many_arguments, clippy::missing_errors_doc)] // (as the protocol has them)
+// (arguments are those of the protocol, and so are errors)
+#[allow(unused_variables, clippy::too_many_arguments, clippy::missing_errors_doc)]
 pub trait FileSystem {
     /// The number of a node.
     type Inode: From<u64> + Into<u64>;

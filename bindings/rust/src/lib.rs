@@ -39,6 +39,9 @@
 //! [`To`] may go to another thread. No request is in flight beside an INIT or a DESTROY of a kernel.
 //!
 //! A request is plain memory: bytes that a guest can change meanwhile are copied first.
+//!
+//! Memory that is refused to the library is [`Refusal::OutOfMemory`]. What this crate wants itself, for a call,
+//! a name that is cut between slices, or a list, ends the process if it is refused, as everywhere in Rust.
 #![warn(missing_docs)]
 #![deny(unsafe_code, unsafe_op_in_unsafe_fn)]
 

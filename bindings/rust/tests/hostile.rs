@@ -1,5 +1,6 @@
-//! Requests with bytes changed, cut short or made longer, in rooms of any size, in two cuttings: nothing panics,
-//! both have the same reply, and each entry that the file system answered is in a reply or was given back.
+//! Requests with bytes changed, cut short or made longer, in rooms of any size, in two cuttings: nothing
+//! panics, both have the same reply, and each entry that the file system answered is in a reply or was given
+//! back.
 
 mod common;
 
