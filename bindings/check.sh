@@ -1,14 +1,14 @@
 #!/usr/bin/env bash
-# Holds what other languages have over the door: `hello` in Python and in Go, which are asked by a client and,
-# as root where /dev/fuse is, mounted; then the crate for Rust, by rust/check.sh.
+# Tests the bindings for other languages: `hello` in Python and in Go, with a client and, as root if there is
+# /dev/fuse, mounted; and the crate for Rust, with rust/check.sh.
 #
 # Usage: bindings/check.sh [--msrv]
-# --msrv goes to rust/check.sh. A language that is not there is left out, and said so.
+# --msrv is passed to rust/check.sh. Languages that are not installed are skipped, with a message.
 #
-# Python and Go link the shared library. That is the packed one if out/packages has one of today's sources;
-# else one is linked from the proved library, or from that which tools/unproved.sh builds in a minute.
-# It wants a C compiler and the Rattle toolchain, python3, go with its cgo, and cargo.
-# Status 0: all that is there is as it should be; 1: not so; 2: it could not start.
+# Python and Go use the shared library. If out/packages has one and no source is newer, it is used. Otherwise
+# it is linked from the proved library, or from that which tools/unproved.sh builds in a minute.
+# It needs a C compiler and the Rattle toolchain; and python3, go with cgo, and cargo for their languages.
+# Status 0: all checks passed; 1: one failed; 2: it could not start.
 # shellcheck source-path=SCRIPTDIR/../tools
 set -euo pipefail
 tools=$(cd "$(dirname "$0")/../tools" && pwd)
@@ -26,13 +26,13 @@ trap clean_up EXIT
 built=$here/out/bindings
 mkdir -p "$built"
 
-# Makes the shared library, as it is named where it is installed.
+# Provides the shared library, by the names that it has when it is installed.
 make_shared() {
     local packed
     for packed in "$here"/out/packages/nizwarf-*-linux-x86_64.tar.gz; do
         if [ -e "$packed" ] && is_newest "$packed"; then
             tar -xzf "$packed" -C "$built" --strip-components=2 --wildcards '*/lib/libnizwarf.so*'
-            echo "The shared library is that of ${packed##*/}." >&2
+            echo "The shared library is from ${packed##*/}." >&2
             return
         fi
     done
@@ -43,13 +43,13 @@ make_shared() {
     ln -s libnizwarf.so.0 "$built/libnizwarf.so"
 }
 
-# Asks a program, and mounts it.
+# Tests a program with a client, and mounted.
 check_hello() {
-    step "$1, asked by a client" ask_hello "$2"
+    step "$1 with a client" ask_hello "$2"
     if may_mount; then
         step "$1, mounted" use_mount "$2" "$folder/mount"
     else
-        echo "$1 is not mounted: that wants root, /dev/fuse and mountpoint." >&2
+        echo "$1 is not mounted: this needs root, /dev/fuse and mountpoint." >&2
     fi
 }
 
@@ -57,26 +57,39 @@ make_shared
 export LD_LIBRARY_PATH=$built${LD_LIBRARY_PATH:+:$LD_LIBRARY_PATH}
 if command -v python3 > /dev/null; then
     check_hello hello.py "$here/bindings/python/hello.py"
+    sanitizer=$(cc -print-file-name=libasan.so)
+    if [ -e "$sanitizer" ]; then
+        LD_PRELOAD=$sanitizer PYTHONMALLOC=malloc ASAN_OPTIONS=detect_leaks=0 \
+            step "hello.py with the address sanitizer" \
+            ask_hello "$here/bindings/python/hello.py"
+    fi
 else
-    echo "Missing: the command \`python3\`. Nothing is held in Python: apt-get install python3." >&2
+    echo "python3 is not installed, so Python is skipped: apt-get install python3." >&2
 fi
 if command -v go > /dev/null; then
     export GOCACHE=$built/go-cache GOFLAGS=-mod=mod GOPROXY=off
     export CGO_CFLAGS="-O2 -Wall -I$here/include" CGO_LDFLAGS=-L$built
-    # (pointers that are handed over are looked at through and through)
+    # cgo checks all pointers that are passed to C.
     case $(go env GOVERSION) in
         go1.1[0-9]* | go1.20*) export GODEBUG=cgocheck=2 ;;
         *) export GOEXPERIMENT=cgocheck2 ;;
     esac
-    step "The format of hello.go" test -z "$(gofmt -l "$here/bindings/go")"
-    step "What vet says of hello.go" go vet "$here/bindings/go/hello.go"
-    step "hello.go" go build -o "$built/hello" "$here/bindings/go/hello.go"
+    step "Format of hello.go" test -z "$(gofmt -l "$here/bindings/go")"
+    step "go vet" go vet "$here/bindings/go/hello.go"
+    step "Build of hello.go" go build -o "$built/hello" "$here/bindings/go/hello.go"
     check_hello hello.go "$built/hello"
+    for sanitizer in -asan -race; do
+        if go build $sanitizer -o "$built/hello$sanitizer" "$here/bindings/go/hello.go" 2> "$folder/said"; then
+            step "hello.go with $sanitizer" ask_hello "$built/hello$sanitizer"
+        else
+            echo "go has no $sanitizer here, so it is skipped." >&2
+        fi
+    done
 else
-    echo "Missing: the command \`go\`. Nothing is held in Go: apt-get install golang-go." >&2
+    echo "go is not installed, so Go is skipped: apt-get install golang-go." >&2
 fi
 if command -v cargo > /dev/null; then
     "$here/bindings/rust/check.sh" "$@"
 else
-    echo "Missing: the command \`cargo\`. Nothing is held in Rust: apt-get install cargo." >&2
+    echo "cargo is not installed, so Rust is skipped: apt-get install cargo." >&2
 fi

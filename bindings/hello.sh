@@ -1,8 +1,8 @@
-# For check.sh and rust/check.sh, which source tools/usage.sh first: programs that serve the file `hello` as
-# examples/c/hello.c does. `folder` is a folder for what they want.
+# Sourced by check.sh and rust/check.sh: tests of programs that serve the file `hello` as examples/c/hello.c
+# does. `folder` is a temporary folder.
 # shellcheck shell=bash
 
-# Runs a step, and shows what it says only if it fails: step "WHAT IT IS" COMMAND..
+# Runs a command, and prints its output only if it fails: step "NAME" COMMAND..
 step() {
     local name=$1
     shift
@@ -15,14 +15,14 @@ step() {
     fi
 }
 
-# Asks a program by tools/c-hello.c, which hands it a descriptor as `PROGRAM --fd N`.
+# Tests a program with tools/c-hello.c, which runs it as `PROGRAM --fd N`.
 ask_hello() {
     [ -e "$folder/client" ] || cc -O1 -o "$folder/client" "$here/tools/c-hello.c"
     timeout 60 "$folder/client" "$1"
 }
 
-# Has a program mount it, lists and reads it, and unmounts it: use_mount PROGRAM WORD.., where one of the words
-# is `$folder/mount`.
+# Runs a program that mounts the file on `$folder/mount`, uses the mount, and unmounts it:
+# use_mount PROGRAM WORD..
 use_mount() {
     local server hello=$folder/mount/hello
     mkdir -p "$folder/mount"
@@ -38,12 +38,12 @@ use_mount() {
         && ! cat "$folder/mount/none" && ! echo text >> "$hello" && umount "$folder/mount" && wait "$server"
 }
 
-# Whether something can be mounted.
+# Whether the programs can mount.
 may_mount() {
     [ "$(id -u)" = 0 ] && [ -e /dev/fuse ] && command -v mountpoint > /dev/null
 }
 
-# Takes away what is mounted, and the folder.
+# Unmounts, and removes the folder.
 clean_up() {
     umount -l "$folder/mount" 2> /dev/null || true
     rm -rf "$folder"

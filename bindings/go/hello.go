@@ -22,11 +22,11 @@ const (
 	text                 = "Hello, world!\n"
 	usage                = `Usage: hello MOUNTPOINT, or hello --fd N
 Mounts a file, as root, and serves it until it is unmounted;
-or serves what is at the other end of the descriptor N.
+or serves it at the socket with the descriptor N.
 `
 )
 
-// What C looks at through a pointer is memory of C.
+// Memory that C reads through a pointer in a struct is allocated by C.
 var (
 	request = C.malloc(longest)
 	room    = C.malloc(longest)
@@ -44,7 +44,7 @@ func setAttr(entry *C.nizwarf_entry, node C.uint64_t) {
 	}
 }
 
-// Makes a call, and gives its error.
+// Makes a call, and returns its error.
 func makeCall(call *C.nizwarf_call, answer *C.nizwarf_answer) syscall.Errno {
 	switch call.call {
 	case C.NIZWARF_LOOKUP:
@@ -78,8 +78,8 @@ func makeCall(call *C.nizwarf_call, answer *C.nizwarf_answer) syscall.Errno {
 	return 0
 }
 
-// Answers the request of so many bytes, and gives the reply, which may be none. (No lookups are counted here,
-// so none is given back.)
+// Answers a request, and returns the reply, which may be empty. This file system does not count lookups, so it
+// has none to give back.
 func serve(size int) ([]byte, error) {
 	var call C.nizwarf_call
 	var told C.nizwarf_told
@@ -120,7 +120,7 @@ func run(device int) error {
 		if errors.Is(err, syscall.EINTR) {
 			continue
 		}
-		if size == 0 || errors.Is(err, syscall.ENODEV) { // which says that it is unmounted
+		if size == 0 || errors.Is(err, syscall.ENODEV) { // it was unmounted
 			return nil
 		}
 		if err != nil {

@@ -2,14 +2,14 @@
 """A file system of one file, `hello`, over /dev/fuse and the door of nizwarf.h.
 
 Usage: hello.py MOUNTPOINT, or hello.py --fd N
-Mounts a file, as root, and serves it until it is unmounted; or serves what is at the other end of the
-descriptor N. NIZWARF_LIB names the library if it is not the installed libnizwarf.so.0.
+Mounts a file, as root, and serves it until it is unmounted; or serves it at the socket with the descriptor N.
+NIZWARF_LIB is the path of the library if it is not installed.
 """
 import ctypes, errno, os, stat, sys
 from ctypes import POINTER, Structure, byref, c_char, c_char_p, c_int, c_size_t, c_uint32, c_uint64, c_void_p
 
 
-# The structs of nizwarf.h. Fields that nothing here reads or sets are numbers without a name.
+# The structs of nizwarf.h. Fields that are not used here have no names.
 def struct(name, size, *fields):
     kind = type(name, (Structure,), {"_fields_": fields})
     assert ctypes.sizeof(kind) == size, name
@@ -46,7 +46,7 @@ def set_attr(entry, node):
 
 
 def make(call, request, answer):
-    """Makes a call: sets the answer, and gives the data of a READ, and the items of a directory."""
+    """Makes a call: sets the answer, and returns the data of a READ and the items of a directory."""
     if call.call == LOOKUP:
         name = request[call.name.at:call.name.at + call.name.len]
         answer.error = 0 if call.node == ROOT and name == b"hello" else errno.ENOENT
@@ -67,7 +67,7 @@ def make(call, request, answer):
 
 
 def serve(library, slot, session, request):
-    """Answers a request. Gives the reply, which may be none."""
+    """Answers a request, and returns the reply, which may be empty. (There are no lookups to give back.)"""
     call, told, answer = Call(), Told(options=session.options), Answer()
     segment, data, items = Segment(request, len(request)), b"", []
     code = library.nizwarf_ask_at(byref(slot), byref(session), byref(segment), 1, LONGEST, byref(call), byref(told))
@@ -110,7 +110,7 @@ def main(words):
             if reply := serve(library, slot, session, request):
                 os.write(device, reply)
     except OSError as error:
-        if error.errno != errno.ENODEV:  # which says that it is unmounted
+        if error.errno != errno.ENODEV:  # it was unmounted
             raise
     library.nizwarf_end_slot_at(byref(slot))
 

@@ -1,4 +1,4 @@
-//! Finds the library: in the folder `NIZWARF_LIB_DIR` if that is set, else by `pkg-config nizwarf`.
+//! Finds libnizwarf: in the folder `NIZWARF_LIB_DIR` if that is set, otherwise by `pkg-config nizwarf`.
 
 use std::env;
 use std::path::Path;
@@ -17,7 +17,7 @@ fn main() {
         Err(_) => link_installed(),
     };
     if let Err(fault) = found {
-        eprintln!("The library libnizwarf is not there: {fault}.");
+        eprintln!("libnizwarf was not found: {fault}.");
         eprintln!("Install its development package, so that `pkg-config {NAME}` finds it, or set");
         eprintln!("NIZWARF_LIB_DIR to a folder with libnizwarf.a, with libnizwarf.so, or with");
         eprintln!("libvfs_door.a and liblibc_c.a.");
@@ -25,7 +25,7 @@ fn main() {
     }
 }
 
-/// Links what the folder has.
+/// Links the library in a folder.
 fn link_folder(folder: &str) -> Result<(), String> {
     let has = |file: &str| Path::new(folder).join(file).exists();
     let libraries: &[&str] = if has("libnizwarf.a") {
@@ -37,7 +37,7 @@ fn link_folder(folder: &str) -> Result<(), String> {
     } else {
         return Err(format!("NIZWARF_LIB_DIR={folder} has none of its files"));
     };
-    // (cargo runs this program in the package's folder, and the linker elsewhere)
+    // The linker runs in another folder.
     let folder = Path::new(folder)
         .canonicalize()
         .map_err(|fault| format!("NIZWARF_LIB_DIR={folder}: {fault}"))?;
@@ -51,7 +51,7 @@ fn link_folder(folder: &str) -> Result<(), String> {
     Ok(())
 }
 
-/// Links what `pkg-config` says.
+/// Links the installed library.
 fn link_installed() -> Result<(), String> {
     let program = env::var("PKG_CONFIG").unwrap_or_else(|_| "pkg-config".into());
     let said = Command::new(&program)
@@ -71,7 +71,6 @@ fn link_installed() -> Result<(), String> {
             named = true;
         }
     }
-    // (of a folder that the linker knows by itself it says nothing)
     if named {
         Ok(())
     } else {

@@ -1,8 +1,8 @@
-//! A check in front of someone else's session: it hands on the requests that are whole, and no others.
+//! Protects a program that serves FUSE requests: it passes on only those that are well-formed.
 //!
-//! The library is asked what each request says, and no call is made. Requests that need no file system are
-//! answered here, as the library does; a refused one is answered EIO; all others go to the session, whose
-//! replies go back as they are.
+//! The library decodes each request, and its call goes no further. A request that is refused is answered EIO.
+//! One that needs no call is answered by the library. The program gets all others, and its replies are passed
+//! back unchanged.
 
 use nizwarf::{Asked, Call, FsOptions, Session, Slot};
 use std::env;
@@ -16,23 +16,23 @@ use std::thread;
 
 const USAGE: &str =
     "Usage: check MOUNTPOINT PROGRAM [WORD..], as root: mounts what PROGRAM serves at its
-       standard input, and hands it only requests that are whole.
-       check - PROGRAM [WORD..]: the same for what asks at standard input.";
+       standard input, and passes only well-formed requests on to it.
+       check - PROGRAM [WORD..]: the same for requests from standard input.";
 
-/// What is known of the session between a client and a program.
+/// The state of the session.
 struct Check {
     session: Session,
     options: AtomicU64,
-    /// The number of the last INIT that was handed on: its reply says the options.
+    /// The number of the last INIT that was passed on. Its reply has the options.
     init: AtomicU64,
 }
 
-/// What becomes of a request.
+/// What to do with a request.
 #[derive(Debug, PartialEq)]
 enum Verdict {
-    /// It is whole.
-    HandOn,
-    /// It has this reply, or none.
+    /// Pass it on.
+    PassOn,
+    /// Send this reply, unless it is empty.
     Reply(Vec<u8>),
 }
 
@@ -50,9 +50,9 @@ impl Check {
                 if let Call::Init { to, .. } = &pending.call {
                     self.init.store(to.unique(), Ordering::Release);
                 }
-                Verdict::HandOn
+                Verdict::PassOn
             }
-            Asked::Finished(done) if done.interrupts.is_some() => Verdict::HandOn,
+            Asked::Finished(done) if done.interrupts.is_some() => Verdict::PassOn,
             Asked::Finished(mut done) => match done.outcome {
                 Ok(()) => Verdict::Reply(done.reply.bytes().to_vec()),
                 Err(refusal) => {
@@ -63,7 +63,7 @@ impl Check {
         }
     }
 
-    /// Sees a reply of the session.
+    /// Looks for the options in a reply of the program.
     fn see(&self, reply: &[u8]) {
         let word = |at: usize| {
             let bytes = reply.get(at..at + 4).and_then(|bytes| bytes.try_into().ok());
@@ -76,7 +76,7 @@ impl Check {
     }
 }
 
-/// The fault EIO for a request, if its number can be read.
+/// Returns the reply EIO to a request, or nothing if it is too short to have a number.
 fn fault(request: &[u8]) -> Vec<u8> {
     const EIO: i32 = 5;
     let unique = request.get(8..16).unwrap_or_default();
@@ -86,7 +86,7 @@ fn fault(request: &[u8]) -> Vec<u8> {
     [&16_u32.to_le_bytes(), &(-EIO).to_le_bytes(), unique].concat()
 }
 
-/// Reads one message. Empty: there are no more.
+/// Reads a message. It is empty at the end.
 fn next<'a>(mut from: &File, buffer: &'a mut [u8]) -> io::Result<&'a [u8]> {
     const ENODEV: i32 = 19;
     match from.read(buffer) {
@@ -95,7 +95,7 @@ fn next<'a>(mut from: &File, buffer: &'a mut [u8]) -> io::Result<&'a [u8]> {
     }
 }
 
-/// Carries messages between the client's device and the session, until the client ends.
+/// Passes messages between the client's device and the program until the client ends.
 fn relay(device: &File, program: &File) -> io::Result<()> {
     let check = Check::new(Session::default());
     let longest = check.session.longest_message();
@@ -108,7 +108,6 @@ fn relay(device: &File, program: &File) -> io::Result<()> {
                     return Ok(());
                 }
                 check.see(reply);
-                // (an answer that no one waits for any more is no fault)
                 let _ = (&mut &*device).write(reply)?;
             }
         });
@@ -120,7 +119,7 @@ fn relay(device: &File, program: &File) -> io::Result<()> {
                 return replies.join().unwrap_or(Ok(()));
             }
             match check.judge(&mut slot, request) {
-                Verdict::HandOn => drop((&mut &*program).write(request)?),
+                Verdict::PassOn => drop((&mut &*program).write(request)?),
                 Verdict::Reply(reply) if reply.is_empty() => {}
                 Verdict::Reply(reply) => drop((&mut &*device).write(&reply)?),
             }
@@ -132,12 +131,12 @@ extern "C" {
     fn socketpair(domain: c_int, kind: c_int, protocol: c_int, ends: *mut c_int) -> c_int;
 }
 
-/// Two ends of a socket that keeps messages apart.
+/// Creates a pair of sockets that preserve message boundaries.
 fn ends() -> io::Result<(File, File)> {
     const AF_UNIX: c_int = 1;
     const SOCK_SEQPACKET_CLOEXEC: c_int = 5 | 0o2_000_000;
     let mut ends = [0; 2];
-    // SAFETY: there is room for two numbers, and both descriptors are new ones.
+    // SAFETY: the array has two elements, and nothing else owns the new descriptors.
     unsafe {
         if socketpair(AF_UNIX, SOCK_SEQPACKET_CLOEXEC, 0, ends.as_mut_ptr()) < 0 {
             return Err(io::Error::last_os_error());
@@ -146,7 +145,7 @@ fn ends() -> io::Result<(File, File)> {
     }
 }
 
-/// Tells the other end that nothing more comes.
+/// Ends what the other end reads.
 fn end_writing(socket: &File) -> io::Result<()> {
     let socket = std::os::unix::net::UnixStream::from(socket.as_fd().try_clone_to_owned()?);
     socket.shutdown(std::net::Shutdown::Write)
@@ -195,11 +194,11 @@ fn main() -> io::Result<()> {
 mod tests {
     use super::*;
 
-    /// A request: its length, its opcode, its number, node 1, and what stands behind the header.
-    fn request(len: u8, opcode: u8, unique: u8, behind: &[u8]) -> Vec<u8> {
+    /// A request about node 1.
+    fn request(len: u8, opcode: u8, unique: u8, body: &[u8]) -> Vec<u8> {
         let mut bytes = vec![0; 40];
         (bytes[0], bytes[4], bytes[8], bytes[16]) = (len, opcode, unique, 1);
-        bytes.extend_from_slice(behind);
+        bytes.extend_from_slice(body);
         bytes
     }
 
@@ -209,22 +208,22 @@ mod tests {
     }
 
     #[test]
-    fn only_whole_requests_are_handed_on() {
+    fn only_well_formed_requests_are_passed_on() {
         let (client, device) = ends().unwrap();
         let (ours, program) = ends().unwrap();
         let relayed = thread::spawn(move || relay(&device, &ours));
         let ask = |bytes: &[u8]| assert_eq!((&mut &client).write(bytes).unwrap(), bytes.len());
-        // INIT of version 7.38 that offers security contexts; the program's reply agrees on them.
-        let mut behind = vec![0; 64];
-        (behind[0], behind[4], behind[15], behind[16]) = (7, 38, 0x40, 1);
-        let init = request(104, 26, 1, &behind);
+        // An INIT of version 7.38 that offers security contexts. The program accepts them.
+        let mut body = vec![0; 64];
+        (body[0], body[4], body[15], body[16]) = (7, 38, 0x40, 1);
+        let init = request(104, 26, 1, &body);
         ask(&init);
         assert_eq!(told(&program), init);
         let mut reply = vec![0; 80];
         (reply[0], reply[8], reply[16], reply[20], reply[48]) = (80, 1, 7, 38, 1);
         assert_eq!((&mut &program).write(&reply).unwrap(), 80);
         assert_eq!(told(&client), reply);
-        // What is cut short, has no name or no security context never comes to the program.
+        // No name, a name without NUL, a wrong length, and no security context.
         for broken in [
             request(40, 1, 2, &[]),
             request(43, 1, 2, b"abc"),
@@ -236,7 +235,7 @@ mod tests {
             assert_eq!(told(&client), eio);
         }
         ask(&[1, 2, 3]);
-        // An opcode that there is not is answered ENOSYS.
+        // An opcode that does not exist is answered ENOSYS.
         ask(&request(40, 99, 3, &[]));
         assert_eq!(told(&client), [16, 0, 0, 0, 218, 255, 255, 255, 3, 0, 0, 0, 0, 0, 0, 0]);
         let whole = request(44, 1, 4, b"abc\0");

@@ -1,11 +1,11 @@
 //! A file system of one file, `hello`.
-#![allow(clippy::wildcard_imports)] // (on few lines)
+#![allow(clippy::wildcard_imports)] // fewer lines
 use nizwarf::*;
 use std::{env, ffi::CStr, fs::File, io::*, os::unix::io::AsFd, process::*, time::Duration};
 
 const TEXT: &[u8] = b"Hello, world!\n";
-const USAGE: &str = "Usage: hello MOUNTPOINT, as root: serves a file there until it is unmounted.
-       hello -: serves it to what is at the other end of standard input.";
+const USAGE: &str = "Usage: hello MOUNTPOINT, as root: mounts a file there until it is unmounted.
+       hello -: serves it at the socket that is standard input.";
 struct Hello;
 struct Items(u64);
 
@@ -18,7 +18,7 @@ impl DirectoryIterator for Items {
         Some(DirEntry { ino, offset: self.0, type_: DT_UNKNOWN, name })
     }
 }
-#[rustfmt::skip] // (on few lines)
+#[rustfmt::skip] // fewer lines
 impl FileSystem for Hello {
     type Inode = u64;
     type Handle = u64;

@@ -1,4 +1,4 @@
-//! What calls are answered with.
+//! Answers to calls.
 #![forbid(unsafe_code)]
 
 use crate::door::{Refusal, Reply};
@@ -10,7 +10,7 @@ use std::io;
 use std::marker::PhantomData;
 use std::time::Duration;
 
-/// Kinds of answers, each for a [`To`] of its own.
+/// Declares the kinds of answers.
 macro_rules! kinds {
     ($($(#[$about:meta])* $name:ident)*) => {
         $($(#[$about])* #[derive(Debug)] pub enum $name {})*
@@ -18,44 +18,46 @@ macro_rules! kinds {
 }
 
 kinds! {
-    /// There is no reply.
+    /// No reply.
     Quiet
-    /// There is no reply, and no options are agreed on from then on.
+    /// No reply, and the options are reset.
     Destroyed
-    /// It is done, and nothing is said besides.
+    /// Success, or an error.
     Done
-    /// Only a fault is replied.
+    /// An error, or no reply.
     FaultOrSilence
-    /// How many bytes of data were put into the room.
+    /// How many bytes of data were put into the buffer.
     Data
-    /// The options that are wanted of those offered.
+    /// Options.
     Want
     /// An entry.
     EntryOf
-    /// Attributes, and how long they hold.
+    /// Attributes, and how long they are valid.
     Attributes
-    /// What was opened.
+    /// An open file or directory.
     Opened
-    /// An entry, and what was opened.
+    /// An entry, and its open file.
     Created
-    /// What the file system holds.
+    /// Statistics of the file system.
     Statistics
     /// A text.
     Text
     /// A text, or how long it is.
     TextOrCount
-    /// A place in a file.
+    /// An offset in a file.
     Offset
     /// How many bytes were written.
     Written
-    /// Items of a directory.
+    /// Items of a directory listing.
     Directory
-    /// It can only be refused.
+    /// An error only.
     Fault
 }
 
-/// What answers one call, once, by an answer of its kind. It borrows nothing, so it may be kept, and go
-/// to another thread. One that is dropped leaves the request without a reply.
+/// Answers one call, once. The type parameter is the kind of the answer, one of [`kinds`](crate::kinds).
+///
+/// It borrows nothing, so it can be kept, and sent to another thread. If it is dropped, the request gets no
+/// reply.
 ///
 /// ```
 /// use nizwarf::{Asked, Call, Session, Slot};
@@ -76,13 +78,13 @@ kinds! {
 /// # unreachable!()
 /// ```
 ///
-/// What it may not be answered with does not compile:
+/// An answer of another kind does not compile:
 ///
 /// ```compile_fail,E0308
 /// use nizwarf::{kinds, Slot, To};
 ///
 /// fn answer(slot: &mut Slot, to: To<kinds::EntryOf>) {
-///     let _ = to.answer(slot, Ok(5)); // (a number is no entry)
+///     let _ = to.answer(slot, Ok(5)); // a number is not an entry
 /// }
 /// ```
 #[must_use = "the client waits for the reply"]
@@ -91,13 +93,13 @@ pub struct To<K> {
     kind: PhantomData<fn(K)>,
 }
 
-/// What came of an answer.
+/// The result of an answer.
 ///
 /// ```
 /// use nizwarf::{Asked, Attr, Call, Entry, Session, Slot};
 /// use std::io::IoSlice;
 ///
-/// // A LOOKUP of `a` in the root, with a room that is too short for an entry.
+/// // A LOOKUP of `a` in the root, with a buffer that is too short for an entry.
 /// let mut request = [0; 42];
 /// (request[0], request[4], request[16], request[40]) = (42, 1, 1, b'a');
 /// let request = [IoSlice::new(&request)];
@@ -120,27 +122,27 @@ pub struct To<K> {
 pub struct Told<'s> {
     /// Why there is no reply, if there should be one.
     pub outcome: Result<(), Refusal>,
-    /// The options from now on, after an INIT or a DESTROY.
+    /// The options of the session from now on, if the call was an INIT or a DESTROY.
     pub options: Option<FsOptions>,
-    /// How many items of a directory are in the reply, the first ones.
+    /// How many of the items are in the reply: the first ones.
     pub taken: usize,
     held: Vec<u64>,
     reply: Reply<'s>,
 }
 
 impl<'s> Told<'s> {
-    /// Gives the reply, and before it calls `forget` for each node of which a lookup is to be given back:
-    /// the client never got its entry.
+    /// Calls `forget` for each node whose entry the client did not get, so that the file system can drop
+    /// one lookup of it. Then returns the reply.
     #[must_use = "the client waits for the reply"]
     pub fn give_back(self, forget: impl FnMut(u64)) -> Reply<'s> {
         self.held.into_iter().for_each(forget);
         self.reply
     }
 
-    /// The reply to a call that answers no entry.
+    /// Returns the reply to a call whose answer has no entry.
     ///
     /// # Panics
-    /// If there is something to give back, which [`give_back`](Self::give_back) is for.
+    /// If there is a lookup to give back. Use [`give_back`](Self::give_back) for calls that have entries.
     #[must_use = "the client waits for the reply"]
     pub fn reply(self) -> Reply<'s> {
         self.give_back(|node| panic!("a lookup of node {node} is to be given back"))
@@ -152,20 +154,19 @@ impl<K> To<K> {
         To { pending, kind: PhantomData }
     }
 
-    /// The number of the request.
+    /// Returns the number of the request.
     #[must_use]
     pub fn unique(&self) -> u64 {
         self.pending.call.unique
     }
 
-    /// How many bytes of room the reply has.
+    /// Returns the size of the reply buffer that was stated when the call was asked for.
     #[must_use]
     pub fn room(&self) -> usize {
         usize::try_from(self.pending.call.room).unwrap_or(usize::MAX)
     }
 
-    /// Answers with an error. One that has no number is the fault EIO. A call that has no reply has none
-    /// here either.
+    /// Answers with an error. One without a number becomes EIO. Calls that have no reply get none.
     pub fn fail<'s>(self, slot: &'s mut Slot, error: &io::Error) -> Told<'s> {
         self.tell(slot, &RawAnswer::fault(error), &[], &[])
     }
@@ -202,7 +203,7 @@ impl<K> To<K> {
         }
     }
 
-    /// Answers by what an answer of zeros is changed to, or by an error.
+    /// Answers with an error, or with an answer whose fields `change` sets.
     fn say<T>(
         self,
         slot: &mut Slot,
@@ -227,64 +228,64 @@ fn opened(answer: &mut RawAnswer, handle: Option<u64>, options: OpenOptions) {
 }
 
 impl To<Quiet> {
-    /// Says that the call was made.
+    /// Reports that the call was made.
     pub fn done(self, slot: &mut Slot) -> Told<'_> {
         self.tell(slot, &RawAnswer::DONE, &[], &[])
     }
 }
 
 impl To<Destroyed> {
-    /// Says that the call was made.
+    /// Reports that the call was made.
     pub fn done(self, slot: &mut Slot) -> Told<'_> {
         self.tell(slot, &RawAnswer::DONE, &[], &[])
     }
 }
 
 impl To<Done> {
-    /// Answers that it is done, or an error.
+    /// Answers with success or an error.
     pub fn answer(self, slot: &mut Slot, result: io::Result<()>) -> Told<'_> {
         self.say(slot, result, |_, ()| ())
     }
 }
 
 impl To<FaultOrSilence> {
-    /// Answers an error, or nothing.
+    /// Answers with an error; success has no reply.
     pub fn answer(self, slot: &mut Slot, result: io::Result<()>) -> Told<'_> {
         self.say(slot, result, |_, ()| ())
     }
 }
 
 impl To<Data> {
-    /// The most bytes of data that may be put: what is asked for, and what there is room for.
+    /// Returns how many bytes of data fit: at most `size`, and what the buffer has after 16 bytes.
     #[must_use]
     pub fn most(&self) -> usize {
         let room = usize::try_from(self.pending.call.length).unwrap_or(usize::MAX);
         room.min(self.pending.call.size as usize)
     }
 
-    /// Answers how many bytes were put behind the first 16 of the room. More than the most are the fault
-    /// EIO. The reply's own bytes are those 16.
+    /// Answers with the number of bytes that the caller put into the buffer, after its first 16 bytes. The
+    /// reply puts these 16. A number above [`most`](Self::most) is answered EIO.
     pub fn answer(self, slot: &mut Slot, result: io::Result<usize>) -> Told<'_> {
         self.say(slot, result, |answer, count| answer.count = count as u64)
     }
 }
 
 impl To<Want> {
-    /// Answers the options that are wanted. Those that were not offered are left out.
+    /// Answers with the options that the file system wants. Those that were not offered are ignored.
     pub fn answer(self, slot: &mut Slot, result: io::Result<FsOptions>) -> Told<'_> {
         self.say(slot, result, |answer, options| answer.count = options.bits())
     }
 }
 
 impl To<EntryOf> {
-    /// Answers an entry: the client holds a lookup more of its node, if it is not 0.
+    /// Answers with an entry. The client then holds one more lookup of its node, if that is not 0.
     pub fn answer(self, slot: &mut Slot, result: io::Result<Entry>) -> Told<'_> {
         self.say(slot, result, |answer, entry| answer.entry = RawEntry::from(&entry))
     }
 }
 
 impl To<Attributes> {
-    /// Answers attributes, and how long they hold.
+    /// Answers with attributes, and how long they are valid.
     pub fn answer(self, slot: &mut Slot, result: io::Result<(Attr, Duration)>) -> Told<'_> {
         self.say(slot, result, |answer, (attr, timeout)| {
             answer.entry.attr = attr;
@@ -295,7 +296,7 @@ impl To<Attributes> {
 }
 
 impl To<Opened> {
-    /// Answers a handle, which is 0 where there is none, and what is said of the open file.
+    /// Answers with a handle, which is sent as 0 if there is none, and options of the open file.
     pub fn answer(
         self,
         slot: &mut Slot,
@@ -306,7 +307,7 @@ impl To<Opened> {
 }
 
 impl To<Created> {
-    /// Answers an entry, as for a lookup, and what an OPEN answers.
+    /// Answers with an entry, as a LOOKUP, and an open file, as an OPEN.
     pub fn answer(
         self,
         slot: &mut Slot,
@@ -320,14 +321,14 @@ impl To<Created> {
 }
 
 impl To<Statistics> {
-    /// Answers what the file system holds.
+    /// Answers with statistics.
     pub fn answer(self, slot: &mut Slot, result: io::Result<Statvfs>) -> Told<'_> {
         self.say(slot, result, |answer, statfs| answer.statfs = statfs)
     }
 }
 
 impl To<Text> {
-    /// Answers a text, which is all of the reply behind its header.
+    /// Answers with a text, which follows the header of the reply.
     pub fn answer<'s>(self, slot: &'s mut Slot, result: io::Result<&[u8]>) -> Told<'s> {
         match result {
             Ok(text) => self.tell(slot, &RawAnswer::DONE, text, &[]),
@@ -337,7 +338,7 @@ impl To<Text> {
 }
 
 impl To<TextOrCount> {
-    /// Answers a text, or how long it is where 0 bytes are wanted.
+    /// Answers with a text, or with its length if the `size` of the call is 0.
     pub fn answer<T: Into<GetxattrReply>>(
         self,
         slot: &mut Slot,
@@ -364,22 +365,22 @@ impl From<ListxattrReply> for GetxattrReply {
 }
 
 impl To<Offset> {
-    /// Answers a place in a file.
+    /// Answers with an offset.
     pub fn answer(self, slot: &mut Slot, result: io::Result<u64>) -> Told<'_> {
         self.say(slot, result, |answer, offset| answer.count = offset)
     }
 }
 
 impl To<Written> {
-    /// Answers how many bytes were written.
+    /// Answers with the number of bytes that were written.
     pub fn answer(self, slot: &mut Slot, result: io::Result<usize>) -> Told<'_> {
         self.say(slot, result, |answer, count| answer.count = count as u64)
     }
 }
 
 impl To<Directory> {
-    /// Answers items. The reply has the first of them, up to one that does not fit; with `plus` also up
-    /// to one whose lookup failed, and its error is replied if it is the first.
+    /// Answers with items. The reply contains them up to the first that does not fit. With `plus` it also
+    /// ends before an item whose lookup failed; if that is the first item, its error is the reply.
     pub fn answer<'s>(self, slot: &'s mut Slot, result: io::Result<&[Item<'_>]>) -> Told<'s> {
         match result {
             Ok(items) => self.tell(slot, &RawAnswer::DONE, &[], items),

@@ -1,4 +1,4 @@
-//! Bytes of a request, which may be cut between slices.
+//! Ranges of a request, which may span several slices.
 #![forbid(unsafe_code)]
 
 use std::borrow::Cow;
@@ -6,13 +6,13 @@ use std::ffi::{CStr, CString};
 use std::fmt;
 use std::io::IoSlice;
 
-/// Bytes of a request where they lie: the data of a WRITE, for one.
+/// A range of the bytes of a request, such as the data of a WRITE.
 ///
 /// ```
 /// use nizwarf::{Asked, Call, Session, Slot};
 /// use std::io::IoSlice;
 ///
-/// // A WRITE of 4 bytes to node 2, whose data come in two slices.
+/// // A WRITE of 4 bytes to node 2, whose data are in two slices.
 /// let mut request = vec![0; 80];
 /// request[0] = 84;
 /// request[4] = 16;
@@ -41,38 +41,38 @@ pub struct Bytes<'r> {
 }
 
 impl<'r> Bytes<'r> {
-    /// Bytes from a place on. What is not there is left out.
+    /// The bytes from `at` on, `len` or as many as there are.
     pub(crate) fn new(slices: &'r [IoSlice<'r>], at: usize, len: usize) -> Self {
         let mut bytes = Bytes { slices, at, len };
         bytes.len = bytes.pieces().map(<[u8]>::len).sum();
         bytes
     }
 
-    /// How many there are.
+    /// Returns the number of bytes.
     #[must_use]
     pub fn len(&self) -> usize {
         self.len
     }
 
-    /// Whether there is none.
+    /// Returns whether there are no bytes.
     #[must_use]
     pub fn is_empty(&self) -> bool {
         self.len == 0
     }
 
-    /// The first bytes, at most so many.
+    /// Returns the first bytes, at most `most`.
     #[must_use]
     pub fn first(&self, most: usize) -> Self {
         Bytes { len: self.len.min(most), ..*self }
     }
 
-    /// The bytes as they are cut into slices. None of the pieces is empty.
+    /// Returns the bytes slice by slice. No piece is empty.
     #[must_use]
     pub fn pieces(&self) -> Pieces<'r> {
         Pieces { slices: self.slices.iter(), skip: self.at, left: self.len }
     }
 
-    /// The bytes as one: lent if they lie in one slice, copied otherwise.
+    /// Returns the bytes as one slice. They are copied only if they span several slices.
     #[must_use]
     pub fn to_cow(&self) -> Cow<'r, [u8]> {
         match self.pieces().next() {
@@ -86,7 +86,7 @@ impl<'r> Bytes<'r> {
         }
     }
 
-    /// The name that these bytes are, with the 0 that ends them.
+    /// Returns the name that these bytes, which end with a NUL, are.
     pub(crate) fn to_name(self) -> Cow<'r, CStr> {
         match self.to_cow() {
             Cow::Borrowed(bytes) => match CStr::from_bytes_with_nul(bytes) {
@@ -98,7 +98,7 @@ impl<'r> Bytes<'r> {
     }
 }
 
-/// The bytes before the first 0. (The library tells no other names than those with one 0, at their end.)
+/// The bytes before the first NUL. (The names of the library have one NUL, at their end.)
 fn up_to_nul(bytes: &[u8]) -> CString {
     let name = bytes.split(|byte| *byte == 0).next().unwrap_or_default();
     CString::new(name).unwrap_or_default()
@@ -110,7 +110,7 @@ impl fmt::Debug for Bytes<'_> {
     }
 }
 
-/// The pieces of [`Bytes`].
+/// An iterator over the pieces of [`Bytes`].
 #[derive(Clone, Debug)]
 pub struct Pieces<'r> {
     slices: std::slice::Iter<'r, IoSlice<'r>>,
@@ -136,7 +136,7 @@ impl<'r> Iterator for Pieces<'r> {
     }
 }
 
-/// The pairs of a `BATCH_FORGET`: a node, and how many lookups of it are given back.
+/// An iterator over the pairs of a `BATCH_FORGET`: a node, and how many lookups of it are given back.
 #[derive(Clone, Debug)]
 pub struct Forgets<'r> {
     pairs: Cow<'r, [u8]>,
@@ -174,7 +174,7 @@ impl ExactSizeIterator for Forgets<'_> {}
 mod tests {
     use super::*;
 
-    /// `text` in slices, cut at two places.
+    /// `text` in slices, cut at two positions.
     fn cut(text: &[u8], first: usize, second: usize) -> [IoSlice<'_>; 4] {
         [
             IoSlice::new(&text[..first]),

@@ -1,4 +1,4 @@
-//! The calls that requests ask for.
+//! Calls.
 #![forbid(unsafe_code)]
 
 use crate::answer::{
@@ -24,25 +24,25 @@ const FLUSHES: u32 = 1 << 7;
 const FLOCK_RELEASE: u32 = 1 << 8;
 const PLUS: u32 = 1 << 9;
 
-/// A request that asks for a call. It borrows the request; what answers it, the field `to` of each call,
-/// does not, and may go to another thread and be used later.
+/// A request that asks for a call. Its arguments borrow the request. The field `to` of the call, which answers
+/// it, borrows nothing.
 #[must_use = "the client waits for the reply"]
 #[derive(Debug)]
 pub struct PendingCall<'r> {
-    /// Who asks. It is the root for INIT, DESTROY, and calls of which nothing is told.
+    /// Who asks. Only `unique` is set for INIT, DESTROY, and calls without arguments.
     pub context: Context,
     /// The call.
     pub call: Call<'r>,
 }
 
-/// A call, with what answers it.
+/// A call: its arguments, and the [`To`] that answers it.
 ///
 /// ```
 /// use nizwarf::{Asked, Attr, Call, Session, Slot};
 /// use std::io::{Error, IoSlice};
 /// use std::time::Duration;
 ///
-/// /// Answers a GETATTR, and refuses all else.
+/// /// Answers a GETATTR, and refuses other calls.
 /// fn answer(slot: &mut Slot, call: Call<'_>) -> usize {
 ///     let told = match call {
 ///         Call::Getattr { node, to, .. } => {
@@ -66,34 +66,33 @@ pub struct PendingCall<'r> {
 /// }
 /// ```
 ///
-/// Fields mean the same in each call, and are named as the arguments of
-/// [`FileSystem`](crate::FileSystem):
+/// The fields are named as the arguments of [`FileSystem`](crate::FileSystem), and mean the same in each call:
 ///
 /// | Field | |
 /// |---|---|
 /// | `node` | the number of the node that the call is about |
-/// | `parent` | the number of the directory that has the name, or gets it |
-/// | `name` | a name: no path, and without a byte 0 |
-/// | `handle` | what OPEN, OPENDIR or CREATE answered |
-/// | `flags` | those of `open(2)`; of a rename those of `renameat2(2)`; of SETXATTR those of `setxattr(2)` |
-/// | `mode`, `umask`, `rdev` | those of `mknod(2)` |
-/// | `offset` | a place in a file, in bytes; of READDIR that of the last item before, or 0 |
-/// | `size` | the most bytes that are wanted, or how many are to be written |
-/// | `lock_owner` | who holds locks of POSIX |
-/// | `kill_priv` | the file loses its set-user-ID and set-group-ID bits |
-/// | `to` | what answers the call: its type says by what |
+/// | `parent` | the number of the directory of the name |
+/// | `name` | a name; the file system decides whether it accepts `.`, `..` or a `/` in it |
+/// | `handle` | a handle that OPEN, OPENDIR or CREATE returned |
+/// | `flags` | the flags of `open(2)`, of `renameat2(2)` or of `setxattr(2)` |
+/// | `mode`, `rdev`, `umask` | the type and permissions, the device number, and the mask of `mknod(2)` |
+/// | `offset` | an offset in a file in bytes; in a directory, that of the last item, or 0 |
+/// | `size` | how many bytes to read at most, or to write |
+/// | `lock_owner` | the owner of POSIX locks |
+/// | `kill_priv` | whether to clear the set-user-ID and set-group-ID bits |
+/// | `to` | answers the call; the type says with what |
 #[non_exhaustive]
-#[allow(missing_docs)] // (of fields, which the table tells of)
+#[allow(missing_docs)] // of fields: the table above documents them
 #[must_use = "the client waits for the reply"]
 #[derive(Debug)]
 pub enum Call<'r> {
     /// Looks a name up.
     Lookup { parent: u64, name: Cow<'r, CStr>, to: To<EntryOf> },
-    /// Gives `count` lookups of a node back.
+    /// Drops `count` lookups of a node.
     Forget { node: u64, count: u64, to: To<Quiet> },
-    /// Asks for attributes.
+    /// Returns attributes.
     Getattr { node: u64, handle: Option<u64>, to: To<Attributes> },
-    /// Sets those attributes that `valid` names.
+    /// Sets the attributes that `valid` names.
     Setattr {
         node: u64,
         attr: SetattrIn,
@@ -103,7 +102,7 @@ pub enum Call<'r> {
     },
     /// Reads the text of a symbolic link.
     Readlink { node: u64, to: To<Text> },
-    /// Makes a symbolic link with a text.
+    /// Creates a symbolic link to `linkname`.
     Symlink {
         linkname: Cow<'r, CStr>,
         parent: u64,
@@ -111,7 +110,7 @@ pub enum Call<'r> {
         extensions: Extensions,
         to: To<EntryOf>,
     },
-    /// Makes a node.
+    /// Creates a node.
     Mknod {
         parent: u64,
         name: Cow<'r, CStr>,
@@ -121,7 +120,7 @@ pub enum Call<'r> {
         extensions: Extensions,
         to: To<EntryOf>,
     },
-    /// Makes a directory.
+    /// Creates a directory.
     Mkdir {
         parent: u64,
         name: Cow<'r, CStr>,
@@ -130,11 +129,11 @@ pub enum Call<'r> {
         extensions: Extensions,
         to: To<EntryOf>,
     },
-    /// Takes a name away.
+    /// Removes a name.
     Unlink { parent: u64, name: Cow<'r, CStr>, to: To<Done> },
-    /// Takes the name of a directory away.
+    /// Removes a directory.
     Rmdir { parent: u64, name: Cow<'r, CStr>, to: To<Done> },
-    /// Gives a node another name.
+    /// Renames a node.
     Rename {
         parent: u64,
         name: Cow<'r, CStr>,
@@ -143,11 +142,11 @@ pub enum Call<'r> {
         flags: u32,
         to: To<Done>,
     },
-    /// Gives a node one more name.
+    /// Creates a hard link.
     Link { node: u64, new_parent: u64, new_name: Cow<'r, CStr>, to: To<EntryOf> },
     /// Opens a file.
     Open { node: u64, kill_priv: bool, flags: u32, to: To<Opened> },
-    /// Reads data, which the caller puts behind the first 16 bytes of the room.
+    /// Reads data. The caller puts them into the reply buffer, after its first 16 bytes.
     Read {
         node: u64,
         handle: u64,
@@ -157,8 +156,8 @@ pub enum Call<'r> {
         flags: u32,
         to: To<Data>,
     },
-    /// Writes `data`, which are `size` bytes, or fewer if the request has no more. `delayed_write` is
-    /// one from the client's cache.
+    /// Writes `data`: `size` bytes, or fewer if the request is shorter. `delayed_write` says that they come
+    /// from the cache of the client.
     Write {
         node: u64,
         handle: u64,
@@ -171,9 +170,9 @@ pub enum Call<'r> {
         flags: u32,
         to: To<Written>,
     },
-    /// Asks what the file system holds.
+    /// Returns statistics of the file system.
     Statfs { node: u64, to: To<Statistics> },
-    /// Closes a file. `flush`: as a FLUSH does; `flock_release`: locks of `flock(2)` go.
+    /// Closes a file. `flush` asks to do what a FLUSH does, `flock_release` to release locks of `flock(2)`.
     Release {
         node: u64,
         flags: u32,
@@ -183,7 +182,7 @@ pub enum Call<'r> {
         lock_owner: Option<u64>,
         to: To<Done>,
     },
-    /// Synchronises a file. `datasync`: its data, and not what is said of it.
+    /// Synchronizes a file. `datasync` asks for its data only.
     Fsync { node: u64, datasync: bool, handle: u64, to: To<Done> },
     /// Sets an extended attribute.
     Setxattr {
@@ -194,34 +193,34 @@ pub enum Call<'r> {
         extra_flags: SetxattrFlags,
         to: To<Done>,
     },
-    /// Reads an extended attribute. `size` 0 asks for its length.
+    /// Returns an extended attribute, or its length if `size` is 0.
     Getxattr { node: u64, name: Cow<'r, CStr>, size: u32, to: To<TextOrCount> },
-    /// Lists names of extended attributes, each with the 0 behind it. `size` 0 asks for their length.
+    /// Returns the names of all extended attributes, each with a NUL, or their length if `size` is 0.
     Listxattr { node: u64, size: u32, to: To<TextOrCount> },
-    /// Takes an extended attribute away.
+    /// Removes an extended attribute.
     Removexattr { node: u64, name: Cow<'r, CStr>, to: To<Done> },
     /// A descriptor of an open file is closed.
     Flush { node: u64, handle: u64, lock_owner: u64, to: To<Done> },
-    /// Begins a session: `capable` are the options that the client offers, `readahead` the most bytes
-    /// that it reads ahead.
+    /// Begins a session. `capable` are the options that the client offers, `readahead` is how many bytes it
+    /// reads ahead at most.
     Init { capable: FsOptions, readahead: u32, to: To<Want> },
     /// Opens a directory.
     Opendir { node: u64, flags: u32, to: To<Opened> },
-    /// Lists a directory in records of `size` bytes in all. `plus`: each item with its entry.
+    /// Lists a directory, in records of at most `size` bytes in all. With `plus`, each has an entry.
     Readdir { node: u64, handle: u64, size: u32, offset: u64, plus: bool, to: To<Directory> },
     /// Closes a directory.
     Releasedir { node: u64, flags: u32, handle: u64, to: To<Done> },
-    /// Synchronises a directory.
+    /// Synchronizes a directory.
     Fsyncdir { node: u64, datasync: bool, handle: u64, to: To<Done> },
-    /// Tests a lock. Nothing is told.
+    /// Tests a lock. It has no arguments.
     Getlk { to: To<FaultOrSilence> },
-    /// Sets a lock. Nothing is told.
+    /// Sets a lock. It has no arguments.
     Setlk { to: To<FaultOrSilence> },
-    /// Waits for a lock. Nothing is told.
+    /// Waits for a lock. It has no arguments.
     Setlkw { to: To<FaultOrSilence> },
-    /// Asks whether the caller may do what `mask` says, as `access(2)`.
+    /// Checks whether the caller has the permissions in `mask`, as `access(2)`.
     Access { node: u64, mask: u32, to: To<Done> },
-    /// Makes a file and opens it.
+    /// Creates and opens a file.
     Create {
         parent: u64,
         name: Cow<'r, CStr>,
@@ -232,19 +231,19 @@ pub enum Call<'r> {
         extensions: Extensions,
         to: To<Created>,
     },
-    /// Maps a block of a file. Nothing is told.
+    /// Maps a block of a file. It has no arguments.
     Bmap { to: To<FaultOrSilence> },
-    /// Ends the session: the client holds no lookup from then on.
+    /// Ends the session. The client then holds no lookups.
     Destroy { to: To<Destroyed> },
-    /// Controls a device. Nothing is told.
+    /// Controls a device. It has no arguments.
     Ioctl { to: To<FaultOrSilence> },
-    /// Polls a file. Nothing is told.
+    /// Polls a file. It has no arguments.
     Poll { to: To<FaultOrSilence> },
-    /// Answers a notification. Nothing is told.
+    /// Answers a notification. It has no arguments.
     NotifyReply { to: To<FaultOrSilence> },
-    /// Gives lookups of many nodes back.
+    /// Drops lookups of many nodes.
     BatchForget { forgets: Forgets<'r>, to: To<Quiet> },
-    /// Makes room in a file, or a hole, as `fallocate(2)`.
+    /// Allocates or deallocates space of a file, as `fallocate(2)`.
     Fallocate { node: u64, handle: u64, mode: u32, offset: u64, length: u64, to: To<Done> },
     /// Finds data or holes, as `lseek(2)`.
     Lseek { node: u64, handle: u64, offset: u64, whence: u32, to: To<Offset> },
@@ -260,15 +259,15 @@ pub enum Call<'r> {
         flags: u64,
         to: To<Written>,
     },
-    /// Synchronises all that the file system holds.
+    /// Synchronizes the file system.
     Syncfs { node: u64, to: To<Done> },
-    /// Makes a file without a name. Nothing is told, and it can only be refused.
+    /// Creates a file without a name. It has no arguments, and can only be refused.
     Tmpfile { to: To<Fault> },
-    /// A call that a later library tells, and that this crate does not know. It can only be refused.
+    /// A call of a later version of the library. It can only be refused, with ENOSYS.
     Unknown { number: u32, to: To<Fault> },
 }
 
-/// Does the same to the field `to` of each call.
+/// Evaluates an expression over the field `to` of any call.
 macro_rules! of_each {
     ($call:expr, $to:ident => $value:expr; $($name:ident)*) => {
         match $call {
@@ -285,8 +284,7 @@ macro_rules! of_each {
 }
 
 impl Call<'_> {
-    /// Answers the call with an error. One that has no number is the fault EIO. Calls that have no reply
-    /// have none here either.
+    /// Answers with an error. One without a number becomes EIO. Calls that have no reply get none.
     ///
     /// ```
     /// use nizwarf::{Asked, Session, Slot};
@@ -305,7 +303,7 @@ impl Call<'_> {
         of_each!(self, to => to.fail(slot, error))
     }
 
-    /// The number of the request.
+    /// Returns the number of the request.
     #[must_use]
     pub fn unique(&self) -> u64 {
         of_each!(self, to => to.unique())
@@ -315,7 +313,7 @@ impl Call<'_> {
 /// The slices of a request.
 type Request<'r> = &'r [IoSlice<'r>];
 
-/// A call as the library told it, to be turned into a [`Call`].
+/// The call of the library that is converted to a [`Call`].
 struct Decoder<'c, 'r> {
     raw: &'c RawCall,
     request: Request<'r>,
@@ -339,7 +337,7 @@ impl<'r> Decoder<'_, 'r> {
         Bytes::new(self.request, size(range.at), size(range.len))
     }
 
-    /// The name in a range, behind which stands its 0.
+    /// Returns the name in a range, which a NUL follows.
     fn text(&self, range: Range) -> Cow<'r, CStr> {
         self.bytes(Range { len: range.len.saturating_add(1), ..range }).to_name()
     }
@@ -363,7 +361,7 @@ impl<'r> Decoder<'_, 'r> {
     }
 }
 
-/// The calls that make, move or remove a name.
+/// Converts the calls that create, rename or remove a name.
 fn name_call(pending: Box<Pending>, request: Request<'_>) -> Result<Call<'_>, Box<Pending>> {
     let asked = Decoder { raw: &pending.call, request };
     let raw = asked.raw;
@@ -424,7 +422,7 @@ fn name_call(pending: Box<Pending>, request: Request<'_>) -> Result<Call<'_>, Bo
     })
 }
 
-/// The calls about an open file.
+/// Converts the calls about a file.
 fn file_call(pending: Box<Pending>, request: Request<'_>) -> Result<Call<'_>, Box<Pending>> {
     let asked = Decoder { raw: &pending.call, request };
     let raw = asked.raw;
@@ -489,7 +487,7 @@ fn file_call(pending: Box<Pending>, request: Request<'_>) -> Result<Call<'_>, Bo
     })
 }
 
-/// The calls about a node or an open directory.
+/// Converts the calls about a node or a directory.
 fn node_call(pending: Box<Pending>, request: Request<'_>) -> Result<Call<'_>, Box<Pending>> {
     let asked = Decoder { raw: &pending.call, request };
     let raw = asked.raw;
@@ -534,7 +532,7 @@ fn node_call(pending: Box<Pending>, request: Request<'_>) -> Result<Call<'_>, Bo
     })
 }
 
-/// The calls about the session, and those of which nothing is told.
+/// Converts the calls about the session, those without arguments, and unknown ones.
 fn other_call(pending: Box<Pending>, request: Request<'_>) -> Call<'_> {
     let asked = Decoder { raw: &pending.call, request };
     let raw = asked.raw;

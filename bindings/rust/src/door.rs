@@ -1,4 +1,4 @@
-//! A request is asked for its call.
+//! Sessions, requests and replies.
 #![forbid(unsafe_code)]
 
 use crate::call::PendingCall;
@@ -8,7 +8,7 @@ use std::error::Error;
 use std::fmt;
 use std::io::{IoSlice, IoSliceMut};
 
-/// What is agreed on with a client.
+/// What was agreed on with a client.
 ///
 /// ```
 /// use nizwarf::{FsOptions, Session};
@@ -22,11 +22,11 @@ use std::io::{IoSlice, IoSliceMut};
 pub struct Session(RawSession);
 
 impl Session {
-    /// A session in which nothing is agreed on yet. `page_size` is that of the machine, at least 4096;
-    /// `max_buffer` the largest payload of a request or a reply, from 4096 to 134217728 bytes.
+    /// Creates a session without options. `page_size` is that of the machine, at least 4096; `max_buffer`
+    /// is the largest payload of a request or a reply, from 4096 to 134217728 bytes.
     ///
     /// # Errors
-    /// [`WrongSize`] if either is out of its bounds.
+    /// [`WrongSize`] if a size is out of bounds.
     pub fn new(page_size: u32, max_buffer: u32) -> Result<Self, WrongSize> {
         if page_size < 4096 || !(4096..=134_217_728).contains(&max_buffer) {
             return Err(WrongSize);
@@ -34,30 +34,30 @@ impl Session {
         Ok(Session(RawSession { options: 0, page_size, max_buffer }))
     }
 
-    /// The options that are agreed on.
+    /// Returns the options.
     #[must_use]
     pub fn options(&self) -> FsOptions {
         FsOptions::from_bits_truncate(self.0.options)
     }
 
-    /// Sets the options: those that [`Told::options`](crate::Told) says after an INIT or a DESTROY.
+    /// Sets the options: to those of [`Told`](crate::Told) after an INIT or a DESTROY.
     pub fn set_options(&mut self, options: FsOptions) {
         self.0.options = options.bits();
     }
 
-    /// The size of a page.
+    /// Returns the size of a page.
     #[must_use]
     pub fn page_size(&self) -> u32 {
         self.0.page_size
     }
 
-    /// The largest payload.
+    /// Returns the largest payload.
     #[must_use]
     pub fn max_buffer(&self) -> u32 {
         self.0.max_buffer
     }
 
-    /// How long a request and a reply are at most: a payload, and what may stand before it.
+    /// Returns the longest request, which is also the longest reply: a payload and what precedes it.
     #[must_use]
     pub fn longest_message(&self) -> usize {
         self.0.max_buffer as usize + 4096
@@ -65,52 +65,52 @@ impl Session {
 }
 
 impl Default for Session {
-    /// Pages of 4096 bytes and payloads of a mebibyte.
+    /// Pages of 4096 bytes, and payloads of 1 MiB.
     fn default() -> Self {
         Session(RawSession { options: 0, page_size: 4096, max_buffer: 1 << 20 })
     }
 }
 
-/// A size of a session that is out of its bounds.
+/// A size of a session is out of bounds.
 #[derive(Clone, Copy, Debug, PartialEq, Eq)]
 pub struct WrongSize;
 
 impl fmt::Display for WrongSize {
     fn fmt(&self, f: &mut fmt::Formatter<'_>) -> fmt::Result {
-        f.write_str("a page has less than 4096 bytes, or a payload less than that or over 128 MiB")
+        f.write_str("the page size is below 4096, or the payload not from 4096 bytes to 128 MiB")
     }
 }
 
 impl Error for WrongSize {}
 
-/// Why a request has no reply. The session goes on.
+/// Why a request has no reply. The session continues.
 #[non_exhaustive]
 #[derive(Clone, Copy, Debug, PartialEq, Eq, Hash)]
 pub enum Refusal {
-    /// The request is cut short, or says what has no meaning.
+    /// The request is cut short or invalid.
     DecodeMessage,
-    /// The reply is longer than the room, or a READ or a READDIR has no room for a header.
+    /// The reply does not fit into the buffer, or a READ or a READDIR has no room for a header.
     EncodeMessage,
     /// A name or another part is missing.
     MissingParameter,
-    /// A name does not end at its only 0.
+    /// A name does not end with its only NUL.
     InvalidCString,
-    /// A length in the request is less than what it counts.
+    /// A length in the request is less than what it covers.
     InvalidHeaderLength,
-    /// The value of an extended attribute is not as long as is said.
+    /// The value of an extended attribute does not have the stated length.
     InvalidXattrSize,
-    /// The security context that was agreed on is missing.
+    /// The security context, which was agreed on, is missing.
     MissingExtension,
-    /// There is no memory.
+    /// An allocation failed.
     OutOfMemory,
-    /// The lengths of slices sum past `usize::MAX`.
+    /// The sum of the slices' lengths overflows.
     TooLong,
     /// Another code of the library.
     Other(i32),
 }
 
 impl Refusal {
-    /// The outcome that a code of the library says.
+    /// Converts a code of the library.
     pub(crate) fn of(code: i32) -> Result<(), Refusal> {
         Err(match code {
             0 => return Ok(()),
@@ -131,36 +131,38 @@ impl Refusal {
 impl fmt::Display for Refusal {
     fn fmt(&self, f: &mut fmt::Formatter<'_>) -> fmt::Result {
         f.write_str(match self {
-            Refusal::DecodeMessage => "the request is cut short, or says what has no meaning",
-            Refusal::EncodeMessage => "the reply is longer than the room",
+            Refusal::DecodeMessage => "the request is cut short or invalid",
+            Refusal::EncodeMessage => "the reply does not fit into the buffer",
             Refusal::MissingParameter => "a name or another part is missing",
-            Refusal::InvalidCString => "a name does not end at its only 0",
-            Refusal::InvalidHeaderLength => "a length is less than what it counts",
-            Refusal::InvalidXattrSize => "an attribute's value is not as long as is said",
+            Refusal::InvalidCString => "a name does not end with its only NUL",
+            Refusal::InvalidHeaderLength => "a length is less than what it covers",
+            Refusal::InvalidXattrSize => {
+                "the value of an attribute does not have the stated length"
+            }
             Refusal::MissingExtension => "the security context is missing",
-            Refusal::OutOfMemory => "there is no memory",
-            Refusal::TooLong => "the lengths of slices sum too far",
-            Refusal::Other(code) => return write!(f, "the library's code {code}"),
+            Refusal::OutOfMemory => "an allocation failed",
+            Refusal::TooLong => "the sum of the slices' lengths overflows",
+            Refusal::Other(code) => return write!(f, "libnizwarf returned {code}"),
         })
     }
 }
 
 impl Error for Refusal {}
 
-/// A reply in the memory of a slot: it is copied to a room, or lent.
+/// A reply in the memory of a slot.
 ///
 /// ```
 /// use nizwarf::{Asked, Session, Slot};
 /// use std::io::{IoSlice, IoSliceMut};
 ///
 /// let mut request = [0; 40];
-/// (request[0], request[4]) = (40, 255); // (no opcode)
+/// (request[0], request[4]) = (40, 255); // an opcode that does not exist
 /// let (mut header, mut rest) = ([0; 10], [0; 100]);
 /// if let Asked::Finished(mut done) =
 ///     Slot::new().ask(&Session::default(), &[IoSlice::new(&request)], 110)
 /// {
-///     let room = &mut [IoSliceMut::new(&mut header), IoSliceMut::new(&mut rest)];
-///     assert_eq!(done.reply.copy_to(room), 16);
+///     let buffers = &mut [IoSliceMut::new(&mut header), IoSliceMut::new(&mut rest)];
+///     assert_eq!(done.reply.copy_to(buffers), 16);
 /// }
 /// assert_eq!(header[..8], [16, 0, 0, 0, 218, 255, 255, 255]);
 /// ```
@@ -177,26 +179,27 @@ impl<'s> Reply<'s> {
         Reply { slot, len: size(len), put: size(put) }
     }
 
-    /// How long the reply is: the request is completed with so many bytes. 0 if there is none.
+    /// Returns the length of the reply, with which the request is completed. It is 0 if there is none.
     #[must_use]
     pub fn len(&self) -> usize {
         self.len
     }
 
-    /// Whether there is none.
+    /// Returns whether there is no reply.
     #[must_use]
     pub fn is_empty(&self) -> bool {
         self.len == 0
     }
 
-    /// The bytes of the reply: all, or the first 16 if the caller put the data of a READ behind them.
+    /// Returns the bytes of the reply: all of them, or the first 16 of a READ that was answered with data,
+    /// after which the caller has put the data.
     #[must_use]
     pub fn bytes(&mut self) -> &[u8] {
         self.slot.lend(self.put)
     }
 
-    /// Copies those bytes to the first ones of the room, and gives the length of the reply. The others
-    /// of the room stay as they are.
+    /// Copies [these bytes](Self::bytes) to the start of the buffers, and returns the length of the reply.
+    /// The rest of the buffers does not change.
     pub fn copy_to(&mut self, room: &mut [IoSliceMut<'_>]) -> usize {
         let mut at = 0;
         for piece in room {
@@ -209,37 +212,37 @@ impl<'s> Reply<'s> {
     }
 }
 
-/// A request that asks for no call.
+/// A request that needs no call.
 #[must_use = "the client waits for the reply"]
 #[derive(Debug)]
 pub struct Finished<'s> {
-    /// Why it has no reply, if it should have one.
+    /// Why there is no reply, if there should be one.
     pub outcome: Result<(), Refusal>,
-    /// The number of the request that an INTERRUPT wants to end.
+    /// If the request is an INTERRUPT: the number of the request that it interrupts.
     pub interrupts: Option<u64>,
-    /// The reply, which may be none.
+    /// The reply, which may be empty.
     pub reply: Reply<'s>,
 }
 
-/// What comes of asking.
+/// The result of [`Slot::ask`].
 #[must_use = "the client waits for the reply"]
 #[derive(Debug)]
 pub enum Asked<'s, 'r> {
     /// The request asks for a call.
     Call(PendingCall<'r>),
-    /// It needs no file system.
+    /// It needs no call.
     Finished(Finished<'s>),
 }
 
 impl Slot {
-    /// Reads a request, whose bytes are those of the slices one after another. `room` is how many bytes
-    /// there are for its reply.
+    /// Decodes a request, whose bytes are the concatenation of the slices. `room` is the size of the buffer
+    /// for its reply.
     ///
     /// ```
     /// use nizwarf::{Asked, Session, Slot};
     /// use std::io::IoSlice;
     ///
-    /// // An opcode that there is not, 255, of the request with number 7.
+    /// // Request number 7, with an opcode that does not exist, 255.
     /// let mut request = [0; 40];
     /// (request[0], request[4], request[8]) = (40, 255, 7);
     /// let mut slot = Slot::new();
@@ -296,7 +299,7 @@ mod tests {
 
     #[test]
     fn each_code_has_its_refusal() {
-        // (the numbers are those of nizwarf.h)
+        // The numbers are those of nizwarf.h.
         let expected = [
             (1, Refusal::DecodeMessage),
             (2, Refusal::EncodeMessage),

@@ -1,5 +1,5 @@
-//! The structs and the functions of the library, as its header has them. All unsafe code of the crate
-//! stands here.
+//! The structs and functions of the C library, as its header declares them, and safe wrappers. All unsafe
+//! code of the crate is in this file.
 #![allow(unsafe_code)]
 
 use crate::file_system::{Attr, Entry, SetattrIn, Statvfs};
@@ -9,7 +9,7 @@ use std::io::{self, IoSlice};
 use std::marker::PhantomData;
 use std::ptr;
 
-/// A variable of C that the library keeps a box of its own behind.
+/// `nizwarf_slot`: a pointer to memory of the library, or null.
 #[repr(C)]
 struct RawSlot {
     at: *mut c_void,
@@ -82,8 +82,8 @@ pub(crate) struct RawEntry {
     pub attr: Attr,
 }
 
-/// `nizwarf_answer` up to its statistics, which is what the library reads: texts and items come to it
-/// by themselves.
+/// The first 224 bytes of `nizwarf_answer`, which are all that the library reads: text and items are
+/// arguments of their own.
 #[repr(C)]
 #[derive(Clone, Copy, Debug)]
 pub(crate) struct RawAnswer {
@@ -97,7 +97,7 @@ pub(crate) struct RawAnswer {
     pub statfs: Statvfs,
 }
 
-/// An item of a directory, as [`To<Directory>`](crate::To) is answered with.
+/// An item of a directory listing, as a READDIR is answered with.
 ///
 /// ```
 /// use nizwarf::Item;
@@ -133,7 +133,7 @@ pub(crate) struct RawTold {
     pub interrupts: u64,
 }
 
-// (`IoSlice` is promised to be laid out as `iovec`, which is laid out as `nizwarf_segment`.)
+// `std` guarantees that `IoSlice` has the layout of `iovec`, which is that of `nizwarf_segment`.
 extern "C" {
     fn nizwarf_ask_at(
         slot: *mut RawSlot,
@@ -164,14 +164,14 @@ extern "C" {
     fn nizwarf_end_slot_at(slot: *mut RawSlot) -> i32;
 }
 
-/// A call that waits for its answer, and the session that it was asked in.
+/// A call that waits for its answer, and the session in which it was asked.
 #[derive(Debug)]
 pub(crate) struct Pending {
     pub call: RawCall,
     pub session: RawSession,
 }
 
-/// The answer of the library to a request that asks for a call.
+/// The code of a request that asks for a call.
 pub(crate) const ASKED: i32 = 15;
 
 impl RawCall {
@@ -239,7 +239,7 @@ impl From<&Entry> for RawEntry {
 }
 
 impl RawAnswer {
-    /// An answer of zeros: what was asked is done.
+    /// Success, with all other fields 0.
     pub const DONE: Self = Self {
         error: 0,
         has_handle: 0,
@@ -251,7 +251,7 @@ impl RawAnswer {
         statfs: Statvfs::NONE,
     };
 
-    /// A fault. An error without a number is the fault EIO, which the library says by -1.
+    /// An error. One without a number becomes EIO, for which the library takes -1.
     pub fn fault(error: &io::Error) -> Self {
         Self {
             error: error.raw_os_error().filter(|number| *number > 0).unwrap_or(-1),
@@ -272,16 +272,17 @@ impl<'a> Item<'a> {
         lent: PhantomData,
     };
 
-    /// An item with what `readdir(3)` tells of it: `ino` is the number that programs see, `offset` that
-    /// of a reading that goes on behind it, `kind` its type, as [`DT_REG`](crate::DT_REG).
+    /// Creates an item from what `readdir(3)` reports: `ino` is the inode number that programs see,
+    /// `offset` the position after the item, from which a later READDIR continues, and `kind` its type,
+    /// as [`DT_REG`](crate::DT_REG).
     #[must_use]
     pub fn new(ino: u64, offset: u64, kind: u32, name: &'a CStr) -> Self {
         let bytes = name.to_bytes_with_nul();
         Item { ino, offset, name: bytes.as_ptr(), name_size: bytes.len(), kind, ..Item::NONE }
     }
 
-    /// The item with what a lookup of its name answered, as READDIRPLUS wants it. Of `.` and `..` there
-    /// is no lookup, and what is given here is not looked at.
+    /// Adds the result of looking the name up, which READDIRPLUS needs for all items but `.` and `..`;
+    /// for these it is ignored.
     #[must_use]
     pub fn looked_up(self, result: &io::Result<Entry>) -> Self {
         match result {
@@ -290,30 +291,30 @@ impl<'a> Item<'a> {
         }
     }
 
-    /// The name.
+    /// Returns the name.
     #[must_use]
     pub fn name(&self) -> &'a CStr {
-        // SAFETY: `new` got both from such a name, which is lent for `'a`, and nothing changes them.
+        // SAFETY: `new` took both from a `&'a CStr`, and nothing changes them.
         unsafe {
             let bytes = std::slice::from_raw_parts(self.name, self.name_size);
             CStr::from_bytes_with_nul_unchecked(bytes)
         }
     }
 
-    /// Whether it is `.` or `..`.
+    /// Returns whether the name is `.` or `..`.
     #[must_use]
     pub fn is_dot(&self) -> bool {
         matches!(self.name().to_bytes(), b"." | b"..")
     }
 
-    /// How many bytes it takes of the `size` of a READDIR, or of a READDIRPLUS.
+    /// Returns how many bytes of the `size` of a READDIR it takes, or with `plus` of a READDIRPLUS.
     #[must_use]
     pub fn record_len(&self, plus: bool) -> usize {
         let entry = if plus { 128 } else { 0 };
         entry + ((24 + self.name_size - 1 + 7) & !7)
     }
 
-    /// The node that it holds a lookup of, where it has one to give back.
+    /// Returns the node of which it holds a lookup, if it does.
     pub(crate) fn held(&self) -> Option<u64> {
         let held = self.error == 0 && self.entry.node != 0 && !self.is_dot();
         held.then_some(self.entry.node)
@@ -332,15 +333,15 @@ impl fmt::Debug for Item<'_> {
     }
 }
 
-// SAFETY: its pointer stands for a `&CStr`, which may go to other threads and be read there.
+// SAFETY: its pointer is a `&CStr`, which is `Send` and `Sync`.
 unsafe impl Send for Item<'_> {}
 // SAFETY: as above.
 unsafe impl Sync for Item<'_> {}
 
-/// Memory that the library and this crate use for one request at a time.
+/// Memory for one call of the library at a time.
 ///
-/// It holds nothing from one call to the next, so one for each thread will do, with any number of
-/// requests in flight. It grows up to the longest room that it was lent to.
+/// It keeps no state from one call to the next, so one slot for each thread is enough for any number of
+/// requests in flight. It grows to the size of the longest reply buffer that it was used with.
 ///
 /// ```
 /// use nizwarf::{Asked, Refusal, Session, Slot};
@@ -354,24 +355,24 @@ unsafe impl Sync for Item<'_> {}
 pub struct Slot {
     raw: RawSlot,
     reply: Vec<u8>,
-    /// Room for the next call: what an answered one had.
+    /// The box of an answered call, for the next one.
     spare: Option<Box<Pending>>,
 }
 
-// SAFETY: what it points to is memory of `malloc`, which no thread is bound to, and of which the
-// library keeps no other pointer.
+// SAFETY: it owns memory of `malloc`, to which the library has no other pointer, and uses no thread-local
+// state.
 unsafe impl Send for Slot {}
-// SAFETY: a `&Slot` gives nothing of it away: each function of the library wants a `&mut Slot`.
+// SAFETY: nothing can be done with a `&Slot`: each function of the library takes a `&mut Slot`.
 unsafe impl Sync for Slot {}
 
 impl Slot {
-    /// A slot without memory. It gets some by its first request.
+    /// Creates a slot without memory. The first request allocates it.
     #[must_use]
     pub const fn new() -> Self {
         Slot { raw: RawSlot { at: ptr::null_mut() }, reply: Vec::new(), spare: None }
     }
 
-    /// Room for a call.
+    /// Returns a box for a call.
     pub(crate) fn take(&mut self, session: RawSession) -> Box<Pending> {
         match self.spare.take() {
             Some(mut pending) => {
@@ -382,12 +383,12 @@ impl Slot {
         }
     }
 
-    /// Keeps the room of a call for the next one.
+    /// Keeps the box of a call for the next one.
     pub(crate) fn keep(&mut self, pending: Box<Pending>) {
         self.spare = Some(pending);
     }
 
-    /// Asks for the call of a request, which is put there if the answer is [`ASKED`].
+    /// Asks the library for the call of a request. It is in `pending` if the code is [`ASKED`].
     pub(crate) fn ask_raw(
         &mut self,
         pending: &mut Pending,
@@ -397,9 +398,9 @@ impl Slot {
         let Pending { call, session } = pending;
         call.call = 0;
         let mut told = RawTold { options: session.options, ..RawTold::default() };
-        // SAFETY: all are lent for the call and none is null; the slices are initialised bytes that do not
-        // change while they are borrowed; `call` and `told` come as the header says, one with no call,
-        // the other as zeros but for the options.
+        // SAFETY: all pointers are valid for this call and none is null. The slices are initialised bytes
+        // that do not change while they are borrowed. As the header requires, `call.call` is 0, and
+        // `told` is zero except for the options.
         let code = unsafe {
             nizwarf_ask_at(
                 &mut self.raw,
@@ -423,8 +424,8 @@ impl Slot {
     ) -> (i32, RawTold) {
         let Pending { call, session } = pending;
         let mut told = RawTold { options: call.options, ..RawTold::default() };
-        // SAFETY: all are lent for the call and none is null, where a length is 0 either; of the answer
-        // the library reads as much as there is; names of items are lent for longer than the items.
+        // SAFETY: all pointers are valid for this call and none is null, not even those of length 0. The
+        // library reads no more of the answer than there is. The names of items outlive the items.
         let code = unsafe {
             nizwarf_answer_at(
                 &mut self.raw,
@@ -441,13 +442,13 @@ impl Slot {
         (code, told)
     }
 
-    /// Copies bytes of the reply from a place on, and gives how many.
+    /// Copies bytes of the reply, from offset `at` on, and returns how many.
     pub(crate) fn copy(&mut self, at: usize, piece: &mut [u8]) -> usize {
-        // SAFETY: the piece is lent for the call, and has room for as many bytes as it says.
+        // SAFETY: the pointers are valid for this call, and the piece has so many bytes.
         unsafe { nizwarf_copy_slot_at(&mut self.raw, at, piece.as_mut_ptr(), piece.len()) }
     }
 
-    /// The first bytes of the reply, in memory of the slot.
+    /// Returns the first bytes of the reply.
     pub(crate) fn lend(&mut self, len: usize) -> &[u8] {
         let mut reply = std::mem::take(&mut self.reply);
         if reply.len() < len {
@@ -473,13 +474,14 @@ impl fmt::Debug for Slot {
 
 impl Drop for Slot {
     fn drop(&mut self) {
-        // SAFETY: the slot is lent for the call, and used no more. Whether it had memory does not matter.
+        // SAFETY: the pointer is valid for this call, and the slot is not used after it. One without
+        // memory may be ended, too.
         unsafe { nizwarf_end_slot_at(&mut self.raw) };
     }
 }
 
-/// Where fields stand, held against the numbers of the header.
-#[allow(dead_code)] // (older compilers do not see what constants without a name use)
+/// Checks of the layout against the numbers in the header.
+#[allow(dead_code)] // older compilers do not count uses in unnamed constants
 mod layout {
     use super::{
         Attr, IoSlice, Item, Range, RawAnswer, RawCall, RawEntry, RawSession, RawSlot, RawTold,
@@ -487,12 +489,12 @@ mod layout {
     };
     use std::mem::{size_of, transmute};
 
-    /// Holds that a struct has a size and no padding, and that fields of it begin where the header says: a
-    /// value with a 1 in that field alone has its first 1 there.
+    /// Asserts the size of a struct, that it has no padding, and the offsets of its fields: with a 1 in one
+    /// field and zeros in all others, the first byte that is not 0 is at the offset of that field.
     macro_rules! laid_out {
         ($name:ty, $size:literal, $none:expr $(, $field:ident: $one:expr => $at:literal)*) => {
             $(const _: () = {
-                // SAFETY: a struct without padding is its bytes, and another size does not compile.
+                // SAFETY: bytes are valid for any value; padding or another size does not compile.
                 let bytes: [u8; $size] = unsafe { transmute::<$name, _>({
                     let mut one = $none;
                     one.$field = $one;

@@ -1,4 +1,4 @@
-//! The trait of a file system, in the words of virtiofsd's.
+//! The trait of a file system, and its types.
 #![forbid(unsafe_code)]
 
 use crate::flags::{FsOptions, OpenOptions, SetattrValid, SetxattrFlags};
@@ -8,16 +8,16 @@ use std::io;
 use std::os::unix::fs::MetadataExt;
 use std::time::Duration;
 
-/// The number of the root.
+/// The node number of the root directory.
 pub const ROOT_ID: u64 = 1;
 
-/// The type of a directory in a [`DirEntry`] or an [`Item`](crate::Item).
+/// The type of a directory, in a [`DirEntry`] or an [`Item`](crate::Item).
 pub const DT_DIR: u32 = 4;
-/// The type of a regular file there.
+/// The type of a regular file, there.
 pub const DT_REG: u32 = 8;
-/// The type of a symbolic link there.
+/// The type of a symbolic link, there.
 pub const DT_LNK: u32 = 10;
-/// A type there that is not known.
+/// An unknown type, there.
 pub const DT_UNKNOWN: u32 = 0;
 
 const ENOSYS: i32 = 38;
@@ -26,7 +26,7 @@ fn not_served<T>() -> io::Result<T> {
     Err(io::Error::from_raw_os_error(ENOSYS))
 }
 
-/// Attributes, as `fuse_attr` has them.
+/// Attributes of a node: `fuse_attr`.
 ///
 /// ```
 /// use nizwarf::Attr;
@@ -37,42 +37,42 @@ fn not_served<T>() -> io::Result<T> {
 #[repr(C)]
 #[derive(Clone, Copy, Debug, Default, PartialEq, Eq)]
 pub struct Attr {
-    /// The number that programs see.
+    /// The inode number that programs see.
     pub ino: u64,
     /// The size in bytes.
     pub size: u64,
-    /// Blocks of 512 bytes.
+    /// The allocated blocks, of 512 bytes each.
     pub blocks: u64,
-    /// Seconds of the last read since 1970.
+    /// The time of the last access, in seconds since 1970.
     pub atime: u64,
-    /// Seconds of the last write.
+    /// The time of the last modification of the data.
     pub mtime: u64,
-    /// Seconds of the last change.
+    /// The time of the last change of the attributes.
     pub ctime: u64,
-    /// Nanoseconds beyond `atime`.
+    /// The nanoseconds of `atime`.
     pub atimensec: u32,
-    /// Nanoseconds beyond `mtime`.
+    /// The nanoseconds of `mtime`.
     pub mtimensec: u32,
-    /// Nanoseconds beyond `ctime`.
+    /// The nanoseconds of `ctime`.
     pub ctimensec: u32,
-    /// Type and permissions.
+    /// The type and the permissions.
     pub mode: u32,
-    /// How many names it has.
+    /// The number of hard links.
     pub nlink: u32,
     /// The owner.
     pub uid: u32,
     /// The group.
     pub gid: u32,
-    /// The device that it stands for.
+    /// The device number, if it is a device.
     pub rdev: u32,
-    /// The best size of a read or a write.
+    /// The preferred size of reads and writes.
     pub blksize: u32,
-    /// Bit 0: it is a mount of its own; bit 1: DAX.
+    /// `FUSE_ATTR_SUBMOUNT`, which is 1, and `FUSE_ATTR_DAX`, which is 2.
     pub flags: u32,
 }
 
 impl Attr {
-    /// Attributes of zeros.
+    /// All fields 0.
     pub(crate) const NONE: Self = Attr {
         ino: 0,
         size: 0,
@@ -94,8 +94,8 @@ impl Attr {
 }
 
 impl From<&Metadata> for Attr {
-    /// What `stat(2)` says. Numbers are cut to the bits that the protocol has for them.
-    #[allow(clippy::cast_possible_truncation, clippy::cast_sign_loss)] // (as the protocol says)
+    /// Converts the result of `stat(2)`. Numbers are truncated to the width of their field.
+    #[allow(clippy::cast_possible_truncation, clippy::cast_sign_loss)] // as documented
     fn from(stat: &Metadata) -> Self {
         Attr {
             ino: stat.ino(),
@@ -118,46 +118,46 @@ impl From<&Metadata> for Attr {
     }
 }
 
-/// The record of a SETATTR, as `fuse_setattr_in` has it.
+/// The attributes to set: `fuse_setattr_in`.
 #[repr(C)]
 #[derive(Clone, Copy, Debug, Default, PartialEq, Eq)]
 pub struct SetattrIn {
-    /// Which fields are to be set, as the client says. [`SetattrValid`] has the known ones.
+    /// Which fields to set, as sent by the client. The argument of type [`SetattrValid`] has the known bits.
     pub valid: u32,
-    /// Nothing.
+    /// Not used.
     pub padding: u32,
     /// The handle, if there is one.
     pub fh: u64,
     /// The size in bytes.
     pub size: u64,
-    /// Who holds locks of POSIX.
+    /// The owner of POSIX locks.
     pub lock_owner: u64,
-    /// Seconds of the last read since 1970.
+    /// The time of the last access, in seconds since 1970.
     pub atime: u64,
-    /// Seconds of the last write.
+    /// The time of the last modification of the data.
     pub mtime: u64,
-    /// Seconds of the last change.
+    /// The time of the last change of the attributes.
     pub ctime: u64,
-    /// Nanoseconds beyond `atime`.
+    /// The nanoseconds of `atime`.
     pub atimensec: u32,
-    /// Nanoseconds beyond `mtime`.
+    /// The nanoseconds of `mtime`.
     pub mtimensec: u32,
-    /// Nanoseconds beyond `ctime`.
+    /// The nanoseconds of `ctime`.
     pub ctimensec: u32,
-    /// Type and permissions.
+    /// The type and the permissions.
     pub mode: u32,
-    /// Nothing.
+    /// Not used.
     pub unused4: u32,
     /// The owner.
     pub uid: u32,
     /// The group.
     pub gid: u32,
-    /// Nothing.
+    /// Not used.
     pub unused5: u32,
 }
 
 impl SetattrIn {
-    /// A record of zeros.
+    /// All fields 0.
     pub(crate) const NONE: Self = SetattrIn {
         valid: 0,
         padding: 0,
@@ -178,31 +178,31 @@ impl SetattrIn {
     };
 }
 
-/// What a file system holds, as `statvfs(3)` has it.
+/// Statistics of a file system: `statvfs(3)`.
 #[repr(C)]
 #[derive(Clone, Copy, Debug, Default, PartialEq, Eq)]
-#[allow(clippy::struct_field_names)] // (as in C)
+#[allow(clippy::struct_field_names)] // the names are those of C
 pub struct Statvfs {
     /// The size of a block.
     pub f_bsize: u64,
-    /// The size of a fragment, in which `f_blocks` is counted.
+    /// The size of a fragment: the unit of the three numbers of blocks.
     pub f_frsize: u64,
-    /// How many blocks there are.
+    /// The number of blocks.
     pub f_blocks: u64,
-    /// How many are free.
+    /// The number of free blocks.
     pub f_bfree: u64,
-    /// How many are free for users.
+    /// The number of blocks that are free for users.
     pub f_bavail: u64,
-    /// How many nodes there are.
+    /// The number of nodes.
     pub f_files: u64,
-    /// How many are free.
+    /// The number of free nodes.
     pub f_ffree: u64,
-    /// The longest name.
+    /// The length of the longest name.
     pub f_namemax: u64,
 }
 
 impl Statvfs {
-    /// Zeros.
+    /// All fields 0.
     pub(crate) const NONE: Self = Statvfs {
         f_bsize: 0,
         f_frsize: 0,
@@ -215,28 +215,28 @@ impl Statvfs {
     };
 }
 
-/// A name that was looked up, or made.
+/// The result of looking a name up, or of creating it.
 #[derive(Clone, Copy, Debug, Default, PartialEq, Eq)]
 pub struct Entry {
-    /// The number of the node, of which the client holds a lookup more. 0 says that there is no such
-    /// name, for so long, and counts no lookup.
+    /// The number of the node, of which the client then holds one more lookup. 0 says that there is no such
+    /// name, which is valid for `entry_timeout`, and is no lookup.
     pub inode: u64,
-    /// The generation: no two nodes have the same number and generation.
+    /// The generation. The pair of number and generation must be unique for the life of the file system.
     pub generation: u64,
     /// The attributes.
     pub attr: Attr,
-    /// How long the attributes hold.
+    /// How long the attributes are valid.
     pub attr_timeout: Duration,
-    /// How long the name stands for this node.
+    /// How long the name is valid.
     pub entry_timeout: Duration,
 }
 
-/// An item of a directory that is read.
+/// An item of a directory.
 #[derive(Clone, Copy, Debug)]
 pub struct DirEntry<'a> {
-    /// The number that programs see.
+    /// The inode number that programs see.
     pub ino: u64,
-    /// That of a reading that goes on behind it. It is not 0.
+    /// The position after the item, from which a later READDIR continues. It is not 0.
     pub offset: u64,
     /// Its type, as [`DT_REG`].
     pub type_: u32,
@@ -244,13 +244,13 @@ pub struct DirEntry<'a> {
     pub name: &'a CStr,
 }
 
-/// Gives the items of a directory, one after another.
+/// An iterator over the items of a directory, which may lend their names.
 ///
 /// ```
 /// use nizwarf::{DirEntry, DirectoryIterator, DT_REG};
 /// use std::ffi::CString;
 ///
-/// /// Files with these names, from a place on.
+/// /// Files with these names, from a position on.
 /// struct Names(Vec<CString>, u64);
 ///
 /// impl DirectoryIterator for Names {
@@ -266,47 +266,47 @@ pub struct DirEntry<'a> {
 /// assert!(names.next().is_none());
 /// ```
 pub trait DirectoryIterator {
-    /// The next item, if there is one.
+    /// Returns the next item, if there is one.
     fn next(&mut self) -> Option<DirEntry<'_>>;
 }
 
-/// What a GETXATTR is answered with.
+/// The answer to a GETXATTR.
 #[derive(Clone, Debug, PartialEq, Eq)]
 pub enum GetxattrReply {
     /// The value.
     Value(Vec<u8>),
-    /// How long the value is, where `size` is 0.
+    /// The length of the value, if `size` is 0.
     Count(u32),
 }
 
-/// What a LISTXATTR is answered with.
+/// The answer to a LISTXATTR.
 #[derive(Clone, Debug, PartialEq, Eq)]
 pub enum ListxattrReply {
-    /// The names, each with a 0 behind it.
+    /// The names, each with a NUL.
     Names(Vec<u8>),
-    /// How long the list is, where `size` is 0.
+    /// The length of the list, if `size` is 0.
     Count(u32),
 }
 
-/// Who asks.
+/// The caller of a request.
 #[derive(Clone, Copy, Debug, Default, PartialEq, Eq)]
 pub struct Context {
-    /// The user.
+    /// The user ID.
     pub uid: u32,
-    /// The group.
+    /// The group ID.
     pub gid: u32,
-    /// The process.
+    /// The process ID.
     pub pid: i32,
-    /// The number of the request, which an INTERRUPT names.
+    /// The number of the request, by which an INTERRUPT refers to it.
     pub unique: u64,
 }
 
-/// What is said of a new node besides.
+/// Optional arguments of calls that create a node.
 #[derive(Clone, Debug, Default, PartialEq, Eq)]
 pub struct Extensions {
-    /// A security attribute that it gets.
+    /// A security attribute to set.
     pub secctx: Option<SecContext>,
-    /// A further group of the caller.
+    /// A supplementary group of the caller.
     pub sup_gid: Option<u32>,
 }
 
@@ -319,24 +319,24 @@ pub struct SecContext {
     pub secctx: Vec<u8>,
 }
 
-/// The data of a WRITE: they go to a file without a copy, or are read as bytes.
+/// The data of a WRITE. They can be written to a file directly, or read as bytes.
 ///
 /// ```
 /// use nizwarf::ZeroCopyReader;
 /// use std::fs::File;
 /// use std::io;
 ///
-/// /// What `FileSystem::write` does over a file.
+/// /// `FileSystem::write` over a file.
 /// fn write<R: ZeroCopyReader>(file: &File, mut r: R, size: u32, offset: u64) -> io::Result<usize> {
 ///     r.write_to_file_at(file, size as usize, offset)
 /// }
 /// ```
 pub trait ZeroCopyReader: io::Read {
-    /// Writes at most `count` bytes to the file at a place, and gives how many. Fewer are written only if
-    /// there are no more data, or the file takes no more.
+    /// Writes at most `count` bytes to a file at an offset, and returns how many. Fewer are written only if
+    /// the data end, the file accepts no more, or a later write fails.
     ///
     /// # Errors
-    /// That of the first write, if it fails.
+    /// The error of the first write.
     fn write_to_file_at(&mut self, f: &File, count: usize, off: u64) -> io::Result<usize>;
 }
 
@@ -346,20 +346,20 @@ impl<R: ZeroCopyReader> ZeroCopyReader for &mut R {
     }
 }
 
-/// The room for the data of a READ: they come from a file without a copy, or are written as bytes. A write of
-/// 0 bytes says that there is no more room.
+/// The buffer for the data of a READ. They can be read from a file directly, or written as bytes. If a write
+/// returns 0, the buffer is full.
 ///
 /// ```
 /// use nizwarf::ZeroCopyWriter;
 /// use std::fs::File;
 /// use std::io;
 ///
-/// /// What `FileSystem::read` does over a file.
+/// /// `FileSystem::read` over a file.
 /// fn read<W: ZeroCopyWriter>(file: &File, mut w: W, size: u32, offset: u64) -> io::Result<usize> {
 ///     w.read_from_file_at(file, size as usize, offset)
 /// }
 ///
-/// /// And what it does over memory.
+/// /// And over memory.
 /// fn read_text<W: ZeroCopyWriter>(mut w: W, size: u32, offset: u64) -> io::Result<usize> {
 ///     let from = usize::try_from(offset).unwrap_or(usize::MAX);
 ///     let text = b"some text".get(from..).unwrap_or_default();
@@ -368,11 +368,11 @@ impl<R: ZeroCopyReader> ZeroCopyReader for &mut R {
 /// }
 /// ```
 pub trait ZeroCopyWriter: io::Write {
-    /// Reads at most `count` bytes of the file from a place on, and gives how many. Fewer are read only
-    /// if the file ends, or there is no more room.
+    /// Reads at most `count` bytes of a file from an offset on, and returns how many. Fewer are read only if
+    /// the file ends, the buffer is full, or a later read fails.
     ///
     /// # Errors
-    /// That of the first read, if it fails.
+    /// The error of the first read.
     fn read_from_file_at(&mut self, f: &File, count: usize, off: u64) -> io::Result<usize>;
 }
 
@@ -382,18 +382,18 @@ impl<W: ZeroCopyWriter> ZeroCopyWriter for &mut W {
     }
 }
 
-/// A file system. Each method stands for a call of the protocol, and answers ENOSYS if it is not
-/// written, but for those that say otherwise. Names, order and types are those of virtiofsd 1.13.2.
+/// A file system. Each method is a call of the protocol, and returns ENOSYS by default, unless it is documented
+/// otherwise. The methods and their arguments are those of the trait of virtiofsd 1.13.2.
 ///
-/// An entry that is answered counts a lookup of its node; [`forget`](Self::forget) gives some back. A
-/// node with lookups is kept, even when it has no name.
+/// Each entry that is returned, except one of node 0, is a lookup of its node, and [`forget`](Self::forget)
+/// drops lookups. A node must be kept while it has lookups, even if it has no name any more.
 ///
 /// ```
 /// use nizwarf::{Attr, Context, FileSystem, OpenOptions, Server};
 /// use std::io;
 /// use std::time::Duration;
 ///
-/// /// A root in which nothing is.
+/// /// An empty root.
 /// struct Empty;
 ///
 /// impl FileSystem for Empty {
@@ -414,24 +414,23 @@ impl<W: ZeroCopyWriter> ZeroCopyWriter for &mut W {
 /// let server = Server::new(Empty);
 /// assert!(server.options().is_empty());
 /// ```
-// (arguments are those of the protocol, and so are errors)
+// The arguments and errors are those of the protocol.
 #[allow(unused_variables, clippy::too_many_arguments, clippy::missing_errors_doc)]
 pub trait FileSystem {
     /// The number of a node.
     type Inode: From<u64> + Into<u64>;
     /// An open file or directory.
     type Handle: From<u64> + Into<u64>;
-    /// What is left of a directory that is read.
+    /// The items of a directory.
     type DirIter: DirectoryIterator;
 
-    /// A session begins: answers which of the options it wants. Options that are not in `capable` are
-    /// left out. It wants none if it is not written.
+    /// Begins a session, and returns the options that the file system wants. Those that are not in `capable`
+    /// are ignored. By default it wants none.
     fn init(&self, capable: FsOptions) -> io::Result<FsOptions> {
         Ok(FsOptions::empty())
     }
 
-    /// The session ends: no lookup is held from then on, and no handle is open. Does nothing if it is not
-    /// written.
+    /// Ends the session: there are no lookups and no open handles after it. By default it does nothing.
     fn destroy(&self) {}
 
     /// Looks a name up.
@@ -439,17 +438,17 @@ pub trait FileSystem {
         not_served()
     }
 
-    /// Gives `count` lookups back. Does nothing if it is not written.
+    /// Drops `count` lookups of a node. By default it does nothing.
     fn forget(&self, ctx: Context, inode: Self::Inode, count: u64) {}
 
-    /// Gives lookups of many nodes back. Calls [`forget`](Self::forget) for each if it is not written.
+    /// Drops lookups of many nodes. By default it calls [`forget`](Self::forget) for each.
     fn batch_forget(&self, ctx: Context, requests: Vec<(Self::Inode, u64)>) {
         for (inode, count) in requests {
             self.forget(ctx, inode, count);
         }
     }
 
-    /// Answers attributes, and how long they hold.
+    /// Returns attributes, and how long they are valid.
     fn getattr(
         &self,
         ctx: Context,
@@ -459,7 +458,7 @@ pub trait FileSystem {
         not_served()
     }
 
-    /// Sets the attributes that `valid` names, and answers all, and how long they hold.
+    /// Sets the attributes that `valid` names. Returns all attributes, and how long they are valid.
     fn setattr(
         &self,
         ctx: Context,
@@ -471,12 +470,12 @@ pub trait FileSystem {
         not_served()
     }
 
-    /// Answers the text of a symbolic link.
+    /// Reads a symbolic link.
     fn readlink(&self, ctx: Context, inode: Self::Inode) -> io::Result<Vec<u8>> {
         not_served()
     }
 
-    /// Makes a symbolic link.
+    /// Creates a symbolic link.
     fn symlink(
         &self,
         ctx: Context,
@@ -488,7 +487,7 @@ pub trait FileSystem {
         not_served()
     }
 
-    /// Makes a node. With [`FsOptions::DONT_MASK`] it applies the umask itself.
+    /// Creates a node. With [`FsOptions::DONT_MASK`] it must apply the umask.
     fn mknod(
         &self,
         ctx: Context,
@@ -502,7 +501,7 @@ pub trait FileSystem {
         not_served()
     }
 
-    /// Makes a directory. With [`FsOptions::DONT_MASK`] it applies the umask itself.
+    /// Creates a directory. With [`FsOptions::DONT_MASK`] it must apply the umask.
     fn mkdir(
         &self,
         ctx: Context,
@@ -515,17 +514,17 @@ pub trait FileSystem {
         not_served()
     }
 
-    /// Takes a name away.
+    /// Removes a file.
     fn unlink(&self, ctx: Context, parent: Self::Inode, name: &CStr) -> io::Result<()> {
         not_served()
     }
 
-    /// Takes the name of a directory away.
+    /// Removes a directory.
     fn rmdir(&self, ctx: Context, parent: Self::Inode, name: &CStr) -> io::Result<()> {
         not_served()
     }
 
-    /// Gives a node another name; `flags` are those of `renameat2(2)`.
+    /// Renames a node. The flags are those of `renameat2(2)`.
     fn rename(
         &self,
         ctx: Context,
@@ -538,7 +537,7 @@ pub trait FileSystem {
         not_served()
     }
 
-    /// Gives a node one more name.
+    /// Creates a hard link.
     fn link(
         &self,
         ctx: Context,
@@ -549,7 +548,7 @@ pub trait FileSystem {
         not_served()
     }
 
-    /// Opens a file; `flags` are those of `open(2)`. It is done without a handle if it is not written.
+    /// Opens a file. The flags are those of `open(2)`. By default it succeeds without a handle.
     fn open(
         &self,
         ctx: Context,
@@ -560,7 +559,7 @@ pub trait FileSystem {
         Ok((None, OpenOptions::empty()))
     }
 
-    /// Makes a file and opens it. With [`FsOptions::DONT_MASK`] it applies the umask itself.
+    /// Creates and opens a file. With [`FsOptions::DONT_MASK`] it must apply the umask.
     fn create(
         &self,
         ctx: Context,
@@ -575,7 +574,7 @@ pub trait FileSystem {
         not_served()
     }
 
-    /// Puts at most `size` bytes of a file, from a place on, into `w`, and answers how many.
+    /// Reads at most `size` bytes of a file into `w`, and returns how many.
     fn read<W: ZeroCopyWriter>(
         &self,
         ctx: Context,
@@ -590,7 +589,7 @@ pub trait FileSystem {
         not_served()
     }
 
-    /// Writes at most `size` bytes of `r` to a file, at a place, and answers how many.
+    /// Writes at most `size` bytes of `r` to a file, and returns how many.
     fn write<R: ZeroCopyReader>(
         &self,
         ctx: Context,
@@ -607,7 +606,7 @@ pub trait FileSystem {
         not_served()
     }
 
-    /// A descriptor of an open file is closed.
+    /// Is called whenever a descriptor of an open file is closed.
     fn flush(
         &self,
         ctx: Context,
@@ -618,7 +617,7 @@ pub trait FileSystem {
         not_served()
     }
 
-    /// Synchronises a file: with `datasync` its data, and not what is said of it.
+    /// Synchronizes a file: with `datasync` only its data.
     fn fsync(
         &self,
         ctx: Context,
@@ -629,7 +628,7 @@ pub trait FileSystem {
         not_served()
     }
 
-    /// Makes room in a file, or a hole, as `fallocate(2)`.
+    /// Allocates or deallocates space of a file, as `fallocate(2)`.
     fn fallocate(
         &self,
         ctx: Context,
@@ -642,7 +641,8 @@ pub trait FileSystem {
         not_served()
     }
 
-    /// Closes a file. `flush`: as a FLUSH does; `flock_release`: locks of `flock(2)` go.
+    /// Closes a file. With `flush` it does what a FLUSH does, with `flock_release` it releases locks of
+    /// `flock(2)`.
     fn release(
         &self,
         ctx: Context,
@@ -656,13 +656,12 @@ pub trait FileSystem {
         not_served()
     }
 
-    /// Answers what the file system holds. It says blocks of 512 bytes and names of 255 if it is not
-    /// written.
+    /// Returns statistics. By default they are zeros, except blocks of 512 bytes and names of 255 bytes.
     fn statfs(&self, ctx: Context, inode: Self::Inode) -> io::Result<Statvfs> {
         Ok(Statvfs { f_bsize: 512, f_namemax: 255, ..Statvfs::default() })
     }
 
-    /// Sets an extended attribute; `flags` are those of `setxattr(2)`.
+    /// Sets an extended attribute. The flags are those of `setxattr(2)`.
     fn setxattr(
         &self,
         ctx: Context,
@@ -675,7 +674,7 @@ pub trait FileSystem {
         not_served()
     }
 
-    /// Answers an extended attribute, or its length if `size` is 0.
+    /// Returns an extended attribute, or its length if `size` is 0.
     fn getxattr(
         &self,
         ctx: Context,
@@ -686,17 +685,17 @@ pub trait FileSystem {
         not_served()
     }
 
-    /// Answers the names of all extended attributes, or their length if `size` is 0.
+    /// Returns the names of all extended attributes, or their length if `size` is 0.
     fn listxattr(&self, ctx: Context, inode: Self::Inode, size: u32) -> io::Result<ListxattrReply> {
         not_served()
     }
 
-    /// Takes an extended attribute away.
+    /// Removes an extended attribute.
     fn removexattr(&self, ctx: Context, inode: Self::Inode, name: &CStr) -> io::Result<()> {
         not_served()
     }
 
-    /// Opens a directory. It is done without a handle if it is not written.
+    /// Opens a directory. By default it succeeds without a handle.
     fn opendir(
         &self,
         ctx: Context,
@@ -706,8 +705,8 @@ pub trait FileSystem {
         Ok((None, OpenOptions::empty()))
     }
 
-    /// Answers the items of a directory behind a place. Of a READDIRPLUS each but `.` and `..` is then
-    /// looked up.
+    /// Returns the items of a directory after a position, which is that of an earlier item, or 0. For a
+    /// READDIRPLUS the server looks each up, except `.` and `..`.
     fn readdir(
         &self,
         ctx: Context,
@@ -719,7 +718,7 @@ pub trait FileSystem {
         not_served()
     }
 
-    /// Synchronises a directory.
+    /// Synchronizes a directory.
     fn fsyncdir(
         &self,
         ctx: Context,
@@ -741,7 +740,7 @@ pub trait FileSystem {
         not_served()
     }
 
-    /// Answers whether the caller may do what `mask` says, as `access(2)`.
+    /// Checks whether the caller has the permissions in `mask`, as `access(2)`.
     fn access(&self, ctx: Context, inode: Self::Inode, mask: u32) -> io::Result<()> {
         not_served()
     }
@@ -758,7 +757,7 @@ pub trait FileSystem {
         not_served()
     }
 
-    /// Copies from one file to another, as `copy_file_range(2)`, and answers how many bytes.
+    /// Copies from one file to another, as `copy_file_range(2)`, and returns how many bytes.
     fn copyfilerange(
         &self,
         ctx: Context,
@@ -774,12 +773,12 @@ pub trait FileSystem {
         not_served()
     }
 
-    /// Synchronises all that the file system holds.
+    /// Synchronizes the file system.
     fn syncfs(&self, ctx: Context, inode: Self::Inode) -> io::Result<()> {
         not_served()
     }
 
-    /// Tests a lock. Nothing is told of it, and success is not replied.
+    /// Tests a lock. There are no arguments, and success has no reply.
     fn getlk(&self) -> io::Result<()> {
         not_served()
     }
@@ -814,14 +813,14 @@ pub trait FileSystem {
         not_served()
     }
 
-    /// Makes a file without a name. Nothing is told of it, and only a fault is replied: an entry that is
-    /// answered is given back.
+    /// Creates a file without a name. There are no arguments, and the reply is always an error: if an entry is
+    /// returned, its lookup is given back.
     fn tmpfile(&self) -> io::Result<(Entry, Option<Self::Handle>, OpenOptions)> {
         not_served()
     }
 }
 
-/// The items of a directory that has none.
+/// No items.
 #[derive(Clone, Copy, Debug, Default)]
 pub struct NoEntries;
 

@@ -14,37 +14,37 @@ macro_rules! flags {
         impl $name {
             $($(#[$flag_about])* pub const $flag: Self = Self(1 << $bit);)*
 
-            /// None of them.
+            /// Returns the empty set.
             #[must_use]
             pub const fn empty() -> Self {
                 Self(0)
             }
 
-            /// All of them.
+            /// Returns the set of all bits that have a name here.
             #[must_use]
             pub const fn all() -> Self {
                 Self(0 $(| 1 << $bit)*)
             }
 
-            /// The bits, as the protocol has them.
+            /// Returns the bits.
             #[must_use]
             pub const fn bits(self) -> $bits {
                 self.0
             }
 
-            /// The set of these bits, without those that have no name here.
+            /// Returns the set of these bits, without those that have no name here.
             #[must_use]
             pub const fn from_bits_truncate(bits: $bits) -> Self {
                 Self(bits & Self::all().0)
             }
 
-            /// Whether there is none.
+            /// Returns whether the set is empty.
             #[must_use]
             pub const fn is_empty(self) -> bool {
                 self.0 == 0
             }
 
-            /// Whether all of the others are there.
+            /// Returns whether the set contains all of the others.
             #[must_use]
             pub const fn contains(self, others: Self) -> bool {
                 self.0 & others.0 == others.0
@@ -94,8 +94,7 @@ macro_rules! flags {
 }
 
 flags! {
-    /// What an INIT offers, wants or agrees on: `flags` of `fuse_init_in` are bits 0 to 31, its `flags2`
-    /// bits 32 to 63.
+    /// Options of a session: `flags` of `fuse_init_in` are bits 0 to 31, its `flags2` are bits 32 to 63.
     ///
     /// ```
     /// use nizwarf::FsOptions;
@@ -104,17 +103,17 @@ flags! {
     /// assert_eq!(offered, FsOptions::DO_READDIRPLUS);
     /// ```
     FsOptions: u64 {
-        /// Reads of one file come at once and in any order.
+        /// Reads of a file may be concurrent.
         ASYNC_READ = 0;
-        /// Locks of POSIX go to the file system.
+        /// POSIX locks are calls of the file system.
         POSIX_LOCKS = 1;
-        /// Handles are used by other requests than READ and WRITE.
+        /// Requests other than READ and WRITE have handles.
         FILE_OPS = 2;
-        /// `O_TRUNC` goes to OPEN.
+        /// OPEN handles `O_TRUNC`.
         ATOMIC_O_TRUNC = 3;
-        /// Lookups of `.` and `..`, for NFS.
+        /// `.` and `..` can be looked up, as NFS needs it.
         EXPORT_SUPPORT = 4;
-        /// Writes longer than a page.
+        /// Writes can be longer than a page.
         BIG_WRITES = 5;
         /// The file system applies the umask.
         DONT_MASK = 6;
@@ -124,63 +123,63 @@ flags! {
         SPLICE_MOVE = 8;
         /// The client may splice on reading.
         SPLICE_READ = 9;
-        /// Locks of `flock(2)` go to the file system.
+        /// Locks of `flock(2)` are calls of the file system.
         FLOCK_LOCKS = 10;
-        /// IOCTL of directories.
+        /// Directories have IOCTL.
         HAS_IOCTL_DIR = 11;
-        /// Cached data are dropped if attributes change.
+        /// Cached data are invalidated if attributes change.
         AUTO_INVAL_DATA = 12;
-        /// READDIRPLUS is there.
+        /// There is READDIRPLUS.
         DO_READDIRPLUS = 13;
         /// The client chooses between READDIR and READDIRPLUS.
         READDIRPLUS_AUTO = 14;
-        /// Direct reads and writes may be many at once.
+        /// Direct reads and writes may be concurrent.
         ASYNC_DIO = 15;
-        /// The client writes from its cache later.
+        /// The client caches writes.
         WRITEBACK_CACHE = 16;
         /// OPEN may be answered ENOSYS.
         ZERO_MESSAGE_OPEN = 17;
-        /// Lookups and readings of one directory at once.
+        /// Calls about one directory may be concurrent.
         PARALLEL_DIROPS = 18;
-        /// The file system clears set-user-ID bits at WRITE, truncation and change of owner.
+        /// The file system clears set-user-ID bits on write, truncation and change of owner.
         HANDLE_KILLPRIV = 19;
         /// Access control lists of POSIX.
         POSIX_ACL = 20;
-        /// An aborted connection answers ECONNABORTED.
+        /// Reads after an abort return ECONNABORTED.
         ABORT_ERROR = 21;
-        /// INIT tells the most pages of a request.
+        /// The reply to INIT has the largest number of pages of a request.
         MAX_PAGES = 22;
-        /// Texts of links are cached.
+        /// Symbolic links are cached.
         CACHE_SYMLINKS = 23;
         /// OPENDIR may be answered ENOSYS.
         ZERO_MESSAGE_OPENDIR = 24;
-        /// Cached data are dropped only where the file system says so.
+        /// Cached data are invalidated only on request.
         EXPLICIT_INVAL_DATA = 25;
-        /// Attributes may say that a node is a mount of its own.
+        /// Attributes can say that a node is a mount point.
         SUBMOUNTS = 27;
-        /// As `HANDLE_KILLPRIV`, where a request says so.
+        /// As `HANDLE_KILLPRIV`, for requests that say so.
         HANDLE_KILLPRIV_V2 = 28;
-        /// The longer record of SETXATTR.
+        /// SETXATTR has its longer record.
         SETXATTR_EXT = 29;
         /// INIT has its second record.
         INIT_EXT = 30;
-        /// Kept free.
+        /// Reserved.
         INIT_RESERVED = 31;
-        /// Security contexts for new nodes.
+        /// Requests that create a node have a security context.
         SECURITY_CTX = 32;
-        /// DAX for each node.
+        /// DAX can be set for each node.
         HAS_INODE_DAX = 33;
-        /// A further group of the caller for new nodes.
+        /// Requests that create a node have a supplementary group.
         CREATE_SUPP_GROUP = 34;
-        /// Files that are read directly may be mapped.
+        /// Files with direct I/O can be mapped.
         DIRECT_IO_ALLOW_MMAP = 36;
-        /// Mounts with mapped owners.
+        /// The mount can be ID-mapped.
         ALLOW_IDMAP = 40;
     }
 }
 
 flags! {
-    /// What is said of a file that was opened.
+    /// Options of an open file.
     ///
     /// ```
     /// use nizwarf::OpenOptions;
@@ -188,19 +187,19 @@ flags! {
     /// assert_eq!((OpenOptions::DIRECT_IO | OpenOptions::NOFLUSH).bits(), 0x21);
     /// ```
     OpenOptions: u32 {
-        /// Its data are not cached.
+        /// Reads and writes bypass the cache.
         DIRECT_IO = 0;
-        /// What is cached of it stays.
+        /// Cached data are kept.
         KEEP_CACHE = 1;
-        /// It has no places.
+        /// The file is not seekable.
         NONSEEKABLE = 2;
-        /// What a directory lists is cached.
+        /// The items of the directory are cached.
         CACHE_DIR = 3;
-        /// It is a stream.
+        /// The file is a stream.
         STREAM = 4;
-        /// No FLUSH is sent where nothing was written.
+        /// No FLUSH is sent if nothing was written.
         NOFLUSH = 5;
-        /// Direct writes may be many at once.
+        /// Direct writes may be concurrent.
         PARALLEL_DIRECT_WRITES = 6;
     }
 }
@@ -223,25 +222,25 @@ flags! {
         GID = 2;
         /// The size.
         SIZE = 3;
-        /// The time of the last read.
+        /// The time of the last access.
         ATIME = 4;
-        /// The time of the last write.
+        /// The time of the last modification.
         MTIME = 5;
-        /// The time of the last read is now.
+        /// The time of the last access is now.
         ATIME_NOW = 7;
-        /// The time of the last write is now.
+        /// The time of the last modification is now.
         MTIME_NOW = 8;
         /// The time of the last change.
         CTIME = 10;
-        /// Set-user-ID and set-group-ID bits are cleared.
+        /// The set-user-ID and set-group-ID bits are to be cleared.
         KILL_SUIDGID = 11;
     }
 }
 
 flags! {
-    /// What a SETXATTR does besides.
+    /// Further flags of a SETXATTR.
     SetxattrFlags: u32 {
-        /// It clears the set-group-ID bit.
+        /// The set-group-ID bit is to be cleared.
         SETXATTR_ACL_KILL_SGID = 0;
     }
 }
@@ -252,7 +251,7 @@ mod tests {
 
     #[test]
     fn options_are_those_of_the_protocol() {
-        // (of linux/fuse.h, up to 7.38 and ALLOW_IDMAP, without MAP_ALIGNMENT)
+        // As in linux/fuse.h up to version 7.38, with ALLOW_IDMAP and without MAP_ALIGNMENT.
         assert_eq!(FsOptions::all().bits(), 0x117_fbff_ffff);
         assert_eq!(FsOptions::from_bits_truncate(u64::MAX), FsOptions::all());
         assert_eq!(OpenOptions::all().bits(), 0x7f);

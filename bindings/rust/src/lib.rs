@@ -1,20 +1,20 @@
-//! The protocol of FUSE as calls and answers, over the library libnizwarf.
+//! The FUSE protocol as calls and answers: safe Rust over the C library libnizwarf.
 //!
-//! The library reads a request and tells the call that it asks for; you make the call, on any thread and as
-//! late as you like; the library takes the answer and puts the reply. What it asks and replies, for any
-//! bytes and any answer, is proved to be the protocol's. This crate gives it safe types.
+//! The library decodes a request into the call that it asks for. You make the call, on any thread and at any
+//! later time. The library then encodes your answer as the reply. It is proved that, for any bytes and any
+//! answer, its calls and replies are those of the protocol.
 //!
-//! There are two ways to use it:
+//! There are two interfaces:
 //!
-//! - [`Slot::ask`] gives a [`Call`] with its arguments, and a [`To`] that answers it. What a call may be
-//!   answered with is checked by its type.
-//! - [`Server`] does that for a [`FileSystem`], a trait in the words of virtiofsd's.
+//! - [`Slot::ask`] returns a [`Call`] with its arguments and a [`To`], whose type determines what the call is
+//!   answered with.
+//! - [`Server`] does this for a [`FileSystem`], a trait with the methods of virtiofsd's.
 //!
 //! ```
 //! use nizwarf::{Asked, Call, Session, Slot};
 //! use std::io::IoSlice;
 //!
-//! // A READLINK of node 2, the request with number 7.
+//! // Request number 7, a READLINK of node 2.
 //! let mut request = [0; 40];
 //! (request[0], request[4], request[8], request[16]) = (40, 5, 7, 2);
 //! let request = [IoSlice::new(&request)];
@@ -32,16 +32,19 @@
 //! }
 //! ```
 //!
-//! Not promised by the library, nor seen here: that a call that is told is made once, that its true answer
-//! is given, and that what [`Told::give_back`] names is given back.
+//! Some things are up to you: to make each call once, to return its true answer, and to drop the lookups that
+//! [`Told::give_back`] names.
 //!
-//! Threads: a [`Slot`] is lent to one call at a time, so each thread has one. A [`Session`] is plain data. A
-//! [`To`] may go to another thread. No request is in flight beside an INIT or a DESTROY of a kernel.
+//! # Threads
+//! A [`Slot`] is used by one call at a time, so each thread needs its own. A [`To`] can be sent to another
+//! thread. A kernel has no other request in flight during an INIT or a DESTROY.
 //!
-//! A request is plain memory: bytes that a guest can change meanwhile are copied first.
+//! # Memory
+//! The bytes of a request must not change while they are borrowed. If a guest can change them, copy them first.
 //!
-//! Memory that is refused to the library is [`Refusal::OutOfMemory`]. What this crate wants itself, for a call,
-//! a name that is cut between slices, or a list, ends the process if it is refused, as everywhere in Rust.
+//! If an allocation of the library fails, the outcome is [`Refusal::OutOfMemory`]. This crate also allocates:
+//! for calls, for names that span several slices, and for directories. As everywhere in Rust, the process ends
+//! if that fails.
 #![warn(missing_docs)]
 #![deny(unsafe_code, unsafe_op_in_unsafe_fn)]
 
@@ -58,7 +61,7 @@ mod flags;
 mod server;
 mod transfer;
 
-/// The kinds of answers: what a [`To`] is answered with.
+/// The kinds of answers: the type parameters of [`To`].
 pub mod kinds {
     pub use crate::answer::{
         Attributes, Created, Data, Destroyed, Directory, Done, EntryOf, Fault, FaultOrSilence,
@@ -79,7 +82,7 @@ pub use file_system::{
 pub use flags::{FsOptions, OpenOptions, SetattrValid, SetxattrFlags};
 pub use server::{Served, Server};
 
-// Requests and answers may go from thread to thread.
+// These can be sent to, and shared with, other threads.
 const _: () = {
     const fn is_sent<T: Send + Sync>() {}
     is_sent::<Session>();

@@ -1,4 +1,4 @@
-//! A server of requests over a file system.
+//! A server over a file system.
 #![forbid(unsafe_code)]
 
 use crate::answer::{Directory, Fault, FaultOrSilence, To, Told};
@@ -14,32 +14,32 @@ use std::io::{self, IoSlice, IoSliceMut, Read, Write};
 use std::panic::{catch_unwind, AssertUnwindSafe};
 use std::sync::atomic::{AtomicU64, Ordering};
 
-/// How long the header of a reply is.
+/// The length of the header of a reply.
 const HEADER: usize = 16;
 
-/// What came of a request.
+/// The result of serving a request.
 #[must_use = "the client waits for the reply"]
 #[derive(Clone, Copy, Debug, PartialEq, Eq)]
 pub struct Served {
-    /// How long the reply is, which is the first bytes of the room: the request is completed with so
-    /// many bytes. 0 if there is none.
+    /// The length of the reply, which is at the start of the buffers. The request is completed with so many
+    /// bytes. It is 0 if there is no reply.
     pub len: usize,
     /// Why there is no reply, if there should be one.
     pub outcome: Result<(), Refusal>,
-    /// The number of the request that an INTERRUPT wants to end: that of its [`Context`].
+    /// If the request was an INTERRUPT: the number of the request that it interrupts, as in its [`Context`].
     pub interrupts: Option<u64>,
 }
 
-/// A server of one client over a file system: each request is made into its call, and what the client
-/// does not get is given back by [`FileSystem::forget`].
+/// Serves one client from a file system. Each request becomes a call of the file system. If the client does
+/// not get an entry, its lookup is given back by [`FileSystem::forget`].
 ///
-/// One server serves any number of threads, each with a [`Slot`] of its own, if the file system does.
+/// Any number of threads can share a server, each with its own [`Slot`], if the file system is [`Sync`].
 ///
 /// ```
 /// use nizwarf::{FileSystem, NoEntries, Server, Slot};
 /// use std::io::{IoSlice, IoSliceMut};
 ///
-/// /// Answers each call as a method that is not written does.
+/// /// Has the default of each method.
 /// struct Nothing;
 ///
 /// impl FileSystem for Nothing {
@@ -48,19 +48,19 @@ pub struct Served {
 ///     type DirIter = NoEntries;
 /// }
 ///
-/// // A STATFS, the request with number 7.
+/// // Request number 7, a STATFS.
 /// let mut request = [0; 40];
 /// (request[0], request[4], request[8], request[16]) = (40, 17, 7, 1);
-/// let mut room = [0; 200];
+/// let mut buffer = [0; 200];
 /// let server = Server::new(Nothing);
 /// let served = server.serve_one(
 ///     &mut Slot::new(),
 ///     &[IoSlice::new(&request)],
-///     &mut [IoSliceMut::new(&mut room)],
+///     &mut [IoSliceMut::new(&mut buffer)],
 /// );
 /// assert_eq!((served.outcome, served.len), (Ok(()), 96));
-/// // Names have 255 bytes at most.
-/// assert_eq!(room[16 + 44], 255);
+/// // The longest name has 255 bytes.
+/// assert_eq!(buffer[16 + 44], 255);
 /// ```
 #[derive(Debug)]
 pub struct Server<F> {
@@ -71,40 +71,40 @@ pub struct Server<F> {
 }
 
 impl<F: FileSystem> Server<F> {
-    /// A server for pages of 4096 bytes and payloads of a mebibyte.
+    /// Creates a server for pages of 4096 bytes, and payloads of 1 MiB.
     #[must_use]
     pub fn new(file_system: F) -> Self {
         Self::with_session(file_system, Session::default())
     }
 
-    /// A server whose sizes, and options up to the first INIT, are those of a session.
+    /// Creates a server with the sizes of a session, and with its options until the first INIT.
     #[must_use]
     pub fn with_session(file_system: F, session: Session) -> Self {
         let options = AtomicU64::new(session.options().bits());
         Server { file_system, session, options, catches: false }
     }
 
-    /// Whether a panic of the file system is the fault EIO of that request alone. Else it goes on to the
-    /// caller of [`serve_one`](Self::serve_one), and the request has no reply. What a panic leaves half
-    /// done in the file system is its own matter.
+    /// Sets whether panics of the file system are caught, and answered EIO. If not, which is the default, a
+    /// panic unwinds out of [`serve_one`](Self::serve_one), and the request gets no reply. A file system
+    /// whose panics are caught must be usable after them.
     #[must_use]
     pub fn catch_panics(self, catches: bool) -> Self {
         Server { catches, ..self }
     }
 
-    /// The file system.
+    /// Returns the file system.
     #[must_use]
     pub fn file_system(&self) -> &F {
         &self.file_system
     }
 
-    /// The options that are agreed on.
+    /// Returns the options that were agreed on.
     #[must_use]
     pub fn options(&self) -> FsOptions {
         FsOptions::from_bits_truncate(self.options.load(Ordering::Acquire))
     }
 
-    /// The session as it is now.
+    /// Returns the session, with its present options.
     #[must_use]
     pub fn session(&self) -> Session {
         let mut session = self.session;
@@ -112,7 +112,7 @@ impl<F: FileSystem> Server<F> {
         session
     }
 
-    /// Ends the session as a DESTROY does, as a reset of the device wants it.
+    /// Ends the session as a DESTROY does, for instance because the device was reset.
     pub fn destroy(&self) {
         self.quietly(F::destroy);
         self.set_options(FsOptions::empty());
@@ -122,8 +122,8 @@ impl<F: FileSystem> Server<F> {
         self.options.store(options.bits(), Ordering::Release);
     }
 
-    /// Serves one request, whose bytes are those of the slices one after another. The first bytes of the
-    /// room are the reply.
+    /// Serves one request, whose bytes are the concatenation of the slices. The reply is put at the start of
+    /// the buffers in `room`. A READ may also change them after its reply.
     pub fn serve_one(
         &self,
         slot: &mut Slot,
@@ -150,12 +150,13 @@ impl<F: FileSystem> Server<F> {
         }
     }
 
-    /// Serves what a device gives, one request a read, as `/dev/fuse` does: until it is unmounted, or what
-    /// is at its other end is closed. Any number of threads may do so at once. Interrupts are not told.
+    /// Serves the requests of a device that returns one request for each read, as `/dev/fuse`, until it is
+    /// unmounted, or its other end closed. Any number of threads can do this at once. Interrupts are ignored.
     ///
     /// # Errors
-    /// What the device answers to a read or a write, but for a reply that no one waits for any more; and
-    /// [`InvalidData`](io::ErrorKind::InvalidData) for a request that is refused, since who asked waits.
+    /// Errors of reading and writing, except for replies that are no longer awaited; and
+    /// [`InvalidData`](io::ErrorKind::InvalidData) if a request is refused, since its caller would wait
+    /// forever.
     pub fn serve(&self, device: &File) -> io::Result<()> {
         const ENOENT: i32 = 2;
         const ENODEV: i32 = 19;
@@ -167,7 +168,7 @@ impl<F: FileSystem> Server<F> {
                 Ok(0) => return Ok(()),
                 Ok(len) => len,
                 Err(error) if error.raw_os_error() == Some(ENODEV) => return Ok(()),
-                // (of a request that was ended while it was read)
+                // The request was aborted while it was read.
                 Err(error) if error.raw_os_error() == Some(ENOENT) => continue,
                 Err(error) if error.kind() == io::ErrorKind::Interrupted => continue,
                 Err(error) => return Err(error),
@@ -189,20 +190,20 @@ impl<F: FileSystem> Server<F> {
         self.quietly(|files| files.forget(context, node.into(), 1));
     }
 
-    /// Makes a call that answers something.
+    /// Makes a call that has an answer.
     fn ask<T>(&self, call: impl FnOnce(&F) -> io::Result<T>) -> io::Result<T> {
         let call = || call(&self.file_system);
         if self.catches {
-            // (what the file system looks like behind a panic is its own matter)
+            // The file system must be usable after a panic: `catch_panics` says so.
             catch_unwind(AssertUnwindSafe(call)).unwrap_or_else(|_| Err(a_panic()))
         } else {
             call()
         }
     }
 
-    /// Makes a call that answers nothing.
+    /// Makes a call that has no answer.
     fn quietly(&self, call: impl FnOnce(&F)) {
-        // (a fault of such a call is replied to no one)
+        // Such a call has no reply, not even for an error.
         let _ = self.ask(|files| {
             call(files);
             Ok(())
@@ -210,7 +211,7 @@ impl<F: FileSystem> Server<F> {
     }
 
     /// Makes the call, and answers it.
-    #[allow(clippy::too_many_lines)] // (a table)
+    #[allow(clippy::too_many_lines)] // a table
     fn make<'s>(
         &self,
         slot: &'s mut Slot,
@@ -306,7 +307,7 @@ impl<F: FileSystem> Server<F> {
                     let (node, handle) = (node.into(), handle.into());
                     files.read(ctx, node, handle, &mut writer, size, offset, lock_owner, flags)
                 });
-                // (bytes that were not put are none of the file)
+                // More than was put would send other bytes of the buffer.
                 let known = writer.put;
                 to.answer(slot, read.and_then(|count| at_most(count, known)))
             }
@@ -458,7 +459,7 @@ impl<F: FileSystem> Server<F> {
         to.answer(slot, self.ask(call))
     }
 
-    /// Refuses a TMPFILE, of which no entry is replied: one is given back.
+    /// Makes a TMPFILE, whose reply is always an error: an entry is given back.
     fn make_tmpfile<'s>(&self, slot: &'s mut Slot, ctx: Context, to: To<Fault>) -> Told<'s> {
         let error = match self.ask(F::tmpfile) {
             Ok((entry, ..)) if entry.inode != 0 => {
@@ -471,7 +472,7 @@ impl<F: FileSystem> Server<F> {
         to.fail(slot, &error)
     }
 
-    /// Reads a directory: as many items as fit, and for a READDIRPLUS up to one whose lookup fails.
+    /// Lists a directory: items until one does not fit, or, for a READDIRPLUS, until a lookup fails.
     fn read_directory<'s>(&self, slot: &'s mut Slot, place: &Place, to: To<Directory>) -> Told<'s> {
         let Place { ctx, node, handle, size, offset, .. } = *place;
         let begun = self.ask(|files| files.readdir(ctx, node.into(), handle.into(), size, offset));
@@ -493,7 +494,7 @@ impl<F: FileSystem> Server<F> {
         to.answer(slot, Ok(&listing.items()))
     }
 
-    /// Takes the next item, if there is one and it fits, and gives its name.
+    /// Adds the next item to the listing, if there is one and it fits. Returns its name.
     fn take_item<'l>(
         &self,
         iterator: &mut F::DirIter,
@@ -502,11 +503,11 @@ impl<F: FileSystem> Server<F> {
         plus: bool,
     ) -> Option<&'l [u8]> {
         let taken = self.ask(|_| Ok(iterator.next().map(|item| listing.add(&item, most, plus))));
-        // (where it panics the listing ends)
+        // If the iterator panics, the listing ends.
         matches!(taken, Ok(Some(true))).then(|| listing.last_name())
     }
 
-    /// Looks the last item up. Gives whether that failed.
+    /// Looks the last item up. Returns whether that failed.
     fn look_up(&self, listing: &mut Listing, ctx: Context, node: u64) -> bool {
         let name = CStr::from_bytes_with_nul(&listing.names[listing.last_at()..]);
         let name = name.unwrap_or_default();
@@ -519,7 +520,7 @@ impl<F: FileSystem> Server<F> {
     }
 }
 
-/// Which directory is read, and how.
+/// The arguments of a READDIR.
 #[derive(Clone, Copy)]
 struct Place {
     ctx: Context,
@@ -530,27 +531,27 @@ struct Place {
     plus: bool,
 }
 
-/// An item whose name stands in the listing.
+/// An item whose name is in the listing.
 struct Record {
     ino: u64,
     offset: u64,
     kind: u32,
-    /// Where its name begins.
+    /// The offset of its name.
     at: usize,
     entry: Option<io::Result<Entry>>,
 }
 
-/// The items that were taken. Their names stand one after another, each with its 0.
+/// Items, and their names one after another, each with its NUL.
 #[derive(Default)]
 struct Listing {
     names: Vec<u8>,
     records: Vec<Record>,
-    /// How many bytes of records they have.
+    /// The length of their records.
     len: usize,
 }
 
 impl Listing {
-    /// Adds an item. False: it does not fit.
+    /// Adds an item, if it fits. Returns whether it does.
     fn add(&mut self, item: &DirEntry<'_>, most: usize, plus: bool) -> bool {
         let record = Item::new(item.ino, item.offset, item.type_, item.name).record_len(plus);
         if record > most - self.len {
@@ -601,7 +602,7 @@ fn opened<H: Into<u64>>((handle, options): (Option<H>, OpenOptions)) -> (Option<
     (handle.map(Into::into), options)
 }
 
-/// A count, or the fault EIO if it is above what there was.
+/// Returns the count, or EIO if it is larger than it can be.
 fn at_most(count: usize, most: usize) -> io::Result<usize> {
     if count <= most {
         Ok(count)
@@ -610,7 +611,7 @@ fn at_most(count: usize, most: usize) -> io::Result<usize> {
     }
 }
 
-/// An error without a number, which is replied as EIO.
+/// An error without a number, which is answered EIO.
 fn no_number() -> io::Error {
     io::Error::from(io::ErrorKind::Other)
 }

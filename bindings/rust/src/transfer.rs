@@ -1,4 +1,4 @@
-//! Data of a WRITE and room of a READ, which go to a file and come from one where they lie.
+//! The data of a WRITE, and the buffer for the data of a READ.
 #![forbid(unsafe_code)]
 
 use crate::bytes::{Bytes, Pieces};
@@ -19,7 +19,7 @@ impl<'r> Reader<'r> {
         Reader { piece: &[], pieces: bytes.pieces() }
     }
 
-    /// What is left of the piece that is read. It is empty only at the end.
+    /// Returns the unread rest of the present piece. It is empty only at the end.
     fn piece(&mut self) -> &'r [u8] {
         if self.piece.is_empty() {
             self.piece = self.pieces.next().unwrap_or_default();
@@ -49,7 +49,7 @@ impl ZeroCopyReader for Reader<'_> {
     }
 }
 
-/// Room for data: from a place of the slices on, at most so many bytes.
+/// The buffer for the data of a READ: `most` bytes, after the first `skip` bytes.
 #[derive(Debug)]
 pub(crate) struct Writer<'a, 'b> {
     room: &'a mut [IoSliceMut<'b>],
@@ -64,7 +64,7 @@ impl<'a, 'b> Writer<'a, 'b> {
         Writer { room, skip, left: most, put: 0 }
     }
 
-    /// What is left of the slice that is filled. It is empty only at the end.
+    /// Returns the unfilled rest of the present slice. It is empty only at the end.
     fn piece(&mut self) -> &mut [u8] {
         let full = self
             .room
@@ -118,7 +118,7 @@ impl ZeroCopyWriter for Writer<'_, '_> {
     }
 }
 
-/// Moves bytes, from a place of a file on, until one move moves none. An error is that of the first move.
+/// Moves bytes until a step moves none. Returns an error only if the first step fails.
 fn transfer(
     count: usize,
     off: u64,
@@ -126,7 +126,7 @@ fn transfer(
 ) -> io::Result<usize> {
     let mut done = 0;
     while done < count {
-        // (places behind 2^63 are in no file, and Linux answers them EINVAL)
+        // Linux answers EINVAL to offsets from 2^63 on, so an overflow may saturate.
         match step(count - done, off.saturating_add(done as u64)) {
             Ok(0) => break,
             Ok(moved) => done += moved,
@@ -143,7 +143,7 @@ mod tests {
     use super::*;
     use std::io::IoSlice;
 
-    /// Cuts of ten bytes.
+    /// Ways to cut ten bytes into three pieces.
     fn cuts() -> impl Iterator<Item = (usize, usize)> {
         (0..=10).flat_map(|first| (first..=10).map(move |second| (first, second)))
     }
@@ -188,7 +188,7 @@ mod tests {
         }
     }
 
-    /// Takes what there is no room for, too.
+    /// Discards what does not fit.
     struct Lenient<'w, W>(&'w mut W);
 
     impl<W: Write> Write for Lenient<'_, W> {

@@ -1,4 +1,4 @@
-//! Replies, held against bytes that were put together by hand from the protocol.
+//! Replies, compared with bytes that were written by hand from the protocol.
 
 mod common;
 
@@ -11,7 +11,7 @@ use std::ffi::CString;
 use std::io::{self, IoSlice, IoSliceMut};
 use std::time::Duration;
 
-/// What came of an answer: how it ended, what was given back, how many items were taken, and the options.
+/// The result of an answer, and what was given back.
 #[derive(Debug, PartialEq)]
 struct Ended {
     outcome: Result<(), Refusal>,
@@ -22,7 +22,7 @@ struct Ended {
     bytes: Vec<u8>,
 }
 
-/// Asks for the call of a request with so much room, and answers it.
+/// Asks for the call of a request, with a buffer of this size, and answers it.
 fn answer(
     request: &[u8],
     room: usize,
@@ -39,7 +39,7 @@ fn answer(
     let mut reply = told.give_back(|node| given_back.push(node));
     let len = reply.len();
     let bytes = reply.bytes().to_vec();
-    // A copy is the same bytes, and leaves what is behind them.
+    // A copy has the same bytes, and does not change what follows them.
     let mut copy = vec![0xaa; room + 9];
     let (first, second) = copy.split_at_mut(room.min(5));
     let mut pieces = [first, &mut [], second].map(IoSliceMut::new);
@@ -48,7 +48,7 @@ fn answer(
     Ended { outcome, given_back, taken, options, len, bytes }
 }
 
-/// An end with a reply, and nothing besides.
+/// A result that has only a reply.
 fn replied(bytes: Vec<u8>) -> Ended {
     Ended {
         outcome: Ok(()),
@@ -60,7 +60,7 @@ fn replied(bytes: Vec<u8>) -> Ended {
     }
 }
 
-/// Asks with room enough, and answers by the field `to` of a call.
+/// Asks with a large buffer, and answers by the field `to` of the call.
 macro_rules! answers {
     ($request:expr, $call:ident, $slot:ident, $to:ident => $answer:expr) => {
         answer(&$request.done(), 4096, |$slot, call| match call {
@@ -191,12 +191,12 @@ fn faults() {
     let made = answers!(Request::new(51, 1), Tmpfile, slot, to =>
         to.fail(slot, &io::Error::from_raw_os_error(95)));
     assert_eq!(made, replied(fault(95)));
-    // (of a lock only a fault is replied)
+    // Only an error of a lock has a reply.
     let made = answers!(Request::new(31, 1), Getlk, slot, to => to.answer(slot, os_error(38)));
     assert_eq!(made, replied(fault(38)));
     let made = answers!(Request::new(31, 1), Getlk, slot, to => to.answer(slot, Ok(())));
     assert_eq!(made, replied(Vec::new()));
-    // (and of a FORGET nothing)
+    // A FORGET never has one.
     let made = answers!(Request::new(2, 5).u64(1), Forget, slot, to => to.done(slot));
     assert_eq!(made, replied(Vec::new()));
     let made = answers!(Request::new(2, 5).u64(1), Forget, slot, to => to.fail(slot, &nameless));
@@ -227,7 +227,7 @@ fn data_of_a_read_stand_in_the_room_already() {
     } else {
         panic!("no READ");
     }
-    // (a count that can't be is the fault EIO)
+    // A count that is too large is answered EIO.
     let made = answers!(read(100), Read, slot, to => to.answer(slot, Ok(101)));
     assert_eq!(made, replied(fault(5)));
 }
@@ -281,7 +281,7 @@ fn an_entry_that_does_not_fit_is_given_back() {
         });
         assert_eq!(made, nothing(vec![9]));
     }
-    // (node 0 counts no lookup, and a fault no entry)
+    // Node 0 has no lookup, and an error no entry.
     let made = answer(&lookup().done(), 143, |slot, call| match call {
         Call::Lookup { to, .. } => to.answer(slot, Ok(entry(0))),
         other => panic!("{other:?}"),
@@ -352,7 +352,7 @@ fn readdirplus_gives_back_what_does_not_fit() {
     ];
     assert!(items[0].is_dot() && !items[1].is_dot());
     assert_eq!(items[2].name(), names[2].as_c_str());
-    // (that of `.` has an entry of zeros, but for its number and type)
+    // The entry of `.` is zero except for its inode number and type.
     let mut dot = vec![0; 128];
     dot[40] = 10;
     dot[100..104].copy_from_slice(&0o40_000_u32.to_le_bytes());
@@ -373,10 +373,10 @@ fn readdirplus_gives_back_what_does_not_fit() {
         let expected = replied(reply(&records[..taken].concat()));
         assert_eq!(made, Ended { given_back, taken, ..expected });
     }
-    // (the error of the first lookup is the reply)
+    // The error of the first lookup is the reply.
     let made = answers!(readdir(44, 4000), Readdir, slot, to => to.answer(slot, Ok(&items[4..])));
     assert_eq!(made, replied(fault(5)));
-    // (without PLUS no lookup is held)
+    // A READDIR holds no lookups.
     let made = answers!(readdir(28, 31), Readdir, slot, to => to.answer(slot, Ok(&items)));
     assert_eq!(made, replied(reply(&[])));
 }

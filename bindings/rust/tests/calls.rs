@@ -1,4 +1,5 @@
-//! Each call, out of the bytes of a request that asks for it, in each cutting into two slices.
+//! Each call, decoded from a request that was written by hand from the protocol, in all ways to cut it into
+//! two slices.
 
 mod common;
 
@@ -6,7 +7,7 @@ use common::{each_cutting, words, Request, WHO};
 use nizwarf::{Call, Context, Extensions, FsOptions, SecContext, SetattrValid, SetxattrFlags};
 use std::ffi::{CStr, CString};
 
-/// Asks for the call of a request, and holds what it has: a pattern, and facts of what it binds.
+/// Asks for the call of a request, and checks it: by a pattern, and by a condition on its variables.
 macro_rules! asks {
     ($request:expr, $options:expr, $context:expr, $pattern:pat => $facts:expr) => {
         each_cutting($options, &$request.done(), |context, call| match call {
@@ -37,7 +38,7 @@ fn names() {
         Call::Rename { parent: 2, name, new_parent: 3, new_name, flags: 0, .. }
             => is(&name, "old") && is(&new_name, "new")
     );
-    // RENAME2: its flags are cut to NOREPLACE, EXCHANGE and WHITEOUT
+    // The flags of a RENAME2 are reduced to NOREPLACE, EXCHANGE and WHITEOUT.
     asks!(
         Request::new(45, 2).u64(3).u32(0xff).u32(0).name("old").name("new"),
         Call::Rename { parent: 2, name, new_parent: 3, new_name, flags: 7, .. }
@@ -84,8 +85,8 @@ fn new_nodes() {
 
 #[test]
 fn extensions_of_new_nodes() {
-    // A block of groups, 16 bytes of type 32: one group. A block of contexts, 30 bytes of type 1: one of
-    // 5 bytes, with its name.
+    // A block of groups, of 16 bytes and type 32, has one group. A block of contexts, of 30 bytes and type
+    // 1, has one context of 5 bytes, after its name.
     let group = words(&[16, 32, 1, 4242]);
     let context = [words(&[30, 1, 5, 0]), b"security\0value".to_vec()].concat();
     let options = FsOptions::SECURITY_CTX | FsOptions::CREATE_SUPP_GROUP;
@@ -100,7 +101,7 @@ fn extensions_of_new_nodes() {
         let request = Request::new(9, 2).u32(0o755).u32(0).name("dir").bytes(&blocks.concat());
         asks!(request, options, WHO, Call::Mkdir { extensions, .. } => extensions == expected);
     }
-    // (what is not agreed on is not read)
+    // Without the option, extensions are ignored.
     let request = Request::new(9, 2).u32(0o755).u32(0).name("dir").bytes(&context);
     asks!(request, Call::Mkdir { extensions, .. } => extensions == Extensions::default());
 }
@@ -116,7 +117,7 @@ fn nodes() {
         Request::new(3, 5).u32(1).u32(0).u64(8),
         Call::Getattr { node: 5, handle: Some(8), .. } => true
     );
-    // SETATTR of mode and size by a handle, with a bit that has no name
+    // A SETATTR of mode and size, by a handle, with an unknown bit.
     let record = Request::new(4, 5).u32(0x8000 | 1 | 8 | 64).u32(0).u64(8).u64(99).u64(0);
     let record = record.u64(1).u64(2).u64(3).u32(4).u32(5).u32(6).u32(0o600).u32(0).u32(7).u32(8);
     asks!(
@@ -194,7 +195,7 @@ fn open_files() {
             lock_owner: None, delayed_write: false, kill_priv: false, flags: 2, .. }
             => *data.to_cow() == *b"data" && data.len() == 4
     );
-    // (what is behind `size` is not to be written)
+    // Bytes after the first `size` are not to be written.
     asks!(
         moves(16, 2, 7).bytes(b"data"),
         Call::Write { data, size: 2, lock_owner: Some(44), delayed_write: true,
@@ -266,11 +267,11 @@ fn directories() {
 
 #[test]
 fn sessions() {
-    // (no one asks these)
+    // These have no caller.
     let no_one = Context { unique: 7, ..Context::default() };
     let options = FsOptions::empty();
     let first = Request::new(26, 0).u32(7).u32(38).u32(131_072);
-    // Bit 26 is no option, and without bit 30 there is no second half.
+    // Bit 26 is no option. Without bit 30 the second record is ignored.
     asks!(
         first.clone().u32(1 << 26 | 1 << 13).bytes(&[0xff; 48]), options, no_one,
         Call::Init { capable: FsOptions::DO_READDIRPLUS, readahead: 131_072, .. } => true

@@ -1,6 +1,6 @@
-//! Requests with bytes changed, cut short or made longer, in rooms of any size, in two cuttings: nothing
-//! panics, both have the same reply, and each entry that the file system answered is in a reply or was given
-//! back.
+//! Requests with changed bytes, shortened or extended, and with buffers of any size. Nothing panics; the reply
+//! is the same if the request and the buffer are cut in two; and each entry that the file system returned is
+//! in a reply or was given back.
 
 mod common;
 
@@ -17,12 +17,12 @@ use std::time::Duration;
 const ROUNDS: usize = 60_000;
 const NODE: u64 = 50;
 
-/// Answers entries of one node, and counts its lookups.
+/// Returns entries of one node, and counts its lookups.
 #[derive(Default)]
 struct Counting(AtomicI64);
 
 impl Counting {
-    #[allow(clippy::unnecessary_wraps)] // (it is what methods answer)
+    #[allow(clippy::unnecessary_wraps)] // this is the result of methods
     fn entry(&self) -> io::Result<Entry> {
         self.0.fetch_add(1, Ordering::Relaxed);
         Ok(Entry { inode: NODE, ..Entry::default() })
@@ -150,7 +150,7 @@ impl FileSystem for Counting {
     }
 }
 
-/// Requests with some of everything.
+/// Requests of all forms.
 fn seeds() -> Vec<Vec<u8>> {
     let r = Request::new;
     let moves = |opcode| r(opcode, 5).u64(8).u64(0).u32(400).u32(2).u64(44).u32(2).u32(0);
@@ -179,7 +179,7 @@ fn seeds() -> Vec<Vec<u8>> {
     .into()
 }
 
-/// Numbers that look random.
+/// Pseudorandom numbers.
 struct Random(u64);
 
 impl Random {
@@ -190,7 +190,7 @@ impl Random {
         usize::try_from(self.0 >> 11).unwrap() % end.max(1)
     }
 
-    /// One of the requests, most of the time with something wrong.
+    /// Returns one of the requests, mostly changed.
     fn request(&mut self, seeds: &[Vec<u8>]) -> Vec<u8> {
         let mut bytes = seeds[self.below(seeds.len())].clone();
         for _ in 0..self.below(4) {
@@ -211,7 +211,7 @@ fn word(bytes: &[u8], at: usize) -> u32 {
     u32::from_le_bytes(bytes[at..at + 4].try_into().unwrap())
 }
 
-/// How many lookups of the node a reply delivers.
+/// Returns how many lookups of the node are in a reply.
 fn delivered(opcode: u32, reply: &[u8]) -> i64 {
     if reply.len() < 16 || word(reply, 4) != 0 {
         return 0;
@@ -277,6 +277,6 @@ fn hostile_requests() {
             assert_eq!(now - before, delivered(opcode, reply), "round {round}: {request:?}");
         }
     }
-    // (both come often)
+    // Both must be frequent.
     assert!(replies > ROUNDS / 4 && refusals > ROUNDS / 20, "{replies} {refusals}");
 }

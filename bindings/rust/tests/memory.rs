@@ -1,10 +1,10 @@
-//! Memory that is refused to the library: each allocation of a session in turn. This program has a `malloc`
-//! of its own for it, which a sanitizer's would stand in the way of.
+//! Allocations of the library that fail, one after another. This test replaces `malloc`, which sanitizers
+//! replace, too; so it does not run under them.
 #![deny(unsafe_op_in_unsafe_fn)]
 
 mod common;
 
-use common::{reply, session, words, Request};
+use common::{session, Request};
 use nizwarf::{Asked, Call, Entry, FsOptions, Item, Refusal, Slot};
 use std::alloc::{GlobalAlloc, Layout, System};
 use std::cell::Cell;
@@ -12,7 +12,7 @@ use std::ffi::{c_void, CString};
 use std::io::IoSlice;
 
 thread_local! {
-    /// The allocation of this thread that is refused, counted down; 0 refuses none.
+    /// Counts down to the allocation of this thread that fails. 0: none fails.
     static REFUSED: Cell<u32> = const { Cell::new(0) };
 }
 
@@ -21,7 +21,7 @@ extern "C" {
     fn __libc_realloc(old: *mut c_void, size: usize) -> *mut c_void;
 }
 
-/// Whether this allocation is the one.
+/// Returns whether this allocation fails.
 fn is_refused() -> bool {
     REFUSED
         .try_with(|refused| {
@@ -37,29 +37,29 @@ extern "C" fn malloc(size: usize) -> *mut c_void {
     if is_refused() {
         return std::ptr::null_mut();
     }
-    // SAFETY: it is the C library's own.
+    // SAFETY: it is the function of the C library.
     unsafe { __libc_malloc(size) }
 }
 
 /// # Safety
-/// As that of C: what is handed in is of `malloc`.
+/// As for `realloc` of C.
 #[no_mangle]
 unsafe extern "C" fn realloc(old: *mut c_void, size: usize) -> *mut c_void {
     if is_refused() {
         return std::ptr::null_mut();
     }
-    // SAFETY: it is the C library's own, and what is handed in is the caller's matter.
+    // SAFETY: it is the function of the C library, and the caller keeps its conditions.
     unsafe { __libc_realloc(old, size) }
 }
 
-/// Memory of Rust, which is not refused.
+/// The allocator of Rust, which does not fail.
 struct Rust;
 
-// SAFETY: it is the system's, but for the name of the function that is called.
+// SAFETY: it is the allocator of the system, which `malloc` here stands in front of.
 unsafe impl GlobalAlloc for Rust {
     unsafe fn alloc(&self, layout: Layout) -> *mut u8 {
         if layout.align() <= 16 {
-            // SAFETY: it is the C library's own, and aligns by 16.
+            // SAFETY: it is the function of the C library, which aligns to 16 bytes.
             unsafe { __libc_malloc(layout.size()).cast() }
         } else {
             // SAFETY: as the caller promises.
@@ -76,14 +76,14 @@ unsafe impl GlobalAlloc for Rust {
 #[global_allocator]
 static RUST: Rust = Rust;
 
-/// Does it with an allocation of the library refused. Gives what it gave, and whether one was.
+/// Calls a function with one allocation failing. Returns its result, and whether one failed.
 fn refuse<T>(number: u32, call: impl FnOnce() -> T) -> (T, bool) {
     REFUSED.with(|refused| refused.set(number));
     let result = call();
     (result, REFUSED.with(|refused| refused.replace(0)) == 0)
 }
 
-/// The longest cut: a LOOKUP whose name stands in two slices.
+/// A LOOKUP.
 fn lookup() -> Vec<u8> {
     Request::new(1, 1).name("abc").done()
 }
@@ -110,7 +110,7 @@ fn asking() {
         assert!(was_refused);
         assert_eq!(code, Err(Refusal::OutOfMemory));
         refusals += 1;
-        // (the slot goes on)
+        // The slot can be used again.
         assert!(matches!(slot.ask(&session(FsOptions::empty()), &slices, 4096), Asked::Call(_)));
     }
     assert!(refusals > 0);
@@ -130,7 +130,7 @@ fn answering() {
             },
             Asked::Finished(done) => panic!("{done:?}"),
         };
-        // (a slot without memory)
+        // A slot without memory.
         let mut slot = Slot::new();
         let entry = Entry { inode: 9, ..Entry::default() };
         let (told, was_refused) = refuse(number, || to.answer(&mut slot, Ok(entry)));
@@ -185,6 +185,4 @@ fn a_directory_gives_all_back() {
         refusals += 1;
     }
     assert!(refusals > 0);
-    // (a reply of a header is 16 bytes)
-    assert_eq!(reply(&[]), words(&[16, 0, 7, 0]));
 }

@@ -1,4 +1,4 @@
-//! What asks for no call: each refusal, and what the library answers by itself.
+//! Requests that need no call: each refusal, and the replies of the library itself.
 
 mod common;
 
@@ -6,7 +6,7 @@ use common::{fault, session, words, Request};
 use nizwarf::{Asked, FsOptions, Refusal, Slot};
 use std::io::IoSlice;
 
-/// What comes of a request that asks for no call: its outcome, its reply, and what it interrupts.
+/// The outcome and the reply of a request that needs no call, and the request that it interrupts.
 fn finished(
     options: FsOptions,
     request: &[u8],
@@ -52,10 +52,10 @@ fn each_refusal() {
 #[test]
 fn what_needs_no_file_system() {
     let none = FsOptions::empty();
-    // INTERRUPT of the request with number 9
+    // An INTERRUPT of request number 9.
     let interrupt = Request::new(36, 0).u64(9).done();
     assert_eq!(finished(none, &interrupt, 64), (Ok(()), Vec::new(), Some(9)));
-    // (no opcode; that of DAX; a length above all limits; another version)
+    // An unknown opcode, SETUPMAPPING, a length above the limit, and versions that are too old.
     for (request, number) in [
         (Request::new(255, 1).done(), 38),
         (Request::new(48, 1).bytes(&[0; 40]).done(), 38),

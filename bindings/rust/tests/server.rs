@@ -1,4 +1,4 @@
-//! A server over file systems that tell what was called.
+//! A server over file systems that record their calls.
 
 mod common;
 
@@ -15,7 +15,7 @@ use std::panic::{catch_unwind, AssertUnwindSafe};
 use std::sync::Mutex;
 use std::time::Duration;
 
-/// Serves none of the calls.
+/// Has the default of each method.
 struct Nothing;
 
 impl FileSystem for Nothing {
@@ -24,15 +24,15 @@ impl FileSystem for Nothing {
     type DirIter = NoEntries;
 }
 
-/// Writes down each call. A name that begins with `no` is not there, one with `panic` is a panic.
+/// Records each call. Names that begin with `no` do not exist, and `panic` panics.
 #[derive(Default)]
 struct Diary {
     lines: Mutex<Vec<String>>,
-    /// The file that is read and written, if it is no memory.
+    /// The file to read and write, if there is one.
     file: Option<File>,
 }
 
-#[allow(clippy::unnecessary_wraps)] // (they are what methods answer)
+#[allow(clippy::unnecessary_wraps)] // these are the results of methods
 impl Diary {
     fn write(&self, line: String) {
         self.lines.lock().unwrap().push(line);
@@ -226,7 +226,7 @@ impl FileSystem for Diary {
             return w.read_from_file_at(file, size as usize, offset);
         }
         w.write_all(b"data")?;
-        // (of handle 9 it says more than it put)
+        // For handle 9 it returns more than it put.
         Ok(if handle == 9 { 5 } else { 4 })
     }
 
@@ -337,7 +337,7 @@ impl FileSystem for Diary {
         Ok((Some(72), OpenOptions::empty()))
     }
 
-    /// The handle says which names there are.
+    /// The handle selects the names.
     fn readdir(
         &self,
         _: Context,
@@ -438,7 +438,7 @@ impl FileSystem for Diary {
     }
 }
 
-/// Serves a request with a room that is cut at each of some places, and gives the reply.
+/// Serves a request, of which request and buffer are cut in two, and returns the reply.
 fn serve_in<F: FileSystem>(
     server: &Server<F>,
     request: &[u8],
@@ -457,7 +457,7 @@ fn serve_in<F: FileSystem>(
     (done, bytes)
 }
 
-/// The reply in a room of 4096 bytes.
+/// Returns the reply in a buffer of 4096 bytes.
 fn serve<F: FileSystem>(server: &Server<F>, request: &Request) -> Vec<u8> {
     let request = request.clone().done();
     let (done, bytes) = serve_in(server, &request, 4096, 0);
@@ -470,7 +470,7 @@ fn moves(opcode: u32, handle: u64, size: u32) -> Request {
     Request::new(opcode, 5).u64(handle).u64(9).u32(size).u32(7).u64(44).u32(2).u32(0)
 }
 
-/// `fuse_entry_out` of an entry of the diary's, and of one that says nothing.
+/// `fuse_entry_out` of the entries of the diary.
 fn entry() -> Vec<u8> {
     let mut bytes = words(&[50, 0]);
     bytes.resize(128, 0);
@@ -489,8 +489,8 @@ fn statfs(first: &[u32]) -> Vec<u8> {
     bytes
 }
 
-#[allow(clippy::too_many_lines)] // (a table)
-/// A request of each call, the line that it writes, the reply, and the reply of a file system without it.
+/// For each call a request, the line that it records, its reply, and the reply of the default method.
+#[allow(clippy::too_many_lines)] // a table
 fn each_call() -> Vec<(Request, &'static str, Vec<u8>, Vec<u8>)> {
     let r = Request::new;
     let no = fault(38);
@@ -639,7 +639,7 @@ fn what_the_client_does_not_get_is_given_back() {
     let (done, _) = serve_in(&server, &lookup, 143, 20);
     assert_eq!((done.outcome, done.len), (Err(Refusal::EncodeMessage), 0));
     assert_eq!(server.file_system().take(), ["lookup 1 a 1000 7", "forget 50 1"]);
-    // (of a TMPFILE no entry is replied)
+    // The reply to a TMPFILE has no entry.
     assert_eq!(serve(&server, &Request::new(51, 5)), fault(5));
     assert_eq!(server.file_system().take(), ["tmpfile", "forget 50 1"]);
 }
@@ -678,7 +678,7 @@ fn directories_with_entries() {
         [entry(), record(13, 3, "a")].concat(),
         [entry(), record(14, 4, "b")].concat(),
     ];
-    // (160 bytes each; what does not fit is not looked up)
+    // Each has 160 bytes. What does not fit is not looked up.
     for (size, taken) in [(159, 0), (479, 2), (480, 3), (639, 3), (640, 4), (4000, 4)] {
         assert_eq!(serve(&server, &moves(44, 1, size)), reply(&records[..taken].concat()));
         let mut lines = vec![format!("readdir 5 1 {size} 9")];
@@ -703,7 +703,7 @@ fn data_go_to_a_file_and_come_from_one() {
     std::fs::remove_file(&path).unwrap();
     let server = Server::new(Diary { file: Some(file), ..Diary::default() });
     let data: Vec<u8> = (0..=250).collect();
-    // WRITE of 200 of 251 bytes at place 9, in each cutting; READ of 150 of them into a room for more.
+    // A WRITE of 200 of 251 bytes at offset 9, and a READ of 150 of them into a larger buffer.
     let write = moves(16, 8, 200).bytes(&data).done();
     let read = moves(15, 8, 150).done();
     for cut in 0..300 {
@@ -712,10 +712,10 @@ fn data_go_to_a_file_and_come_from_one() {
         let (done, bytes) = serve_in(&server, &read, 300, cut);
         assert_eq!((done.outcome, bytes), (Ok(()), reply(&data[..150])));
     }
-    // (the file ends at 209)
+    // The file ends at 209.
     let (_, bytes) = serve_in(&server, &moves(15, 8, 1000).done(), 4096, 33);
     assert_eq!(bytes, reply(&data[..200]));
-    // (a room for 10 bytes is filled)
+    // A buffer for 10 bytes is filled.
     let (_, bytes) = serve_in(&server, &read, 26, 20);
     assert_eq!(bytes, reply(&data[..10]));
     let behind = Request::new(15, 5).u64(8).u64(1 << 63).u32(9).bytes(&[0; 20]).done();
@@ -728,7 +728,7 @@ fn counts_that_can_not_be_are_faults() {
     let server = Server::new(Diary::default());
     assert_eq!(serve(&server, &moves(15, 9, 100)), fault(5));
     assert_eq!(serve(&server, &moves(16, 9, 4).bytes(b"data")), fault(5));
-    // (there is no room for four bytes)
+    // The buffer has no space for four bytes.
     let (_, bytes) = serve_in(&server, &moves(15, 8, 100).done(), 19, 0);
     assert_eq!(bytes, fault(5));
 }
@@ -779,7 +779,7 @@ fn a_panic_is_a_fault_if_it_is_caught() {
     let server = Server::new(Diary::default()).catch_panics(true);
     assert_eq!(serve(&server, &lookup), fault(5));
     assert_eq!(serve(&server, &forget), []);
-    // (the second lookup of a directory: the first is in the reply)
+    // The second lookup of this listing panics, and the first item is in the reply.
     let listed = serve(&server, &moves(44, 4, 4000));
     let _ = std::panic::take_hook();
     assert_eq!(listed, reply(&[entry(), record(11, 1, "a")].concat()));

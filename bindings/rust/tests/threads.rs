@@ -1,8 +1,8 @@
-//! One session on eight threads: each request is asked on one and answered on another, by a slot a thread.
-//! Replies are those of one thread alone.
+//! One session on eight threads, each with its slot: each request is asked on one thread and answered on
+//! another, and the replies are those of a single thread.
 //!
-//! It is a program by itself, and hands over by what the thread sanitizer sees where the standard library
-//! is not built with it: what is inlined here.
+//! It does without the test harness, and passes calls on by functions of `std` that are inlined: the thread
+//! sanitizer sees these even if `std` was not built with it.
 
 mod common;
 
@@ -19,13 +19,13 @@ use std::time::Duration;
 const THREADS: usize = 8;
 const EACH: usize = 500;
 
-/// What answers a call later. It has nothing of the request.
+/// Answers a call later.
 type Later = Box<dyn for<'s> FnOnce(&'s mut Slot) -> Told<'s> + Send>;
 
-/// What was asked, for the thread that answers.
+/// A call on its way to the thread that answers it.
 type Hand = Mutex<Option<Result<Later, Vec<u8>>>>;
 
-/// Does it with what a lock holds, once no other thread has it.
+/// Calls a function with the value of a lock until it returns something.
 fn with<T, R>(lock: &Mutex<T>, mut step: impl FnMut(&mut T) -> Option<R>) -> R {
     loop {
         if let Some(result) = lock.try_lock().ok().and_then(|mut held| step(&mut held)) {
@@ -51,7 +51,7 @@ fn entry(name: &CStr, node: u64) -> Entry {
     Entry { inode: node + name.to_bytes().len() as u64, ..Entry::default() }
 }
 
-/// Asks, and gives what answers, or the reply.
+/// Asks. Returns a function that answers, or the reply.
 fn ask(slot: &mut Slot, number: u64) -> Result<Later, Vec<u8>> {
     let bytes = request(number);
     let slices = [IoSlice::new(&bytes)];
@@ -82,7 +82,7 @@ fn answer(slot: &mut Slot, asked: Result<Later, Vec<u8>>) -> Vec<u8> {
     }
 }
 
-/// The requests of this thread, which are every eighth, are asked; those of the next are answered.
+/// Asks every eighth request, and answers those that the next thread asks.
 fn run(at: usize, hands: &[Hand]) -> Vec<(usize, Vec<u8>)> {
     let mut slot = Slot::new();
     let mut replies = Vec::new();
@@ -100,7 +100,7 @@ fn run(at: usize, hands: &[Hand]) -> Vec<(usize, Vec<u8>)> {
     replies
 }
 
-/// What eight threads give.
+/// Runs a function on eight threads, and collects the results.
 fn on_threads<T: Send + 'static>(run: impl Fn(usize) -> Vec<T> + Send + Sync + 'static) -> Vec<T> {
     let run = Arc::new(run);
     let begin = |at| {
@@ -129,7 +129,7 @@ fn requests_are_answered_on_other_threads() {
     }
 }
 
-/// Answers by what is asked alone.
+/// Its answers depend on the arguments only.
 struct Plain;
 
 impl FileSystem for Plain {
@@ -170,7 +170,7 @@ fn one_server_serves_all_threads() {
         (at as u64..(THREADS * EACH) as u64).step_by(THREADS).map(serve).collect()
     });
     assert_eq!(lengths.len(), THREADS * EACH);
-    // (every fifth request is a FORGET, which has no reply)
+    // Every fifth request is a FORGET, which has no reply.
     assert_eq!(lengths.iter().filter(|len| **len == 0).count(), THREADS * EACH / 5);
 }
 

@@ -1,13 +1,13 @@
-//! Requests written by hand from the protocol, and the heads of replies.
-#![allow(dead_code)] // (each test uses some of it)
+//! Requests and replies, written by hand from the protocol.
+#![allow(dead_code)] // each test uses some of it
 
 use nizwarf::{Asked, Call, Context, FsOptions, Session, Slot};
 use std::io::IoSlice;
 
-/// What each request here has in its header besides: its number, and who asks.
+/// The caller and the number of all requests.
 pub const WHO: Context = Context { uid: 1000, gid: 1001, pid: 77, unique: 7 };
 
-/// A request that is being written.
+/// A request under construction.
 #[derive(Clone)]
 pub struct Request(Vec<u8>);
 
@@ -30,25 +30,25 @@ impl Request {
         self
     }
 
-    /// A name, and the 0 behind it.
+    /// Adds a name and its NUL.
     pub fn name(self, name: &str) -> Self {
         self.bytes(name.as_bytes()).bytes(&[0])
     }
 
-    /// The bytes, whose length is said in the first four.
+    /// Returns the bytes, with their length in the header.
     pub fn done(self) -> Vec<u8> {
         let len = u32::try_from(self.0.len()).unwrap();
         self.long(len)
     }
 
-    /// The bytes with a length of your own.
+    /// Returns the bytes, with this length in the header.
     pub fn long(mut self, len: u32) -> Vec<u8> {
         self.0[..4].copy_from_slice(&len.to_le_bytes());
         self.0
     }
 }
 
-/// A record of numbers of 4 bytes.
+/// The bytes of numbers of 32 bits.
 pub fn words(words: &[u32]) -> Vec<u8> {
     words.iter().flat_map(|word| word.to_le_bytes()).collect()
 }
@@ -70,7 +70,7 @@ pub fn session(options: FsOptions) -> Session {
     session
 }
 
-/// Asks for the call of a request, and hands it on, once for each cutting into two slices.
+/// Asks for the call of a request, once for each way to cut it into two slices.
 pub fn each_cutting(options: FsOptions, request: &[u8], mut test: impl FnMut(Context, Call<'_>)) {
     let mut slot = Slot::new();
     for cut in 0..=request.len() {
