@@ -47,8 +47,10 @@ impl Check {
         let slices = [IoSlice::new(request)];
         match slot.ask(&session, &slices, session.longest_message()) {
             Asked::Call(pending) => {
-                if let Call::Init { to, .. } = &pending.call {
-                    self.init.store(to.unique(), Ordering::Release);
+                match &pending.call {
+                    Call::Init { to, .. } => self.init.store(to.unique(), Ordering::Release),
+                    Call::Destroy { .. } => self.options.store(0, Ordering::Release),
+                    _ => {}
                 }
                 Verdict::PassOn
             }

@@ -117,6 +117,17 @@ pub struct To<K> {
 /// }
 /// # unreachable!()
 /// ```
+///
+/// The compiler warns if it is ignored:
+///
+/// ```compile_fail
+/// #![deny(unused_must_use)]
+/// use nizwarf::{kinds, Entry, Slot, To};
+///
+/// fn answer(slot: &mut Slot, to: To<kinds::EntryOf>) {
+///     to.answer(slot, Ok(Entry::default()));
+/// }
+/// ```
 #[must_use = "nodes may have to be given back, and the client waits for the reply"]
 #[derive(Debug)]
 pub struct Told<'s> {
