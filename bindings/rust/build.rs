@@ -5,13 +5,23 @@ use std::path::Path;
 use std::process::{exit, Command};
 
 const NAME: &str = "nizwarf";
-const VERSION: &str = "0.2";
+/// From this version on, and before the next major one, the library has what this crate uses.
+const VERSIONS: [&str; 2] = [">= 0.2", "< 1"];
 
 fn main() {
-    for name in ["NIZWARF_LIB_DIR", "PKG_CONFIG", "PKG_CONFIG_PATH"] {
+    for name in [
+        "NIZWARF_LIB_DIR",
+        "PKG_CONFIG",
+        "PKG_CONFIG_PATH",
+        "PKG_CONFIG_LIBDIR",
+        "PKG_CONFIG_SYSROOT_DIR",
+    ] {
         println!("cargo:rerun-if-env-changed={name}");
     }
     println!("cargo:rerun-if-changed=build.rs");
+    if env::var_os("DOCS_RS").is_some() {
+        return; // documentation is not linked
+    }
     let found = match env::var("NIZWARF_LIB_DIR") {
         Ok(folder) => link_folder(&folder),
         Err(_) => link_installed(),
@@ -55,7 +65,8 @@ fn link_folder(folder: &str) -> Result<(), String> {
 fn link_installed() -> Result<(), String> {
     let program = env::var("PKG_CONFIG").unwrap_or_else(|_| "pkg-config".into());
     let said = Command::new(&program)
-        .args(["--libs", "--print-errors", &format!("{NAME} >= {VERSION}")])
+        .args(["--libs", "--print-errors"])
+        .args(VERSIONS.map(|version| format!("{NAME} {version}")))
         .output()
         .map_err(|fault| format!("NIZWARF_LIB_DIR is not set, and `{program}`: {fault}"))?;
     if !said.status.success() {
