@@ -25,13 +25,18 @@ find_library() {
     library=("$built" "$(dirname "$(rt doc)")/c/liblibc_c.a")
 }
 
-# Builds examples/c/NAME.c with a library, and sets `transport` to it: build_transport NAME [LIBRARY]. One that
-# runs meanwhile, of another tool, stays what it is.
+# Builds examples/c/NAME.c with a library and the transport that it stands on, and sets `transport` to the
+# program: build_transport NAME [LIBRARY]. One that runs meanwhile, of another tool, stays what it is.
 build_transport() {
+    local sources=("$here/examples/c/$1.c")
     find_library "${2:-}"
+    case $1 in
+        mount) sources+=("$here/examples/c/fuse_device.c") ;;
+        vhost) sources+=("$here/examples/c/vhost_user.c") ;;
+    esac
     mkdir -p "$here/out/c"
     transport=$here/out/c/$1-${2:-vfs_c}
-    cc -std=c11 -O2 -Wall -Wextra -Werror -I "$here/include" -o "$transport.$$" "$here/examples/c/$1.c" \
+    cc -std=c11 -O2 -Wall -Wextra -Werror -pthread -I "$here/include" -o "$transport.$$" "${sources[@]}" \
         "${library[@]}"
     mv "$transport.$$" "$transport"
 }

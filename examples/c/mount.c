@@ -1,36 +1,24 @@
-/* A transport for /dev/fuse: mounts the file system behind the library on a folder, and serves it until it
- * is unmounted. It wants root, who may mount, and serves root alone, or all with allow_other.
+/* Mounts the file system behind the library on a folder, over /dev/fuse, and serves it until it is
+ * unmounted. It wants root, who may mount, and serves root alone, or all with allow_other.
  *
  * Usage: mount [-o OPTIONS] FOLDER
  *
- * --help lists the options. A read of the device is one request. The kernel copies it into `request`, so
- * nothing changes it while it is answered. A write is one reply: the library copies it into `room`, and the
- * kernel takes it.
- * SIGINT, SIGTERM and SIGHUP unmount. Where the folder is in use then, it goes when the last user does, or
- * at a second signal.
+ * --help lists the options. SIGINT, SIGTERM and SIGHUP unmount. Where the folder is in use then, it
+ * goes when the last user does, or at a second signal. The server has one caller, so there is one
+ * worker.
  *
- * Status 0: it was unmounted; 1: something failed; 2: the words or options can't be. Standard error says
- * what. */
+ * Status 0: it was unmounted; 1: something failed; 2: the words or options can't be. Standard error
+ * says what. */
 #define _GNU_SOURCE
 #include <errno.h>
-#include <fcntl.h>
 #include <getopt.h>
-#include <linux/fuse.h>
-#include <poll.h>
-#include <signal.h>
 #include <stdio.h>
 #include <stdlib.h>
 #include <string.h>
 #include <sys/mount.h>
-#include <sys/signalfd.h>
 #include <time.h>
 #include <unistd.h>
-#include "nizwarf.h"
-
-/* The largest payload, and the longest request: the header and its record take less than a page. */
-enum { PAYLOAD = 1 << 20, LONGEST = PAYLOAD + 4096 };
-
-enum outcome { SERVED, UNMOUNTED, FAILED };
+#include "transport.h"
 
 static const char usage[] =
 	"Usage: mount [-o OPTIONS] FOLDER\n"
@@ -44,11 +32,9 @@ static const char usage[] =
 	"  fsname=NAME             what df shows in place of nizwarf\n"
 	"  max_read=N              the most bytes of one read\n";
 
-static unsigned char request[LONGEST], room[LONGEST];
-
 /* What the options say. */
 static nizwarf_settings settings = NIZWARF_SETTINGS;
-static unsigned long flags = MS_NOSUID | MS_NODEV, max_read = PAYLOAD;
+static unsigned long flags = MS_NOSUID | MS_NODEV, max_read = TRANSPORT_PAYLOAD;
 static const char *name = "nizwarf", *allow_other = "";
 
 /* Ends, since a word or an option can't be. */
@@ -114,7 +100,7 @@ static void take_option(const char *key, char *value)
 	else if (!strcmp(key, "gid"))
 		settings.gid = (uint32_t)number(key, value, "", 10, 0, UINT32_MAX - 1);
 	else if (!strcmp(key, "max_read"))
-		max_read = number(key, value, "", 10, 4096, PAYLOAD);
+		max_read = number(key, value, "", 10, 4096, TRANSPORT_PAYLOAD);
 	else
 		refuse_words("there is no such option: ", key);
 }
@@ -145,130 +131,51 @@ static const char *take_words(int count, char **words)
 	return words[optind];
 }
 
-static enum outcome failed(const char *what)
-{
-	fprintf(stderr, "mount: %s: %s\n", what, strerror(errno));
-	return FAILED;
-}
+static nizwarf_server server = NIZWARF_NONE;
 
-/* A refused request has no reply of the server's, and the kernel waits for one: it gets an error. Of
- * these three it awaits none. Gives the length of the reply. */
-static size_t refuse(const struct fuse_in_header *asked, int32_t code)
+static int begin(void *user, unsigned worker)
 {
-	struct fuse_out_header reply = { .len = sizeof(reply), .unique = asked->unique };
-
-	fprintf(stderr, "mount: outcome %d of opcode %u\n", (int)code, (unsigned)asked->opcode);
-	if (asked->opcode == FUSE_FORGET || asked->opcode == FUSE_BATCH_FORGET ||
-	    asked->opcode == FUSE_INTERRUPT)
-		return 0;
-	reply.error = code == NIZWARF_OUT_OF_MEMORY ? -ENOMEM : -EIO;
-	memcpy(room, &reply, sizeof(reply));
-	return sizeof(reply);
-}
-
-/* Takes a request, if there is one, and answers it. */
-static enum outcome serve_one(int device, nizwarf_server *server)
-{
-	const ssize_t got = read(device, request, sizeof(request));
-	struct fuse_in_header asked;
 	struct timespec now;
-	size_t len;
-	int32_t code;
 
-	if (got < 0 && errno == ENODEV)
-		return UNMOUNTED;
-	/* ENOENT: who asked has been interrupted before it was read. */
-	if (got < 0)
-		return errno == EAGAIN || errno == EINTR || errno == ENOENT ? SERVED : failed("read");
-	if ((size_t)got < sizeof(asked)) {
-		errno = EPROTO;
-		return failed("read");
-	}
-	memcpy(&asked, request, sizeof(asked));
-
-	clock_gettime(CLOCK_REALTIME, &now);
-	nizwarf_tell_time(server, (uint64_t)now.tv_sec, (uint32_t)now.tv_nsec);
-
-	const nizwarf_segment segment = { request, (size_t)got };
-	const nizwarf_room whole = { room, sizeof(room) };
-
-	code = nizwarf_message(server, &segment, 1, &whole, 1, &len);
-	if (code != NIZWARF_OK)
-		len = refuse(&asked, code);
-	/* ENOENT: who asked no longer waits. */
-	if (len && write(device, room, len) < 0 && errno != ENOENT)
-		return failed("write");
-	return SERVED;
-}
-
-/* Serves until the kernel says that it is unmounted. */
-static enum outcome serve(int device, int signals, const char *folder, nizwarf_server *server)
-{
-	struct pollfd wait[] = { { device, POLLIN, 0 }, { signals, POLLIN, 0 } };
-	struct signalfd_siginfo said;
-	enum outcome outcome = SERVED;
-	int asked = 0;
-
-	while (outcome == SERVED) {
-		if (poll(wait, 2, -1) < 0)
-			return failed("poll");
-		if (wait[1].revents && read(signals, &said, sizeof(said)) == sizeof(said)) {
-			if (asked++)
-				return UNMOUNTED;
-			if (umount2(folder, 0) && errno == EBUSY) {
-				fprintf(stderr, "mount: %s is in use, and goes with its last user\n", folder);
-				if (umount2(folder, MNT_DETACH))
-					return failed(folder);
-			}
-		}
-		if (wait[0].revents)
-			outcome = serve_one(device, server);
-	}
-	return outcome;
-}
-
-int main(int count, char **words)
-{
-	const char *folder = take_words(count, words);
-	nizwarf_server server = NIZWARF_NONE;
-	enum outcome outcome;
-	struct timespec now;
-	char options[160];
-	sigset_t ending;
-
-	sigemptyset(&ending);
-	sigaddset(&ending, SIGINT);
-	sigaddset(&ending, SIGTERM);
-	sigaddset(&ending, SIGHUP);
-	sigprocmask(SIG_BLOCK, &ending, NULL);
-	signal(SIGPIPE, SIG_IGN);
-
-	const int signals = signalfd(-1, &ending, SFD_CLOEXEC);
-	const int device = open("/dev/fuse", O_RDWR | O_NONBLOCK | O_CLOEXEC);
-
-	if (signals < 0 || device < 0) {
-		failed("/dev/fuse");
-		return 1;
-	}
+	(void)user, (void)worker;
 	clock_gettime(CLOCK_REALTIME, &now);
 	settings.seconds = (uint64_t)now.tv_sec;
 	settings.nanoseconds = (uint32_t)now.tv_nsec;
 	if (settings.file < settings.bytes)
 		settings.file = settings.bytes;
-	if (nizwarf_new(&server, (uint32_t)sysconf(_SC_PAGESIZE), PAYLOAD, &settings) != NIZWARF_OK) {
-		fprintf(stderr, "mount: there is no server\n");
-		return 1;
-	}
-	snprintf(options, sizeof(options),
-		 "fd=%d,rootmode=40000,user_id=%u,group_id=%u,default_permissions,max_read=%lu%s", device,
-		 (unsigned)geteuid(), (unsigned)getegid(), max_read, allow_other);
-	if (mount(name, folder, "fuse.nizwarf", flags, options)) {
-		outcome = failed(folder);
-	} else {
-		outcome = serve(device, signals, folder, &server);
-		if (outcome == FAILED)
-			umount2(folder, MNT_DETACH);
-	}
+	if (nizwarf_new(&server, (uint32_t)sysconf(_SC_PAGESIZE), TRANSPORT_PAYLOAD, &settings) ==
+	    NIZWARF_OK)
+		return 0;
+	fprintf(stderr, "mount: there is no server\n");
+	return 1;
+}
+
+static void end(void *user, unsigned worker)
+{
+	(void)user, (void)worker;
 	nizwarf_end(&server);
-	return outcome == FAILED;
+}
+
+static int32_t serve(void *user, unsigned worker, const nizwarf_segment *request, size_t segments,
+		     const nizwarf_room *room, size_t rooms, size_t *len)
+{
+	struct timespec now;
+
+	(void)user, (void)worker;
+	clock_gettime(CLOCK_REALTIME, &now);
+	nizwarf_tell_time(&server, (uint64_t)now.tv_sec, (uint32_t)now.tv_nsec);
+	return nizwarf_message(&server, request, segments, room, rooms, len);
+}
+
+int main(int count, char **words)
+{
+	const transport by = { .program = "mount", .workers = 1, .begin = begin, .end = end,
+			       .serve = serve };
+	const char *folder = take_words(count, words);
+	char options[80];
+	int device;
+
+	snprintf(options, sizeof(options), ",default_permissions,max_read=%lu%s", max_read, allow_other);
+	device = fuse_device_mount(&by, name, folder, flags, options);
+	return device < 0 ? 1 : fuse_device_serve(&by, device, folder);
 }

@@ -1,0 +1,295 @@
+/* A transport for /dev/fuse: transport.h.
+ *
+ * A read of the device is one request. The kernel copies it into the worker's memory, so nothing
+ * changes it while it is answered. A write is one reply. Reads wait: a request takes two system
+ * calls. Each worker but the first has a descriptor of its own for the device, by
+ * FUSE_DEV_IOC_CLONE, and begins once the options are agreed on. */
+#define _GNU_SOURCE
+#include <errno.h>
+#include <fcntl.h>
+#include <linux/fuse.h>
+#include <poll.h>
+#include <pthread.h>
+#include <signal.h>
+#include <stdatomic.h>
+#include <stdio.h>
+#include <stdlib.h>
+#include <string.h>
+#include <sys/eventfd.h>
+#include <sys/ioctl.h>
+#include <sys/mount.h>
+#include <sys/signalfd.h>
+#include <time.h>
+#include <unistd.h>
+#include "transport.h"
+
+/* The longest request and reply: a header and its record take less than a page. Before the data of
+ * a WRITE stand 80 bytes, and before those of a READ's reply 16. */
+enum { PAGE = 4096, LONGEST = TRANSPORT_PAYLOAD + PAGE, BEFORE_WRITE = 80, BEFORE_READ = 16 };
+
+enum outcome { SERVED, ENDED, FAILED };
+
+struct device;
+
+struct worker {
+	struct device *of;
+	unsigned number;
+	int fd;
+	pthread_t thread;
+	unsigned char *memory, *request, *room;
+};
+
+struct device {
+	const transport *by;
+	/* Is told by each worker that ends. */
+	int over;
+	atomic_int stop, failed;
+	/* How many workers were started: the first one counts the others. */
+	unsigned started;
+	struct worker worker[TRANSPORT_MOST_WORKERS];
+};
+
+static int say(const transport *by, const char *what)
+{
+	fprintf(stderr, "%s: %s: %s\n", by->program, what, strerror(errno));
+	return -1;
+}
+
+static enum outcome failed(const struct worker *w, const char *what)
+{
+	say(w->of->by, what);
+	return FAILED;
+}
+
+/* A refused request has no reply of the server's, and the kernel waits for one: it gets an error. Of
+ * these three it awaits none. Answers the length of the reply. */
+static size_t refuse(const struct worker *w, const struct fuse_in_header *asked, int32_t code)
+{
+	struct fuse_out_header reply = { .len = sizeof(reply), .unique = asked->unique };
+
+	fprintf(stderr, "%s: outcome %d of opcode %u\n", w->of->by->program, (int)code,
+		(unsigned)asked->opcode);
+	if (asked->opcode == FUSE_FORGET || asked->opcode == FUSE_BATCH_FORGET ||
+	    asked->opcode == FUSE_INTERRUPT)
+		return 0;
+	reply.error = code == NIZWARF_OUT_OF_MEMORY ? -ENOMEM : -EIO;
+	memcpy(w->room, &reply, sizeof(reply));
+	return sizeof(reply);
+}
+
+/* Takes a request and answers it. `*opcode` is what was asked, 0 if nothing was. */
+static enum outcome serve_one(const struct worker *w, uint32_t *opcode)
+{
+	const ssize_t got = read(w->fd, w->request, LONGEST);
+	const nizwarf_segment segment = { w->request, (size_t)got };
+	const nizwarf_room room = { w->room, LONGEST };
+	const transport *by = w->of->by;
+	struct fuse_in_header asked;
+	size_t len = 0;
+	int32_t code;
+
+	*opcode = 0;
+	if (got == 0 || (got < 0 && errno == ENODEV))
+		return ENDED;
+	/* ENOENT: who asked has been interrupted before it was read. */
+	if (got < 0)
+		return errno == EAGAIN || errno == EINTR || errno == ENOENT ? SERVED : failed(w, "read");
+	if ((size_t)got < sizeof(asked)) {
+		errno = EPROTO;
+		return failed(w, "read");
+	}
+	memcpy(&asked, w->request, sizeof(asked));
+	*opcode = asked.opcode;
+	code = by->serve(by->user, w->number, &segment, 1, &room, 1, &len);
+	if (code != NIZWARF_OK)
+		len = refuse(w, &asked, code);
+	/* ENOENT: who asked no longer waits. ENODEV: nobody does. */
+	if (len && write(w->fd, w->room, len) < 0 && errno != ENOENT && errno != ENODEV)
+		return failed(w, "write");
+	return SERVED;
+}
+
+static void *run(void *given);
+
+/* Starts the next worker over a descriptor, which is its own then. */
+static int start(struct device *d, int fd)
+{
+	struct worker *w = &d->worker[d->started];
+	unsigned char *memory = aligned_alloc(PAGE, 2 * LONGEST + 4 * PAGE);
+
+	w->of = d;
+	w->number = d->started;
+	w->fd = fd;
+	w->memory = memory;
+	if (memory) {
+		w->request = memory + PAGE - BEFORE_WRITE;
+		w->room = memory + LONGEST + 3 * PAGE - BEFORE_READ;
+	}
+	/* (the first one counts on from here, as soon as it runs) */
+	d->started++;
+	errno = ENOMEM;
+	if (memory && fd >= 0 && !(errno = pthread_create(&w->thread, NULL, run, w)))
+		return 0;
+	d->started--;
+	say(d->by, "a worker");
+	free(memory);
+	if (fd >= 0)
+		close(fd);
+	return -1;
+}
+
+/* Starts the other workers. One that can't be cloned, as a socket, is read by all. */
+static void start_others(struct device *d)
+{
+	const uint32_t first = (uint32_t)d->worker[0].fd;
+
+	while (d->started < d->by->workers) {
+		int fd = open("/dev/fuse", O_RDWR | O_CLOEXEC);
+
+		if (fd < 0 || ioctl(fd, FUSE_DEV_IOC_CLONE, &first)) {
+			if (fd >= 0)
+				close(fd);
+			fd = fcntl((int)first, F_DUPFD_CLOEXEC, 0);
+		}
+		if (start(d, fd))
+			return;
+	}
+}
+
+static void *run(void *given)
+{
+	struct worker *w = given;
+	struct device *d = w->of;
+	enum outcome outcome = FAILED;
+	const uint64_t one = 1;
+	uint32_t opcode;
+
+	if (!d->by->begin || !d->by->begin(d->by->user, w->number)) {
+		do {
+			outcome = serve_one(w, &opcode);
+			if (opcode == FUSE_INIT && w->number == 0)
+				start_others(d);
+		} while (outcome == SERVED && !atomic_load(&d->stop));
+		if (d->by->end)
+			d->by->end(d->by->user, w->number);
+	}
+	if (outcome == FAILED)
+		atomic_store(&d->failed, 1);
+	if (write(d->over, &one, sizeof(one)) < 0)
+		say(d->by, "eventfd");
+	return NULL;
+}
+
+/* Ends a worker, which may wait for a request: a signal interrupts that. */
+static void end(struct worker *w)
+{
+	const struct timespec pause = { 0, 5000000 };
+
+	while (pthread_tryjoin_np(w->thread, NULL) == EBUSY) {
+		pthread_kill(w->thread, SIGRTMIN);
+		nanosleep(&pause, NULL);
+	}
+	close(w->fd);
+	free(w->memory);
+}
+
+static void interrupted(int number)
+{
+	(void)number;
+}
+
+/* Unmounts. -1: it could not. */
+static int unmount(const transport *by, const char *folder)
+{
+	if (!umount2(folder, 0) || errno != EBUSY)
+		return 0;
+	fprintf(stderr, "%s: %s is in use, and goes with its last user\n", by->program, folder);
+	return umount2(folder, MNT_DETACH) ? say(by, folder) : 0;
+}
+
+/* Waits until a worker has ended, or signals want an end. */
+static void wait_for_end(struct device *d, int signals, const char *folder)
+{
+	struct pollfd wait[] = { { signals, POLLIN, 0 }, { d->over, POLLIN, 0 } };
+	struct signalfd_siginfo said;
+	int asked = 0;
+
+	while (!wait[1].revents) {
+		if (poll(wait, 2, -1) < 0) {
+			if (errno == EINTR)
+				continue;
+			say(d->by, "poll");
+			atomic_store(&d->failed, 1);
+			return;
+		}
+		if (!wait[0].revents || read(signals, &said, sizeof(said)) != sizeof(said))
+			continue;
+		if (asked++ || !folder)
+			return;
+		if (unmount(d->by, folder)) {
+			atomic_store(&d->failed, 1);
+			return;
+		}
+	}
+}
+
+int fuse_device_serve(const transport *by, int device, const char *folder)
+{
+	const struct sigaction interrupts = { .sa_handler = interrupted };
+	struct device *d = calloc(1, sizeof(*d));
+	sigset_t ending;
+	int signals, is_wrong = 1;
+
+	sigemptyset(&ending);
+	sigaddset(&ending, SIGINT);
+	sigaddset(&ending, SIGTERM);
+	sigaddset(&ending, SIGHUP);
+	pthread_sigmask(SIG_BLOCK, &ending, NULL);
+	signal(SIGPIPE, SIG_IGN);
+	sigaction(SIGRTMIN, &interrupts, NULL);
+	signals = signalfd(-1, &ending, SFD_CLOEXEC);
+	if (d) {
+		d->by = by;
+		d->over = eventfd(0, EFD_CLOEXEC);
+	}
+	if (!d || signals < 0 || d->over < 0) {
+		say(by, "signalfd and eventfd");
+		close(device);
+	} else if (!start(d, device)) {
+		wait_for_end(d, signals, folder);
+		atomic_store(&d->stop, 1);
+		/* The first one has started the others. */
+		end(&d->worker[0]);
+		for (unsigned i = 1; i < d->started; i++)
+			end(&d->worker[i]);
+		is_wrong = atomic_load(&d->failed);
+	}
+	if (is_wrong && folder)
+		umount2(folder, MNT_DETACH);
+	if (signals >= 0)
+		close(signals);
+	if (d && d->over >= 0)
+		close(d->over);
+	free(d);
+	return is_wrong;
+}
+
+int fuse_device_mount(const transport *by, const char *source, const char *folder,
+		      unsigned long flags, const char *options)
+{
+	const int device = open("/dev/fuse", O_RDWR | O_CLOEXEC);
+	char words[512];
+	int len;
+
+	if (device < 0)
+		return say(by, "/dev/fuse");
+	len = snprintf(words, sizeof(words), "fd=%d,rootmode=40000,user_id=%u,group_id=%u%s", device,
+		       (unsigned)geteuid(), (unsigned)getegid(), options);
+	errno = E2BIG;
+	if (len >= 0 && (size_t)len < sizeof(words) &&
+	    !mount(source, folder, "fuse.nizwarf", flags, words))
+		return device;
+	say(by, folder);
+	close(device);
+	return -1;
+}

@@ -1,0 +1,68 @@
+/* Transports of requests: each takes requests, hands each to a function of yours, and completes it
+ * with what that answers. fuse_device.c serves /dev/fuse, vhost_user.c the virtio-fs device of a
+ * virtual machine. Behind the function stands what answers requests: nizwarf_message, a table of
+ * nizwarf_ops.h, or a file system over the door of nizwarf.h.
+ *
+ * Workers. Each is a thread of its own, which calls `begin` first, then `serve` for one request
+ * after another, then `end`. So what may have one caller, as a nizwarf_server, has one worker and
+ * is made in `begin`; what stands on the door has any number of them, each with a slot. The thread
+ * that calls a transport waits for signals: SIGINT, SIGTERM and SIGHUP end it.
+ *
+ * Requests. /dev/fuse gives each in one segment, with one room, of which the data of a WRITE and
+ * those of a READ's reply begin at a page. A virtual machine gives a room in any pieces, right in
+ * its memory: the reply is written there, and must not be read back. Its requests are copied into
+ * one segment, since it may change its memory at any time. With `writes_in_place` the data of a
+ * WRITE are not: they come in segments behind the first, which has the header and the record.
+ * Nothing is to be believed of them that is read twice; the door reads none of them. */
+#ifndef TRANSPORT_H
+#define TRANSPORT_H
+
+#include "nizwarf.h"
+
+/* The largest payload of a request or a reply: what stands behind is made with this. */
+enum { TRANSPORT_PAYLOAD = 1 << 20, TRANSPORT_MOST_WORKERS = 64 };
+
+typedef struct {
+	/* What messages on standard error begin with. */
+	const char *program;
+	/* At least 1. */
+	unsigned workers;
+	int writes_in_place;
+	/* Is handed to each of the functions. */
+	void *user;
+	/* Both may be NULL. An answer that isn't 0 ends the transport, which then failed; `begin` said
+	 * why. */
+	int (*begin)(void *user, unsigned worker);
+	void (*end)(void *user, unsigned worker);
+	/* Answers a request as nizwarf_message does: a code, and in `*len`, which comes as 0, how many
+	 * bytes of the rooms are the reply. */
+	int32_t (*serve)(void *user, unsigned worker, const nizwarf_segment *request, size_t segments,
+			 const nizwarf_room *room, size_t rooms, size_t *len);
+} transport;
+
+/* Mounts on the folder as `source`, with flags of mount(2). `options` stand behind those that it
+ * has itself, each with a comma before it. Answers the device's descriptor, or -1: it said why. */
+int fuse_device_mount(const transport *by, const char *source, const char *folder,
+		      unsigned long flags, const char *options);
+
+/* Serves a device until it is unmounted, and closes it. A first signal unmounts the folder; where
+ * that is in use it goes with its last user, or at a second signal. The folder is NULL if somebody
+ * else mounted it: a signal ends the serving then. The device may be a socket that keeps messages
+ * apart, and is served until the other end is closed. 0: it ended so; 1: it failed, and said
+ * why. */
+int fuse_device_serve(const transport *by, int device, const char *folder);
+
+/* Listens on a new socket of this path, in place of one on which nobody listens. Answers its
+ * descriptor, or -1: it failed; -2: the path can't be that of a socket. It said why. */
+int vhost_user_listen(const transport *by, const char *path);
+
+/* Serves one front end, as QEMU, after another that connects to this socket, over the same workers,
+ * until a signal comes, and closes it. A front end that breaks the protocol, or asks for what is
+ * not served here, is told of in a line on standard error, and hung up on. 0: a signal came; 1: it
+ * failed, and said why. */
+int vhost_user_serve(const transport *by, int listener);
+
+/* The same with one front end that is connected already, until it hangs up. */
+int vhost_user_serve_one(const transport *by, int client);
+
+#endif
