@@ -62,7 +62,7 @@ run_all() {
     "$folder/program"
     compile tools/c-example.c "$@" "${counted[@]}"
     "$folder/program"
-    compile examples/c/hello.c "$@"
+    compile examples/c/hello.c "$here/examples/c/fuse_device.c" -pthread "$@"
     mv "$folder/program" "$folder/hello"
     compile tools/c-hello.c "$@"
     timeout 60 "$folder/program" "$folder/hello"
