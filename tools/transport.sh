@@ -25,18 +25,29 @@ find_library() {
     library=("$built" "$(dirname "$(rt doc)")/c/liblibc_c.a")
 }
 
-# Builds examples/c/NAME.c with a library and the transport that it stands on, and sets `transport` to the
-# program: build_transport NAME [LIBRARY]. One that runs meanwhile, of another tool, stays what it is.
+# Builds examples/c/NAME.c with a library and the transports that it stands on, and sets `transport` to the
+# program: build_transport NAME [LIBRARY [FLAGS..]]. One that runs meanwhile, of another tool, stays what it
+# is. With flags, as those of sanitizers, it is another program.
 build_transport() {
-    local sources=("$here/examples/c/$1.c")
-    find_library "${2:-}"
-    case $1 in
-        mount) sources+=("$here/examples/c/fuse_device.c") ;;
-        vhost) sources+=("$here/examples/c/vhost_user.c") ;;
+    local name=$1 from=$here/examples/c of=${2:-vfs_c} compile=(cc -std=c11 -O2 -Wall -Wextra -Werror -pthread)
+    local sources=("$from/$name.c") links=() flags=("${@:3}")
+    find_library "$of"
+    case $name in
+        mount) sources+=("$from/fuse_device.c") ;;
+        vhost) sources+=("$from/vhost_user.c") ;;
+        share)
+            sources+=("$from"/share_*.c "$from"/passthrough*.c "$from/fuse_device.c" "$from/vhost_user.c")
+            if echo '#include <seccomp.h>' | cc -fsyntax-only -x c - 2> /dev/null; then
+                flags+=(-DWITH_SECCOMP)
+                links+=(-lseccomp)
+            else
+                echo "It is built without libseccomp: \`apt-get install libseccomp-dev\` has it." >&2
+            fi
+            ;;
     esac
     mkdir -p "$here/out/c"
-    transport=$here/out/c/$1-${2:-vfs_c}
-    cc -std=c11 -O2 -Wall -Wextra -Werror -pthread -I "$here/include" -o "$transport.$$" "${sources[@]}" \
-        "${library[@]}"
+    transport=$here/out/c/$name-$of$(printf '%s' "${@:3}" | tr -c 'a-z0-9' _)
+    "${compile[@]}" "${flags[@]}" -I "$here/include" -o "$transport.$$" "${sources[@]}" "${library[@]}" \
+        "${links[@]}"
     mv "$transport.$$" "$transport"
 }

@@ -1,0 +1,260 @@
+/* A passthrough, for the transports: passthrough.h. */
+#define _GNU_SOURCE
+#include <errno.h>
+#include <linux/fuse.h>
+#include <stdio.h>
+#include <stdlib.h>
+#include <string.h>
+#include <unistd.h>
+#include "passthrough_call.h"
+
+/* How long a client may remember, in seconds. */
+enum { NO_TIME = 0, SHORT_TIME = 1, LONG_TIME = 86400 };
+
+/* ---- pieces of requests and rooms */
+
+/* Adds a piece, which is cut at `*left`. */
+static bool add_piece(struct worker *w, size_t *count, void *at, size_t len, size_t *left)
+{
+	len = len < *left ? len : *left;
+	*left -= len;
+	if (!len)
+		return true;
+	if (!grow(&w->pieces, &w->pieces_size, (*count + 1) * sizeof(*w->pieces)))
+		return false;
+	w->pieces[(*count)++] = (struct iovec) { at, len };
+	return true;
+}
+
+/* The data of a WRITE, where they lie: -1, or how many pieces. */
+static ssize_t find_data(struct worker *w, const nizwarf_call *asked, const nizwarf_segment *request,
+			 size_t segments)
+{
+	size_t count = 0, skip = asked->data.at, left = asked->data.len;
+
+	left = left < asked->size ? left : asked->size;
+	for (size_t i = 0; i < segments && left; i++) {
+		const size_t past = skip < request[i].len ? skip : request[i].len;
+
+		skip -= past;
+		/* (pwritev takes pointers to what it only reads) */
+		if (!add_piece(w, &count, (uint8_t *)(uintptr_t)request[i].at + past, request[i].len - past,
+			       &left))
+			return -1;
+	}
+	return (ssize_t)count;
+}
+
+/* The room for the data of a READ: -1, or how many pieces. */
+static ssize_t find_room(struct worker *w, const nizwarf_call *asked, const nizwarf_room *room,
+			 size_t rooms)
+{
+	size_t count = 0, skip = HEADER, left = asked->length;
+
+	left = left < asked->size ? left : asked->size;
+	for (size_t i = 0; i < rooms && left; i++) {
+		const size_t past = skip < room[i].len ? skip : room[i].len;
+
+		skip -= past;
+		if (!add_piece(w, &count, (uint8_t *)room[i].at + past, room[i].len - past, &left))
+			return -1;
+	}
+	return (ssize_t)count;
+}
+
+/* ---- requests */
+
+/* Makes the call, and gives back what the client doesn't get. */
+static int32_t answer_call(struct call *call, const nizwarf_session *session,
+			   const nizwarf_room *room, size_t rooms, ssize_t pieces, nizwarf_told *told)
+{
+	struct passthrough *all = call->all;
+	const nizwarf_call *asked = call->asked;
+	nizwarf_answer *answer = call->answer;
+	int32_t code;
+
+	call->data = call->worker->pieces;
+	call->pieces = pieces < 0 ? 0 : (size_t)pieces;
+	answer->error = pieces < 0 ? ENOMEM : make_call(call);
+	code = nizwarf_reply(&call->worker->slot, session, asked, answer, room, rooms, told);
+	if (asked->call == NIZWARF_INIT || asked->call == NIZWARF_DESTROY)
+		atomic_store(&all->agreed, told->options);
+	if (told->give_back)
+		node_forget(&all->nodes, told->give_back, 1);
+	if (asked->call == NIZWARF_READDIR)
+		for (size_t i = told->taken; i < answer->items_len; i++)
+			if (answer->items[i].entry.node)
+				node_forget(&all->nodes, answer->items[i].entry.node, 1);
+	if (code != NIZWARF_OK && answer->has_handle)
+		file_release(&all->nodes, answer->handle);
+	return code;
+}
+
+int32_t passthrough_serve(void *user, unsigned worker, const nizwarf_segment *request,
+			  size_t segments, const nizwarf_room *room, size_t rooms, size_t *len)
+{
+	struct passthrough *all = user;
+	struct worker *w = all->worker[worker];
+	const nizwarf_session session = { atomic_load(&all->agreed), 4096, TRANSPORT_PAYLOAD };
+	nizwarf_answer answer = NIZWARF_NO_ANSWER;
+	nizwarf_call asked;
+	nizwarf_told told = { 0 };
+	struct call call = { .all = all, .worker = w, .asked = &asked, .request = request->at,
+			     .node.own = -1, .other.own = -1, .answer = &answer };
+	ssize_t pieces = 0;
+	int32_t code;
+
+	code = nizwarf_ask(&w->slot, &session, request, segments, room, rooms, &asked, &told);
+	if (code != NIZWARF_ASKED) {
+		*len = told.len;
+		if (all->options.trace)
+			trace_uncalled(request, code, told.len);
+		return code;
+	}
+	if (asked.call == NIZWARF_WRITE)
+		pieces = find_data(w, &asked, request, segments);
+	else if (asked.call == NIZWARF_READ)
+		pieces = find_room(w, &asked, room, rooms);
+	code = answer_call(&call, &session, room, rooms, pieces, &told);
+	*len = told.len;
+	if (all->options.trace)
+		trace(&call, code, told.len);
+	return code;
+}
+
+/* ---- lines of requests */
+
+static const char *const names[] = {
+	[NIZWARF_LOOKUP] = "LOOKUP", [NIZWARF_FORGET] = "FORGET", [NIZWARF_GETATTR] = "GETATTR",
+	[NIZWARF_SETATTR] = "SETATTR", [NIZWARF_READLINK] = "READLINK", [NIZWARF_SYMLINK] = "SYMLINK",
+	[NIZWARF_MKNOD] = "MKNOD", [NIZWARF_MKDIR] = "MKDIR", [NIZWARF_UNLINK] = "UNLINK",
+	[NIZWARF_RMDIR] = "RMDIR", [NIZWARF_RENAME] = "RENAME", [NIZWARF_LINK] = "LINK",
+	[NIZWARF_OPEN] = "OPEN", [NIZWARF_READ] = "READ", [NIZWARF_WRITE] = "WRITE",
+	[NIZWARF_STATFS] = "STATFS", [NIZWARF_RELEASE] = "RELEASE", [NIZWARF_FSYNC] = "FSYNC",
+	[NIZWARF_SETXATTR] = "SETXATTR", [NIZWARF_GETXATTR] = "GETXATTR",
+	[NIZWARF_LISTXATTR] = "LISTXATTR", [NIZWARF_REMOVEXATTR] = "REMOVEXATTR",
+	[NIZWARF_FLUSH] = "FLUSH", [NIZWARF_INIT] = "INIT", [NIZWARF_OPENDIR] = "OPENDIR",
+	[NIZWARF_READDIR] = "READDIR", [NIZWARF_RELEASEDIR] = "RELEASEDIR",
+	[NIZWARF_FSYNCDIR] = "FSYNCDIR", [NIZWARF_GETLK] = "GETLK", [NIZWARF_SETLK] = "SETLK",
+	[NIZWARF_SETLKW] = "SETLKW", [NIZWARF_ACCESS] = "ACCESS", [NIZWARF_CREATE] = "CREATE",
+	[36] = "INTERRUPT", [NIZWARF_BMAP] = "BMAP", [NIZWARF_DESTROY] = "DESTROY",
+	[NIZWARF_IOCTL] = "IOCTL", [NIZWARF_POLL] = "POLL", [NIZWARF_NOTIFY_REPLY] = "NOTIFY_REPLY",
+	[NIZWARF_BATCH_FORGET] = "BATCH_FORGET", [NIZWARF_FALLOCATE] = "FALLOCATE",
+	[44] = "READDIRPLUS", [45] = "RENAME2", [NIZWARF_LSEEK] = "LSEEK",
+	[NIZWARF_COPY] = "COPY_FILE_RANGE", [48] = "SETUPMAPPING", [49] = "REMOVEMAPPING",
+	[NIZWARF_SYNCFS] = "SYNCFS", [NIZWARF_TMPFILE] = "TMPFILE",
+};
+
+static const char *name_opcode(uint32_t opcode)
+{
+	return opcode < sizeof(names) / sizeof(*names) && names[opcode] ? names[opcode] : "unknown";
+}
+
+/* Adds a name in quotes, with what a terminal could take for something else as a question mark. */
+static int add_name(char *line, size_t room, const char *name)
+{
+	char shown[81];
+	size_t i;
+
+	for (i = 0; name[i] && i < sizeof(shown) - 1; i++)
+		shown[i] = (char)(name[i] < ' ' || name[i] > '~' || name[i] == '"' ? '?' : name[i]);
+	shown[i] = 0;
+	return snprintf(line, room, " \"%s\"%s", shown, name[i] ? ".." : "");
+}
+
+void trace(const struct call *call, int32_t code, uint64_t len)
+{
+	const nizwarf_call *asked = call->asked;
+	const bool plus = asked->call == NIZWARF_READDIR && asked->has & NIZWARF_PLUS;
+	const int error = call->answer->error;
+	const char *said = error ? strerrorname_np(error) : NULL;
+	char line[512];
+	int at = snprintf(line, sizeof(line), "%s unique %llu node %#llx",
+			  plus ? "READDIRPLUS" : name_opcode(asked->call),
+			  (unsigned long long)asked->unique, (unsigned long long)asked->node);
+
+	if (asked->name.len)
+		at += add_name(line + at, sizeof(line) - (size_t)at, name_of(call, asked->name));
+	if (asked->other_name.len)
+		at += add_name(line + at, sizeof(line) - (size_t)at, name_of(call, asked->other_name));
+	if (asked->call == NIZWARF_READ || asked->call == NIZWARF_WRITE || asked->call == NIZWARF_READDIR)
+		at += snprintf(line + at, sizeof(line) - (size_t)at, " offset %llu size %u",
+			       (unsigned long long)asked->offset, (unsigned)asked->size);
+	if (code != NIZWARF_OK)
+		snprintf(line + at, sizeof(line) - (size_t)at, ": refused, outcome %d", (int)code);
+	else if (error)
+		snprintf(line + at, sizeof(line) - (size_t)at, ": %s", said ? said : "EIO");
+	else
+		snprintf(line + at, sizeof(line) - (size_t)at, ": %llu bytes", (unsigned long long)len);
+	fprintf(stderr, "nizwarf-share: %s\n", line);
+}
+
+void trace_uncalled(const nizwarf_segment *request, int32_t code, uint64_t len)
+{
+	struct fuse_in_header header = { 0 };
+
+	memcpy(&header, request->at, request->len < sizeof(header) ? request->len : sizeof(header));
+	fprintf(stderr, "nizwarf-share: %s (%u) unique %llu node %#llx: %s, outcome %d, %llu bytes\n",
+		name_opcode(header.opcode), (unsigned)header.opcode, (unsigned long long)header.unique,
+		(unsigned long long)header.nodeid, code == NIZWARF_OK ? "needs no call" : "refused",
+		(int)code, (unsigned long long)len);
+}
+
+/* ---- from beginning to end */
+
+int passthrough_begin(void *user, unsigned worker)
+{
+	struct passthrough *all = user;
+
+	if (!begin_as_root(all->worker[worker]))
+		return 0;
+	fprintf(stderr, "nizwarf-share: capabilities: %s\n", strerror(errno));
+	return 1;
+}
+
+void passthrough_finish(void *user, unsigned worker)
+{
+	struct worker *w = ((struct passthrough *)user)->worker[worker];
+
+	nizwarf_end_slot(&w->slot);
+}
+
+struct passthrough *passthrough_new(int root, int proc, const struct passthrough_options *options)
+{
+	struct passthrough *all = calloc(1, sizeof(*all));
+
+	if (!all)
+		return NULL;
+	all->options = *options;
+	all->seconds = options->cache == CACHE_NEVER ? NO_TIME :
+		       options->cache == CACHE_AUTO ? SHORT_TIME : LONG_TIME;
+	for (unsigned i = 0; i < options->workers && i < TRANSPORT_MOST_WORKERS; i++) {
+		all->worker[i] = calloc(1, sizeof(struct worker));
+		if (!all->worker[i]) {
+			passthrough_end(all);
+			return NULL;
+		}
+	}
+	if (nodes_begin(&all->nodes, root, proc, options->file_handles)) {
+		passthrough_end(all);
+		return NULL;
+	}
+	return all;
+}
+
+void passthrough_end(struct passthrough *all)
+{
+	if (all->nodes.chains)
+		nodes_end(&all->nodes);
+	for (unsigned i = 0; i < TRANSPORT_MOST_WORKERS; i++) {
+		struct worker *w = all->worker[i];
+
+		if (!w)
+			continue;
+		free(w->items);
+		free(w->names);
+		free(w->pieces);
+		free(w);
+	}
+	free(all);
+}

@@ -1,0 +1,63 @@
+/* A passthrough: a folder of the host as a file system over the door of nizwarf.h, for the
+ * transports of transport.h.
+ *
+ * No path is walked: each name is looked up in a directory that is open, and no symbolic link is
+ * followed. Whatever a client asks stays below the folder, and what it makes up is an error. Only
+ * files and directories are opened, so that no pipe or device is, which waits or does something.
+ * Where root serves, files are made with the ids of who asks. */
+#ifndef PASSTHROUGH_H
+#define PASSTHROUGH_H
+
+#include <stdbool.h>
+#include "transport.h"
+
+/* What the client may remember. */
+enum passthrough_cache {
+	/* Nothing. */
+	CACHE_NEVER,
+	/* Names and attributes for a second; what was read until a file is opened again. */
+	CACHE_AUTO,
+	/* All of it for a day. */
+	CACHE_ALWAYS,
+	/* Names, attributes and directories for a day, and no data. */
+	CACHE_METADATA,
+};
+
+struct passthrough_options {
+	enum passthrough_cache cache;
+	/* The client may write later what it was given to write. */
+	bool writeback;
+	/* Extended attributes are served. */
+	bool xattr;
+	/* What would change something is EROFS. */
+	bool read_only;
+	/* Directories are listed with attributes. */
+	bool readdirplus;
+	/* A directory on which something else is mounted is told to be one. */
+	bool announce_submounts;
+	/* Files are held by handles where they can be, and not by descriptors. */
+	bool file_handles;
+	/* A line for each request on standard error. */
+	bool trace;
+	unsigned workers;
+};
+
+struct passthrough;
+
+/* A passthrough of the folder that `root` is a descriptor of, which may be made with O_PATH, and is
+ * closed with it. `proc` is one of /proc/self/fd, and stays the caller's; the process must have
+ * that as its working directory while it serves, and a umask of 0. NULL: errno says why. */
+struct passthrough *passthrough_new(int root, int proc, const struct passthrough_options *options);
+void passthrough_end(struct passthrough *all);
+
+/* Leaves the calling thread, if it is root, the capabilities alone that a worker has. 0, or -1 with
+ * errno. */
+int passthrough_limit(void);
+
+/* The functions of a transport, whose `user` is the passthrough. */
+int passthrough_begin(void *user, unsigned worker);
+void passthrough_finish(void *user, unsigned worker);
+int32_t passthrough_serve(void *user, unsigned worker, const nizwarf_segment *request,
+			  size_t segments, const nizwarf_room *room, size_t rooms, size_t *len);
+
+#endif

@@ -1,0 +1,758 @@
+/* The calls of a passthrough: passthrough.h. */
+#define _GNU_SOURCE
+#include <errno.h>
+#include <fcntl.h>
+#include <limits.h>
+#include <linux/fuse.h>
+#include <stdio.h>
+#include <stdlib.h>
+#include <string.h>
+#include <sys/stat.h>
+#include <sys/statvfs.h>
+#include <sys/sysmacros.h>
+#include <unistd.h>
+#include "passthrough_call.h"
+
+/* An option of INIT that older headers lack. */
+#define CREATE_SUPP_GROUP (UINT64_C(1) << 34)
+
+/* The most that is copied at once. */
+enum { COPIED = 1 << 30 };
+
+/* ---- helpers: each that answers a number gives 0 or an error */
+
+static int failed(int result)
+{
+	return result < 0 ? errno : 0;
+}
+
+bool grow(void *buffer, size_t *size, size_t wanted)
+{
+	void *more;
+
+	if (*size >= wanted)
+		return true;
+	more = realloc(*(void **)buffer, wanted);
+	if (!more)
+		return false;
+	*(void **)buffer = more;
+	*size = wanted;
+	return true;
+}
+
+const char *name_of(const struct call *call, nizwarf_range range)
+{
+	return (const char *)call->request + range.at;
+}
+
+bool is_plain(const char *name)
+{
+	return *name && strcmp(name, ".") != 0 && strcmp(name, "..") != 0 && !strchr(name, '/');
+}
+
+const char *name_fd(struct fd_name *name, int fd)
+{
+	snprintf(name->bytes, sizeof(name->bytes), "%d", fd);
+	return name->bytes;
+}
+
+/* Opens a file or a directory, and nothing else. */
+static int open_node(const struct call *call, int flags)
+{
+	const mode_t type = call->node.node->type;
+
+	if (type != S_IFREG && type != S_IFDIR) {
+		errno = type == S_IFLNK ? ELOOP : ENXIO;
+		return -1;
+	}
+	return open_again(&call->all->nodes, call->node.fd, flags);
+}
+
+/* ---- entries and attributes */
+
+enum { WANTED = STATX_BASIC_STATS | STATX_MNT_ID };
+
+static void tell_attr(nizwarf_attr *attr, const struct statx *seen)
+{
+	*attr = (nizwarf_attr) {
+		.ino = seen->stx_ino,
+		.size = seen->stx_size,
+		.blocks = seen->stx_blocks,
+		.atime = (uint64_t)seen->stx_atime.tv_sec,
+		.mtime = (uint64_t)seen->stx_mtime.tv_sec,
+		.ctime = (uint64_t)seen->stx_ctime.tv_sec,
+		.atimensec = seen->stx_atime.tv_nsec,
+		.mtimensec = seen->stx_mtime.tv_nsec,
+		.ctimensec = seen->stx_ctime.tv_nsec,
+		.mode = seen->stx_mode,
+		.nlink = seen->stx_nlink,
+		.uid = seen->stx_uid,
+		.gid = seen->stx_gid,
+		.rdev = (uint32_t)makedev(seen->stx_rdev_major, seen->stx_rdev_minor),
+		.blksize = seen->stx_blksize,
+	};
+}
+
+/* How long attributes hold. A client that writes later does not ask for the mode of a file that it
+ * truncated, and that lost its set-user-ID bit so: with one they do not. */
+static uint64_t hold(const struct call *call, const struct statx *seen)
+{
+	const bool may_lose = seen->stx_mode & (S_ISUID | S_ISGID) && S_ISREG(seen->stx_mode);
+
+	return may_lose && call->all->options.writeback ? 0 : call->all->seconds;
+}
+
+/* What is told of a node that has a lookup more. */
+static void tell_entry(const struct call *call, uint64_t number, const struct statx *seen,
+		       nizwarf_entry *entry)
+{
+	const struct passthrough *all = call->all;
+
+	*entry = (nizwarf_entry) { .node = number, .entry_seconds = all->seconds,
+				   .attr_seconds = hold(call, seen) };
+	tell_attr(&entry->attr, seen);
+	if (atomic_load(&all->agreed) & FUSE_SUBMOUNTS && all->options.announce_submounts &&
+	    S_ISDIR(seen->stx_mode) && seen->stx_mnt_id != call->node.node->mount)
+		entry->attr.flags = FUSE_ATTR_SUBMOUNT;
+}
+
+/* The entry of a file that was opened with O_PATH; the descriptor is the node's, or closed. */
+static int enter(const struct call *call, int fd, nizwarf_entry *entry)
+{
+	struct statx seen;
+	uint64_t number;
+	int error;
+
+	if (statx(fd, "", AT_EMPTY_PATH | AT_SYMLINK_NOFOLLOW, WANTED, &seen)) {
+		error = errno;
+		close(fd);
+		return error;
+	}
+	number = node_enter(&call->all->nodes, fd, &seen);
+	if (!number)
+		return ENOMEM;
+	tell_entry(call, number, &seen, entry);
+	return 0;
+}
+
+int look_up(const struct call *call, int directory, const char *name, nizwarf_entry *entry)
+{
+	struct statx seen;
+	uint64_t number;
+	int fd;
+
+	/* What is known is not opened again. */
+	if (statx(directory, name, AT_SYMLINK_NOFOLLOW | AT_NO_AUTOMOUNT, WANTED, &seen))
+		return errno;
+	number = node_find(&call->all->nodes, &seen);
+	if (number) {
+		tell_entry(call, number, &seen, entry);
+		return 0;
+	}
+	fd = openat(directory, name, O_PATH | O_NOFOLLOW | O_CLOEXEC);
+	return fd < 0 ? errno : enter(call, fd, entry);
+}
+
+static int get_attr(const struct call *call)
+{
+	const int fd = call->file ? call->file->counted.fd : call->node.fd;
+	struct statx seen;
+
+	if (statx(fd, "", AT_EMPTY_PATH | AT_SYMLINK_NOFOLLOW, WANTED, &seen))
+		return errno;
+	tell_attr(&call->answer->entry.attr, &seen);
+	call->answer->entry.attr_seconds = hold(call, &seen);
+	return 0;
+}
+
+static int set_mode(const struct call *call)
+{
+	struct fd_name name;
+
+	if (call->file)
+		return failed(fchmod(call->file->counted.fd, call->asked->attr.mode & 07777));
+	/* (the name is one of /proc, which leads to the node itself) */
+	return call->node.node->type == S_IFLNK ? EOPNOTSUPP :
+	       failed(fchmodat(call->all->nodes.proc, name_fd(&name, call->node.fd),
+			       call->asked->attr.mode & 07777, 0));
+}
+
+static int set_size(const struct call *call)
+{
+	const off_t size = (off_t)call->asked->attr.size;
+	int fd, error;
+
+	if (size < 0)
+		return EFBIG;
+	fd = call->file ? call->file->counted.fd : open_node(call, O_WRONLY);
+	if (fd < 0)
+		return errno;
+	lose_fsetid(call);
+	error = failed(ftruncate(fd, size));
+	regain_fsetid(call);
+	if (!call->file)
+		close(fd);
+	return error;
+}
+
+static int set_times(const struct call *call)
+{
+	const nizwarf_setattr *to = &call->asked->attr;
+	const uint32_t valid = call->asked->flags;
+	const struct timespec times[] = {
+		{ (time_t)to->atime, valid & FATTR_ATIME_NOW ? UTIME_NOW :
+				     valid & FATTR_ATIME ? to->atimensec : UTIME_OMIT },
+		{ (time_t)to->mtime, valid & FATTR_MTIME_NOW ? UTIME_NOW :
+				     valid & FATTR_MTIME ? to->mtimensec : UTIME_OMIT },
+	};
+
+	return failed(utimensat(call->node.fd, "", times, AT_EMPTY_PATH | AT_SYMLINK_NOFOLLOW));
+}
+
+static int set_attr(const struct call *call)
+{
+	const nizwarf_setattr *to = &call->asked->attr;
+	const uint32_t valid = call->asked->flags;
+	int error = 0;
+
+	if (valid & FATTR_MODE)
+		error = set_mode(call);
+	if (!error && valid & (FATTR_UID | FATTR_GID))
+		error = failed(fchownat(call->node.fd, "", valid & FATTR_UID ? to->uid : (uid_t)-1,
+					valid & FATTR_GID ? to->gid : (gid_t)-1,
+					AT_EMPTY_PATH | AT_SYMLINK_NOFOLLOW));
+	if (!error && valid & FATTR_SIZE)
+		error = set_size(call);
+	if (!error && valid & (FATTR_ATIME | FATTR_MTIME))
+		error = set_times(call);
+	return error ? error : get_attr(call);
+}
+
+/* Whether who asks may, by the bits of the mode. */
+static int access_node(const struct call *call)
+{
+	const nizwarf_call *asked = call->asked;
+	struct statx seen;
+	uint32_t bits;
+
+	if (statx(call->node.fd, "", AT_EMPTY_PATH | AT_SYMLINK_NOFOLLOW, WANTED, &seen))
+		return errno;
+	if (asked->more & W_OK && call->all->options.read_only)
+		return EROFS;
+	bits = seen.stx_mode & 7;
+	if (asked->uid == seen.stx_uid)
+		bits = seen.stx_mode >> 6 & 7;
+	else if (asked->gid == seen.stx_gid)
+		bits = seen.stx_mode >> 3 & 7;
+	if (!asked->uid)
+		bits = R_OK | W_OK | (S_ISDIR(seen.stx_mode) || seen.stx_mode & 0111 ? X_OK : 0);
+	return asked->more & 7 & ~bits ? EACCES : 0;
+}
+
+static int read_link(const struct call *call)
+{
+	ssize_t got;
+
+	if (call->node.node->type != S_IFLNK)
+		return EINVAL;
+	got = readlinkat(call->node.fd, "", call->worker->text, PATH_MAX);
+	if (got < 0)
+		return errno;
+	call->answer->text = (const uint8_t *)call->worker->text;
+	call->answer->text_len = (size_t)got;
+	return 0;
+}
+
+/* ---- names */
+
+/* SYMLINK, MKNOD and MKDIR. */
+static int make_node(const struct call *call)
+{
+	const nizwarf_call *asked = call->asked;
+	const char *name = name_of(call, asked->name);
+	const int directory = call->node.fd;
+	int error = become(call);
+
+	if (error)
+		;
+	else if (asked->call == NIZWARF_MKDIR)
+		error = failed(mkdirat(directory, name, asked->mode & 07777));
+	else if (asked->call == NIZWARF_MKNOD)
+		error = failed(mknodat(directory, name, asked->mode, asked->rdev));
+	else
+		error = failed(symlinkat(name_of(call, asked->other_name), directory, name));
+	become_root(call);
+	return error ? error : look_up(call, directory, name, &call->answer->entry);
+}
+
+static int link_node(const struct call *call)
+{
+	const char *name = name_of(call, call->asked->name);
+	struct fd_name old;
+
+	/* (that leads to the node itself, also where it is a symbolic link) */
+	if (linkat(call->all->nodes.proc, name_fd(&old, call->node.fd), call->other.fd, name,
+		   AT_SYMLINK_FOLLOW))
+		return errno;
+	return look_up(call, call->other.fd, name, &call->answer->entry);
+}
+
+/* ---- open files */
+
+/* The flags of open(2) that a client may choose. */
+static int flags_of(const struct call *call)
+{
+	const uint32_t flags = call->asked->flags;
+	int made = (int)(flags & (O_ACCMODE | O_APPEND | O_TRUNC | O_SYNC | O_DSYNC | O_NOATIME));
+
+	/* The kernel reads pages that are written in part, and knows itself where the end is. */
+	if (atomic_load(&call->all->agreed) & FUSE_WRITEBACK_CACHE && call->all->options.writeback) {
+		if ((made & O_ACCMODE) == O_WRONLY)
+			made = (made & ~O_ACCMODE) | O_RDWR;
+		made &= ~O_APPEND;
+	}
+	return made;
+}
+
+/* Answers an open file. */
+static int tell_file(const struct call *call, int fd, bool is_directory)
+{
+	nizwarf_answer *answer = call->answer;
+
+	answer->handle = file_add(&call->all->nodes, fd, is_directory);
+	if (!answer->handle)
+		return ENOMEM;
+	answer->has_handle = 1;
+	switch (call->all->options.cache) {
+	case CACHE_NEVER:
+		answer->open_flags = is_directory ? 0 : FOPEN_DIRECT_IO;
+		break;
+	case CACHE_METADATA:
+		answer->open_flags = is_directory ? FOPEN_CACHE_DIR | FOPEN_KEEP_CACHE : FOPEN_DIRECT_IO;
+		break;
+	case CACHE_ALWAYS:
+		answer->open_flags = FOPEN_KEEP_CACHE | (is_directory ? FOPEN_CACHE_DIR : 0);
+		break;
+	case CACHE_AUTO:
+		break;
+	}
+	return 0;
+}
+
+static int open_file(const struct call *call)
+{
+	const bool is_directory = call->asked->call == NIZWARF_OPENDIR;
+	int fd;
+
+	lose_fsetid(call);
+	fd = open_node(call, is_directory ? O_RDONLY | O_DIRECTORY : flags_of(call));
+	regain_fsetid(call);
+	return fd < 0 ? errno : tell_file(call, fd, is_directory);
+}
+
+/* CREATE of a name that is there. */
+static int open_name(struct call *call, const char *name)
+{
+	nizwarf_entry *entry = &call->answer->entry;
+	int error = look_up(call, call->node.fd, name, entry);
+
+	if (error)
+		return error;
+	node_put(&call->node);
+	error = node_get(&call->all->nodes, entry->node, &call->node);
+	if (!error)
+		error = open_file(call);
+	if (error)
+		node_forget(&call->all->nodes, entry->node, 1);
+	return error;
+}
+
+static int create_file(struct call *call)
+{
+	const nizwarf_call *asked = call->asked;
+	const char *name = name_of(call, asked->name);
+	nizwarf_entry *entry = &call->answer->entry;
+	int fd = -1, path, error = become(call);
+
+	if (!error) {
+		/* (a name that is there may be that of a pipe, which waits) */
+		fd = openat(call->node.fd, name, flags_of(call) | O_CREAT | O_EXCL | O_NOFOLLOW | O_CLOEXEC,
+			    asked->mode & 07777);
+		error = fd < 0 ? errno : 0;
+	}
+	become_root(call);
+	if (error == EEXIST && !(asked->flags & O_EXCL))
+		return open_name(call, name);
+	if (error)
+		return error;
+	/* The name may be another file's by now. */
+	path = open_again(&call->all->nodes, fd, O_PATH);
+	error = path < 0 ? errno : enter(call, path, entry);
+	if (error) {
+		close(fd);
+		return error;
+	}
+	error = tell_file(call, fd, false);
+	if (error)
+		node_forget(&call->all->nodes, entry->node, 1);
+	return error;
+}
+
+/* READ and WRITE: of all that is there, right from or into the pieces. */
+static int transfer(const struct call *call)
+{
+	const nizwarf_call *asked = call->asked;
+	const bool is_read = asked->call == NIZWARF_READ;
+	const int fd = call->file->counted.fd;
+	struct iovec *data = call->data;
+	size_t pieces = call->pieces, done = 0;
+
+	if (asked->offset > INT64_MAX)
+		return is_read ? EINVAL : EFBIG;
+	while (pieces) {
+		const int most = pieces < IOV_MAX ? (int)pieces : IOV_MAX;
+		const off_t at = (off_t)(asked->offset + done);
+		ssize_t moved = is_read ? preadv(fd, data, most, at) : pwritev(fd, data, most, at);
+
+		if (moved < 0 && errno == EINTR)
+			continue;
+		if (moved < 0 && !done)
+			return errno;
+		if (moved <= 0)
+			break;
+		done += (size_t)moved;
+		while (pieces && (size_t)moved >= data->iov_len) {
+			moved -= (ssize_t)data->iov_len;
+			data++;
+			pieces--;
+		}
+		if (moved) {
+			data->iov_base = (char *)data->iov_base + moved;
+			data->iov_len -= (size_t)moved;
+		}
+	}
+	call->answer->count = done;
+	return 0;
+}
+
+static int write_file(const struct call *call)
+{
+	int error;
+
+	lose_fsetid(call);
+	error = transfer(call);
+	regain_fsetid(call);
+	return error;
+}
+
+static int allocate(const struct call *call)
+{
+	const nizwarf_call *asked = call->asked;
+
+	if (asked->offset > INT64_MAX || asked->length > INT64_MAX)
+		return EFBIG;
+	return failed(fallocate(call->file->counted.fd, (int)asked->mode, (off_t)asked->offset,
+				(off_t)asked->length));
+}
+
+static int seek(const struct call *call)
+{
+	const nizwarf_call *asked = call->asked;
+	off_t at;
+
+	if ((asked->more != SEEK_DATA && asked->more != SEEK_HOLE) || call->file->is_directory)
+		return EINVAL;
+	at = lseek(call->file->counted.fd, (off_t)asked->offset, (int)asked->more);
+	call->answer->count = (uint64_t)at;
+	return failed(at < 0 ? -1 : 0);
+}
+
+static int copy_range(const struct call *call)
+{
+	const nizwarf_call *asked = call->asked;
+	struct open_file *into = file_get(&call->all->nodes, asked->other_handle);
+	off_t from = (off_t)asked->offset, to = (off_t)asked->other_offset;
+	const size_t length = asked->length < COPIED ? asked->length : COPIED;
+	ssize_t copied;
+	int error;
+
+	if (!into)
+		return EBADF;
+	copied = from < 0 || to < 0 || asked->lock_owner ? -1 :
+		 copy_file_range(call->file->counted.fd, &from, into->counted.fd, &to, length, 0);
+	error = from < 0 || to < 0 || asked->lock_owner ? EINVAL : failed(copied < 0 ? -1 : 0);
+	file_put(into);
+	call->answer->count = (uint64_t)copied;
+	return error;
+}
+
+static int sync_all(const struct call *call)
+{
+	const int fd = open_node(call, O_RDONLY);
+	int error;
+
+	if (fd < 0)
+		return errno;
+	error = failed(syncfs(fd));
+	close(fd);
+	return error;
+}
+
+static int statistics(const struct call *call)
+{
+	struct statvfs told;
+
+	if (fstatvfs(call->node.fd, &told))
+		return errno;
+	call->answer->statfs = (nizwarf_statfs) {
+		.bsize = told.f_bsize, .frsize = told.f_frsize, .blocks = told.f_blocks,
+		.bfree = told.f_bfree, .bavail = told.f_bavail, .files = told.f_files,
+		.ffree = told.f_ffree, .namemax = told.f_namemax,
+	};
+	return 0;
+}
+
+/* ---- which call it is */
+
+/* Whether a call changes something of the folder. */
+static bool changes(const nizwarf_call *asked)
+{
+	switch (asked->call) {
+	case NIZWARF_SETATTR:
+	case NIZWARF_SYMLINK:
+	case NIZWARF_MKNOD:
+	case NIZWARF_MKDIR:
+	case NIZWARF_UNLINK:
+	case NIZWARF_RMDIR:
+	case NIZWARF_RENAME:
+	case NIZWARF_LINK:
+	case NIZWARF_WRITE:
+	case NIZWARF_SETXATTR:
+	case NIZWARF_REMOVEXATTR:
+	case NIZWARF_CREATE:
+	case NIZWARF_FALLOCATE:
+	case NIZWARF_COPY:
+		return true;
+	case NIZWARF_OPEN:
+		return (asked->flags & O_ACCMODE) != O_RDONLY || asked->flags & O_TRUNC;
+	default:
+		return false;
+	}
+}
+
+/* Whether a call is of an open file. */
+static bool wants_file(const nizwarf_call *asked)
+{
+	switch (asked->call) {
+	case NIZWARF_READ:
+	case NIZWARF_WRITE:
+	case NIZWARF_FLUSH:
+	case NIZWARF_FSYNC:
+	case NIZWARF_FSYNCDIR:
+	case NIZWARF_READDIR:
+	case NIZWARF_FALLOCATE:
+	case NIZWARF_LSEEK:
+	case NIZWARF_COPY:
+		return true;
+	default:
+		return asked->has & NIZWARF_HAS_HANDLE;
+	}
+}
+
+/* Whether the names that a call has are names in a directory. */
+static bool has_names(const struct call *call)
+{
+	const nizwarf_call *asked = call->asked;
+
+	switch (asked->call) {
+	case NIZWARF_RENAME:
+		return is_plain(name_of(call, asked->name)) && is_plain(name_of(call, asked->other_name));
+	case NIZWARF_LOOKUP:
+	case NIZWARF_SYMLINK:
+	case NIZWARF_MKNOD:
+	case NIZWARF_MKDIR:
+	case NIZWARF_UNLINK:
+	case NIZWARF_RMDIR:
+	case NIZWARF_LINK:
+	case NIZWARF_CREATE:
+		return is_plain(name_of(call, asked->name));
+	default:
+		return true;
+	}
+}
+
+/* A call of a node, which is in hand. */
+static int make_of_node(struct call *call)
+{
+	const nizwarf_call *asked = call->asked;
+	const char *name = name_of(call, asked->name);
+	const int node = call->node.fd;
+
+	switch (asked->call) {
+	case NIZWARF_LOOKUP:
+		return look_up(call, node, name, &call->answer->entry);
+	case NIZWARF_GETATTR:
+		return get_attr(call);
+	case NIZWARF_SETATTR:
+		return set_attr(call);
+	case NIZWARF_ACCESS:
+		return access_node(call);
+	case NIZWARF_READLINK:
+		return read_link(call);
+	case NIZWARF_SYMLINK:
+	case NIZWARF_MKNOD:
+	case NIZWARF_MKDIR:
+		return make_node(call);
+	case NIZWARF_UNLINK:
+		return failed(unlinkat(node, name, 0));
+	case NIZWARF_RMDIR:
+		return failed(unlinkat(node, name, AT_REMOVEDIR));
+	case NIZWARF_RENAME:
+		return failed(renameat2(node, name, call->other.fd, name_of(call, asked->other_name),
+					asked->flags));
+	case NIZWARF_LINK:
+		return link_node(call);
+	case NIZWARF_STATFS:
+		return statistics(call);
+	case NIZWARF_SETXATTR:
+		return set_xattr(call);
+	case NIZWARF_GETXATTR:
+		return get_xattr(call);
+	case NIZWARF_LISTXATTR:
+		return list_xattr(call);
+	case NIZWARF_REMOVEXATTR:
+		return remove_xattr(call);
+	case NIZWARF_SYNCFS:
+		return sync_all(call);
+	case NIZWARF_OPEN:
+	case NIZWARF_OPENDIR:
+		return open_file(call);
+	case NIZWARF_CREATE:
+		return create_file(call);
+	default:
+		return ENOSYS;
+	}
+}
+
+/* A call of an open file, which is in hand. */
+static int make_of_file(const struct call *call)
+{
+	const nizwarf_call *asked = call->asked;
+	const int fd = call->file->counted.fd;
+
+	switch (asked->call) {
+	case NIZWARF_READ:
+		return transfer(call);
+	case NIZWARF_WRITE:
+		return write_file(call);
+	case NIZWARF_FLUSH:
+		return failed(close(dup(fd)));
+	case NIZWARF_FSYNC:
+	case NIZWARF_FSYNCDIR:
+		return failed(asked->has & NIZWARF_DATASYNC ? fdatasync(fd) : fsync(fd));
+	case NIZWARF_READDIR:
+		return read_directory(call);
+	case NIZWARF_FALLOCATE:
+		return allocate(call);
+	case NIZWARF_LSEEK:
+		return seek(call);
+	case NIZWARF_COPY:
+		return copy_range(call);
+	default:
+		return ENOSYS;
+	}
+}
+
+/* Takes in hand what a call is of, and makes it. */
+static int make_with_node(struct call *call)
+{
+	const nizwarf_call *asked = call->asked;
+	struct nodes *nodes = &call->all->nodes;
+	int error = node_get(nodes, asked->node, &call->node);
+
+	if (error)
+		return error;
+	if (wants_file(asked)) {
+		call->file = file_get(nodes, asked->handle);
+		error = call->file ? 0 : EBADF;
+	}
+	if (!error && (asked->call == NIZWARF_RENAME || asked->call == NIZWARF_LINK))
+		error = node_get(nodes, asked->other_node, &call->other);
+	if (!error && !has_names(call))
+		error = EINVAL;
+	if (!error)
+		error = call->file && asked->call != NIZWARF_GETATTR && asked->call != NIZWARF_SETATTR ?
+				make_of_file(call) : make_of_node(call);
+	file_put(call->file);
+	if (call->other.node)
+		node_put(&call->other);
+	if (call->node.node)
+		node_put(&call->node);
+	return error;
+}
+
+/* The options that are wanted of those that are offered. */
+static uint64_t wanted(const struct passthrough *all)
+{
+	const struct passthrough_options *options = &all->options;
+	uint64_t wants = FUSE_ASYNC_READ | FUSE_BIG_WRITES | FUSE_ATOMIC_O_TRUNC | FUSE_AUTO_INVAL_DATA |
+			 FUSE_ASYNC_DIO | FUSE_PARALLEL_DIROPS | FUSE_MAX_PAGES |
+			 FUSE_HANDLE_KILLPRIV_V2 | CREATE_SUPP_GROUP;
+
+	if (options->readdirplus)
+		wants |= FUSE_DO_READDIRPLUS | FUSE_READDIRPLUS_AUTO;
+	if (options->writeback)
+		wants |= FUSE_WRITEBACK_CACHE;
+	if (options->announce_submounts)
+		wants |= FUSE_SUBMOUNTS;
+	return wants;
+}
+
+static void forget_each(const struct call *call)
+{
+	const uint8_t *pairs = call->request + call->asked->data.at;
+	uint64_t pair[2];
+
+	for (uint64_t i = 0; i < call->asked->length; i++) {
+		memcpy(pair, pairs + i * sizeof(pair), sizeof(pair));
+		node_forget(&call->all->nodes, pair[0], pair[1]);
+	}
+}
+
+int make_call(struct call *call)
+{
+	const nizwarf_call *asked = call->asked;
+	struct passthrough *all = call->all;
+
+	switch (asked->call) {
+	case NIZWARF_INIT:
+		/* It is a new client, or one that began anew. */
+		nodes_forget_all(&all->nodes);
+		call->answer->count = wanted(all) & asked->length;
+		return 0;
+	case NIZWARF_DESTROY:
+		nodes_forget_all(&all->nodes);
+		return 0;
+	case NIZWARF_FORGET:
+		node_forget(&all->nodes, asked->node, asked->length);
+		return 0;
+	case NIZWARF_BATCH_FORGET:
+		forget_each(call);
+		return 0;
+	case NIZWARF_RELEASE:
+	case NIZWARF_RELEASEDIR:
+		return file_release(&all->nodes, asked->handle);
+	/* Of these nothing is told. The client locks files by itself then. */
+	case NIZWARF_GETLK:
+	case NIZWARF_SETLK:
+	case NIZWARF_SETLKW:
+	case NIZWARF_BMAP:
+	case NIZWARF_IOCTL:
+	case NIZWARF_POLL:
+	case NIZWARF_NOTIFY_REPLY:
+	case NIZWARF_TMPFILE:
+		return ENOSYS;
+	default:
+		return all->options.read_only && changes(asked) ? EROFS : make_with_node(call);
+	}
+}

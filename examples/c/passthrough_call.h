@@ -1,0 +1,94 @@
+/* A call of a passthrough, for its own sources. */
+#ifndef PASSTHROUGH_CALL_H
+#define PASSTHROUGH_CALL_H
+
+#include <linux/capability.h>
+#include <sys/uio.h>
+#include "passthrough.h"
+#include "passthrough_nodes.h"
+
+/* The header of a reply, before the data of a READ, and the longest value of an attribute. */
+enum { HEADER = 16, LONGEST_VALUE = 65536 };
+
+/* What a worker uses again from one call to the next. */
+struct worker {
+	nizwarf_slot slot;
+	/* Whether it is root, with which capabilities. */
+	bool is_root;
+	struct __user_cap_data_struct capabilities[2];
+	/* A text, as that of a symbolic link. */
+	char text[LONGEST_VALUE + 1];
+	nizwarf_item *items;
+	size_t items_size;
+	char *names;
+	size_t names_size;
+	struct iovec *pieces;
+	size_t pieces_size;
+};
+
+struct passthrough {
+	struct passthrough_options options;
+	struct nodes nodes;
+	/* The options that are agreed on with the client. */
+	atomic_ullong agreed;
+	/* How long it may remember names and attributes. */
+	uint64_t seconds;
+	struct worker *worker[TRANSPORT_MOST_WORKERS];
+};
+
+/* A call, with what it is of. */
+struct call {
+	struct passthrough *all;
+	struct worker *worker;
+	const nizwarf_call *asked;
+	const uint8_t *request;
+	/* The data of a WRITE, or the room for those of a READ: they are changed. */
+	struct iovec *data;
+	size_t pieces;
+	struct grip node, other;
+	struct open_file *file;
+	nizwarf_answer *answer;
+};
+
+/* The name of a descriptor in /proc/self/fd. */
+struct fd_name {
+	char bytes[16];
+};
+
+/* Makes a call: 0, or an error. */
+int make_call(struct call *call);
+
+/* A buffer of at least so many bytes: `buffer` is where a pointer to it is. False: there is no
+ * memory. */
+bool grow(void *buffer, size_t *size, size_t wanted);
+/* A name of the request, behind which a byte 0 is. */
+const char *name_of(const struct call *call, nizwarf_range range);
+/* Whether a name is that of something in a directory. */
+bool is_plain(const char *name);
+const char *name_fd(struct fd_name *name, int fd);
+/* The entry of a name in a directory: 0, or an error. */
+int look_up(const struct call *call, int directory, const char *name, nizwarf_entry *entry);
+
+/* Leaves the thread of a worker the capabilities that it needs, if it is root: 0, or -1 with
+ * errno. */
+int begin_as_root(struct worker *w);
+/* From now on this thread makes files as who asks: 0, or an error. Then it is root again. */
+int become(const struct call *call);
+void become_root(const struct call *call);
+/* Between the two the host takes set-user-ID and set-group-ID bits away, if that is asked for, as it
+ * does for who lacks CAP_FSETID. */
+void lose_fsetid(const struct call *call);
+void regain_fsetid(const struct call *call);
+
+/* READDIR and READDIRPLUS, and the calls of extended attributes: 0, or an error. */
+int read_directory(const struct call *call);
+int set_xattr(const struct call *call);
+int get_xattr(const struct call *call);
+int list_xattr(const struct call *call);
+int remove_xattr(const struct call *call);
+
+/* Prints a line of a request, and what came of it. */
+void trace(const struct call *call, int32_t code, uint64_t len);
+void trace_uncalled(const nizwarf_segment *request, int32_t code, uint64_t len);
+
+#endif

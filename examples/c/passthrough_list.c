@@ -1,0 +1,197 @@
+/* Directories and extended attributes of a passthrough. */
+#define _GNU_SOURCE
+#include <dirent.h>
+#include <errno.h>
+#include <stdlib.h>
+#include <string.h>
+#include <sys/xattr.h>
+#include <unistd.h>
+#include "passthrough_call.h"
+
+/* How much is read of a directory at once. */
+enum { ENTRIES = 32768 };
+
+/* ---- directories */
+
+/* Reads on from an offset, if that isn't where the last reading ended. */
+static int move_to(struct open_file *file, uint64_t offset)
+{
+	if (!file->buffer && !(file->buffer = malloc(ENTRIES)))
+		return ENOMEM;
+	if (offset && offset == file->offset)
+		return 0;
+	if (offset > INT64_MAX)
+		return EINVAL;
+	if (lseek(file->counted.fd, (off_t)offset, SEEK_SET) < 0)
+		return errno;
+	file->at = file->end = 0;
+	file->offset = offset;
+	return 0;
+}
+
+/* The next item of a directory, or NULL: with errno 0 at its end. */
+static const struct dirent64 *next_item(struct open_file *file)
+{
+	if (file->at == file->end) {
+		const ssize_t got = getdents64(file->counted.fd, file->buffer, ENTRIES);
+
+		errno = got < 0 ? errno : 0;
+		if (got <= 0)
+			return NULL;
+		file->at = 0;
+		file->end = (size_t)got;
+	}
+	return (const void *)(file->buffer + file->at);
+}
+
+/* Puts the items that fit into the worker's, under the lock of the file. */
+static int list(const struct call *call)
+{
+	const bool plus = call->asked->has & NIZWARF_PLUS;
+	struct worker *w = call->worker;
+	struct open_file *file = call->file;
+	size_t room = call->asked->size, names = 0, count = 0;
+	const struct dirent64 *next;
+	int error = move_to(file, call->asked->offset);
+
+	/* Names are copied, since the buffer changes; of each the record is longer than the name. */
+	if (!error && !grow(&w->names, &w->names_size, room))
+		error = ENOMEM;
+	while (!error && (next = next_item(file))) {
+		const size_t len = strlen(next->d_name) + 1, size = nizwarf_record_size(len, plus);
+		nizwarf_item *item;
+
+		if (size > room ||
+		    (count == w->items_size / sizeof(*item) &&
+		     !grow(&w->items, &w->items_size, 2 * w->items_size + 64 * sizeof(*item))))
+			break;
+		item = &w->items[count++];
+		memset(item, 0, sizeof(*item));
+		item->ino = next->d_ino;
+		item->offset = (uint64_t)next->d_off;
+		item->type = next->d_type;
+		item->name = memcpy(w->names + names, next->d_name, len);
+		item->name_size = len;
+		/* Of one that can't be looked up, or went, there is the name alone. */
+		if (plus && is_plain(next->d_name) &&
+		    look_up(call, call->node.fd, next->d_name, &item->entry))
+			memset(&item->entry, 0, sizeof(item->entry));
+		/* What is above the folder is not told. */
+		if (call->node.node->counted.number == ROOT_NODE && !strcmp(next->d_name, ".."))
+			item->ino = call->node.node->inode;
+		names += len;
+		room -= size;
+		file->offset = (uint64_t)next->d_off;
+		file->at += next->d_reclen;
+	}
+	if (!error && !next && !count)
+		error = errno;
+	call->answer->items = w->items;
+	call->answer->items_len = count;
+	return error;
+}
+
+int read_directory(const struct call *call)
+{
+	int error;
+
+	if (!call->file->is_directory)
+		return ENOTDIR;
+	pthread_mutex_lock(&call->file->lock);
+	error = list(call);
+	pthread_mutex_unlock(&call->file->lock);
+	return error;
+}
+
+/* ---- extended attributes */
+
+/* Access control lists are no attributes: the client would keep them without the host's kernel
+ * being asked what they mean. */
+static bool is_list(const char *name)
+{
+	return !strncmp(name, "system.posix_acl_", 17);
+}
+
+/* Whether an attribute is served: 0, or an error. ENOSYS says that none ever is. */
+static int refused(const struct call *call, const char *name)
+{
+	if (!call->all->options.xattr)
+		return ENOSYS;
+	return name && is_list(name) ? EOPNOTSUPP : 0;
+}
+
+int set_xattr(const struct call *call)
+{
+	const nizwarf_call *asked = call->asked;
+	const char *name = name_of(call, asked->name);
+	struct fd_name file;
+	int error = refused(call, name);
+
+	/* (the path leads to the node itself: the process is in /proc/self/fd) */
+	if (!error && setxattr(name_fd(&file, call->node.fd), name, call->request + asked->data.at,
+			       asked->data.len, (int)asked->flags))
+		error = errno;
+	return error;
+}
+
+int remove_xattr(const struct call *call)
+{
+	const char *name = name_of(call, call->asked->name);
+	struct fd_name file;
+	int error = refused(call, name);
+
+	if (!error && removexattr(name_fd(&file, call->node.fd), name))
+		error = errno;
+	return error;
+}
+
+/* Answers a text, or how long it is. */
+static int tell_text(const struct call *call, ssize_t got)
+{
+	nizwarf_answer *answer = call->answer;
+
+	if (got < 0)
+		return errno;
+	if (call->asked->size && (size_t)got > call->asked->size)
+		return ERANGE;
+	answer->has_count = !call->asked->size;
+	answer->count = (uint64_t)got;
+	answer->text = (const uint8_t *)call->worker->text;
+	answer->text_len = answer->has_count ? 0 : (size_t)got;
+	return 0;
+}
+
+int get_xattr(const struct call *call)
+{
+	const char *name = name_of(call, call->asked->name);
+	struct fd_name file;
+	const int error = refused(call, name);
+
+	return error ? error : tell_text(call, getxattr(name_fd(&file, call->node.fd), name,
+							call->worker->text, LONGEST_VALUE));
+}
+
+int list_xattr(const struct call *call)
+{
+	char *text = call->worker->text;
+	struct fd_name file;
+	int error = refused(call, NULL);
+	ssize_t got, from, to = 0;
+
+	if (error)
+		return error;
+	got = listxattr(name_fd(&file, call->node.fd), text, LONGEST_VALUE);
+	if (got < 0)
+		return errno;
+	text[got] = 0;
+	for (from = 0; from < got;) {
+		const ssize_t len = (ssize_t)strlen(text + from) + 1;
+
+		if (!is_list(text + from)) {
+			memmove(text + to, text + from, (size_t)len);
+			to += len;
+		}
+		from += len;
+	}
+	return tell_text(call, to);
+}

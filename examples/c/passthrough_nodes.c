@@ -1,0 +1,478 @@
+/* Nodes and open files of a passthrough: passthrough_nodes.h. */
+#define _GNU_SOURCE
+#include <errno.h>
+#include <fcntl.h>
+#include <stdio.h>
+#include <stdlib.h>
+#include <string.h>
+#include <sys/sysmacros.h>
+#include <unistd.h>
+#include "passthrough_nodes.h"
+
+enum { FIRST_SLOTS = 1024, FIRST_CHAINS = 1024, NO_SLOT = 0 };
+
+/* ---- tables */
+
+static void table_begin(struct table *table)
+{
+	memset(table, 0, sizeof(*table));
+	pthread_rwlock_init(&table->lock, NULL);
+	/* (so that no number is 0) */
+	table->used = 1;
+}
+
+static void table_end(struct table *table)
+{
+	pthread_rwlock_destroy(&table->lock);
+	free(table->slots);
+}
+
+/* The slot of a number under the lock, or NULL. */
+static struct slot *slot_of(const struct table *table, uint64_t number)
+{
+	const uint32_t at = (uint32_t)number;
+	struct slot *slot = at < table->used ? &table->slots[at] : NULL;
+
+	return at && slot && slot->thing && slot->uses == number >> 32 ? slot : NULL;
+}
+
+static struct counted *get(struct table *table, uint64_t number)
+{
+	struct counted *thing = NULL;
+	struct slot *slot;
+
+	pthread_rwlock_rdlock(&table->lock);
+	slot = slot_of(table, number);
+	if (slot) {
+		thing = slot->thing;
+		atomic_fetch_add(&thing->users, 1);
+	}
+	pthread_rwlock_unlock(&table->lock);
+	return thing;
+}
+
+/* Gives a thing a number, under the lock. False: there is no memory. */
+static bool add(struct table *table, struct counted *thing)
+{
+	uint32_t at = table->first_free;
+
+	if (at != NO_SLOT) {
+		table->first_free = table->slots[at].next_free;
+	} else {
+		if (table->used >= table->size) {
+			const size_t size = table->size ? 2 * (size_t)table->size : FIRST_SLOTS;
+			struct slot *more = size > UINT32_MAX / 2 ? NULL :
+				realloc(table->slots, size * sizeof(*more));
+
+			if (!more)
+				return false;
+			memset(more + table->size, 0, (size - table->size) * sizeof(*more));
+			table->slots = more;
+			table->size = (uint32_t)size;
+		}
+		at = table->used++;
+	}
+	table->slots[at].thing = thing;
+	table->count++;
+	thing->number = (uint64_t)table->slots[at].uses << 32 | at;
+	return true;
+}
+
+/* Takes the number from a thing, under the lock: it is not given to another one. */
+static void take(struct table *table, struct slot *slot)
+{
+	slot->thing = NULL;
+	slot->uses++;
+	slot->next_free = table->first_free;
+	table->first_free = (uint32_t)(slot - table->slots);
+	table->count--;
+}
+
+/* ---- nodes */
+
+static void free_node(struct node *node)
+{
+	if (!node || atomic_fetch_sub(&node->counted.users, 1) > 1)
+		return;
+	if (node->counted.fd >= 0)
+		close(node->counted.fd);
+	free(node->handle);
+	free(node);
+}
+
+int open_again(const struct nodes *all, int fd, int flags)
+{
+	char name[16];
+
+	snprintf(name, sizeof(name), "%d", fd);
+	return openat(all->proc, name, (flags & ~O_NOFOLLOW) | O_CLOEXEC);
+}
+
+int node_get(struct nodes *all, uint64_t number, struct grip *grip)
+{
+	int error;
+
+	grip->node = (struct node *)get(&all->nodes, number);
+	grip->own = -1;
+	if (!grip->node)
+		return ESTALE;
+	grip->fd = grip->node->counted.fd;
+	if (grip->fd >= 0)
+		return 0;
+	grip->fd = grip->own = open_by_handle_at(grip->node->handle_of->fd, grip->node->handle,
+						 O_PATH | O_NOFOLLOW | O_CLOEXEC);
+	if (grip->fd >= 0)
+		return 0;
+	error = errno;
+	node_put(grip);
+	return error;
+}
+
+void node_put(struct grip *grip)
+{
+	if (grip->own >= 0)
+		close(grip->own);
+	free_node(grip->node);
+	grip->node = NULL;
+	grip->own = -1;
+}
+
+static uint64_t device_of(const struct statx *seen)
+{
+	return makedev(seen->stx_dev_major, seen->stx_dev_minor);
+}
+
+static uint64_t mount_of(const struct statx *seen)
+{
+	return seen->stx_mask & STATX_MNT_ID ? seen->stx_mnt_id : 0;
+}
+
+static struct node **chain_of(const struct nodes *all, uint64_t device, uint64_t inode)
+{
+	const uint64_t mixed = (inode + device * 31) * UINT64_C(0x9e3779b97f4a7c15);
+
+	return &all->chains[(mixed >> 32) % all->chain_count];
+}
+
+static bool same_handle(const struct file_handle *a, const struct file_handle *b)
+{
+	if (!a || !b)
+		return a == b;
+	return a->handle_type == b->handle_type && a->handle_bytes == b->handle_bytes &&
+	       !memcmp(a->f_handle, b->f_handle, a->handle_bytes);
+}
+
+/* The node of a file under the lock, or NULL. With a handle it is the same file if that is the
+ * same: numbers of inodes come again, while a descriptor keeps its own from that. */
+static struct node *known(const struct nodes *all, const struct statx *seen,
+			  const struct file_handle *handle, bool with_handles)
+{
+	const uint64_t device = device_of(seen), mount = mount_of(seen);
+	struct node *node = *chain_of(all, device, seen->stx_ino);
+
+	while (node && (node->inode != seen->stx_ino || node->device != device ||
+			node->mount != mount ||
+			(node->counted.fd < 0 && !(with_handles && same_handle(node->handle, handle)))))
+		node = node->next;
+	return node;
+}
+
+uint64_t node_find(struct nodes *all, const struct statx *seen)
+{
+	struct node *node;
+	uint64_t number = 0;
+
+	/* (no node goes meanwhile) */
+	pthread_rwlock_rdlock(&all->nodes.lock);
+	node = known(all, seen, NULL, false);
+	if (node) {
+		atomic_fetch_add(&node->lookups, 1);
+		number = node->counted.number;
+	}
+	pthread_rwlock_unlock(&all->nodes.lock);
+	return number;
+}
+
+/* Twice as many chains, under the lock, if there is memory. */
+static void grow_chains(struct nodes *all)
+{
+	const uint32_t count = all->chain_count, doubled = 2 * count;
+	struct node **old = all->chains, **more;
+
+	more = count < UINT32_MAX / 4 ? calloc(doubled, sizeof(struct node *)) : NULL;
+	if (!more)
+		return;
+	all->chains = more;
+	all->chain_count = doubled;
+	for (uint32_t i = 0; i < count; i++) {
+		struct node *node = old[i], *next;
+
+		for (; node; node = next) {
+			struct node **chain = chain_of(all, node->device, node->inode);
+
+			next = node->next;
+			node->next = *chain;
+			*chain = node;
+		}
+	}
+	free(old);
+}
+
+/* A descriptor by which handles of a mount are opened, which is of a file that is there; NULL where
+ * it can't be. */
+static const struct host_mount *mount_by(struct nodes *all, int fd, const struct statx *seen)
+{
+	struct host_mount *mount;
+
+	pthread_mutex_lock(&all->mounts_lock);
+	for (mount = all->mounts; mount && mount->id != mount_of(seen); mount = mount->next)
+		;
+	if (!mount && (S_ISREG(seen->stx_mode) || S_ISDIR(seen->stx_mode))) {
+		mount = malloc(sizeof(*mount));
+		if (mount) {
+			*mount = (struct host_mount) { mount_of(seen), open_again(all, fd, O_RDONLY),
+						       all->mounts };
+			if (mount->fd >= 0) {
+				all->mounts = mount;
+			} else {
+				free(mount);
+				mount = NULL;
+			}
+		}
+	}
+	pthread_mutex_unlock(&all->mounts_lock);
+	return mount;
+}
+
+/* The handle of a file by which it is opened again, or NULL. */
+static struct file_handle *handle_by(int fd, const struct host_mount *mount)
+{
+	struct file_handle *handle = calloc(1, sizeof(*handle) + MAX_HANDLE_SZ);
+	int id, again;
+
+	if (!handle)
+		return NULL;
+	handle->handle_bytes = MAX_HANDLE_SZ;
+	again = name_to_handle_at(fd, "", handle, &id, AT_EMPTY_PATH) ? -1 :
+		open_by_handle_at(mount->fd, handle, O_PATH | O_NOFOLLOW | O_CLOEXEC);
+	if (again < 0) {
+		free(handle);
+		return NULL;
+	}
+	close(again);
+	return handle;
+}
+
+uint64_t node_enter(struct nodes *all, int fd, const struct statx *seen)
+{
+	const struct host_mount *mount = all->with_handles ? mount_by(all, fd, seen) : NULL;
+	struct file_handle *handle = mount ? handle_by(fd, mount) : NULL;
+	struct node *made = calloc(1, sizeof(*made)), *node;
+	uint64_t number = 0;
+
+	pthread_rwlock_wrlock(&all->nodes.lock);
+	node = known(all, seen, handle, true);
+	if (node) {
+		atomic_fetch_add(&node->lookups, 1);
+		number = node->counted.number;
+	} else if (made && add(&all->nodes, &made->counted)) {
+		struct node **chain;
+
+		if (all->nodes.count > all->chain_count)
+			grow_chains(all);
+		chain = chain_of(all, device_of(seen), seen->stx_ino);
+		atomic_init(&made->counted.users, 1);
+		atomic_init(&made->lookups, 1);
+		made->counted.fd = handle ? -1 : fd;
+		made->handle = handle;
+		made->handle_of = mount;
+		made->device = device_of(seen);
+		made->inode = seen->stx_ino;
+		made->mount = mount_of(seen);
+		made->type = seen->stx_mode & S_IFMT;
+		made->next = *chain;
+		*chain = made;
+		number = made->counted.number;
+		if (!handle)
+			fd = -1;
+		handle = NULL;
+		made = NULL;
+	}
+	pthread_rwlock_unlock(&all->nodes.lock);
+	free(made);
+	free(handle);
+	if (fd >= 0)
+		close(fd);
+	return number;
+}
+
+/* Takes a node from its chain and its number, under the lock. */
+static void detach(struct nodes *all, struct node *node)
+{
+	struct node **at = chain_of(all, node->device, node->inode);
+
+	while (*at != node)
+		at = &(*at)->next;
+	*at = node->next;
+	take(&all->nodes, slot_of(&all->nodes, node->counted.number));
+}
+
+void node_forget(struct nodes *all, uint64_t number, uint64_t count)
+{
+	struct node *gone = NULL;
+	struct slot *slot;
+
+	pthread_rwlock_wrlock(&all->nodes.lock);
+	slot = number == ROOT_NODE ? NULL : slot_of(&all->nodes, number);
+	if (slot) {
+		struct node *node = (struct node *)slot->thing;
+
+		if (atomic_load(&node->lookups) > count) {
+			atomic_fetch_sub(&node->lookups, count);
+		} else {
+			detach(all, node);
+			gone = node;
+		}
+	}
+	pthread_rwlock_unlock(&all->nodes.lock);
+	free_node(gone);
+}
+
+void nodes_forget_all(struct nodes *all)
+{
+	struct node *gone = NULL, *next;
+	struct counted *file;
+
+	pthread_rwlock_wrlock(&all->nodes.lock);
+	for (uint32_t i = ROOT_NODE + 1; i < all->nodes.used; i++) {
+		struct node *node = (struct node *)all->nodes.slots[i].thing;
+
+		if (!node)
+			continue;
+		detach(all, node);
+		node->next = gone;
+		gone = node;
+	}
+	pthread_rwlock_unlock(&all->nodes.lock);
+	for (; gone; gone = next) {
+		next = gone->next;
+		free_node(gone);
+	}
+	for (uint32_t i = 1;; i++) {
+		pthread_rwlock_wrlock(&all->files.lock);
+		if (i >= all->files.used) {
+			pthread_rwlock_unlock(&all->files.lock);
+			break;
+		}
+		file = all->files.slots[i].thing;
+		if (file)
+			take(&all->files, &all->files.slots[i]);
+		pthread_rwlock_unlock(&all->files.lock);
+		file_put((struct open_file *)file);
+	}
+}
+
+int nodes_begin(struct nodes *all, int root, int proc, bool with_handles)
+{
+	struct statx seen;
+
+	memset(all, 0, sizeof(*all));
+	table_begin(&all->nodes);
+	table_begin(&all->files);
+	pthread_mutex_init(&all->mounts_lock, NULL);
+	all->proc = proc;
+	all->chains = calloc(FIRST_CHAINS, sizeof(struct node *));
+	all->chain_count = FIRST_CHAINS;
+	if (!all->chains || statx(root, "", AT_EMPTY_PATH, STATX_BASIC_STATS | STATX_MNT_ID, &seen))
+		return -1;
+	/* The root stays open, whatever the others are. */
+	if (node_enter(all, root, &seen) != ROOT_NODE)
+		return -1;
+	all->with_handles = with_handles;
+	return 0;
+}
+
+void nodes_end(struct nodes *all)
+{
+	struct slot *root;
+
+	nodes_forget_all(all);
+	root = slot_of(&all->nodes, ROOT_NODE);
+	if (root)
+		free_node((struct node *)root->thing);
+	while (all->mounts) {
+		struct host_mount *mount = all->mounts;
+
+		all->mounts = mount->next;
+		close(mount->fd);
+		free(mount);
+	}
+	table_end(&all->nodes);
+	table_end(&all->files);
+	pthread_mutex_destroy(&all->mounts_lock);
+	free(all->chains);
+}
+
+/* ---- open files */
+
+uint64_t file_add(struct nodes *all, int fd, bool is_directory)
+{
+	struct open_file *file = calloc(1, sizeof(*file));
+	bool added = false;
+
+	if (file) {
+		atomic_init(&file->counted.users, 1);
+		file->counted.fd = fd;
+		file->is_directory = is_directory;
+		pthread_mutex_init(&file->lock, NULL);
+		pthread_rwlock_wrlock(&all->files.lock);
+		added = add(&all->files, &file->counted);
+		pthread_rwlock_unlock(&all->files.lock);
+	}
+	if (added)
+		return file->counted.number;
+	free(file);
+	close(fd);
+	return 0;
+}
+
+struct open_file *file_get(struct nodes *all, uint64_t number)
+{
+	return (struct open_file *)get(&all->files, number);
+}
+
+void file_put(struct open_file *file)
+{
+	if (!file || atomic_fetch_sub(&file->counted.users, 1) > 1)
+		return;
+	close(file->counted.fd);
+	pthread_mutex_destroy(&file->lock);
+	free(file->buffer);
+	free(file);
+}
+
+int file_release(struct nodes *all, uint64_t number)
+{
+	struct counted *file = NULL;
+	struct slot *slot;
+
+	pthread_rwlock_wrlock(&all->files.lock);
+	slot = slot_of(&all->files, number);
+	if (slot) {
+		file = slot->thing;
+		take(&all->files, slot);
+	}
+	pthread_rwlock_unlock(&all->files.lock);
+	file_put((struct open_file *)file);
+	return file ? 0 : EBADF;
+}
+
+void nodes_count(struct nodes *all, uint32_t *nodes, uint32_t *files)
+{
+	pthread_rwlock_rdlock(&all->nodes.lock);
+	*nodes = all->nodes.count;
+	pthread_rwlock_unlock(&all->nodes.lock);
+	pthread_rwlock_rdlock(&all->files.lock);
+	*files = all->files.count;
+	pthread_rwlock_unlock(&all->files.lock);
+}

@@ -1,0 +1,124 @@
+/* What a passthrough holds for its client: nodes, with counts of lookups, and open files, both by
+ * number. A number that was made up, or whose thing went, is none: so a client may say what it
+ * likes.
+ *
+ * A node is a file of the host, by device, inode and mount, and is held by a descriptor made with
+ * O_PATH, which opens nothing. With file handles it is held by a handle of the host's file system
+ * where there is one, and opened for each call. Any number of threads may call at once. */
+#ifndef PASSTHROUGH_NODES_H
+#define PASSTHROUGH_NODES_H
+
+#include <pthread.h>
+#include <stdatomic.h>
+#include <stdbool.h>
+#include <stdint.h>
+#include <sys/stat.h>
+
+enum { ROOT_NODE = 1 };
+
+/* What a number leads to, before the fields of its kind. `users` are the table, and each call that
+ * has it in hand. */
+struct counted {
+	atomic_uint users;
+	int fd;
+	uint64_t number;
+};
+
+struct slot {
+	struct counted *thing;
+	/* How many times it was used before, and the next free one where it is free. */
+	uint32_t uses, next_free;
+};
+
+struct table {
+	pthread_rwlock_t lock;
+	struct slot *slots;
+	uint32_t size, used, first_free, count;
+};
+
+/* A mount of the host, with a descriptor by which handles are opened. */
+struct host_mount {
+	uint64_t id;
+	int fd;
+	struct host_mount *next;
+};
+
+struct node {
+	/* `fd` is -1 where there is a handle. */
+	struct counted counted;
+	atomic_ullong lookups;
+	uint64_t device, inode, mount;
+	/* S_IFREG .., which a file keeps. */
+	mode_t type;
+	struct file_handle *handle;
+	const struct host_mount *handle_of;
+	/* The next one in its chain. */
+	struct node *next;
+};
+
+struct open_file {
+	struct counted counted;
+	bool is_directory;
+	/* Of a directory: what was read and not told yet, and the offset of that. */
+	pthread_mutex_t lock;
+	char *buffer;
+	size_t at, end;
+	uint64_t offset;
+};
+
+struct nodes {
+	struct table nodes, files;
+	/* By device, inode and mount, under the lock of `nodes`. */
+	struct node **chains;
+	uint32_t chain_count;
+	/* The descriptor of /proc/self/fd. */
+	int proc;
+	bool with_handles;
+	pthread_mutex_t mounts_lock;
+	struct host_mount *mounts;
+};
+
+/* A node in hand, with a descriptor of it. `own` is to be closed. */
+struct grip {
+	struct node *node;
+	int fd, own;
+};
+
+/* -1: there is no memory. `root` is the node ROOT_NODE from then on, and is closed with it. */
+int nodes_begin(struct nodes *all, int root, int proc, bool with_handles);
+void nodes_end(struct nodes *all);
+
+/* Takes a node in hand. 0, or an error: ESTALE where there is none. */
+int node_get(struct nodes *all, uint64_t number, struct grip *grip);
+void node_put(struct grip *grip);
+
+/* The number of a file that is known already, with a lookup more; 0 where it isn't. Nothing of it
+ * is opened. */
+uint64_t node_find(struct nodes *all, const struct statx *seen);
+
+/* The number of a file, with a lookup more, which was opened with O_PATH: `fd` is the node's from
+ * then on, or closed. 0: there is no memory. */
+uint64_t node_enter(struct nodes *all, int fd, const struct statx *seen);
+
+/* Gives lookups back. With the last one the node goes. */
+void node_forget(struct nodes *all, uint64_t number, uint64_t count);
+
+/* Lets go of all nodes but the root, and of all open files. */
+void nodes_forget_all(struct nodes *all);
+
+/* Opens what a descriptor is of anew, with these flags; the descriptor, or -1 with errno. */
+int open_again(const struct nodes *all, int fd, int flags);
+
+/* The number of a new open file, which has the descriptor from then on; 0: there is no memory, and
+ * it is closed. */
+uint64_t file_add(struct nodes *all, int fd, bool is_directory);
+/* Takes an open file in hand, or NULL. */
+struct open_file *file_get(struct nodes *all, uint64_t number);
+void file_put(struct open_file *file);
+/* 0, or EBADF where there is none. */
+int file_release(struct nodes *all, uint64_t number);
+
+/* How many nodes and open files there are, the root among them. */
+void nodes_count(struct nodes *all, uint32_t *nodes, uint32_t *files);
+
+#endif

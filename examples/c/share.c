@@ -1,0 +1,496 @@
+/* Shares a folder of the host: mounts it on another one over /dev/fuse, or serves it to a virtual
+ * machine over vhost-user, as its virtio-fs device.
+ *
+ * --help lists the words. Standard error says what is wrong.
+ * Status 0: it was unmounted, or a signal ended it; 1: something failed; 2: the words or options
+ * can't be. */
+#define _GNU_SOURCE
+#include <errno.h>
+#include <fcntl.h>
+#include <getopt.h>
+#include <grp.h>
+#include <limits.h>
+#include <signal.h>
+#include <stddef.h>
+#include <stdio.h>
+#include <stdlib.h>
+#include <string.h>
+#include <sys/mount.h>
+#include <sys/prctl.h>
+#include <sys/resource.h>
+#include <sys/socket.h>
+#include <sys/stat.h>
+#include <sys/un.h>
+#include <unistd.h>
+#include "passthrough.h"
+#include "share_sandbox.h"
+
+enum { MOST_FILES = 1000000, WORKERS = 4 };
+
+static const char usage[] =
+	"Usage: nizwarf-share [WORDS] FOLDER MOUNTPOINT\n"
+	"       nizwarf-share [WORDS] --socket-path=SOCKET FOLDER\n"
+	"Mounts the folder on the mount point over /dev/fuse, until it is unmounted or SIGINT or\n"
+	"SIGTERM comes; or serves it on the socket to one virtual machine after another, as a\n"
+	"vhost-user device of virtio-fs.\n"
+	"  -o OPTIONS                of a mount, with commas between them: allow_other, ro, rw,\n"
+	"                            max_read=N, fsname=NAME, noexec, suid, nosuid, dev, nodev,\n"
+	"                            noatime, xattr, writeback\n"
+	"  --shared-dir=FOLDER       the folder, in place of the word\n"
+	"  --socket-path=SOCKET      listens on a new socket of this path\n"
+	"  --fd=N                    listens on the socket of this descriptor\n"
+	"  --socket-group=GROUP      who may connect to the socket besides its owner\n"
+	"  --cache=WHAT              what may be remembered: never, auto (the default), always,\n"
+	"                            metadata\n"
+	"  --writeback               the client may write later\n"
+	"  --xattr                   extended attributes are served\n"
+	"  --readonly                nothing is changed\n"
+	"  --no-readdirplus          directories are listed without attributes\n"
+	"  --announce-submounts      mounts below the folder are told to be such; with\n"
+	"  --no-announce-submounts   not, as without a word\n"
+	"  --inode-file-handles=HOW  prefer: files are held by handles if that can be; never (the\n"
+	"                            default): by descriptors\n"
+	"  --thread-pool-size=N      how many requests are served at once, 1 to 64 (4)\n"
+	"  --rlimit-nofile=N         the most open files; 0: as it is (1000000, or what may be)\n"
+	"  --sandbox=HOW             namespace (the default of root over vhost-user), chroot or none:\n"
+	"                            what else than the folder the server sees\n"
+	"  --seccomp=HOW             kill, trap, log or none: what a system call comes to that serving\n"
+	"                            doesn't make (kill over vhost-user if it is built in)\n"
+	"  --log-level=LEVEL         off, error, warn, info (the default), debug\n"
+	"  --trace                   a line for each request, as --log-level=debug\n"
+	"  --daemonize               goes to the background once it serves\n"
+	"  --print-capabilities      what a vhost-user back end of a machine can, as JSON\n"
+	"  --version, --help\n";
+
+/* What the words say. -1: nothing was said. */
+static struct {
+	struct passthrough_options files;
+	const char *folder, *mount_point, *socket_path, *socket_group, *source;
+	const char *allow_other;
+	unsigned long flags, max_read, most_files;
+	int fd, sandbox, filter;
+	bool says_more, is_off, daemonizes;
+} words = {
+	.files = { .cache = CACHE_AUTO, .readdirplus = true, .workers = WORKERS },
+	.allow_other = "", .flags = MS_NOSUID | MS_NODEV, .max_read = TRANSPORT_PAYLOAD,
+	.most_files = MOST_FILES, .fd = -1, .sandbox = -1, .filter = -1, .says_more = true,
+};
+
+static _Noreturn void refuse(const char *why, const char *word)
+{
+	fprintf(stderr, "nizwarf-share: %s%s\nnizwarf-share --help lists the words.\n", why, word);
+	exit(2);
+}
+
+static int failed(const char *what)
+{
+	fprintf(stderr, "nizwarf-share: %s: %s\n", what, strerror(errno));
+	return -1;
+}
+
+/* ---- words */
+
+static unsigned long number(const char *key, const char *value, unsigned long least, unsigned long most)
+{
+	unsigned long n;
+	char *end;
+
+	errno = 0;
+	n = value && *value >= '0' && *value <= '9' ? strtoul(value, &end, 10) : 0;
+	if (!value || *value < '0' || *value > '9' || *end || errno || n < least || n > most)
+		refuse("no number, or one out of bounds, in ", key);
+	return n;
+}
+
+/* Which of the words, which end with NULL, the value is. */
+static int one_of(const char *key, const char *value, const char *const *known)
+{
+	for (int i = 0; known[i]; i++)
+		if (!strcmp(value, known[i]))
+			return i;
+	fprintf(stderr, "nizwarf-share: %s is one of:", key);
+	for (int i = 0; known[i]; i++)
+		fprintf(stderr, " %s", known[i]);
+	refuse("\nnizwarf-share: it is not ", value);
+}
+
+/* Takes one option of a mount: a word, or KEY=VALUE. */
+static void take_option(const char *key, char *value)
+{
+	static const struct {
+		const char *word;
+		unsigned long set, clear;
+	} known[] = { { "ro", MS_RDONLY, 0 }, { "rw", 0, MS_RDONLY }, { "noexec", MS_NOEXEC, 0 },
+		      { "nosuid", MS_NOSUID, 0 }, { "suid", 0, MS_NOSUID }, { "nodev", MS_NODEV, 0 },
+		      { "dev", 0, MS_NODEV }, { "noatime", MS_NOATIME, 0 },
+		      { "default_permissions", 0, 0 } };
+
+	for (size_t i = 0; !value && i < sizeof(known) / sizeof(*known); i++)
+		if (!strcmp(key, known[i].word)) {
+			words.flags = (words.flags | known[i].set) & ~known[i].clear;
+			return;
+		}
+	if (!value && !strcmp(key, "allow_other"))
+		words.allow_other = ",allow_other";
+	else if (!value && !strcmp(key, "xattr"))
+		words.files.xattr = true;
+	else if (!value && !strcmp(key, "writeback"))
+		words.files.writeback = true;
+	else if (value && *value && !strcmp(key, "fsname"))
+		words.source = value;
+	else if (!strcmp(key, "max_read"))
+		words.max_read = number("max_read", value, 4096, TRANSPORT_PAYLOAD);
+	else
+		refuse("there is no such option: ", key);
+}
+
+static void take_options(char *rest)
+{
+	char *option;
+
+	while ((option = strsep(&rest, ","))) {
+		const char *key = strsep(&option, "=");
+
+		if (*key)
+			take_option(key, option);
+	}
+}
+
+enum word {
+	SHARED_DIR = 256, SOCKET_PATH, FD, SOCKET_GROUP, CACHE, WRITEBACK, XATTR, READONLY,
+	NO_READDIRPLUS, ANNOUNCE, NO_ANNOUNCE, FILE_HANDLES, POOL, NOFILE, SANDBOX, SECCOMP, LOG,
+	TRACE, DAEMONIZE, PRINT, VERSION, HELP
+};
+
+static const struct option known_words[] = {
+	{ "shared-dir", required_argument, NULL, SHARED_DIR },
+	{ "socket-path", required_argument, NULL, SOCKET_PATH },
+	{ "fd", required_argument, NULL, FD },
+	{ "socket-group", required_argument, NULL, SOCKET_GROUP },
+	{ "cache", required_argument, NULL, CACHE },
+	{ "writeback", no_argument, NULL, WRITEBACK },
+	{ "xattr", no_argument, NULL, XATTR },
+	{ "readonly", no_argument, NULL, READONLY },
+	{ "no-readdirplus", no_argument, NULL, NO_READDIRPLUS },
+	{ "announce-submounts", no_argument, NULL, ANNOUNCE },
+	{ "no-announce-submounts", no_argument, NULL, NO_ANNOUNCE },
+	{ "inode-file-handles", required_argument, NULL, FILE_HANDLES },
+	{ "thread-pool-size", required_argument, NULL, POOL },
+	{ "rlimit-nofile", required_argument, NULL, NOFILE },
+	{ "sandbox", required_argument, NULL, SANDBOX },
+	{ "seccomp", required_argument, NULL, SECCOMP },
+	{ "log-level", required_argument, NULL, LOG },
+	{ "trace", no_argument, NULL, TRACE },
+	{ "daemonize", no_argument, NULL, DAEMONIZE },
+	{ "print-capabilities", no_argument, NULL, PRINT },
+	{ "version", no_argument, NULL, VERSION },
+	{ "help", no_argument, NULL, HELP },
+	{ 0 },
+};
+
+/* What is printed, and all then. */
+static _Noreturn void print(int word)
+{
+	if (word == PRINT)
+		puts("{\n  \"type\": \"fs\",\n  \"features\": [\n    \"separate-options\"\n  ]\n}");
+	else if (word == VERSION)
+		printf("nizwarf-share %u.%u, FUSE 7.38%s\n", NIZWARF_VERSION >> 8, NIZWARF_VERSION & 0xff,
+		       has_filter ? ", with libseccomp" : ", without libseccomp");
+	else
+		fputs(usage, stdout);
+	exit(fflush(stdout) != 0);
+}
+
+static void take_log_level(const char *value)
+{
+	static const char *const levels[] = { "off", "error", "warn", "info", "debug", "trace", NULL };
+	const int level = one_of("--log-level", value, levels);
+
+	words.is_off = level == 0;
+	words.says_more = level >= 3;
+	words.files.trace = level >= 4;
+}
+
+static void take_word(int word)
+{
+	static const char *const caches[] = { "never", "auto", "always", "metadata", NULL };
+	static const char *const sandboxes[] = { "none", "chroot", "namespace", NULL };
+	static const char *const filters[] = { "none", "kill", "trap", "log", NULL };
+	static const char *const handles[] = { "never", "prefer", NULL };
+
+	switch (word) {
+	case 'o': take_options(optarg); break;
+	case SHARED_DIR: words.folder = optarg; break;
+	case SOCKET_PATH: words.socket_path = optarg; break;
+	case FD: words.fd = (int)number("--fd", optarg, 0, INT_MAX); break;
+	case SOCKET_GROUP: words.socket_group = optarg; break;
+	case CACHE:
+		words.files.cache = (enum passthrough_cache)one_of("--cache", optarg, caches);
+		break;
+	case WRITEBACK: words.files.writeback = true; break;
+	case XATTR: words.files.xattr = true; break;
+	case READONLY: words.files.read_only = true; break;
+	case NO_READDIRPLUS: words.files.readdirplus = false; break;
+	case ANNOUNCE: words.files.announce_submounts = true; break;
+	case NO_ANNOUNCE: words.files.announce_submounts = false; break;
+	case FILE_HANDLES:
+		words.files.file_handles = one_of("--inode-file-handles", optarg, handles) == 1;
+		break;
+	case POOL:
+		words.files.workers = (unsigned)number("--thread-pool-size", optarg, 0,
+						       TRANSPORT_MOST_WORKERS);
+		words.files.workers += !words.files.workers;
+		break;
+	case NOFILE: words.most_files = number("--rlimit-nofile", optarg, 0, INT_MAX); break;
+	case SANDBOX: words.sandbox = one_of("--sandbox", optarg, sandboxes); break;
+	case SECCOMP: words.filter = one_of("--seccomp", optarg, filters); break;
+	case LOG: take_log_level(optarg); break;
+	case TRACE: words.files.trace = true; break;
+	case DAEMONIZE: words.daemonizes = true; break;
+	case 'h': print(HELP);
+	case 'V': print(VERSION);
+	case PRINT:
+	case VERSION:
+	case HELP: print(word);
+	default: refuse("there is no such word, or it lacks its value", "");
+	}
+}
+
+/* Takes the words, and holds them together. */
+static void take_words(int count, char **given)
+{
+	bool is_mount;
+	int word;
+
+	opterr = 0;
+	while ((word = getopt_long(count, given, "ho:V", known_words, NULL)) != -1)
+		take_word(word);
+	is_mount = !words.socket_path && words.fd < 0;
+	if (!words.folder && optind < count)
+		words.folder = given[optind++];
+	if (is_mount && optind < count)
+		words.mount_point = given[optind++];
+	if (!words.folder)
+		refuse("a folder is wanted", "");
+	if (is_mount && !words.mount_point)
+		refuse("a mount point is wanted, or --socket-path", "");
+	if (optind < count)
+		refuse("there is a word too many: ", given[optind]);
+	if (words.socket_path && words.fd >= 0)
+		refuse("--socket-path and --fd are not both wanted", "");
+	if (words.socket_group && !words.socket_path)
+		refuse("--socket-group is of --socket-path", "");
+	if (is_mount && words.sandbox > SANDBOX_NONE)
+		refuse("a mount has no sandbox, or it could not be unmounted", "");
+	if (words.sandbox > SANDBOX_NONE && geteuid() != 0)
+		refuse("root alone can make a sandbox", "");
+	if (words.filter > FILTER_NONE && !has_filter)
+		refuse("--seccomp: it was built without libseccomp", "");
+	if (words.sandbox < 0)
+		words.sandbox = !is_mount && geteuid() == 0 ? SANDBOX_NAMESPACE : SANDBOX_NONE;
+	if (words.filter < 0)
+		words.filter = !is_mount && has_filter ? FILTER_KILL : FILTER_NONE;
+	if (words.files.read_only)
+		words.flags |= MS_RDONLY;
+	if (words.flags & MS_RDONLY)
+		words.files.read_only = true;
+}
+
+/* ---- what is around serving */
+
+/* Each file that a client knows may have a descriptor. */
+static void raise_limit(void)
+{
+	struct rlimit limit = { words.most_files, words.most_files };
+
+	if (!words.most_files || !setrlimit(RLIMIT_NOFILE, &limit) || getrlimit(RLIMIT_NOFILE, &limit))
+		return;
+	limit.rlim_cur = limit.rlim_max;
+	setrlimit(RLIMIT_NOFILE, &limit);
+	if (words.says_more)
+		fprintf(stderr, "nizwarf-share: at most %llu files can be open\n",
+			(unsigned long long)limit.rlim_max);
+}
+
+/* A socket by which a service manager is told, connected; -1: none is wanted. */
+static int meet_manager(void)
+{
+	const char *path = getenv("NOTIFY_SOCKET");
+	struct sockaddr_un address = { .sun_family = AF_UNIX };
+	const size_t len = path ? strlen(path) : 0;
+	int fd;
+
+	if (!len || len >= sizeof(address.sun_path) || (*path != '/' && *path != '@'))
+		return -1;
+	memcpy(address.sun_path, path, len);
+	if (*path == '@')
+		address.sun_path[0] = 0;
+	fd = socket(AF_UNIX, SOCK_DGRAM | SOCK_CLOEXEC, 0);
+	if (fd >= 0 && connect(fd, (struct sockaddr *)&address,
+			       (socklen_t)(offsetof(struct sockaddr_un, sun_path) + len))) {
+		failed("NOTIFY_SOCKET");
+		close(fd);
+		return -1;
+	}
+	return fd;
+}
+
+/* Forks, and goes on in the child: the parent waits until that serves. Gives where to tell it, or
+ * -1. */
+static int go_to_background(void)
+{
+	int ends[2];
+	pid_t child;
+	char told = 1;
+
+	if (pipe2(ends, O_CLOEXEC))
+		return failed("pipe");
+	child = fork();
+	if (child < 0)
+		return failed("fork");
+	if (child) {
+		close(ends[1]);
+		_exit(read(ends[0], &told, 1) == 1 ? 0 : 1);
+	}
+	close(ends[0]);
+	setsid();
+	return ends[1];
+}
+
+/* Tells whoever waits that it serves. */
+static void tell_ready(int manager, int parent)
+{
+	static const char ready[] = "READY=1\n";
+	const int nothing = parent < 0 && !words.is_off ? -1 : open("/dev/null", O_RDWR | O_CLOEXEC);
+
+	if (words.says_more)
+		fprintf(stderr, "nizwarf-share: %s is served %s %s\n", words.folder,
+			words.mount_point ? "at" : "on",
+			words.mount_point ? words.mount_point :
+			words.socket_path ? words.socket_path : "the socket of --fd");
+	if (manager >= 0 && send(manager, ready, sizeof(ready) - 1, MSG_NOSIGNAL) < 0)
+		failed("NOTIFY_SOCKET");
+	if (parent >= 0 && write(parent, "", 1) == 1) {
+		dup2(nothing, 0);
+		dup2(nothing, 1);
+	}
+	if (nothing >= 0) {
+		dup2(nothing, 2);
+		close(nothing);
+	}
+	if (parent >= 0)
+		close(parent);
+	if (manager >= 0)
+		close(manager);
+}
+
+/* Listens, with the group of those who may connect. */
+static int listen_on_socket(const transport *by)
+{
+	const struct group *group = words.socket_group ? getgrnam(words.socket_group) : NULL;
+	mode_t before;
+	int listener;
+
+	if (words.fd >= 0)
+		return words.fd;
+	if (words.socket_group && !group)
+		refuse("there is no group ", words.socket_group);
+	before = umask(group ? 0177 : 022);
+	listener = vhost_user_listen(by, words.socket_path);
+	umask(before);
+	if (listener < 0)
+		exit(-listener);
+	if (group && (chown(words.socket_path, (uid_t)-1, group->gr_gid) ||
+		      chmod(words.socket_path, 0660))) {
+		failed(words.socket_path);
+		unlink(words.socket_path);
+		exit(1);
+	}
+	return listener;
+}
+
+/* Whether a path leads to the folder, or below it. */
+static bool is_below(const char *path, const char *folder)
+{
+	const size_t len = strlen(folder);
+
+	return !strncmp(path, folder, len) && (!path[len] || path[len] == '/' || folder[len - 1] == '/');
+}
+
+static int mount_folder(const transport *by)
+{
+	char options[80];
+
+	snprintf(options, sizeof(options), ",default_permissions,max_read=%lu%s", words.max_read,
+		 words.allow_other);
+	return fuse_device_mount(by, words.source ? words.source : words.folder, words.mount_point,
+				 words.flags, options);
+}
+
+/* Serves in the sandbox, from its entering on. */
+static int serve(transport *by, int listener, int manager, int parent)
+{
+	struct passthrough *all;
+	int root, proc, device = -1, status = 1;
+
+	if (sandbox_enter((enum sandbox)words.sandbox, words.folder, &root, &proc))
+		return 1;
+	umask(0);
+	all = passthrough_new(root, proc, &words.files);
+	if (!all)
+		return failed(words.folder), 1;
+	by->user = all;
+	if (words.mount_point)
+		device = mount_folder(by);
+	if (!words.mount_point || device >= 0) {
+		tell_ready(manager, parent);
+		/* (to unmount takes more than the files do) */
+		if ((words.mount_point || !passthrough_limit()) &&
+		    !prctl(PR_SET_NO_NEW_PRIVS, 1, 0, 0, 0) &&
+		    !sandbox_filter((enum calls_filter)words.filter, words.mount_point != NULL))
+			status = words.mount_point ? fuse_device_serve(by, device, words.mount_point) :
+						     vhost_user_serve(by, listener);
+		else
+			failed("privileges");
+	}
+	passthrough_end(all);
+	close(proc);
+	return status;
+}
+
+int main(int count, char **given)
+{
+	transport by = { .program = "nizwarf-share", .writes_in_place = 1, .begin = passthrough_begin,
+			 .end = passthrough_finish, .serve = passthrough_serve };
+	int listener = -1, parent = -1, manager, status;
+	char folder[PATH_MAX], mount_point[PATH_MAX];
+
+	take_words(count, given);
+	by.workers = words.files.workers;
+	if (!realpath(words.folder, folder))
+		return failed(words.folder), 2;
+	words.folder = folder;
+	if (words.mount_point) {
+		if (!realpath(words.mount_point, mount_point))
+			return failed(words.mount_point), 2;
+		words.mount_point = mount_point;
+		/* A server that looks there would ask itself. */
+		if (is_below(mount_point, folder) && strcmp(mount_point, folder) != 0)
+			refuse("the mount point lies in the folder: ", mount_point);
+	}
+	/* (to write behind the largest size of a file is an error, and no end) */
+	signal(SIGXFSZ, SIG_IGN);
+	signal(SIGPIPE, SIG_IGN);
+	raise_limit();
+	manager = meet_manager();
+	if (!words.mount_point)
+		listener = listen_on_socket(&by);
+	if (words.daemonizes && (parent = go_to_background()) < 0)
+		return 1;
+	if (sandbox_fork((enum sandbox)words.sandbox, words.socket_path))
+		return 1;
+	status = serve(&by, listener, manager, parent);
+	if (words.socket_path && words.sandbox == SANDBOX_NONE)
+		unlink(words.socket_path);
+	return status;
+}

@@ -1,0 +1,356 @@
+#!/usr/bin/env bash
+# Shares a folder of the host: mounts it on another one over /dev/fuse, or serves it to a virtual machine over
+# vhost-user. The protocol is that of the library vfs_door; the program is examples/c/share.c, which nothing
+# is proved of.
+#
+# Usage: tools/share.sh FOLDER MOUNTPOINT [WORDS]
+#        tools/share.sh FOLDER --socket-path=SOCKET [WORDS]
+#        tools/share.sh --words
+#        tools/share.sh --check
+# Words are those of virtiofsd, as --cache=always, --xattr, --thread-pool-size=4, and -o with the options of
+# a mount; --words lists them. `umount MOUNTPOINT` or Ctrl-C ends it.
+#
+# With --check it shares folders of its own. Over /dev/fuse tools/session.sh does there what a person does, with
+# one worker, with four, with a cache of what is written later, with file handles; after each the descriptors
+# of the server are counted. Over vhost-user it is asked the hostile requests of tools/beside, and more that are
+# made up, under sanitizers and in its sandbox; a machine that goes away is followed by another. It takes two
+# minutes, and wants python3.
+#
+# It wants root, for a mount /dev/fuse, a C compiler and the Rattle toolchain; libseccomp-dev if there is to be
+# a filter of system calls. It links the proved library if that is built and no source is newer; otherwise
+# tools/unproved.sh builds it without a proof, which takes a minute.
+# Status 0: it was served and ended, and with --check all was right; 1: not so; 2: it could not start.
+set -euo pipefail
+. "$(dirname "$0")/usage.sh"
+. "$(dirname "$0")/transport.sh"
+
+usage() {
+    echo "Usage: tools/share.sh FOLDER MOUNTPOINT [WORDS], or tools/share.sh --words, or tools/share.sh --check" >&2
+    exit 2
+}
+
+case $#:${1:-} in
+    0:*) usage ;;
+    1:--words)
+        build_transport share vfs_door
+        exec "$transport" --help
+        ;;
+    1:--check) ;;
+    *:--check | *:--words) usage ;;
+    *)
+        build_transport share vfs_door
+        exec "$transport" "$@"
+        ;;
+esac
+
+if [ "$(id -u)" != 0 ]; then
+    echo "Only root may mount, and make files of other users: run it as root." >&2
+    exit 2
+fi
+if [ ! -e /dev/fuse ]; then
+    echo "Missing: /dev/fuse. \`modprobe fuse\` makes it where the kernel has the module." >&2
+    exit 2
+fi
+need mountpoint "Install util-linux."
+need python3 "Install it: apt-get install python3."
+build_transport share vfs_door
+share=$transport
+mkdir -p "$here/out/c"
+cc -std=c11 -O2 -Wall -Wextra -Werror -o "$here/out/c/ask" "$here/tools/beside/ask.c"
+
+# In memory where that is a file system: one on a disk may say of a directory that it has one name.
+work=$(mktemp -d -p "$(if [ -d /dev/shm ]; then echo /dev/shm; else echo /tmp; fi)")
+server=
+trap '{ [ -z "$server" ] || kill "$server"; umount -l "$work/mount"; rm -rf "$work"; } 2> /dev/null || true' EXIT
+chmod 755 "$work"
+status=0
+
+wrong() {
+    echo "FAILED: $1" >&2
+    status=1
+}
+
+# How many descriptors the server has.
+descriptors() {
+    find "/proc/$server/fd" -mindepth 1 | wc -l
+}
+
+# What a person does over a mount with these words.
+try_mount() {
+    local before after
+    rm -rf "$work/folder" "$work/mount"
+    mkdir "$work/folder" "$work/mount"
+    "$share" -o allow_other --log-level=warn "$@" "$work/folder" "$work/mount" &
+    server=$!
+    for _ in $(seq 100); do
+        ! mountpoint -q "$work/mount" || break
+        sleep 0.05
+    done
+    ls "$work/mount" > /dev/null
+    before=$(descriptors)
+    "$here/tools/session.sh" --shared "$work/mount" > "$work/said" || {
+        grep -A 2 WRONG "$work/said" >&2 || true
+        wrong "the session with $*"
+    }
+    # The kernel gives back what it does not remember.
+    echo 2 > /proc/sys/vm/drop_caches
+    for _ in $(seq 50); do
+        after=$(descriptors)
+        [ "$after" -gt "$((before + 1))" ] || break
+        sleep 0.1
+    done
+    # (one may be that of the mount, by which file handles are opened)
+    [ "$after" -le "$((before + 1))" ] || wrong "$after descriptors are left of $before with $*"
+    umount "$work/mount"
+    wait "$server" || wrong "the server ended with $? with $*"
+    server=
+    ! mountpoint -q "$work/mount" || wrong "something is mounted after $*"
+    echo "$* : $(tail -n 1 "$work/said"), $before descriptors before it and $after after it."
+}
+
+# Ends by a signal, also where the folder is in use.
+try_signals() {
+    mkdir -p "$work/folder" "$work/mount"
+    "$share" --log-level=error "$work/folder" "$work/mount" &
+    server=$!
+    for _ in $(seq 100); do
+        ! mountpoint -q "$work/mount" || break
+        sleep 0.05
+    done
+    exec 3> "$work/mount/open"
+    kill -TERM "$server"
+    for _ in $(seq 100); do
+        mountpoint -q "$work/mount" || break
+        sleep 0.05
+    done
+    echo late >&3
+    exec 3>&-
+    wait "$server" || wrong "the server ended with $? after a signal"
+    server=
+    [ "$(cat "$work/folder/open")" = late ] || wrong "an open file was cut off"
+    echo "A signal unmounted it, and an open file was served to its end."
+}
+
+try_mount --thread-pool-size=1
+try_mount --thread-pool-size=4
+try_mount --thread-pool-size=4 --writeback
+try_mount --cache=always --xattr
+try_mount --cache=never --no-readdirplus
+try_mount --inode-file-handles=prefer --xattr
+try_signals
+
+# Asks a server over vhost-user: what it is, its words.
+ask() {
+    python3 -B - "$here/tools/beside" "$here/out/c/ask" "$work" "$@" << 'PYTHON' || wrong "$1 over vhost-user"
+import os, signal, socket, stat, struct, subprocess, sys, time
+
+beside, ask, work, what, *daemon = sys.argv[1:]
+sys.path.insert(0, beside)
+import requests
+from requests import line, request, transfer
+
+ENOENT, ENXIO, EBADF, ENOTDIR, EINVAL, EFBIG, ELOOP, ESTALE = 2, 6, 9, 20, 22, 27, 40, 116
+ENOSYS = "16 10000000daffffff0700000000000000"
+folder, path = work + "/shared", work + "/socket"
+subprocess.run(["rm", "-rf", folder, path])
+os.mkdir(folder)
+os.mkfifo(folder + "/pipe")
+os.mknod(folder + "/null", stat.S_IFCHR | 0o666, os.makedev(1, 3))
+os.symlink("/etc/passwd", folder + "/link")
+os.mkdir(folder + "/directory")
+for i in range(50):
+    open(f"{folder}/file{i}", "w").close()
+# One was left behind, on which nobody listens.
+left = socket.socket(socket.AF_UNIX)
+left.bind(path)
+left.close()
+
+with open(work + "/log", "w+") as log:
+    process = subprocess.Popen([*daemon, "--socket-path=" + path, folder], stdout=log, stderr=log)
+    faults = []
+
+    def end(why):
+        log.seek(0)
+        print(f"{why}\n{log.read()}", file=sys.stderr)
+        process.kill()
+        sys.exit(1)
+
+    class Asking:
+        """A front end."""
+
+        def __init__(self):
+            self.asking = subprocess.Popen([ask, path], stdin=subprocess.PIPE, stdout=subprocess.PIPE, text=True)
+
+        def ask(self, text):
+            if process.poll() is not None:
+                end(f"the server ended with {process.returncode}")
+            self.asking.stdin.write(text + "\n")
+            self.asking.stdin.flush()
+            return self.asking.stdout.readline().rstrip("\n")
+
+        def error(self, text):
+            """The number of the error in a reply, 0 if it is none."""
+            answer = self.ask(text)
+            reply = bytes.fromhex(answer.split()[1]) if " " in answer else b""
+            return -struct.unpack_from("<i", reply, 4)[0] if len(reply) >= 16 else answer
+
+        def body(self, text):
+            return bytes.fromhex(self.ask(text).split()[1])[16:]
+
+        def hold(self, name, text, *errors):
+            came = self.error(text)
+            if came not in errors:
+                faults.append(f"{name}: wanted one of {errors}, came {came}")
+
+        def end(self):
+            self.asking.stdin.close()
+            self.asking.wait()
+
+    # The sessions of tools/beside: after each the queue is still served.
+    count = 0
+    for items, _ in requests.sessions():
+        asking, answers = Asking(), []
+        for name, text in items:
+            answers.append(asking.ask(text(answers) if callable(text) else text))
+            count += 1
+            if answers[-1] in ("", "none", "hung up"):
+                break
+        asking.end()
+        if answers[-1] != ENOSYS:
+            faults.append(f"{items[-2][0]}: the server did not go on: {answers}")
+
+    one = Asking()
+    init = requests.FIRST[1]
+    one.ask(init)
+
+    def look_up(name, node=1):
+        return struct.unpack_from("<Q", one.body(line("16+128", request(1, name + b"\0", node=node))))[0]
+
+    # Numbers that are made up.
+    for node in (0, 2**32 + 1, 12345, 2**63, 2**64 - 1):
+        for opcode, body in ((1, b"a\0"), (3, bytes(16)), (4, struct.pack("<I", 1) + bytes(84)), (5, b""),
+                             (6, b"a\0b\0"), (8, bytes(16) + b"a\0"), (9, bytes(8) + b"a\0"), (10, b"a\0"),
+                             (11, b"a\0"), (12, struct.pack("<Q", 1) + b"a\0b\0"), (14, bytes(8)), (17, b""),
+                             (27, bytes(8)), (35, bytes(16) + b"a\0"), (45, struct.pack("<QQ", 1, 0) + b"a\0b\0"),
+                             (50, bytes(8))):
+            one.hold(f"{requests.NAMES[opcode]} of node {node}", line("16+144", request(opcode, body, node=node)),
+                     ESTALE)
+        one.hold(f"RENAME to node {node}", line("16", request(12, struct.pack("<Q", node) + b"a\0b\0")), ESTALE)
+        one.hold(f"LINK of node {node}", line("16+128", request(13, struct.pack("<Q", node) + b"a\0")), ESTALE)
+    for handle in (0, 1, 2**32 + 1, 12345, 2**64 - 1):
+        for opcode in (15, 16, 28, 44):
+            one.hold(f"{requests.NAMES[opcode]} of handle {handle}",
+                     line("16+4096", transfer(opcode, 8, bytes(8) if opcode == 16 else b"", handle=handle)), EBADF)
+        for opcode, size in ((18, 24), (20, 16), (25, 24), (29, 24), (30, 16), (43, 32), (46, 24)):
+            one.hold(f"{requests.NAMES[opcode]} of handle {handle}",
+                     line("16+8", request(opcode, struct.pack("<Q", handle) + bytes(size - 8))), EBADF)
+        body = struct.pack("<QQQQQQQ", handle, 0, 1, handle, 0, 1, 0)
+        one.hold(f"COPY_FILE_RANGE of handle {handle}", line("16+8", request(47, body)), EBADF)
+    # Names that are none of something in a directory, and directories that are none.
+    for name in (b".", b"..", b"/", b"a/b", b"../x", b"directory/.."):
+        for opcode, before in ((1, b""), (6, b""), (8, bytes(16)), (9, bytes(8)), (10, b""), (11, b""),
+                               (35, bytes(16))):
+            after = b"\0text\0" if opcode == 6 else b"\0"
+            one.hold(f"{requests.NAMES[opcode]} of {name}", line("16+144", request(opcode, before + name + after)),
+                     EINVAL)
+    link, pipe, null = look_up(b"link"), look_up(b"pipe"), look_up(b"null")
+    one.hold("LOOKUP in a symbolic link", line("16+128", request(1, b"passwd\0", node=link)), ENOTDIR)
+    # What would wait, or do something, is not opened.
+    for flags in (0, 1, 2, 0o1000, 0o2001):
+        for name, node, errors in (("link", link, (ELOOP,)), ("pipe", pipe, (ENXIO,)), ("null", null, (ENXIO,))):
+            one.hold(f"OPEN of a {name} with {flags}",
+                     line("16+16", request(14, struct.pack("<II", flags, 0), node=node)), *errors)
+        one.hold(f"CREATE of a pipe with {flags}",
+                 line("16+144", request(35, struct.pack("<IIII", flags | 0o100, 0o644, 0, 0) + b"pipe\0")), ENXIO)
+    size = struct.pack("<IIQQ", 8, 0, 0, 5) + bytes(64)
+    for name, node, error in (("link", link, ELOOP), ("pipe", pipe, ENXIO), ("null", null, ENXIO)):
+        one.hold(f"SETATTR of the size of a {name}", line("16+104", request(4, size, node=node)), error)
+    # Offsets that Linux has no number for.
+    made = one.body(line("16+144", request(35, struct.pack("<IIII", 0o102, 0o100644, 0, 0) + b"far\0")))
+    node, handle = struct.unpack_from("<Q", made)[0], struct.unpack_from("<Q", made, 128)[0]
+    for offset in (2**63, 2**63 + 1, 2**64 - 1, 2**63 - 1):
+        one.hold(f"WRITE at {offset}", line("16+8", transfer(16, 3, b"abc", offset, node, handle)), EINVAL, EFBIG)
+        if offset >= 2**63:
+            one.hold(f"READ at {offset}", line("16+8", transfer(15, 3, b"", offset, node, handle)), EINVAL)
+    if os.stat(folder + "/far").st_size:
+        faults.append("a WRITE that was refused wrote")
+    one.hold("READDIR of a file", line("16+400", transfer(28, 400, b"", 0, node, handle)), ENOTDIR)
+
+    # All is given back by a DESTROY, and by an INIT.
+    def descriptors():
+        return len(os.listdir(f"/proc/{process.pid}/fd"))
+
+    for how in ("DESTROY", "INIT"):
+        one.ask(line("0", request(38)))
+        one.ask(init)
+        before = descriptors()
+        for i in range(50):
+            look_up(b"file%d" % i)
+        nodes = [look_up(b"file%d" % i) for i in range(50)]
+        for i in range(10):
+            one.hold("OPEN", line("16+16", request(14, bytes(8), node=nodes[i])), 0)
+            one.hold("OPENDIR", line("16+16", request(27, bytes(8))), 0)
+        between = descriptors()
+        if how == "DESTROY":
+            one.ask(line("0", request(38)))
+        one.ask(init)
+        after = descriptors()
+        in_sandbox = "--sandbox=none" not in daemon
+        if after != before or (between < before + 20 and not in_sandbox):
+            faults.append(f"descriptors around {how}: {before}, {between}, {after}")
+        one.hold("a node of before it", line("16+104", request(3, bytes(16), node=nodes[0])), ESTALE)
+    one.end()
+
+    # A front end that says what can't be is hung up on, and the next one is served.
+    for said in (b"x" * 12, struct.pack("<III", 5, 1, 8) + bytes(8), struct.pack("<III", 5, 1, 8) + b"\1" + bytes(7),
+                 struct.pack("<III", 77, 1, 0), struct.pack("<III", 8, 1, 8) + struct.pack("<II", 300, 1),
+                 struct.pack("<III", 8, 1, 8) + struct.pack("<II", 1, 3), b"\1\0\0"):
+        bad = socket.socket(socket.AF_UNIX)
+        bad.connect(path)
+        bad.send(said)
+        bad.close()
+    for number in (12, 13):
+        bad = socket.socket(socket.AF_UNIX)
+        bad.connect(path)
+        with open(folder + "/file0") as no_event:
+            socket.send_fds(bad, [struct.pack("<IIIQ", number, 1, 8, 1)], [no_event.fileno()])
+        time.sleep(0.1)
+        bad.close()
+    one = Asking()
+    one.hold("INIT, after front ends that said what can't be", init, 0)
+    one.end()
+
+    process.terminate()
+    try:
+        process.wait(20)
+    except subprocess.TimeoutExpired:
+        end("the server does not end")
+    log.seek(0)
+    said = log.read()
+    if process.returncode:
+        faults.append(f"the server ended with {process.returncode}")
+    if os.path.exists(path):
+        faults.append("the socket is left")
+    for word in ("ERROR: ", "WARNING: ThreadSanitizer", "runtime error"):
+        if word in said:
+            faults.append("a sanitizer found something")
+    if faults:
+        end("\n".join(faults))
+    print(f"{what}: {count} hostile requests, and those that are made up, were answered as they should be.")
+PYTHON
+}
+
+ask "over vhost-user, in its sandbox" "$share" --xattr
+ask "without a sandbox, one worker" "$share" --xattr --sandbox=none --seccomp=none --thread-pool-size=1
+for sanitizer in address,undefined thread; do
+    flags=(-g -O1 "-fsanitize=$sanitizer" -fno-sanitize-recover=all)
+    if echo 'int main(void) { return 0; }' | cc -x c "${flags[@]}" -o "$work/program" - 2> /dev/null; then
+        build_transport share vfs_door "${flags[@]}"
+        plain=$share
+        share=$transport
+        ask "under the sanitizers $sanitizer" "$share" --xattr --sandbox=none --seccomp=none
+        try_mount --thread-pool-size=4 --xattr --log-level=error
+        share=$plain
+    fi
+done
+exit "$status"
