@@ -3,7 +3,9 @@
 # does. It unmounts it, mounts it again and removes all, as it does after a reboot: then nothing may be in use
 # but the root. It powers off when it has done all that a person does once more.
 #
-# Usage: tools/guest.sh [KERNEL-PACKAGE[/SUITE]]
+# Usage: tools/guest.sh [--share] [KERNEL-PACKAGE[/SUITE]]
+# With --share it is a folder of the host that the guest mounts, which examples/c/share.c serves as tools/share.sh
+# does, with its files written later by the guest; what is in use is not looked at then.
 # The kernel is Debian's package linux-image-cloud-amd64, or that of the argument; of another suite of
 # Debian than the machine's where one is named, as linux-image-cloud-amd64/trixie. Kernel and busybox are
 # downloaded by apt-get, and unpacked into the folder `guest` of `out`, where a second run finds them. The
@@ -18,8 +20,13 @@ set -euo pipefail
 . "$(dirname "$0")/transport.sh"
 . "$(dirname "$0")/debian.sh"
 
-if [ $# -gt 1 ]; then
-    echo "Usage: tools/guest.sh [KERNEL-PACKAGE[/SUITE]]" >&2
+shared=
+if [ "${1:-}" = --share ]; then
+    shared=--shared
+    shift
+fi
+if [ $# -gt 1 ] || [[ ${1:-} == -* ]]; then
+    echo "Usage: tools/guest.sh [--share] [KERNEL-PACKAGE[/SUITE]]" >&2
     exit 2
 fi
 name=${1:-linux-image-cloud-amd64}
@@ -34,7 +41,11 @@ for command in apt-get apt-cache dpkg-deb; do
     need "$command" "The kernel and busybox are packages of Debian."
 done
 need xz "Install it: apt-get install xz-utils."
-build_transport vhost
+if [ -n "$shared" ]; then
+    build_transport share vfs_door
+else
+    build_transport vhost
+fi
 
 work=$(mktemp -d)
 started=()
@@ -100,6 +111,7 @@ used() {
 
 # The same is in use as when the files were made. The kernel forgets a while after it removed.
 is_empty() {
+    [ -z "$shared" ] || return 0
     for i in 1 2 3 4 5; do
         [ "\$(used)" != "\$made" ] || break
         sleep 1
@@ -121,8 +133,8 @@ fill() {
 mount -t virtiofs nizwarf /mnt || poweroff -f
 if [ ! -e /mnt/made ]; then
     made=\$(used)
-    [ "\${made% *}" = 1 ] || echo "WRONG: \$made nodes and KiB are in use at first"
-    sh /session.sh /mnt
+    [ "$shared\${made% *}" = 1 ] || [ -n "$shared" ] || echo "WRONG: \$made nodes and KiB are in use at first"
+    sh /session.sh $shared /mnt
     is_empty 'nothing is in use after it'
     # It forgets what it has of a file, and asks for it anew.
     echo again > /mnt/a
@@ -140,7 +152,7 @@ fi
 made=\$(cat /mnt/made)
 rm -r /mnt/made /mnt/one
 is_empty 'nothing is in use after a reboot, once it was emptied'
-sh /session.sh /mnt
+sh /session.sh $shared /mnt
 umount /mnt && echo 'The guest unmounted it.'
 poweroff -f
 INIT
@@ -148,7 +160,15 @@ chmod +x "$root/init"
 (cd "$root" && find . | "$busybox" cpio -o -H newc 2> /dev/null) > "$work/files"
 
 # Behind the script, so that a signal ends it at once, and them with it.
-timeout 600 "$transport" "$work/socket" &
+words=("$work/socket")
+if [ -n "$shared" ]; then
+    # (in memory where that is a file system, as what must come is of one)
+    folder=$(mktemp -d -p "$(if [ -d /dev/shm ]; then echo /dev/shm; else echo /tmp; fi)")
+    trap 'kill "${started[@]}" 2> /dev/null || true; rm -rf "$work" "$folder"' EXIT
+    chmod 755 "$folder"
+    words=("--socket-path=$work/socket" --writeback --xattr --announce-submounts "$folder")
+fi
+timeout 600 "$transport" "${words[@]}" &
 transport_id=$!
 started+=("$transport_id")
 for _ in $(seq 100); do
