@@ -253,6 +253,14 @@ with open(work + "/log", "w+") as log:
             after = b"\0text\0" if opcode == 6 else b"\0"
             one.hold(f"{requests.NAMES[opcode]} of {name}", line("16+144", request(opcode, before + name + after)),
                      EINVAL)
+    # Who asks is who owns what is made.
+    for uid, error in ((7, 0), (2**32 - 1, EINVAL)):
+        body = struct.pack("<II", 0o2755, 0) + b"made%d\0" % uid
+        header = struct.pack("<IIQQIIIHH", 40 + len(body), 9, 2, 1, uid, uid, 1, 0, 0)
+        one.hold(f"MKDIR of user {uid}", line("16+128", header + body), error)
+    made = os.stat(folder + "/made7")
+    if (made.st_uid, made.st_gid) != (7, 7) or os.path.exists(f"{folder}/made{2**32 - 1}"):
+        faults.append("a directory is of another user")
     link, pipe, null = look_up(b"link"), look_up(b"pipe"), look_up(b"null")
     one.hold("LOOKUP in a symbolic link", line("16+128", request(1, b"passwd\0", node=link)), ENOTDIR)
     # What would wait, or do something, is not opened.

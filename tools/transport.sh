@@ -34,9 +34,9 @@ build_transport() {
     find_library "$of"
     case $name in
         mount) sources+=("$from/fuse_device.c") ;;
-        vhost) sources+=("$from/vhost_user.c") ;;
+        vhost) sources+=("$from/vhost_user.c" "$from/vhost_queue.c") ;;
         share)
-            sources+=("$from"/share_*.c "$from"/passthrough*.c "$from/fuse_device.c" "$from/vhost_user.c")
+            sources+=("$from"/share_*.c "$from"/passthrough*.c "$from/fuse_device.c" "$from/vhost_user.c" "$from/vhost_queue.c")
             if echo '#include <seccomp.h>' | cc -fsyntax-only -x c - 2> /dev/null; then
                 flags+=(-DWITH_SECCOMP)
                 links+=(-lseccomp)

@@ -219,6 +219,15 @@ void passthrough_finish(void *user, unsigned worker)
 	nizwarf_end_slot(&w->slot);
 }
 
+/* Its descriptors would be missing to who comes next. */
+void passthrough_parted(void *user)
+{
+	struct passthrough *all = user;
+
+	nodes_forget_all(&all->nodes);
+	atomic_store(&all->agreed, 0);
+}
+
 struct passthrough *passthrough_new(int root, int proc, const struct passthrough_options *options)
 {
 	struct passthrough *all = calloc(1, sizeof(*all));

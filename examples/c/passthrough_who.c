@@ -27,6 +27,9 @@ int become(const struct call *call)
 
 	if (!w->is_root || (!asked->uid && !asked->gid && !has_group))
 		return 0;
+	/* (-1 would leave it who it is) */
+	if (asked->uid == UINT32_MAX || asked->gid == UINT32_MAX)
+		return EINVAL;
 	/* (by raw calls, which are of this thread alone) */
 	if ((has_group && syscall(SYS_setgroups, 1, &asked->group)) ||
 	    syscall(SYS_setresgid, -1, asked->gid, -1) || syscall(SYS_setresuid, -1, asked->uid, -1))

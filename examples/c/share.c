@@ -461,7 +461,8 @@ static int serve(transport *by, int listener, int manager, int parent)
 int main(int count, char **given)
 {
 	transport by = { .program = "nizwarf-share", .writes_in_place = 1, .begin = passthrough_begin,
-			 .end = passthrough_finish, .serve = passthrough_serve };
+			 .end = passthrough_finish, .parted = passthrough_parted,
+			 .serve = passthrough_serve };
 	int listener = -1, parent = -1, manager, status;
 	char folder[PATH_MAX], mount_point[PATH_MAX];
 

@@ -34,6 +34,8 @@ typedef struct {
 	 * why. */
 	int (*begin)(void *user, unsigned worker);
 	void (*end)(void *user, unsigned worker);
+	/* May be NULL. A front end of a virtual machine has gone, and no request is in flight. */
+	void (*parted)(void *user);
 	/* Answers a request as nizwarf_message does: a code, and in `*len`, which comes as 0, how many
 	 * bytes of the rooms are the reply. */
 	int32_t (*serve)(void *user, unsigned worker, const nizwarf_segment *request, size_t segments,

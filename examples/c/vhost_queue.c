@@ -1,0 +1,439 @@
+/* Queues of a virtio-fs device, and their workers: vhost_queue.h.
+ *
+ * The guest may write all of its memory at any time. So a descriptor is copied before it is checked,
+ * and a request before it is handed on: both once. The room is not read. Every address and length is
+ * checked against the memory that the front end shared. */
+#define _GNU_SOURCE
+#include <errno.h>
+#include <fcntl.h>
+#include <stdio.h>
+#include <stdlib.h>
+#include <string.h>
+#include <sys/epoll.h>
+#include <sys/eventfd.h>
+#include <time.h>
+#include <unistd.h>
+#include "vhost_queue.h"
+
+/* What is behind the longest request is not looked at, and no longer room is lent: a header and its
+ * record take less than a page, and a guest that keeps to what INIT agreed on has no larger payload.
+ * Of a WRITE the header and the record have WRITE_HEAD bytes. */
+enum { PIECES = 1024, LONGEST = TRANSPORT_PAYLOAD + 4096 };
+enum { OPCODE_WRITE = 16, OPCODE_END = 8, WRITE_HEAD = 80 };
+
+struct queue vhost_queue[QUEUES];
+struct region vhost_region[REGIONS];
+size_t vhost_regions;
+
+/* Is held by a worker while it has a chain, and by the calling thread, alone, while it changes
+ * queues or memory. */
+static pthread_rwlock_t in_flight;
+
+/* What wakes a worker: a kick, by the queue's number; a queue that is to be looked at; the end. */
+enum { LOOK = QUEUES, STOP };
+static int events, look, stop;
+/* What wakes the calling thread: a worker that failed. */
+static int over;
+
+struct worker {
+	unsigned number;
+	pthread_t thread;
+	/* A chain: the request is copied, but for the data of a WRITE if they are to stay. */
+	size_t len, copied, segments, rooms, room_len;
+	nizwarf_segment segment[PIECES + 1];
+	nizwarf_room room[PIECES];
+	unsigned char request[LONGEST];
+};
+
+/* What came of the requests, by its number, and chains that were none: told when the front end has
+ * gone, since a guest that breaks the rules shall not fill a log. */
+enum { OUTCOMES = 32 };
+static atomic_ulong outcomes[OUTCOMES], broken;
+
+static const transport *by;
+static struct worker *workers[TRANSPORT_MOST_WORKERS];
+static unsigned started;
+
+static int failed(const char *what)
+{
+	fprintf(stderr, "%s: %s: %s\n", by->program, what, strerror(errno));
+	return -1;
+}
+
+static void tell(int event)
+{
+	const uint64_t one = 1;
+
+	if (write(event, &one, sizeof(one)) < 0)
+		failed("eventfd");
+}
+
+/* ---- chains, by workers */
+
+/* Where these bytes of the guest are: in one region, or NULL. */
+static unsigned char *bytes_at(uint64_t address, uint64_t len, int by_user)
+{
+	for (size_t i = 0; i < vhost_regions; i++) {
+		const uint64_t from = by_user ? vhost_region[i].user : vhost_region[i].guest;
+		const uint64_t off = address - from;
+
+		if (address >= from && off <= vhost_region[i].size && len <= vhost_region[i].size - off)
+			return vhost_region[i].at + off;
+	}
+	return NULL;
+}
+
+/* Copies the next bytes of a request, until so many are copied. */
+static void copy_up_to(struct worker *w, size_t most, const unsigned char **at, size_t *len)
+{
+	size_t n = w->copied < most ? most - w->copied : 0;
+
+	n = n < *len ? n : *len;
+	memcpy(w->request + w->copied, *at, n);
+	w->copied += n;
+	*at += n;
+	*len -= n;
+}
+
+/* Adds bytes of a request: all are copied, but of a WRITE whose data stay the header and the record
+ * alone. The opcode is that of the copy. */
+static int add_request(struct worker *w, const unsigned char *at, size_t len)
+{
+	uint32_t opcode = 0;
+
+	w->len += len;
+	copy_up_to(w, OPCODE_END, &at, &len);
+	if (by->writes_in_place && w->copied >= OPCODE_END)
+		memcpy(&opcode, w->request + OPCODE_END - sizeof(opcode), sizeof(opcode));
+	copy_up_to(w, opcode == OPCODE_WRITE ? WRITE_HEAD : LONGEST, &at, &len);
+	w->segment[0].len = w->copied;
+	if (!len)
+		return 0;
+	if (w->segments > PIECES)
+		return -1;
+	w->segment[w->segments++] = (nizwarf_segment) { at, len };
+	return 0;
+}
+
+/* Adds a descriptor's bytes to the chain. */
+static int add_piece(struct worker *w, const struct vring_desc *d)
+{
+	unsigned char *at = bytes_at(d->addr, d->len, 0);
+	const int is_room = d->flags & VRING_DESC_F_WRITE;
+	const size_t left = LONGEST - (is_room ? w->room_len : w->len);
+	const size_t len = d->len < left ? d->len : left;
+
+	if (!at || (is_room ? w->rooms == PIECES : w->rooms > 0))
+		return -1;
+	if (!is_room)
+		return add_request(w, at, len);
+	w->room[w->rooms++] = (nizwarf_room) { at, len };
+	w->room_len += len;
+	return 0;
+}
+
+/* Reads the chain that begins at this descriptor. -1: it is none. */
+static int take_chain(struct worker *w, const struct queue *q, uint16_t head)
+{
+	const unsigned char *table = q->descriptors;
+	uint32_t entries = q->size, at = head, seen = 0;
+	int is_indirect = 0;
+	struct vring_desc d;
+
+	w->len = w->copied = w->rooms = w->room_len = 0;
+	w->segments = 1;
+	w->segment[0] = (nizwarf_segment) { w->request, 0 };
+	do {
+		if (at >= entries || seen++ == entries)
+			return -1;
+		memcpy(&d, table + at * sizeof(d), sizeof(d));
+		/* What is checked is what was copied. */
+		__atomic_signal_fence(__ATOMIC_SEQ_CST);
+		at = d.next;
+		if (d.flags & VRING_DESC_F_INDIRECT) {
+			/* The rest of the chain is a table of its own. */
+			table = bytes_at(d.addr, d.len, 0);
+			entries = d.len / sizeof(d);
+			if (!table || is_indirect++ || d.flags & VRING_DESC_F_NEXT ||
+			    d.len % sizeof(d) || entries > PIECES)
+				return -1;
+			at = seen = 0;
+			d.flags = VRING_DESC_F_NEXT;
+		} else if (add_piece(w, &d)) {
+			return -1;
+		}
+	} while (d.flags & VRING_DESC_F_NEXT);
+	return 0;
+}
+
+/* Answers the chain, and gives the length that completes it: 0 for a refused request, and for one
+ * without a reply, as FORGET, INTERRUPT and DESTROY. These are completed too, or the guest waits for
+ * ever. */
+static uint32_t answer(struct worker *w, const struct queue *q, uint16_t head)
+{
+	size_t len = 0;
+	int32_t code;
+
+	if (take_chain(w, q, head)) {
+		broken++;
+		return 0;
+	}
+	code = by->serve(by->user, w->number, w->segment, w->segments, w->room, w->rooms, &len);
+	outcomes[code >= 0 && code < OUTCOMES ? code : 0]++;
+	return (uint32_t)len;
+}
+
+/* (if none is woken for it yet) */
+void queue_look(struct queue *q)
+{
+	if (!atomic_exchange(&q->look, 1))
+		tell(look);
+}
+
+/* Takes the number of the next chain; -1: none waits. A queue that says what can't be is left. */
+static int take_head(struct queue *q)
+{
+	uint16_t waiting, head;
+
+	if (!q->available || !q->enabled || q->kick < 0)
+		return -1;
+	waiting = (uint16_t)(__atomic_load_n(&q->available->idx, __ATOMIC_ACQUIRE) - q->next);
+	if (!waiting)
+		return -1;
+	head = __atomic_load_n(&q->available->ring[q->next % q->size], __ATOMIC_RELAXED);
+	if (waiting > q->size || head >= q->size) {
+		fprintf(stderr, "%s: a queue that is none\n", by->program);
+		q->available = NULL;
+		return -1;
+	}
+	q->next++;
+	/* This one may take long, and another worker may be free. */
+	if (waiting > 1 && by->workers > 1)
+		queue_look(q);
+	return head;
+}
+
+/* Tells the guest that a chain is done. */
+static void complete(struct queue *q, uint16_t head, uint32_t len)
+{
+	const uint64_t one = 1;
+
+	if (!q->available)
+		return;
+	q->used->ring[q->done % q->size] = (struct vring_used_elem) { head, len };
+	q->done++;
+	/* (the guest sets the flag, and then looks at the number: one of both sees what the other did) */
+	__atomic_store_n(&q->used->idx, q->done, __ATOMIC_SEQ_CST);
+	if (__atomic_load_n(&q->available->flags, __ATOMIC_SEQ_CST) & VRING_AVAIL_F_NO_INTERRUPT)
+		return;
+	if (q->call >= 0 && write(q->call, &one, sizeof(one)) < 0 && errno != EAGAIN) {
+		failed("a queue's call is no event");
+		close(q->call);
+		q->call = -1;
+	}
+}
+
+/* Answers what waits in the queue. */
+static void serve_queue(struct worker *w, struct queue *q)
+{
+	int head;
+
+	do {
+		/* (between two chains a message may have its turn) */
+		pthread_rwlock_rdlock(&in_flight);
+		pthread_mutex_lock(&q->lock);
+		head = take_head(q);
+		pthread_mutex_unlock(&q->lock);
+		if (head >= 0) {
+			const uint32_t len = answer(w, q, (uint16_t)head);
+
+			pthread_mutex_lock(&q->lock);
+			complete(q, (uint16_t)head, len);
+			pthread_mutex_unlock(&q->lock);
+		}
+		pthread_rwlock_unlock(&in_flight);
+	} while (head >= 0);
+}
+
+static void *run(void *given)
+{
+	struct worker *w = given;
+	struct epoll_event event;
+
+	if (by->begin && by->begin(by->user, w->number)) {
+		tell(over);
+		return NULL;
+	}
+	for (;;) {
+		const int got = epoll_wait(events, &event, 1, -1);
+
+		if (got < 0 && errno == EINTR)
+			continue;
+		if (got < 0) {
+			failed("epoll_wait");
+			tell(over);
+			break;
+		}
+		if (event.data.u32 == STOP)
+			break;
+		if (event.data.u32 < QUEUES) {
+			serve_queue(w, &vhost_queue[event.data.u32]);
+			continue;
+		}
+		for (size_t i = 0; i < QUEUES; i++)
+			if (atomic_load(&vhost_queue[i].look) && atomic_exchange(&vhost_queue[i].look, 0))
+				serve_queue(w, &vhost_queue[i]);
+	}
+	if (by->end)
+		by->end(by->user, w->number);
+	return NULL;
+}
+
+/* ---- queues and workers, by the calling thread */
+
+/* A ring of the front end's view, aligned as it must be, or NULL. */
+static void *ring_at(uint64_t address, uint64_t len, uintptr_t align)
+{
+	unsigned char *at = bytes_at(address, len, 1);
+
+	return at && (uintptr_t)at % align == 0 ? at : NULL;
+}
+
+void queue_place(struct queue *q)
+{
+	const uint64_t size = q->size;
+
+	q->descriptors = ring_at(q->descriptors_user, size * sizeof(struct vring_desc),
+				 VRING_DESC_ALIGN_SIZE);
+	q->available = ring_at(q->available_user, 4 + 2 * size, VRING_AVAIL_ALIGN_SIZE);
+	q->used = ring_at(q->used_user, 4 + 8 * size, VRING_USED_ALIGN_SIZE);
+	if (!size || !q->descriptors || !q->available || !q->used)
+		q->available = NULL;
+}
+
+void queue_call(struct queue *q, int fd)
+{
+	if (q->call >= 0)
+		close(q->call);
+	q->call = fd;
+	if (fd >= 0)
+		fcntl(fd, F_SETFL, O_NONBLOCK);
+}
+
+/* A worker is told of each kick, so none is read. */
+int queue_kick(struct queue *q, int fd)
+{
+	struct epoll_event event = { .events = EPOLLIN | EPOLLET,
+				     .data.u32 = (uint32_t)(q - vhost_queue) };
+
+	if (q->kick >= 0) {
+		epoll_ctl(events, EPOLL_CTL_DEL, q->kick, NULL);
+		close(q->kick);
+	}
+	q->kick = fd;
+	if (fd < 0)
+		return 0;
+	fcntl(fd, F_SETFL, O_NONBLOCK);
+	return epoll_ctl(events, EPOLL_CTL_ADD, fd, &event);
+}
+
+void queues_hold(void)
+{
+	pthread_rwlock_wrlock(&in_flight);
+}
+
+void queues_go(void)
+{
+	pthread_rwlock_unlock(&in_flight);
+}
+
+int queues_over(void)
+{
+	return over;
+}
+
+void queues_tell(void)
+{
+	unsigned long count;
+
+	for (int i = 0; i < OUTCOMES; i++) {
+		count = atomic_exchange(&outcomes[i], 0);
+		if (count)
+			fprintf(stderr, "%s: outcome %d: %lu requests\n", by->program, i, count);
+	}
+	count = atomic_exchange(&broken, 0);
+	if (count)
+		fprintf(stderr, "%s: no chain: %lu\n", by->program, count);
+}
+
+/* Makes what workers wait for: events. */
+static int make_events(void)
+{
+	struct epoll_event looks = { .events = EPOLLIN | EPOLLET, .data.u32 = LOOK };
+	struct epoll_event stops = { .events = EPOLLIN, .data.u32 = STOP };
+	pthread_rwlockattr_t writer_first;
+
+	pthread_rwlockattr_init(&writer_first);
+	pthread_rwlockattr_setkind_np(&writer_first, PTHREAD_RWLOCK_PREFER_WRITER_NONRECURSIVE_NP);
+	pthread_rwlock_init(&in_flight, &writer_first);
+	for (int i = 0; i < QUEUES; i++) {
+		pthread_mutex_init(&vhost_queue[i].lock, NULL);
+		vhost_queue[i].kick = vhost_queue[i].call = -1;
+	}
+	events = epoll_create1(EPOLL_CLOEXEC);
+	look = eventfd(0, EFD_CLOEXEC | EFD_NONBLOCK);
+	stop = eventfd(0, EFD_CLOEXEC | EFD_NONBLOCK);
+	over = eventfd(0, EFD_CLOEXEC | EFD_NONBLOCK);
+	if (events < 0 || look < 0 || stop < 0 || over < 0 ||
+	    epoll_ctl(events, EPOLL_CTL_ADD, look, &looks) ||
+	    epoll_ctl(events, EPOLL_CTL_ADD, stop, &stops))
+		return failed("eventfd");
+	return 0;
+}
+
+int queues_begin(const transport *with)
+{
+	by = with;
+	if (make_events())
+		return -1;
+	for (started = 0; started < by->workers && started < TRANSPORT_MOST_WORKERS; started++) {
+		struct worker *w = calloc(1, sizeof(*w));
+
+		errno = ENOMEM;
+		if (w)
+			w->number = started;
+		if (!w || (errno = pthread_create(&w->thread, NULL, run, w))) {
+			free(w);
+			return failed("a worker");
+		}
+		workers[started] = w;
+	}
+	return 0;
+}
+
+/* Waits for the end of a worker. Where its request takes long, a further signal ends all. */
+static void end_worker(const struct worker *w, const sigset_t *ending)
+{
+	struct timespec most;
+
+	clock_gettime(CLOCK_REALTIME, &most);
+	most.tv_sec += 2;
+	if (pthread_timedjoin_np(w->thread, NULL, &most)) {
+		pthread_sigmask(SIG_UNBLOCK, ending, NULL);
+		pthread_join(w->thread, NULL);
+	}
+}
+
+void queues_end(const sigset_t *ending)
+{
+	tell(stop);
+	for (unsigned i = 0; i < started; i++) {
+		end_worker(workers[i], ending);
+		free(workers[i]);
+	}
+	started = 0;
+	close(events);
+	close(look);
+	close(stop);
+	close(over);
+}
