@@ -142,7 +142,7 @@ try_signals
 # Asks a server over vhost-user: what it is, its words.
 ask() {
     python3 -B - "$here/tools/beside" "$here/out/c/ask" "$work" "$@" << 'PYTHON' || wrong "$1 over vhost-user"
-import os, signal, socket, stat, struct, subprocess, sys, time
+import os, random, socket, stat, struct, subprocess, sys, time
 
 beside, ask, work, what, *daemon = sys.argv[1:]
 sys.path.insert(0, beside)
@@ -160,6 +160,7 @@ os.symlink("/etc/passwd", folder + "/link")
 os.mkdir(folder + "/directory")
 for i in range(50):
     open(f"{folder}/file{i}", "w").close()
+    open(f"{folder}/some{i}", "w").close()
 # One was left behind, on which nobody listens.
 left = socket.socket(socket.AF_UNIX)
 left.bind(path)
@@ -284,6 +285,32 @@ with open(work + "/log", "w+") as log:
         faults.append("a WRITE that was refused wrote")
     one.hold("READDIR of a file", line("16+400", transfer(28, 400, b"", 0, node, handle)), ENOTDIR)
 
+    # Requests by chance, always the same: of things that are there and that aren't, cut and made longer.
+    chance = random.Random(7)
+    link, pipe, null = look_up(b"link"), look_up(b"pipe"), look_up(b"null")
+    opened = [struct.unpack_from("<Q", one.body(line("16+16", request(opcode, bytes(8), node=node))))[0]
+              for opcode, node in ((14, look_up(b"file1")), (27, 1))]
+    numbers = [0, 1, 2, 3, 7, 4096, 65536, 2**62 + 1, 2**63 - 1, 2**63, 2**64 - 1, *opened]
+    nodes = [1, 1, node, link, pipe, null, look_up(b"directory"), look_up(b"file0"), 12345, 2**32 + 1]
+    texts = [b"file0\0", b"new\0", b"directory\0", b"..\0", b"a/b\0", b"link\0", b"pipe\0", b"user.a\0", b"\0", b"x" * 300 + b"\0",
+             b"none", b"\xff\0"]
+    opcodes = [opcode for opcode in requests.NAMES if opcode not in (26, 38)]
+    for i in range(5000):
+        body = b"".join(struct.pack("<Q", chance.choice(numbers)) for _ in range(chance.choice((0, 1, 2, 3, 5, 7, 11))))
+        body += b"".join(chance.choice(texts) for _ in range(chance.choice((0, 1, 1, 2))))
+        if chance.random() < 0.2:
+            body = body[:chance.randrange(len(body) + 1)]
+        asked = request(chance.choice(opcodes), body, node=chance.choice(nodes))
+        if chance.random() < 0.1:
+            asked = struct.pack("<I", chance.choice((0, 39, 40, len(asked) + 1, 2**32 - 1))) + asked[4:]
+        cuts = sorted(chance.randrange(1, len(asked)) for _ in range(chance.randrange(4)))
+        room = chance.choice(("16+144", "16+4096", "160", "0", "15", "10+10+200", "16"))
+        answer = one.ask(line(room, asked, tuple(dict.fromkeys(cuts))))
+        if not answer.split()[0].isdigit():
+            faults.append(f"request {i} by chance, {asked.hex()}: {answer}")
+            break
+        count += 1
+
     # All is given back by a DESTROY, and by an INIT.
     def descriptors():
         return len(os.listdir(f"/proc/{process.pid}/fd"))
@@ -293,8 +320,8 @@ with open(work + "/log", "w+") as log:
         one.ask(init)
         before = descriptors()
         for i in range(50):
-            look_up(b"file%d" % i)
-        nodes = [look_up(b"file%d" % i) for i in range(50)]
+            look_up(b"some%d" % i)
+        nodes = [look_up(b"some%d" % i) for i in range(50)]
         for i in range(10):
             one.hold("OPEN", line("16+16", request(14, bytes(8), node=nodes[i])), 0)
             one.hold("OPENDIR", line("16+16", request(27, bytes(8))), 0)
@@ -344,7 +371,7 @@ with open(work + "/log", "w+") as log:
             faults.append("a sanitizer found something")
     if faults:
         end("\n".join(faults))
-    print(f"{what}: {count} hostile requests, and those that are made up, were answered as they should be.")
+    print(f"{what}: {count} hostile requests, and those of numbers that are made up, came to what they must.")
 PYTHON
 }
 

@@ -108,10 +108,11 @@ static int one_of(const char *key, const char *value, const char *const *known)
 	for (int i = 0; known[i]; i++)
 		if (!strcmp(value, known[i]))
 			return i;
-	fprintf(stderr, "nizwarf-share: %s is one of:", key);
+	fprintf(stderr, "nizwarf-share: %s is one of", key);
 	for (int i = 0; known[i]; i++)
-		fprintf(stderr, " %s", known[i]);
-	refuse("\nnizwarf-share: it is not ", value);
+		fprintf(stderr, "%s %s", i ? "," : "", known[i]);
+	fputs(".\n", stderr);
+	refuse("it is not ", value);
 }
 
 /* Takes one option of a mount: a word, or KEY=VALUE. */
@@ -282,6 +283,8 @@ static void take_words(int count, char **given)
 		refuse("--socket-group is of --socket-path", "");
 	if (is_mount && words.sandbox > SANDBOX_NONE)
 		refuse("a mount has no sandbox, or it could not be unmounted", "");
+	if (is_mount && geteuid() != 0)
+		refuse("only root may mount: run it as root", "");
 	if (words.sandbox > SANDBOX_NONE && geteuid() != 0)
 		refuse("root alone can make a sandbox", "");
 	if (words.filter > FILTER_NONE && !has_filter)
@@ -391,8 +394,14 @@ static int listen_on_socket(const transport *by)
 	mode_t before;
 	int listener;
 
-	if (words.fd >= 0)
+	if (words.fd >= 0) {
+		int listens = 0;
+		socklen_t len = sizeof(listens);
+
+		if (getsockopt(words.fd, SOL_SOCKET, SO_ACCEPTCONN, &listens, &len) || !listens)
+			refuse("--fd is not that of a socket that listens", "");
 		return words.fd;
+	}
 	if (words.socket_group && !group)
 		refuse("there is no group ", words.socket_group);
 	before = umask(group ? 0177 : 022);

@@ -45,7 +45,7 @@ static _Noreturn void stand_by(pid_t child, const sigset_t *awaited, const char 
 
 int sandbox_fork(enum sandbox sandbox, const char *socket_path)
 {
-	sigset_t awaited, before;
+	sigset_t awaited, child_ended;
 	pid_t child;
 
 	if (sandbox == SANDBOX_NONE)
@@ -58,13 +58,17 @@ int sandbox_fork(enum sandbox sandbox, const char *socket_path)
 	sigaddset(&awaited, SIGTERM);
 	sigaddset(&awaited, SIGHUP);
 	sigaddset(&awaited, SIGCHLD);
-	sigprocmask(SIG_BLOCK, &awaited, &before);
+	sigemptyset(&child_ended);
+	sigaddset(&child_ended, SIGCHLD);
+	sigprocmask(SIG_BLOCK, &awaited, NULL);
 	child = fork();
 	if (child < 0)
 		return failed("fork");
 	if (child)
 		stand_by(child, &awaited, socket_path);
-	sigprocmask(SIG_SETMASK, &before, NULL);
+	/* The others stay blocked: as the first process of its namespace it would lose one that comes
+	 * before it waits for them. */
+	sigprocmask(SIG_UNBLOCK, &child_ended, NULL);
 	/* (it must not outlive what stands by) */
 	prctl(PR_SET_PDEATHSIG, SIGTERM);
 	return 0;
