@@ -156,7 +156,7 @@ static int add_name(char *line, size_t room, const char *name)
 	char shown[81];
 	size_t i;
 
-	for (i = 0; name[i] && i < sizeof(shown) - 1; i++)
+	for (i = 0; i < sizeof(shown) - 1 && name[i]; i++)
 		shown[i] = (char)(name[i] < ' ' || name[i] > '~' || name[i] == '"' ? '?' : name[i]);
 	shown[i] = 0;
 	return snprintf(line, room, " \"%s\"%s", shown, name[i] ? ".." : "");

@@ -50,10 +50,12 @@ bool is_plain(const char *name)
 	return *name && strcmp(name, ".") != 0 && strcmp(name, "..") != 0 && !strchr(name, '/');
 }
 
-const char *name_fd(struct fd_name *name, int fd)
+struct fd_name name_fd(int fd)
 {
-	snprintf(name->bytes, sizeof(name->bytes), "%d", fd);
-	return name->bytes;
+	struct fd_name name;
+
+	snprintf(name.bytes, sizeof(name.bytes), "%d", fd);
+	return name;
 }
 
 /* Opens a file or a directory, and nothing else. */
@@ -167,13 +169,11 @@ static int get_attr(const struct call *call)
 
 static int set_mode(const struct call *call)
 {
-	struct fd_name name;
-
 	if (call->file)
 		return failed(fchmod(call->file->counted.fd, call->asked->attr.mode & 07777));
 	/* (the name is one of /proc, which leads to the node itself) */
 	return call->node.node->type == S_IFLNK ? EOPNOTSUPP :
-	       failed(fchmodat(call->all->nodes.proc, name_fd(&name, call->node.fd),
+	       failed(fchmodat(call->all->nodes.proc, name_fd(call->node.fd).bytes,
 			       call->asked->attr.mode & 07777, 0));
 }
 
@@ -288,10 +288,9 @@ static int make_node(const struct call *call)
 static int link_node(const struct call *call)
 {
 	const char *name = name_of(call, call->asked->name);
-	struct fd_name old;
 
 	/* (that leads to the node itself, also where it is a symbolic link) */
-	if (linkat(call->all->nodes.proc, name_fd(&old, call->node.fd), call->other.fd, name,
+	if (linkat(call->all->nodes.proc, name_fd(call->node.fd).bytes, call->other.fd, name,
 		   AT_SYMLINK_FOLLOW))
 		return errno;
 	return look_up(call, call->other.fd, name, &call->answer->entry);

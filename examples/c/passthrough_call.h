@@ -65,7 +65,7 @@ bool grow(void *buffer, size_t *size, size_t wanted);
 const char *name_of(const struct call *call, nizwarf_range range);
 /* Whether a name is that of something in a directory. */
 bool is_plain(const char *name);
-const char *name_fd(struct fd_name *name, int fd);
+struct fd_name name_fd(int fd);
 /* The entry of a name in a directory: 0, or an error. */
 int look_up(const struct call *call, int directory, const char *name, nizwarf_entry *entry);
 

@@ -124,11 +124,10 @@ int set_xattr(const struct call *call)
 {
 	const nizwarf_call *asked = call->asked;
 	const char *name = name_of(call, asked->name);
-	struct fd_name file;
 	int error = refused(call, name);
 
 	/* (the path leads to the node itself: the process is in /proc/self/fd) */
-	if (!error && setxattr(name_fd(&file, call->node.fd), name, call->request + asked->data.at,
+	if (!error && setxattr(name_fd(call->node.fd).bytes, name, call->request + asked->data.at,
 			       asked->data.len, (int)asked->flags))
 		error = errno;
 	return error;
@@ -137,10 +136,9 @@ int set_xattr(const struct call *call)
 int remove_xattr(const struct call *call)
 {
 	const char *name = name_of(call, call->asked->name);
-	struct fd_name file;
 	int error = refused(call, name);
 
-	if (!error && removexattr(name_fd(&file, call->node.fd), name))
+	if (!error && removexattr(name_fd(call->node.fd).bytes, name))
 		error = errno;
 	return error;
 }
@@ -164,23 +162,21 @@ static int tell_text(const struct call *call, ssize_t got)
 int get_xattr(const struct call *call)
 {
 	const char *name = name_of(call, call->asked->name);
-	struct fd_name file;
 	const int error = refused(call, name);
 
-	return error ? error : tell_text(call, getxattr(name_fd(&file, call->node.fd), name,
+	return error ? error : tell_text(call, getxattr(name_fd(call->node.fd).bytes, name,
 							call->worker->text, LONGEST_VALUE));
 }
 
 int list_xattr(const struct call *call)
 {
 	char *text = call->worker->text;
-	struct fd_name file;
 	int error = refused(call, NULL);
 	ssize_t got, from, to = 0;
 
 	if (error)
 		return error;
-	got = listxattr(name_fd(&file, call->node.fd), text, LONGEST_VALUE);
+	got = listxattr(name_fd(call->node.fd).bytes, text, LONGEST_VALUE);
 	if (got < 0)
 		return errno;
 	text[got] = 0;

@@ -195,7 +195,7 @@ static _Noreturn void print(int word)
 	if (word == PRINT)
 		puts("{\n  \"type\": \"fs\",\n  \"features\": [\n    \"separate-options\"\n  ]\n}");
 	else if (word == VERSION)
-		printf("nizwarf-share %u.%u, FUSE 7.38%s\n", NIZWARF_VERSION >> 8, NIZWARF_VERSION & 0xff,
+		printf("nizwarf-share %d.%d, FUSE 7.38%s\n", NIZWARF_VERSION >> 8, NIZWARF_VERSION & 0xff,
 		       has_filter ? ", with libseccomp" : ", without libseccomp");
 	else
 		fputs(usage, stdout);
@@ -360,11 +360,11 @@ static int go_to_background(void)
 	return ends[1];
 }
 
-/* Tells whoever waits that it serves. */
-static void tell_ready(int manager, int parent)
+/* Tells whoever waits that it serves. `nothing` is /dev/null if it goes to the background, or is
+ * to be quiet. */
+static void tell_ready(int manager, int parent, int nothing)
 {
 	static const char ready[] = "READY=1\n";
-	const int nothing = parent < 0 && !words.is_off ? -1 : open("/dev/null", O_RDWR | O_CLOEXEC);
 
 	if (words.says_more)
 		fprintf(stderr, "nizwarf-share: %s is served %s %s\n", words.folder,
@@ -437,7 +437,7 @@ static int mount_folder(const transport *by)
 }
 
 /* Serves in the sandbox, from its entering on. */
-static int serve(transport *by, int listener, int manager, int parent)
+static int serve(transport *by, int listener, int manager, int parent, int nothing)
 {
 	struct passthrough *all;
 	int root, proc, device = -1, status = 1;
@@ -452,7 +452,7 @@ static int serve(transport *by, int listener, int manager, int parent)
 	if (words.mount_point)
 		device = mount_folder(by);
 	if (!words.mount_point || device >= 0) {
-		tell_ready(manager, parent);
+		tell_ready(manager, parent, nothing);
 		/* (to unmount takes more than the files do) */
 		if ((words.mount_point || !passthrough_limit()) &&
 		    !prctl(PR_SET_NO_NEW_PRIVS, 1, 0, 0, 0) &&
@@ -472,8 +472,8 @@ int main(int count, char **given)
 	transport by = { .program = "nizwarf-share", .writes_in_place = 1, .begin = passthrough_begin,
 			 .end = passthrough_finish, .parted = passthrough_parted,
 			 .serve = passthrough_serve };
-	int listener = -1, parent = -1, manager, status;
-	char folder[PATH_MAX], mount_point[PATH_MAX];
+	int listener = -1, parent = -1, nothing = -1, manager, status;
+	static char folder[PATH_MAX], mount_point[PATH_MAX];
 
 	take_words(count, given);
 	by.workers = words.files.workers;
@@ -493,13 +493,18 @@ int main(int count, char **given)
 	signal(SIGPIPE, SIG_IGN);
 	raise_limit();
 	manager = meet_manager();
+	/* (a sandbox has none) */
+	if ((words.daemonizes || words.is_off) &&
+	    (nothing = open("/dev/null", O_RDWR | O_CLOEXEC)) < 0)
+		return failed("/dev/null"), 1;
 	if (!words.mount_point)
 		listener = listen_on_socket(&by);
 	if (words.daemonizes && (parent = go_to_background()) < 0)
 		return 1;
-	if (sandbox_fork((enum sandbox)words.sandbox, words.socket_path))
+	if (sandbox_fork((enum sandbox)words.sandbox, words.socket_path,
+			 words.daemonizes))
 		return 1;
-	status = serve(&by, listener, manager, parent);
+	status = serve(&by, listener, manager, parent, nothing);
 	if (words.socket_path && words.sandbox == SANDBOX_NONE)
 		unlink(words.socket_path);
 	return status;

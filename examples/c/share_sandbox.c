@@ -24,10 +24,14 @@ static int failed(const char *what)
 }
 
 /* Waits for the child, and ends as it did. */
-static _Noreturn void stand_by(pid_t child, const sigset_t *awaited, const char *socket_path)
+static _Noreturn void stand_by(pid_t child, const sigset_t *awaited, const char *socket_path,
+			       bool in_background)
 {
+	const int nothing = in_background ? open("/dev/null", O_RDWR | O_CLOEXEC) : -1;
 	int signal, status;
 
+	for (int i = 0; nothing >= 0 && i < 3; i++)
+		dup2(nothing, i);
 	for (;;) {
 		if (sigwait(awaited, &signal))
 			continue;
@@ -43,7 +47,7 @@ static _Noreturn void stand_by(pid_t child, const sigset_t *awaited, const char 
 	_exit(WIFEXITED(status) ? WEXITSTATUS(status) : 1);
 }
 
-int sandbox_fork(enum sandbox sandbox, const char *socket_path)
+int sandbox_fork(enum sandbox sandbox, const char *socket_path, bool in_background)
 {
 	sigset_t awaited, child_ended;
 	pid_t child;
@@ -65,7 +69,7 @@ int sandbox_fork(enum sandbox sandbox, const char *socket_path)
 	if (child < 0)
 		return failed("fork");
 	if (child)
-		stand_by(child, &awaited, socket_path);
+		stand_by(child, &awaited, socket_path, in_background);
 	/* The others stay blocked: as the first process of its namespace it would lose one that comes
 	 * before it waits for them. */
 	sigprocmask(SIG_UNBLOCK, &child_ended, NULL);

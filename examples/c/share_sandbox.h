@@ -21,8 +21,8 @@ extern const bool has_filter;
 
 /* Forks, where a sandbox is wanted, and goes on in the child alone. The parent passes signals on,
  * waits for the child, removes the socket of this path if that isn't NULL, and ends as the child
- * did. -1: it failed, and said why. */
-int sandbox_fork(enum sandbox sandbox, const char *socket_path);
+ * did. In the background it has no input and no output. -1: it failed, and said why. */
+int sandbox_fork(enum sandbox sandbox, const char *socket_path, bool in_background);
 
 /* Gives descriptors of the folder and of /proc/self/fd, in the sandbox from then on. -1: it failed,
  * and said why. */
