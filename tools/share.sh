@@ -61,7 +61,7 @@ cc -std=c11 -O2 -Wall -Wextra -Werror -o "$here/out/c/ask" "$here/tools/beside/a
 # In memory where that is a file system: one on a disk may say of a directory that it has one name.
 work=$(mktemp -d -p "$(if [ -d /dev/shm ]; then echo /dev/shm; else echo /tmp; fi)")
 server=
-trap '{ [ -z "$server" ] || kill "$server"; umount -l "$work/mount"; rm -rf "$work"; } 2> /dev/null || true' EXIT
+trap '{ [ -z "$server" ] || kill "$server"; umount -l "$work/mount"; umount -l "$work/shared/mounted"; rm -rf "$work"; } 2> /dev/null || true' EXIT
 chmod 755 "$work"
 status=0
 
@@ -152,6 +152,7 @@ from requests import line, request, transfer
 ENOENT, ENXIO, EBADF, ENOTDIR, EINVAL, EFBIG, ELOOP, ESTALE = 2, 6, 9, 20, 22, 27, 40, 116
 ENOSYS = "16 10000000daffffff0700000000000000"
 folder, path = work + "/shared", work + "/socket"
+subprocess.run(["umount", "-q", folder + "/mounted"], stderr=subprocess.DEVNULL)
 subprocess.run(["rm", "-rf", folder, path])
 os.mkdir(folder)
 os.mkfifo(folder + "/pipe")
@@ -161,6 +162,8 @@ os.mkdir(folder + "/directory")
 for i in range(50):
     open(f"{folder}/file{i}", "w").close()
     open(f"{folder}/some{i}", "w").close()
+os.mkdir(folder + "/mounted")
+subprocess.run(["mount", "-t", "tmpfs", "none", folder + "/mounted"], check=True)
 # One was left behind, on which nobody listens.
 left = socket.socket(socket.AF_UNIX)
 left.bind(path)
@@ -220,9 +223,16 @@ with open(work + "/log", "w+") as log:
         if answers[-1] != ENOSYS:
             faults.append(f"{items[-2][0]}: the server did not go on: {answers}")
 
+    def descriptors():
+        """How many the server has, which is the only child of what stands by its sandbox."""
+        with open(f"/proc/{process.pid}/task/{process.pid}/children") as children:
+            server = children.read().split() or [process.pid]
+        return len(os.listdir(f"/proc/{server[0]}/fd"))
+
     one = Asking()
     init = requests.FIRST[1]
     one.ask(init)
+    at_first = descriptors()
 
     def look_up(name, node=1):
         return struct.unpack_from("<Q", one.body(line("16+128", request(1, name + b"\0", node=node))))[0]
@@ -247,6 +257,11 @@ with open(work + "/log", "w+") as log:
                      line("16+8", request(opcode, struct.pack("<Q", handle) + bytes(size - 8))), EBADF)
         body = struct.pack("<QQQQQQQ", handle, 0, 1, handle, 0, 1, 0)
         one.hold(f"COPY_FILE_RANGE of handle {handle}", line("16+8", request(47, body)), EBADF)
+    # Where another file system is mounted is announced, and only there.
+    for name, flags in ((b"mounted", 1), (b"directory", 0)):
+        told = struct.unpack_from("<I", one.body(line("16+128", request(1, name + b"\0"))), 124)[0]
+        if told != flags:
+            faults.append(f"{name} is told with the flags {told}")
     # Names that are none of something in a directory, and directories that are none.
     for name in (b".", b"..", b"/", b"a/b", b"../x", b"directory/.."):
         for opcode, before in ((1, b""), (6, b""), (8, bytes(16)), (9, bytes(8)), (10, b""), (11, b""),
@@ -312,9 +327,6 @@ with open(work + "/log", "w+") as log:
         count += 1
 
     # All is given back by a DESTROY, and by an INIT.
-    def descriptors():
-        return len(os.listdir(f"/proc/{process.pid}/fd"))
-
     for how in ("DESTROY", "INIT"):
         one.ask(line("0", request(38)))
         one.ask(init)
@@ -330,9 +342,8 @@ with open(work + "/log", "w+") as log:
             one.ask(line("0", request(38)))
         one.ask(init)
         after = descriptors()
-        in_sandbox = "--sandbox=none" not in daemon
-        if after != before or (between < before + 20 and not in_sandbox):
-            faults.append(f"descriptors around {how}: {before}, {between}, {after}")
+        if before != at_first or after != at_first or between < at_first + 70:
+            faults.append(f"descriptors around {how}: {at_first}, {before}, {between}, {after}")
         one.hold("a node of before it", line("16+104", request(3, bytes(16), node=nodes[0])), ESTALE)
     one.end()
 
@@ -375,15 +386,15 @@ with open(work + "/log", "w+") as log:
 PYTHON
 }
 
-ask "over vhost-user, in its sandbox" "$share" --xattr
-ask "without a sandbox, one worker" "$share" --xattr --sandbox=none --seccomp=none --thread-pool-size=1
+ask "over vhost-user, in its sandbox" "$share" --xattr --announce-submounts
+ask "without a sandbox, one worker" "$share" --xattr --announce-submounts --sandbox=none --seccomp=none --thread-pool-size=1
 for sanitizer in address,undefined thread; do
     flags=(-g -O1 "-fsanitize=$sanitizer" -fno-sanitize-recover=all)
     if echo 'int main(void) { return 0; }' | cc -x c "${flags[@]}" -o "$work/program" - 2> /dev/null; then
         build_transport share vfs_door "${flags[@]}"
         plain=$share
         share=$transport
-        ask "under the sanitizers $sanitizer" "$share" --xattr --sandbox=none --seccomp=none
+        ask "under the sanitizers $sanitizer" "$share" --xattr --announce-submounts --sandbox=none --seccomp=none
         try_mount --thread-pool-size=4 --xattr --log-level=error
         share=$plain
     fi
