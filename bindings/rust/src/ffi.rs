@@ -1,12 +1,15 @@
-//! The structs and functions of the C library, as its header declares them, and safe wrappers. All unsafe
+//! The structs and functions of libnizwarf, as its header declares them, and safe wrappers. All unsafe
 //! code of the crate is in this file.
 #![allow(unsafe_code)]
 
 use crate::file_system::{Attr, Entry, SetattrIn, Statvfs};
 use std::ffi::{c_void, CStr};
 use std::fmt;
+use std::fs::File;
 use std::io::{self, IoSlice};
 use std::marker::PhantomData;
+use std::os::raw::c_int;
+use std::os::unix::io::AsRawFd;
 use std::ptr;
 
 /// `nizwarf_slot`: a pointer to memory of the library, or null.
@@ -162,6 +165,26 @@ extern "C" {
         piece_len: usize,
     ) -> usize;
     fn nizwarf_end_slot_at(slot: *mut RawSlot) -> i32;
+}
+
+// A function of the C library that `std` does not have.
+extern "C" {
+    fn pwritev2(
+        file: c_int,
+        pieces: *const IoSlice<'_>,
+        count: c_int,
+        offset: i64,
+        flags: c_int,
+    ) -> isize;
+}
+
+/// Writes to a file at an offset, as `pwritev2(2)`, and returns how many bytes were written.
+pub(crate) fn write_at(file: &File, piece: &[u8], off: u64, flags: i32) -> io::Result<usize> {
+    // (-1 would be the present position of the file)
+    let offset = i64::try_from(off).map_err(|_| io::Error::from(io::ErrorKind::InvalidInput))?;
+    // SAFETY: the descriptor is open, and the piece is valid for this call.
+    let written = unsafe { pwritev2(file.as_raw_fd(), &IoSlice::new(piece), 1, offset, flags) };
+    usize::try_from(written).map_err(|_| io::Error::last_os_error())
 }
 
 /// A call that waits for its answer, and the session in which it was asked.

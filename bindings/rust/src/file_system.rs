@@ -1,7 +1,7 @@
 //! The trait of a file system, and its types.
 #![forbid(unsafe_code)]
 
-use crate::flags::{FsOptions, OpenOptions, SetattrValid, SetxattrFlags};
+use crate::flags::{FsOptions, OpenOptions, SetattrValid, SetxattrFlags, WritevFlags};
 use std::ffi::{CStr, CString};
 use std::fs::{File, Metadata};
 use std::io;
@@ -328,7 +328,7 @@ pub struct SecContext {
 ///
 /// /// `FileSystem::write` over a file.
 /// fn write<R: ZeroCopyReader>(file: &File, mut r: R, size: u32, offset: u64) -> io::Result<usize> {
-///     r.write_to_file_at(file, size as usize, offset)
+///     r.write_to_file_at(file, size as usize, offset, None)
 /// }
 /// ```
 pub trait ZeroCopyReader: io::Read {
@@ -337,12 +337,24 @@ pub trait ZeroCopyReader: io::Read {
     ///
     /// # Errors
     /// The error of the first write.
-    fn write_to_file_at(&mut self, f: &File, count: usize, off: u64) -> io::Result<usize>;
+    fn write_to_file_at(
+        &mut self,
+        f: &File,
+        count: usize,
+        off: u64,
+        flags: Option<WritevFlags>,
+    ) -> io::Result<usize>;
 }
 
 impl<R: ZeroCopyReader> ZeroCopyReader for &mut R {
-    fn write_to_file_at(&mut self, f: &File, count: usize, off: u64) -> io::Result<usize> {
-        (**self).write_to_file_at(f, count, off)
+    fn write_to_file_at(
+        &mut self,
+        f: &File,
+        count: usize,
+        off: u64,
+        flags: Option<WritevFlags>,
+    ) -> io::Result<usize> {
+        (**self).write_to_file_at(f, count, off, flags)
     }
 }
 

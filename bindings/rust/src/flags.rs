@@ -245,6 +245,22 @@ flags! {
     }
 }
 
+flags! {
+    /// Flags of a write, as `pwritev2(2)` has them.
+    WritevFlags: i32 {
+        /// High priority.
+        RWF_HIPRI = 0;
+        /// As if the file had been opened with `O_DSYNC`.
+        RWF_DSYNC = 1;
+        /// As if the file had been opened with `O_SYNC`.
+        RWF_SYNC = 2;
+        /// Do not wait.
+        RWF_NOWAIT = 3;
+        /// Append to the file, whatever the offset.
+        RWF_APPEND = 4;
+    }
+}
+
 #[cfg(test)]
 mod tests {
     use super::*;
@@ -257,6 +273,8 @@ mod tests {
         assert_eq!(OpenOptions::all().bits(), 0x7f);
         assert_eq!(SetattrValid::all().bits(), 0xdbf);
         assert_eq!(SetxattrFlags::all().bits(), 1);
+        // As in linux/fs.h.
+        assert_eq!(WritevFlags::RWF_APPEND.bits(), 0x10);
     }
 
     #[test]

@@ -79,7 +79,7 @@ pub use file_system::{
     ListxattrReply, NoEntries, SecContext, SetattrIn, Statvfs, ZeroCopyReader, ZeroCopyWriter,
     DT_DIR, DT_LNK, DT_REG, DT_UNKNOWN, ROOT_ID,
 };
-pub use flags::{FsOptions, OpenOptions, SetattrValid, SetxattrFlags};
+pub use flags::{FsOptions, OpenOptions, SetattrValid, SetxattrFlags, WritevFlags};
 pub use server::{Served, Server};
 
 // These can be sent to, and shared with, other threads.

@@ -2,7 +2,9 @@
 #![forbid(unsafe_code)]
 
 use crate::bytes::{Bytes, Pieces};
+use crate::ffi::write_at;
 use crate::file_system::{ZeroCopyReader, ZeroCopyWriter};
+use crate::flags::WritevFlags;
 use std::fs::File;
 use std::io::{self, IoSliceMut, Read, Write};
 use std::os::unix::fs::FileExt;
@@ -39,10 +41,22 @@ impl Read for Reader<'_> {
 }
 
 impl ZeroCopyReader for Reader<'_> {
-    fn write_to_file_at(&mut self, f: &File, count: usize, off: u64) -> io::Result<usize> {
+    fn write_to_file_at(
+        &mut self,
+        f: &File,
+        count: usize,
+        off: u64,
+        flags: Option<WritevFlags>,
+    ) -> io::Result<usize> {
         transfer(count, off, |left, at| {
             let piece = self.piece();
-            let moved = f.write_at(&piece[..piece.len().min(left)], at)?;
+            let moving = &piece[..piece.len().min(left)];
+            let moved = match flags {
+                None => f.write_at(moving, at)?,
+                // (at the end of the data there is nothing to write)
+                Some(_) if moving.is_empty() => 0,
+                Some(flags) => write_at(f, moving, at, flags.bits())?,
+            };
             self.piece = &piece[moved..];
             Ok(moved)
         })
@@ -201,6 +215,31 @@ mod tests {
 
         fn flush(&mut self) -> io::Result<()> {
             self.0.flush()
+        }
+    }
+
+    #[test]
+    fn data_are_written_with_flags() {
+        let path = std::env::temp_dir().join(format!("nizwarf-append-{}", std::process::id()));
+        let file = File::options().read(true).write(true).create_new(true).open(&path).unwrap();
+        std::fs::remove_file(&path).unwrap();
+        let slices = [IoSlice::new(b"da"), IoSlice::new(b"ta")];
+        let write = |count, off, flags| {
+            let mut reader = Reader::new(Bytes::new(&slices, 0, 4));
+            reader.write_to_file_at(&file, count, off, flags)
+        };
+        assert_eq!(write(9, 2, None).unwrap(), 4);
+        // Appended, whatever the offset.
+        assert_eq!(write(3, 0, Some(WritevFlags::RWF_APPEND)).unwrap(), 3);
+        assert_eq!(write(9, 0, Some(WritevFlags::RWF_DSYNC)).unwrap(), 4);
+        let mut room = [0; 20];
+        assert_eq!(file.read_at(&mut room, 0).unwrap(), 9);
+        assert_eq!(&room[..9], b"datatadat");
+        for off in [1 << 63, u64::MAX] {
+            for flags in [None, Some(WritevFlags::RWF_SYNC)] {
+                let fault = write(1, off, flags).unwrap_err();
+                assert_eq!(fault.kind(), io::ErrorKind::InvalidInput);
+            }
         }
     }
 

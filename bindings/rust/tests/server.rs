@@ -244,7 +244,7 @@ impl FileSystem for Diary {
         flags: u32,
     ) -> io::Result<usize> {
         if let Some(file) = &self.file {
-            return r.write_to_file_at(file, size as usize, offset);
+            return r.write_to_file_at(file, size as usize, offset, None);
         }
         let mut data = String::new();
         let len = r.read_to_string(&mut data)?;
