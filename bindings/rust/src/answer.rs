@@ -1,9 +1,10 @@
 //! Answers to calls.
 #![forbid(unsafe_code)]
 
+use crate::attr::{Attr, Statvfs};
 use crate::door::{Refusal, Reply};
 use crate::ffi::{Item, Pending, RawAnswer, RawEntry, Slot};
-use crate::file_system::{Attr, Entry, GetxattrReply, ListxattrReply, Statvfs};
+use crate::file_system::{Entry, GetxattrReply, ListxattrReply};
 use crate::flags::{FsOptions, OpenOptions};
 use std::fmt;
 use std::io;

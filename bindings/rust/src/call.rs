@@ -5,9 +5,10 @@ use crate::answer::{
     Attributes, Created, Data, Destroyed, Directory, Done, EntryOf, Fault, FaultOrSilence, Offset,
     Opened, Quiet, Statistics, Text, TextOrCount, To, Told, Want, Written,
 };
+use crate::attr::SetattrIn;
 use crate::bytes::{Bytes, Forgets};
 use crate::ffi::{Pending, Range, RawCall, Slot};
-use crate::file_system::{Context, Extensions, SecContext, SetattrIn};
+use crate::file_system::{Context, Extensions, SecContext};
 use crate::flags::{FsOptions, SetattrValid, SetxattrFlags};
 use std::borrow::Cow;
 use std::ffi::CStr;

@@ -2,7 +2,8 @@
 //! code of the crate is in this file.
 #![allow(unsafe_code)]
 
-use crate::file_system::{Attr, Entry, SetattrIn, Statvfs};
+use crate::attr::{Attr, SetattrIn, Statvfs};
+use crate::file_system::Entry;
 use std::ffi::{c_void, CStr};
 use std::fmt;
 use std::fs::File;

@@ -52,6 +52,7 @@
 compile_error!("nizwarf is for Linux on x86-64");
 
 mod answer;
+mod attr;
 mod bytes;
 mod call;
 mod door;
@@ -70,14 +71,15 @@ pub mod kinds {
 }
 
 pub use answer::{To, Told};
+pub use attr::{Attr, SetattrIn, Statvfs};
 pub use bytes::{Bytes, Forgets, Pieces};
 pub use call::{Call, PendingCall};
 pub use door::{Asked, Finished, Refusal, Reply, Session, WrongSize};
 pub use ffi::{Item, Slot};
 pub use file_system::{
-    Attr, Context, DirEntry, DirectoryIterator, Entry, Extensions, FileSystem, GetxattrReply,
-    ListxattrReply, NoEntries, SecContext, SetattrIn, Statvfs, ZeroCopyReader, ZeroCopyWriter,
-    DT_DIR, DT_LNK, DT_REG, DT_UNKNOWN, ROOT_ID,
+    Context, DirEntry, DirectoryIterator, Entry, Extensions, FileSystem, GetxattrReply,
+    ListxattrReply, NoEntries, SecContext, ZeroCopyReader, ZeroCopyWriter, DT_DIR, DT_LNK, DT_REG,
+    DT_UNKNOWN, ROOT_ID,
 };
 pub use flags::{FsOptions, OpenOptions, SetattrValid, SetxattrFlags, WritevFlags};
 pub use server::{Served, Server};
