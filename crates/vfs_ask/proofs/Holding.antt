@@ -25,6 +25,7 @@ use Rattle.vfs_grammar.specs.declared.error.Error.{Error}
 use Rattle.vfs_grammar.specs.declared.limits.Limits.{Limits}
 use Rattle.vfs_calls.specs.Shapes.{nothing, shape_of, unplaced}
 use Rattle.vfs_calls.specs.declared.call.CallData.{CallData}
+use Rattle.vfs_handlers.specs.Memory.{MayWantBehind}
 use Rattle.vfs_ask.specs.Asked.{IsTold, Stand, Tells}
 use Rattle.vfs_ask.specs.Contexts.{ContextAt, GivesTailOf, PlacesContext, StandsInBlocks, blocks_of, blocks_place, may_have_context, sum_or_most, tail_behind, with_context_at}
 use Rattle.vfs_ask.specs.Noting.{IsNoted, NotedAndTold}
@@ -90,31 +91,38 @@ of_four P symlink mknod mkdir create options opcode.TmpFile may = absurd (let a 
 
 -- ---- a tail that is refused
 
-module _ (q : List ℕ) (options room : ℕ) (writer : Written) (e : Error) where
+module _ (wanted : Type 0) (q : List ℕ) (options room : ℕ) (writer : Written) (e : Error) where
   abbrev Refused : Ask → Type 0
-  Refused a = Tells q options 0 room a writer (asked.Finished (Err e) 0) writer nothing
+  Refused a = Tells wanted q options 0 room a writer (asked.Finished (Err e) 0) writer nothing
 
-  refused_tail : (t : Result (List ℕ) Error) (next : List ℕ → Ask) → GivesTailOf (Err e) t → Refused (refused_or t (λ tail. WithMemory (next tail)))
-  refused_tail (Err f) next (inl is) = let same : e ≡ f = let a = is in cc in ((ap Err same, refl), refl, refl)
-  refused_tail (Err f) next (inr x) = absurd (let a = x.1 in cc)
-  refused_tail (Ok tail) next (inl is) = absurd (let a = is in cc)
-  refused_tail (Ok tail) next (inr x) = inr ((ap Err x.2, refl), refl, refl)
+  refused_tail : wanted → (t : Result (List ℕ) Error) (next : List ℕ → Ask) → GivesTailOf (Err e) t → Refused (refused_or t (λ tail. WithMemory (next tail)))
+  refused_tail may (Err f) next (inl is) = let same : e ≡ f = let a = is in cc in ((ap Err same, refl), refl, refl)
+  refused_tail may (Err f) next (inr x) = absurd (let a = x.1 in cc)
+  refused_tail may (Ok tail) next (inl is) = absurd (let a = is in cc)
+  refused_tail may (Ok tail) next (inr x) = inr (may, ((ap Err x.2, refl), refl, refl))
 
-  refused_record : {R : Type 0} (r : Result R Error) (tail_in : R → Result (List ℕ) Error) (next : R → List ℕ → Ask)
+  refused_record : {R : Type 0} → wanted → (r : Result R Error) (tail_in : R → Result (List ℕ) Error) (next : R → List ℕ → Ask)
       → GivesTailOf (Err e) (error_or r tail_in) → Refused (refused_or r (λ x. refused_or (tail_in x) (λ tail. WithMemory (next x tail))))
-  refused_record (Err f) tail_in next (inl is) = let same : e ≡ f = let a = is in cc in ((ap Err same, refl), refl, refl)
-  refused_record (Err f) tail_in next (inr x) = absurd (let a = x.1 in cc)
-  refused_record (Ok x) tail_in next g = refused_tail (tail_in x) (next x) g
+  refused_record may (Err f) tail_in next (inl is) = let same : e ≡ f = let a = is in cc in ((ap Err same, refl), refl, refl)
+  refused_record may (Err f) tail_in next (inr x) = absurd (let a = x.1 in cc)
+  refused_record may (Ok x) tail_in next g = refused_tail may (tail_in x) (next x) g
 
-  pub refused_with_tail : (limits : Limits) (space : ℕ) (h : InHeader) (rest : List ℕ) (o : Opcode) → may_have_context options o ≡ true
+  pub refused_with_tail : wanted → (limits : Limits) (space : ℕ) (h : InHeader) (rest : List ℕ) (o : Opcode) → may_have_context options o ≡ true
       → GivesTailOf (Err e) (tail_behind o h rest) → Refused (ask_opcode limits options space o h rest)
-  refused_with_tail limits space h rest o may =
+  refused_with_tail wants limits space h rest o may =
       of_four (λ o. GivesTailOf (Err e) (tail_behind o h rest) → Refused (ask_opcode limits options space o h rest))
-      (λ g. refused_tail (tail_of h 0 rest) _ g)
-      (λ g. refused_record (record_of mknod_in rest) _ _ g)
-      (λ g. refused_record (record_of mkdir_in rest) _ _ g)
-      (λ g. refused_record (record_of create_in rest) _ _ g)
+      (λ g. refused_tail wants (tail_of h 0 rest) _ g)
+      (λ g. refused_record wants (record_of mknod_in rest) _ _ g)
+      (λ g. refused_record wants (record_of mkdir_in rest) _ _ g)
+      (λ g. refused_record wants (record_of create_in rest) _ _ g)
       options o may
+
+-- for a request that may have a context memory may always be wanted
+pub context_wants_memory : (limits : Limits) (options space : ℕ) (h : InHeader) (pieces : List ℕ) (o : Opcode) → may_have_context options o ≡ true
+    → MayWantBehind limits options space (Some o) h pieces
+context_wants_memory limits options space h pieces o may =
+    of_four (λ o. may_have_context options o ≡ true → MayWantBehind limits options space (Some o) h pieces)
+    (λ is. inr is) (λ is. inr is) (λ is. inr is) (λ is. inr is) options o may may
 
 some_length : (n : ℕ) → 0 < n → (n == 0) ≡ false
 some_length n some = grind (arith, nat_tests, some)
@@ -270,12 +278,12 @@ module _ (q : List ℕ) (h : InHeader) (head : size_of in_header ≤ length q) (
       create_held r name ext.context ext.group tail t.0 (t.1 ∙ ap (take t.0) (drop-drop 16 40 q)) s (rw same at within) (rw same at says)))
       options o may
 
-  module _ (writer : Written) (outcome : Result ℕ Error) (writer_after : Written) (o : Opcode) (tail : List ℕ) (noted old new : CallData) (placed : PlacesContext o tail old new) where
+  module _ (wanted : Type 0) (writer : Written) (outcome : Result ℕ Error) (writer_after : Written) (o : Opcode) (tail : List ℕ) (noted old new : CallData) (placed : PlacesContext o tail old new) where
     abbrev Is : Ask → Type 0
     Is a = OfCall (CallHas o tail) None_listed a
 
-    held_where_noted : (a : Ask) → Is a → (noted.call ≡ 0 → ⊥) → old ≡ with_parts_told o noted → IsNoted a writer outcome writer_after noted
-        → Tells q options 0 space a writer asked.Call writer_after new
+    held_where_noted : (a : Ask) → Is a → (noted.call ≡ 0 → ⊥) → old ≡ with_parts_told o noted → IsNoted wanted a writer outcome writer_after noted
+        → Tells wanted q options 0 space a writer asked.Call writer_after new
     held_where_noted (Ends reply) is some e n = absurd (some (ap (λ (d : CallData). d.call) n.0))
     held_where_noted (Asks echo c) is some e n =
         let same : old ≡ with_parts_told o (shape_of c) = e ∙ ap (with_parts_told o) n in
@@ -284,17 +292,17 @@ module _ (q : List ℕ) (h : InHeader) (head : size_of in_header ≤ length q) (
         (refl, subst (λ (d : CallData). IsTold q options space echo c d) (sym new_is) (is placed.place stands))
     held_where_noted (Lists echo l) is some e n = absurd is
     held_where_noted (WithMemory next) is some e (inl n) = inl (held_where_noted next is some e n)
-    held_where_noted (WithMemory next) is some e (inr n) = absurd (some (ap (λ (d : CallData). d.call) n.0))
+    held_where_noted (WithMemory next) is some e (inr n) = absurd (some (ap (λ (d : CallData). d.call) n.1))
 
-pub tells_held : (q : List ℕ) (h : InHeader) (head : size_of in_header ≤ length q) (limits : Limits) (options space len : ℕ) (long : length q ≡ len) (small : len < 2 ^ 64)
+pub tells_held : (wanted : Type 0) (q : List ℕ) (h : InHeader) (head : size_of in_header ≤ length q) (limits : Limits) (options space len : ℕ) (long : length q ≡ len) (small : len < 2 ^ 64)
     (writer writer_after : Written) (o : Opcode) (tail : List ℕ) (a : Ask) (result : Asked) (old new : CallData)
     → OfCall (CallHas q h head limits options space len long small o tail) (λ echo l. ⊥) a
-    → NotedAndTold a (told_with h.unique options space len o) writer result writer_after old
-    → PlacesContext o tail old new → Tells q options 0 space a writer result writer_after new
-tells_held q h head limits options space len long small writer writer_after o tail a result old new is n p = elim n.told_so [
+    → NotedAndTold wanted a (told_with h.unique options space len o) writer result writer_after old
+    → PlacesContext o tail old new → Tells wanted q options 0 space a writer result writer_after new
+tells_held wanted q h head limits options space len long small writer writer_after o tail a result old new is n p = elim n.told_so [
   | inl x ↦ (
-      let none : n.noted ≡ nothing = none_is_nothing writer n.outcome writer_after n.noted a x.0 n.is_noted in
+      let none : n.noted ≡ nothing = none_is_nothing wanted writer n.outcome writer_after n.noted a x.0 n.is_noted in
       let new_is : new ≡ n.noted = p.new_is ∙ ap (λ (d : CallData). with_context_at (sum_or_most (blocks_place o d) p.place) d) (x.2 ∙ none) ∙ sym none in
-      rw (x.1, new_is) (finished_where_none q options space writer n.outcome writer_after n.noted a x.0 n.is_noted))
-  | inr x ↦ rw (x.1) (held_where_noted q h head limits options space len long small writer n.outcome writer_after o tail n.noted old new p a is x.0 x.2 n.is_noted)
+      rw (x.1, new_is) (finished_where_none wanted q options space writer n.outcome writer_after n.noted a x.0 n.is_noted))
+  | inr x ↦ rw (x.1) (held_where_noted q h head limits options space len long small wanted writer n.outcome writer_after o tail n.noted old new p a is x.0 x.2 n.is_noted)
 ]

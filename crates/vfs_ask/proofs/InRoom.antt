@@ -1,5 +1,5 @@
 -- What is noted of a request doesn't hang on the room, but for a directory that is to be read.
-use Rattle.std.proofs.Common.{◌≡◌, ◌≢◌, ◌⊎◌, ◌<◌, ◌≤◌, ◌-◌, ℕ, Bool, true, false, List, nat_lt, if◌then◌else◌, Option, Some, Result, Ok, Err, refl, inl, inr, arith}
+use Rattle.std.proofs.Common.{◌≡◌, ◌≢◌, ◌-◌, ℕ, Bool, true, false, List, nat_lt, if◌then◌else◌, Some, Result, Ok, Err, refl, inl, inr, arith}
 use Rattle.std.proofs.lemmas.Bool.Decides.{nat_tests}
 use Rattle.vfs_flags.specs.declared.constants.TheConstants.{READ_LOCKOWNER}
 use Rattle.vfs_flags.specs.declared.opcode.Opcode.{Opcode}
@@ -13,13 +13,14 @@ use Rattle.vfs_files.specs.Calls as call
 use Rattle.vfs_files.specs.Calls.{Call}
 use Rattle.vfs_files.specs.Entries.{context_of}
 use Rattle.vfs_grammar.specs.Ask.{ask_opcode, if_set}
-use Rattle.vfs_grammar.specs.Forms.{Ask, Asks, refused_or}
+use Rattle.vfs_grammar.specs.Forms.{Asks, refused_or}
 use Rattle.vfs_grammar.specs.Records.{record_of, size_of}
 use Rattle.vfs_grammar.specs.Reply.{echo_of}
 use Rattle.vfs_grammar.specs.declared.limits.Limits.{Limits}
 use Rattle.vfs_grammar.specs.declared.error.Error.{Error}
 use Rattle.vfs_grammar.specs.declared.error.Error.TheVariants.{EncodeMessage}
 use Rattle.vfs_calls.specs.declared.call.CallData.{CallData}
+use Rattle.vfs_handlers.specs.Memory.{MayWantBehind}
 use Rattle.vfs_ask.specs.Asked.{IsEnough}
 use Rattle.vfs_ask.specs.Noting.{IsNoted}
 
@@ -31,24 +32,24 @@ header_fits left room (inr enough) =
     let large : nat_lt room 16 ≡ false = grind (arith, nat_tests, enough.0, enough.1) in
     rw (small, large) refl
 
-module _ (limits : Limits) (options left room : ℕ) (enough : IsEnough left room) (h : InHeader) (rest : List ℕ)
+module _ (limits : Limits) (options left room : ℕ) (enough : IsEnough left room) (h : InHeader) (rest pieces : List ℕ)
     (writer : Written) (outcome : Result ℕ Error) (writer_after : Written) (noted : CallData) where
   abbrev Noted : (space : ℕ) → Opcode → Type 0
-  Noted space o = IsNoted (ask_opcode limits options space o h rest) writer outcome writer_after noted
+  Noted space o = IsNoted (MayWantBehind limits options space (Some o) h pieces) (ask_opcode limits options space o h rest) writer outcome writer_after noted
 
   abbrev read_of : ReadIn → (space : ℕ) → Call
   read_of r space =
       call.Read (context_of h) h.nodeid r.fh space r.size r.offset (if_set r.read_flags READ_LOCKOWNER r.lock_owner) r.flags
 
   read_behind : (short : Bool) (r : ReadIn)
-      → IsNoted (refused_or (if short then Err EncodeMessage else Ok (left - size_of out_header)) (λ n. Asks (echo_of h) (read_of r n))) writer outcome writer_after noted
-      → IsNoted (refused_or (if short then Err EncodeMessage else Ok (room - size_of out_header)) (λ n. Asks (echo_of h) (read_of r n))) writer outcome writer_after noted
+      → IsNoted ⊥ (refused_or (if short then Err EncodeMessage else Ok (left - size_of out_header)) (λ n. Asks (echo_of h) (read_of r n))) writer outcome writer_after noted
+      → IsNoted ⊥ (refused_or (if short then Err EncodeMessage else Ok (room - size_of out_header)) (λ n. Asks (echo_of h) (read_of r n))) writer outcome writer_after noted
   read_behind true r n = n
   read_behind false r n = n
 
   read_noted : (read : Result ReadIn Error)
-      → IsNoted (refused_or read (λ r. refused_or (if nat_lt left (size_of out_header) then Err EncodeMessage else Ok (left - size_of out_header)) (λ n. Asks (echo_of h) (read_of r n)))) writer outcome writer_after noted
-      → IsNoted (refused_or read (λ r. refused_or (if nat_lt room (size_of out_header) then Err EncodeMessage else Ok (room - size_of out_header)) (λ n. Asks (echo_of h) (read_of r n)))) writer outcome writer_after noted
+      → IsNoted ⊥ (refused_or read (λ r. refused_or (if nat_lt left (size_of out_header) then Err EncodeMessage else Ok (left - size_of out_header)) (λ n. Asks (echo_of h) (read_of r n)))) writer outcome writer_after noted
+      → IsNoted ⊥ (refused_or read (λ r. refused_or (if nat_lt room (size_of out_header) then Err EncodeMessage else Ok (room - size_of out_header)) (λ n. Asks (echo_of h) (read_of r n)))) writer outcome writer_after noted
   read_noted (Err e) n = n
   read_noted (Ok r) n = rw (header_fits left room enough) (read_behind (nat_lt left (size_of out_header)) r n)
 

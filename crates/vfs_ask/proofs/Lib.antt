@@ -5,4 +5,5 @@ pub mod Noting
 pub mod Placing
 pub mod Telling
 pub mod InRoom
+pub mod Memory
 pub mod Short

@@ -104,8 +104,8 @@ listed l records answer old new run start r (inl u) = one_call _ u.fault old new
 listed l records answer old new run start r (inr o) = absurd (none_opened _ o.takings old new run r o.events_are)
 
 -- what is noted, and that the record is the caller's still
-pub record Noted (a : Ask) (old new : Asking) (writer : Written) (outcome : Result ℕ Error) (writer_after : Written) : Type 0 where
-  pub is_noted : IsNoted a writer outcome writer_after new.call.now
+pub record Noted (wanted : Type 0) (a : Ask) (old new : Asking) (writer : Written) (outcome : Result ℕ Error) (writer_after : Written) : Type 0 where
+  pub is_noted : IsNoted wanted a writer outcome writer_after new.call.now
   pub same_record : new.call.ghost_name ≡ old.call.ghost_name
 
 stayed : (old new : Asking) → new ≡ old → new.call.ghost_name ≡ old.call.ghost_name
@@ -118,7 +118,7 @@ pub asking_notes : (wanted : Type 0) (limits : Limits) (options after : ℕ) (a 
     (writer writer_after : Written) (outcome : Result ℕ Error)
     → old.fs.call.now ≡ nothing
     → Follows (server_tells Notes GivesNone wanted old writer outcome writer_after new) limits options a after
-    → Noted a old.fs new.fs writer outcome writer_after
+    → Noted wanted a old.fs new.fs writer outcome writer_after
 asking_notes wanted limits options after (Ends reply) old new writer writer_after outcome start f =
     record { is_noted = (none_noted old.fs new.fs start f.0, f.1); same_record = stayed old.fs new.fs f.0 }
 asking_notes wanted limits options after (Asks echo c) old new writer writer_after outcome start f =
@@ -133,4 +133,4 @@ asking_notes wanted limits options after (WithMemory rest) old new writer writer
     let n = asking_notes wanted limits options after rest old new writer writer_after outcome start f in
     record { is_noted = inl n.is_noted; same_record = n.same_record }
 asking_notes wanted limits options after (WithMemory rest) old new writer writer_after outcome start (inr f) =
-    record { is_noted = inr (none_noted old.fs new.fs start f.0.0, f.1); same_record = stayed old.fs new.fs f.0.0 }
+    record { is_noted = inr (f.0.1, none_noted old.fs new.fs start f.0.0, f.1); same_record = stayed old.fs new.fs f.0.0 }

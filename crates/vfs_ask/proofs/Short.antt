@@ -1,7 +1,7 @@
 -- A reply to a request that asks for no call is short.
-use Rattle.std.proofs.Common.{◌≡◌, ◌⊎◌, ◌<◌, ◌≤◌, ◌+◌, ◌^◌, ℕ, Bool, true, false, List, [], length, drop, nat_lt, nat_le, IfOk, if◌then◌else◌, Option, Some, None, Result, Ok, Err, refl, subst, inl, inr, arith}
+use Rattle.std.proofs.Common.{◌≡◌, ◌⊎◌, ◌≤◌, ◌+◌, ℕ, Bool, true, false, List, [], length, drop, nat_lt, nat_le, IfOk, if◌then◌else◌, Option, Some, None, Result, Ok, Err, refl, subst, inl, inr, arith}
 use Rattle.std.proofs.lemmas.Bool.Decides.{nat_tests}
-use Rattle.vfs_flags.specs.Errors.{enosys, enomem}
+use Rattle.vfs_flags.specs.Errors.{enosys}
 use Rattle.vfs_flags.specs.Opcode.{opcode_of}
 use Rattle.vfs_flags.specs.declared.opcode.Opcode.{Opcode}
 use Rattle.vfs_flags.specs.declared.opcode.Opcode.TheVariants as opcode
@@ -11,7 +11,7 @@ use Rattle.vfs_wire.specs.Init.{init_out}
 use Rattle.vfs_wire.specs.declared.headers.InHeader.{InHeader}
 use Rattle.vfs_segments.specs.Written.{Written}
 use Rattle.vfs_grammar.specs.Ask.{ask, ask_header, ask_number, form_of}
-use Rattle.vfs_grammar.specs.Forms.{Ask, Ends, Asks, Lists, WithMemory, Form, ask_form, refused, refused_or, faulted}
+use Rattle.vfs_grammar.specs.Forms.{Ask, Ends, Asks, Lists, WithMemory, Form, ask_form, refused_or, faulted}
 use Rattle.vfs_grammar.specs.Limits.{max_len}
 use Rattle.vfs_grammar.specs.Records.{size_of}
 use Rattle.vfs_grammar.specs.Reply.{Reply, Refusal, NoReply, Bytes, OpenBehind, body_reply, version_out}
@@ -81,7 +81,7 @@ enough_behind : (left behind room : ℕ) → left + behind ≡ room → IsEnough
 enough_behind left behind room sum (inl all) = inl (omega (arith, sum, all))
 enough_behind left behind room sum (inr enough) = inr enough.0
 
-module _ (q : List ℕ) (options interrupts room : ℕ) (writer writer_after : Written) (told : CallData) (behind : List ℕ)
+module _ (wanted : Type 0) (q : List ℕ) (options interrupts room : ℕ) (writer writer_after : Written) (told : CallData) (behind : List ℕ)
     (enough : (length behind ≡ 0) ⊎ (longest_reply ≤ length writer.left)) where
   finished_behind : (result : Asked) (reply : Reply) → IsShortReply longest_reply reply
       → IsFinished reply interrupts writer result writer_after told
@@ -90,21 +90,21 @@ module _ (q : List ℕ) (options interrupts room : ℕ) (writer writer_after : W
       (replies_behind longest_reply reply writer writer_after outcome behind enough short f.0, f.1, f.2)
   finished_behind asked.Call reply short f = absurd f
 
-  told_behind : (a : Ask) (result : Asked) → IsShort a → Tells q options interrupts room a writer result writer_after told
-      → Tells q options interrupts room a (with_behind writer behind) result (with_behind writer_after behind) told
+  told_behind : (a : Ask) (result : Asked) → IsShort a → Tells wanted q options interrupts room a writer result writer_after told
+      → Tells wanted q options interrupts room a (with_behind writer behind) result (with_behind writer_after behind) told
   told_behind (Ends reply) result short t = finished_behind result reply short t
   told_behind (Asks echo call) result short t = t
   told_behind (Lists echo l) result short t = t
   told_behind (WithMemory rest) result short (inl t) = inl (told_behind rest result short t)
-  told_behind (WithMemory rest) result short (inr t) = inr (finished_behind result (Refusal OutOfMemory) tt t)
+  told_behind (WithMemory rest) result short (inr t) = inr (t.0, finished_behind result (Refusal OutOfMemory) tt t.1)
 
 -- so what is told in the beginning of a room is told in all of it
-pub told_in_room : (q : List ℕ) (limits : Limits) (options interrupts room : ℕ) (writer writer_after : Written) (told : CallData) (behind : List ℕ) (result : Asked)
+pub told_in_room : (wanted : Type 0) (q : List ℕ) (limits : Limits) (options interrupts room : ℕ) (writer writer_after : Written) (told : CallData) (behind : List ℕ) (result : Asked)
     → length writer.left + length behind ≡ room → IsEnough (length writer.left) room
-    → Tells q options interrupts room (ask limits options room q) writer result writer_after told
-    → Tells q options interrupts room (ask limits options room q) (with_behind writer behind) result (with_behind writer_after behind) told
-told_in_room q limits options interrupts room writer writer_after told behind result sum enough t =
-    told_behind q options interrupts room writer writer_after told behind
+    → Tells wanted q options interrupts room (ask limits options room q) writer result writer_after told
+    → Tells wanted q options interrupts room (ask limits options room q) (with_behind writer behind) result (with_behind writer_after behind) told
+told_in_room wanted q limits options interrupts room writer writer_after told behind result sum enough t =
+    told_behind wanted q options interrupts room writer writer_after told behind
     (enough_behind (length writer.left) (length behind) room sum enough) (ask limits options room q) result (is_short limits options room q) t
 
 -- ---- a reply lies within what the writer has left
@@ -127,18 +127,18 @@ finished_within : (interrupts : ℕ) (reply : Reply) (writer writer_after : Writ
 finished_within n reply writer writer_after told (asked.Finished outcome interrupted) short f = reply_within reply writer writer_after outcome short f.0
 finished_within n reply writer writer_after told asked.Call short f = tt {0}
 
-told_within : (q : List ℕ) (options interrupts room : ℕ) (a : Ask) (writer writer_after : Written) (told : CallData) (result : Asked) → IsShort a
-    → Tells q options interrupts room a writer result writer_after told → LiesWithin (length writer.left) result
-told_within q o n room (Ends reply) writer writer_after told result short t = finished_within n reply writer writer_after told result short t
-told_within q o n room (Asks echo call) writer writer_after told result short t = rw (t.0) (tt {0})
-told_within q o n room (Lists echo l) writer writer_after told result short t = rw (t.0) (tt {0})
-told_within q o n room (WithMemory rest) writer writer_after told result short (inl t) = told_within q o n room rest writer writer_after told result short t
-told_within q o n room (WithMemory rest) writer writer_after told result short (inr t) = finished_within n (Refusal OutOfMemory) writer writer_after told result tt t
+told_within : (wanted : Type 0) (q : List ℕ) (options interrupts room : ℕ) (a : Ask) (writer writer_after : Written) (told : CallData) (result : Asked) → IsShort a
+    → Tells wanted q options interrupts room a writer result writer_after told → LiesWithin (length writer.left) result
+told_within wanted q o n room (Ends reply) writer writer_after told result short t = finished_within n reply writer writer_after told result short t
+told_within wanted q o n room (Asks echo call) writer writer_after told result short t = rw (t.0) (tt {0})
+told_within wanted q o n room (Lists echo l) writer writer_after told result short t = rw (t.0) (tt {0})
+told_within wanted q o n room (WithMemory rest) writer writer_after told result short (inl t) = told_within wanted q o n room rest writer writer_after told result short t
+told_within wanted q o n room (WithMemory rest) writer writer_after told result short (inr t) = finished_within n (Refusal OutOfMemory) writer writer_after told result tt t.1
 
-pub lies_within : (q : List ℕ) (limits : Limits) (options interrupts room : ℕ) (writer writer_after : Written) (told : CallData) (result : Asked)
-    → Tells q options interrupts room (ask limits options room q) writer result writer_after told → LiesWithin (length writer.left) result
-lies_within q limits options interrupts room writer writer_after told result t =
-    told_within q options interrupts room (ask limits options room q) writer writer_after told result (is_short limits options room q) t
+pub lies_within : (wanted : Type 0) (q : List ℕ) (limits : Limits) (options interrupts room : ℕ) (writer writer_after : Written) (told : CallData) (result : Asked)
+    → Tells wanted q options interrupts room (ask limits options room q) writer result writer_after told → LiesWithin (length writer.left) result
+lies_within wanted q limits options interrupts room writer writer_after told result t =
+    told_within wanted q options interrupts room (ask limits options room q) writer writer_after told result (is_short limits options room q) t
 
 -- the limits of small callers
 abbrev pub usual : Limits

@@ -138,18 +138,19 @@ IsFinished reply interrupts writer (asked.Finished outcome interrupted) writer_a
     Replies reply writer outcome writer_after × (interrupted ≡ interrupts) × (told ≡ nothing)
 IsFinished reply interrupts writer asked.Call writer_after told = ⊥
 
--- what is told of a request that asks this, with so much room for a reply
-abbrev pub Tells : (request : List ℕ) → (options interrupts room : ℕ) → Ask → (writer : Written) → Asked
-    → (writer_after : Written) → CallData → Type 0
-Tells q options interrupts room (Ends reply) writer result writer_after told =
+-- what is told of a request that asks this, for which memory may be wanted so, with so much room for a
+-- reply
+abbrev pub Tells : (wanted : Type 0) → (request : List ℕ) → (options interrupts room : ℕ) → Ask
+    → (writer : Written) → Asked → (writer_after : Written) → CallData → Type 0
+Tells wanted q options interrupts room (Ends reply) writer result writer_after told =
     IsFinished reply interrupts writer result writer_after told
-Tells q options interrupts room (Asks echo call) writer result writer_after told =
+Tells wanted q options interrupts room (Asks echo call) writer result writer_after told =
     (result ≡ asked.Call) × IsTold q options room echo call told
-Tells q options interrupts room (Lists echo l) writer result writer_after told =
+Tells wanted q options interrupts room (Lists echo l) writer result writer_after told =
     (result ≡ asked.Call) × (told ≡ told_of_listing options room echo l)
-Tells q options interrupts room (WithMemory rest) writer result writer_after told =
-    Tells q options interrupts room rest writer result writer_after told
-    ⊎ IsFinished (Refusal OutOfMemory) interrupts writer result writer_after told
+Tells wanted q options interrupts room (WithMemory rest) writer result writer_after told =
+    Tells wanted q options interrupts room rest writer result writer_after told
+    ⊎ (wanted × IsFinished (Refusal OutOfMemory) interrupts writer result writer_after told)
 
 -- the number in the record of an INTERRUPT, 0 where the record isn't whole
 abbrev pub unique_or_none : Result InterruptIn Error → ℕ
@@ -177,11 +178,12 @@ interrupted_by limits q =
 
 -- What is told of a request, with so much room for a reply, under these limits and agreed options: the call
 -- that the grammar says, where it says one; and else that the request is finished, as the grammar says.
+-- When memory may be wanted isn't said here.
 abbrev pub IsAsked : Limits → (options : ℕ) → (request : List ℕ) → (writer : Written) → Asked
     → (writer_after : Written) → CallData → Type 0
 IsAsked limits options q writer result writer_after told =
-    Tells q options (interrupted_by limits q) (length writer.left) (ask limits options (length writer.left) q)
-    writer result writer_after told
+    Tells ⊤ q options (interrupted_by limits q) (length writer.left)
+    (ask limits options (length writer.left) q) writer result writer_after told
 
 -- the room that a writer has left is all of a reply's, or the beginning of it, as long as the longest reply
 -- to a request that asks for no call

@@ -1,5 +1,6 @@
 pub mod Asked
 pub mod Contexts
+pub mod Memory
 pub mod Noting
 pub mod Parts
 pub mod Uses

@@ -10,9 +10,11 @@ ghost use Rattle.vfs_messages.specs.Rooms.{with_behind};
 ghost use Rattle.vfs_grammar.specs.Ask.{ask_header, ask_opcode};
 ghost use Rattle.vfs_grammar.specs.Limits.{AreLimits, max_len};
 ghost use Rattle.vfs_grammar.specs.Records.{record_of, size_of};
+ghost use Rattle.vfs_handlers.specs.Memory.{MayWantBehind};
 ghost use Rattle.vfs_calls.specs.Shapes.{nothing};
 ghost use Rattle.vfs_ask.specs.declared.asked.Asked.TheVariants.{Finished};
 ghost use Rattle.vfs_ask.specs.Contexts.{may_have_context};
+ghost use Rattle.vfs_ask.specs.Memory.{LacksNoMemory, MayWant};
 ghost use Rattle.vfs_ask.specs.Noting.{IsNoted, NotedAndTold};
 ghost use Rattle.vfs_ask.specs.Parts.{told_with};
 ghost use Rattle.vfs_ask.specs.Asked.{IsAsked, IsEnough, LiesWithin, Tells, interrupted_behind, unique_or_none};
@@ -89,6 +91,9 @@ pub fn ask(
         IsAsked limits (fs_options_bits options) r.entry.left (with_behind w.old behind) result
         (with_behind w.new behind) call.new }
     ensures within { LiesWithin (length w.old.left) result }
+
+    // It is refused for want of memory only where its tail is cut, it may have a context, or it has pairs.
+    ensures memory { ¬ (MayWant limits (fs_options_bits options) room r.entry) → LacksNoMemory result }
 {
     *call = CallData::NONE;
     let len = r.available_bytes() as u64;
@@ -125,7 +130,9 @@ fn ask_behind(
     ensures { (request : List ℕ) → length request ≡ len
         → record_of in_header request ≡ Ok q.entry.header.now
         → drop (size_of in_header) request ≡ q.entry.r.now.left
-        → Tells request (fs_options_bits options)
+        → Tells (MayWantBehind limits (fs_options_bits options) room
+        (opcode_of q.entry.header.now.opcode) q.entry.header.now q.entry.r.now.pieces)
+        request (fs_options_bits options)
         (interrupted_behind limits q.entry.header.now q.entry.r.now.left) room
         (ask_header limits (fs_options_bits options) room q.entry.header.now q.entry.r.now.left)
         w.old result w.new call.new }
@@ -181,7 +188,9 @@ fn ask_of_opcode(
     ensures { (request : List ℕ) → length request ≡ len
         → record_of in_header request ≡ Ok q.entry.header.now
         → drop (size_of in_header) request ≡ q.entry.r.now.left
-        → Tells request (fs_options_bits options) 0 room
+        → Tells (MayWantBehind limits (fs_options_bits options) room (Some opcode) q.entry.header.now
+        q.entry.r.now.pieces)
+        request (fs_options_bits options) 0 room
         (ask_opcode limits (fs_options_bits options) room opcode q.entry.header.now
         q.entry.r.now.left)
         w.old result w.new call.new }
@@ -216,7 +225,9 @@ fn ask_without_context(
     ensures { (request : List ℕ) → length request ≡ len
         → record_of in_header request ≡ Ok q.entry.header.now
         → drop (size_of in_header) request ≡ q.entry.r.now.left
-        → Tells request (fs_options_bits options) 0 room
+        → Tells (MayWantBehind limits (fs_options_bits options) room (Some opcode) q.entry.header.now
+        q.entry.r.now.pieces)
+        request (fs_options_bits options) 0 room
         (ask_opcode limits (fs_options_bits options) room opcode q.entry.header.now
         q.entry.r.now.left)
         w.old result w.new call.new }
@@ -246,7 +257,9 @@ fn ask_with_context(
     ensures { (request : List ℕ) → length request ≡ len
         → record_of in_header request ≡ Ok q.entry.header.now
         → drop (size_of in_header) request ≡ q.entry.r.now.left
-        → Tells request (fs_options_bits options) 0 room
+        → Tells (MayWantBehind limits (fs_options_bits options) room (Some opcode) q.entry.header.now
+        q.entry.r.now.pieces)
+        request (fs_options_bits options) 0 room
         (ask_opcode limits (fs_options_bits options) room opcode q.entry.header.now
         q.entry.r.now.left)
         w.old result w.new call.new }
@@ -285,6 +298,8 @@ fn note_opcode(
     requires no_readdir { opcode ≢ Opcode.Readdir }
     requires no_readdirplus { opcode ≢ Opcode.Readdirplus }
     ensures { IsNoted
+        (MayWantBehind limits (fs_options_bits options) room (Some opcode) q.entry.header.now
+        q.entry.r.now.pieces)
         (ask_opcode limits (fs_options_bits options) room opcode q.entry.header.now
         q.entry.r.now.left)
         w.old result w.new call.new }
@@ -317,6 +332,8 @@ fn tell(
     requires no_readdir { opcode ≢ Opcode.Readdir }
     requires no_readdirplus { opcode ≢ Opcode.Readdirplus }
     ensures { NotedAndTold
+        (MayWantBehind limits (fs_options_bits options) room (Some opcode) q.entry.header.now
+        q.entry.r.now.pieces)
         (ask_opcode limits (fs_options_bits options) room opcode q.entry.header.now
         q.entry.r.now.left)
         (told_with q.entry.header.now.unique (fs_options_bits options) room len opcode)

@@ -3,6 +3,7 @@
 
 ghost use Rattle.std.specs.Prelude.{◌≡◌, ℕ};
 ghost use Rattle.vfs_segments.specs.Written.{Written};
+ghost use Rattle.vfs_messages.specs.Parts.{TailIsCut};
 ghost use Rattle.vfs_calls.specs.Shapes.{bit, nothing};
 ghost use Rattle.vfs_grammar.specs.Ask.{ask_opcode};
 ghost use Rattle.vfs_grammar.specs.declared.limits.Limits.{Limits as AnyLimits};
@@ -10,7 +11,9 @@ ghost use Rattle.vfs_ask.specs.Noting.{IsNoted};
 
 use vfs_calls::{Asking, CallData, has, kind, number};
 use vfs_files::FileSystem;
-use vfs_flags::{GETATTR_FH, Opcode, READ_LOCKOWNER, WRITE_CACHE, WRITE_KILL_PRIV, WRITE_LOCKOWNER};
+use vfs_flags::{
+    GETATTR_FH, Opcode, READ_LOCKOWNER, WRITE_CACHE, WRITE_KILL_PRIV, WRITE_LOCKOWNER,
+};
 use vfs_grammar::{Error, Result};
 use vfs_handlers::Request;
 use vfs_messages::{handle_if, is_set, number_if, read_name, read_record};
@@ -28,7 +31,8 @@ fn bit_if(holds: bool, value: u32) -> u32
 pub fn note_lookup(q: Request<'_, '_>, call: &mut CallData) -> Result<usize>
     requires { call.old ≡ nothing }
     ensures { (limits : AnyLimits) (options room : ℕ) (w : Written) →
-        IsNoted (ask_opcode limits options room Opcode.Lookup q.entry.header.now q.entry.r.now.left)
+        IsNoted (TailIsCut q.entry.header.now 0 q.entry.r.now.pieces)
+        (ask_opcode limits options room Opcode.Lookup q.entry.header.now q.entry.r.now.left)
         w result w call.new }
 {
     let name = read_name(q.alloc, q.header, 0, q.r)?;
@@ -40,7 +44,8 @@ pub fn note_lookup(q: Request<'_, '_>, call: &mut CallData) -> Result<usize>
 pub fn note_getattr(q: Request<'_, '_>, call: &mut CallData) -> Result<usize>
     requires { call.old ≡ nothing }
     ensures { (limits : AnyLimits) (options room : ℕ) (w : Written) →
-        IsNoted (ask_opcode limits options room Opcode.Getattr q.entry.header.now q.entry.r.now.left)
+        IsNoted ⊥
+        (ask_opcode limits options room Opcode.Getattr q.entry.header.now q.entry.r.now.left)
         w result w call.new }
 {
     let getattr_in = read_record::<GetattrIn>(q.r)?;
@@ -54,7 +59,8 @@ pub fn note_getattr(q: Request<'_, '_>, call: &mut CallData) -> Result<usize>
 pub fn note_read(room: usize, q: Request<'_, '_>, call: &mut CallData) -> Result<usize>
     requires { call.old ≡ nothing }
     ensures { (limits : AnyLimits) (options : ℕ) (w : Written) →
-        IsNoted (ask_opcode limits options room Opcode.Read q.entry.header.now q.entry.r.now.left)
+        IsNoted ⊥
+        (ask_opcode limits options room Opcode.Read q.entry.header.now q.entry.r.now.left)
         w result w call.new }
 {
     let read_in = read_record::<ReadIn>(q.r)?;
@@ -82,7 +88,8 @@ pub fn note_read(room: usize, q: Request<'_, '_>, call: &mut CallData) -> Result
 pub fn note_write(q: Request<'_, '_>, call: &mut CallData) -> Result<usize>
     requires { call.old ≡ nothing }
     ensures { (limits : AnyLimits) (options room : ℕ) (w : Written) →
-        IsNoted (ask_opcode limits options room Opcode.Write q.entry.header.now q.entry.r.now.left)
+        IsNoted ⊥
+        (ask_opcode limits options room Opcode.Write q.entry.header.now q.entry.r.now.left)
         w result w call.new }
 {
     let write_in = read_record::<WriteIn>(q.r)?;

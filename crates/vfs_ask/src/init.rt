@@ -24,7 +24,7 @@ pub fn ask_init(
     call: &mut CallData,
 ) -> Asked
     requires { call.old ≡ nothing }
-    ensures { (request : List ℕ) → Tells request (fs_options_bits options) 0 room
+    ensures { (request : List ℕ) → Tells ⊥ request (fs_options_bits options) 0 room
         (ask_form header.now r.old.left Versions) w.old result w.new call.new }
 {
     let init_in = match read_record::<InitInCompat>(r) {
@@ -48,7 +48,7 @@ fn ask_of_version(
     call: &mut CallData,
 ) -> Asked
     requires { call.old ≡ nothing }
-    ensures { (request : List ℕ) → Tells request (fs_options_bits options) 0 room
+    ensures { (request : List ℕ) → Tells ⊥ request (fs_options_bits options) 0 room
         (ask_version header.now init_in.now flags2) w.old result w.new call.new }
 {
     if init_in.major < KERNEL_VERSION {

@@ -30,7 +30,7 @@ pub fn ask_listing(
     call: &mut CallData,
 ) -> Asked
     requires { call.old ≡ nothing }
-    ensures { (request : List ℕ) → Tells request (fs_options_bits options) 0 room
+    ensures { (request : List ℕ) → Tells ⊥ request (fs_options_bits options) 0 room
         (ask_form q.entry.header.now q.entry.r.now.left
         (Directories (Record read_in) (lists_too_much limits room) room
         (listing_of plus q.entry.header.now)))

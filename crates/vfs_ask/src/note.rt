@@ -2,8 +2,10 @@
 
 ghost use Rattle.std.specs.Prelude.{◌≡◌, length};
 ghost use Rattle.vfs_flags.specs.Flags.{fs_options_bits};
+ghost use Rattle.vfs_flags.specs.Opcode.{opcode_of};
 ghost use Rattle.vfs_grammar.specs.Ask.{ask_header};
 ghost use Rattle.vfs_grammar.specs.Limits.{AreLimits};
+ghost use Rattle.vfs_handlers.specs.Memory.{MayWantBehind};
 ghost use Rattle.vfs_calls.specs.Shapes.{nothing};
 ghost use Rattle.vfs_ask.specs.Noting.{IsNoted};
 
@@ -18,6 +20,8 @@ fn handle(session: &mut Session<Asking<'_>>, q: Request<'_, '_>, w: &mut Writer)
     requires { session.old.fs.call.now ≡ nothing }
     ensures same_record { session.new.fs.call.ghost_name ≡ session.old.fs.call.ghost_name }
     ensures noted { IsNoted
+        (MayWantBehind session.old.limits session.old.options (length w.old.left)
+        (opcode_of q.entry.header.now.opcode) q.entry.header.now q.entry.r.now.pieces)
         (ask_header session.old.limits session.old.options (length w.old.left) q.entry.header.now
         q.entry.r.now.left)
         w.old result w.new session.new.fs.call.now }
@@ -37,6 +41,8 @@ pub fn note(
     requires limits { AreLimits limits }
     requires none { call.old ≡ nothing }
     ensures { IsNoted
+        (MayWantBehind limits (fs_options_bits options) (length w.old.left)
+        (opcode_of q.entry.header.now.opcode) q.entry.header.now q.entry.r.now.pieces)
         (ask_header limits (fs_options_bits options) (length w.old.left) q.entry.header.now
         q.entry.r.now.left)
         w.old result w.new call.new }

@@ -1,12 +1,14 @@
 //! Small callers.
 
-ghost use Rattle.std.specs.Prelude.{◌≡◌, ◌⊎◌, ◌++◌, length};
+ghost use Rattle.std.specs.Prelude.{◌≡◌, ◌⊎◌, ◌++◌, [], ◌∷◌, length};
 ghost use Rattle.vfs_flags.specs.Flags.{fs_options_bits, security_ctx};
+ghost use Rattle.vfs_grammar.specs.Ask.{header_of};
 ghost use Rattle.vfs_grammar.specs.Reply.{Refusal};
 ghost use Rattle.vfs_grammar.specs.Samples.{eight, header_9, lookup_of_a, request_for_data};
 ghost use Rattle.vfs_grammar.specs.declared.error.Error.{Error};
 ghost use Rattle.vfs_calls.specs.Shapes.{nothing};
 ghost use Rattle.vfs_ask.specs.Asked.{IsFinished};
+ghost use Rattle.vfs_ask.specs.Memory.{LacksNoMemory};
 ghost use Rattle.vfs_ask.specs.Uses.{HasContext, LooksUpA, mkdir_with_context, ReadsThree, RenamesAToB, rename_of_a_to_b};
 
 use crate::asked::{Asked, ask};
@@ -97,6 +99,37 @@ fn getattr_of_a_header_alone(
 ) -> Asked
     requires { r.left ≡ header_9 40 3 }
     ensures { IsFinished (Refusal Error.DecodeMessage) 0 w.old result w.new call.new }
+{
+    let room = w.available_bytes();
+    ask(alloc, LIMITS, options, r, room, w, call)
+}
+
+/// A LOOKUP of `a` that lies in one segment is told: there is memory for its name.
+fn look_up_a_in_one_segment(
+    alloc: Global,
+    options: FsOptions,
+    r: Reader<'_>,
+    w: &mut Writer,
+    call: &mut CallData,
+) -> Asked
+    requires request { r.left ≡ lookup_of_a }
+    requires together { r.pieces ≡ 42 ∷ [] }
+    ensures { LooksUpA (fs_options_bits options) (length w.old.left) result call.new }
+{
+    let room = w.available_bytes();
+    ask(alloc, LIMITS, options, r, room, w, call)
+}
+
+/// A GETATTR is not refused for want of memory, whatever its bytes are and however they are cut.
+fn get_attributes(
+    alloc: Global,
+    options: FsOptions,
+    r: Reader<'_>,
+    w: &mut Writer,
+    call: &mut CallData,
+) -> Asked
+    requires { (header_of r.left).opcode ≡ 3 }
+    ensures { LacksNoMemory result }
 {
     let room = w.available_bytes();
     ask(alloc, LIMITS, options, r, room, w, call)

@@ -1,6 +1,7 @@
 -- What C is told of a request that was asked.
 use Rattle.std.proofs.Common.{◌≡◌, ◌≤◌, ◌+◌, ◌-◌, ◌++◌, ◌∙◌, ℕ, ℤ, List, [], length, take, drop, replicate, Result, Ok, Err, IfOk, refl, ap, sym, subst, inl, inr, arith, length-append, append_assoc}
 use Rattle.std.proofs.lemmas.List.{length-replicate, take-append-le}
+use Rattle.std.specs.Prelude.{⊤}
 use Rattle.vfs_segments.specs.Written.{Written, whole}
 use Rattle.vfs_grammar.specs.Ask.{ask}
 use Rattle.vfs_grammar.specs.Forms.{Ask, Ends, Asks, Lists, WithMemory}
@@ -23,7 +24,7 @@ use Rattle.vfs_door.proofs.Leaving.{Keeps, replied_keeps, are_first, none_shown,
 -- a writer through which a request was finished keeps what it had passed
 finished_keeps : (request : List ℕ) (options interrupts room : ℕ) (asks : Ask) (before after : Written)
     (outcome : Result ℕ Error) (interrupted : ℕ) (call : CallData)
-    → Tells request options interrupts room asks before (asked.Finished outcome interrupted) after call
+    → Tells ⊤ request options interrupts room asks before (asked.Finished outcome interrupted) after call
     → Keeps before after
 finished_keeps q o n room (Ends reply) before after outcome i call t =
     replied_keeps reply before after outcome t.0
@@ -32,7 +33,7 @@ finished_keeps q o n room (Lists echo l) before after outcome i call t = absurd 
 finished_keeps q o n room (WithMemory rest) before after outcome i call (inl t) =
     finished_keeps q o n room rest before after outcome i call t
 finished_keeps q o n room (WithMemory rest) before after outcome i call (inr t) =
-    replied_keeps (Refusal OutOfMemory) before after outcome t.0
+    replied_keeps (Refusal OutOfMemory) before after outcome t.1.0
 
 -- a request is told finished so, with this length
 abbrev told_by : ToldData → (len interrupts : ℕ) → ToldData

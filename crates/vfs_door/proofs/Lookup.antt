@@ -2,6 +2,7 @@
 use Rattle.std.proofs.Common.{◌≡◌, ◌⊎◌, ◌≤◌, ◌^◌, ◌∙◌, ℕ, ℤ, pos, List, [], ◌∷◌, ◌++◌, length, take, Bool, true, false, nat_le, Option, Some, None, MatchOption, Result, Ok, refl, ap, sym, subst, inl, inr, arith}
 use Rattle.std.proofs.lemmas.Int.{ints}
 use Rattle.std.proofs.lemmas.List.{append_cancel_left}
+use Rattle.std.specs.Prelude.{⊤}
 use Rattle.vfs_flags.specs.Opcode.{opcode_of}
 use Rattle.vfs_wire.specs.Entries.{entry_out}
 use Rattle.vfs_wire.specs.Fields.{little, number, value_of, bytes_of}
@@ -79,7 +80,7 @@ IsLookedUp code call told told_after shown =
 
 by_asked : (interrupts space : ℕ) (before after : Written) (result : Asked) (call : CallData)
     (code : ℤ) (told told_after : ToldData) (shown : List ℕ) → space ≡ 4096 → length before.left ≡ space
-    → Tells lookup_of_a 0 interrupts (length before.left) (WithMemory (asks_call echo lookup)) before result after call
+    → Tells ⊤ lookup_of_a 0 interrupts (length before.left) (WithMemory (asks_call echo lookup)) before result after call
     → IsAskedOn result before after code told told_after shown
     → IsLookedUp code call told told_after shown
 by_asked i space before after result call code told told_after shown room is (inl t) on =
@@ -89,8 +90,8 @@ by_asked i space before after result call code told told_after shown room is (in
     subst (λ (n : ℕ). IsTold lookup_of_a 0 n echo lookup call) (is ∙ room) t.1 in
     inl (p.0, told_lookup call told_is, p.1, p.2)
 by_asked i space before after (asked.Finished outcome n) call code told told_after shown r is (inr t) on =
-    inr (on.0 ∙ ap number_of t.0.0)
-by_asked i space before after asked.Call call code told told_after shown room is (inr t) on = absurd t
+    inr (on.0 ∙ ap number_of t.1.0.0)
+by_asked i space before after asked.Call call code told told_after shown room is (inr t) on = absurd t.1
 
 pub looked_up : (request : List ℕ) (code : ℤ) (call call_after : CallData) (told told_after : ToldData)
     (shown : List ℕ) → request ≡ lookup_of_a
@@ -100,8 +101,8 @@ looked_up request code call call_after told told_after shown is (inl s) =
     let of_a : IsAsked limits 0 lookup_of_a s.before s.result s.after call_after =
     subst (λ (q : List ℕ). IsAsked limits 0 q s.before s.result s.after call_after) is s.asked in
     let by = interrupted_by limits lookup_of_a in
-    let tells : Tells lookup_of_a 0 by (length s.before.left) (WithMemory (asks_call echo lookup)) s.before s.result s.after call_after =
-    subst (λ (a : Ask). Tells lookup_of_a 0 by (length s.before.left) a s.before s.result s.after call_after)
+    let tells : Tells ⊤ lookup_of_a 0 by (length s.before.left) (WithMemory (asks_call echo lookup)) s.before s.result s.after call_after =
+    subst (λ (a : Ask). Tells ⊤ lookup_of_a 0 by (length s.before.left) a s.before s.result s.after call_after)
     (asks (length s.before.left)) of_a in
     by_asked by 4096 s.before s.after s.result call_after code told told_after shown refl s.space tells
     s.passed_on

@@ -1,6 +1,7 @@
 -- A request that was asked, and whose call was answered, by the library's functions, is one turn.
 use Rattle.std.proofs.Common.{◌≡◌, ◌≤◌, ◌^◌, ◌⊎◌, ◌+◌, ◌∙◌, ◌==◌, if◌then◌else◌, ℕ, ℤ, List, length, min, Bool, true, false, Option, Some, None, Result, Ok, Err, refl, ap, sym, subst, inl, inr, arith, length-append}
 use Rattle.std.proofs.lemmas.Bool.Decides.{nat_tests}
+use Rattle.std.specs.Prelude.{⊤}
 use Rattle.vfs_segments.specs.Written.{Written}
 use Rattle.vfs_messages.specs.Rooms.{with_behind}
 use Rattle.vfs_grammar.specs.Ask.{ask}
@@ -48,14 +49,14 @@ call_told (asked.Finished outcome n) before after code told told_after shown on 
 
 -- a call is told with all the room that there was
 room_told : (request : List ℕ) (options interrupts room : ℕ) (a : Ask) (before after : Written)
-    (call : CallData) → Tells request options interrupts room a before asked.Call after call
+    (call : CallData) → Tells ⊤ request options interrupts room a before asked.Call after call
     → call.room ≡ room
 room_told q o n room (Ends reply) before after call t = absurd t
 room_told q o n room (asks_call echo asked) before after call t =
     ap (λ (c : CallData). c.room) t.1.numbers
 room_told q o n room (Lists echo l) before after call t = ap (λ (c : CallData). c.room) t.1
 room_told q o n room (WithMemory rest) before after call (inl t) = room_told q o n room rest before after call t
-room_told q o n room (WithMemory rest) before after call (inr t) = absurd t
+room_told q o n room (WithMemory rest) before after call (inr t) = absurd t.1
 
 -- a directory has all its room
 listing_behind : (limits : Limits) (call : CallData) (a : AnswerData) (items : List ItemData)

@@ -1,5 +1,6 @@
 -- From what ask and answer tell to the turn that both are.
 use Rattle.std.proofs.Common.{◌≡◌, ◌+◌, ◌-◌, ◌++◌, ◌∙◌, ◌==◌, ℕ, Bool, true, false, bit_and, not, List, [], ◌∷◌, Option, None, Some, Result, length, refl, ap, sym, subst, inl, inr, length-append, append-nil, IfSome}
+use Rattle.std.specs.Prelude.{⊤}
 use Rattle.vfs_segments.specs.Written.{Written}
 use Rattle.vfs_files.specs.Calls.{Call, Init, Data, kind_of, read_answer}
 use Rattle.vfs_files.specs.Runs.{Event, Called}
@@ -138,7 +139,7 @@ module _ (limits : Limits) (options interrupts : ℕ) (request : List ℕ) (aske
     (calls : AnswersEachCall limits told a text old (Some came) new)
     (listings : AnswersEachListing limits told a items (with_behind old behind) (Some came) (with_behind new behind)) where
   turned : (asks : Ask) → IsUsual (length asked_in.left) asks
-      → Tells request options interrupts (length asked_in.left) asks asked_in asked.Call after told
+      → Tells ⊤ request options interrupts (length asked_in.left) asks asked_in asked.Call after told
       → Turned limits options request a text items (with_behind old behind) came (with_behind new behind) asks
   turned (Ends reply) usual t = absurd t
   turned (Asks echo call) usual t =
@@ -170,7 +171,7 @@ module _ (limits : Limits) (options interrupts : ℕ) (request : List ℕ) (aske
   turned (WithMemory rest) usual (inl t) =
       with_memory limits options request a text items (with_behind old behind) came (with_behind new behind) rest
       (turned rest usual t)
-  turned (WithMemory rest) usual (inr t) = absurd t
+  turned (WithMemory rest) usual (inr t) = absurd t.1
 
 pub are_one_turn : AreOneTurn
 are_one_turn limits options request asked_in after told a text items old behind came new is =

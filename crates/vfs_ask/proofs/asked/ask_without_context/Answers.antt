@@ -9,4 +9,4 @@ returns c = λ request long first rest.
     let options = fs_options_bits c.args.options in
     let is = rw rest at (told_by_opcode request h (header_fits request h first) c.args.limits options c.args.room c.args.len long
     c.ranges.len.fits c.args.opcode c.requires.no_init c.requires.no_readdir c.requires.no_readdirplus c.requires.no_context) in
-    tells_noted request options c.args.room c.args.w.now c.tell.new.w h c.args.len c.args.opcode _ c.tell.result c.tell.new.call is c.tell.ensures
+    tells_noted _ request options c.args.room c.args.w.now c.tell.new.w h c.args.len c.args.opcode _ c.tell.result c.tell.new.call is c.tell.ensures

@@ -12,11 +12,11 @@ returns c =
     let told = told_in_all usual (fs_options_bits c.args.options) c.available_bytes-room.result c.args.r.left c.args.w.now c.ask.new.w c.ask.new.call c.ask.result
     c.ask.ensures.asked c.available_bytes-room.ensures in
     elim (rw (c.requires.request, c.requires.options) at told) [
-  | inl t ↦ inl (record {
-    is_call = t.0;
-    name = t.1.places.0.bytes_are;
-    context_name = t.1.places.1.0.bytes_are;
-    context = t.1.places.1.1.bytes_are;
-  })
-  | inr t ↦ inr t
-]
+      | inl t ↦ inl (record {
+        is_call = t.0;
+        name = t.1.places.0.bytes_are;
+        context_name = t.1.places.1.0.bytes_are;
+        context = t.1.places.1.1.bytes_are;
+      })
+      | inr t ↦ inr t.1
+    ]

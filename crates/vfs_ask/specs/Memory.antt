@@ -1,0 +1,24 @@
+-- Which requests are refused for want of memory.
+use Rattle.std.specs.Prelude.{◌≢◌, ⊤, ℕ, Err}
+use Rattle.vfs_flags.specs.Opcode.{opcode_of}
+use Rattle.vfs_wire.specs.Headers.{in_header}
+use Rattle.vfs_segments.specs.Lengths.{lengths_from}
+use Rattle.vfs_segments.specs.Unread.{Unread}
+use Rattle.vfs_grammar.specs.Ask.{header_of}
+use Rattle.vfs_grammar.specs.Records.{size_of}
+use Rattle.vfs_grammar.specs.declared.error.Error.TheVariants.{OutOfMemory}
+use Rattle.vfs_grammar.specs.declared.limits.Limits.{Limits}
+use Rattle.vfs_handlers.specs.Memory.{MayWantBehind}
+use Rattle.vfs_ask.specs.declared.asked.Asked.{Asked}
+use Rattle.vfs_ask.specs.declared.asked.Asked.TheVariants as asked
+
+-- memory may be wanted for the request that a reader has left
+abbrev pub MayWant : Limits → (options space : ℕ) → Unread → Type 0
+MayWant limits options space u =
+    MayWantBehind limits options space (opcode_of (header_of u.left).opcode) (header_of u.left)
+    (lengths_from (size_of in_header) u.pieces)
+
+-- a request is not refused for want of memory: a call is told, or what it came to is another thing
+abbrev pub LacksNoMemory : Asked → Type 0
+LacksNoMemory asked.Call = ⊤
+LacksNoMemory (asked.Finished outcome interrupts) = outcome ≢ Err OutOfMemory
