@@ -21,6 +21,18 @@
 enum { PIECES = 1024, LONGEST = TRANSPORT_PAYLOAD + 4096 };
 enum { OPCODE_WRITE = 16, OPCODE_END = 8, WRITE_HEAD = 80 };
 
+/* A guest hands memory on from one worker to another, by numbers that it reads and writes. The
+ * thread sanitizer does not see the guest. */
+#ifdef __SANITIZE_THREAD__
+void __tsan_acquire(void *at);
+void __tsan_release(void *at);
+#define FROM_GUEST() __tsan_acquire(vhost_queue)
+#define TO_GUEST() __tsan_release(vhost_queue)
+#else
+#define FROM_GUEST() ((void)0)
+#define TO_GUEST() ((void)0)
+#endif
+
 struct queue vhost_queue[QUEUES];
 struct region vhost_region[REGIONS];
 size_t vhost_regions;
@@ -200,6 +212,7 @@ static int take_head(struct queue *q)
 	waiting = (uint16_t)(__atomic_load_n(&q->available->idx, __ATOMIC_ACQUIRE) - q->next);
 	if (!waiting)
 		return -1;
+	FROM_GUEST();
 	head = __atomic_load_n(&q->available->ring[q->next % q->size], __ATOMIC_RELAXED);
 	if (waiting > q->size || head >= q->size) {
 		fprintf(stderr, "%s: a queue that is none\n", by->program);
@@ -222,6 +235,7 @@ static void complete(struct queue *q, uint16_t head, uint32_t len)
 		return;
 	q->used->ring[q->done % q->size] = (struct vring_used_elem) { head, len };
 	q->done++;
+	TO_GUEST();
 	/* (the guest sets the flag, and then looks at the number: one of both sees what the other did) */
 	__atomic_store_n(&q->used->idx, q->done, __ATOMIC_SEQ_CST);
 	if (__atomic_load_n(&q->available->flags, __ATOMIC_SEQ_CST) & VRING_AVAIL_F_NO_INTERRUPT)
