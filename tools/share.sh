@@ -10,7 +10,7 @@
 # Words are those of virtiofsd, as --cache=always, --xattr, --thread-pool-size=4, and -o with the options of
 # a mount; --words lists them. `umount MOUNTPOINT` or Ctrl-C ends it.
 #
-# With --check it shares folders of its own. Over /dev/fuse tools/session.sh does there what a person does, with
+# With --check it refuses words that can't be, and shares folders of its own. Over /dev/fuse tools/session.sh does there what a person does, with
 # one worker, with four, with a cache of what is written later, with file handles; after each the descriptors
 # of the server are counted. Over vhost-user it is asked the hostile requests of tools/beside, and more that are
 # made up, under sanitizers and in its sandbox; a machine that goes away is followed by another. It takes two
@@ -131,6 +131,49 @@ try_signals() {
     echo "A signal unmounted it, and an open file was served to its end."
 }
 
+# Words that can't be, what is printed, and who is told that it serves.
+try_words() {
+    local came words
+    mkdir -p "$work/folder/below" "$work/mount"
+    for words in "" "--cache=some $work/folder $work/mount" "$work/folder" "--no-such-word $work/folder $work/mount" \
+        "$work/folder $work/folder/below" "$work/none $work/mount" "--fd=77 $work/folder" \
+        "--socket-path=$work/socket $work/folder too-many" "--sandbox=chroot $work/folder $work/mount" \
+        "--thread-pool-size=65 $work/folder $work/mount" "-o no-such-option $work/folder $work/mount"; do
+        came=0
+        # shellcheck disable=SC2086
+        timeout 10 "$share" $words > "$work/said" 2>&1 || came=$?
+        if [ "$came" != 2 ] || [ ! -s "$work/said" ]; then
+            wrong "it ended with $came and not with 2 for: $words"
+        fi
+    done
+    "$share" --print-capabilities | python3 -c 'import json, sys; assert json.load(sys.stdin)["type"] == "fs"' ||
+        wrong "--print-capabilities"
+    # It is mounted as soon as the command has ended, and holds nothing of the caller's.
+    came=$(timeout 20 "$share" --daemonize --log-level=error "$work/folder" "$work/mount" 2>&1) || wrong "--daemonize"
+    mountpoint -q "$work/mount" || wrong "--daemonize, which did not wait for the mount, and said: $came"
+    umount "$work/mount"
+    timeout 60 python3 - "$share" "$work" << 'PYTHON' || wrong "NOTIFY_SOCKET"
+import os, socket, subprocess, sys
+share, work = sys.argv[1:]
+told = socket.socket(socket.AF_UNIX, socket.SOCK_DGRAM)
+told.bind(work + "/told")
+told.settimeout(20)
+listening = socket.socket(socket.AF_UNIX)
+listening.bind(work + "/listening")
+listening.listen(1)
+for words in (["--socket-path=" + work + "/socket"], ["--fd=%d" % listening.fileno()]):
+    server = subprocess.Popen([share, "--log-level=error", *words, work + "/folder"],
+                              env=dict(os.environ, NOTIFY_SOCKET=work + "/told"), pass_fds=[listening.fileno()])
+    assert told.recv(100) == b"READY=1\n"
+    server.terminate()
+    assert server.wait(20) == 0
+assert not os.path.exists(work + "/socket")
+PYTHON
+    rm -f "$work/told" "$work/listening"
+    echo "Words that can't be are refused, and it is told when it serves."
+}
+
+try_words
 try_mount --thread-pool-size=1
 try_mount --thread-pool-size=4
 try_mount --thread-pool-size=4 --writeback
@@ -263,12 +306,12 @@ with open(work + "/log", "w+") as log:
         if told != flags:
             faults.append(f"{name} is told with the flags {told}")
     # Names that are none of something in a directory, and directories that are none.
-    for name in (b".", b"..", b"/", b"a/b", b"../x", b"directory/.."):
+    for name, error in ((b"", ENOENT), *((it, EINVAL) for it in (b".", b"..", b"/", b"a/b", b"../x", b"directory/.."))):
         for opcode, before in ((1, b""), (6, b""), (8, bytes(16)), (9, bytes(8)), (10, b""), (11, b""),
                                (35, bytes(16))):
             after = b"\0text\0" if opcode == 6 else b"\0"
             one.hold(f"{requests.NAMES[opcode]} of {name}", line("16+144", request(opcode, before + name + after)),
-                     EINVAL)
+                     error)
     # Who asks is who owns what is made.
     for uid, error in ((7, 0), (2**32 - 1, EINVAL)):
         body = struct.pack("<II", 0o2755, 0) + b"made%d\0" % uid

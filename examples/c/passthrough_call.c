@@ -558,14 +558,16 @@ static bool wants_file(const nizwarf_call *asked)
 	}
 }
 
-/* Whether the names that a call has are names in a directory. */
-static bool has_names(const struct call *call)
+/* Whether the names that a call has are names in a directory: 0, or an error. */
+static int check_names(const struct call *call)
 {
 	const nizwarf_call *asked = call->asked;
+	const char *name = name_of(call, asked->name), *other = "other";
 
 	switch (asked->call) {
 	case NIZWARF_RENAME:
-		return is_plain(name_of(call, asked->name)) && is_plain(name_of(call, asked->other_name));
+		other = name_of(call, asked->other_name);
+		break;
 	case NIZWARF_LOOKUP:
 	case NIZWARF_SYMLINK:
 	case NIZWARF_MKNOD:
@@ -574,10 +576,14 @@ static bool has_names(const struct call *call)
 	case NIZWARF_RMDIR:
 	case NIZWARF_LINK:
 	case NIZWARF_CREATE:
-		return is_plain(name_of(call, asked->name));
+		break;
 	default:
-		return true;
+		return 0;
 	}
+	/* (POSIX has this error for the empty name) */
+	if (!*name || !*other)
+		return ENOENT;
+	return is_plain(name) && is_plain(other) ? 0 : EINVAL;
 }
 
 /* A call of a node, which is in hand. */
@@ -677,8 +683,8 @@ static int make_with_node(struct call *call)
 	}
 	if (!error && (asked->call == NIZWARF_RENAME || asked->call == NIZWARF_LINK))
 		error = node_get(nodes, asked->other_node, &call->other);
-	if (!error && !has_names(call))
-		error = EINVAL;
+	if (!error)
+		error = check_names(call);
 	if (!error)
 		error = call->file && asked->call != NIZWARF_GETATTR && asked->call != NIZWARF_SETATTR ?
 				make_of_file(call) : make_of_node(call);

@@ -51,7 +51,7 @@ static int list(const struct call *call)
 	struct worker *w = call->worker;
 	struct open_file *file = call->file;
 	size_t room = call->asked->size, names = 0, count = 0;
-	const struct dirent64 *next;
+	const struct dirent64 *next = NULL;
 	int error = move_to(file, call->asked->offset);
 
 	/* Names are copied, since the buffer changes; of each the record is longer than the name. */
