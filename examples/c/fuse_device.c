@@ -3,7 +3,12 @@
  * A read of the device is one request. The kernel copies it into the worker's memory, so nothing
  * changes it while it is answered. A write is one reply. Reads wait: a request takes two system
  * calls. Each worker but the first has a descriptor of its own for the device, by
- * FUSE_DEV_IOC_CLONE, and begins once the options are agreed on. */
+ * FUSE_DEV_IOC_CLONE, and begins once the options are agreed on.
+ *
+ * The kernel wakes those that read in turn, so one client would be served by one cold worker after
+ * another. So a worker that finds another one reading rests. While requests come the calling thread
+ * looks each millisecond whether no one reads, since a request takes long or many come: it calls
+ * one that rests then, and that calls the next if there was a request for it at once. */
 #define _GNU_SOURCE
 #include <errno.h>
 #include <fcntl.h>
@@ -25,6 +30,7 @@
 
 /* The longest request and reply: a header and its record take less than a page. Before the data of
  * a WRITE stand 80 bytes, and before those of a READ's reply 16. */
+enum { TICK = 1, QUIET_TICKS = 50 };
 enum { PAGE = 4096, LONGEST = TRANSPORT_PAYLOAD + PAGE, BEFORE_WRITE = 80, BEFORE_READ = 16 };
 
 enum outcome { SERVED, ENDED, FAILED };
@@ -46,6 +52,16 @@ struct device {
 	atomic_int stop, failed;
 	/* How many workers were started: the first one counts the others. */
 	unsigned started;
+	/* How many read now, and how many requests were taken. */
+	atomic_uint readers;
+	atomic_ulong taken;
+	/* The calling thread waits for no tick, but to be told by `busy`. */
+	atomic_int sleeps;
+	int busy;
+	/* Those that rest, and how many of them are called. */
+	pthread_mutex_t lock;
+	pthread_cond_t call;
+	unsigned resting, called;
 	struct worker worker[TRANSPORT_MOST_WORKERS];
 };
 
@@ -77,10 +93,72 @@ static size_t refuse(const struct worker *w, const struct fuse_in_header *asked,
 	return sizeof(reply);
 }
 
-/* Takes a request and answers it. `*opcode` is what was asked, 0 if nothing was. */
-static enum outcome serve_one(const struct worker *w, uint32_t *opcode)
+static void tell(const struct device *d, int event)
 {
-	const ssize_t got = read(w->fd, w->request, LONGEST);
+	const uint64_t one = 1;
+
+	if (write(event, &one, sizeof(one)) < 0)
+		say(d->by, "eventfd");
+}
+
+/* Calls one that rests, if one does and no one reads. */
+static void call_one(struct device *d)
+{
+	if (atomic_load(&d->readers))
+		return;
+	pthread_mutex_lock(&d->lock);
+	if (d->resting > d->called) {
+		d->called++;
+		pthread_cond_signal(&d->call);
+	}
+	pthread_mutex_unlock(&d->lock);
+}
+
+/* Rests if another one reads, until it is called. Answers whether it was. */
+static int rest(struct device *d)
+{
+	int was_called = 0;
+
+	if (!atomic_load(&d->readers))
+		return 0;
+	pthread_mutex_lock(&d->lock);
+	d->resting++;
+	while (!d->called && !atomic_load(&d->stop))
+		pthread_cond_wait(&d->call, &d->lock);
+	if (d->called) {
+		d->called--;
+		was_called = 1;
+	}
+	d->resting--;
+	pthread_mutex_unlock(&d->lock);
+	return was_called;
+}
+
+/* Reads a request, and counts those that read. */
+static ssize_t read_request(const struct worker *w)
+{
+	struct device *d = w->of;
+	ssize_t got;
+	int error;
+
+	if (d->by->workers == 1)
+		return read(w->fd, w->request, LONGEST);
+	atomic_fetch_add(&d->readers, 1);
+	got = read(w->fd, w->request, LONGEST);
+	error = errno;
+	atomic_fetch_sub(&d->readers, 1);
+	atomic_fetch_add(&d->taken, 1);
+	if (atomic_load(&d->sleeps) && atomic_exchange(&d->sleeps, 0))
+		tell(d, d->busy);
+	errno = error;
+	return got;
+}
+
+/* Takes a request and answers it. `*opcode` is what was asked, 0 if nothing was. One that was called
+ * calls the next. */
+static enum outcome serve_one(const struct worker *w, uint32_t *opcode, int was_called)
+{
+	const ssize_t got = read_request(w);
 	const nizwarf_segment segment = { w->request, (size_t)got };
 	const nizwarf_room room = { w->room, LONGEST };
 	const transport *by = w->of->by;
@@ -89,6 +167,8 @@ static enum outcome serve_one(const struct worker *w, uint32_t *opcode)
 	int32_t code;
 
 	*opcode = 0;
+	if (got > 0 && was_called)
+		call_one(w->of);
 	if (got == 0 || (got < 0 && errno == ENODEV))
 		return ENDED;
 	/* ENOENT: who asked has been interrupted before it was read. */
@@ -161,22 +241,22 @@ static void *run(void *given)
 	struct worker *w = given;
 	struct device *d = w->of;
 	enum outcome outcome = FAILED;
-	const uint64_t one = 1;
+	int was_called = 0;
 	uint32_t opcode;
 
 	if (!d->by->begin || !d->by->begin(d->by->user, w->number)) {
 		do {
-			outcome = serve_one(w, &opcode);
+			outcome = serve_one(w, &opcode, was_called);
 			if (opcode == FUSE_INIT && w->number == 0)
 				start_others(d);
+			was_called = outcome == SERVED && d->by->workers > 1 && rest(d);
 		} while (outcome == SERVED && !atomic_load(&d->stop));
 		if (d->by->end)
 			d->by->end(d->by->user, w->number);
 	}
 	if (outcome == FAILED)
 		atomic_store(&d->failed, 1);
-	if (write(d->over, &one, sizeof(one)) < 0)
-		say(d->by, "eventfd");
+	tell(d, d->over);
 	return NULL;
 }
 
@@ -207,21 +287,47 @@ static int unmount(const transport *by, const char *folder)
 	return umount2(folder, MNT_DETACH) ? say(by, folder) : 0;
 }
 
+/* How long to wait for the next tick, in milliseconds; -1: until somebody is busy. */
+static int next_tick(struct device *d, unsigned long *taken, int *quiet)
+{
+	const unsigned long now = atomic_load(&d->taken);
+
+	if (d->by->workers == 1)
+		return -1;
+	call_one(d);
+	*quiet = now == *taken && atomic_load(&d->readers) ? *quiet + 1 : 0;
+	*taken = now;
+	if (*quiet < QUIET_TICKS)
+		return TICK;
+	/* A worker that takes a request from now on sees this, or it is seen here that it did. */
+	atomic_store(&d->sleeps, 1);
+	if (atomic_load(&d->taken) == now && atomic_load(&d->readers))
+		return -1;
+	atomic_store(&d->sleeps, 0);
+	*quiet = 0;
+	return TICK;
+}
+
 /* Waits until a worker has ended, or signals want an end. */
 static void wait_for_end(struct device *d, int signals, const char *folder)
 {
-	struct pollfd wait[] = { { signals, POLLIN, 0 }, { d->over, POLLIN, 0 } };
+	struct pollfd wait[] = { { signals, POLLIN, 0 }, { d->over, POLLIN, 0 },
+				 { d->busy, POLLIN, 0 } };
 	struct signalfd_siginfo said;
-	int asked = 0;
+	unsigned long taken = 0;
+	int asked = 0, quiet = 0;
+	uint64_t times;
 
 	while (!wait[1].revents) {
-		if (poll(wait, 2, -1) < 0) {
+		if (poll(wait, 3, next_tick(d, &taken, &quiet)) < 0) {
 			if (errno == EINTR)
 				continue;
 			say(d->by, "poll");
 			atomic_store(&d->failed, 1);
 			return;
 		}
+		if (wait[2].revents && read(d->busy, &times, sizeof(times)) == sizeof(times))
+			quiet = 0;
 		if (!wait[0].revents || read(signals, &said, sizeof(said)) != sizeof(said))
 			continue;
 		if (asked++ || !folder)
@@ -251,13 +357,19 @@ int fuse_device_serve(const transport *by, int device, const char *folder)
 	if (d) {
 		d->by = by;
 		d->over = eventfd(0, EFD_CLOEXEC);
+		d->busy = eventfd(0, EFD_CLOEXEC);
+		pthread_mutex_init(&d->lock, NULL);
+		pthread_cond_init(&d->call, NULL);
 	}
-	if (!d || signals < 0 || d->over < 0) {
+	if (!d || signals < 0 || d->over < 0 || d->busy < 0) {
 		say(by, "signalfd and eventfd");
 		close(device);
 	} else if (!start(d, device)) {
 		wait_for_end(d, signals, folder);
+		pthread_mutex_lock(&d->lock);
 		atomic_store(&d->stop, 1);
+		pthread_cond_broadcast(&d->call);
+		pthread_mutex_unlock(&d->lock);
 		/* The first one has started the others. */
 		end(&d->worker[0]);
 		for (unsigned i = 1; i < d->started; i++)
@@ -270,6 +382,8 @@ int fuse_device_serve(const transport *by, int device, const char *folder)
 		close(signals);
 	if (d && d->over >= 0)
 		close(d->over);
+	if (d && d->busy >= 0)
+		close(d->busy);
 	free(d);
 	return is_wrong;
 }

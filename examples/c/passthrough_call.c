@@ -335,6 +335,9 @@ static int tell_file(const struct call *call, int fd, bool is_directory)
 	case CACHE_AUTO:
 		break;
 	}
+	/* (what was only read has nothing to flush) */
+	if (!is_directory && (call->asked->flags & O_ACCMODE) == O_RDONLY)
+		answer->open_flags |= FOPEN_NOFLUSH;
 	return 0;
 }
 
