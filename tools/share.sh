@@ -180,6 +180,7 @@ try_mount --thread-pool-size=4 --writeback
 try_mount --cache=always --xattr
 try_mount --cache=never --no-readdirplus
 try_mount --inode-file-handles=prefer --xattr
+try_mount --rlimit-nofile=100
 try_signals
 
 # Asks a server over vhost-user: what it is, its words.

@@ -9,6 +9,7 @@
 #define PASSTHROUGH_H
 
 #include <stdbool.h>
+#include "passthrough_nodes.h"
 #include "transport.h"
 
 /* What the client may remember. */
@@ -35,8 +36,8 @@ struct passthrough_options {
 	bool readdirplus;
 	/* A directory on which something else is mounted is told to be one. */
 	bool announce_submounts;
-	/* Files are held by handles where they can be, and not by descriptors. */
-	bool file_handles;
+	/* When files are held by handles where they can be, and not by descriptors. */
+	enum file_handles file_handles;
 	/* A line for each request on standard error. */
 	bool trace;
 	unsigned workers;

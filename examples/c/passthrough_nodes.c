@@ -2,9 +2,11 @@
 #define _GNU_SOURCE
 #include <errno.h>
 #include <fcntl.h>
+#include <limits.h>
 #include <stdio.h>
 #include <stdlib.h>
 #include <string.h>
+#include <sys/resource.h>
 #include <sys/sysmacros.h>
 #include <unistd.h>
 #include "passthrough_nodes.h"
@@ -156,25 +158,40 @@ static struct node **chain_of(const struct nodes *all, uint64_t device, uint64_t
 
 static bool same_handle(const struct file_handle *a, const struct file_handle *b)
 {
-	if (!a || !b)
-		return a == b;
-	return a->handle_type == b->handle_type && a->handle_bytes == b->handle_bytes &&
+	return a && b && a->handle_type == b->handle_type && a->handle_bytes == b->handle_bytes &&
 	       !memcmp(a->f_handle, b->f_handle, a->handle_bytes);
 }
 
-/* The node of a file under the lock, or NULL. With a handle it is the same file if that is the
- * same: numbers of inodes come again, while a descriptor keeps its own from that. */
-static struct node *known(const struct nodes *all, const struct statx *seen,
-			  const struct file_handle *handle, bool with_handles)
+static bool is_of(const struct node *node, const struct statx *seen)
 {
-	const uint64_t device = device_of(seen), mount = mount_of(seen);
-	struct node *node = *chain_of(all, device, seen->stx_ino);
+	return node->inode == seen->stx_ino && node->device == device_of(seen) &&
+	       node->mount == mount_of(seen);
+}
 
-	while (node && (node->inode != seen->stx_ino || node->device != device ||
-			node->mount != mount ||
-			(node->counted.fd < 0 && !(with_handles && same_handle(node->handle, handle)))))
+/* The node of a file under the lock, or NULL. One that is held by a handle is that of the file if
+ * the handle is: numbers of inodes come again, while a descriptor keeps its own from that. */
+static struct node *known(const struct nodes *all, const struct statx *seen,
+			  const struct file_handle *handle)
+{
+	struct node *node = *chain_of(all, device_of(seen), seen->stx_ino);
+
+	while (node && (!is_of(node, seen) ||
+			(node->counted.fd < 0 && !same_handle(node->handle, handle))))
 		node = node->next;
 	return node;
+}
+
+/* Whether one of these numbers is held by a handle. */
+static bool some_handle(struct nodes *all, const struct statx *seen)
+{
+	struct node *node;
+
+	pthread_rwlock_rdlock(&all->nodes.lock);
+	node = *chain_of(all, device_of(seen), seen->stx_ino);
+	while (node && (!is_of(node, seen) || node->counted.fd >= 0))
+		node = node->next;
+	pthread_rwlock_unlock(&all->nodes.lock);
+	return node != NULL;
 }
 
 uint64_t node_find(struct nodes *all, const struct statx *seen)
@@ -184,7 +201,7 @@ uint64_t node_find(struct nodes *all, const struct statx *seen)
 
 	/* (no node goes meanwhile) */
 	pthread_rwlock_rdlock(&all->nodes.lock);
-	node = known(all, seen, NULL, false);
+	node = known(all, seen, NULL);
 	if (node) {
 		atomic_fetch_add(&node->lookups, 1);
 		number = node->counted.number;
@@ -265,13 +282,14 @@ static struct file_handle *handle_by(int fd, const struct host_mount *mount)
 
 uint64_t node_enter(struct nodes *all, int fd, const struct statx *seen)
 {
-	const struct host_mount *mount = all->with_handles ? mount_by(all, fd, seen) : NULL;
+	const bool by_handle = fd >= all->handles_from || some_handle(all, seen);
+	const struct host_mount *mount = by_handle ? mount_by(all, fd, seen) : NULL;
 	struct file_handle *handle = mount ? handle_by(fd, mount) : NULL;
 	struct node *made = calloc(1, sizeof(*made)), *node;
 	uint64_t number = 0;
 
 	pthread_rwlock_wrlock(&all->nodes.lock);
-	node = known(all, seen, handle, true);
+	node = known(all, seen, handle);
 	if (node) {
 		atomic_fetch_add(&node->lookups, 1);
 		number = node->counted.number;
@@ -372,8 +390,9 @@ void nodes_forget_all(struct nodes *all)
 	}
 }
 
-int nodes_begin(struct nodes *all, int root, int proc, bool with_handles)
+int nodes_begin(struct nodes *all, int root, int proc, enum file_handles handles)
 {
+	struct rlimit limit = { 0, 0 };
 	struct statx seen;
 
 	memset(all, 0, sizeof(*all));
@@ -386,9 +405,14 @@ int nodes_begin(struct nodes *all, int root, int proc, bool with_handles)
 	if (!all->chains || statx(root, "", AT_EMPTY_PATH, STATX_BASIC_STATS | STATX_MNT_ID, &seen))
 		return -1;
 	/* The root stays open, whatever the others are. */
+	all->handles_from = INT_MAX;
 	if (node_enter(all, root, &seen) != ROOT_NODE)
 		return -1;
-	all->with_handles = with_handles;
+	if (handles == HANDLES_PREFERRED)
+		all->handles_from = 0;
+	else if (handles == HANDLES_IF_SCARCE && !getrlimit(RLIMIT_NOFILE, &limit) &&
+		 limit.rlim_cur < INT_MAX)
+		all->handles_from = (int)(limit.rlim_cur / 4 * 3);
 	return 0;
 }
 

@@ -3,8 +3,9 @@
  * likes.
  *
  * A node is a file of the host, by device, inode and mount, and is held by a descriptor made with
- * O_PATH, which opens nothing. With file handles it is held by a handle of the host's file system
- * where there is one, and opened for each call. Any number of threads may call at once. */
+ * O_PATH, which opens nothing; or, if descriptors are scarce or handles are preferred, by a handle
+ * of the host's file system where there is one, and is opened for each call then. Any number of
+ * threads may call at once. */
 #ifndef PASSTHROUGH_NODES_H
 #define PASSTHROUGH_NODES_H
 
@@ -15,6 +16,13 @@
 #include <sys/stat.h>
 
 enum { ROOT_NODE = 1 };
+
+enum file_handles {
+	HANDLES_NEVER,
+	/* From three quarters of the descriptors on that may be open. */
+	HANDLES_IF_SCARCE,
+	HANDLES_PREFERRED,
+};
 
 /* What a number leads to, before the fields of its kind. `users` are the table, and each call that
  * has it in hand. */
@@ -73,7 +81,8 @@ struct nodes {
 	uint32_t chain_count;
 	/* The descriptor of /proc/self/fd. */
 	int proc;
-	bool with_handles;
+	/* A new node whose descriptor is this one or a later one gets a handle. */
+	int handles_from;
 	pthread_mutex_t mounts_lock;
 	struct host_mount *mounts;
 };
@@ -85,7 +94,7 @@ struct grip {
 };
 
 /* -1: there is no memory. `root` is the node ROOT_NODE from then on, and is closed with it. */
-int nodes_begin(struct nodes *all, int root, int proc, bool with_handles);
+int nodes_begin(struct nodes *all, int root, int proc, enum file_handles handles);
 void nodes_end(struct nodes *all);
 
 /* Takes a node in hand. 0, or an error: ESTALE where there is none. */

@@ -48,8 +48,9 @@ static const char usage[] =
 	"  --no-readdirplus          directories are listed without attributes\n"
 	"  --announce-submounts      mounts below the folder are told to be such; with\n"
 	"  --no-announce-submounts   not, as without a word\n"
-	"  --inode-file-handles=HOW  prefer: files are held by handles if that can be; never (the\n"
-	"                            default): by descriptors\n"
+	"  --inode-file-handles=HOW  when files are held by handles, and not by descriptors: never,\n"
+	"                            prefer: where they can be, auto (the default): only if\n"
+	"                            descriptors are scarce\n"
 	"  --thread-pool-size=N      how many requests are served at once, 1 to 64 (4)\n"
 	"  --rlimit-nofile=N         the most open files; 0: as it is (1000000, or what may be)\n"
 	"  --sandbox=HOW             namespace (the default of root over vhost-user), chroot or none:\n"
@@ -71,7 +72,8 @@ static struct {
 	int fd, sandbox, filter;
 	bool says_more, is_off, daemonizes;
 } words = {
-	.files = { .cache = CACHE_AUTO, .readdirplus = true, .workers = WORKERS },
+	.files = { .cache = CACHE_AUTO, .readdirplus = true, .file_handles = HANDLES_IF_SCARCE,
+		   .workers = WORKERS },
 	.allow_other = "", .flags = MS_NOSUID | MS_NODEV, .max_read = TRANSPORT_PAYLOAD,
 	.most_files = MOST_FILES, .fd = -1, .sandbox = -1, .filter = -1, .says_more = true,
 };
@@ -217,7 +219,7 @@ static void take_word(int word)
 	static const char *const caches[] = { "never", "auto", "always", "metadata", NULL };
 	static const char *const sandboxes[] = { "none", "chroot", "namespace", NULL };
 	static const char *const filters[] = { "none", "kill", "trap", "log", NULL };
-	static const char *const handles[] = { "never", "prefer", NULL };
+	static const char *const handles[] = { "never", "auto", "prefer", NULL };
 
 	switch (word) {
 	case 'o': take_options(optarg); break;
@@ -235,7 +237,8 @@ static void take_word(int word)
 	case ANNOUNCE: words.files.announce_submounts = true; break;
 	case NO_ANNOUNCE: words.files.announce_submounts = false; break;
 	case FILE_HANDLES:
-		words.files.file_handles = one_of("--inode-file-handles", optarg, handles) == 1;
+		words.files.file_handles =
+			(enum file_handles)one_of("--inode-file-handles", optarg, handles);
 		break;
 	case POOL:
 		words.files.workers = (unsigned)number("--thread-pool-size", optarg, 0,
