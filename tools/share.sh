@@ -10,9 +10,9 @@
 # Words are those of virtiofsd, as --cache=always, --xattr, --thread-pool-size=4, and -o with the options of
 # a mount; --words lists them. `umount MOUNTPOINT` or Ctrl-C ends it.
 #
-# With --check it refuses words that can't be, and shares folders of its own. Over /dev/fuse tools/session.sh does there what a person does, with
-# one worker, with four, with a cache of what is written later, with file handles; after each the descriptors
-# of the server are counted. Over vhost-user it is asked the hostile requests of tools/beside, and more that are
+# With --check it refuses words that can't be, and shares folders of its own. Over /dev/fuse tools/session.sh
+# does there what a person does, with one worker, with four, with a cache of what is written later, with file
+# handles, with few descriptors; after each the descriptors of the server are counted. Over vhost-user it is asked the hostile requests of tools/beside, and more that are
 # made up, under sanitizers and in its sandbox; a machine that goes away is followed by another. It takes two
 # minutes, and wants python3.
 #
@@ -61,7 +61,13 @@ cc -std=c11 -O2 -Wall -Wextra -Werror -o "$here/out/c/ask" "$here/tools/beside/a
 # In memory where that is a file system: one on a disk may say of a directory that it has one name.
 work=$(mktemp -d -p "$(if [ -d /dev/shm ]; then echo /dev/shm; else echo /tmp; fi)")
 server=
-trap '{ [ -z "$server" ] || kill "$server"; umount -l "$work/mount"; umount -l "$work/shared/mounted"; rm -rf "$work"; } 2> /dev/null || true' EXIT
+tidy() {
+    [ -z "$server" ] || kill "$server"
+    umount -l "$work/mount"
+    umount -l "$work/shared/mounted"
+    rm -rf "$work"
+}
+trap 'tidy 2> /dev/null || true' EXIT
 chmod 755 "$work"
 status=0
 
@@ -214,7 +220,7 @@ left.bind(path)
 left.close()
 
 with open(work + "/log", "w+") as log:
-    process = subprocess.Popen([*daemon, "--socket-path=" + path, folder], stdout=log, stderr=log)
+    process = subprocess.Popen([*daemon, "--log-level=warn", "--socket-path=" + path, folder], stdout=log, stderr=log)
     faults = []
 
     def end(why):
@@ -307,7 +313,8 @@ with open(work + "/log", "w+") as log:
         if told != flags:
             faults.append(f"{name} is told with the flags {told}")
     # Names that are none of something in a directory, and directories that are none.
-    for name, error in ((b"", ENOENT), *((it, EINVAL) for it in (b".", b"..", b"/", b"a/b", b"../x", b"directory/.."))):
+    names = b".", b"..", b"/", b"a/b", b"../x", b"directory/.."
+    for name, error in ((b"", ENOENT), *((it, EINVAL) for it in names)):
         for opcode, before in ((1, b""), (6, b""), (8, bytes(16)), (9, bytes(8)), (10, b""), (11, b""),
                                (35, bytes(16))):
             after = b"\0text\0" if opcode == 6 else b"\0"
@@ -351,11 +358,12 @@ with open(work + "/log", "w+") as log:
               for opcode, node in ((14, look_up(b"file1")), (27, 1))]
     numbers = [0, 1, 2, 3, 7, 4096, 65536, 2**62 + 1, 2**63 - 1, 2**63, 2**64 - 1, *opened]
     nodes = [1, 1, node, link, pipe, null, look_up(b"directory"), look_up(b"file0"), 12345, 2**32 + 1]
-    texts = [b"file0\0", b"new\0", b"directory\0", b"..\0", b"a/b\0", b"link\0", b"pipe\0", b"user.a\0", b"\0", b"x" * 300 + b"\0",
-             b"none", b"\xff\0"]
+    texts = [b"file0\0", b"new\0", b"directory\0", b"..\0", b"a/b\0", b"link\0", b"pipe\0", b"user.a\0", b"\0",
+             b"x" * 300 + b"\0", b"none", b"\xff\0"]
     opcodes = [opcode for opcode in requests.NAMES if opcode not in (26, 38)]
     for i in range(5000):
-        body = b"".join(struct.pack("<Q", chance.choice(numbers)) for _ in range(chance.choice((0, 1, 2, 3, 5, 7, 11))))
+        most = chance.choice((0, 1, 2, 3, 5, 7, 11))
+        body = b"".join(struct.pack("<Q", chance.choice(numbers)) for _ in range(most))
         body += b"".join(chance.choice(texts) for _ in range(chance.choice((0, 1, 1, 2))))
         if chance.random() < 0.2:
             body = body[:chance.randrange(len(body) + 1)]

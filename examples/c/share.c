@@ -480,6 +480,7 @@ int main(int count, char **given)
 
 	take_words(count, given);
 	by.workers = words.files.workers;
+	by.quiet = !words.says_more;
 	if (!realpath(words.folder, folder))
 		return failed(words.folder), 2;
 	words.folder = folder;

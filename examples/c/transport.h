@@ -28,6 +28,8 @@ typedef struct {
 	/* At least 1. */
 	unsigned workers;
 	int writes_in_place;
+	/* Not to print how many requests came to what, once a front end has gone. */
+	int quiet;
 	/* Is handed to each of the functions. */
 	void *user;
 	/* Both may be NULL. An answer that isn't 0 ends the transport, which then failed; `begin` said

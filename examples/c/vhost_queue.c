@@ -372,11 +372,11 @@ void queues_tell(void)
 
 	for (int i = 0; i < OUTCOMES; i++) {
 		count = atomic_exchange(&outcomes[i], 0);
-		if (count)
+		if (count && !by->quiet)
 			fprintf(stderr, "%s: outcome %d: %lu requests\n", by->program, i, count);
 	}
 	count = atomic_exchange(&broken, 0);
-	if (count)
+	if (count && !by->quiet)
 		fprintf(stderr, "%s: no chain: %lu\n", by->program, count);
 }
 
