@@ -12,9 +12,9 @@
 #
 # With --check it refuses words that can't be, and shares folders of its own. Over /dev/fuse tools/session.sh
 # does there what a person does, with one worker, with four, with a cache of what is written later, with file
-# handles, with few descriptors; after each the descriptors of the server are counted. Over vhost-user it is asked the hostile requests of tools/beside, and more that are
-# made up, under sanitizers and in its sandbox; a machine that goes away is followed by another. It takes two
-# minutes, and wants python3.
+# handles, with few descriptors; after each the descriptors of the server are counted. Over vhost-user it is
+# asked the hostile requests of tools/beside, and more that are made up, under sanitizers and in its sandbox; a
+# machine that goes away is followed by another. It takes two minutes, and wants python3.
 #
 # It wants root, for a mount /dev/fuse, a C compiler and the Rattle toolchain; libseccomp-dev if there is to be
 # a filter of system calls. It links the proved library if that is built and no source is newer; otherwise
@@ -61,6 +61,7 @@ cc -std=c11 -O2 -Wall -Wextra -Werror -o "$here/out/c/ask" "$here/tools/beside/a
 # In memory where that is a file system: one on a disk may say of a directory that it has one name.
 work=$(mktemp -d -p "$(if [ -d /dev/shm ]; then echo /dev/shm; else echo /tmp; fi)")
 server=
+# shellcheck disable=SC2317
 tidy() {
     [ -z "$server" ] || kill "$server"
     umount -l "$work/mount"
@@ -439,7 +440,8 @@ PYTHON
 }
 
 ask "over vhost-user, in its sandbox" "$share" --xattr --announce-submounts
-ask "without a sandbox, one worker" "$share" --xattr --announce-submounts --sandbox=none --seccomp=none --thread-pool-size=1
+ask "without a sandbox, one worker" "$share" --xattr --announce-submounts --sandbox=none --seccomp=none \
+    --thread-pool-size=1
 for sanitizer in address,undefined thread; do
     flags=(-g -O1 "-fsanitize=$sanitizer" -fno-sanitize-recover=all)
     if echo 'int main(void) { return 0; }' | cc -x c "${flags[@]}" -o "$work/program" - 2> /dev/null; then
