@@ -439,11 +439,21 @@ static int mount_folder(const transport *by)
 				 words.flags, options);
 }
 
+/* Leaves the process what it needs to serve. -1: it failed, and said why. */
+static int limit(void)
+{
+	/* (to unmount takes more than the files do, and each worker limits itself) */
+	if ((!words.mount_point && passthrough_limit()) || prctl(PR_SET_NO_NEW_PRIVS, 1, 0, 0, 0))
+		return failed("privileges");
+	return sandbox_filter((enum calls_filter)words.filter, words.mount_point != NULL);
+}
+
 /* Serves in the sandbox, from its entering on. */
 static int serve(transport *by, int listener, int manager, int parent, int nothing)
 {
 	struct passthrough *all;
 	int root, proc, device = -1, status = 1;
+	bool is_mounted;
 
 	if (sandbox_enter((enum sandbox)words.sandbox, words.folder, &root, &proc))
 		return 1;
@@ -452,18 +462,14 @@ static int serve(transport *by, int listener, int manager, int parent, int nothi
 	if (!all)
 		return failed(words.folder), 1;
 	by->user = all;
-	if (words.mount_point)
-		device = mount_folder(by);
-	if (!words.mount_point || device >= 0) {
+	is_mounted = words.mount_point && (device = mount_folder(by)) >= 0;
+	if ((is_mounted || !words.mount_point) && !limit()) {
 		tell_ready(manager, parent, nothing);
-		/* (to unmount takes more than the files do) */
-		if ((words.mount_point || !passthrough_limit()) &&
-		    !prctl(PR_SET_NO_NEW_PRIVS, 1, 0, 0, 0) &&
-		    !sandbox_filter((enum calls_filter)words.filter, words.mount_point != NULL))
-			status = words.mount_point ? fuse_device_serve(by, device, words.mount_point) :
-						     vhost_user_serve(by, listener);
-		else
-			failed("privileges");
+		status = is_mounted ? fuse_device_serve(by, device, words.mount_point) :
+				      vhost_user_serve(by, listener);
+	} else if (is_mounted) {
+		umount2(words.mount_point, MNT_DETACH);
+		close(device);
 	}
 	passthrough_end(all);
 	close(proc);

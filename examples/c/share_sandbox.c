@@ -118,7 +118,7 @@ const bool has_filter = true;
 /* What a server calls, its threads and its C library. */
 static const char *const calls[] = {
 	"accept4", "brk", "capget", "capset", "clock_gettime", "clock_nanosleep", "clone", "clone3", "close",
-	"copy_file_range", "dup", "epoll_create1", "epoll_ctl", "epoll_pwait", "epoll_wait",
+	"copy_file_range", "dup", "dup2", "dup3", "epoll_create1", "epoll_ctl", "epoll_pwait", "epoll_wait",
 	"eventfd2", "exit", "exit_group", "fallocate", "fchdir", "fchmod", "fchmodat", "fchownat",
 	"fcntl", "fdatasync", "fgetxattr", "flistxattr", "fstat", "fstatfs", "fsync", "ftruncate",
 	"futex", "getdents64", "geteuid", "getpid", "getrandom", "gettid", "getxattr", "ioctl",
