@@ -390,7 +390,7 @@ static void tell_ready(int manager, int parent, int nothing)
 		close(manager);
 }
 
-/* Listens, with the group of those who may connect. */
+/* Listens for the owner, and for the group of those who may connect too. */
 static int listen_on_socket(const transport *by)
 {
 	const struct group *group = words.socket_group ? getgrnam(words.socket_group) : NULL;
@@ -407,7 +407,7 @@ static int listen_on_socket(const transport *by)
 	}
 	if (words.socket_group && !group)
 		refuse("there is no group ", words.socket_group);
-	before = umask(group ? 0177 : 022);
+	before = umask(0177);
 	listener = vhost_user_listen(by, words.socket_path);
 	umask(before);
 	if (listener < 0)
