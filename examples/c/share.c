@@ -197,8 +197,8 @@ static _Noreturn void print(int word)
 	if (word == PRINT)
 		puts("{\n  \"type\": \"fs\",\n  \"features\": [\n    \"separate-options\"\n  ]\n}");
 	else if (word == VERSION)
-		printf("nizwarf-share %d.%d, FUSE 7.38%s\n", NIZWARF_VERSION >> 8, NIZWARF_VERSION & 0xff,
-		       has_filter ? ", with libseccomp" : ", without libseccomp");
+		printf("nizwarf-share %d.%d.%d, FUSE 7.38, %s libseccomp\n", NIZWARF_VERSION_MAJOR,
+		       NIZWARF_VERSION_MINOR, NIZWARF_VERSION_PATCH, has_filter ? "with" : "without");
 	else
 		fputs(usage, stdout);
 	exit(fflush(stdout) != 0);
