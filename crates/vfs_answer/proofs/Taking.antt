@@ -2,13 +2,12 @@
 use Rattle.std.proofs.Common.{◌≡◌, ◌≢◌, ◌≤◌, ◌<◌, ◌+◌, ◌-◌, ℕ, suc, List, [], ◌∷◌, ◌++◌, Bool, Option, None, Result, Ok, Err, length, take, drop, get_or, arith, refl, sym, ap, subst, ◌∙◌, sum_by, append-nil}
 use Rattle.std.proofs.Math.Seq.{drop-cons}
 use Rattle.std.proofs.lemmas.List.{length_push, take_more, take_all, take-append-drop}
-use Rattle.std.proofs.lemmas.List.Sums.{sum_by_push, sum_by-cons}
-use Rattle.std.proofs.lemmas.Grind.{flat_map-append}
+use Rattle.std.proofs.lemmas.List.Sums.{sum_by_push}
 use Rattle.std.specs.List.{flat_map}
 use Rattle.vfs_segments.specs.Written.{Written}
 use Rattle.vfs_files.specs.Names.{name_of}
 use Rattle.vfs_grammar.specs.Dirents.{Verdict, Fits, Full, Fails}
-use Rattle.vfs_grammar.specs.Listing.{Line, End, At, IsGot, FitsGot, line_len, line_bytes, bytes_got, len_of, judged, fate, AreWritten, told, answer_at}
+use Rattle.vfs_grammar.specs.Listing.{Line, End, At, line_len, line_bytes, bytes_got, len_of, judged, fate, AreWritten, told, answer_at}
 use Rattle.vfs_grammar.proofs.Listings.{fits_within, length-bytes_got}
 use Rattle.vfs_listings.specs.Reading.{Puts, cut_by}
 use Rattle.vfs_listings.specs.ReadingLaws.{puts_nothing}

@@ -1,7 +1,6 @@
 -- What C is told of a call that was answered.
-use Rattle.std.proofs.Common.{◌≡◌, ◌≤◌, ◌+◌, ◌-◌, ◌++◌, ◌∙◌, ℕ, ℤ, List, length, take, drop, replicate, true, Option, Some, None, IfSome, ap, sym, subst, inl, arith, rules, length-append, append_assoc}
-use Rattle.std.proofs.lemmas.List.{length-replicate, length-take-le, take_at}
-use Rattle.std.proofs.Math.Seq.{take-append-add}
+use Rattle.std.proofs.Common.{◌≡◌, ◌≤◌, ◌+◌, ◌-◌, ◌∙◌, ℕ, ℤ, List, length, replicate, true, Option, Some, None, IfSome, ap, subst, inl, arith, rules}
+use Rattle.std.proofs.lemmas.List.{length-replicate}
 use Rattle.vfs_segments.specs.Written.{Written, whole}
 use Rattle.vfs_files.specs.Calls.{Kind, Data, Iterators}
 use Rattle.vfs_messages.specs.Rooms.{with_behind}

@@ -1,4 +1,4 @@
-use Rattle.std.proofs.Common.{◌≡◌, ◌≤◌, true, length, rules, arith}
+use Rattle.std.proofs.Common.{◌≡◌, ◌≤◌, true, length, rules}
 use Rattle.vfs_segments.specs.Written.{whole}
 use Rattle.vfs_door.proofs.Asking.{told_call, told_finished}
 use Rattle.vfs_door.proofs.ask.ask_reader.Goals as goal
