@@ -646,10 +646,11 @@ static inline int32_t nizwarf_ask(nizwarf_slot *slot, const nizwarf_session *ses
 	size_t total;
 	int32_t code;
 
+	if (told)
+		memset(told, 0, sizeof(*told));
 	if (!slot || !session || !call || !told)
 		return NIZWARF_NULL;
 	call->call = 0;
-	memset(told, 0, sizeof(*told));
 	told->options = session->options;
 	code = nizwarf_add_up(request, segments, room, rooms, &total);
 	if (code != NIZWARF_OK)
@@ -671,9 +672,10 @@ static inline int32_t nizwarf_reply(nizwarf_slot *slot, const nizwarf_session *s
 	size_t total, i;
 	int32_t code;
 
+	if (told)
+		memset(told, 0, sizeof(*told));
 	if (!slot || !session || !call || !answer || !told)
 		return NIZWARF_NULL;
-	memset(told, 0, sizeof(*told));
 	told->options = call->options;
 	code = nizwarf_add_up(NULL, 0, room, rooms, &total);
 	if (code != NIZWARF_OK)
