@@ -1,0 +1,242 @@
+/* A check in front of a server of FUSE that trusts whoever sends it requests, as libfuse does: it leaves
+ * to the kernel, or to who sends in its place, that they are whole.
+ *
+ * Usage: check DESCRIPTOR PROGRAM [WORD..]
+ *
+ * At the other end of the descriptor is the peer, who may send anything: it is a socket that keeps
+ * messages apart, as SOCK_SEQPACKET. The program is started with one word more, the descriptor of another
+ * such socket, and serves FUSE there, as a session of libfuse with custom io. Each request is copied, and
+ * read by the door of nizwarf.h, which is told of no answer. What asks for a call is handed on as it
+ * came, and the reply back. All else is answered here, and never reaches the program:
+ *
+ * - what the door refuses, with EIO;
+ * - what needs no file system, as an opcode that is none, with the reply of the door;
+ * - a request that says another length than it has, and a WRITE of more bytes than it has, with EIO,
+ *   though the door serves both;
+ * - locks, BMAP, IOCTL, POLL and TMPFILE, with ENOSYS: the door does not look at their arguments.
+ *
+ * The options are those of the program's reply to INIT, and no other request is taken before that. Names,
+ * nodes and handles are what the peer sent: whether there are such is the program's to know.
+ *
+ * Status 0: the peer has gone; 1: the program has gone, or something failed; 2: the words can't be.
+ * Standard error says which, and how many requests were handed on. */
+#define _GNU_SOURCE
+#include <errno.h>
+#include <linux/fuse.h>
+#include <poll.h>
+#include <stdio.h>
+#include <stdlib.h>
+#include <string.h>
+#include <sys/socket.h>
+#include <sys/wait.h>
+#include <unistd.h>
+#include "nizwarf.h"
+
+enum { PAYLOAD = 1 << 20, LONGEST = PAYLOAD + 4096 };
+
+/* What becomes of a request: it is handed on, or answered here with some bytes, or none. */
+enum { HAND_ON = -1 };
+
+static const char usage[] = "Usage: check DESCRIPTOR PROGRAM [WORD..]\n"
+			    "Hands requests of FUSE that are whole on to the program, which serves the\n"
+			    "descriptor that is its last word, and answers the others itself.\n";
+static unsigned char request[LONGEST], room[LONGEST];
+static nizwarf_session session = { 0, 4096, PAYLOAD };
+static nizwarf_slot slot = NIZWARF_NONE;
+static int peer, behind;
+/* Whether an INIT was handed on whose reply hasn't come, and its number. */
+static int waiting;
+static uint64_t init;
+
+static _Noreturn void stop(const char *what)
+{
+	fprintf(stderr, "check: %s: %s\n", what, strerror(errno));
+	exit(1);
+}
+
+/* Puts an error into the room, if a reply is due. */
+static ssize_t refuse(const struct fuse_in_header *asked)
+{
+	const struct fuse_out_header reply = { sizeof(reply), -EIO, asked->unique };
+
+	if (asked->opcode == FUSE_FORGET || asked->opcode == FUSE_BATCH_FORGET ||
+	    asked->opcode == FUSE_INTERRUPT)
+		return 0;
+	memcpy(room, &reply, sizeof(reply));
+	return sizeof(reply);
+}
+
+/* What the door told nothing of is refused, as by a file system that doesn't have it. */
+static ssize_t refuse_call(const nizwarf_call *call, const nizwarf_room *whole)
+{
+	nizwarf_answer answer = NIZWARF_NO_ANSWER;
+	nizwarf_told told;
+
+	answer.error = ENOSYS;
+	nizwarf_reply(&slot, &session, call, &answer, whole, 1, &told);
+	return (ssize_t)told.len;
+}
+
+/* Judges a request of so many bytes. */
+static ssize_t judge(size_t size)
+{
+	const nizwarf_segment piece = { request, size };
+	const nizwarf_room whole = { room, LONGEST };
+	struct fuse_in_header asked;
+	nizwarf_call call;
+	nizwarf_told told;
+	int32_t code;
+
+	/* (nobody could say which request a reply is to) */
+	if (size < sizeof(asked))
+		return 0;
+	memcpy(&asked, request, sizeof(asked));
+	if (asked.len != size)
+		return refuse(&asked);
+	code = nizwarf_ask(&slot, &session, &piece, 1, &whole, 1, &call, &told);
+	if (code == NIZWARF_OK && told.interrupts)
+		return HAND_ON;
+	if (code == NIZWARF_OK)
+		return (ssize_t)told.len;
+	if (code != NIZWARF_ASKED)
+		return refuse(&asked);
+	if (call.answer == NIZWARF_FAULT || call.answer == NIZWARF_FAULT_OR_SILENCE)
+		return refuse_call(&call, &whole);
+	if (call.call == NIZWARF_WRITE && call.size > call.data.len)
+		return refuse(&asked);
+	if (call.call == NIZWARF_INIT) {
+		waiting = 1;
+		init = call.unique;
+	}
+	if (call.call == NIZWARF_DESTROY)
+		session.options = 0;
+	return HAND_ON;
+}
+
+/* Takes what was agreed on from the reply to an INIT. */
+static void agree(const unsigned char *reply, size_t size)
+{
+	struct fuse_out_header head;
+	struct fuse_init_out agreed = { 0 };
+
+	if (size < sizeof(head))
+		return;
+	memcpy(&head, reply, sizeof(head));
+	if (head.unique != init)
+		return;
+	waiting = 0;
+	size -= sizeof(head);
+	memcpy(&agreed, reply + sizeof(head), size < sizeof(agreed) ? size : sizeof(agreed));
+	if (!head.error)
+		session.options = agreed.flags | (uint64_t)agreed.flags2 << 32;
+}
+
+/* Gives a reply of the program to the peer. 0: the program has gone. */
+static int hand_back(void)
+{
+	const ssize_t size = recv(behind, room, sizeof(room), 0);
+
+	if (size < 0 && errno != ECONNRESET)
+		stop("the program's reply");
+	if (size <= 0)
+		return 0;
+	if (waiting)
+		agree(room, (size_t)size);
+	if (send(peer, room, (size_t)size, MSG_NOSIGNAL) < 0 && errno != EPIPE)
+		stop("a reply");
+	return 1;
+}
+
+/* Gives a request to the program. It takes replies meanwhile, since the program may wait for that. */
+static int hand_on(size_t size)
+{
+	while (send(behind, request, size, MSG_NOSIGNAL | MSG_DONTWAIT) < 0) {
+		struct pollfd wait = { behind, POLLIN | POLLOUT, 0 };
+
+		if (errno == EPIPE)
+			return 0;
+		if (errno != EAGAIN || poll(&wait, 1, -1) < 0)
+			stop("a request");
+		if (wait.revents & POLLIN && !hand_back())
+			return 0;
+	}
+	return 1;
+}
+
+/* Serves until one of the two has gone. 1: it was the peer. */
+static int serve(unsigned long *asked, unsigned long *handed)
+{
+	for (;;) {
+		struct pollfd wait[] = { { behind, POLLIN, 0 }, { waiting ? -1 : peer, POLLIN, 0 } };
+		ssize_t size, made;
+
+		if (poll(wait, 2, -1) < 0)
+			stop("poll");
+		if (wait[0].revents && !hand_back())
+			return 0;
+		if (waiting || !wait[1].revents)
+			continue;
+		size = recv(peer, request, sizeof(request), 0);
+		if (size < 0 && errno != ECONNRESET)
+			stop("a request");
+		if (size <= 0)
+			return 1;
+		++*asked;
+		made = judge((size_t)size);
+		if (made > 0 && send(peer, room, (size_t)made, MSG_NOSIGNAL) < 0 && errno != EPIPE)
+			stop("a reply");
+		if (made == HAND_ON && !hand_on((size_t)size))
+			return 0;
+		*handed += made == HAND_ON;
+	}
+}
+
+/* Starts the program with the other end of `behind`. */
+static void start(int count, char **words)
+{
+	char **program = calloc((size_t)count + 2, sizeof(*program)), number[16];
+	int ends[2];
+
+	if (!program || socketpair(AF_UNIX, SOCK_SEQPACKET, 0, ends))
+		stop("a socket");
+	memcpy(program, words, (size_t)count * sizeof(*program));
+	snprintf(number, sizeof(number), "%d", ends[1]);
+	program[count] = number;
+	switch (fork()) {
+	case -1:
+		stop("fork");
+	case 0:
+		close(peer);
+		close(ends[0]);
+		execvp(program[0], program);
+		stop(program[0]);
+	}
+	free(program);
+	close(ends[1]);
+	behind = ends[0];
+}
+
+int main(int count, char **words)
+{
+	unsigned long asked = 0, handed = 0;
+	int size = 2 * LONGEST, gone;
+
+	if (count == 2 && !strcmp(words[1], "--help"))
+		return fputs(usage, stdout) < 0;
+	if (count < 3 || words[1][strspn(words[1], "0123456789")])
+		return fputs(usage, stderr), 2;
+	peer = atoi(words[1]);
+	start(count - 2, words + 2);
+	/* (a request of the largest payload is one message) */
+	if (setsockopt(behind, SOL_SOCKET, SO_SNDBUF, &size, sizeof(size)))
+		stop("setsockopt");
+	gone = serve(&asked, &handed);
+	fprintf(stderr, "check: %lu requests, %lu handed on; the %s has gone\n", asked, handed,
+		gone ? "peer" : "program");
+	close(behind);
+	close(peer);
+	nizwarf_end_slot(&slot);
+	while (wait(NULL) < 0 && errno == EINTR)
+		;
+	return !gone;
+}
