@@ -1,0 +1,217 @@
+/* Serves a descriptor by libfuse's low level with custom io, for others.py.
+ *
+ * Usage: libfuse DESCRIPTOR
+ * The descriptor is a socket that keeps messages apart. The file system is an empty root, whose functions
+ * look at each byte that they are handed, as those of a real one do. libfuse and this are compiled with
+ * the address sanitizer, and the bytes of the buffer behind a message are poisoned: a look at one of them
+ * ends the program with a trace. Status 0: the other end was closed; 1: the session ended before that; 2:
+ * it could not start. */
+#define FUSE_USE_VERSION 317
+#include <errno.h>
+#include <fuse_lowlevel.h>
+#include <sanitizer/asan_interface.h>
+#include <stdio.h>
+#include <stdlib.h>
+#include <string.h>
+#include <sys/socket.h>
+#include <sys/uio.h>
+
+static volatile unsigned seen;
+static int closed;
+
+/* What is not freed as a session ends is of no matter here. */
+const char *__asan_default_options(void);
+const char *__asan_default_options(void)
+{
+	return "detect_leaks=0";
+}
+
+static void see(const char *bytes, size_t count)
+{
+	for (size_t i = 0; i < count; i++)
+		seen += (unsigned char)bytes[i];
+}
+
+static void see_name(const char *name)
+{
+	see(name, strlen(name));
+}
+
+static void reply_root(fuse_req_t req)
+{
+	const struct stat root = { .st_ino = 1, .st_mode = S_IFDIR | 0755, .st_nlink = 2 };
+
+	fuse_reply_attr(req, &root, 0);
+}
+
+static void on_getattr(fuse_req_t req, fuse_ino_t ino, struct fuse_file_info *fi)
+{
+	(void)ino, (void)fi;
+	reply_root(req);
+}
+
+static void on_setattr(fuse_req_t req, fuse_ino_t ino, struct stat *attr, int to_set,
+		       struct fuse_file_info *fi)
+{
+	(void)ino, (void)to_set, (void)fi;
+	see((const char *)attr, sizeof(*attr));
+	reply_root(req);
+}
+
+static void on_lookup(fuse_req_t req, fuse_ino_t parent, const char *name)
+{
+	(void)parent;
+	see_name(name);
+	fuse_reply_err(req, ENOENT);
+}
+
+static void on_name(fuse_req_t req, fuse_ino_t parent, const char *name)
+{
+	(void)parent;
+	see_name(name);
+	fuse_reply_err(req, EROFS);
+}
+
+static void on_mkdir(fuse_req_t req, fuse_ino_t parent, const char *name, mode_t mode)
+{
+	(void)mode;
+	on_name(req, parent, name);
+}
+
+static void on_mknod(fuse_req_t req, fuse_ino_t parent, const char *name, mode_t mode, dev_t rdev)
+{
+	(void)mode, (void)rdev;
+	on_name(req, parent, name);
+}
+
+static void on_create(fuse_req_t req, fuse_ino_t parent, const char *name, mode_t mode,
+		      struct fuse_file_info *fi)
+{
+	(void)mode, (void)fi;
+	on_name(req, parent, name);
+}
+
+static void on_symlink(fuse_req_t req, const char *link, fuse_ino_t parent, const char *name)
+{
+	see_name(link);
+	on_name(req, parent, name);
+}
+
+static void on_rename(fuse_req_t req, fuse_ino_t parent, const char *name, fuse_ino_t newparent,
+		      const char *newname, unsigned int flags)
+{
+	(void)newparent, (void)flags;
+	see_name(newname);
+	on_name(req, parent, name);
+}
+
+static void on_link(fuse_req_t req, fuse_ino_t ino, fuse_ino_t newparent, const char *newname)
+{
+	(void)ino;
+	on_name(req, newparent, newname);
+}
+
+static void on_open(fuse_req_t req, fuse_ino_t ino, struct fuse_file_info *fi)
+{
+	(void)ino;
+	fuse_reply_open(req, fi);
+}
+
+static void on_read(fuse_req_t req, fuse_ino_t ino, size_t size, off_t off, struct fuse_file_info *fi)
+{
+	(void)ino, (void)size, (void)off, (void)fi;
+	fuse_reply_buf(req, NULL, 0);
+}
+
+static void on_write(fuse_req_t req, fuse_ino_t ino, const char *data, size_t size, off_t off,
+		     struct fuse_file_info *fi)
+{
+	(void)ino, (void)off, (void)fi;
+	see(data, size);
+	fuse_reply_write(req, size);
+}
+
+static void on_setxattr(fuse_req_t req, fuse_ino_t ino, const char *name, const char *value, size_t size,
+			int flags)
+{
+	(void)flags;
+	see(value, size);
+	on_name(req, ino, name);
+}
+
+static void on_getxattr(fuse_req_t req, fuse_ino_t ino, const char *name, size_t size)
+{
+	(void)ino, (void)size;
+	see_name(name);
+	fuse_reply_err(req, ENODATA);
+}
+
+static void on_forget(fuse_req_t req, fuse_ino_t ino, uint64_t lookups)
+{
+	seen += (unsigned)(ino + lookups);
+	fuse_reply_none(req);
+}
+
+static void on_forget_multi(fuse_req_t req, size_t count, struct fuse_forget_data *forgets)
+{
+	for (size_t i = 0; i < count; i++)
+		seen += (unsigned)(forgets[i].ino + forgets[i].nlookup);
+	fuse_reply_none(req);
+}
+
+static void on_ioctl(fuse_req_t req, fuse_ino_t ino, unsigned int cmd, void *arg,
+		     struct fuse_file_info *fi, unsigned flags, const void *in, size_t in_size,
+		     size_t out_size)
+{
+	(void)ino, (void)cmd, (void)arg, (void)fi, (void)flags, (void)out_size;
+	see(in, in_size);
+	fuse_reply_err(req, ENOTTY);
+}
+
+static const struct fuse_lowlevel_ops ops = {
+	.getattr = on_getattr, .setattr = on_setattr, .lookup = on_lookup, .mkdir = on_mkdir,
+	.mknod = on_mknod, .create = on_create, .symlink = on_symlink, .unlink = on_name,
+	.rmdir = on_name, .removexattr = on_name, .rename = on_rename, .link = on_link,
+	.open = on_open, .read = on_read, .readdir = on_read, .readdirplus = on_read,
+	.write = on_write, .setxattr = on_setxattr, .getxattr = on_getxattr,
+	.forget = on_forget, .forget_multi = on_forget_multi, .ioctl = on_ioctl,
+};
+
+static ssize_t take(int fd, void *at, size_t size, void *user)
+{
+	ssize_t got;
+
+	(void)user;
+	ASAN_UNPOISON_MEMORY_REGION(at, size);
+	got = recv(fd, at, size, 0);
+	if (got > 0)
+		ASAN_POISON_MEMORY_REGION((char *)at + got, size - (size_t)got);
+	closed = got == 0;
+	return got;
+}
+
+static ssize_t give(int fd, struct iovec *pieces, int count, void *user)
+{
+	(void)user;
+	return writev(fd, pieces, count);
+}
+
+int main(int count, char **words)
+{
+	static const struct fuse_custom_io io = { .read = take, .writev = give };
+	char *name[] = { "libfuse", NULL };
+	struct fuse_args args = FUSE_ARGS_INIT(1, name);
+	struct fuse_session *session;
+	int ended;
+
+	if (count != 2 || !strcmp(words[1], "--help"))
+		return fputs("Usage: libfuse DESCRIPTOR\n", count == 2 ? stdout : stderr), count == 2 ? 0 : 2;
+	session = fuse_session_new(&args, &ops, sizeof(ops), NULL);
+	if (!session || fuse_session_custom_io(session, &io, sizeof(io), atoi(words[1])))
+		return 2;
+	ended = fuse_session_loop(session);
+	fuse_session_destroy(session);
+	if (!closed)
+		fprintf(stderr, "the session ended: %d\n", ended);
+	return closed ? 0 : 1;
+}
