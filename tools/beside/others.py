@@ -16,8 +16,8 @@ one more request after it, by which it is judged:
   ended by an error: it was not, after anything else
   panicked: the process said so, or was aborted
   read past: a sanitizer or a page that can't be read caught a look behind the message
-With --seed it makes M sessions more, the same for each N, and shrinks what breaks a server, one for each place
-in its source. With --page the tables are markdown.
+With --count it makes M sessions more, the same for each N of --seed, and shrinks what breaks a server, one for
+each place in its source. With --page the tables are markdown, and that of where a server broke is short.
 Status 1: the server here did not go on, or read past a message, alone or in front of another; 2: it could not
 start.
 """
@@ -25,7 +25,7 @@ import argparse
 import collections
 import concurrent.futures
 import datetime
-import os
+import errno
 import re
 import select
 import socket
@@ -175,8 +175,9 @@ def place_of(log):
              re.search(r"\t\S*/go-fuse/(\S+\.go:\d+)", log))
     if found:
         return found[1].replace("src/", "")
-    ended = re.search(r"the session ended:? ?(.*)", log)
-    return ended[1][:80] if ended else ""
+    ended = re.search(r'the session ended.*error: "([^"]*)"', log)
+    number = re.search(r"the session ended: -(\d+)", log)
+    return ended[1] if ended else errno.errorcode.get(int(number[1]), number[0]) if number else ""
 
 
 def judge(peer, asked, skipped):
@@ -284,20 +285,39 @@ def counts(peers, found, what, draw):
             yield f"\n{of_one(peer)}: of {asked} requests, with those before and behind, {handed} were handed on."
 
 
-def failures(peers, found, names, draw, most):
-    """Where each server broke, and by which requests."""
-    rows = []
+def broken(peers, found, names):
+    """Of each server, of what came, and of each place, the names of the sessions, without those that are well."""
+    made = collections.defaultdict(lambda: collections.defaultdict(list))
     for peer in peers:
-        by_place = collections.defaultdict(list)
         for name, one in zip(names, found[peer]):
             if one.kind in (SILENT, ERROR, PANIC, PAST):
-                by_place[one[:2]].append(name)
-        for (kind, place), which in sorted(by_place.items(),
-                                           key=lambda it: (KINDS.index(it[0][0]), -len(it[1]), it[0][1])):
-            more = f"; and {len(which) - most} more" if len(which) > most else ""
-            rows.append([of_one(peer), kind, place or "-", len(which), "; ".join(which[:most]) + more])
+                made[peer, one.kind][one.place].append(name)
+    for (peer, kind), by_place in sorted(made.items(), key=lambda it: (peers.index(it[0][0]), KINDS.index(it[0][1]))):
+        yield peer, kind, sorted(by_place.items(), key=lambda it: (-len(it[1]), it[0]))
+
+
+def failures(peers, found, names):
+    """Where each server broke, and by which requests."""
+    rows = [[of_one(peer), kind, place or "-", len(which), "; ".join(which)]
+            for peer, kind, by_place in broken(peers, found, names) for place, which in by_place]
     if rows:
-        yield from draw(["Server", "What came", "Where", "How many", "Of which requests"], rows)
+        yield from plain(["Server", "What came", "Where", "How many", "Of which requests"], rows)
+
+
+def failures_in_short(peers, found, names):
+    """The same in a row for each server and what came, with three requests."""
+    rows = []
+    for peer, kind, by_place in broken(peers, found, names):
+        lines = collections.defaultdict(set)
+        for place, _ in by_place:
+            line = re.match(r"(\S+):(\d+)", place)
+            lines[line[1] if line else place].add(int(line[2]) if line else 0)
+        where = "; ".join(f"{file}, line{'s' * (len(at) > 1)} {', '.join(map(str, sorted(at)))}" if max(at) else file
+                          for file, at in lines.items() if file)
+        which = [name for _, of_place in by_place for name in of_place]
+        rows.append([of_one(peer), kind, len(which), where or "-", "; ".join(which[::max(1, len(which) // 3)][:3])])
+    if rows:
+        yield from table(["Server", "What came", "How many", "Where", "For example"], rows)
 
 
 def smallest(peers, found, sessions, draw):
@@ -318,7 +338,7 @@ def show(lines):
 
 
 def main(peers, seed, count, page):
-    draw, most = (table, 3) if page else (plain, 1 << 30)
+    draw, fail = (table, failures_in_short) if page else (plain, failures)
     known = list(known_sessions())
     names = [name for name, _, _ in known]
     today = datetime.datetime.now(datetime.timezone.utc)
@@ -327,7 +347,7 @@ def main(peers, seed, count, page):
               [[of_one(peer), peer.trusts] for peer in peers]))
     found = {peer: judge_all(peer, known) for peer in peers}
     show(counts(peers, found, f"What came of {len(known)} sessions", draw))
-    show(failures(peers, found, names, draw, most))
+    show(fail(peers, found, names))
     every = [one for peer in peers if is_ours(peer) for one in found[peer]]
     if count:
         made = [(f"{seed}/{number}", [FIRST, *generate.session(seed, number)], 1) for number in range(count)]
