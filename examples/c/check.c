@@ -15,8 +15,9 @@
  *   though the door serves both;
  * - locks, BMAP, IOCTL, POLL and TMPFILE, with ENOSYS: the door does not look at their arguments.
  *
- * The options are those of the program's reply to INIT, and no other request is taken before that. Names,
- * nodes and handles are what the peer sent: whether there are such is the program's to know.
+ * The options are those of the program's reply to INIT. Nothing is handed on before that came, nor behind
+ * a DESTROY, nor a second INIT: as numbers of requests are the peer's, no reply could be told from that of
+ * an INIT then. Names, nodes and handles are the peer's too: whether there are such, the program knows.
  *
  * Status 0: the peer has gone; 1: the program has gone, or something failed; 2: the words can't be.
  * Standard error says which, and how many requests were handed on. */
@@ -44,9 +45,8 @@ static unsigned char request[LONGEST], room[LONGEST];
 static nizwarf_session session = { 0, 4096, PAYLOAD };
 static nizwarf_slot slot = NIZWARF_NONE;
 static int peer, behind;
-/* Whether an INIT was handed on whose reply hasn't come, and its number. */
-static int waiting;
-static uint64_t init;
+/* Before an INIT; the program has one; it agreed; a DESTROY was handed on. */
+static enum { NEW, ASKED, AGREED, OVER } state;
 
 static _Noreturn void stop(const char *what)
 {
@@ -91,10 +91,10 @@ static ssize_t judge(size_t size)
 	if (size < sizeof(asked))
 		return 0;
 	memcpy(&asked, request, sizeof(asked));
-	if (asked.len != size)
+	if (asked.len != size || size > sizeof(request))
 		return refuse(&asked);
 	code = nizwarf_ask(&slot, &session, &piece, 1, &whole, 1, &call, &told);
-	if (code == NIZWARF_OK && told.interrupts)
+	if (code == NIZWARF_OK && told.interrupts && state == AGREED)
 		return HAND_ON;
 	if (code == NIZWARF_OK)
 		return (ssize_t)told.len;
@@ -104,43 +104,42 @@ static ssize_t judge(size_t size)
 		return refuse_call(&call, &whole);
 	if (call.call == NIZWARF_WRITE && call.size > call.data.len)
 		return refuse(&asked);
-	if (call.call == NIZWARF_INIT) {
-		waiting = 1;
-		init = call.unique;
-	}
+	if (state != (call.call == NIZWARF_INIT ? NEW : AGREED))
+		return refuse(&asked);
+	if (call.call == NIZWARF_INIT)
+		state = ASKED;
 	if (call.call == NIZWARF_DESTROY)
-		session.options = 0;
+		state = OVER;
 	return HAND_ON;
 }
 
-/* Takes what was agreed on from the reply to an INIT. */
+/* Takes what was agreed on from the reply to an INIT. After a refusal there may be another INIT. */
 static void agree(const unsigned char *reply, size_t size)
 {
-	struct fuse_out_header head;
 	struct fuse_init_out agreed = { 0 };
+	struct fuse_out_header head = { 0 };
 
-	if (size < sizeof(head))
-		return;
-	memcpy(&head, reply, sizeof(head));
-	if (head.unique != init)
-		return;
-	waiting = 0;
-	size -= sizeof(head);
+	memcpy(&head, reply, size < sizeof(head) ? size : sizeof(head));
+	size -= size < sizeof(head) ? size : sizeof(head);
 	memcpy(&agreed, reply + sizeof(head), size < sizeof(agreed) ? size : sizeof(agreed));
-	if (!head.error)
-		session.options = agreed.flags | (uint64_t)agreed.flags2 << 32;
+	session.options = agreed.flags | (uint64_t)agreed.flags2 << 32;
+	state = size && !head.error ? AGREED : NEW;
 }
 
 /* Gives a reply of the program to the peer. 0: the program has gone. */
 static int hand_back(void)
 {
-	const ssize_t size = recv(behind, room, sizeof(room), 0);
+	const ssize_t size = recv(behind, room, sizeof(room), MSG_TRUNC);
 
 	if (size < 0 && errno != ECONNRESET)
 		stop("the program's reply");
 	if (size <= 0)
 		return 0;
-	if (waiting)
+	if ((size_t)size > sizeof(room)) {
+		errno = EMSGSIZE;
+		stop("the program's reply");
+	}
+	if (state == ASKED)
 		agree(room, (size_t)size);
 	if (send(peer, room, (size_t)size, MSG_NOSIGNAL) < 0 && errno != EPIPE)
 		stop("a reply");
@@ -167,16 +166,16 @@ static int hand_on(size_t size)
 static int serve(unsigned long *asked, unsigned long *handed)
 {
 	for (;;) {
-		struct pollfd wait[] = { { behind, POLLIN, 0 }, { waiting ? -1 : peer, POLLIN, 0 } };
+		struct pollfd wait[] = { { behind, POLLIN, 0 }, { state == ASKED ? -1 : peer, POLLIN, 0 } };
 		ssize_t size, made;
 
 		if (poll(wait, 2, -1) < 0)
 			stop("poll");
 		if (wait[0].revents && !hand_back())
 			return 0;
-		if (waiting || !wait[1].revents)
+		if (!wait[1].revents)
 			continue;
-		size = recv(peer, request, sizeof(request), 0);
+		size = recv(peer, request, sizeof(request), MSG_TRUNC);
 		if (size < 0 && errno != ECONNRESET)
 			stop("a request");
 		if (size <= 0)

@@ -6,8 +6,8 @@
 //! root. Status 0: the session ended, and standard error says how; 2: it could not start; 101: it panicked.
 
 use fuser::{
-    Config, Errno, FileAttr, FileHandle, FileType, Filesystem, INodeNo, ReplyAttr, ReplyEntry, Request, Session,
-    SessionACL,
+    Config, Errno, FileAttr, FileHandle, FileType, Filesystem, INodeNo, ReplyAttr, ReplyEntry,
+    Request, Session, SessionACL,
 };
 use std::ffi::OsStr;
 use std::os::fd::{FromRawFd, OwnedFd};
