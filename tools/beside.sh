@@ -109,8 +109,8 @@ version=$(sed -nE 's/^#define NIZWARF_VERSION_(MAJOR|MINOR|PATCH) ([0-9]+)$/\2/p
 server pair Nizwarf "$version" "nobody; the library is $is_proved" "$work/nizwarf" DESCRIPTOR
 if [ -e "$built/libfuse" ]; then
     version=$(cat "$built/libfuse.version")
-    server pair libfuse "$version" "the kernel; custom io is off unless it is built with -Denable-custom-io=true, \
-since a peer may \"forge requests that libfuse parses without bounds checks\" (ChangeLog of 3.18.3)" \
+    server pair libfuse "$version" "the kernel: a peer by custom io may \"forge requests that libfuse parses \
+without bounds checks\", so from 3.18.3 on that is off unless it is built with -Denable-custom-io=true (its ChangeLog)" \
         "$built/libfuse" DESCRIPTOR
     server pair "libfuse behind the check" "$version" "the check, examples/c/check.c, which trusts nobody" \
         "$work/check" DESCRIPTOR "$built/libfuse"

@@ -42,6 +42,9 @@ def broken(made, chance):
             struct.pack_into("<I", made, 0, chance.choice(EDGES))
         elif len(made) > 40:
             made[chance.randrange(40, len(made))] = chance.randrange(256)
+        # A kernel's requests say the length that they have; a guest's may not.
+        if way != 5 and len(made) >= 4 and chance.randrange(4):
+            struct.pack_into("<I", made, 0, len(made))
     return bytes(made)
 
 

@@ -46,6 +46,8 @@ NO_REPLY = FORGET, INTERRUPT, DESTROY, NOTIFY_REPLY, BATCH_FORGET
 ROOM = 1 << 20 | 4096
 LONGEST = 1 << 21
 OURS = "Nizwarf", "check"
+# What a request is cut to while it is shrunk.
+SIZES = 8, 39, 40, 41, 42, 44, 48, 52, 56, 60, 64, 72, 80, 96, 104, 128, 160
 
 Peer = collections.namedtuple("Peer", "how name version trusts words")
 # What came, the place in the source, and of a check how many requests it got and how many it handed on.
@@ -168,13 +170,14 @@ def place_of(log):
     if "ERROR: AddressSanitizer" in log:
         found = re.search(r"in (\w+) (?:\S*/)?lib/(\w+\.c:\d+)", log)
         return f"{found[2]}, {found[1]}" if found else "an unknown place"
+    found = (re.search(r"panicked at (?:\S*/(?:fuser|virtiofsd)-[0-9.]*/)?(\S+?:\d+)", log) or
+             re.search(r"\t\S*/go-fuse/(\S+\.go:\d+)", log))
+    line = found[1].replace("src/", "") if found else ""
     refused = re.search(beside.REFUSALS, log)
     if refused:
-        return refused[1] or refused[2]
-    found = (re.search(r"panicked at (?:\S*/fuser-[0-9.]*/)?(\S+?:\d+)", log) or
-             re.search(r"\t\S*/go-fuse/(\S+\.go:\d+)", log))
+        return (refused[1] or refused[2]) + (f" ({line})" if line else "")
     if found:
-        return found[1].replace("src/", "")
+        return line
     ended = re.search(r'the session ended.*error: "([^"]*)"', log)
     number = re.search(r"the session ended: -(\d+)", log)
     return ended[1] if ended else errno.errorcode.get(int(number[1]), number[0]) if number else ""
@@ -198,7 +201,8 @@ def judge(peer, asked, skipped):
 def judge_all(peer, sessions):
     """What came of each session, in their order."""
     found = []
-    with concurrent.futures.ThreadPoolExecutor(2) as pool:
+    # (a daemon that serves its queue no more is waited for)
+    with concurrent.futures.ThreadPoolExecutor(2 if peer.how == "pair" else 6) as pool:
         for one in pool.map(lambda it: judge(peer, it[1], it[2]), sessions):
             found.append(one)
             if len(found) % 50 == 0:
@@ -208,7 +212,7 @@ def judge_all(peer, sessions):
 
 def shrink(peer, asked, wanted):
     """The smallest request found that breaks a server in the same place, behind an INIT if there was one."""
-    tries = 80
+    tries = 60 if peer.how == "pair" else 20
 
     def breaks(rest):
         nonlocal tries
@@ -231,12 +235,12 @@ def shrink(peer, asked, wanted):
             return True
         return False
 
-    for size in (8, 39, 40, *range(41, len(last))):
+    for size in SIZES:
         if size < len(last) and take(last[:size]):
             break
     if len(last) >= 4:
         take(struct.pack("<I", len(last)) + last[4:])
-    for at in range(40, len(last), 8):
+    for at in range(40, min(len(last), 120), 8):
         take(last[:at] + bytes(len(last[at:at + 8])) + last[at + 8:])
     return [*rest[:-1], last]
 
@@ -328,6 +332,7 @@ def smallest(peers, found, sessions, draw):
         for (_, asked, _), one in zip(sessions, found[peer]):
             if one.kind in (ERROR, PANIC, PAST) and one[:2] not in done:
                 done.add(one[:2])
+                print(f"{of_one(peer)}: shrinking what breaks it in {one.place or 'an unknown place'}", file=sys.stderr)
                 rows.append([of_one(peer), one.kind, one.place or "-", shown(shrink(peer, asked, one[:2]))])
     if rows:
         yield from draw(["Server", "What came", "Where", "The smallest found"], rows)
