@@ -126,6 +126,22 @@ static void agree(const unsigned char *reply, size_t size)
 	state = size && !head.error ? AGREED : NEW;
 }
 
+/* Gives what is in the room to the peer, or an error where that is longer than a message can be. */
+static void reply(size_t size)
+{
+	struct fuse_out_header head;
+
+	if (send(peer, room, size, MSG_NOSIGNAL) >= 0 || errno == EPIPE || errno == ECONNRESET)
+		return;
+	if (errno != EMSGSIZE || size <= sizeof(head))
+		stop("a reply");
+	memcpy(&head, room, sizeof(head));
+	head.len = sizeof(head);
+	head.error = -EIO;
+	memcpy(room, &head, sizeof(head));
+	reply(sizeof(head));
+}
+
 /* Gives a reply of the program to the peer. 0: the program has gone. */
 static int hand_back(void)
 {
@@ -141,24 +157,53 @@ static int hand_back(void)
 	}
 	if (state == ASKED)
 		agree(room, (size_t)size);
-	if (send(peer, room, (size_t)size, MSG_NOSIGNAL) < 0 && errno != EPIPE)
-		stop("a reply");
+	reply((size_t)size);
 	return 1;
 }
 
-/* Gives a request to the program. It takes replies meanwhile, since the program may wait for that. */
+/* Gives a request to the program, and takes replies meanwhile, since the program may wait for that. 1: it
+ * has it; 0: it is longer than a message can be; -1: the program has gone. */
 static int hand_on(size_t size)
 {
 	while (send(behind, request, size, MSG_NOSIGNAL | MSG_DONTWAIT) < 0) {
 		struct pollfd wait = { behind, POLLIN | POLLOUT, 0 };
 
-		if (errno == EPIPE)
+		if (errno == EMSGSIZE)
 			return 0;
-		if (errno != EAGAIN || poll(&wait, 1, -1) < 0)
+		if (errno == EPIPE || errno == ECONNRESET)
+			return -1;
+		if (errno != EAGAIN || (poll(&wait, 1, -1) < 0 && errno != EINTR))
 			stop("a request");
 		if (wait.revents & POLLIN && !hand_back())
-			return 0;
+			return -1;
 	}
+	return 1;
+}
+
+/* Takes a request of the peer. 1: it was answered or handed on; 0: the peer has gone; -1: the program has. */
+static int take(unsigned long *asked, unsigned long *handed)
+{
+	const ssize_t size = recv(peer, request, sizeof(request), MSG_TRUNC);
+	struct fuse_in_header head;
+	ssize_t made;
+	int given;
+
+	if (size < 0 && errno != ECONNRESET)
+		stop("a request");
+	if (size <= 0)
+		return 0;
+	++*asked;
+	made = judge((size_t)size);
+	if (made == HAND_ON) {
+		given = hand_on((size_t)size);
+		if (given < 0)
+			return -1;
+		memcpy(&head, request, sizeof(head));
+		made = given ? 0 : refuse(&head);
+		*handed += (unsigned)given;
+	}
+	if (made > 0)
+		reply((size_t)made);
 	return 1;
 }
 
@@ -167,27 +212,27 @@ static int serve(unsigned long *asked, unsigned long *handed)
 {
 	for (;;) {
 		struct pollfd wait[] = { { behind, POLLIN, 0 }, { state == ASKED ? -1 : peer, POLLIN, 0 } };
-		ssize_t size, made;
+		int taken = 1;
 
-		if (poll(wait, 2, -1) < 0)
+		if (poll(wait, 2, -1) < 0 && errno != EINTR)
 			stop("poll");
 		if (wait[0].revents && !hand_back())
 			return 0;
-		if (!wait[1].revents)
-			continue;
-		size = recv(peer, request, sizeof(request), MSG_TRUNC);
-		if (size < 0 && errno != ECONNRESET)
-			stop("a request");
-		if (size <= 0)
-			return 1;
-		++*asked;
-		made = judge((size_t)size);
-		if (made > 0 && send(peer, room, (size_t)made, MSG_NOSIGNAL) < 0 && errno != EPIPE)
-			stop("a reply");
-		if (made == HAND_ON && !hand_on((size_t)size))
-			return 0;
-		*handed += made == HAND_ON;
+		if (wait[1].revents)
+			taken = take(asked, handed);
+		if (taken <= 0)
+			return !taken;
 	}
+}
+
+/* Makes a message as long as a request of the largest payload, if that is allowed. */
+static void widen(int fd)
+{
+	const int size = 2 * LONGEST;
+
+	if (setsockopt(fd, SOL_SOCKET, SO_SNDBUFFORCE, &size, sizeof(size)) &&
+	    setsockopt(fd, SOL_SOCKET, SO_SNDBUF, &size, sizeof(size)))
+		stop("the descriptor");
 }
 
 /* Starts the program with the other end of `behind`. */
@@ -198,6 +243,8 @@ static void start(int count, char **words)
 
 	if (!program || socketpair(AF_UNIX, SOCK_SEQPACKET, 0, ends))
 		stop("a socket");
+	widen(ends[0]);
+	widen(ends[1]);
 	memcpy(program, words, (size_t)count * sizeof(*program));
 	snprintf(number, sizeof(number), "%d", ends[1]);
 	program[count] = number;
@@ -218,17 +265,15 @@ static void start(int count, char **words)
 int main(int count, char **words)
 {
 	unsigned long asked = 0, handed = 0;
-	int size = 2 * LONGEST, gone;
+	int gone;
 
 	if (count == 2 && !strcmp(words[1], "--help"))
 		return fputs(usage, stdout) < 0;
 	if (count < 3 || words[1][strspn(words[1], "0123456789")])
 		return fputs(usage, stderr), 2;
 	peer = atoi(words[1]);
+	widen(peer);
 	start(count - 2, words + 2);
-	/* (a request of the largest payload is one message) */
-	if (setsockopt(behind, SOL_SOCKET, SO_SNDBUF, &size, sizeof(size)))
-		stop("setsockopt");
 	gone = serve(&asked, &handed);
 	fprintf(stderr, "check: %lu requests, %lu handed on; the %s has gone\n", asked, handed,
 		gone ? "peer" : "program");
