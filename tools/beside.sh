@@ -127,7 +127,7 @@ for of in "${daemons[@]}"; do
     libraries=$there/$of/usr/lib/x86_64-linux-gnu
     if [ -e "$libraries" ]; then
         version=$(gzip -dc "$there/$of/usr/share/doc/virtiofsd/changelog.Debian.gz" | sed -nE '1s/.*\(([^)]*)\).*/\1/p')
-        server vhost virtiofsd "$version" "not the guest with its files (README); of a message out of form it says nothing" \
+        server vhost virtiofsd "$version" "no client of virtio-fs (its trait FileSystem); of a message out of form it says nothing" \
             "$work/ask" "$libraries/ld-linux-x86-64.so.2" --library-path "$libraries" \
             "$there/$of/usr/libexec/virtiofsd" --socket-path SOCKET --shared-dir SHARE --sandbox none \
             --seccomp none --no-announce-submounts --xattr
