@@ -1,0 +1,130 @@
+#!/usr/bin/env bash
+# Builds the daemon virtiofsd 1.13.2 with the protocol layer here in place of its own.
+#
+# Usage: tools/virtiofsd.sh [FOLDER]
+# It leaves the daemon as nizwarf-virtiofsd in the folder, which is out/virtiofsd if none is given. It takes
+# virtiofsd's options: try --help. Only what is newer is built again.
+#
+# The sources of virtiofsd and of the crates below it are packages of Debian 13, which apt-get downloads by
+# lists of its own and which are unpacked into the folder, and never installed: 60 MB. virtiofsd's
+# src/server.rs is replaced by bindings/virtiofsd/server.rs, which stands on the crate of bindings/rust; no
+# other source changes. The first build takes some minutes.
+#
+# It wants apt-get, a C compiler, cargo 1.85 or later, libcap-ng, libseccomp, and the Rattle toolchain. It
+# links the proved library if that is built and no source is newer; otherwise tools/unproved.sh builds it
+# without a proof, which takes a minute more. CARGO_BUILD_JOBS is how many processors cargo uses.
+# Status 0: it was built; 1: it was not; 2: it could not start.
+set -euo pipefail
+. "$(dirname "$0")/usage.sh"
+. "$(dirname "$0")/transport.sh"
+. "$(dirname "$0")/debian.sh"
+
+usage() {
+    echo "Usage: tools/virtiofsd.sh [FOLDER]" >&2
+    exit 2
+}
+
+folder=$here/out/virtiofsd
+if [ $# -gt 1 ] || [[ ${1:-} == -* ]]; then
+    usage
+elif [ $# = 1 ]; then
+    [ -n "$1" ] || usage
+    mkdir -p "$1" || exit 2
+    folder=$(cd "$1" && pwd)
+fi
+if [ "$(uname -m)" != x86_64 ]; then
+    echo "It is made for x86-64 alone." >&2
+    exit 2
+fi
+for command in apt-get dpkg-deb; do
+    need "$command" "virtiofsd's sources are packages of Debian."
+done
+cargo_packages="cargo-web and rustc-web on Debian 12, cargo and rustc on Debian 13"
+need cargo "Install it by apt-get: $cargo_packages."
+version=$(cargo --version | sed -nE 's/^cargo 1\.([0-9]+)\..*/\1/p')
+if [ "${version:-0}" -lt 85 ]; then
+    echo "This is $(cargo --version), and 1.85 is wanted: $cargo_packages." >&2
+    exit 2
+fi
+mkdir -p "$folder/link" "$folder/lib" "$folder/home"
+
+# Lets the linker find a library that is installed without its package for development.
+link_library() {
+    local name=$1 package=$2 it
+    it=$(PATH=$PATH:/sbin ldconfig -p | sed -nE "s,^\slib$name\.so\.[0-9]+ .*x86-64.* => (.*),\1,p" | sed -n 1p)
+    if [ -z "$it" ]; then
+        echo "Missing: lib$name. Install it: apt-get install $package." >&2
+        exit 2
+    fi
+    ln -sfn "$it" "$folder/link/lib$name.so"
+}
+
+link_library cap-ng libcap-ng0
+link_library seccomp libseccomp2
+find_library vfs_door
+
+# Copies a file if the other is not the same, so that its time stays where nothing changed.
+renew() {
+    cmp -s "$1" "$2" || cp "$1" "$2"
+}
+
+fetch() {
+    local packages part=$folder/part
+    rm -rf "$part"
+    use_suite trixie "$part/apt"
+    # virtiofsd's own package, and those that it wants: of these the sources alone.
+    mapfile -t packages < <(apt-get "${apt[@]}" install -y -s --no-install-recommends librust-virtiofsd-dev |
+        sed -nE 's/^Inst (librust-[^ ]+) .*/\1/p')
+    [ ${#packages[@]} -gt 0 ]
+    unpack_packages "$part/unpacked" "${packages[@]}"
+    mv "$part/unpacked/usr/share/cargo/registry" "$folder/crates"
+    rm -rf "$part"
+}
+
+crates=$folder/crates
+if [ ! -e "$crates" ]; then
+    echo "Downloading the sources of virtiofsd and of 200 crates .." >&2
+    quietly "$folder/said" fetch || {
+        echo "Debian's package librust-virtiofsd-dev of trixie can't be had by apt-get here." >&2
+        exit 2
+    }
+fi
+from=$crates/virtiofsd-1.13.2
+if [ ! -e "$from" ]; then
+    echo "$crates has no virtiofsd 1.13.2: Debian has another version now." >&2
+    exit 2
+fi
+
+# The crate, with its protocol layer replaced.
+tree=$folder/tree
+if [ ! -e "$tree/Cargo.toml" ]; then
+    mkdir -p "$tree/.cargo"
+    cp -R "$from/src" "$tree/"
+fi
+{
+    cat "$from/Cargo.toml"
+    printf '\n[dependencies.nizwarf]\npath = "%s"\n' "$here/bindings/rust"
+} > "$folder/Cargo.toml"
+renew "$folder/Cargo.toml" "$tree/Cargo.toml"
+renew "$here/bindings/virtiofsd/server.rs" "$tree/src/server.rs"
+printf '[source.crates-io]\nreplace-with = "debian"\n[source.debian]\ndirectory = "%s"\n[net]\noffline = true\n' \
+    "$crates" > "$tree/.cargo/config.toml"
+for file in "${library[@]}"; do
+    renew "$file" "$folder/lib/${file##*/}"
+done
+
+# Shows how far cargo is.
+show_progress() {
+    tee "$folder/said" | awk '/^ *Compiling/ && ++n % 25 == 0 { print n " crates compiled" > "/dev/stderr" }'
+}
+
+echo "Building virtiofsd .." >&2
+cd "$tree"
+if ! CARGO_HOME=$folder/home CARGO_TARGET_DIR=$folder/target NIZWARF_LIB_DIR=$folder/lib \
+    RUSTFLAGS="-L native=$folder/link" cargo build --release --offline 2>&1 | show_progress; then
+    tail -n 40 "$folder/said" >&2
+    exit 1
+fi
+renew "$folder/target/release/virtiofsd" "$folder/nizwarf-virtiofsd"
+"$folder/nizwarf-virtiofsd" --version >&2
+echo "$folder/nizwarf-virtiofsd"
