@@ -1,37 +1,55 @@
 #!/usr/bin/env bash
-# Builds the daemon virtiofsd 1.13.2 with the protocol layer here in place of its own.
+# Builds the daemon virtiofsd 1.13.2 with the protocol layer here in place of its own, or holds it against the
+# unmodified one.
 #
-# Usage: tools/virtiofsd.sh [FOLDER]
+# Usage: tools/virtiofsd.sh [--check [--seed N] [--requests N]] [FOLDER]
 # It leaves the daemon as nizwarf-virtiofsd in the folder, which is out/virtiofsd if none is given. It takes
 # virtiofsd's options: try --help. Only what is newer is built again.
 #
 # The sources of virtiofsd and of the crates below it are packages of Debian 13, which apt-get downloads by
-# lists of its own and which are unpacked into the folder, and never installed: 60 MB. virtiofsd's
+# lists of its own and which are unpacked into the folder, and never installed: 50 MB. virtiofsd's
 # src/server.rs is replaced by bindings/virtiofsd/server.rs, which stands on the crate of bindings/rust; no
-# other source changes. The first build takes some minutes.
+# other source changes. The first build takes two minutes for the download and four for one processor.
+#
+# With --check it builds it, and asks it and Debian's own program of virtiofsd 1.13.2 the same over equal
+# folders, by vhost-user: the hostile requests of tools/beside, and N well-formed ones by a seed (20000, and
+# 1). It then asks the one with the layer here as many that are mostly broken. It prints how many came to the
+# same, what differs and why, and what was survived. It takes three minutes, and wants root and Python 3.
 #
 # It wants apt-get, a C compiler, cargo 1.85 or later, libcap-ng, libseccomp, and the Rattle toolchain. It
 # links the proved library if that is built and no source is newer; otherwise tools/unproved.sh builds it
 # without a proof, which takes a minute more. CARGO_BUILD_JOBS is how many processors cargo uses.
-# Status 0: it was built; 1: it was not; 2: it could not start.
+# Status 0: it was built, and with --check all came to the same, or to what is known to differ; 1: not so;
+# 2: it could not start.
 set -euo pipefail
 . "$(dirname "$0")/usage.sh"
 . "$(dirname "$0")/transport.sh"
 . "$(dirname "$0")/debian.sh"
 
-usage() {
-    echo "Usage: tools/virtiofsd.sh [FOLDER]" >&2
+refuse() {
+    echo "$1" >&2
+    echo "Usage: tools/virtiofsd.sh [--check [--seed N] [--requests N]] [FOLDER]" >&2
     exit 2
 }
 
-folder=$here/out/virtiofsd
-if [ $# -gt 1 ] || [[ ${1:-} == -* ]]; then
-    usage
-elif [ $# = 1 ]; then
-    [ -n "$1" ] || usage
-    mkdir -p "$1" || exit 2
-    folder=$(cd "$1" && pwd)
-fi
+check='' seed=1 count=20000 folder=''
+while [ $# -gt 0 ]; do
+    case $1 in
+        --check) check=1 ;;
+        --seed | --requests)
+            [ -n "$check" ] || refuse "$1 is for --check."
+            [[ ${2:-} =~ ^[1-9][0-9]{0,8}$ ]] || refuse "$1 wants a number from 1 on."
+            if [ "$1" = --seed ]; then seed=$2; else count=$2; fi
+            shift
+            ;;
+        -* | '') refuse "There is no option '$1'." ;;
+        *)
+            [ -z "$folder" ] || refuse "There is more than one folder."
+            folder=$1
+            ;;
+    esac
+    shift
+done
 if [ "$(uname -m)" != x86_64 ]; then
     echo "It is made for x86-64 alone." >&2
     exit 2
@@ -46,7 +64,13 @@ if [ "${version:-0}" -lt 85 ]; then
     echo "This is $(cargo --version), and 1.85 is wanted: $cargo_packages." >&2
     exit 2
 fi
-mkdir -p "$folder/link" "$folder/lib" "$folder/home"
+if [ -n "$check" ]; then
+    need python3 "Install it: apt-get install python3."
+    [ "$(id -u)" = 0 ] || refuse "virtiofsd is started as root: run --check as root."
+fi
+folder=${folder:-$here/out/virtiofsd}
+mkdir -p "$folder/link" "$folder/lib" "$folder/home" || refuse "$folder can't be made."
+folder=$(cd "$folder" && pwd)
 
 # Lets the linker find a library that is installed without its package for development.
 link_library() {
@@ -63,9 +87,10 @@ link_library cap-ng libcap-ng0
 link_library seccomp libseccomp2
 find_library vfs_door
 
-# Copies a file if the other is not the same, so that its time stays where nothing changed.
+# Copies a file if the other is not the same, so that its time stays where nothing changed, and a daemon that
+# runs stays what it is.
 renew() {
-    cmp -s "$1" "$2" || cp "$1" "$2"
+    cmp -s "$1" "$2" || { cp "$1" "$2.new" && mv "$2.new" "$2"; }
 }
 
 fetch() {
@@ -121,10 +146,43 @@ show_progress() {
 echo "Building virtiofsd .." >&2
 cd "$tree"
 if ! CARGO_HOME=$folder/home CARGO_TARGET_DIR=$folder/target NIZWARF_LIB_DIR=$folder/lib \
-    RUSTFLAGS="-L native=$folder/link" cargo build --release --offline 2>&1 | show_progress; then
+    CARGO_ENCODED_RUSTFLAGS=$'-L\x1fnative='$folder/link cargo build --release --offline 2>&1 | show_progress; then
     tail -n 40 "$folder/said" >&2
     exit 1
 fi
 renew "$folder/target/release/virtiofsd" "$folder/nizwarf-virtiofsd"
-"$folder/nizwarf-virtiofsd" --version >&2
-echo "$folder/nizwarf-virtiofsd"
+if [ -z "$check" ]; then
+    "$folder/nizwarf-virtiofsd" --version >&2
+    echo "$folder/nizwarf-virtiofsd"
+    exit
+fi
+
+# Debian's program, by its own loader and libraries, whatever the machine has.
+fetch_program() {
+    local part=$folder/part
+    rm -rf "$part"
+    use_suite trixie "$part/apt"
+    unpack_packages "$part/unpacked" virtiofsd libc6 libcap-ng0 libgcc-s1 libseccomp2
+    mv "$part/unpacked" "$folder/debian"
+    rm -rf "$part"
+}
+
+if [ ! -e "$folder/debian" ]; then
+    echo "Downloading Debian's program of virtiofsd .." >&2
+    quietly "$folder/said" fetch_program || {
+        echo "Debian's package virtiofsd of trixie can't be had by apt-get here." >&2
+        exit 2
+    }
+fi
+libraries=$folder/debian/usr/lib/x86_64-linux-gnu
+theirs=("$libraries/ld-linux-x86-64.so.2" --library-path "$libraries" "$folder/debian/usr/libexec/virtiofsd")
+version=$("${theirs[@]}" --version)
+if [[ $version != *1.13.2* ]]; then
+    echo "This is $version and not virtiofsd 1.13.2." >&2
+    exit 2
+fi
+cc -std=c11 -O2 -Wall -Wextra -Werror -o "$folder/ask" "$here/tools/beside/ask.c"
+work=$(mktemp -d)
+trap 'rm -rf "$work"' EXIT
+python3 -B "$here/tools/beside/replaced.py" "$folder/ask" "$work" "$seed" "$count" "$folder/nizwarf-virtiofsd" \
+    "${theirs[@]}"

@@ -420,7 +420,8 @@ impl<'f, F: FileSystem> Asker<'f, F> {
         }
     }
 
-    /// Lists items up to the first that does not fit, or, with `plus`, whose lookup fails.
+    /// Lists items up to the first that does not fit, or, with `plus`, whose lookup fails. The first of all is
+    /// looked up even if it does not fit, since the error of its lookup is the reply.
     fn list<'s>(
         &self,
         slot: &'s mut Slot,
@@ -550,13 +551,14 @@ struct Record {
 }
 
 impl Listing {
-    /// Adds the next item. Returns whether there is one, and it fits.
+    /// Adds the next item, if there is one and it fits, or if it is the first with `plus`. Returns whether it
+    /// was added.
     fn add(&mut self, items: &mut impl DirectoryIterator, most: usize, plus: bool) -> bool {
         let Some(item) = items.next() else {
             return false;
         };
         let len = Item::new(item.ino, item.offset, item.type_, item.name).record_len(plus);
-        if len > most - self.len {
+        if len > most.saturating_sub(self.len) && !(plus && self.records.is_empty()) {
             return false;
         }
         self.len += len;
@@ -604,8 +606,8 @@ fn name_in(names: &[u8], at: usize) -> &CStr {
 struct Room<'w>(Writer<'w>);
 
 impl ZeroCopyWriter for Room<'_> {
-    fn read_from_file_at(&mut self, f: &File, count: usize, off: u64) -> io::Result<usize> {
-        transfer(count, off, |left, at| self.0.read_from_file_at(f, left, at))
+    fn read_from_file_at(&mut self, file: &File, count: usize, at: u64) -> io::Result<usize> {
+        transfer(count, at, |left, at| self.0.read_from_file_at(file, left, at))
     }
 }
 
@@ -615,24 +617,24 @@ struct Data<'r>(Reader<'r>);
 impl ZeroCopyReader for Data<'_> {
     fn write_to_file_at(
         &mut self,
-        f: &File,
+        file: &File,
         count: usize,
-        off: u64,
+        at: u64,
         flags: Option<WritevFlags>,
     ) -> io::Result<usize> {
-        transfer(count, off, |left, at| self.0.write_to_file_at(f, left, at, flags))
+        transfer(count, at, |left, at| self.0.write_to_file_at(file, left, at, flags))
     }
 }
 
 /// Moves bytes until a step moves none, or fails.
 fn transfer(
     count: usize,
-    off: u64,
+    at: u64,
     mut step: impl FnMut(usize, u64) -> io::Result<usize>,
 ) -> io::Result<usize> {
     let mut done = 0;
     while done < count {
-        match step(count - done, off.saturating_add(done as u64))? {
+        match step(count - done, at.saturating_add(done as u64))? {
             0 => break,
             moved => done += moved,
         }

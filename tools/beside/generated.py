@@ -1,0 +1,318 @@
+"""Well-formed requests by a seed, for replaced.py, and what of their replies does not depend on the folder."""
+import collections
+import os
+import struct
+
+import requests
+
+ROOT = 1
+# How many requests a session begins with, by which it gets its first nodes and handles.
+FIRST = 17
+NAMES = [*(b"f%d" % i for i in range(30)), *2 * (b"d1", b"d2", b"l", b"h2", b"none", b".", b"..", b"new"),
+         *(b"n%d" % i for i in range(8))]
+# Numbers of nodes that may not be there.
+INODES = 0, 1, 99999, 2**64 - 1
+ENTRIES = {1, 6, 8, 9, 13, 35}
+LISTINGS = {28, 44}
+# A number that each daemon gave out: of a node, or of an open file or directory, or of the node of that.
+Ref = collections.namedtuple("Ref", "kind at")
+# `parts` are bytes and numbers, a number is one of 8 bytes or a Ref.
+Request = collections.namedtuple("Request", "opcode node parts room cuts owner extensions")
+# Fields of attributes that depend on the folder: the inode number, the times and their nanoseconds.
+OF_FOLDER = (0, 8), (24, 48), (48, 60)
+# How many bytes of a reply's statistics say how full the file system is.
+FULLNESS = 16, 56
+# How often each opcode is asked.
+OPCODES = {1: 14, 2: 1, 3: 6, 4: 8, 5: 2, 6: 3, 8: 3, 9: 3, 10: 3, 11: 1, 12: 3, 13: 3, 14: 8, 15: 10, 16: 10, 17: 2,
+           18: 1, 20: 2, 21: 5, 22: 6, 23: 4, 24: 2, 25: 2, 27: 3, 28: 7, 29: .5, 30: 1, 31: .3, 32: .3, 33: .3, 34: 3,
+           35: 6, 36: .3, 37: .3, 39: .3, 40: .3, 41: .3, 42: .5, 43: 4, 44: 7, 45: 3, 46: 5, 47: 4, 50: 1, 51: .3,
+           52: .3, 99: .3}
+
+
+def fill(folder):
+    """Makes the files of a new session in an empty folder."""
+    os.makedirs(folder + "/d1/d2")
+    for i in range(30):
+        with open(f"{folder}/d1/f{i}", "wb") as file:
+            file.write(bytes([i]) * (i * 97))
+    os.symlink("d1/f3", folder + "/l")
+    os.link(folder + "/d1/f2", folder + "/h2")
+    os.setxattr(folder + "/d1/f1", "user.one", b"1")
+
+
+def tree(folder):
+    """All that is in a folder, but for times."""
+    found = []
+    for at, folders, files in os.walk(folder):
+        for path in sorted(os.path.join(at, name) for name in folders + files):
+            stat = os.lstat(path)
+            kind = stat.st_mode >> 12
+            if kind == 8:
+                with open(path, "rb") as file:
+                    content = hash(file.read(1 << 20))
+            else:
+                content = os.readlink(path) if kind == 10 else None
+            sizes = (stat.st_nlink, stat.st_size) if kind != 4 else ()
+            names = sorted(os.listxattr(path, follow_symlinks=False))
+            values = [(name, os.getxattr(path, name, follow_symlinks=False)) for name in names]
+            found.append((os.path.relpath(path, folder), stat.st_mode, stat.st_uid, stat.st_gid, stat.st_rdev, sizes,
+                          content, values))
+    return sorted(found)
+
+
+class Client:
+    """What a client of one daemon has: its nodes, and its open files and directories with their nodes."""
+
+    def __init__(self):
+        self.had = {"node": [ROOT], "file": [], "file's node": [], "directory": [], "directory's node": []}
+        self.folders = {0}
+
+    def number(self, it):
+        return self.had[it.kind][it.at] if isinstance(it, Ref) else it
+
+    def build(self, it):
+        """A line of the request."""
+        body = b"".join(part if isinstance(part, bytes) else struct.pack("<Q", self.number(part)) for part in it.parts)
+        made = bytearray(requests.request(it.opcode, body, node=self.number(it.node), extensions=it.extensions // 8))
+        struct.pack_into("<II", made, 24, *it.owner)
+        return requests.line(it.room, bytes(made), [cut for cut in it.cuts if cut < len(made)])
+
+    def take(self, reply, mode):
+        """Learns the node at the beginning of an entry, and puts its place in the list instead."""
+        nodes, number = self.had["node"], struct.unpack_from("<Q", reply)[0]
+        if number == 0:
+            return
+        if number not in nodes:
+            nodes.append(number)
+        at = nodes.index(number)
+        if mode >> 12 == 4:
+            self.folders.add(at)
+        struct.pack_into("<Q", reply, 0, at + 1)
+
+    def plain(self, request, reply):
+        """Learns from a reply, and gives it without what depends on the folder and on the daemon."""
+        reply, opcode = bytearray(reply), request.opcode
+        if len(reply) <= 16:
+            return bytes(reply)
+        if opcode in ENTRIES:
+            self.entry(reply, 16)
+        if opcode in (3, 4):
+            hide(reply, 32)
+        if opcode == 17:
+            reply[FULLNESS[0]:FULLNESS[1]] = bytes(FULLNESS[1] - FULLNESS[0])
+        if opcode in LISTINGS:
+            self.listing(reply, opcode == 44)
+        if opcode in (14, 27, 35):
+            at = 16 + 128 * (opcode == 35)
+            kind = "directory" if opcode == 27 else "file"
+            node = struct.unpack_from("<Q", reply, 16)[0] - 1 if opcode == 35 else None
+            self.had[kind].append(struct.unpack_from("<Q", reply, at)[0])
+            self.had[kind + "'s node"].append(self.number(request.node) if node is None else self.had["node"][node])
+            struct.pack_into("<Q", reply, at, 1)
+        return bytes(reply)
+
+    def entry(self, reply, at):
+        part = reply[at:at + 128]
+        self.take(part, struct.unpack_from("<I", part, 100)[0])
+        reply[at:at + 128] = part
+        hide(reply, at + 40)
+
+    def listing(self, reply, plus):
+        at = 16
+        while at < len(reply):
+            if plus:
+                self.entry(reply, at)
+                at += 128
+            reply[at:at + 8] = bytes(8)
+            at += 24 + (struct.unpack_from("<I", reply, at + 16)[0] + 7 & ~7)
+
+
+def hide(reply, at):
+    for start, end in OF_FOLDER:
+        reply[at + start:at + end] = bytes(end - start)
+
+
+class Maker:
+    """Makes requests of what a client has, by a generator of random numbers."""
+
+    def __init__(self, rng, client, options):
+        self.rng, self.client = rng, client
+        self.long_setxattr = options >> 29 & 1
+        self.contexts, self.groups = options >> 32 & 1, options >> 34 & 1
+
+    def some(self, *of):
+        return self.rng.choice(of)
+
+    def node(self):
+        if self.rng.random() < .04:
+            return self.some(*INODES)
+        return Ref("node", self.rng.randrange(len(self.client.had["node"])))
+
+    def folder(self):
+        if self.rng.random() < .1:
+            return self.node()
+        return Ref("node", self.some(*sorted(self.client.folders)))
+
+    def opened(self, kind):
+        """The node and the handle of an open file or directory, seldom of two that are not one."""
+        count = len(self.client.had[kind])
+        if not count or self.rng.random() < .03:
+            return self.node(), self.some(0, 424242)
+        # Mostly one of the last: the others may be closed.
+        at = max(0, count - 1 - int(self.rng.expovariate(.4)))
+        node = self.node() if self.rng.random() < .05 else Ref(kind + "'s node", at)
+        return node, Ref(kind, at)
+
+    def name(self):
+        return self.rng.choice(NAMES) + b"\0"
+
+    def first(self):
+        """The requests by which a session gets its first nodes and handles."""
+        folder = Ref("node", 1)
+        yield Request(1, ROOT, [b"d1\0"], "144", [40], (0, 0), 0)
+        for i in range(8):
+            yield Request(1, folder, [b"f%d\0" % i], "144", [40], (0, 0), 0)
+        for i in range(2, 8):
+            yield Request(14, Ref("node", i), [struct.pack("<II", 2, 0)], "32", [40], (0, 0), 0)
+        for node in (ROOT, folder):
+            yield Request(27, node, [bytes(8)], "32", [40], (0, 0), 0)
+
+    def session(self, count):
+        """So many requests, each made once the one before it was answered."""
+        yield from self.first()
+        for _ in range(count - FIRST):
+            yield self.make()
+
+    def make(self):
+        opcode = self.rng.choices(list(OPCODES), OPCODES.values())[0]
+        node, parts, room = self.body(opcode)
+        extensions = self.extensions() if opcode in (6, 8, 9, 35) else b""
+        if self.rng.random() < .03 and opcode not in (2, 42):
+            room += self.some(8, 100)
+        uid = self.some(0, 0, 0, 1000)
+        cuts = sorted({*((40,) if self.rng.random() < .7 else ()),
+                       *(self.rng.randrange(1, 200) for _ in range(self.some(0, 0, 0, 1, 4)))})
+        return Request(opcode, node, [*parts, extensions], self.cut(room), cuts, (uid, uid), len(extensions))
+
+    def cut(self, room):
+        pieces = []
+        for _ in range(self.some(0, 0, 1, 1, 2, 5)):
+            pieces.append(self.some(16, self.rng.randint(1, room)) if room else 0)
+            if not 0 < pieces[-1] < room:
+                pieces.pop()
+                break
+            room -= pieces[-1]
+        return "+".join(map(str, [*pieces, room]))
+
+    def extensions(self):
+        context = group = b""
+        if self.contexts:
+            value = self.some(b"system_u:object_r:x:s0\0", b"v", self.rng.randbytes(40))
+            body = struct.pack("<II", len(value), 0) + self.some(b"security.selinux\0", b"user.context\0") + value
+            body += bytes(-len(body) % 8)
+            context = struct.pack("<II", 8 + len(body), 1) + body
+            if self.rng.random() < .15:
+                context = struct.pack("<II", 8, 0)
+        if self.groups and self.rng.random() < .3:
+            group = struct.pack("<IIII", 16, 32, 1, self.some(0, 6, 1000))
+        return self.some(context + group, group + context)
+
+    def body(self, opcode):
+        """The node, the parts of the body, and the room for the reply."""
+        for of in (self.of_names, self.of_files, self.of_nodes):
+            made = of(opcode)
+            if made:
+                return made
+        return self.node(), [bytes(64)], 16 + 40
+
+    def of_names(self, opcode):
+        node, name = self.folder(), self.name()
+        pack = struct.pack
+        if opcode == 1:
+            return node, [name], 144
+        if opcode == 6:
+            return node, [name, self.some(b"to", b"d1/f3", b"x" * 200), b"\0"], 144
+        if opcode == 8:
+            mode, rdev = self.some(0o100644, 0o010600, 0o020600, 0), self.some(0, 0x105)
+            return node, [pack("<IIII", mode, rdev, 0o22, 0), name], 144
+        if opcode == 9:
+            return node, [pack("<II", self.some(0o755, 0o1777), 0o22), name], 144
+        if opcode in (10, 11):
+            return node, [name], 16
+        if opcode in (12, 45):
+            flags = [pack("<II", self.some(0, 1, 2, 4, 0xFFFF), 0)] if opcode == 45 else []
+            return node, [self.folder(), *flags, name, self.name()], 16
+        if opcode == 13:
+            return node, [self.node(), name], 144
+        if opcode == 35:
+            flags, mode = self.some(0, 2, 1, 0o200 | 2, 0o1000 | 2), self.some(0o644, 0o4755)
+            return node, [pack("<IIII", flags, mode, 0o22, self.some(0, 1)), name], 160
+        return None
+
+    def of_files(self, opcode):
+        node, handle = self.opened("directory" if opcode in (28, 29, 30, 44) else "file")
+        pack = struct.pack
+        if opcode in (15, 28, 44):
+            size = self.some(0, 1, 100, 4096, 65536) if opcode == 15 else self.some(0, 40, 200, 1000, 4096, 32768)
+            place = self.some(0, 10, 2000, 2**63 - 1) if opcode == 15 else self.some(0, 0, 0, 3, 2**62)
+            return node, [handle, place, pack("<IIQII", size, self.some(0, 2), 7, 0, 0)], 16 + size
+        if opcode == 16:
+            data = self.rng.randbytes(self.some(0, 1, 100, 4096, 70000))
+            flags = pack("<IIQII", len(data), self.some(0, 1, 2, 4), 7, self.some(0, 0, 0o2000), 0)
+            return node, [handle, self.some(0, 10, 2000), flags, data], 24
+        if opcode in (18, 29):
+            return node, [handle, pack("<IIQ", 0, self.some(0, 1, 2) if opcode == 18 else 0, 0)], 16
+        if opcode in (20, 30):
+            return node, [handle, pack("<II", self.some(0, 1), 0)], 16
+        if opcode == 25:
+            return node, [handle, bytes(16)], 16
+        if opcode == 43:
+            mode = pack("<II", self.some(0, 1, 3), 0)
+            return node, [handle, self.some(0, 10), self.some(0, 100, 5000), mode], 16
+        if opcode == 46:
+            return node, [handle, self.some(0, 5), pack("<II", self.some(0, 1, 2, 3, 4, 9), 0)], 24
+        if opcode == 47:
+            other, to = self.opened("file")
+            return node, [handle, 0, other, to, self.some(0, 10000), self.some(1, 500), 0], 24
+        return None
+
+    def of_nodes(self, opcode):
+        node, pack = self.node(), struct.pack
+        names = b"user.one\0", b"user.two\0", b"trusted.x\0", b"bad\0"
+        if opcode == 2:
+            return node, [self.some(0, 1, 2)], self.some(0, 16)
+        if opcode == 42:
+            return 0, [pack("<II", 2, 0), node, self.some(0, 1), self.node(), 1], 0
+        if opcode in (3, 4):
+            owner, handle = self.opened("file")
+            has = self.some(0, 0, 1)
+            if opcode == 3:
+                return owner if has else node, [pack("<II", has, 0), handle], 120
+            valid = self.some(1, 2, 4, 8, 16 + 32, 0x80 + 0x100 + 16 + 32, 8 + 64, 0x400, 6, 1 << 11, 0)
+            size, mode = self.some(0, 10, 5000, 2**40), self.some(0o644, 0o4755, 0o100600)
+            rest = pack("<QQQQQIIIIIIII", size, 0, 100, 200, 300, 1, 2, 3, mode, 0, self.some(0, 5), self.some(0, 6), 0)
+            return owner if valid & 64 else node, [pack("<II", valid, 0), handle, rest], 120
+        if opcode == 5:
+            return node, [], 16 + 4096
+        if opcode in (14, 27):
+            flags = self.some(0, 2, 1, 2, 0o1000 | 2, 0o2000 | 2) if opcode == 14 else 0
+            return self.folder() if opcode == 27 else node, [pack("<II", flags, self.some(0, 1))], 32
+        if opcode == 17:
+            return node, [], 96
+        if opcode == 21:
+            value = self.rng.randbytes(self.some(0, 3, 300))
+            record = pack("<IIII", len(value), self.some(0, 1, 2), self.some(0, 1), 0)
+            return node, [record[:16 if self.long_setxattr else 8], self.some(*names), value], 16
+        if opcode in (22, 23):
+            size = self.some(0, 1, 3, 100, 65536)
+            name = [self.some(*names)] if opcode == 22 else []
+            return node, [pack("<II", size, 0), *name], 16 + max(size, 8)
+        if opcode == 24:
+            return node, [self.some(*names)], 16
+        if opcode == 34:
+            return node, [pack("<II", self.some(0, 1, 2, 4, 7), 0)], 16
+        if opcode == 36:
+            return node, [bytes(8)], 16
+        if opcode == 50:
+            return node, [bytes(8)], 16
+        return None

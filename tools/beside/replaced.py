@@ -1,0 +1,284 @@
+#!/usr/bin/env python3
+"""Asks virtiofsd, and the virtiofsd whose protocol layer is replaced, the same requests over equal folders.
+
+Usage: replaced.py ASK FOLDER SEED COUNT REPLACED THEIRS..
+ASK is the built ask.c. REPLACED is the daemon with the layer here, and THEIRS are the words that start
+virtiofsd. Both get the options of DAEMON and a folder of their own, made in FOLDER. Asked are
+  the hostile requests of requests.py, each session of a new process: the replaced one must answer the
+    request after it, and answer all as virtiofsd does, if that goes on
+  COUNT well-formed requests by SEED, in sessions with the options of OPTIONS: the replies must be the same,
+    and the folders after them
+  COUNT requests by SEED of which most are broken, of the replaced one alone: each must be completed
+Of a reply the numbers of nodes, handles and inodes, the times, and how full the file system is do not count.
+Status 0: all were; 1: not so; 2: it could not start.
+"""
+import collections
+import concurrent.futures
+import os
+import random
+import re
+import struct
+import subprocess
+import sys
+import tempfile
+
+import beside
+import generated
+import requests
+
+DAEMON = ["--socket-path", "SOCKET", "--shared-dir", "SHARE", "--sandbox", "none", "--seccomp", "none",
+          "--no-announce-submounts", "--xattr"]
+OPTIONS = ([], ["--cache=always", "--writeback"], ["--posix-acl", "--security-label"], ["--thread-pool-size=4"],
+           ["--allow-direct-io", "--cache=never"], ["--no-readdirplus"])
+LENGTH = 1000
+INIT = requests.line("16+64", requests.init(flags2=15))
+# In what two replies may differ that virtiofsd's own fault explains.
+PAST_SIZE = "READ whose room is longer than its size: virtiofsd reads past the size, and answers EIO"
+
+
+class Daemon:
+    """A process, with a folder of its own, and a client of it."""
+
+    def __init__(self, words, at, options):
+        self.folder, socket = at + "/share", at + "/socket"
+        os.mkdir(self.folder)
+        generated.fill(self.folder)
+        words = [{"SOCKET": socket, "SHARE": self.folder}.get(word, word) for word in [*words, *DAEMON, *options]]
+        self.log = open(at + "/log", "w+", encoding="utf-8", errors="replace")
+        self.process = subprocess.Popen(words, stdin=subprocess.DEVNULL, stdout=self.log, stderr=self.log)
+        self.asking = subprocess.Popen([beside.ask, socket], stdin=subprocess.PIPE, stdout=subprocess.PIPE, text=True)
+        self.client = generated.Client()
+
+    def ask(self, line):
+        try:
+            self.asking.stdin.write(line + "\n")
+            self.asking.stdin.flush()
+        except BrokenPipeError:
+            return ""
+        return self.asking.stdout.readline().rstrip("\n")
+
+    def end(self):
+        for pipe in (self.asking.stdin, self.asking.stdout):
+            try:
+                pipe.close()
+            except BrokenPipeError:
+                pass
+        self.asking.wait()
+        self.process.kill()
+        self.process.wait()
+        self.log.close()
+
+    def __enter__(self):
+        return self
+
+    def __exit__(self, *_):
+        self.end()
+
+
+def plain(client, request, answer):
+    """What of an answer counts. Bytes behind the reply, if there are any, are left as they are."""
+    parts = answer.split(" ")
+    if not re.fullmatch(r"\d+", parts[0]) or len(parts) < 2 or parts[1] == "behind":
+        return answer
+    reply = bytes.fromhex(parts[1])
+    if len(reply) >= 16 and reply[4:8] == bytes(4):
+        reply = client.plain(request, reply)
+    return " ".join([parts[0], reply.hex(), *parts[2:]])
+
+
+def why(request, there, here):
+    """Why two answers differ, if it is known."""
+    room = sum(map(int, request.room.split("+")))
+    if request.opcode == 15 and there.startswith("16 10000000fbffffff") and re.match(r"\d+ .{8}0{8}", here):
+        return PAST_SIZE if room > 16 + struct.unpack_from("<I", request.parts[2])[0] else None
+    return None
+
+
+def options_of(answer):
+    """The options in the reply to INIT."""
+    reply = bytes.fromhex(answer.split(" ")[1])
+    return struct.unpack_from("<I", reply, 28)[0] | struct.unpack_from("<I", reply, 48)[0] << 32
+
+
+def compare(session):
+    """What came of a session of well-formed requests: counts, what differed, and whether the folders are equal."""
+    seed, count = session
+    options = OPTIONS[seed % len(OPTIONS)]
+    rng = random.Random(seed)
+    found, shown, errors = collections.Counter(), [], 0
+    with tempfile.TemporaryDirectory(dir=beside.folder) as at:
+        os.mkdir(at + "/there")
+        os.mkdir(at + "/here")
+        with Daemon(beside.theirs, at + "/there", options) as there, Daemon([replaced], at + "/here", options) as here:
+            first = there.ask(INIT), here.ask(INIT)
+            found["same" if first[0] == first[1] else "INIT differs"] += 1
+            if not first[0].startswith("80 ") or not first[1].startswith("80 "):
+                raise beside.Stopped(f"virtiofsd can't be asked with {options}: {first}")
+            maker = generated.Maker(rng, there.client, options_of(first[0]))
+            for n, request in enumerate(maker.session(count)):
+                try:
+                    answers = [daemon.ask(daemon.client.build(request)) for daemon in (there, here)]
+                except IndexError:
+                    shown.append(f"session {seed}, {n}: the daemons gave out different numbers before")
+                    break
+                alike = [plain(daemon.client, request, answer)
+                         for daemon, answer in zip((there, here), answers)]
+                known = None if alike[0] == alike[1] else why(request, *alike)
+                found["same" if alike[0] == alike[1] else known or "differs"] += 1
+                errors += bool(re.match(r"16 10000000(?!0{8})", alike[1]))
+                if alike[0] != alike[1] and not known:
+                    shown.append(f"session {seed} {options}, {n}: {requests.NAMES.get(request.opcode)} "
+                                 f"{there.client.build(request)[:200]}\n  virtiofsd {answers[0][:300]}\n"
+                                 f"  replaced  {answers[1][:300]}")
+                    if "none" in alike or "" in alike:
+                        break
+            trees = [generated.tree(daemon.folder) for daemon in (there, here)]
+            found["folders equal" if trees[0] == trees[1] else "folders differ"] += 1
+            if trees[0] != trees[1]:
+                shown.append(f"session {seed}: " + "\n".join(
+                    f"{a}\n{b}" for a, b in zip(*trees) if a != b)[:600])
+    found["errors"] += errors
+    return found, shown
+
+
+def broken(rng, line):
+    """A request that is another one in some of its bytes or lengths, in a room of another size."""
+    room, pieces = line.split(" ")
+    made = bytearray.fromhex(pieces.replace("+", ""))
+    for _ in range(rng.choice((1, 1, 2, 5))):
+        how = rng.randrange(6)
+        if how == 0:
+            made[rng.randrange(len(made))] = rng.choice((0, 1, 255, rng.randrange(256)))
+        elif how == 1:
+            made = made[:rng.randrange(1, len(made) + 1)]
+        elif how == 2:
+            made += rng.randbytes(rng.randrange(60))
+        elif how == 3 and len(made) >= 4:
+            length = rng.choice((0, 39, 40, 41, len(made) - 1, len(made) + 1, 2**32 - 1, 1 << 20, rng.randrange(2**32)))
+            struct.pack_into("<I", made, 0, length & 0xFFFFFFFF)
+        elif how == 4 and len(made) >= 8:
+            struct.pack_into("<I", made, 4, rng.choice((rng.randrange(60), rng.randrange(2**32))))
+        elif len(made) > 48:
+            number = rng.choice((0, 1, 2**64 - 1, 2**63, 2**32, rng.randrange(2**64)))
+            struct.pack_into("<Q", made, rng.randrange(40, len(made) - 7), number)
+    room = rng.choice((room, room, "0", "15", "16", "17", "8+8", "1+1+1", "4096"))
+    return requests.line(room, bytes(made), [cut for cut in (40, rng.randrange(1, 200)) if rng.random() < .5])
+
+
+def survive(session):
+    """How many requests, of which most are broken, the replaced one completed, and what it did not."""
+    seed, count = session
+    rng = random.Random(-seed)
+    found = collections.Counter()
+    with tempfile.TemporaryDirectory(dir=beside.folder) as at:
+        with Daemon([replaced], at, OPTIONS[seed % len(OPTIONS)]) as here:
+            maker = generated.Maker(rng, here.client, options_of(here.ask(INIT)))
+            for n, request in enumerate(maker.session(count)):
+                line = here.client.build(request)
+                is_broken = n >= generated.FIRST and rng.random() < .6
+                line = broken(rng, line) if is_broken else line
+                answer = here.ask(line)
+                if not re.match(r"\d+ ", answer):
+                    here.log.flush()
+                    here.log.seek(0)
+                    return found, [f"session {seed}, {n}: {line[:300]}\n  {answer}\n{here.log.read()[-1000:]}"]
+                found["completed with no byte" if answer.startswith("0 ") else "answered"] += 1
+                if not is_broken:
+                    plain(here.client, request, answer)
+    return found, []
+
+
+def hostile(session):
+    """Of each judged request its name, its kind and its part, and whether both answered the last one."""
+    items, skipped = session
+    lines = [line for _, line in items]
+    both = (beside.ask_new([*words, *DAEMON], lines) for words in (beside.theirs, [replaced]))
+    (_, there, log), (asked, here, said) = both
+    found = []
+    for at in range(skipped, len(items) - 1):
+        answers = [answers[at] if at < len(answers) else "not asked" for answers in (there, here)]
+        kind, part = beside.kind_of(asked[at], *answers, log) if at < len(asked) else (None, "")
+        if kind == beside.DIFFER and part != "attributes":
+            kind = None
+        came = "" if kind else f"{items[at][0]}\n  virtiofsd {answers[0]}\n  replaced  {answers[1]}\n{said}"
+        found.append((items[at][0], kind, part, came))
+    return found, here[-1] == beside.ENOSYS, there[-1] == beside.ENOSYS
+
+
+def over(what, workers, function, sessions):
+    """What a function makes of sessions, so many at a time, with progress."""
+    sessions = list(sessions)
+    with concurrent.futures.ThreadPoolExecutor(workers) as pool:
+        try:
+            for n, one in enumerate(pool.map(function, sessions), 1):
+                yield one
+                if n % 20 == 0 or n == len(sessions):
+                    print(f"{what}: {n} of {len(sessions)} sessions", file=sys.stderr, flush=True)
+        except BaseException:
+            pool.shutdown(cancel_futures=True)
+            raise
+
+
+def in_sessions(seed, count):
+    return [(seed + n, min(LENGTH, count - n * LENGTH)) for n in range((count + LENGTH - 1) // LENGTH)]
+
+
+def show(rows, head):
+    print(f"\n| {head} | How many |\n|---|---|")
+    for name, count in rows:
+        print(f"| {name} | {count} |")
+
+
+def main(seed, count):
+    faults = []
+    judged = list(over("Hostile requests", 8, hostile, requests.sessions()))
+    kinds = beside.by_parts(judged)
+    wrong = beside.count(kinds.get(None, {}))
+    faults += [came for found, _, _ in judged for *_, came in found if came]
+    went_on, theirs_went_on = (sum(it[at] for it in judged) for at in (1, 2))
+    if went_on < len(judged):
+        faults.append("The replaced one did not go on after each hostile session.")
+    show([("the same bytes", beside.count(kinds.get(beside.SAME, {}))),
+          ("the same, inode numbers and times apart", beside.count(kinds.get(beside.DIFFER, {}))),
+          *((f"virtiofsd's queue ended ({part.split(';')[0]}), and the replaced one's did not", len(names))
+            for kind in beside.ENDED for part, names in kinds.get(kind, {}).items()),
+          ("of no kind", wrong),
+          (f"sessions of {len(judged)} after which the replaced one answered", went_on),
+          (f"sessions of {len(judged)} after which virtiofsd answered", theirs_went_on)],
+         f"What came of {sum(map(beside.count, kinds.values()))} hostile requests")
+
+    found = collections.Counter()
+    for one, shown in over("Generated requests", 2, compare, in_sessions(seed, count)):
+        found += one
+        faults += shown
+    errors = found.pop("errors", 0)
+    asked = sum(number for name, number in found.items() if not name.startswith("folders"))
+    show([("the same", f"{found.pop('same', 0):,} ({errors:,} of them errors)"),
+          *((name, f"{number:,}") for name, number in sorted(found.items()))],
+         f"What came of {asked:,} well-formed requests by the seed {seed}")
+
+    found = collections.Counter()
+    for one, shown in over("Broken requests", 2, survive, in_sessions(seed, count)):
+        found += one
+        faults += shown
+    show([(name, f"{number:,}") for name, number in sorted(found.items())],
+         f"What the replaced one made of {sum(found.values()):,} requests of which most are broken")
+    for fault in faults[:20]:
+        print(f"\n{fault}", file=sys.stderr)
+    print(f"\n{len(faults)} faults.")
+    sys.exit(bool(faults))
+
+
+if __name__ == "__main__":
+    if sys.argv[1:2] in (["-h"], ["--help"]):
+        print(__doc__.rstrip())
+        sys.exit()
+    if len(sys.argv) < 7 or not all(word.isdigit() for word in sys.argv[3:5]):
+        print(__doc__.rstrip(), file=sys.stderr)
+        sys.exit(2)
+    beside.ask, beside.folder, first_seed, many, replaced, *beside.theirs = sys.argv[1:]
+    try:
+        main(int(first_seed), int(many))
+    except beside.Stopped as reason:
+        print(f"replaced.py: {reason}", file=sys.stderr)
+        sys.exit(2)
