@@ -66,6 +66,7 @@ if [ "${version:-0}" -lt 85 ]; then
 fi
 if [ -n "$check" ]; then
     need python3 "Install it: apt-get install python3."
+    need prlimit "Install util-linux."
     [ "$(id -u)" = 0 ] || refuse "virtiofsd is started as root: run --check as root."
 fi
 folder=${folder:-$here/out/virtiofsd}
@@ -87,10 +88,9 @@ link_library cap-ng libcap-ng0
 link_library seccomp libseccomp2
 find_library vfs_door
 
-# Copies a file if the other is not the same, so that its time stays where nothing changed, and a daemon that
-# runs stays what it is.
+# Copies a file if the other is not the same, so that its time stays where nothing changed.
 renew() {
-    cmp -s "$1" "$2" || { cp "$1" "$2.new" && mv "$2.new" "$2"; }
+    cmp -s "$1" "$2" || cp "$1" "$2"
 }
 
 fetch() {
@@ -143,17 +143,27 @@ show_progress() {
     tee "$folder/said" | awk '/^ *Compiling/ && ++n % 25 == 0 { print n " crates compiled" > "/dev/stderr" }'
 }
 
-echo "Building virtiofsd .." >&2
-cd "$tree"
-if ! CARGO_HOME=$folder/home CARGO_TARGET_DIR=$folder/target NIZWARF_LIB_DIR=$folder/lib \
-    CARGO_ENCODED_RUSTFLAGS=$'-L\x1fnative='$folder/link cargo build --release --offline 2>&1 | show_progress; then
-    tail -n 40 "$folder/said" >&2
-    exit 1
+build() {
+    cd "$tree"
+    CARGO_HOME=$folder/home CARGO_TARGET_DIR=$folder/target NIZWARF_LIB_DIR=$folder/lib \
+        CARGO_ENCODED_RUSTFLAGS=$'-L\x1fnative='$folder/link cargo build --release --offline 2>&1 | show_progress
+}
+
+daemon=$folder/nizwarf-virtiofsd
+if [ ! -e "$daemon" ] || [ -n "$(find "$tree/src" "$tree/Cargo.toml" "$folder/lib" \
+    "$here"/bindings/rust/{src,build.rs,Cargo.toml} -newer "$daemon" -print -quit)" ]; then
+    echo "Building virtiofsd .." >&2
+    (build) || {
+        tail -n 40 "$folder/said" >&2
+        exit 1
+    }
+    # A daemon that runs stays what it is.
+    cp "$folder/target/release/virtiofsd" "$daemon.new"
+    mv "$daemon.new" "$daemon"
 fi
-renew "$folder/target/release/virtiofsd" "$folder/nizwarf-virtiofsd"
 if [ -z "$check" ]; then
-    "$folder/nizwarf-virtiofsd" --version >&2
-    echo "$folder/nizwarf-virtiofsd"
+    "$daemon" --version >&2
+    echo "$daemon"
     exit
 fi
 
@@ -184,5 +194,5 @@ fi
 cc -std=c11 -O2 -Wall -Wextra -Werror -o "$folder/ask" "$here/tools/beside/ask.c"
 work=$(mktemp -d)
 trap 'rm -rf "$work"' EXIT
-python3 -B "$here/tools/beside/replaced.py" "$folder/ask" "$work" "$seed" "$count" "$folder/nizwarf-virtiofsd" \
+python3 -B "$here/tools/beside/replaced.py" "$folder/ask" "$work" "$seed" "$count" "$daemon" \
     "${theirs[@]}"

@@ -31,6 +31,8 @@ DAEMON = ["--socket-path", "SOCKET", "--shared-dir", "SHARE", "--sandbox", "none
 OPTIONS = ([], ["--cache=always", "--writeback"], ["--posix-acl", "--security-label"], ["--thread-pool-size=4"],
            ["--allow-direct-io", "--cache=never"], ["--no-readdirplus"])
 LENGTH = 1000
+# Longer files than of so many bytes can't be made, as by a FALLOCATE: the folders are on a real disk.
+LIMIT = "prlimit", f"--fsize={1 << 24}"
 INIT = requests.line("16+64", requests.init(flags2=15))
 # In what two replies may differ that virtiofsd's own fault explains.
 PAST_SIZE = "READ whose room is longer than its size: virtiofsd reads past the size, and answers EIO"
@@ -45,7 +47,9 @@ class Daemon:
         generated.fill(self.folder)
         words = [{"SOCKET": socket, "SHARE": self.folder}.get(word, word) for word in [*words, *DAEMON, *options]]
         self.log = open(at + "/log", "w+", encoding="utf-8", errors="replace")
-        self.process = subprocess.Popen(words, stdin=subprocess.DEVNULL, stdout=self.log, stderr=self.log)
+        # (the signal of that limit stays ignored, as it is here, so that a call answers EFBIG)
+        self.process = subprocess.Popen([*LIMIT, *words], stdin=subprocess.DEVNULL, stdout=self.log, stderr=self.log,
+                                        restore_signals=False)
         self.asking = subprocess.Popen([beside.ask, socket], stdin=subprocess.PIPE, stdout=subprocess.PIPE, text=True)
         self.client = generated.Client()
 
