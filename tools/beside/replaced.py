@@ -7,7 +7,9 @@ virtiofsd. Both get the options of DAEMON and a folder of their own, made in FOL
   the hostile requests of requests.py, each session of a new process: the replaced one must answer the
     request after it, and answer all as virtiofsd does, if that goes on
   COUNT well-formed requests by SEED, in sessions with the options of OPTIONS: the replies must be the same,
-    and the folders after them
+    and after each session the folders, and the number of open descriptors
+  entries in rooms that are too short for them: the replaced one must give them back to its file system, which
+    shows in its number of descriptors
   COUNT requests by SEED of which most are broken, of the replaced one alone: each must be completed
 Of a reply the numbers of nodes, handles and inodes, the times, and how full the file system is do not count.
 Status 0: all were; 1: not so; 2: it could not start.
@@ -60,6 +62,10 @@ class Daemon:
         except BrokenPipeError:
             return ""
         return self.asking.stdout.readline().rstrip("\n")
+
+    def descriptors(self):
+        """How many it has open: of each node that a client knows there is one."""
+        return len(os.listdir(f"/proc/{self.process.pid}/fd"))
 
     def end(self):
         for pipe in (self.asking.stdin, self.asking.stdout):
@@ -137,7 +143,11 @@ def compare(session):
                     if "none" in alike or "" in alike:
                         break
             trees = [generated.tree(daemon.folder) for daemon in (there, here)]
-            found["folders equal" if trees[0] == trees[1] else "folders differ"] += 1
+            found["sessions whose folders are equal" if trees[0] == trees[1] else "folders differ"] += 1
+            counts = [daemon.descriptors() for daemon in (there, here)]
+            found["sessions with as many descriptors" if counts[0] == counts[1] else "descriptors differ"] += 1
+            if counts[0] != counts[1]:
+                shown.append(f"session {seed}: {counts[0]} descriptors there, {counts[1]} here")
             if trees[0] != trees[1]:
                 shown.append(f"session {seed}: " + "\n".join(
                     f"{a}\n{b}" for a, b in zip(*trees) if a != b)[:600])
@@ -190,6 +200,39 @@ def survive(session):
                 if not is_broken:
                     plain(here.client, request, answer)
     return found, []
+
+
+def reply_to(daemon, line):
+    """What stands in a reply behind its header."""
+    return bytes.fromhex(daemon.ask(line).split(" ")[1])[16:]
+
+
+def give_back():
+    """Requests for entries, each in a room that is too short for its reply, and what was not given back."""
+    asked = [("LOOKUP", 1, b"l\0", "143"), ("MKDIR", 9, struct.pack("<II", 0o755, 0) + b"a\0", "16+127"),
+             ("MKNOD", 8, struct.pack("<IIII", 0o100644, 0, 0, 0) + b"b\0", "16"), ("SYMLINK", 6, b"c\0d\0", "40"),
+             ("LINK", 13, struct.pack("<Q", 2) + b"e\0", "100")]
+    with tempfile.TemporaryDirectory(dir=beside.folder) as at, Daemon([replaced], at, []) as here:
+        here.ask(INIT)
+        here.ask(requests.line("16+128", requests.request(1, b"h2\0")))
+        before, faults = here.descriptors(), []
+        for name, opcode, body, room in asked:
+            answer = here.ask(requests.line(room, requests.request(opcode, body)))
+            if not answer.startswith("0 ") or here.descriptors() != before:
+                faults.append(f"{name} in a room of {room}: {answer}; {before} descriptors before it, "
+                              f"{here.descriptors()} after it")
+        # An item that does not fit, whose node the client does not know: it is looked up.
+        handle = struct.unpack_from("<Q", reply_to(here, requests.line("32", requests.request(27, bytes(8)))))[0]
+        items = reply_to(here, requests.line("4112", requests.transfer(28, 4096, handle=handle)))
+        before, place, at = here.descriptors(), 0, 0
+        while not items[at + 24:].startswith((b"d1", b"l\0")):
+            place, length = struct.unpack_from("<QI", items, at + 8)
+            at += 24 + (length + 7 & ~7)
+        answer = here.ask(requests.line("16+40", requests.transfer(44, 40, place=place, handle=handle)))
+        if not answer.startswith("16 1000000000000000") or here.descriptors() != before:
+            faults.append(f"READDIRPLUS in a room of 56: {answer}; {before} descriptors before it, "
+                          f"{here.descriptors()} after it")
+    return len(asked) + 1, faults
 
 
 def hostile(session):
@@ -256,7 +299,7 @@ def main(seed, count):
         found += one
         faults += shown
     errors = found.pop("errors", 0)
-    asked = sum(number for name, number in found.items() if not name.startswith("folders"))
+    asked = sum(number for name, number in found.items() if not re.search("folders|descriptors", name))
     show([("the same", f"{found.pop('same', 0):,} ({errors:,} of them errors)"),
           *((name, f"{number:,}") for name, number in sorted(found.items()))],
          f"What came of {asked:,} well-formed requests by the seed {seed}")
@@ -267,6 +310,9 @@ def main(seed, count):
         faults += shown
     show([(name, f"{number:,}") for name, number in sorted(found.items())],
          f"What the replaced one made of {sum(found.values()):,} requests of which most are broken")
+    tried, shown = give_back()
+    faults += shown
+    show([("given back", tried - len(shown)), ("kept", len(shown))], f"What became of {tried} entries without room")
     for fault in faults[:20]:
         print(f"\n{fault}", file=sys.stderr)
     print(f"\n{len(faults)} faults.")
