@@ -3,13 +3,13 @@
 # unmodified one.
 #
 # Usage: tools/virtiofsd.sh [--check [--seed N] [--requests N]] [FOLDER]
-# It leaves the daemon as nizwarf-virtiofsd in the folder, which is out/virtiofsd if none is given. It takes
-# virtiofsd's options: try --help. Only what is newer is built again.
+# It leaves the daemon as nizwarf-virtiofsd in the folder, which is out/virtiofsd if none is given. The daemon
+# takes virtiofsd's options, which its own --help lists. It is built again if a source is newer.
 #
 # The sources of virtiofsd and of the crates below it are packages of Debian 13, which apt-get downloads by
 # lists of its own and which are unpacked into the folder, and never installed: 50 MB. virtiofsd's
 # src/server.rs is replaced by bindings/virtiofsd/server.rs, which stands on the crate of bindings/rust; no
-# other source changes. The first build takes two minutes for the download and four for one processor.
+# other source changes. The first run takes a minute for the download, and three for one processor.
 #
 # With --check it builds it, and asks it and Debian's own program of virtiofsd 1.13.2 the same over equal
 # folders, by vhost-user: the hostile requests of tools/beside, and N well-formed ones by a seed (20000, and

@@ -1,4 +1,5 @@
 // SPDX-License-Identifier: Apache-2.0 AND BSD-3-Clause
+// Written anew: of virtiofsd it has the names of types and methods alone. See NOTICE.md.
 
 //! The protocol layer of virtiofsd 1.13.2, over the crate `nizwarf`.
 //!
@@ -90,6 +91,7 @@ impl<F: FileSystem + Sync> Server<F> {
         let (outcome, mut reply) = match slot.ask(&session, &request, w.available_bytes()) {
             Asked::Finished(done) => (done.outcome, done.reply),
             Asked::Call(PendingCall { context, call }) => {
+                debug!("{context:?} asks for {call:?}");
                 let asker = Asker::new(&self.fs, context);
                 let told = asker.make(slot, call, r, &mut w);
                 if let Some(options) = told.options {
@@ -102,6 +104,7 @@ impl<F: FileSystem + Sync> Server<F> {
             debug!("A request is refused: {refusal}");
             return 0;
         }
+        debug!("The reply has {} bytes", reply.len());
         match w.write_all(reply.bytes()) {
             Ok(()) => reply.len(),
             Err(_) => 0,
