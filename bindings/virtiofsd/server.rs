@@ -60,6 +60,9 @@ impl<F: FileSystem + Sync> Server<F> {
     }
 
     /// Serves one request, and returns the length of its reply, with which it is completed.
+    ///
+    /// # Errors
+    /// None: an error would end the worker of the queue.
     pub fn handle_message<T>(
         &self,
         r: Reader,
@@ -646,13 +649,8 @@ fn transfer(
 }
 
 fn entry_of(entry: Entry) -> nizwarf::Entry {
-    nizwarf::Entry {
-        inode: entry.inode,
-        generation: entry.generation,
-        attr: attr_of(&entry.attr),
-        attr_timeout: entry.attr_timeout,
-        entry_timeout: entry.entry_timeout,
-    }
+    let Entry { inode, generation, attr, attr_timeout, entry_timeout } = entry;
+    nizwarf::Entry { inode, generation, attr: attr_of(&attr), attr_timeout, entry_timeout }
 }
 
 fn attributes((attr, timeout): (Attr, Duration)) -> (nizwarf::Attr, Duration) {
@@ -732,7 +730,7 @@ fn extensions_of(extensions: nizwarf::Extensions) -> Extensions {
 
 impl<F: FileSystem + SerializableFileSystem + Sync> SerializableFileSystem for Server<F> {
     fn prepare_serialization(&self, cancel: Arc<AtomicBool>) {
-        self.fs.prepare_serialization(cancel)
+        self.fs.prepare_serialization(cancel);
     }
 
     fn serialize(&self, state_pipe: File) -> io::Result<()> {
