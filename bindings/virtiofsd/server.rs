@@ -18,11 +18,12 @@ use crate::filesystem::{
 use crate::fuse::{Attr, FsOptions, OpenOptions, SetattrIn, SetattrValid, SetxattrFlags};
 use crate::oslib::WritevFlags;
 use crate::soft_idmap::Id;
-use nizwarf::{kinds, Asked, Call, Item, PendingCall, Session, Slot, To, Told};
+use nizwarf::{Asked, Call, Item, PendingCall, Session, Slot, Told};
 use std::cell::RefCell;
 use std::ffi::CStr;
 use std::fs::File;
 use std::io::{self, IoSlice, Read, Write};
+use std::iter::repeat;
 use std::panic::{catch_unwind, AssertUnwindSafe};
 use std::sync::atomic::{AtomicBool, AtomicU64, Ordering};
 use std::sync::Arc;
@@ -44,6 +45,7 @@ struct Local {
 thread_local! {
     static LOCAL: RefCell<Local> =
         const { RefCell::new(Local { slot: Slot::new(), request: Vec::new() }) };
+    static LISTING: RefCell<Listing> = const { RefCell::new(Listing::new()) };
 }
 
 /// Serves the requests of one guest from a file system.
@@ -408,7 +410,12 @@ impl<'f, F: FileSystem> Asker<'f, F> {
                 let result =
                     self.ask(|fs, ctx| fs.readdir(ctx, node.into(), handle.into(), size, offset));
                 match result {
-                    Ok(items) => self.list(slot, items, node, size as usize, plus, to),
+                    Ok(items) => LISTING.with(move |listing| {
+                        let mut listing = listing.borrow_mut();
+                        let most = (size as usize).min(to.room().saturating_sub(REPLY_HEADER));
+                        self.list(&mut listing, items, node, most, plus);
+                        to.answer(slot, Ok(&listing.items()))
+                    }),
                     Err(error) => to.fail(slot, &error),
                 }
             }
@@ -428,17 +435,15 @@ impl<'f, F: FileSystem> Asker<'f, F> {
 
     /// Lists items up to the first that does not fit, or, with `plus`, whose lookup fails. The first of all is
     /// looked up even if it does not fit, since the error of its lookup is the reply.
-    fn list<'s>(
+    fn list(
         &self,
-        slot: &'s mut Slot,
+        listing: &mut Listing,
         mut items: F::DirIter,
         node: u64,
-        size: usize,
+        most: usize,
         plus: bool,
-        to: To<kinds::Directory>,
-    ) -> Told<'s> {
-        let most = size.min(to.room().saturating_sub(REPLY_HEADER));
-        let mut listing = Listing::default();
+    ) {
+        listing.clear();
         // If the iterator panics, the listing ends.
         while let Ok(true) = self.ask(|_, _| Ok(listing.add(&mut items, most, plus))) {
             if !plus || matches!(listing.last_name().to_bytes(), b"." | b"..") {
@@ -452,7 +457,6 @@ impl<'f, F: FileSystem> Asker<'f, F> {
                 break;
             }
         }
-        to.answer(slot, Ok(&listing.items()))
     }
 
     /// The calls about the session.
@@ -538,11 +542,12 @@ impl<'f, F: FileSystem> Asker<'f, F> {
 }
 
 /// Items of a directory, whose names are copied: the iterator lends them for a step.
-#[derive(Default)]
 struct Listing {
     /// The names one after another, each with its NUL.
     names: Vec<u8>,
     records: Vec<Record>,
+    /// For each record the result of its lookup, if there was one. It is empty without `plus`.
+    entries: Vec<Option<io::Result<nizwarf::Entry>>>,
     /// The length of the records in the reply.
     len: usize,
 }
@@ -553,10 +558,20 @@ struct Record {
     kind: u32,
     /// The offset of the name.
     at: usize,
-    entry: Option<io::Result<nizwarf::Entry>>,
 }
 
 impl Listing {
+    const fn new() -> Self {
+        Listing { names: Vec::new(), records: Vec::new(), entries: Vec::new(), len: 0 }
+    }
+
+    fn clear(&mut self) {
+        self.names.clear();
+        self.records.clear();
+        self.entries.clear();
+        self.len = 0;
+    }
+
     /// Adds the next item, if there is one and it fits, or if it is the first with `plus`. Returns whether it
     /// was added.
     fn add(&mut self, items: &mut impl DirectoryIterator, most: usize, plus: bool) -> bool {
@@ -573,8 +588,10 @@ impl Listing {
             offset: item.offset,
             kind: item.type_,
             at: self.names.len(),
-            entry: None,
         });
+        if plus {
+            self.entries.push(None);
+        }
         self.names.extend_from_slice(item.name.to_bytes_with_nul());
         true
     }
@@ -584,21 +601,23 @@ impl Listing {
     }
 
     fn look_up(&mut self, result: io::Result<nizwarf::Entry>) {
-        if let Some(last) = self.records.last_mut() {
-            last.entry = Some(result);
+        if let Some(last) = self.entries.last_mut() {
+            *last = Some(result);
         }
     }
 
     fn items(&self) -> Vec<Item<'_>> {
-        let item = |record: &Record| {
-            let name = name_in(&self.names, record.at);
-            Item::new(record.ino, record.offset, record.kind, name)
-        };
+        let entries = self.entries.iter().map(Option::as_ref).chain(repeat(None));
         self.records
             .iter()
-            .map(|record| match &record.entry {
-                Some(result) => item(record).looked_up(result),
-                None => item(record),
+            .zip(entries)
+            .map(|(record, entry)| {
+                let name = name_in(&self.names, record.at);
+                let item = Item::new(record.ino, record.offset, record.kind, name);
+                match entry {
+                    Some(result) => item.looked_up(result),
+                    None => item,
+                }
             })
             .collect()
     }

@@ -175,6 +175,9 @@ def broken(rng, line):
         elif len(made) > 48:
             number = rng.choice((0, 1, 2**64 - 1, 2**63, 2**32, rng.randrange(2**64)))
             struct.pack_into("<Q", made, rng.randrange(40, len(made) - 7), number)
+    if len(made) >= 64 and struct.unpack_from("<I", made, 4)[0] == 43:
+        # A FALLOCATE past the end of a file takes what it asks for, whatever the limit: at most 64 KiB here.
+        struct.pack_into("<Q", made, 56, struct.unpack_from("<Q", made, 56)[0] & 0xFFFF)
     room = rng.choice((room, room, "0", "15", "16", "17", "8+8", "1+1+1", "4096"))
     return requests.line(room, bytes(made), [cut for cut in (40, rng.randrange(1, 200)) if rng.random() < .5])
 
