@@ -3,9 +3,10 @@
 # does. It unmounts it, mounts it again and removes all, as it does after a reboot: then nothing may be in use
 # but the root. It powers off when it has done all that a person does once more.
 #
-# Usage: tools/guest.sh [--share] [KERNEL-PACKAGE[/SUITE]]
+# Usage: tools/guest.sh [--share | --virtiofsd] [KERNEL-PACKAGE[/SUITE]]
 # With --share it is a folder of the host that the guest mounts, which examples/c/share.c serves as tools/share.sh
-# does, with its files written later by the guest; what is in use is not looked at then.
+# does, with its files written later by the guest; what is in use is not looked at then. With --virtiofsd it is
+# the daemon of tools/virtiofsd.sh that serves it, in its sandbox, and root is wanted.
 # The kernel is Debian's package linux-image-cloud-amd64, or that of the argument; of another suite of
 # Debian than the machine's where one is named, as linux-image-cloud-amd64/trixie. Kernel and busybox are
 # downloaded by apt-get, and unpacked into the folder `guest` of `out`, where a second run finds them. The
@@ -20,13 +21,13 @@ set -euo pipefail
 . "$(dirname "$0")/transport.sh"
 . "$(dirname "$0")/debian.sh"
 
-shared=
-if [ "${1:-}" = --share ]; then
-    shared=--shared
+shared='' by=''
+if [ "${1:-}" = --share ] || [ "${1:-}" = --virtiofsd ]; then
+    shared=--shared by=$1
     shift
 fi
 if [ $# -gt 1 ] || [[ ${1:-} == -* ]]; then
-    echo "Usage: tools/guest.sh [--share] [KERNEL-PACKAGE[/SUITE]]" >&2
+    echo "Usage: tools/guest.sh [--share | --virtiofsd] [KERNEL-PACKAGE[/SUITE]]" >&2
     exit 2
 fi
 name=${1:-linux-image-cloud-amd64}
@@ -41,7 +42,9 @@ for command in apt-get apt-cache dpkg-deb; do
     need "$command" "The kernel and busybox are packages of Debian."
 done
 need xz "Install it: apt-get install xz-utils."
-if [ -n "$shared" ]; then
+if [ "$by" = --virtiofsd ]; then
+    transport=$("$here/tools/virtiofsd.sh")
+elif [ -n "$shared" ]; then
     build_transport share vfs_door
 else
     build_transport vhost
@@ -160,13 +163,16 @@ chmod +x "$root/init"
 (cd "$root" && find . | "$busybox" cpio -o -H newc 2> /dev/null) > "$work/files"
 
 # Behind the script, so that a signal ends it at once, and them with it.
-words=("$work/socket")
+words=("$work/socket") queues=2
 if [ -n "$shared" ]; then
     # (in memory where that is a file system, as what must come is of one)
     folder=$(mktemp -d -p "$(if [ -d /dev/shm ]; then echo /dev/shm; else echo /tmp; fi)")
     trap 'kill "${started[@]}" 2> /dev/null || true; rm -rf "$work" "$folder"' EXIT
     chmod 755 "$folder"
     words=("--socket-path=$work/socket" --writeback --xattr --announce-submounts "$folder")
+    if [ "$by" = --virtiofsd ]; then
+        words=("${words[@]::3}" --shared-dir "$folder" --killpriv-v2) queues=1
+    fi
 fi
 timeout 600 "$transport" "${words[@]}" &
 transport_id=$!
@@ -182,7 +188,7 @@ timeout -k 5 590 qemu-system-x86_64 -nodefaults -no-user-config -display none \
     -object memory-backend-memfd,id=memory,size=256M,share=on -numa node,memdev=memory \
     -kernel "$kernel"/boot/vmlinuz-* -initrd "$work/files" -append 'console=ttyS0 quiet loglevel=3 panic=0' \
     -serial "file:$work/console" -chardev "socket,id=socket,path=$work/socket" \
-    -device vhost-user-fs-pci,queue-size=1024,num-request-queues=2,chardev=socket,tag=nizwarf < /dev/null &
+    -device vhost-user-fs-pci,queue-size=1024,num-request-queues=$queues,chardev=socket,tag=nizwarf < /dev/null &
 guest_id=$!
 started+=("$guest_id")
 tail -n +1 -f -s 0.2 --pid "$guest_id" "$work/console" &
@@ -192,7 +198,7 @@ status=0
 wait "$guest_id" || status=$?
 wait "$shown_id" || true
 # It goes on when QEMU has gone.
-kill -TERM "$transport_id" || true
+kill -TERM "$transport_id" 2> /dev/null || true
 wait "$transport_id" || status=$?
 started=()
 echo "$((SECONDS - began)) s"
