@@ -56,7 +56,10 @@ fn link_folder(folder: &str) -> Result<(), String> {
         println!("cargo:rustc-link-lib={library}");
     }
     for file in ["libnizwarf.a", "libvfs_door.a", "liblibc_c.a", "libnizwarf.so"] {
-        println!("cargo:rerun-if-changed={}", folder.join(file).display());
+        let path = folder.join(file);
+        if path.exists() {
+            println!("cargo:rerun-if-changed={}", path.display());
+        }
     }
     Ok(())
 }
