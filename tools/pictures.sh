@@ -5,11 +5,11 @@
 # With --check it writes nothing, and names each picture that is not what it would draw. Status 0:
 # there is none.
 #
-#   crates.svg   the crates as crates.txt has them, with the readers of the table in
+#   crates.svg   the crates as crates.txt has them, in the families of the table in
 #                docs/ARCHITECTURE.md: a line is left out where the crates between say it already
 #   lookup.svg   the steps of the table in docs/ARCHITECTURE.md: what stands in bold, the words up to
 #                the first full stop, the first function, and the crates of all files
-#   ratios.svg   the ratios of the table in docs/SPEED.md
+#   ratios.svg   the ratios of the table in docs/generated/ratios.md
 set -eu
 . "$(dirname "$0")/usage.sh"
 case $#,${1:-} in
@@ -23,7 +23,7 @@ exec python3 - "$@" <<'PYTHON'
 import html, os, re, sys, textwrap
 
 ARCHITECTURE = "docs/ARCHITECTURE.md"
-SPEED = "docs/SPEED.md"
+RATIOS = "docs/generated/ratios.md"
 CODE = re.compile(r"`([^`]+)`")
 # Tints that black text is read on.
 TINTS = ["#cfe2ff", "#ffd9b8", "#c9ecca", "#e6d3f5", "#fff1a8", "#c4eeee", "#f9cfd8", "#dedede",
@@ -107,19 +107,13 @@ def all_below(stands_on):
     return below
 
 
-def readers(below):
-    """The readers: letter, words, and the crates that one names, reads, or gets with them."""
-    found = []
-    for letter, words, names, reads in table(ARCHITECTURE, "| Letter |"):
-        names, reads = CODE.findall(names), [name for name in CODE.findall(reads) if name in below]
-        for name in names:
-            if name not in below:
-                fault(f"{ARCHITECTURE}: the crate {name} of a reader is not in crates.txt")
-        along = set().union(*[below[name] for name in names]) - set(names)
-        found.append((letter, words, set(names), set(reads), along))
-    for crate in below:
-        if not any(crate in named | read | along for _, _, named, read, along in found):
-            fault(f"{ARCHITECTURE}: no reader needs {crate}")
+def families(stands_on):
+    """The families of crates, each with its crates, of which none may be left out or named twice."""
+    found = [(name, CODE.findall(crates)) for name, crates in table(ARCHITECTURE, "| Family |")]
+    named = [crate for _, crates in found for crate in crates]
+    for crate in {*named, *stands_on}:
+        if crate not in stands_on or named.count(crate) != 1:
+            fault(f"{ARCHITECTURE}: {crate} is to be a crate of one family")
     return found
 
 
@@ -205,59 +199,25 @@ def places(rows, lines, broad, narrow):
     return {name: (value - left) // 100 for name, value in x.items()}, (right - left) // 100
 
 
-def mark(picture, x, y, at, letter, how):
-    """A reader's letter on a tint, where the crate is named; in a circle, where it is read."""
-    if how == "reads":
-        picture.shape("circle", cx=x + 9, cy=y + 8, r=8, fill="white", stroke="black",
-                      stroke_dasharray="2 2")
-    else:
-        picture.box(x, y, 18, 16, fill=TINTS[at] if how == "names" else "white",
-                    stroke="black" if how == "names" else "#aaa", rx=2)
-    weight = {"font_weight": "bold"} if how == "names" else {}
-    picture.text(x + 9, y + 12, letter, text_anchor="middle", font_size=11, **weight)
-
-
-def crate_box(picture, x, y, crate, found):
-    marks = [(at, letter, "names" if crate in names else "reads" if crate in reads else "along")
-             for at, (letter, _, names, reads, along) in enumerate(found)
-             if letter and crate in names | reads | along]
-    dashes = {} if marks else {"stroke_dasharray": "4 3"}
-    picture.box(x - 58, y, 116, 44, fill="white" if marks else "#f2f2f2", rx=4, **dashes)
-    picture.text(x, y + (17 if marks else 26), crate, text_anchor="middle", font_size=13)
-    for at, letter, how in marks:
-        mark(picture, x - 43 + 23 * at, y + 23, at, letter, how)
-
-
 def legend(picture, left, found):
-    """The readers, and below them what their marks mean. Answers where it ends on the right."""
-    marked = [(at, letter, words) for at, (letter, words, *_) in enumerate(found) if letter]
-    first, letter, _ = marked[0]
-    writes = [(at, sign, "names", words) for at, sign, words in marked]
-    uses = [(first, letter, "names", "name it"), (first, letter, "along", "get it with these"),
-            (first, letter, "reads", "read or run it")]
-    ends = []
-    for y, head, entries in ((12, "You write", writes), (36, "You", uses)):
-        picture.text(left, y + 12, head)
-        x = left + 70
-        for at, sign, how, words in entries:
-            mark(picture, x, y, at, sign, how)
-            picture.text(x + 24, y + 12, words)
-            x += 40 + wide(words)
-        ends.append(x)
-    words = "tests, measurements alone"
-    picture.box(ends[1], 36, 28, 16, fill="#f2f2f2", stroke_dasharray="4 3", rx=2)
-    picture.text(ends[1] + 34, 48, words)
-    return max(ends[0], ends[1] + 34 + wide(words))
+    """The families. Answers where it ends on the right."""
+    x = left
+    for at, (name, _) in enumerate(found):
+        picture.box(x, 24, 28, 16, fill=TINTS[at], rx=2)
+        picture.text(x + 34, 36, name)
+        x += 60 + wide(name)
+    return x
 
 
 def crates():
     stands_on = dependencies()
     below = all_below(stands_on)
-    found = readers(below)
+    found = families(stands_on)
+    family = {crate: at for at, (_, crates) in enumerate(found) for crate in crates}
     rows, lines = layers(stands_on, below)
     rows = ordered(rows, lines)
     middles, width = places(rows, lines, 136, 26)
-    picture = Picture("The crates, each above those that it stands on, with their readers")
+    picture = Picture("The crates, each above those that it stands on, in four families")
     edge, top, step = 20, 76, 76
     end = legend(picture, edge, found) + edge
     left = max(edge, (end - width) // 2)
@@ -269,7 +229,8 @@ def crates():
         picture.shape("path", d=f"M{x[low]} {y[low]} C{x[low]} {bend} {x[up]} {bend} "
                       f"{x[up]} {y[up] + 44}{through}", fill="none", stroke="#666")
     for crate in stands_on:
-        crate_box(picture, x[crate], y[crate], crate, found)
+        picture.box(x[crate] - 58, y[crate], 116, 44, fill=TINTS[family[crate]], rx=4)
+        picture.text(x[crate], y[crate] + 26, crate, text_anchor="middle", font_size=13)
     return picture.drawn(max(end, width + 2 * edge), top + step * len(rows) - 12)
 
 
@@ -315,17 +276,13 @@ def lookup():
 
 # The ratios.
 
-def bar(picture, x, y, scale, cell, wanted, colour, column):
+def bar(picture, x, y, scale, cell, colour, column):
     """The least of a cell's figures as a bar, up to the greatest in a lighter one, and the text."""
     figures = [min(float(figure), 1.1) for figure in re.findall(r"\d+\.\d+", cell)]
     least, most = scale * figures[0], scale * figures[-1]
     picture.box(x, y, least, 9, fill=colour, stroke="none")
     picture.box(x + least, y, most - least, 9, fill=colour, stroke="none", fill_opacity="0.4")
-    if wanted:
-        at = x + scale * float(wanted)
-        picture.shape("line", x1=at, y1=y - 1, x2=at, y2=y + 10, stroke="black", stroke_width=2)
-    weight = {"font_weight": "bold"} if "**" in cell else {}
-    picture.text(column, y + 9, cell.strip("*"), font_size=11, **weight)
+    picture.text(column, y + 9, cell, font_size=11)
 
 
 def grid(picture, x, scale, top, bottom):
@@ -344,12 +301,10 @@ def key(picture, x, y, colours):
         picture.box(x, y, 20, 11, fill=colour, stroke="none", fill_opacity=opacity)
         picture.text(x + 25, y + 10, words)
         x += 38 + wide(words)
-    picture.shape("line", x1=x, y1=y - 1, x2=x, y2=y + 12, stroke="black", stroke_width=2)
-    picture.text(x + 8, y + 10, "what was wanted")
 
 
 def ratios():
-    rows = table(SPEED, "| Class | one piece | header apart")
+    rows = table(RATIOS, "| Class | one piece | header apart")
     colours = {"one piece": "#2f6fc4", "header apart": "#7a52b3", "pieces of 4096": "#b3722a",
                "pieces of 64": "#2a8a7f", "single bytes": "#b03a4b"}
     left, axis, scale, top, thin = 20, 236, 440, 66, 12
@@ -359,15 +314,13 @@ def ratios():
     bottom = top + sum(heights)
     grid(picture, axis, scale, top, bottom)
     y = top
-    for (name, *_, wanted, _), cells, height in zip(rows, shown, heights):
-        goals = {words: figure for figure, words in re.findall(r"([\d.]+) \(([^)]+)\)", wanted)}
+    for (name, *_), cells, height in zip(rows, shown, heights):
         lines = textwrap.wrap(name.replace("`", ""), 30)
         middle = y + (height - 8) / 2 + 4 - 7 * (len(lines) - 1)
         for i, line in enumerate(lines):
             picture.text(left, middle + 14 * i, line)
         for i, (words, cell) in enumerate(cells):
-            bar(picture, axis, y + thin * i, scale, cell, goals.get(words), colours[words],
-                axis + scale * 1.1 + 12)
+            bar(picture, axis, y + thin * i, scale, cell, colours[words], axis + scale * 1.1 + 12)
         y += height
     key(picture, left, 14, colours)
     return picture.drawn(axis + int(scale * 1.1) + 120, bottom + 30)

@@ -1,12 +1,11 @@
 #!/usr/bin/env bash
-# Makes the table of ratios in docs/SPEED.md out of figures that were measured.
+# Makes docs/generated/ratios.md, the table of ratios, out of figures that were measured.
 #
 # Usage: tools/speed-table.sh [FILE ..]
 # Each FILE is what a run of `tools/speed.sh --beside` printed. Their figures go to docs/speed/ratios.tsv,
 # and from there into the table; with no FILE the table is made anew from the figures that are there. A cell
-# has the least and the greatest ratio of all passes, time here by time in virtiofsd's Rust, and is bold
-# where the greatest is above what was wanted, as docs/speed/classes.tsv has it beside each class's name.
-# tools/pictures.sh draws the ratios from the table.
+# has the least and the greatest ratio of all passes, time here by time in virtiofsd's Rust.
+# docs/speed/classes.tsv has the names of the classes. tools/pictures.sh draws the ratios from the table.
 set -eu
 . "$(dirname "$0")/usage.sh"
 for file in "$@"; do
@@ -20,7 +19,7 @@ import csv, sys
 
 here, passes = sys.argv[1], sys.argv[2:]
 CLASSES, RATIOS = f"{here}/docs/speed/classes.tsv", f"{here}/docs/speed/ratios.tsv"
-SPEED = f"{here}/docs/SPEED.md"
+PAGE = f"{here}/docs/generated/ratios.md"
 # How the cuttings are named where they are measured, and in the table.
 CUTTINGS = {"uncut": "one piece", "head+body": "header apart", "4096": "pieces of 4096",
             "64": "pieces of 64", "1": "single bytes"}
@@ -55,17 +54,10 @@ def write_figures(found):
             out.writerow([name, cutting, f"{min(ratios):.3f}", f"{max(ratios):.3f}", there, own])
 
 
-def cell(row, wanted):
+def cell(row):
     """What the table says of a class under a cutting."""
     least, most = f"{float(row['least']):.2f}", f"{float(row['greatest']):.2f}"
-    words = least if least == most else f"{least} to {most}"
-    return f"**{words}**" if wanted and float(most) > float(wanted) else words
-
-
-def goals(row):
-    """What was wanted of a class, by its cuttings."""
-    named = [f"{row[name]} ({name})" for name in CUTTINGS.values() if row[name]]
-    return "; ".join(named)
+    return least if least == most else f"{least} to {most}"
 
 
 def whole(figure):
@@ -74,24 +66,27 @@ def whole(figure):
 
 def table():
     found = {(row["class"], row["cutting"]): row for row in rows_of(RATIOS)}
-    lines = [f"{HEAD} {' | '.join(CUTTINGS.values())} | wanted | allocations, here by there |",
-             "|---" * (len(CUTTINGS) + 3) + "|"]
+    lines = [f"{HEAD} {' | '.join(CUTTINGS.values())} | allocations, here by there |",
+             "|---" * (len(CUTTINGS) + 2) + "|"]
     for row in rows_of(CLASSES):
         name = row["class"]
         over = "" if row["name"].count("`") else f", over `{'MemFs' if name.startswith('mem/') else 'null'}`"
-        cells = [cell(found[name, cutting], row[words]) if (name, cutting) in found else ""
-                 for cutting, words in CUTTINGS.items()]
+        cells = [cell(found[name, cutting]) if (name, cutting) in found else "" for cutting in CUTTINGS]
         first = found[name, "uncut"]
         by = f"{whole(first['here'])} by {whole(first['allocations there'])}"
-        lines.append(f"| {row['name']}{over} | {' | '.join(cells)} | {goals(row)} | {by} |")
+        lines.append(f"| {row['name']}{over} | {' | '.join(cells)} | {by} |")
     return "\n".join(lines)
 
 
 if passes:
     write_figures(figures(passes))
-with open(SPEED, encoding="utf-8") as file:
-    before, _, behind = file.read().partition(f"\n{HEAD}")
-old, _, rest = behind.partition("\n\n")
-with open(SPEED, "w", encoding="utf-8") as file:
-    file.write(f"{before}\n{table()}\n\n{rest}")
+with open(PAGE, "w", encoding="utf-8") as file:
+    file.write(f"""# Ratios
+
+Time of a request here by its time in virtiofsd's Rust, the least and the greatest of three passes, and
+allocations of a request in one piece. [SPEED.md](../SPEED.md) says how and when it was measured;
+`tools/speed-table.sh` makes this page.
+
+{table()}
+""")
 PYTHON
