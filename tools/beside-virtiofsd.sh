@@ -6,8 +6,8 @@
 # which are unpacked into the folder `beside` of `out`, and never installed. It shares an empty folder; the
 # server here has its files in memory. Each session goes to a new process of both, and one more request
 # after it, which shows whether the queue is still served. It prints the judged requests by the kind of
-# what came, and the tables of docs/BESIDE-VIRTIOFSD.md, and compares that page with them; with --page it
-# writes them there. With --suite it asks the virtiofsd of another suite of Debian, as sid, whatever its
+# what came, and the tables of docs/generated/beside-virtiofsd.md, and compares that page with them; with
+# --page it writes them there. With --suite it asks the virtiofsd of another suite of Debian, as sid, whatever its
 # version is, and leaves the page alone.
 #
 # It wants root, apt-get, a C compiler, Python 3 and the Rattle toolchain, and takes a minute. It links the

@@ -16,7 +16,8 @@
 #
 # The sessions are those of tools/beside/requests.py. With --count it makes M sessions more, which are the same
 # for each N of --seed, and shrinks what breaks a server to its smallest request. With --only it asks the servers
-# alone whose name has that text. With --page it prints the tables in markdown, for docs/TESTING.md.
+# alone whose name has that text. With --page it prints the tables in markdown, for
+# docs/generated/beside.md.
 #
 # It wants root, apt-get, a C compiler with the address sanitizer, Python 3 and the Rattle toolchain. It takes a
 # minute, and ten more the first time. It links the proved library if that is built and no source is newer;
