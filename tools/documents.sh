@@ -1,6 +1,5 @@
 #!/usr/bin/env bash
-# Holds the Markdown pages of the root, of docs/ and of tools/oracle against the repository, as far as a
-# script can.
+# Holds the Markdown pages of the repository against its sources, as far as a script can.
 #
 # Usage: tools/documents.sh
 # It prints each fault with its file and line, and ends with their count. Status 0: there is none.
@@ -8,21 +7,23 @@
 #   links               the file is there, and so is the heading behind a `#`
 #   `NAME` (`FILE:N`)   the definition of NAME begins in line N of the file
 #   `NAME`, `FILE`      the file defines NAME; several names may stand before it
+#   `NAME`: `CLAUSE`    in the README of a crate: it has such a clause
 #   files and folders   are there; a part of a path, as `Ask.antt`, in the folder or crate that was
-#                       named last in the same line, else in the crates of the heading above
+#                       named last in the same line, else in the crate of the page's first heading
 #   names of code       stand in the sources. DIFFERENCES.md also has those of the Rust
-#   tables of edits     functions and clauses are of the heading's crates, or their callers in
-#                       vfs_uses; so are the edits, or of a crate that is named beside them; and no
-#                       edit of the repository is left out
-#   blocks              one of Rust stands, as it is, in the file that the comment above it names,
+#   READMEs             each crate that is no example or test has one, by the families of ARCHITECTURE.md
+#   edits               docs/generated/edits.md has just those of the repository
+#   blocks              one of Rust or C stands, as it is, in the file that the comment above it names,
 #                       <!-- FILE -->; of another block with such a comment each line does
 #   commands            a path that begins an indented line is a file that can be run
 #   crates below one    `five crates below` it, or below a crate that is named, are as many as crates.txt has
-#   the reading order   of PROOFS.md: no file of the grammar, items 2 to 7, names a word of an earlier item
-#   the gate's time     stands in DECISIONS.md alone
+#   the reading order   of PROMISE.md: no file of the grammar, items 2 to 7, names a word of an earlier item
+#   the gate's time     stands in TESTING.md alone
 #   counts              of opcodes, calls of a file system, records, stored requests and hostile forms are those
 #                       of the sources; others that several pages say are the same on each
-#   the promise         is quoted alike in README.md and PROMISES.md, whose table has words of it
+#   what is trusted     README.md names each crate of the kit that crates.txt does
+#   words               README.md has at most 750, and all pages but the generated ones at most 15,000
+#   the promise         in the table of PROMISE.md, the words are those of the promise above it
 #   the toolchain       README.md's has the logic of `rt version`, whose kits have several letters for one
 #                       logic; figures keep the one that they were made with
 #   the version         is one in CHANGELOG.md, include/nizwarf.h and, if it is there, bindings/rust/Cargo.toml
@@ -37,12 +38,17 @@ cd "$(dirname "$0")/.."
 kit=$(rt version) exec python3 - <<'PYTHON'
 import glob, os, re, subprocess, sys
 
-DOCUMENTS = ["README.md", "NOTICE.md", "CONTRIBUTING.md", "CHANGELOG.md",
-             *sorted(glob.glob("docs/*.md")), "tools/oracle/README.md"]
+KIT = os.environ["kit"]
+COUNTED = ["README.md", *sorted(glob.glob("docs/*.md")), "CONTRIBUTING.md", "CHANGELOG.md", "NOTICE.md",
+           *sorted(glob.glob("crates/*/README.md"))]
+DOCUMENTS = [*COUNTED, "tools/oracle/README.md"]
+# Pages of which only links are looked at.
+LINKED = [*sorted(glob.glob("docs/generated/*.md")), *sorted(glob.glob("bindings/*/README.md"))]
 # Where no crate is named in PROTOCOL.md, it is this one, as that page says.
 CRATES = {"docs/PROTOCOL.md": ["vfs_grammar"]}
 CODE = re.compile(r"`([^`]+)`")
 NAMED = re.compile(r"((?:`[\w:]+`, )+)`([\w./]+\.(?:rt|antt))`")
+CLAUSED = re.compile(r"`[\w:]+`: ((?:`\w+`(?:, )?)+)")
 PLACE = re.compile(r"`([^`]+)` \(`([^`]+):(\d+)`\)")
 ENDING = re.compile(r"\.(rt|antt|edit|md|sh|rs|py|c|h|a|txt|svg|tsv)$")
 # virtiofsd's files, and the kernel's header.
@@ -70,16 +76,12 @@ CRATE_NAMES = set(os.listdir("crates"))
 words = {word for text in [*paths, *sources.values()] for word in re.findall(r"\w+", text)}
 definitions = {path: set(DEFINITION.findall(text)) for path, text in sources.items()}
 clauses = {path: set(CLAUSE.findall(text)) for path, text in sources.items()}
-# Definitions and laws, which a row of any crate may name.
-stated = {name for path, found in definitions.items()
-          if re.search(r"/specs/|laws\.rt$|/vfs_laws/src/\w+\.rt$", path) for name in found}
 edits = {(path.split("/")[1], path.split("/")[3][:-5]) for path in paths if path.endswith(".edit")}
 # The crates of this repository that each stands on. Lower ones come first.
 below = {}
 for name, uses in re.findall(r"^(\w+).*: (.*)", read("crates.txt"), re.M):
     own = CRATE_NAMES.intersection(uses.split())
     below[name] = own.union(*(below[it] for it in own))
-named_edits = set()
 faults = []
 
 
@@ -96,7 +98,7 @@ OPCODES, HANDLED = (count(pattern, "crates/vfs_grammar/specs/Ask.antt")
 CALLS = count(r"^    fn ", "crates/vfs_files/src/filesystem.rt")
 RECORDS, MORE_RECORDS = (count(r"impl ByteValued for [A-Z]", f"crates/{crate}/src/")
                          for crate in ("vfs_wire", "vfs_wire_more"))
-GENERATED = read("crates/vfs_script/stdin").split("\n# The generated requests.\n")[1].split("\n# What kernels")[0]
+REQUESTS = read("crates/vfs_script/stdin").split("\n# The generated requests.\n")[1].split("\n# What kernels")[0]
 # How many forms each hostile message has.
 FORMS = re.findall(r"^.*: (\d+) forms, ", read("crates/vfs_script/stdout"), re.M)
 # What a line counts, by the words around the number, and how many there are.
@@ -106,9 +108,10 @@ COUNTS = [
     (rf"Of \d+ opcodes {NUMBER}", HANDLED),
     (rf"`FileSystem`.* with {NUMBER} calls", CALLS),
     (rf"the {NUMBER} calls of", CALLS),
+    (rf"{NUMBER} records: headers", RECORDS),
     (rf"{NUMBER} further records", MORE_RECORDS),
     (rf"all {NUMBER} records", RECORDS + MORE_RECORDS),
-    (rf"{NUMBER} generated ones", len(re.findall(r"^(?!#|answer )", GENERATED, re.M))),
+    (rf"{NUMBER} generated ones", len(re.findall(r"^(?!#|answer )", REQUESTS, re.M))),
     (rf"{NUMBER} messages, at least one for each opcode", len(FORMS)),
     (rf"{NUMBER} hostile forms", sum(map(int, FORMS))),
     (rf"folder `must-fail` has {NUMBER} edits", sum(crate == "example_tree" for crate, _ in edits)),
@@ -145,7 +148,7 @@ def check_place(fault, name, path, number):
 
 def check_path(fault, document, path, beside):
     """Answers in which folders a part of a path is looked for behind this one."""
-    pattern = re.sub(r"\b(CRATE|NAME)\b", "*", path).rstrip("/")
+    pattern = re.sub(r"\b(CRATE|NAME|my_library|my_tree)\b", "*", path).rstrip("/")
     for full in (pattern, f"crates/{pattern}", os.path.join(os.path.dirname(document), pattern)):
         if glob.glob(full):
             return [os.path.dirname(full) + "/"] if "/" in path and "*" not in full else beside
@@ -153,39 +156,6 @@ def check_path(fault, document, path, beside):
     if not any(full.startswith(folder) for full in found for folder in beside):
         fault(f"there is no {path} in {' or '.join(beside) or 'any folder'}")
     return beside
-
-
-def check_row(fault, crates, functions, guards):
-    """A row of a table of edits, for these crates: its second and its third column."""
-    here = " and ".join(crates)
-    callers = tuple(f"crates/vfs_uses/src/{crate[4:]}{end}" for crate in crates for end in (".rt", "/"))
-    own = {path for path in sources if path.startswith(callers)
-           or path.startswith("crates/") and path.split("/")[1] in crates}
-    files = own
-    for code in re.findall(r"`([^`]+)`|;", functions):
-        owner, _, name = code.rpartition("::")
-        if not code:
-            files = own
-        elif re.search(r"\W", name):
-            own_words = {word for path in own for word in re.findall(r"\w+", sources[path])}
-            known = own_words.issuperset(re.findall(r"\w+", code))
-        elif owner:
-            # Clauses behind it are those of the files that have the function.
-            owner = owner.rpartition("::")[2]
-            files = {path for path in own if re.search(rf"\b{owner}\b", path.replace("_", " ") + sources[path])
-                     and (name in definitions[path] or path.endswith(f"/{name}.rt"))} or own
-            known = files is not own
-        else:
-            known = name in stated or any(name in clauses[p] | definitions[p] for p in files)
-        if code and not known and code not in CRATE_NAMES and not ENDING.search(code):
-            fault(f"{here}: no {code} here")
-    named = CODE.findall(guards)
-    for code in named:
-        found = {(crate, code) for crate in [*crates, *named]} & edits
-        named_edits.update(found)
-        function = any(code.rpartition("::")[2] in definitions[path] for path in own)
-        if not found and not function and code not in CRATE_NAMES:
-            fault(f"{here}: no edit {code} here")
 
 
 def check_below(fault, line):
@@ -224,11 +194,12 @@ def check_line(fault, document, crates, line):
             before = said_of.setdefault(pattern, match[1])
             if before != match[1]:
                 fault(f"{match[0]}: another page says {before}")
-    if document != "docs/DECISIONS.md" and re.search(r"`(rt ci|\.ci/run)`.*(\d min|minute|hour)", line):
-        fault("the time of the gate stands in docs/DECISIONS.md, and nowhere else")
-    cells = [cell.strip() for cell in line.strip().strip("|").split("|")]
-    if document == "docs/PROOFS.md" and crates and len(cells) == 3:
-        check_row(fault, crates, cells[1], cells[2])
+    if document != "docs/TESTING.md" and re.search(r"`(rt ci|\.ci/run)`.*(\d min|minute|hour)", line):
+        fault("the time of the gate stands in docs/TESTING.md, and nowhere else")
+    for listed in CLAUSED.findall(line) if document.startswith("crates/") else []:
+        for name in CODE.findall(listed):
+            if not any(name in clauses[path] for path in sources if path.startswith(f"crates/{crates[0]}/src/")):
+                fault(f"{crates[0]} has no clause {name}")
     for target in re.findall(r"\]\(([^)\s:]+)\)", line):
         check_link(fault, document, target)
     for listed, path in NAMED.findall(line):
@@ -244,14 +215,14 @@ def check_line(fault, document, crates, line):
         if code in CRATE_NAMES:
             beside = [f"crates/{code}/"]
         elif re.fullmatch(r"[\w./*-]+", path) and ("/" in path or ENDING.search(path)):
-            if not OUTSIDE.fullmatch(path):
+            if not OUTSIDE.fullmatch(path) and not path.endswith(".a"):
                 beside = check_path(fault, document, path, beside)
         elif re.fullmatch(r"[A-Za-z_]\w*(::\w+)*", code) and document != "docs/DIFFERENCES.md":
             for word in code.split("::"):
-                if word not in words:
+                if word not in words and word[0] != "_":
                     fault(f"no source has the name {word}")
-        elif document == "README.md" and code.startswith("rattle-kit") and logic_of(code) != logic_of(os.environ["kit"]):
-            fault(f"this toolchain is {os.environ['kit']}, and the proofs were last checked with {code}")
+        elif document == "README.md" and code.startswith("rattle-kit") and logic_of(code) != logic_of(KIT):
+            fault(f"this toolchain is {KIT}, and the proofs were last checked with {code}")
 
 
 def logic_of(kit):
@@ -262,7 +233,7 @@ def check_block(fault, language, comment, block):
     path = (re.fullmatch(r"<!-- (\S+) -->", comment) or [None, None])[1]
     if path and path not in paths:
         fault(f"there is no file {path}")
-    elif path and language == "rust" and block not in read(path):
+    elif path and language in ("rust", "c") and block not in read(path):
         fault(f"{path} has no such piece of code")
     elif path:
         for line in set(block.splitlines()) - set(read(path).splitlines()):
@@ -291,17 +262,38 @@ for document in DOCUMENTS:
                 crates = [it for it in re.findall(r"\w+", line) if it in CRATE_NAMES] or CRATES.get(document, [])
             check_line(fault, document, crates, line)
             comment = line
-quotes = ["\n".join(re.findall(r"^> ?(.*)", read(page), re.M)) for page in ("README.md", "docs/PROMISES.md")]
-if quotes[0] != quotes[1]:
-    faults.append("README.md: the promise is not that of docs/PROMISES.md")
-for said in re.findall(r"^\| (?!Words )(\w[^|`]*) \|", read("docs/PROMISES.md"), re.M):
-    if said.lower() not in quotes[1].lower():
-        faults.append(f"docs/PROMISES.md: the promise does not say '{said}'")
+for document in LINKED:
+    for number, line in enumerate(read(document).splitlines(), 1):
+        for target in re.findall(r"\]\(([^)\s:]+)\)", line):
+            check_link(lambda text, at=f"{document}:{number}": faults.append(f"{at}: {text}"), document, target)
+promise = "\n".join(re.findall(r"^> ?(.*)", read("docs/PROMISE.md"), re.M))
+for said in re.findall(r"^\| (?!Words )(\w[^|`]*) \|", read("docs/PROMISE.md"), re.M):
+    if said.lower() not in promise.lower():
+        faults.append(f"docs/PROMISE.md: the promise does not say '{said}'")
 items = [(int(number), re.findall(r"(\w+\.(?:antt|rt))`", files))
-         for number, files in re.findall(r"^([2-7])\. (.*)", read("docs/PROOFS.md"), re.M)]
-check_order(lambda text: faults.append(f"docs/PROOFS.md: {text}"), items)
-for crate, edit in sorted(edits - named_edits):
-    faults.append(f"docs/PROOFS.md: no row names the edit {edit} of {crate}")
+         for number, files in re.findall(r"^([2-7])\. (.*)", read("docs/PROMISE.md"), re.M)]
+check_order(lambda text: faults.append(f"docs/PROMISE.md: {text}"), items)
+families = re.findall(r"^\| ([a-z][^|]*) \| ([^|]*) \|$",
+                      read("docs/ARCHITECTURE.md").split("| Family |")[1].split("\n\n")[0], re.M)
+for family, crates in families:
+    for crate in CODE.findall(crates):
+        if "tests" not in family and not os.path.exists(f"crates/{crate}/README.md"):
+            faults.append(f"crates/{crate}: it has no README.md")
+listed, crate = set(), ""
+for line in read("docs/generated/edits.md").splitlines():
+    crate = line[3:] if line.startswith("## ") else crate
+    listed |= {(crate, name) for name in re.findall(r"^\| `(\w+)` \|", line)}
+for crate, edit in sorted(edits ^ listed):
+    where = "lacks" if (crate, edit) in edits else "has, and the crate has not,"
+    faults.append(f"docs/generated/edits.md {where} {edit} of {crate}: run tools/edits-table.sh")
+trusted = read("README.md").partition("**Trusted**")[2]
+kit_crates = {name for line in re.findall(r"^\w+.*: (.*)", read("crates.txt"), re.M) for name in line.split()}
+for name in sorted(kit_crates - CRATE_NAMES - {"core", "std_alloc"} - set(CODE.findall(trusted))):
+    faults.append(f"README.md: the crate {name} of the kit is not named as trusted")
+for pages, most in ((["README.md"], 750), (COUNTED, 15000)):
+    found = sum(len(read(page).split()) for page in pages)
+    if found > most:
+        faults.append(f"{pages[0]}{' and the others' * (len(pages) > 1)}: {found} words, and {most} are enough")
 VERSIONS = {
     "CHANGELOG.md": r"^## (\d+\.\d+\.\d+)",
     "include/nizwarf.h": r"^#define NIZWARF_VERSION_(?:MAJOR|MINOR|PATCH) (\d+)$",
@@ -317,6 +309,6 @@ for path in filter(os.path.exists, VERSIONS):
 faults += subprocess.run(["tools/pictures.sh", "--check"], stdout=subprocess.PIPE,
                          stderr=subprocess.STDOUT, text=True).stdout.splitlines()
 
-print("\n".join([*faults, f"{len(DOCUMENTS)} documents, {len(faults)} faults"]))
+print("\n".join([*faults, f"{len(DOCUMENTS) + len(LINKED)} documents, {len(faults)} faults"]))
 sys.exit(1 if faults else 0)
 PYTHON
