@@ -63,7 +63,8 @@ use Rattle.$tree.specs.$module.{$tables}/" \
         -e '/^new_state set =$/,/^$/{/^ /d;s/^new_state set =/& record { tree = record {} }/}' \
         -e "s/^Allows = .*/Allows old call handed new = TreeHands $tables call handed × (new ≡ old)/" \
         -e '/^told files seconds nanoseconds =$/,${/^ /d;s/=$/= files/}' \
-        -e 's/^-- the state of a new one: .*/-- the state of a new one/; /^-- were set$/d' "crates/$name/specs/Files.antt"
+        -e 's/^-- the state of a new one: .*/-- the state of a new one/; /^-- were set$/d' \
+        "crates/$name/specs/Files.antt"
     sed -i "/^$name staticlib:/s/ vfs_tree\\( \\|\$\\)/ vfs_read_only $tree\\1/" crates.txt
 }
 
