@@ -12,7 +12,9 @@ mod extensions;
 mod fields;
 mod flags;
 pub mod laws;
+mod message;
 mod names;
+mod part;
 mod reply;
 mod reply_fields;
 mod request;
@@ -21,6 +23,7 @@ mod stop;
 mod take;
 mod text;
 
+pub use message::Message;
 pub use reply::{agreed_options, print_reply};
 pub use request::print_request;
 pub use text::Quoted;
