@@ -702,6 +702,73 @@ static inline int32_t nizwarf_end_slot(nizwarf_slot *slot)
 	return slot ? nizwarf_end_slot_at(slot) : NIZWARF_NULL;
 }
 
+/* ------------------------------------------------------------------------------------------------
+ * A check of requests, and messages as text. Neither has a state, and no slot: any number of threads
+ * may call them.
+ *
+ * A check stands in front of a server that trusts whoever sends it requests: examples/c/check.c.
+ */
+
+/* The functions of the library. No pointer is NULL here. */
+int32_t nizwarf_check_at(const nizwarf_session *session, const uint8_t *request, size_t len, size_t room,
+			 nizwarf_call *call, uint64_t *interrupts);
+size_t nizwarf_print_request_at(const uint8_t *request, size_t len, uint64_t options,
+				uint8_t *text, size_t text_len);
+size_t nizwarf_print_reply_at(const uint8_t *request, size_t len, const uint8_t *reply, size_t reply_len,
+			      uint8_t *text, size_t text_len);
+
+/* Says what a request in one piece is, if there are `room` bytes for a reply. NIZWARF_ASKED: it is whole,
+ * and asks for `call`. NIZWARF_OK: it needs no file system, and nizwarf_ask would finish it; of an INTERRUPT
+ * `*interrupts` is then the number of the request that it wants to end, else it is 0. Others: it is refused,
+ * as nizwarf_ask would. Whether a request has as many bytes as its header's `len` says is not judged, since
+ * not all servers do.
+ *
+ * Memory is allocated only for the pairs of a BATCH_FORGET and for a security context: no other request
+ * ends in NIZWARF_OUT_OF_MEMORY. */
+static inline int32_t nizwarf_check(const nizwarf_session *session, const void *request, size_t len,
+				    size_t room, nizwarf_call *call, uint64_t *interrupts)
+{
+	if (!session || !request || !call || !interrupts)
+		return NIZWARF_NULL;
+	call->call = 0;
+	*interrupts = 0;
+	return nizwarf_check_at(session, (const uint8_t *)request, len, room, call, interrupts);
+}
+
+/* Writes a request as a line of text, without a newline, as snprintf(3) writes: at most `size` bytes, the last
+ * of them a 0, which may cut the line. Answers how many bytes the whole line has without the 0. The line names
+ * the opcode and each field, as in
+ *
+ *	LOOKUP unique=3 node=1 uid=0 gid=0 pid=77 name="a"
+ *
+ * and it has only printable ASCII: `\x` and two hex digits stand for other bytes of a name. A request that is
+ * refused ends in `refused=` and why. `options` are those of the session. `text` is NULL only if `size` is 0,
+ * and does not overlap the messages; NULL in place of a message is one of no bytes. Nothing is allocated. */
+static inline size_t nizwarf_print_request(const void *request, size_t len, uint64_t options,
+					   char *text, size_t size)
+{
+	uint8_t none = 0;
+
+	return nizwarf_print_request_at(request ? (const uint8_t *)request : &none, request ? len : 0, options,
+					text ? (uint8_t *)text : &none, text ? size : 0);
+}
+
+/* Writes the reply to a request likewise, as in
+ *
+ *	-> unique=3 entry node=2 generation=0 ..
+ *
+ * The first 48 bytes of the request are enough: they say which record the reply has. A reply of no bytes is
+ * `-> no reply`. */
+static inline size_t nizwarf_print_reply(const void *request, size_t len, const void *reply, size_t reply_len,
+					 char *text, size_t size)
+{
+	uint8_t none = 0;
+
+	return nizwarf_print_reply_at(request ? (const uint8_t *)request : &none, request ? len : 0,
+				      reply ? (const uint8_t *)reply : &none, reply ? reply_len : 0,
+				      text ? (uint8_t *)text : &none, text ? size : 0);
+}
+
 #ifdef __cplusplus
 }
 #endif

@@ -25,6 +25,13 @@ find_library() {
     library=("$built" "$(dirname "$(rt doc)")/c/liblibc_c.a")
 }
 
+# Adds vfs_door to `library`, which prints messages.
+link_door() {
+    local others=("${library[@]}")
+    find_library vfs_door
+    library=("${library[0]}" "${others[@]}")
+}
+
 # Builds examples/c/NAME.c with a library and the transports that it stands on, and sets `transport` to the
 # program: build_transport NAME [LIBRARY [FLAGS..]]. One that runs meanwhile, of another tool, stays what it
 # is. With flags, as those of sanitizers, it is another program.
@@ -33,8 +40,8 @@ build_transport() {
     local sources=("$from/$name.c") links=() flags=("${@:3}")
     find_library "$of"
     case $name in
-        mount) sources+=("$from/fuse_device.c") ;;
-        vhost) sources+=("$from/vhost_user.c" "$from/vhost_queue.c") ;;
+        mount) sources+=("$from/trace.c" "$from/fuse_device.c") && link_door ;;
+        vhost) sources+=("$from/trace.c" "$from/vhost_user.c" "$from/vhost_queue.c") && link_door ;;
         share)
             sources+=("$from"/share_*.c "$from"/passthrough*.c "$from/fuse_device.c" "$from/vhost_user.c" "$from/vhost_queue.c")
             if echo '#include <seccomp.h>' | cc -fsyntax-only -x c - 2> /dev/null; then

@@ -99,7 +99,7 @@ if [[ $out == *.a ]]; then
     # What C calls gets its own name, and the tests' `main` is left out as no one's.
     "${compile[@]}" -S -emit-llvm -O0 -x ir "$folder/module.bc" -o "$folder/module.ll"
     called=$(sed -nE 's/^pub extern "C" fn (\w+)\(.*/\1/p' "$here/crates/$name"/src/*.rt | paste -sd '|')
-    sed -E -e 's/^define (.*@main\()/define internal \1/' -e "s/@\"$name::($called)\"/@\1/g" \
+    sed -E -e 's/^define (.*@main\()/define internal \1/' -e "s/@\"$name::(\w+::)?($called)\"/@\2/g" \
         -e "s/^define internal (.*@($called)\()/define \1/" "$folder/module.ll" > "$folder/named.ll"
     "${compile[@]}" -O2 -fPIC -c -x ir "$folder/named.ll" -o "$folder/module.o"
     "$kit/toolchain/bin/llvm-ar" rcs "$folder/library.a" "$folder/module.o"

@@ -1,7 +1,7 @@
 /* Mounts the file system behind the library on a folder, over /dev/fuse, and serves it until it is
  * unmounted. It wants root, who may mount, and serves root alone, or all with allow_other.
  *
- * Usage: mount [-o OPTIONS] FOLDER
+ * Usage: mount [-o OPTIONS] [--trace[=FILE]] FOLDER
  *
  * --help lists the options. SIGINT, SIGTERM and SIGHUP unmount. Where the folder is in use then, it
  * goes when the last user does, or at a second signal. The server has one caller, so there is one
@@ -18,11 +18,12 @@
 #include <sys/mount.h>
 #include <time.h>
 #include <unistd.h>
-#include "transport.h"
+#include "trace.h"
 
 static const char usage[] =
-	"Usage: mount [-o OPTIONS] FOLDER\n"
-	"Mounts the file system on the folder, and serves it until it is unmounted.\n"
+	"Usage: mount [-o OPTIONS] [--trace[=FILE]] FOLDER\n"
+	"Mounts the file system on the folder, and serves it until it is unmounted. --trace prints\n"
+	"each request and reply to standard error, or their bytes to a new FILE for vfs_decode.\n"
 	"Options, with commas between them; -o may come several times:\n"
 	"  allow_other             all users may use it, as its permissions say, not root alone\n"
 	"  ro, rw                  it is only read, or written too, as without a word\n"
@@ -35,7 +36,8 @@ static const char usage[] =
 /* What the options say. */
 static nizwarf_settings settings = NIZWARF_SETTINGS;
 static unsigned long flags = MS_NOSUID | MS_NODEV, max_read = TRANSPORT_PAYLOAD;
-static const char *name = "nizwarf", *allow_other = "";
+static const char *name = "nizwarf", *allow_other = "", *trace_file;
+static int traces;
 
 /* Ends, since a word or an option can't be. */
 static _Noreturn void refuse_words(const char *why, const char *word)
@@ -108,7 +110,8 @@ static void take_option(const char *key, char *value)
 /* Takes the words, and gives the folder. */
 static const char *take_words(int count, char **words)
 {
-	static const struct option known[] = { { "help", no_argument, NULL, 'h' }, { 0 } };
+	static const struct option known[] = { { "help", no_argument, NULL, 'h' },
+					       { "trace", optional_argument, NULL, 't' }, { 0 } };
 	char *option, *rest;
 	int word;
 
@@ -116,6 +119,11 @@ static const char *take_words(int count, char **words)
 		if (word == 'h') {
 			fputs(usage, stdout);
 			exit(0);
+		}
+		if (word == 't') {
+			traces = 1;
+			trace_file = optarg;
+			continue;
 		}
 		if (word != 'o')
 			refuse_words("there is no such word", "");
@@ -169,12 +177,14 @@ static int32_t serve(void *user, unsigned worker, const nizwarf_segment *request
 
 int main(int count, char **words)
 {
-	const transport by = { .program = "mount", .workers = 1, .begin = begin, .end = end,
-			       .serve = serve };
+	transport by = { .program = "mount", .workers = 1, .begin = begin, .end = end,
+			 .serve = serve };
 	const char *folder = take_words(count, words);
 	char options[80];
 	int device;
 
+	if (traces && trace_begin(&by, trace_file))
+		return 1;
 	snprintf(options, sizeof(options), ",default_permissions,max_read=%lu%s", max_read, allow_other);
 	device = fuse_device_mount(&by, name, folder, flags, options);
 	return device < 0 ? 1 : fuse_device_serve(&by, device, folder);

@@ -1,6 +1,6 @@
 /* The file system behind the library, for vhost-user: the virtio-fs device of a virtual machine.
  *
- * Usage: vhost SOCKET
+ * Usage: vhost [--trace[=FILE]] SOCKET
  *
  * A front end, as QEMU, connects to the socket. When it hangs up the next one is served, over the
  * same files; one that comes earlier waits. SIGINT, SIGTERM and SIGHUP end it. The server has one
@@ -12,12 +12,13 @@
 #include <stdio.h>
 #include <time.h>
 #include <unistd.h>
-#include "transport.h"
+#include "trace.h"
 
 static const char usage[] =
-	"Usage: vhost SOCKET\n"
+	"Usage: vhost [--trace[=FILE]] SOCKET\n"
 	"Serves the file system on a new socket of this path as a vhost-user device of virtio-fs,\n"
-	"to one front end, as QEMU, after another, until SIGINT or SIGTERM.\n";
+	"to one front end, as QEMU, after another, until SIGINT or SIGTERM. --trace prints each request\n"
+	"and reply to standard error, or their bytes to a new FILE for vfs_decode.\n";
 
 static nizwarf_server server = NIZWARF_NONE;
 
@@ -57,16 +58,23 @@ static int32_t serve(void *user, unsigned worker, const nizwarf_segment *request
 
 int main(int count, char **words)
 {
-	const transport by = { .program = "vhost", .workers = 1, .begin = begin, .end = end,
-			       .serve = serve };
+	transport by = { .program = "vhost", .workers = 1, .begin = begin, .end = end, .serve = serve };
+	const char *trace = NULL;
 	int listener, status;
 
 	if (count == 2 && (!strcmp(words[1], "--help") || !strcmp(words[1], "-h")))
 		return fputs(usage, stdout) < 0;
+	if (count > 1 && (!strcmp(words[1], "--trace") || !strncmp(words[1], "--trace=", 8))) {
+		trace = words[1] + strlen("--trace");
+		count--;
+		words++;
+	}
 	if (count != 2 || words[1][0] == '-') {
 		fputs("vhost: one word is wanted: the path of a socket\n", stderr);
 		return 2;
 	}
+	if (trace && trace_begin(&by, *trace ? trace + 1 : NULL))
+		return 1;
 	listener = vhost_user_listen(&by, words[1]);
 	if (listener < 0)
 		return -listener;

@@ -1,4 +1,4 @@
--- What is noted of a request doesn't hang on the room, but for a directory that is to be read.
+-- What is noted of a request doesn't hang on the room, but for a READ and a directory that is to be read.
 use Rattle.std.proofs.Common.{◌≡◌, ◌≢◌, ◌-◌, ℕ, Bool, true, false, List, nat_lt, if◌then◌else◌, Some, Result, Ok, Err, refl, inl, inr, arith}
 use Rattle.std.proofs.lemmas.Bool.Decides.{nat_tests}
 use Rattle.vfs_flags.specs.declared.constants.TheConstants.{READ_LOCKOWNER}
@@ -24,82 +24,58 @@ use Rattle.vfs_handlers.specs.Memory.{MayWantBehind}
 use Rattle.vfs_ask.specs.Asked.{IsEnough}
 use Rattle.vfs_ask.specs.Noting.{IsNoted}
 
--- a header fits into the beginning of a room where it fits into the room
-header_fits : (left room : ℕ) → IsEnough left room → nat_lt room (size_of out_header) ≡ nat_lt left (size_of out_header)
-header_fits left room (inl all) = rw all refl
-header_fits left room (inr enough) =
-    let small : nat_lt left 16 ≡ false = grind (arith, nat_tests, enough.0) in
-    let large : nat_lt room 16 ≡ false = grind (arith, nat_tests, enough.0, enough.1) in
-    rw (small, large) refl
-
-module _ (limits : Limits) (options left room : ℕ) (enough : IsEnough left room) (h : InHeader) (rest pieces : List ℕ)
+module _ (limits : Limits) (options left room : ℕ) (h : InHeader) (rest pieces : List ℕ)
     (writer : Written) (outcome : Result ℕ Error) (writer_after : Written) (noted : CallData) where
   abbrev Noted : (space : ℕ) → Opcode → Type 0
   Noted space o = IsNoted (MayWantBehind limits options space (Some o) h pieces) (ask_opcode limits options space o h rest) writer outcome writer_after noted
 
-  abbrev read_of : ReadIn → (space : ℕ) → Call
-  read_of r space =
-      call.Read (context_of h) h.nodeid r.fh space r.size r.offset (if_set r.read_flags READ_LOCKOWNER r.lock_owner) r.flags
-
-  read_behind : (short : Bool) (r : ReadIn)
-      → IsNoted ⊥ (refused_or (if short then Err EncodeMessage else Ok (left - size_of out_header)) (λ n. Asks (echo_of h) (read_of r n))) writer outcome writer_after noted
-      → IsNoted ⊥ (refused_or (if short then Err EncodeMessage else Ok (room - size_of out_header)) (λ n. Asks (echo_of h) (read_of r n))) writer outcome writer_after noted
-  read_behind true r n = n
-  read_behind false r n = n
-
-  read_noted : (read : Result ReadIn Error)
-      → IsNoted ⊥ (refused_or read (λ r. refused_or (if nat_lt left (size_of out_header) then Err EncodeMessage else Ok (left - size_of out_header)) (λ n. Asks (echo_of h) (read_of r n)))) writer outcome writer_after noted
-      → IsNoted ⊥ (refused_or read (λ r. refused_or (if nat_lt room (size_of out_header) then Err EncodeMessage else Ok (room - size_of out_header)) (λ n. Asks (echo_of h) (read_of r n)))) writer outcome writer_after noted
-  read_noted (Err e) n = n
-  read_noted (Ok r) n = rw (header_fits left room enough) (read_behind (nat_lt left (size_of out_header)) r n)
-
-  pub noted_in_room : (o : Opcode) → o ≢ opcode.Readdir → o ≢ opcode.Readdirplus → Noted left o → Noted room o
-  noted_in_room opcode.Lookup not_readdir not_plus n = n
-  noted_in_room opcode.Forget not_readdir not_plus n = n
-  noted_in_room opcode.Getattr not_readdir not_plus n = n
-  noted_in_room opcode.Setattr not_readdir not_plus n = n
-  noted_in_room opcode.Readlink not_readdir not_plus n = n
-  noted_in_room opcode.Symlink not_readdir not_plus n = n
-  noted_in_room opcode.Mknod not_readdir not_plus n = n
-  noted_in_room opcode.Mkdir not_readdir not_plus n = n
-  noted_in_room opcode.Unlink not_readdir not_plus n = n
-  noted_in_room opcode.Rmdir not_readdir not_plus n = n
-  noted_in_room opcode.Rename not_readdir not_plus n = n
-  noted_in_room opcode.Link not_readdir not_plus n = n
-  noted_in_room opcode.Open not_readdir not_plus n = n
-  noted_in_room opcode.Write not_readdir not_plus n = n
-  noted_in_room opcode.Statfs not_readdir not_plus n = n
-  noted_in_room opcode.Release not_readdir not_plus n = n
-  noted_in_room opcode.Fsync not_readdir not_plus n = n
-  noted_in_room opcode.Setxattr not_readdir not_plus n = n
-  noted_in_room opcode.Getxattr not_readdir not_plus n = n
-  noted_in_room opcode.Listxattr not_readdir not_plus n = n
-  noted_in_room opcode.Removexattr not_readdir not_plus n = n
-  noted_in_room opcode.Flush not_readdir not_plus n = n
-  noted_in_room opcode.Init not_readdir not_plus n = n
-  noted_in_room opcode.Opendir not_readdir not_plus n = n
-  noted_in_room opcode.Releasedir not_readdir not_plus n = n
-  noted_in_room opcode.Fsyncdir not_readdir not_plus n = n
-  noted_in_room opcode.Getlk not_readdir not_plus n = n
-  noted_in_room opcode.Setlk not_readdir not_plus n = n
-  noted_in_room opcode.Setlkw not_readdir not_plus n = n
-  noted_in_room opcode.Access not_readdir not_plus n = n
-  noted_in_room opcode.Create not_readdir not_plus n = n
-  noted_in_room opcode.Interrupt not_readdir not_plus n = n
-  noted_in_room opcode.Bmap not_readdir not_plus n = n
-  noted_in_room opcode.Destroy not_readdir not_plus n = n
-  noted_in_room opcode.Ioctl not_readdir not_plus n = n
-  noted_in_room opcode.Poll not_readdir not_plus n = n
-  noted_in_room opcode.NotifyReply not_readdir not_plus n = n
-  noted_in_room opcode.BatchForget not_readdir not_plus n = n
-  noted_in_room opcode.Fallocate not_readdir not_plus n = n
-  noted_in_room opcode.Rename2 not_readdir not_plus n = n
-  noted_in_room opcode.Lseek not_readdir not_plus n = n
-  noted_in_room opcode.CopyFileRange not_readdir not_plus n = n
-  noted_in_room opcode.SetupMapping not_readdir not_plus n = n
-  noted_in_room opcode.RemoveMapping not_readdir not_plus n = n
-  noted_in_room opcode.Syncfs not_readdir not_plus n = n
-  noted_in_room opcode.TmpFile not_readdir not_plus n = n
-  noted_in_room opcode.Read not_readdir not_plus n = read_noted (record_of read_in rest) n
-  noted_in_room opcode.Readdir not_readdir not_plus n = absurd (not_readdir refl)
-  noted_in_room opcode.Readdirplus not_readdir not_plus n = absurd (not_plus refl)
+  pub noted_in_room : (o : Opcode) → o ≢ opcode.Readdir → o ≢ opcode.Readdirplus → o ≢ opcode.Read → Noted left o → Noted room o
+  noted_in_room opcode.Lookup not_readdir not_plus not_read n = n
+  noted_in_room opcode.Forget not_readdir not_plus not_read n = n
+  noted_in_room opcode.Getattr not_readdir not_plus not_read n = n
+  noted_in_room opcode.Setattr not_readdir not_plus not_read n = n
+  noted_in_room opcode.Readlink not_readdir not_plus not_read n = n
+  noted_in_room opcode.Symlink not_readdir not_plus not_read n = n
+  noted_in_room opcode.Mknod not_readdir not_plus not_read n = n
+  noted_in_room opcode.Mkdir not_readdir not_plus not_read n = n
+  noted_in_room opcode.Unlink not_readdir not_plus not_read n = n
+  noted_in_room opcode.Rmdir not_readdir not_plus not_read n = n
+  noted_in_room opcode.Rename not_readdir not_plus not_read n = n
+  noted_in_room opcode.Link not_readdir not_plus not_read n = n
+  noted_in_room opcode.Open not_readdir not_plus not_read n = n
+  noted_in_room opcode.Write not_readdir not_plus not_read n = n
+  noted_in_room opcode.Statfs not_readdir not_plus not_read n = n
+  noted_in_room opcode.Release not_readdir not_plus not_read n = n
+  noted_in_room opcode.Fsync not_readdir not_plus not_read n = n
+  noted_in_room opcode.Setxattr not_readdir not_plus not_read n = n
+  noted_in_room opcode.Getxattr not_readdir not_plus not_read n = n
+  noted_in_room opcode.Listxattr not_readdir not_plus not_read n = n
+  noted_in_room opcode.Removexattr not_readdir not_plus not_read n = n
+  noted_in_room opcode.Flush not_readdir not_plus not_read n = n
+  noted_in_room opcode.Init not_readdir not_plus not_read n = n
+  noted_in_room opcode.Opendir not_readdir not_plus not_read n = n
+  noted_in_room opcode.Releasedir not_readdir not_plus not_read n = n
+  noted_in_room opcode.Fsyncdir not_readdir not_plus not_read n = n
+  noted_in_room opcode.Getlk not_readdir not_plus not_read n = n
+  noted_in_room opcode.Setlk not_readdir not_plus not_read n = n
+  noted_in_room opcode.Setlkw not_readdir not_plus not_read n = n
+  noted_in_room opcode.Access not_readdir not_plus not_read n = n
+  noted_in_room opcode.Create not_readdir not_plus not_read n = n
+  noted_in_room opcode.Interrupt not_readdir not_plus not_read n = n
+  noted_in_room opcode.Bmap not_readdir not_plus not_read n = n
+  noted_in_room opcode.Destroy not_readdir not_plus not_read n = n
+  noted_in_room opcode.Ioctl not_readdir not_plus not_read n = n
+  noted_in_room opcode.Poll not_readdir not_plus not_read n = n
+  noted_in_room opcode.NotifyReply not_readdir not_plus not_read n = n
+  noted_in_room opcode.BatchForget not_readdir not_plus not_read n = n
+  noted_in_room opcode.Fallocate not_readdir not_plus not_read n = n
+  noted_in_room opcode.Rename2 not_readdir not_plus not_read n = n
+  noted_in_room opcode.Lseek not_readdir not_plus not_read n = n
+  noted_in_room opcode.CopyFileRange not_readdir not_plus not_read n = n
+  noted_in_room opcode.SetupMapping not_readdir not_plus not_read n = n
+  noted_in_room opcode.RemoveMapping not_readdir not_plus not_read n = n
+  noted_in_room opcode.Syncfs not_readdir not_plus not_read n = n
+  noted_in_room opcode.TmpFile not_readdir not_plus not_read n = n
+  noted_in_room opcode.Read not_readdir not_plus not_read n = absurd (not_read refl)
+  noted_in_room opcode.Readdir not_readdir not_plus not_read n = absurd (not_readdir refl)
+  noted_in_room opcode.Readdirplus not_readdir not_plus not_read n = absurd (not_plus refl)

@@ -7,3 +7,4 @@ pub mod Telling
 pub mod InRoom
 pub mod Memory
 pub mod Short
+pub mod Checking

@@ -4,3 +4,4 @@ pub mod Memory
 pub mod Noting
 pub mod Parts
 pub mod Uses
+pub mod Checked

@@ -7,7 +7,7 @@ ghost use Rattle.vfs_flags.specs.declared.opcode.Opcode.{Opcode};
 ghost use Rattle.vfs_wire.specs.Headers.{in_header};
 ghost use Rattle.vfs_wire_more.specs.Locks.{interrupt_in};
 ghost use Rattle.vfs_messages.specs.Rooms.{with_behind};
-ghost use Rattle.vfs_grammar.specs.Ask.{ask_header, ask_opcode};
+ghost use Rattle.vfs_grammar.specs.Ask.{ask, ask_header, ask_opcode};
 ghost use Rattle.vfs_grammar.specs.Limits.{AreLimits, max_len};
 ghost use Rattle.vfs_grammar.specs.Records.{record_of, size_of};
 ghost use Rattle.vfs_handlers.specs.Memory.{MayWantBehind};
@@ -17,7 +17,7 @@ ghost use Rattle.vfs_ask.specs.Contexts.{may_have_context};
 ghost use Rattle.vfs_ask.specs.Memory.{LacksNoMemory, MayWant};
 ghost use Rattle.vfs_ask.specs.Noting.{IsNoted, NotedAndTold};
 ghost use Rattle.vfs_ask.specs.Parts.{told_with};
-ghost use Rattle.vfs_ask.specs.Asked.{IsAsked, IsEnough, LiesWithin, Tells, interrupted_behind, unique_or_none};
+ghost use Rattle.vfs_ask.specs.Asked.{IsAsked, IsEnough, LiesWithin, Tells, interrupted_behind, interrupted_by, unique_or_none};
 
 use crate::contexts::{may_have_context, place_context, read_tail_of, refusal_of_tail};
 use crate::direct::{note_getattr, note_lookup, note_read, note_write};
@@ -80,7 +80,7 @@ pub fn ask(
     alloc: Global,
     limits: Limits,
     options: FsOptions,
-    mut r: Reader<'_>,
+    r: Reader<'_>,
     room: usize,
     w: &mut Writer,
     call: &mut CallData,
@@ -94,6 +94,24 @@ pub fn ask(
 
     // It is refused for want of memory only where its tail is cut, it may have a context, or it has pairs.
     ensures memory { ¬ (MayWant limits (fs_options_bits options) room r.entry) → LacksNoMemory result }
+{
+    ask_request(alloc, limits, options, r, room, w, call)
+}
+
+// The same, whatever room `w` has left: a finished request has as much of its reply there as fits.
+pub(crate) fn ask_request(
+    alloc: Global,
+    limits: Limits,
+    options: FsOptions,
+    mut r: Reader<'_>,
+    room: usize,
+    w: &mut Writer,
+    call: &mut CallData,
+) -> Asked
+    requires { AreLimits limits }
+    ensures { Tells (MayWant limits (fs_options_bits options) room r.entry) r.entry.left
+        (fs_options_bits options) (interrupted_by limits r.entry.left) room
+        (ask limits (fs_options_bits options) room r.entry.left) w.old result w.new call.new }
 {
     *call = CallData::NONE;
     let len = r.available_bytes() as u64;
@@ -125,7 +143,6 @@ fn ask_behind(
     call: &mut CallData,
 ) -> Asked
     requires limits { AreLimits limits }
-    requires enough { IsEnough (length w.old.left) room }
     requires none { call.old ≡ nothing }
     ensures { (request : List ℕ) → length request ≡ len
         → record_of in_header request ≡ Ok q.entry.header.now
@@ -178,7 +195,6 @@ fn ask_of_opcode(
     call: &mut CallData,
 ) -> Asked
     requires limits { AreLimits limits }
-    requires enough { IsEnough (length w.old.left) room }
     requires none { call.old ≡ nothing }
     requires known { opcode_of q.header.now.opcode ≡ Some opcode }
     requires below { q.header.now.len ≤ max_len limits }
@@ -214,7 +230,6 @@ fn ask_without_context(
     call: &mut CallData,
 ) -> Asked
     requires limits { AreLimits limits }
-    requires enough { IsEnough (length w.old.left) room }
     requires none { call.old ≡ nothing }
     requires known { opcode_of q.header.now.opcode ≡ Some opcode }
     requires below { q.header.now.len ≤ max_len limits }
@@ -247,7 +262,6 @@ fn ask_with_context(
     call: &mut CallData,
 ) -> Asked
     requires limits { AreLimits limits }
-    requires enough { IsEnough (length w.old.left) room }
     requires none { call.old ≡ nothing }
     requires known { opcode_of q.header.now.opcode ≡ Some opcode }
     requires below { q.header.now.len ≤ max_len limits }
@@ -291,7 +305,6 @@ fn note_opcode(
     call: &mut CallData,
 ) -> Result<usize>
     requires limits { AreLimits limits }
-    requires enough { IsEnough (length w.old.left) room }
     requires none { call.old ≡ nothing }
     requires known { opcode_of q.header.now.opcode ≡ Some opcode }
     requires below { q.header.now.len ≤ max_len limits }
@@ -325,7 +338,6 @@ fn tell(
     call: &mut CallData,
 ) -> Asked
     requires limits { AreLimits limits }
-    requires enough { IsEnough (length w.old.left) room }
     requires none { call.old ≡ nothing }
     requires known { opcode_of q.header.now.opcode ≡ Some opcode }
     requires below { q.header.now.len ≤ max_len limits }

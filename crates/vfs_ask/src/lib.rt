@@ -2,6 +2,7 @@
 #![tactic(auto)]
 
 mod asked;
+mod check;
 mod contexts;
 mod direct;
 mod init;
@@ -11,3 +12,4 @@ mod parts;
 mod uses;
 
 pub use asked::{Asked, LONGEST_REPLY, ask};
+pub use check::{Checked, check};

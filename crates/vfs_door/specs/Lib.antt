@@ -4,3 +4,4 @@ pub mod Shown
 pub mod Asking
 pub mod Answering
 pub mod Uses
+pub mod Checking

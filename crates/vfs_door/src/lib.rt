@@ -12,9 +12,11 @@
 
 mod answer;
 mod ask;
+mod check;
 mod data;
 mod handle;
 mod memory;
+mod print;
 mod uses;
 
 ghost use Rattle.std.specs.Prelude.{◌≡◌, ◌++◌, length, take, drop, min, MatchOption};

@@ -20,5 +20,5 @@ returns-in-Write c = rw (c.in-Write.is) (c.note_write.ensures c.args.limits (fs_
 pub returns-in_default : goal.returns-in_default
 returns-in_default c =
     let below : nat_lt (max_len c.args.limits) c.args.q.header.now.len ≡ false = grind (arith, nat_tests, c.requires.below) in
-    noted_in_room c.args.limits _ _ c.args.room c.requires.enough c.args.q.header.now c.args.q.r.now.left c.args.q.r.now.pieces _ _ _ _ c.args.opcode
-    c.requires.no_readdir c.requires.no_readdirplus (rw (below, c.requires.known) at c.note.ensures)
+    noted_in_room c.args.limits _ _ c.args.room c.args.q.header.now c.args.q.r.now.left c.args.q.r.now.pieces _ _ _ _ c.args.opcode
+    c.requires.no_readdir c.requires.no_readdirplus c.in_default.not-Read (rw (below, c.requires.known) at c.note.ensures)

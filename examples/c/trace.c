@@ -1,0 +1,198 @@
+/* A trace of the requests and replies of a transport: trace.h.
+ *
+ * It stands between the transport and its function, and copies what is in several pieces or in the
+ * memory of a virtual machine before it is printed. The options by which requests are printed are those
+ * of the last reply to an INIT. */
+#define _GNU_SOURCE
+#include <errno.h>
+#include <linux/fuse.h>
+#include <stdatomic.h>
+#include <stdio.h>
+#include <stdlib.h>
+#include <string.h>
+#include "trace.h"
+
+/* Names of the codes 1 to 10. */
+static const char *const refusals[] = {
+	"DecodeMessage", "EncodeMessage", "FlushMessage", "MissingParameter", "InvalidCString",
+	"InvalidCString2", "InvalidHeaderLength", "InvalidXattrSize", "MissingExtension", "OutOfMemory",
+};
+
+/* What is traced, and where its bytes go: NULL if it is printed by name. */
+static transport of;
+static FILE *file;
+static _Atomic uint64_t options;
+
+struct bytes {
+	unsigned char *at;
+	size_t len;
+};
+
+/* The first `most` bytes of pieces, in one. */
+static struct bytes gather(const nizwarf_segment *piece, size_t pieces, size_t most)
+{
+	struct bytes all = { NULL, 0 };
+	size_t len = 0, i;
+
+	for (i = 0; i < pieces; i++)
+		len += piece[i].len;
+	len = len < most ? len : most;
+	all.at = malloc(len ? len : 1);
+	if (!all.at)
+		return all;
+	for (i = 0; i < pieces && all.len < len; i++) {
+		const size_t part = piece[i].len < len - all.len ? piece[i].len : len - all.len;
+
+		memcpy(all.at + all.len, piece[i].at, part);
+		all.len += part;
+	}
+	return all;
+}
+
+static void put_line(char *line)
+{
+	fprintf(stderr, "%s\n", line ? line : "(no memory for a line of the trace)");
+	free(line);
+}
+
+static void print_request(const struct bytes *request)
+{
+	const size_t size = nizwarf_print_request(request->at, request->len, options, NULL, 0) + 1;
+	char *line = malloc(size);
+
+	if (line)
+		nizwarf_print_request(request->at, request->len, options, line, size);
+	put_line(line);
+}
+
+static void print_reply(const struct bytes *request, const struct bytes *reply)
+{
+	const size_t size =
+		nizwarf_print_reply(request->at, request->len, reply->at, reply->len, NULL, 0) + 1;
+	char *line = malloc(size);
+
+	if (line)
+		nizwarf_print_reply(request->at, request->len, reply->at, reply->len, line, size);
+	put_line(line);
+}
+
+static const char *refusal(int32_t code)
+{
+	return code >= 1 && code <= NIZWARF_OUT_OF_MEMORY ? refusals[code - 1] : "of the server";
+}
+
+/* The two sizes of a SETXATTR that is refused for them. */
+static void record_sizes(const struct bytes *request)
+{
+	const size_t at = sizeof(struct fuse_in_header) +
+			  (options & FUSE_SETXATTR_EXT ? sizeof(struct fuse_setxattr_in) :
+							 FUSE_COMPAT_SETXATTR_IN_SIZE);
+	struct fuse_in_header header;
+	uint32_t size;
+
+	memcpy(&header, request->at, sizeof(header));
+	memcpy(&size, request->at + sizeof(header), sizeof(size));
+	fprintf(file, " %u %zu", (unsigned)size,
+		header.len - at - strnlen((const char *)request->at + at, header.len - at) - 1);
+}
+
+static void record_bytes(const struct bytes *bytes)
+{
+	for (size_t i = 0; i < bytes->len; i++)
+		fprintf(file, "%02x", bytes->at[i]);
+}
+
+/* A request with its answer, behind one another, whichever worker has it. */
+static void record(const struct bytes *request, size_t room, int32_t code, const struct bytes *reply)
+{
+	flockfile(file);
+	fprintf(file, "%zu ", room);
+	record_bytes(request);
+	if (code != NIZWARF_OK) {
+		fprintf(file, "\nerr %s", refusal(code));
+		if (code == NIZWARF_INVALID_XATTR_SIZE)
+			record_sizes(request);
+	} else {
+		fprintf(file, "\nok %zu%s", reply->len, reply->len ? " " : "");
+		record_bytes(reply);
+	}
+	putc('\n', file);
+	fflush(file);
+	funlockfile(file);
+}
+
+/* Takes the options from the reply to an INIT. */
+static void agree(const struct bytes *request, const struct bytes *reply)
+{
+	struct fuse_init_out agreed = { 0 };
+	struct fuse_out_header head;
+	struct fuse_in_header asked;
+
+	if (request->len < sizeof(asked))
+		return;
+	memcpy(&asked, request->at, sizeof(asked));
+	if (asked.opcode == FUSE_DESTROY)
+		options = 0;
+	if (asked.opcode != FUSE_INIT || reply->len < sizeof(head) + sizeof(agreed))
+		return;
+	memcpy(&head, reply->at, sizeof(head));
+	memcpy(&agreed, reply->at + sizeof(head), sizeof(agreed));
+	if (!head.error)
+		options = agreed.flags | (uint64_t)agreed.flags2 << 32;
+}
+
+/* Prints what came of a request. */
+static void tell(const struct bytes *request, const nizwarf_room *room, size_t rooms, int32_t code, size_t len)
+{
+	size_t space = 0;
+	nizwarf_segment *pieces = calloc(rooms ? rooms : 1, sizeof(*pieces));
+	struct bytes reply = { NULL, 0 };
+
+	for (size_t i = 0; i < rooms; i++) {
+		if (pieces)
+			pieces[i] = (nizwarf_segment) { room[i].at, room[i].len };
+		space += room[i].len;
+	}
+	if (pieces)
+		reply = gather(pieces, rooms, code == NIZWARF_OK ? len : 0);
+	if (!reply.at)
+		put_line(NULL);
+	else if (file)
+		record(request, space, code, &reply);
+	else if (code != NIZWARF_OK)
+		fprintf(stderr, "-> refused=%s\n", refusal(code));
+	else
+		print_reply(request, &reply);
+	if (reply.at)
+		agree(request, &reply);
+	free(reply.at);
+	free(pieces);
+}
+
+static int32_t serve(void *user, unsigned worker, const nizwarf_segment *request, size_t segments,
+		     const nizwarf_room *room, size_t rooms, size_t *len)
+{
+	struct bytes asked = gather(request, segments, SIZE_MAX);
+	int32_t code;
+
+	if (!asked.at)
+		put_line(NULL);
+	else if (!file)
+		print_request(&asked);
+	code = of.serve(user, worker, request, segments, room, rooms, len);
+	if (asked.at)
+		tell(&asked, room, rooms, code, *len);
+	free(asked.at);
+	return code;
+}
+
+int trace_begin(transport *by, const char *path)
+{
+	if (path && !(file = fopen(path, "wxe"))) {
+		fprintf(stderr, "%s: %s: %s\n", by->program, path, strerror(errno));
+		return -1;
+	}
+	of = *by;
+	by->serve = serve;
+	return 0;
+}
