@@ -3,7 +3,7 @@
 # an INIT, a MKDIR and a LOOKUP, and checks the replies. Then tools/c-example.c holds the library against what the
 # header says, also where each allocation is refused in turn. tools/c-hello.c asks a few requests of
 # examples/c/hello.c, a file system over the library vfs_door; tools/c-door.c, tools/c-door-cases.c,
-# tools/c-door-threads.c and tools/c-ops.c hold that library against what the headers say. All that runs
+# tools/c-door-threads.c, tools/c-ops.c and tools/c-text.c hold that library against what the headers say. All that runs
 # under the sanitizers of the compiler too, if it has them. All names that the libraries define begin
 # with `nizwarf_`. Last, tools/package.sh packs the libraries, and the examples are built by pkg-config against
 # what is installed of that, shared and static, and do the same.
@@ -72,6 +72,8 @@ run_all() {
     "$folder/program" "$folder/recorded"
     compile tools/c-door-cases.c "$@" "${counted[@]}"
     "$folder/program"
+    compile tools/c-text.c "$@" "${counted[@]}"
+    "$folder/program" "$folder/recorded"
     compile tools/c-door-threads.c "$@" -pthread
     timeout 60 "$folder/program"
 }

@@ -6,14 +6,14 @@
  * At the other end of the descriptor is the peer, who may send anything: it is a socket that keeps
  * messages apart, as SOCK_SEQPACKET. The program is started with one word more, the descriptor of another
  * such socket, and serves FUSE there, as a session of libfuse with custom io. Each request is copied, and
- * read by the door of nizwarf.h, which is told of no answer. What asks for a call is handed on as it
- * came, and the reply back. All else is answered here, and never reaches the program:
+ * judged by nizwarf_check. What asks for a call is handed on as it came, and the reply back. All else is
+ * answered here, and never reaches the program:
  *
- * - what the door refuses, with EIO;
- * - what needs no file system, as an opcode that is none, with the reply of the door;
+ * - what is refused, with EIO;
+ * - what needs no file system, as an opcode that is none, with the reply of nizwarf_ask;
  * - a request that says another length than it has, and a WRITE of more bytes than it has, with EIO,
- *   though the door serves both;
- * - locks, BMAP, IOCTL, POLL and TMPFILE, with ENOSYS: the door does not look at their arguments.
+ *   though nizwarf_check takes both;
+ * - locks, BMAP, IOCTL, POLL and TMPFILE, with ENOSYS: nobody looked at their arguments.
  *
  * The options are those of the program's reply to INIT. Nothing is handed on before that came, nor behind
  * a DESTROY, nor a second INIT: as numbers of requests are the peer's, no reply could be told from that of
@@ -55,9 +55,9 @@ static _Noreturn void stop(const char *what)
 }
 
 /* Puts an error into the room, if a reply is due. */
-static ssize_t refuse(const struct fuse_in_header *asked)
+static ssize_t refuse(const struct fuse_in_header *asked, int error)
 {
-	const struct fuse_out_header reply = { sizeof(reply), -EIO, asked->unique };
+	const struct fuse_out_header reply = { sizeof(reply), -error, asked->unique };
 
 	if (asked->opcode == FUSE_FORGET || asked->opcode == FUSE_BATCH_FORGET ||
 	    asked->opcode == FUSE_INTERRUPT)
@@ -66,25 +66,24 @@ static ssize_t refuse(const struct fuse_in_header *asked)
 	return sizeof(reply);
 }
 
-/* What the door told nothing of is refused, as by a file system that doesn't have it. */
-static ssize_t refuse_call(const nizwarf_call *call, const nizwarf_room *whole)
+/* Answers a request of so many bytes that needs no file system. */
+static ssize_t finish(size_t size)
 {
-	nizwarf_answer answer = NIZWARF_NO_ANSWER;
+	const nizwarf_segment piece = { request, size };
+	const nizwarf_room whole = { room, LONGEST };
+	nizwarf_call call;
 	nizwarf_told told;
 
-	answer.error = ENOSYS;
-	nizwarf_reply(&slot, &session, call, &answer, whole, 1, &told);
+	nizwarf_ask(&slot, &session, &piece, 1, &whole, 1, &call, &told);
 	return (ssize_t)told.len;
 }
 
 /* Judges a request of so many bytes. */
 static ssize_t judge(size_t size)
 {
-	const nizwarf_segment piece = { request, size };
-	const nizwarf_room whole = { room, LONGEST };
 	struct fuse_in_header asked;
+	uint64_t interrupts;
 	nizwarf_call call;
-	nizwarf_told told;
 	int32_t code;
 
 	/* (nobody could say which request a reply is to) */
@@ -92,20 +91,18 @@ static ssize_t judge(size_t size)
 		return 0;
 	memcpy(&asked, request, sizeof(asked));
 	if (asked.len != size || size > sizeof(request))
-		return refuse(&asked);
-	code = nizwarf_ask(&slot, &session, &piece, 1, &whole, 1, &call, &told);
-	if (code == NIZWARF_OK && told.interrupts && state == AGREED)
-		return HAND_ON;
+		return refuse(&asked, EIO);
+	code = nizwarf_check(&session, request, size, LONGEST, &call, &interrupts);
 	if (code == NIZWARF_OK)
-		return (ssize_t)told.len;
+		return interrupts && state == AGREED ? HAND_ON : finish(size);
 	if (code != NIZWARF_ASKED)
-		return refuse(&asked);
+		return refuse(&asked, EIO);
 	if (call.answer == NIZWARF_FAULT || call.answer == NIZWARF_FAULT_OR_SILENCE)
-		return refuse_call(&call, &whole);
+		return refuse(&asked, ENOSYS);
 	if (call.call == NIZWARF_WRITE && call.size > call.data.len)
-		return refuse(&asked);
+		return refuse(&asked, EIO);
 	if (state != (call.call == NIZWARF_INIT ? NEW : AGREED))
-		return refuse(&asked);
+		return refuse(&asked, EIO);
 	if (call.call == NIZWARF_INIT)
 		state = ASKED;
 	if (call.call == NIZWARF_DESTROY)
@@ -199,7 +196,7 @@ static int take(unsigned long *asked, unsigned long *handed)
 		if (given < 0)
 			return -1;
 		memcpy(&head, request, sizeof(head));
-		made = given ? 0 : refuse(&head);
+		made = given ? 0 : refuse(&head, EIO);
 		*handed += (unsigned)given;
 	}
 	if (made > 0)

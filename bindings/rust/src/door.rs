@@ -19,7 +19,7 @@ use std::io::{IoSlice, IoSliceMut};
 /// assert!(Session::new(4095, 1 << 20).is_err());
 /// ```
 #[derive(Clone, Copy, Debug, PartialEq, Eq)]
-pub struct Session(RawSession);
+pub struct Session(pub(crate) RawSession);
 
 impl Session {
     /// Creates a session without options. `page_size` is that of the machine, at least 4096; `max_buffer`

@@ -166,6 +166,29 @@ extern "C" {
         piece_len: usize,
     ) -> usize;
     fn nizwarf_end_slot_at(slot: *mut RawSlot) -> i32;
+    fn nizwarf_check_at(
+        session: *const RawSession,
+        request: *const u8,
+        len: usize,
+        room: usize,
+        call: *mut RawCall,
+        interrupts: *mut u64,
+    ) -> i32;
+    fn nizwarf_print_request_at(
+        request: *const u8,
+        len: usize,
+        options: u64,
+        text: *mut u8,
+        text_len: usize,
+    ) -> usize;
+    fn nizwarf_print_reply_at(
+        request: *const u8,
+        len: usize,
+        reply: *const u8,
+        reply_len: usize,
+        text: *mut u8,
+        text_len: usize,
+    ) -> usize;
 }
 
 // A function of the C library that `std` does not have.
@@ -186,6 +209,43 @@ pub(crate) fn write_at(file: &File, piece: &[u8], off: u64, flags: i32) -> io::R
     // SAFETY: the descriptor is open, and the piece is valid for this call.
     let written = unsafe { pwritev2(file.as_raw_fd(), &IoSlice::new(piece), 1, offset, flags) };
     usize::try_from(written).map_err(|_| io::Error::last_os_error())
+}
+
+/// Checks a request: a code, the call that it asks for, and the request that it interrupts.
+pub(crate) fn check(session: &RawSession, request: &[u8], room: usize) -> (i32, RawCall, u64) {
+    let (mut call, mut interrupts) = (RawCall::NONE, 0);
+    // SAFETY: all pointers are valid for this call, which keeps none.
+    let code = unsafe {
+        nizwarf_check_at(session, request.as_ptr(), request.len(), room, &mut call, &mut interrupts)
+    };
+    (code, call, interrupts)
+}
+
+/// Has a line written into memory that is as long as the line, and a byte longer.
+fn line_of(write: impl Fn(&mut [u8]) -> usize) -> Vec<u8> {
+    let mut line = vec![0; write(&mut []) + 1];
+    write(&mut line);
+    line.pop();
+    line
+}
+
+/// The line of a request.
+pub(crate) fn request_line(request: &[u8], options: u64) -> Vec<u8> {
+    // SAFETY: the pointers and lengths are those of slices, which do not overlap.
+    line_of(|text| unsafe {
+        let (at, len) = (text.as_mut_ptr(), text.len());
+        nizwarf_print_request_at(request.as_ptr(), request.len(), options, at, len)
+    })
+}
+
+/// The line of the reply to a request.
+pub(crate) fn reply_line(request: &[u8], reply: &[u8]) -> Vec<u8> {
+    let (first, first_len) = (request.as_ptr(), request.len());
+    // SAFETY: the pointers and lengths are those of slices, which do not overlap.
+    line_of(|text| unsafe {
+        let (at, len) = (text.as_mut_ptr(), text.len());
+        nizwarf_print_reply_at(first, first_len, reply.as_ptr(), reply.len(), at, len)
+    })
 }
 
 /// A call that waits for its answer, and the session in which it was asked.

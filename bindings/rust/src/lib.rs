@@ -60,6 +60,7 @@ mod ffi;
 mod file_system;
 mod flags;
 mod server;
+mod text;
 mod transfer;
 
 /// The kinds of answers: the type parameters of [`To`].
@@ -83,6 +84,7 @@ pub use file_system::{
 };
 pub use flags::{FsOptions, OpenOptions, SetattrValid, SetxattrFlags, WritevFlags};
 pub use server::{Served, Server};
+pub use text::{print_reply, print_request, Checked};
 
 // These can be sent to, and shared with, other threads.
 const _: () = {

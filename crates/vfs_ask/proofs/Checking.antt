@@ -24,8 +24,8 @@ use Rattle.vfs_ask.specs.Asked.{IsFinished, Tells}
 use Rattle.vfs_ask.specs.Checked.{Judges, answered, checked_of, judged, refused_as}
 use Rattle.vfs_ask.specs.declared.asked.Asked.{Asked}
 use Rattle.vfs_ask.specs.declared.asked.Asked.TheVariants as asked
-use Rattle.vfs_ask.specs.declared.check.Checked.{Checked}
-use Rattle.vfs_ask.specs.declared.check.Checked.TheVariants as checked
+use Rattle.vfs_ask.specs.declared.checked.Checked.{Checked}
+use Rattle.vfs_ask.specs.declared.checked.Checked.TheVariants as checked
 
 -- a request that carries data, and whose room is too small for a header
 cramped_form : (limits : Limits) (options room : ℕ) (h : InHeader) (opcode : Opcode)
@@ -105,7 +105,7 @@ module _ (wanted : Type 0) (q : List ℕ) (options interrupts room : ℕ) (write
         refusal = λ e may. refusal result e (λ n. said_as_it_is room n e may);
         fault = λ f. replied result (fault_reply f u) (omega (arith, length-fault_reply f u));
         version = replied result (body_reply (bytes_of init_out version_out) u)
-        (omega (arith, length-body_reply (bytes_of init_out version_out) u));
+            (omega (arith, length-body_reply (bytes_of init_out version_out) u));
         nothing = silent result;
         asks = λ echo call same t. (ap (checked_of room) t.0, t.1);
         lists = λ echo l same t. (ap (checked_of room) t.0, t.1);

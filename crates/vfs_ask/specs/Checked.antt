@@ -15,8 +15,8 @@ use Rattle.vfs_ask.specs.Asked.{IsTold, interrupted_by, told_of_listing}
 use Rattle.vfs_ask.specs.Memory.{MayWant}
 use Rattle.vfs_ask.specs.declared.asked.Asked.{Asked}
 use Rattle.vfs_ask.specs.declared.asked.Asked.TheVariants as asked
-use Rattle.vfs_ask.specs.declared.check.Checked.{Checked}
-use Rattle.vfs_ask.specs.declared.check.Checked.TheVariants as checked
+use Rattle.vfs_ask.specs.declared.checked.Checked.{Checked}
+use Rattle.vfs_ask.specs.declared.checked.Checked.TheVariants as checked
 
 -- a reply is due: so it is refused where there is no room for the header of one
 abbrev pub answered : (room interrupts : ℕ) → Checked

@@ -2,7 +2,7 @@
 #![tactic(auto)]
 
 mod asked;
-mod check;
+mod checked;
 mod contexts;
 mod direct;
 mod init;
@@ -12,4 +12,4 @@ mod parts;
 mod uses;
 
 pub use asked::{Asked, LONGEST_REPLY, ask};
-pub use check::{Checked, check};
+pub use checked::{Checked, check};

@@ -3,3 +3,5 @@ mod Asking
 mod Answering
 mod Lookup
 mod OneTurn
+mod LookupChecked
+mod Printing

@@ -38,19 +38,19 @@ use Rattle.vfs_door.specs.Shown.{AreFirst}
 use Rattle.vfs_door.specs.Uses.{IsLookupOfA, no_such_name}
 use Rattle.vfs_door.specs.declared.data.ToldData.{ToldData}
 
-abbrev limits : Limits
+abbrev pub limits : Limits
 limits = record { page_size = 4096; max_buffer = 1048576 }
 
 pub are_limits : AreLimits limits
 are_limits = record { page = omega arith; least = omega arith; greatest = omega arith }
 
-abbrev echo : Echo
+abbrev pub echo : Echo
 echo = echo_of (value_of in_header lookup_of_a)
 
-abbrev lookup : Call
+abbrev pub lookup : Call
 lookup = Lookup (context_of (value_of in_header lookup_of_a)) 1 (0x61 ∷ [])
 
-asks : (space : ℕ) → ask limits 0 space lookup_of_a ≡ WithMemory (asks_call echo lookup)
+pub asks : (space : ℕ) → ask limits 0 space lookup_of_a ≡ WithMemory (asks_call echo lookup)
 unfolding number little opcode_of
 asks space = refl
 
@@ -59,7 +59,7 @@ unfolding number little
 is_nine = refl
 
 -- the call that is told
-told_lookup : (call : CallData) → IsTold lookup_of_a 0 4096 echo lookup call → IsLookupOfA call
+pub told_lookup : (call : CallData) → IsTold lookup_of_a 0 4096 echo lookup call → IsLookupOfA call
 told_lookup call is = record {
   unique = ap (λ (c : CallData). c.unique) is.numbers ∙ is_nine;
   readahead = ap (λ (c : CallData). c.readahead) is.numbers;

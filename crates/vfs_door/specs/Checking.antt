@@ -4,8 +4,8 @@ use Rattle.vfs_segments.specs.Unread.{Unread}
 use Rattle.vfs_grammar.specs.declared.limits.Limits.{Limits}
 use Rattle.vfs_calls.specs.declared.call.CallData.{CallData}
 use Rattle.vfs_ask.specs.Checked.{IsChecked}
-use Rattle.vfs_ask.specs.declared.check.Checked.{Checked}
-use Rattle.vfs_ask.specs.declared.check.Checked.TheVariants as checked
+use Rattle.vfs_ask.specs.declared.checked.Checked.{Checked}
+use Rattle.vfs_ask.specs.declared.checked.Checked.TheVariants as checked
 use Rattle.vfs_rooms.specs.Codes.{ok, is_asked, number_of}
 
 -- the code of what a request is

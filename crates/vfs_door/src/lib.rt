@@ -18,6 +18,7 @@ mod handle;
 mod memory;
 mod print;
 mod uses;
+mod uses_text;
 
 ghost use Rattle.std.specs.Prelude.{◌≡◌, ◌++◌, length, take, drop, min, MatchOption};
 ghost use Rattle.std.specs.declared.option.Option.TheVariants.{None};

@@ -2,12 +2,12 @@ use Rattle.vfs_flags.specs.Flags.{fs_options_bits}
 use Rattle.vfs_ask.specs.Asked.{interrupted_by}
 use Rattle.vfs_ask.specs.Memory.{MayWant}
 use Rattle.vfs_ask.proofs.Checking.{judges}
-use Rattle.vfs_ask.proofs.check.check.Goals as goal
+use Rattle.vfs_ask.proofs.checked.check.Goals as goal
 
 pub returns : goal.returns
 returns c =
     let q = c.args.r.left in
     let options = fs_options_bits c.args.options in
     rw (c.of.ensures) (judges (MayWant c.args.limits options c.args.room c.args.r) q options (interrupted_by c.args.limits q)
-    c.args.room c.no_room-nowhere.result c.ask_request-asked.new.nowhere c.no_room-nowhere.ensures c.ask_request-asked.new.call
+    c.args.room c.no_room-nowhere.result c.ask_request-asked.new.w c.no_room-nowhere.ensures c.ask_request-asked.new.call
     c.args.limits c.ask_request-asked.result c.ask_request-asked.ensures)

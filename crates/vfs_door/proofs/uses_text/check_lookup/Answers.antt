@@ -1,0 +1,9 @@
+use Rattle.vfs_door.proofs.Lookup.{are_limits}
+use Rattle.vfs_door.proofs.LookupChecked.{looked_at}
+use Rattle.vfs_door.proofs.uses_text.check_lookup.Goals as goal
+
+pub returns-clause-code : goal.returns-clause-code
+returns-clause-code c = (looked_at _ _ _ _ c.requires (c.nizwarf_check_at.ensures.checked are_limits)).0
+
+pub returns-clause-call : goal.returns-clause-call
+returns-clause-call c = (looked_at _ _ _ _ c.requires (c.nizwarf_check_at.ensures.checked are_limits)).1
