@@ -43,7 +43,7 @@ build_transport() {
         mount) sources+=("$from/trace.c" "$from/fuse_device.c") && link_door ;;
         vhost) sources+=("$from/trace.c" "$from/vhost_user.c" "$from/vhost_queue.c") && link_door ;;
         share)
-            sources+=("$from"/share_*.c "$from"/passthrough*.c "$from/fuse_device.c" "$from/vhost_user.c" "$from/vhost_queue.c")
+            sources+=("$from/trace.c" "$from"/share_*.c "$from"/passthrough*.c "$from/fuse_device.c" "$from/vhost_user.c" "$from/vhost_queue.c")
             if echo '#include <seccomp.h>' | cc -fsyntax-only -x c - 2> /dev/null; then
                 flags+=(-DWITH_SECCOMP)
                 links+=(-lseccomp)

@@ -107,8 +107,6 @@ int32_t passthrough_serve(void *user, unsigned worker, const nizwarf_segment *re
 	code = nizwarf_ask(&w->slot, &session, request, segments, room, rooms, &asked, &told);
 	if (code != NIZWARF_ASKED) {
 		*len = told.len;
-		if (all->options.trace)
-			trace_uncalled(request, code, told.len);
 		return code;
 	}
 	if (asked.call == NIZWARF_WRITE)
@@ -117,87 +115,7 @@ int32_t passthrough_serve(void *user, unsigned worker, const nizwarf_segment *re
 		pieces = find_room(w, &asked, room, rooms);
 	code = answer_call(&call, &session, room, rooms, pieces, &told);
 	*len = told.len;
-	if (all->options.trace)
-		trace(&call, code, told.len);
 	return code;
-}
-
-/* ---- lines of requests */
-
-static const char *const names[] = {
-	[NIZWARF_LOOKUP] = "LOOKUP", [NIZWARF_FORGET] = "FORGET", [NIZWARF_GETATTR] = "GETATTR",
-	[NIZWARF_SETATTR] = "SETATTR", [NIZWARF_READLINK] = "READLINK", [NIZWARF_SYMLINK] = "SYMLINK",
-	[NIZWARF_MKNOD] = "MKNOD", [NIZWARF_MKDIR] = "MKDIR", [NIZWARF_UNLINK] = "UNLINK",
-	[NIZWARF_RMDIR] = "RMDIR", [NIZWARF_RENAME] = "RENAME", [NIZWARF_LINK] = "LINK",
-	[NIZWARF_OPEN] = "OPEN", [NIZWARF_READ] = "READ", [NIZWARF_WRITE] = "WRITE",
-	[NIZWARF_STATFS] = "STATFS", [NIZWARF_RELEASE] = "RELEASE", [NIZWARF_FSYNC] = "FSYNC",
-	[NIZWARF_SETXATTR] = "SETXATTR", [NIZWARF_GETXATTR] = "GETXATTR",
-	[NIZWARF_LISTXATTR] = "LISTXATTR", [NIZWARF_REMOVEXATTR] = "REMOVEXATTR",
-	[NIZWARF_FLUSH] = "FLUSH", [NIZWARF_INIT] = "INIT", [NIZWARF_OPENDIR] = "OPENDIR",
-	[NIZWARF_READDIR] = "READDIR", [NIZWARF_RELEASEDIR] = "RELEASEDIR",
-	[NIZWARF_FSYNCDIR] = "FSYNCDIR", [NIZWARF_GETLK] = "GETLK", [NIZWARF_SETLK] = "SETLK",
-	[NIZWARF_SETLKW] = "SETLKW", [NIZWARF_ACCESS] = "ACCESS", [NIZWARF_CREATE] = "CREATE",
-	[36] = "INTERRUPT", [NIZWARF_BMAP] = "BMAP", [NIZWARF_DESTROY] = "DESTROY",
-	[NIZWARF_IOCTL] = "IOCTL", [NIZWARF_POLL] = "POLL", [NIZWARF_NOTIFY_REPLY] = "NOTIFY_REPLY",
-	[NIZWARF_BATCH_FORGET] = "BATCH_FORGET", [NIZWARF_FALLOCATE] = "FALLOCATE",
-	[44] = "READDIRPLUS", [45] = "RENAME2", [NIZWARF_LSEEK] = "LSEEK",
-	[NIZWARF_COPY] = "COPY_FILE_RANGE", [48] = "SETUPMAPPING", [49] = "REMOVEMAPPING",
-	[NIZWARF_SYNCFS] = "SYNCFS", [NIZWARF_TMPFILE] = "TMPFILE",
-};
-
-static const char *name_opcode(uint32_t opcode)
-{
-	return opcode < sizeof(names) / sizeof(*names) && names[opcode] ? names[opcode] : "unknown";
-}
-
-/* Adds a name in quotes, with what a terminal could take for something else as a question mark. */
-static int add_name(char *line, size_t room, const char *name)
-{
-	char shown[81];
-	size_t i;
-
-	for (i = 0; i < sizeof(shown) - 1 && name[i]; i++)
-		shown[i] = (char)(name[i] < ' ' || name[i] > '~' || name[i] == '"' ? '?' : name[i]);
-	shown[i] = 0;
-	return snprintf(line, room, " \"%s\"%s", shown, name[i] ? ".." : "");
-}
-
-void trace(const struct call *call, int32_t code, uint64_t len)
-{
-	const nizwarf_call *asked = call->asked;
-	const bool plus = asked->call == NIZWARF_READDIR && asked->has & NIZWARF_PLUS;
-	const int error = call->answer->error;
-	const char *said = error ? strerrorname_np(error) : NULL;
-	char line[512];
-	int at = snprintf(line, sizeof(line), "%s unique %llu node %#llx",
-			  plus ? "READDIRPLUS" : name_opcode(asked->call),
-			  (unsigned long long)asked->unique, (unsigned long long)asked->node);
-
-	if (asked->name.len)
-		at += add_name(line + at, sizeof(line) - (size_t)at, name_of(call, asked->name));
-	if (asked->other_name.len)
-		at += add_name(line + at, sizeof(line) - (size_t)at, name_of(call, asked->other_name));
-	if (asked->call == NIZWARF_READ || asked->call == NIZWARF_WRITE || asked->call == NIZWARF_READDIR)
-		at += snprintf(line + at, sizeof(line) - (size_t)at, " offset %llu size %u",
-			       (unsigned long long)asked->offset, (unsigned)asked->size);
-	if (code != NIZWARF_OK)
-		snprintf(line + at, sizeof(line) - (size_t)at, ": refused, outcome %d", (int)code);
-	else if (error)
-		snprintf(line + at, sizeof(line) - (size_t)at, ": %s", said ? said : "EIO");
-	else
-		snprintf(line + at, sizeof(line) - (size_t)at, ": %llu bytes", (unsigned long long)len);
-	fprintf(stderr, "nizwarf-share: %s\n", line);
-}
-
-void trace_uncalled(const nizwarf_segment *request, int32_t code, uint64_t len)
-{
-	struct fuse_in_header header = { 0 };
-
-	memcpy(&header, request->at, request->len < sizeof(header) ? request->len : sizeof(header));
-	fprintf(stderr, "nizwarf-share: %s (%u) unique %llu node %#llx: %s, outcome %d, %llu bytes\n",
-		name_opcode(header.opcode), (unsigned)header.opcode, (unsigned long long)header.unique,
-		(unsigned long long)header.nodeid, code == NIZWARF_OK ? "needs no call" : "refused",
-		(int)code, (unsigned long long)len);
 }
 
 /* ---- from beginning to end */

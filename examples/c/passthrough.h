@@ -38,8 +38,6 @@ struct passthrough_options {
 	bool announce_submounts;
 	/* When files are held by handles where they can be, and not by descriptors. */
 	enum file_handles file_handles;
-	/* A line for each request on standard error. */
-	bool trace;
 	unsigned workers;
 };
 

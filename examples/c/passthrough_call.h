@@ -87,8 +87,4 @@ int get_xattr(const struct call *call);
 int list_xattr(const struct call *call);
 int remove_xattr(const struct call *call);
 
-/* Prints a line of a request, and what came of it. */
-void trace(const struct call *call, int32_t code, uint64_t len);
-void trace_uncalled(const nizwarf_segment *request, int32_t code, uint64_t len);
-
 #endif

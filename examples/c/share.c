@@ -24,6 +24,7 @@
 #include <unistd.h>
 #include "passthrough.h"
 #include "share_sandbox.h"
+#include "trace.h"
 
 enum { MOST_FILES = 1000000, WORKERS = 4 };
 
@@ -58,7 +59,8 @@ static const char usage[] =
 	"  --seccomp=HOW             kill, trap, log or none: what a system call comes to that serving\n"
 	"                            doesn't make (kill over vhost-user if it is built in)\n"
 	"  --log-level=LEVEL         off, error, warn, info (the default), debug\n"
-	"  --trace                   a line for each request, as --log-level=debug\n"
+	"  --trace[=FILE]            prints each request and reply, as --log-level=debug, or writes\n"
+	"                            their bytes to a new FILE for vfs_decode\n"
 	"  --daemonize               goes to the background once it serves\n"
 	"  --print-capabilities      what a vhost-user back end of a machine can, as JSON\n"
 	"  --version, --help\n";
@@ -67,10 +69,10 @@ static const char usage[] =
 static struct {
 	struct passthrough_options files;
 	const char *folder, *mount_point, *socket_path, *socket_group, *source;
-	const char *allow_other;
+	const char *allow_other, *trace_file;
 	unsigned long flags, max_read, most_files;
 	int fd, sandbox, filter;
-	bool says_more, is_off, daemonizes;
+	bool says_more, is_off, daemonizes, traces;
 } words = {
 	.files = { .cache = CACHE_AUTO, .readdirplus = true, .file_handles = HANDLES_IF_SCARCE,
 		   .workers = WORKERS },
@@ -183,7 +185,7 @@ static const struct option known_words[] = {
 	{ "sandbox", required_argument, NULL, SANDBOX },
 	{ "seccomp", required_argument, NULL, SECCOMP },
 	{ "log-level", required_argument, NULL, LOG },
-	{ "trace", no_argument, NULL, TRACE },
+	{ "trace", optional_argument, NULL, TRACE },
 	{ "daemonize", no_argument, NULL, DAEMONIZE },
 	{ "print-capabilities", no_argument, NULL, PRINT },
 	{ "version", no_argument, NULL, VERSION },
@@ -211,7 +213,7 @@ static void take_log_level(const char *value)
 
 	words.is_off = level == 0;
 	words.says_more = level >= 3;
-	words.files.trace = level >= 4;
+	words.traces = level >= 4;
 }
 
 static void take_word(int word)
@@ -249,7 +251,10 @@ static void take_word(int word)
 	case SANDBOX: words.sandbox = one_of("--sandbox", optarg, sandboxes); break;
 	case SECCOMP: words.filter = one_of("--seccomp", optarg, filters); break;
 	case LOG: take_log_level(optarg); break;
-	case TRACE: words.files.trace = true; break;
+	case TRACE:
+		words.traces = true;
+		words.trace_file = optarg;
+		break;
 	case DAEMONIZE: words.daemonizes = true; break;
 	case 'h': print(HELP);
 	case 'V': print(VERSION);
@@ -487,6 +492,8 @@ int main(int count, char **given)
 	take_words(count, given);
 	by.workers = words.files.workers;
 	by.quiet = !words.says_more;
+	if (words.traces && trace_begin(&by, words.trace_file))
+		return 1;
 	if (!realpath(words.folder, folder))
 		return failed(words.folder), 2;
 	words.folder = folder;
