@@ -2,6 +2,7 @@
 use Rattle.std.proofs.Common.{◌≡◌, ◌∙◌, ℕ, ℤ, List, [], ◌∷◌, length, refl, ap, subst, inl, inr}
 use Rattle.vfs_flags.specs.Opcode.{opcode_of}
 use Rattle.vfs_wire.specs.Fields.{little, number}
+use Rattle.vfs_segments.specs.Lengths.{lengths_from}
 use Rattle.vfs_segments.specs.Unread.{Unread}
 use Rattle.vfs_grammar.specs.Ask.{ask}
 use Rattle.vfs_grammar.specs.Forms.{Ask, Asks, WithMemory}
@@ -31,7 +32,7 @@ pub looked_at : (request : List ℕ) (code : ℤ) (call : CallData) (interrupts 
     → Checks limits 0 request 4096 code call interrupts → (code ≡ is_asked) × IsLookupOfA call
 looked_at request code call interrupts is k =
     let left : k.reader.left ≡ lookup_of_a = k.whole.left ∙ is in
-    let pieces : k.reader.pieces ≡ 42 ∷ [] = k.whole.one_piece ∙ ap (λ (q : List ℕ). length q ∷ []) is in
+    let pieces : k.reader.pieces ≡ 42 ∷ [] = k.whole.one_piece ∙ ap (λ (q : List ℕ). lengths_from 0 (length q ∷ [])) is in
     let wanted = MayWant limits 0 4096 k.reader in
     let of_a : Judges wanted lookup_of_a 0 (interrupted_by limits lookup_of_a) 4096 (ask limits 0 4096 lookup_of_a) k.result call =
     subst (λ (q : List ℕ). Judges wanted q 0 (interrupted_by limits q) 4096 (ask limits 0 4096 q) k.result call) left k.checked in

@@ -1,5 +1,6 @@
 -- What C is told of a request that was checked.
 use Rattle.std.specs.Prelude.{◌≡◌, ℕ, ℤ, List, [], ◌∷◌, length, Err}
+use Rattle.vfs_segments.specs.Lengths.{lengths_from}
 use Rattle.vfs_segments.specs.Unread.{Unread}
 use Rattle.vfs_grammar.specs.declared.limits.Limits.{Limits}
 use Rattle.vfs_calls.specs.declared.call.CallData.{CallData}
@@ -23,7 +24,7 @@ interrupts_of (checked.Refused error) = 0
 -- a reader has this request left, in one piece
 pub record IsWhole (request : List ℕ) (r : Unread) : Type 0 where
   pub left : r.left ≡ request
-  pub one_piece : r.pieces ≡ length request ∷ []
+  pub one_piece : r.pieces ≡ lengths_from 0 (length request ∷ [])
 
 -- The request in one piece is what the grammar says, with so much room for a reply. A call that it asks for is
 -- in `call`.

@@ -1,6 +1,6 @@
 //! What a request is, without a reply: for a check in front of a server that trusts its client.
 
-ghost use Rattle.std.specs.Prelude.{◌≡◌, length};
+ghost use Rattle.std.specs.Prelude.{◌≡◌, ◌^◌, ◌<◌, length};
 ghost use Rattle.vfs_segments.specs.Segments.{flat_bytes, segments_of};
 ghost use Rattle.vfs_flags.specs.Flags.{fs_options_bits};
 ghost use Rattle.vfs_grammar.specs.Limits.{AreLimits};
@@ -66,6 +66,8 @@ fn check_piece(
     requires { AreLimits limits }
     ensures { Checks limits (fs_options_bits options) request.now room result call.new interrupts.new }
 {
+    // (no slice is longer than that)
+    let _len = request.len();
     let pieces = [request];
     let reader = reader_of(alloc, &pieces);
     let (code, number) = code_and_number(&check(alloc, limits, options, reader, room, call));
@@ -75,7 +77,8 @@ fn check_piece(
 
 // A reader of one piece, for which no memory is taken.
 fn reader_of<'a>(alloc: Global, pieces: &'a [&'a [u8]]) -> Reader<'a>
-    requires { length pieces.now ≡ 1 }
+    requires one { length pieces.now ≡ 1 }
+    requires fits { length (flat_bytes (segments_of pieces.now)) < 2 ^ 64 }
     ensures { IsWhole (flat_bytes (segments_of pieces.now)) result }
 {
     match Reader::new(alloc, pieces) {
