@@ -1,5 +1,5 @@
 -- What is told of a request without room for a reply says what it is.
-use Rattle.std.proofs.Common.{◌≡◌, ◌<◌, ◌∙◌, ℕ, Bool, true, false, List, [], length, nat_lt, nat_le, if◌then◌else◌, Option, Some, None, Result, Ok, Err, refl, ap, sym, subst, inl, inr, arith}
+use Rattle.std.proofs.Common.{◌≡◌, ◌<◌, ◌∙◌, ℕ, Bool, true, false, List, length, nat_lt, nat_le, if◌then◌else◌, Option, Some, None, Result, Ok, Err, refl, ap, sym, subst, inl, inr, arith}
 use Rattle.std.proofs.lemmas.Bool.Decides.{nat_tests}
 use Rattle.vfs_flags.specs.declared.opcode.Opcode.{Opcode}
 use Rattle.vfs_flags.specs.declared.opcode.Opcode.TheVariants.{Read, Readdir, Readdirplus}
@@ -9,9 +9,9 @@ use Rattle.vfs_wire.specs.Init.{init_out}
 use Rattle.vfs_wire.specs.declared.headers.InHeader.{InHeader}
 use Rattle.vfs_segments.specs.Written.{Written}
 use Rattle.vfs_grammar.specs.Ask.{ask, form_of, header_of}
-use Rattle.vfs_grammar.specs.Forms.{Ask, Ends, Asks, Lists, WithMemory}
+use Rattle.vfs_grammar.specs.Forms.{Ask, Ends, WithMemory}
 use Rattle.vfs_grammar.specs.Records.{size_of}
-use Rattle.vfs_grammar.specs.Reply.{Reply, Refusal, NoReply, Bytes, fault_reply, body_reply, version_out}
+use Rattle.vfs_grammar.specs.Reply.{Refusal, NoReply, Bytes, fault_reply, body_reply, version_out}
 use Rattle.vfs_grammar.specs.declared.limits.Limits.{Limits}
 use Rattle.vfs_grammar.specs.declared.error.Error.{Error}
 use Rattle.vfs_grammar.specs.declared.error.Error.TheVariants.{DecodeMessage, EncodeMessage, FlushMessage, MissingParameter, InvalidCString, InvalidCString2, InvalidHeaderLength, InvalidXattrSize, MissingExtension, OutOfMemory}
@@ -20,11 +20,10 @@ use Rattle.vfs_grammar.proofs.Rooms.{length-fault_reply, length-body_reply}
 use Rattle.vfs_laws.specs.Turns.{opcode_in, unique_of}
 use Rattle.vfs_laws.proofs.Asking.{IsCramped, IsCrampedBy, ask_cases}
 use Rattle.vfs_calls.specs.declared.call.CallData.{CallData}
-use Rattle.vfs_ask.specs.Asked.{IsFinished, Tells}
-use Rattle.vfs_ask.specs.Checked.{Judges, answered, checked_of, judged, refused_as}
+use Rattle.vfs_ask.specs.Asked.{Tells}
+use Rattle.vfs_ask.specs.Checked.{Judges, answered, checked_of, refused_as}
 use Rattle.vfs_ask.specs.declared.asked.Asked.{Asked}
 use Rattle.vfs_ask.specs.declared.asked.Asked.TheVariants as asked
-use Rattle.vfs_ask.specs.declared.checked.Checked.{Checked}
 use Rattle.vfs_ask.specs.declared.checked.Checked.TheVariants as checked
 
 -- a request that carries data, and whose room is too small for a header

@@ -1,27 +1,14 @@
 -- What is noted of a request doesn't hang on the room, but for a READ and a directory that is to be read.
-use Rattle.std.proofs.Common.{◌≡◌, ◌≢◌, ◌-◌, ℕ, Bool, true, false, List, nat_lt, if◌then◌else◌, Some, Result, Ok, Err, refl, inl, inr, arith}
-use Rattle.std.proofs.lemmas.Bool.Decides.{nat_tests}
-use Rattle.vfs_flags.specs.declared.constants.TheConstants.{READ_LOCKOWNER}
+use Rattle.std.proofs.Common.{◌≢◌, ℕ, List, Some, Result, refl}
 use Rattle.vfs_flags.specs.declared.opcode.Opcode.{Opcode}
 use Rattle.vfs_flags.specs.declared.opcode.Opcode.TheVariants as opcode
 use Rattle.vfs_segments.specs.Written.{Written}
-use Rattle.vfs_wire.specs.Headers.{out_header}
 use Rattle.vfs_wire.specs.declared.headers.InHeader.{InHeader}
-use Rattle.vfs_wire_more.specs.Files.{read_in}
-use Rattle.vfs_wire_more.specs.declared.files.ReadIn.{ReadIn}
-use Rattle.vfs_files.specs.Calls as call
-use Rattle.vfs_files.specs.Calls.{Call}
-use Rattle.vfs_files.specs.Entries.{context_of}
-use Rattle.vfs_grammar.specs.Ask.{ask_opcode, if_set}
-use Rattle.vfs_grammar.specs.Forms.{Asks, refused_or}
-use Rattle.vfs_grammar.specs.Records.{record_of, size_of}
-use Rattle.vfs_grammar.specs.Reply.{echo_of}
+use Rattle.vfs_grammar.specs.Ask.{ask_opcode}
 use Rattle.vfs_grammar.specs.declared.limits.Limits.{Limits}
 use Rattle.vfs_grammar.specs.declared.error.Error.{Error}
-use Rattle.vfs_grammar.specs.declared.error.Error.TheVariants.{EncodeMessage}
 use Rattle.vfs_calls.specs.declared.call.CallData.{CallData}
 use Rattle.vfs_handlers.specs.Memory.{MayWantBehind}
-use Rattle.vfs_ask.specs.Asked.{IsEnough}
 use Rattle.vfs_ask.specs.Noting.{IsNoted}
 
 module _ (limits : Limits) (options left room : ℕ) (h : InHeader) (rest pieces : List ℕ)
