@@ -2,12 +2,13 @@
 # Mounts a file system on a folder, over /dev/fuse, and serves it until it is unmounted: the tree in memory, or
 # what another library for C has.
 #
-# Usage: tools/mount.sh [--library NAME] [-o OPTIONS] FOLDER
+# Usage: tools/mount.sh [--library NAME] [-o OPTIONS] [--trace[=FILE]] FOLDER
 #        tools/mount.sh --check
 # `umount FOLDER` or Ctrl-C unmounts it, and what was written there is gone. The library is crates/NAME, which
 # tools/new-library.sh makes; vfs_c where none is named. Options are those of other file systems, with commas
 # between them: allow_other, ro, rw, noexec, nosuid, nodev, fsname=NAME, max_read=BYTES, and for the tree in
-# memory size=BYTES, nr_inodes=N (k, m, g), mode=OCTAL, uid=N, gid=N.
+# memory size=BYTES, nr_inodes=N (k, m, g), mode=OCTAL, uid=N, gid=N. With --trace each request and each reply
+# is printed, or their bytes go to a new FILE for vfs_decode.
 #
 # With --check it is mounted on a folder of its own: tools/session.sh does there what a person does, memory
 # goes back that was written and cut, and it is unmounted; then it is mounted again, with other options, and
@@ -25,7 +26,7 @@ set -euo pipefail
 # Stops, since the words can't be.
 usage() {
     [ $# = 0 ] || echo "$1" >&2
-    echo "Usage: tools/mount.sh [--library NAME] [-o OPTIONS] FOLDER, or tools/mount.sh --check" >&2
+    echo "Usage: tools/mount.sh [--library NAME] [-o OPTIONS] [--trace[=FILE]] FOLDER, or tools/mount.sh --check" >&2
     exit 2
 }
 
@@ -34,6 +35,7 @@ options=()
 check=
 while [[ ${1:-} == -* ]]; do
     case $1 in
+        --trace | --trace=*) options+=("$1") ;;
         --library)
             [[ ${2:-} =~ ^[a-z][a-z0-9_]*$ ]] || usage "--library wants the name of a crate."
             name=$2
