@@ -12,11 +12,7 @@ use vfs_print::Message;
 ///
 /// Answers how many bytes the whole line has. It has nothing but printable ASCII.
 #[unsafe(no_mangle)]
-pub extern "C" fn nizwarf_print_request_at(
-    request: &[u8],
-    options: u64,
-    text: &mut [u8],
-) -> usize
+pub extern "C" fn nizwarf_print_request_at(request: &[u8], options: u64, text: &mut [u8]) -> usize
     ensures line { 0 < length text.old → IsLine result text.old text.new }
     ensures no_header { length request.now < 40 →
         HasLine (codes "refused=DecodeMessage") result text.old text.new }
@@ -27,11 +23,7 @@ pub extern "C" fn nizwarf_print_request_at(
 
 /// The same of the reply to a request, of which the first 48 bytes are enough.
 #[unsafe(no_mangle)]
-pub extern "C" fn nizwarf_print_reply_at(
-    request: &[u8],
-    reply: &[u8],
-    text: &mut [u8],
-) -> usize
+pub extern "C" fn nizwarf_print_reply_at(request: &[u8], reply: &[u8], text: &mut [u8]) -> usize
     ensures line { 0 < length text.old → IsLine result text.old text.new }
     ensures none { length reply.now ≡ 0 →
         HasLine (codes "-> no reply") result text.old text.new }

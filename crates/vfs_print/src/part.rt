@@ -82,7 +82,11 @@ fn printable(byte: u8) -> u8
     ensures shown { IsPrintable result }
     ensures same { IsPrintable byte → result ≡ byte }
 {
-    if matches!(byte, b' '..=b'~') { byte } else { b'?' }
+    if matches!(byte, b' '..=b'~') {
+        byte
+    } else {
+        b'?'
+    }
 }
 
 impl Write for Part {

@@ -15,13 +15,12 @@ loop-at-preserved c =
     let so_far = c.loop-at.invariant in
     let order : at ≤ next = omega (arith, e.next, so_far.0) in
     let last : next ≤ end = omega (arith, e.next) in
-    let within : next ≤ length old = search rules in
-    (
+    let within : next ≤ length old = search rules in (
       last,
       search rules,
       copied_printable old bytes new at next order within e.enough e.copied so_far.2 c.part.result.printable,
       copied_behind old bytes new at next order within e.enough e.copied
-      ∙ same_further old c.copy_to-at.new.text at next order so_far.3,
+          ∙ same_further old c.copy_to-at.new.text at next order so_far.3,
       no_more (short_line c.args.self.now) _ _ at end c.loop-at-test.true so_far.4,
     )
 
