@@ -63,12 +63,12 @@ module _ {S I : Type 0} (allows : S → Call → Handed I → S → Type 0) (giv
   }
 
   -- a request that asks this was handled so
-  record Stepped (asks : Ask) : Type 0 where
-    run : List (Happening I × S)
-    room_after : List ℕ
-    is_run : IsRun allows gives None old run new
-    leaves : Leaves writer room_after writer_after
-    follows : Follows (turn_tells (turn_over request writer run outcome room_after)) limits options asks after
+  pub record Stepped (asks : Ask) : Type 0 where
+    pub run : List (Happening I × S)
+    pub room_after : List ℕ
+    pub is_run : IsRun allows gives None old run new
+    pub leaves : Leaves writer room_after writer_after
+    pub follows : Follows (turn_tells (turn_over request writer run outcome room_after)) limits options asks after
 
   stepped_call : (echo : Echo) (call : Call)
       → CallIsHandled allows limits options echo call old writer outcome after writer_after new
@@ -85,7 +85,7 @@ module _ {S I : Type 0} (allows : S → Call → Handed I → S → Type 0) (giv
         follows = (h.answer, r.events, h.fits, c.says, h.options_are);
       }
 
-  with_memory : (rest : Ask) → Stepped rest → Stepped (WithMemory rest)
+  pub with_memory : (rest : Ask) → Stepped rest → Stepped (WithMemory rest)
   with_memory rest s = record {
     run = s.run;
     room_after = s.room_after;
@@ -94,7 +94,7 @@ module _ {S I : Type 0} (allows : S → Call → Handed I → S → Type 0) (giv
     follows = inl s.follows;
   }
 
-  step_of : (asks : Ask) → ask limits options (length writer.left) request ≡ asks → Stepped asks
+  pub step_of : (asks : Ask) → ask limits options (length writer.left) request ≡ asks → Stepped asks
       → IsStep allows gives (record { options = options; limits = limits; fs = old }) request writer outcome writer_after
       (record { options = after; limits = limits; fs = new })
   step_of asks e s = record {

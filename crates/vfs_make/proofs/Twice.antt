@@ -47,7 +47,7 @@ below_zero (suc n) h = absurd (grind arith)
 no_number : (error : ℤ) (n : ℕ) → error ≤ℤ pos 0 → pos n ≡ error → error ≡ pos 0
 no_number error n h e = sym e ∙ below_zero n (subst (λ (z : ℤ). z ≤ℤ pos 0) (sym e) h)
 
-fault_is : (error : ℤ) (f g : Option ℕ) → error ≢ pos 0 → IsFaultOf error f → IsFaultOf error g → f ≡ g
+pub fault_is : (error : ℤ) (f g : Option ℕ) → error ≢ pos 0 → IsFaultOf error f → IsFaultOf error g → f ≡ g
 fault_is error None None not h k = refl
 fault_is error None (Some n) not h k = absurd (not (no_number error n h k))
 fault_is error (Some m) None not h k = absurd (not (no_number error m k h))

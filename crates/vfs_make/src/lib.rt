@@ -15,8 +15,8 @@ mod reading;
 mod say;
 mod session;
 mod texts;
-mod uses;
 
 pub use dispatch::make;
 pub use handled::{Handled, make_and_answer};
-pub use say::Made;
+pub use parts::{context, handle, node};
+pub use say::{Made, entry_data, failed};

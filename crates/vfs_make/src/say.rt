@@ -26,8 +26,8 @@ pub struct Made {
     pub text: Vec<u8>,
 }
 
-// A fault. One without a number is told by -1.
-fn failed(fault: Fault) -> AnswerData
+/// A fault. One without a number is told by -1.
+pub fn failed(fault: Fault) -> AnswerData
     ensures { IsFailed result fault }
 {
     let error = match fault {
@@ -74,8 +74,8 @@ fn attr_data(attr: &Attr) -> AttrData
     }
 }
 
-// An entry.
-fn entry_data(entry: &Entry) -> EntryData
+/// An entry.
+pub fn entry_data(entry: &Entry) -> EntryData
     ensures { entry_out_for result ≡ entry_out_of entry.now }
 {
     EntryData {

@@ -1,0 +1,6 @@
+pub mod Asking
+pub mod Keeping
+pub mod GivingBack
+pub mod Same
+pub mod Turned
+pub mod ListingSteps
