@@ -1,22 +1,27 @@
 -- What C is told of a request that was asked.
-use Rattle.std.proofs.Common.{◌≡◌, ◌≤◌, ◌+◌, ◌-◌, ◌++◌, ◌∙◌, ℕ, ℤ, List, length, replicate, Result, Ok, Err, IfOk, refl, ap, sym, subst, inl, inr, arith, length-append, append_assoc}
+use Rattle.std.proofs.Common.{◌≡◌, ◌≢◌, ◌≤◌, ◌+◌, ◌-◌, ◌++◌, ◌∙◌, ℕ, ℤ, List, length, replicate, Result, Ok, Err, IfOk, refl, ap, sym, subst, inl, inr, arith, length-append, append_assoc}
 use Rattle.std.proofs.lemmas.List.{length-replicate, take-append-le}
 use Rattle.std.specs.Prelude.{⊤}
+use Rattle.vfs_segments.specs.Lengths.{lengths_from}
+use Rattle.vfs_segments.specs.Segments.{flat_bytes, lengths_of}
+use Rattle.vfs_segments.specs.Unread.{Unread}
 use Rattle.vfs_segments.specs.Written.{Written, whole}
 use Rattle.vfs_grammar.specs.Ask.{ask}
 use Rattle.vfs_grammar.specs.Forms.{Ask, Ends, Asks, Lists, WithMemory}
 use Rattle.vfs_grammar.specs.Reply.{Refusal}
 use Rattle.vfs_grammar.specs.declared.error.Error.{Error}
 use Rattle.vfs_grammar.specs.declared.error.Error.TheVariants.{OutOfMemory}
+use Rattle.vfs_grammar.specs.declared.error.Error.TheVariants as error
 use Rattle.vfs_grammar.specs.declared.limits.Limits.{Limits}
 use Rattle.vfs_calls.specs.declared.call.CallData.{CallData}
 use Rattle.vfs_messages.specs.Rooms.{with_behind}
 use Rattle.vfs_messages.proofs.Rooms.{whole_behind}
+use Rattle.vfs_ask.specs.Memory.{MayWant}
 use Rattle.vfs_ask.specs.Asked.{IsAsked, LiesWithin, Tells, interrupted_by}
 use Rattle.vfs_ask.specs.declared.asked.Asked.{Asked}
 use Rattle.vfs_ask.specs.declared.asked.Asked.TheVariants as asked
-use Rattle.vfs_rooms.specs.Codes.{is_asked, number_of, length_of}
-use Rattle.vfs_door.specs.Asking.{AsksOrNot}
+use Rattle.vfs_rooms.specs.Codes.{is_asked, length_of, no_memory, number_of}
+use Rattle.vfs_door.specs.Asking.{AsksOrNot, unread_in}
 use Rattle.vfs_door.specs.declared.data.ToldData.{ToldData}
 use Rattle.vfs_door.specs.Shown.{AreFirst, shown_of}
 use Rattle.vfs_door.proofs.Leaving.{Keeps, replied_keeps, are_first, none_shown, shorter}
@@ -34,6 +39,28 @@ finished_keeps q o n room (WithMemory rest) before after outcome i call (inl t) 
     finished_keeps q o n room rest before after outcome i call t
 finished_keeps q o n room (WithMemory rest) before after outcome i call (inr t) =
     replied_keeps (Refusal OutOfMemory) before after outcome t.1.0
+
+-- whether memory may be wanted goes by the bytes and by the pieces that they lie in
+pub want_same : (limits : Limits) (options room : ℕ) (u : Unread) (segments : List (List ℕ)) → u.left ≡ flat_bytes segments
+    → u.pieces ≡ lengths_from 0 (lengths_of segments) → MayWant limits options room u
+    → MayWant limits options room (unread_in segments)
+want_same limits options room u segments left pieces want =
+    subst (λ (p : List ℕ). MayWant limits options room (record { left = flat_bytes segments; taken = 0; pieces = p })) pieces
+    (subst (λ (q : List ℕ). MayWant limits options room (record { left = q; taken = 0; pieces = u.pieces })) left want)
+
+-- an outcome that isn't for want of memory has another number
+pub other_number : (outcome : Result ℕ Error) → outcome ≢ Err OutOfMemory → number_of outcome ≡ no_memory → ⊥
+other_number (Ok len) other is = cc
+other_number (Err error.OutOfMemory) other is = other refl
+other_number (Err error.DecodeMessage) other is = cc
+other_number (Err error.EncodeMessage) other is = cc
+other_number (Err error.FlushMessage) other is = cc
+other_number (Err error.MissingParameter) other is = cc
+other_number (Err error.InvalidCString) other is = cc
+other_number (Err error.InvalidCString2) other is = cc
+other_number (Err error.InvalidHeaderLength) other is = cc
+other_number (Err (error.InvalidXattrSize sizes)) other is = cc
+other_number (Err error.MissingExtension) other is = cc
 
 -- a request is told finished so, with this length
 abbrev told_by : ToldData → (len interrupts : ℕ) → ToldData

@@ -1,5 +1,5 @@
 -- A LOOKUP of a name: its call, and what is copied out of the reply.
-use Rattle.std.proofs.Common.{◌≡◌, ◌⊎◌, ◌≤◌, ◌^◌, ◌∙◌, ℕ, ℤ, pos, List, [], ◌∷◌, ◌++◌, length, take, Bool, true, false, nat_le, Option, Some, None, MatchOption, Result, Ok, refl, ap, sym, subst, inl, inr, arith}
+use Rattle.std.proofs.Common.{◌≡◌, ◌≢◌, ◌⊎◌, ◌≤◌, ◌^◌, ◌∙◌, ℕ, ℤ, pos, List, [], ◌∷◌, ◌++◌, length, take, Bool, true, false, nat_le, Option, Some, None, MatchOption, Result, Ok, refl, ap, sym, subst, inl, inr, arith}
 use Rattle.std.proofs.lemmas.Int.{ints}
 use Rattle.std.proofs.lemmas.List.{append_cancel_left}
 use Rattle.std.specs.Prelude.{⊤}
@@ -73,7 +73,7 @@ told_lookup call is = record {
 }
 
 -- what is told of the LOOKUP
-abbrev IsLookedUp : (code : ℤ) → (call : CallData) → (told told_after : ToldData) → (shown : List ℕ)
+abbrev pub IsLookedUp : (code : ℤ) → (call : CallData) → (told told_after : ToldData) → (shown : List ℕ)
     → Type 0
 IsLookedUp code call told told_after shown =
     ((code ≡ is_asked) × IsLookupOfA call × (told_after ≡ told) × (shown ≡ [])) ⊎ (code ≡ no_memory)
@@ -114,6 +114,12 @@ looked_up request code call call_after told told_after shown is (inr s) = refuse
     refused (inr long) =
         let size : length request ≡ 42 = ap length is in
         absurd (omega (arith, long.1, size))
+
+-- unless memory was wanted, the call is told
+pub asked_for : (code : ℤ) (call : CallData) (told told_after : ToldData) (shown : List ℕ)
+    → IsLookedUp code call told told_after shown → code ≢ no_memory → (code ≡ is_asked) × IsLookupOfA call
+asked_for code call told told_after shown (inl t) has = (t.0, t.1)
+asked_for code call told told_after shown (inr none) has = absurd (has none)
 
 -- ---- its answer
 

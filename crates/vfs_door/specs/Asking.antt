@@ -1,5 +1,8 @@
 -- What C is told of a request that was asked for its call.
 use Rattle.std.specs.Prelude.{◌≡◌, ◌≤◌, ◌^◌, ◌⊎◌, ℕ, ℤ, List, [], length, Result}
+use Rattle.vfs_segments.specs.Lengths.{lengths_from}
+use Rattle.vfs_segments.specs.Segments.{flat_bytes, lengths_of}
+use Rattle.vfs_segments.specs.Unread.{Unread}
 use Rattle.vfs_segments.specs.Written.{Written}
 use Rattle.vfs_grammar.specs.declared.error.Error.{Error}
 use Rattle.vfs_grammar.specs.declared.limits.Limits.{Limits}
@@ -57,3 +60,8 @@ abbrev pub AsksOrNot : (limits : Limits) → (options : ℕ) → (request : List
 AsksOrNot limits options request room code call call_after told told_after shown =
     Asks limits options request room code call_after told told_after shown
     ⊎ IsNotAsked request code call call_after told told_after shown
+
+-- a reader of all bytes of a request that lies in these segments
+abbrev pub unread_in : List (List ℕ) → Unread
+unread_in segments =
+    record { left = flat_bytes segments; taken = 0; pieces = lengths_from 0 (lengths_of segments) }

@@ -1,5 +1,5 @@
 -- What is there to be copied out.
-use Rattle.std.specs.Prelude.{◌≡◌, ◌++◌, ℕ, List, [], ◌∷◌, take, drop, Option, None, Some}
+use Rattle.std.specs.Prelude.{◌≡◌, ◌≤◌, ◌++◌, ℕ, List, [], ◌∷◌, length, take, drop, Option, None, Some}
 use Rattle.vfs_segments.specs.Written.{Written, whole}
 use Rattle.vfs_door.specs.declared.memory.Memory.{Memory}
 
@@ -11,6 +11,10 @@ shown_of lengths bytes start shown = []
 -- the bytes that are there to be copied out of this memory
 abbrev pub bytes_shown : Memory → List ℕ
 bytes_shown m = shown_of m.writer.lengths (whole m.writer) m.start m.shown
+
+-- the memory has one segment, of at least so many bytes: such a room takes no memory
+abbrev pub HasRoomFor : (room : ℕ) → Memory → Type 0
+HasRoomFor room m = (length m.writer.lengths ≡ 1) × (room ≤ length (whole m.writer))
 
 -- those of a slot
 abbrev pub shown_in : Option Memory → List ℕ

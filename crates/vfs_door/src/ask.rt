@@ -1,12 +1,13 @@
 //! Asking a request for its call.
 
-ghost use Rattle.std.specs.Prelude.{◌≡◌};
+ghost use Rattle.std.specs.Prelude.{◌≡◌, ◌≢◌, ◌≤◌, length, min};
 ghost use Rattle.vfs_flags.specs.Flags.{fs_options_bits};
 ghost use Rattle.vfs_segments.specs.Segments.{segments_of, flat_bytes};
 ghost use Rattle.vfs_grammar.specs.Limits.{AreLimits};
-ghost use Rattle.vfs_rooms.specs.Codes.{number_of, length_of};
-ghost use Rattle.vfs_door.specs.Asking.{AsksOrNot};
-ghost use Rattle.vfs_door.specs.Shown.{bytes_shown};
+ghost use Rattle.vfs_ask.specs.Memory.{MayWant};
+ghost use Rattle.vfs_rooms.specs.Codes.{length_of, no_memory, number_of};
+ghost use Rattle.vfs_door.specs.Asking.{AsksOrNot, unread_in};
+ghost use Rattle.vfs_door.specs.Shown.{HasRoomFor, bytes_shown};
 
 use crate::data::ToldData;
 use crate::memory::Memory;
@@ -41,8 +42,12 @@ pub fn ask_segments(
     told: &mut ToldData,
 ) -> i32
     requires { AreLimits limits }
-    ensures { AsksOrNot limits (fs_options_bits options) (flat_bytes (segments_of request.now)) room
+    ensures asked { AsksOrNot limits (fs_options_bits options)
+        (flat_bytes (segments_of request.now)) room
         result call.old call.new told.old told.new (bytes_shown memory.new) }
+    ensures memory { HasRoomFor (min room 80) memory.old → length request.now ≤ 4 →
+        ¬ (MayWant limits (fs_options_bits options) room (unread_in (segments_of request.now))) →
+        result ≢ no_memory }
 {
     memory.shown = 0;
     match Reader::new(alloc, request) {
@@ -64,8 +69,10 @@ fn ask_reader(
     told: &mut ToldData,
 ) -> i32
     requires { AreLimits limits }
-    ensures { AsksOrNot limits (fs_options_bits options) reader.entry.left room
+    ensures asked { AsksOrNot limits (fs_options_bits options) reader.entry.left room
         result call.old call.new told.old told.new (bytes_shown memory.new) }
+    ensures memory { HasRoomFor (min room 80) memory.old →
+        ¬ (MayWant limits (fs_options_bits options) room reader.entry) → result ≢ no_memory }
 {
     if !memory.begin(alloc, room.min(LONGEST_REPLY)) {
         return OUT_OF_MEMORY;

@@ -20,15 +20,17 @@ mod print;
 mod uses;
 mod uses_text;
 
-ghost use Rattle.std.specs.Prelude.{◌≡◌, ◌++◌, length, take, drop, min, MatchOption};
-ghost use Rattle.std.specs.declared.option.Option.TheVariants.{None};
+ghost use Rattle.std.specs.Prelude.{◌≡◌, ◌≢◌, ◌≤◌, ◌++◌, length, take, drop, min, MatchOption};
+ghost use Rattle.std.specs.declared.option.Option.TheVariants.{None, Some};
 ghost use Rattle.vfs_segments.specs.Segments.{segments_of, flat_bytes};
 ghost use Rattle.vfs_grammar.specs.Limits.{AreLimits};
-ghost use Rattle.vfs_rooms.specs.Codes.{ok, no_server, wrong_size};
+ghost use Rattle.vfs_ask.specs.Memory.{MayWant};
+ghost use Rattle.vfs_rooms.specs.Codes.{no_memory, no_server, ok, wrong_size};
 ghost use Rattle.vfs_door.specs.Answering.{AnswersOrNot};
-ghost use Rattle.vfs_door.specs.Asking.{AsksOrNot};
+ghost use Rattle.vfs_door.specs.Asking.{AsksOrNot, unread_in};
 ghost use Rattle.vfs_door.specs.Session.{limits_of, options_of};
-ghost use Rattle.vfs_door.specs.Shown.{shown_in};
+ghost use Rattle.vfs_door.specs.Shown.{HasRoomFor, shown_in};
+ghost use Rattle.vfs_door.specs.declared.memory.Memory.{Memory};
 
 use crate::answer::{answer_call, entry_of};
 use crate::ask::ask_segments;
@@ -41,7 +43,9 @@ use vfs_rooms::codes::{NO_SERVER, OK, OUT_OF_MEMORY, WRONG_SIZE};
 
 // The memory behind a handle, or new. `None` where there is no memory.
 fn memory_of(alloc: Global, handle: &mut Handle) -> Option<Box<Memory>>
-    ensures { handle.new.value ≡ None }
+    ensures taken { handle.new.value ≡ None }
+    ensures kept { (m : Memory) → handle.old.value ≡ Some m →
+        MatchOption result ⊥ (λ b. b.value ≡ m) }
 {
     match handle.take(alloc) {
         Some(memory) => Some(memory),
@@ -75,6 +79,13 @@ pub extern "C" fn nizwarf_ask_at(
         AsksOrNot (limits_of session.now) (options_of session.now)
         (flat_bytes (segments_of request.now)) room
         result call.old call.new told.old told.new (shown_in handle.new.value) }
+
+    // A slot that has memory wants no more for a request in up to four segments, unless its tail is
+    // cut, it may have a context, or it has pairs.
+    ensures memory { (m : Memory) → handle.old.value ≡ Some m → HasRoomFor (min room 80) m →
+        length request.now ≤ 4 →
+        ¬ (MayWant (limits_of session.now) (options_of session.now) room
+        (unread_in (segments_of request.now))) → result ≢ no_memory }
 {
     let Some(limits) = session.limits() else {
         return WRONG_SIZE;

@@ -1,7 +1,7 @@
 //! The memory of one call at a time: the room in which a reply is put together.
 
 ghost use Rattle.std.specs.Prelude.{◌≡◌, ◌≤◌, ◌++◌, true, length, take, drop, min};
-ghost use Rattle.vfs_door.specs.Shown.{bytes_shown};
+ghost use Rattle.vfs_door.specs.Shown.{HasRoomFor, bytes_shown};
 
 use std::alloc::Global;
 use vfs_rooms::{copy_part, lend};
@@ -43,6 +43,8 @@ impl Memory {
     fn has(&self, total: usize) -> bool
         ensures one { result ≡ true → length self.now.writer.lengths ≡ 1 }
         ensures enough { result ≡ true → total ≤ length self.now.writer.left }
+        ensures has { length self.now.writer.lengths ≡ 1 → total ≤ length self.now.writer.left →
+            result ≡ true }
     {
         self.writer.segments().len() == 1 && total <= self.writer.available_bytes()
     }
@@ -71,6 +73,7 @@ impl Memory {
         ensures left { result ≡ true → length self.new.writer.left ≡ total }
         ensures one { result ≡ true → length self.new.writer.lengths ≡ 1 }
         ensures start { result ≡ true → self.new.start ≡ length self.new.writer.passed }
+        ensures has_room { HasRoomFor total self.old → result ≡ true }
     {
         self.shown = 0;
         self.writer.rewind();

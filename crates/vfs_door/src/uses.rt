@@ -1,13 +1,14 @@
 //! A program that calls the library in a row, as one does that has a file system.
 
-ghost use Rattle.std.specs.Prelude.{◌≡◌, ◌≤◌, ◌⊎◌, [], length};
-ghost use Rattle.std.specs.declared.option.Option.TheVariants.{None};
+ghost use Rattle.std.specs.Prelude.{◌≡◌, ◌≤◌, ◌⊎◌, [], ◌∷◌, length};
+ghost use Rattle.std.specs.declared.option.Option.TheVariants.{None, Some};
 ghost use Rattle.vfs_grammar.specs.Samples.{lookup_of_a};
 ghost use Rattle.vfs_segments.specs.Segments.{segments_of, flat_bytes};
 ghost use Rattle.vfs_rooms.specs.Codes.{ok, no_memory, not_asked, is_asked};
 ghost use Rattle.vfs_grammar.specs.Limits.{AreLimits};
 ghost use Rattle.vfs_door.specs.Session.{limits_of, options_of};
-ghost use Rattle.vfs_door.specs.Shown.{shown_in};
+ghost use Rattle.vfs_door.specs.Shown.{HasRoomFor, shown_in};
+ghost use Rattle.vfs_door.specs.declared.memory.Memory.{Memory};
 ghost use Rattle.vfs_door.specs.Uses.{IsLookupOfA, IsOneTurn, no_such_name};
 
 use crate::data::{SessionData, ToldData};
@@ -160,4 +161,22 @@ fn ask_and_answer(
     nizwarf_answer_at(
         alloc, handle, session, &call, answer, text, items, &mut told,
     )
+}
+
+/// Asks a LOOKUP of the name `a`, which lies in one segment, with a slot that has memory: its call
+/// is told.
+fn ask_lookup_in_a_slot(
+    alloc: Global,
+    handle: &mut Handle,
+    lookup: &[&[u8]],
+    call: &mut CallData,
+    told: &mut ToldData,
+) -> i32
+    requires slot { (m : Memory) × (handle.old.value ≡ Some m) × HasRoomFor 80 m }
+    requires one { length lookup.now ≡ 1 }
+    requires bytes { segments_of lookup.now ≡ lookup_of_a ∷ [] }
+    ensures code { result ≡ is_asked }
+    ensures call { IsLookupOfA call.new }
+{
+    nizwarf_ask_at(alloc, handle, &SESSION, lookup, 4096, call, told)
 }
