@@ -5,3 +5,5 @@ pub mod Listed
 pub mod Telling
 pub mod Using
 pub mod One
+pub mod Names
+pub mod Records

@@ -1,4 +1,5 @@
 pub mod Kinds
+pub mod Names
 pub mod Said
 pub mod Offered
 pub mod Listing

@@ -6,6 +6,8 @@
 mod answered;
 mod call;
 mod listing;
+mod name;
+mod record;
 mod reply;
 mod uses;
 mod value;

@@ -1,13 +1,17 @@
 //! The records of a directory, from the items that were offered.
 
-ghost use Rattle.std.specs.Prelude.{◌≡◌, ◌≤◌, length, Ok, Err, Some};
+ghost use Rattle.std.specs.Prelude.{◌≡◌, ◌≤◌, ◌<◌, ◌^◌, length, Ok, Err, Some};
 ghost use Rattle.vfs_files.specs.Entries.{entry_out_of};
 ghost use Rattle.vfs_files.specs.Items.{item};
 ghost use Rattle.vfs_files.specs.Names.{name_of, name_text};
 ghost use Rattle.vfs_grammar.specs.Listing.{is_dot, dot_out, told};
-ghost use Rattle.vfs_listings.specs.Reading.{got_of, AddsGot};
+ghost use Rattle.vfs_files.specs.declared.entry.Entry.{Entry as AnyEntry};
+ghost use Rattle.vfs_grammar.specs.Dirents.{verdict};
+ghost use Rattle.vfs_listings.specs.Reading.{got_of, Adds};
 ghost use Rattle.vfs_answer.specs.Offered.{item_told, taken_by, AddsItem, IsFound, ReadsOffered};
 
+use crate::name::name_in;
+use crate::record::{add_plain, add_plus};
 use std::time::Duration;
 use vfs_calls::{ItemData, fault_of};
 use vfs_files::{CStr, DirEntry, Entry};
@@ -48,7 +52,15 @@ impl Listed {
 }
 
 /// Whether a name is `.` or `..`.
+#[inline(always)]
 fn is_dot(name: &[u8]) -> bool
+    ensures { result ≡ is_dot name.now }
+{
+    name.len() <= 2 && is_short_dot(name)
+}
+
+/// The same, whatever the length.
+fn is_short_dot(name: &[u8]) -> bool
     ensures { result ≡ is_dot name.now }
 {
     name == b".".as_slice() || name == b"..".as_slice()
@@ -94,23 +106,25 @@ fn named<'a>(offered: &ItemData<'_>, name: CStr<'a>) -> DirEntry<'a>
     }
 }
 
-/// Adds the record of an item with what its lookup got; a fault of that is the answer.
-fn add_found(
-    found: Result<Entry, Fault>,
-    dir_entry: DirEntry<'_>,
+/// Adds the record of `.` or `..`.
+#[cold]
+fn add_dot(
+    offered: &ItemData<'_>,
+    name: CStr<'_>,
     max: usize,
     w: &mut Writer,
 ) -> Result<usize, Fault>
-    ensures { AddsGot max (length w.old.left) (got_of found) (item dir_entry.entry)
-        w.old result w.new }
+    ensures { (entry : AnyEntry) × (entry_out_of entry ≡ dot_out (item_told offered.now (name_text name.entry)))
+        × Adds (verdict max (length w.old.left) (Some entry) (item_told offered.now (name_text name.entry)))
+        (Some entry) (item_told offered.now (name_text name.entry)) w.old result w.new }
 {
-    match found {
-        Ok(entry) => add_dirent(w, max, dir_entry, Some(entry)),
-        Err(fault) => Err(fault),
-    }
+    let dir_entry = named(offered, name);
+    add_dirent(w, max, dir_entry, Some(dot_entry(dir_entry)))
 }
 
-/// Adds the record of an item with this name, where `plus` with its entry.
+/// Adds the record of an item with this name, where `plus` with its entry, which is spelled right from the
+/// item. A fault of its lookup is the answer.
+#[inline(always)]
 fn add_item(
     offered: &ItemData<'_>,
     name: CStr<'_>,
@@ -118,17 +132,20 @@ fn add_item(
     max: usize,
     w: &mut Writer,
 ) -> Result<usize, Fault>
-    requires { name_of offered.now.name.now ≡ Some (name_text name) }
+    requires named { name_of offered.now.name.now ≡ Some (name_text name) }
+    requires short { max < 2 ^ 32 }
     ensures { AddsItem plus max offered.now w.old result w.new }
 {
-    let dir_entry = named(offered, name);
     if !plus {
-        return add_dirent(w, max, dir_entry, None);
+        return add_plain(offered, name, max, w);
     }
     if is_dot(name.to_bytes()) {
-        return add_dirent(w, max, dir_entry, Some(dot_entry(dir_entry)));
+        return add_dot(offered, name, max, w);
     }
-    add_found(found(offered), dir_entry, max, w)
+    match found(offered) {
+        Ok(_) => add_plus(offered, name, max, w),
+        Err(fault) => Err(fault),
+    }
 }
 
 /// What is answered where an item fails behind so many bytes of records, of so many items.
@@ -147,13 +164,14 @@ fn tell(plus: bool, written: usize, taken: usize, fault: Fault) -> Listed
 /// Puts the records of items, at most `size` bytes of them, where `plus` with their entries, up to
 /// the first item that isn't written, or whose name is none.
 pub(crate) fn put_items(items: &[ItemData<'_>], plus: bool, size: usize, w: &mut Writer) -> Listed
+    requires short { size < 2 ^ 32 }
     ensures reads { ReadsOffered plus size items.now w.old result.answer result.taken w.new }
     ensures within { result.taken ≤ length items.now }
 {
     let mut written = 0;
     let mut taken = 0;
     'items: for offered in items {
-        match CStr::from_bytes_with_nul(offered.name) {
+        match name_in(offered.name) {
             None => return Listed::of(written, taken),
             Some(name) => match add_item(offered, name, plus, size - written, w) {
                 Ok(0) => return Listed::of(written, taken),

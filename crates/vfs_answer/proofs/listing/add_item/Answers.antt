@@ -1,25 +1,25 @@
 -- An item is added with what it gets.
-use Rattle.std.proofs.Common.{◌≡◌, ℕ, List, Bool, true, false, Option, Some, None, Result, Ok, Err, length, refl, subst}
+use Rattle.std.proofs.Common.{◌≡◌, ℕ, List, Bool, true, false, Option, Some, None, Result, Ok, Err, length, refl}
 use Rattle.vfs_segments.specs.Written.{Written}
 use Rattle.vfs_files.specs.Entries.{entry_out_of}
-use Rattle.vfs_files.specs.Items.{Item, item}
+use Rattle.vfs_files.specs.Items.{Item}
 use Rattle.vfs_files.specs.Names.{name_of, name_text}
 use Rattle.vfs_files.specs.declared.entry.Entry.{Entry}
 use Rattle.vfs_grammar.specs.Listing.{Got, Gets, IsLookedUp, is_dot, dot_out}
-use Rattle.vfs_listings.specs.Reading.{got_of, AddsGot}
+use Rattle.vfs_listings.specs.Reading.{AddsGot}
 use Rattle.vfs_calls.specs.declared.data.ItemData.{ItemData}
 use Rattle.vfs_answer.specs.Offered.{item_told, AddsItem, IsFound, IsFoundIf}
 use Rattle.vfs_answer.proofs.listing.add_item.Goals as goal
 
 -- an item that got this
-adds : (max : ℕ) (i : ItemData) (name : List ℕ) (old : Written) (result : Result ℕ (Option ℕ)) (new : Written) (plus : Bool) (it : Item) (got : Got)
-    → name_of i.name.now ≡ Some name → it ≡ item_told i name → Gets plus (is_dot name) (item_told i name) got
-    → IsFoundIf plus (is_dot name) i got → AddsGot max (length old.left) got it old result new → AddsItem plus max i old result new
-adds max i name old result new plus it got named e gets found added = record {
+adds : (max : ℕ) (i : ItemData) (name : List ℕ) (old : Written) (result : Result ℕ (Option ℕ)) (new : Written) (plus : Bool) (got : Got)
+    → name_of i.name.now ≡ Some name → Gets plus (is_dot name) (item_told i name) got
+    → IsFoundIf plus (is_dot name) i got → AddsGot max (length old.left) got (item_told i name) old result new → AddsItem plus max i old result new
+adds max i name old result new plus got named gets found added = record {
   line = record { item = item_told i name; got = got };
   is_line = record { name = name; named = named; item = refl; found = found };
   is_got = gets;
-  adds = subst (λ (x : Item). AddsGot max (length old.left) got x old result new) e added;
+  adds = added;
 }
 
 plain_gets : (plus dot : Bool) (i : ItemData) (it : Item) → plus ≡ false → Gets plus dot it (Ok None) × IsFoundIf plus dot i (Ok None)
@@ -48,26 +48,36 @@ returns-then-not-plus c =
     let i = c.args.offered.now in
     let name = name_text c.args.name in
     let gets = plain_gets c.args.plus (is_dot name) i (item_told i name) c.if-not-plus.true in
-    adds c.args.max i name c.args.w.now c.add_dirent.result c.add_dirent.new.w c.args.plus (item c.named-dir_entry.result) (Ok None)
-    c.requires c.named-dir_entry.ensures gets.0 gets.1 c.add_dirent.ensures
+    adds c.args.max i name c.args.w.now c.add_plain.result c.add_plain.new.w c.args.plus (Ok None)
+    c.requires.named gets.0 gets.1 c.add_plain.ensures
 
 pub returns-then-is_dot : goal.returns-then-is_dot
 returns-then-is_dot c =
     let i = c.args.offered.now in
     let name = name_text c.args.name in
-    let entry = c.dot_entry.result in
+    let entry = c.add_dot.ensures.0 in
     let dot : is_dot name ≡ true = cc in
-    let out : entry_out_of entry ≡ dot_out (item_told i name) = subst (λ (x : Item). entry_out_of entry ≡ dot_out x) c.named-dir_entry.ensures c.dot_entry.ensures in
-    let gets = dot_gets c.args.plus (is_dot name) i (item_told i name) entry c.if-not-plus.false dot out in
-    adds c.args.max i name c.args.w.now c.add_dirent-then-is_dot.result c.add_dirent-then-is_dot.new.w c.args.plus (item c.named-dir_entry.result) (Ok (Some entry))
-    c.requires c.named-dir_entry.ensures gets.0 gets.1 c.add_dirent-then-is_dot.ensures
+    let gets = dot_gets c.args.plus (is_dot name) i (item_told i name) entry c.if-not-plus.false dot c.add_dot.ensures.1 in
+    adds c.args.max i name c.args.w.now c.add_dot.result c.add_dot.new.w c.args.plus (Ok (Some entry))
+    c.requires.named gets.0 gets.1 c.add_dot.ensures.2
 
-pub returns : goal.returns
-returns c =
+pub returns-in-Ok : goal.returns-in-Ok
+returns-in-Ok c =
     let i = c.args.offered.now in
     let name = name_text c.args.name in
-    let got = got_of c.found.result in
+    let got = Ok (Some c.in-Ok.field-0) in
     let dot : is_dot name ≡ false = cc in
-    let gets = found_gets c.args.plus (is_dot name) i (item_told i name) got c.if-not-plus.false dot c.found.ensures in
-    adds c.args.max i name c.args.w.now c.add_found.result c.add_found.new.w c.args.plus (item c.named-dir_entry.result) got
-    c.requires c.named-dir_entry.ensures gets.0 gets.1 c.add_found.ensures
+    let found = rw c.in-Ok.is at c.found.ensures in
+    let gets = found_gets c.args.plus (is_dot name) i (item_told i name) got c.if-not-plus.false dot found in
+    adds c.args.max i name c.args.w.now c.add_plus.result c.add_plus.new.w c.args.plus got
+    c.requires.named gets.0 gets.1 (c.add_plus.ensures c.in-Ok.field-0 found.1)
+
+pub returns-in-Err : goal.returns-in-Err
+returns-in-Err c =
+    let i = c.args.offered.now in
+    let name = name_text c.args.name in
+    let got = Err c.in-Err.fault in
+    let dot : is_dot name ≡ false = cc in
+    let found = rw c.in-Err.is at c.found.ensures in
+    let gets = found_gets c.args.plus (is_dot name) i (item_told i name) got c.if-not-plus.false dot found in
+    adds c.args.max i name c.args.w.now _ _ c.args.plus got c.requires.named gets.0 gets.1 (refl, refl)
