@@ -58,12 +58,16 @@ impl Handle {
             .into_box()
     }
 
-    /// Puts in a box. One that is there is dropped.
+    /// Puts in a box, where there is none.
     pub fn put(&mut self, b: Box<Memory>)
+        requires { self.old.value ≡ None }
         ensures { self.new.value ≡ Some b.value }
     {
         let old = mem::replace(self, Handle::of_slot(Slot::with(b)));
-        drop(old);
+        match old.into_slot().into_box() {
+            None => {}
+            Some(_) => unreachable!(),
+        }
     }
 }
 

@@ -1,6 +1,6 @@
 //! The memory of one call at a time: the room in which a reply is put together.
 
-ghost use Rattle.std.specs.Prelude.{◌≡◌, ◌≤◌, ◌++◌, true, length, take, drop, min};
+ghost use Rattle.std.specs.Prelude.{◌≡◌, ◌≤◌, ◌+◌, ◌++◌, true, length, take, drop, min};
 ghost use Rattle.vfs_door.specs.Shown.{HasRoomFor, bytes_shown};
 
 use std::alloc::Global;
@@ -38,15 +38,26 @@ impl Memory {
         }
     }
 
+    // How many bytes it has. The sum is that of lengths in memory, and does not wrap.
+    #[inline(always)]
+    fn size(&self) -> usize
+        ensures { result ≤ length self.now.writer.passed + length self.now.writer.left }
+    {
+        let writer = &self.writer;
+        writer
+            .bytes_written()
+            .wrapping_add(writer.available_bytes())
+    }
+
     // Whether it has so many bytes, in one segment.
     #[inline(always)]
     fn has(&self, total: usize) -> bool
         ensures one { result ≡ true → length self.now.writer.lengths ≡ 1 }
-        ensures enough { result ≡ true → total ≤ length self.now.writer.left }
-        ensures has { length self.now.writer.lengths ≡ 1 → total ≤ length self.now.writer.left →
-            result ≡ true }
+        ensures enough { result ≡ true →
+            total ≤ length self.now.writer.passed + length self.now.writer.left }
+        ensures has { HasRoomFor total self.now → result ≡ true }
     {
-        self.writer.segments().len() == 1 && total <= self.writer.available_bytes()
+        self.writer.segments().len() == 1 && total <= self.size()
     }
 
     // Takes memory for `total` bytes of room. False where there is none.
@@ -76,10 +87,10 @@ impl Memory {
         ensures has_room { HasRoomFor total self.old → result ≡ true }
     {
         self.shown = 0;
-        self.writer.rewind();
         if !self.has(total) {
             return self.grow(alloc, total);
         }
+        self.writer.rewind();
         self.start = self.writer.available_bytes() - total;
         self.writer.hold(self.start).is_ok()
     }
