@@ -5,7 +5,8 @@
 # Usage: tools/door-speed.sh
 # It takes the proved library where that is built (`rt lib` in crates/vfs_door), and says which one it is.
 # Instructions are those of all that runs, the inline functions of the header too, by the difference of a long
-# run and a short one under valgrind. Times are the least of 15 runs, and move with the machine.
+# run and a short one under valgrind. Times are the least of 500 runs, each short enough for other work on
+# the machine to leave some alone, and move with the machine.
 set -euo pipefail
 . "$(dirname "$0")/usage.sh"
 . "$(dirname "$0")/transport.sh"
@@ -17,9 +18,10 @@ trap 'rm -rf "$folder"' EXIT
 program=$folder/c-door-speed
 cc -std=c11 -O2 -Wall -Wextra -Werror -I "$here/include" -o "$program" "$here/tools/c-door-speed.c" "${library[@]}"
 
-# How many instructions a run takes: counted WORD..
+# How many instructions a run takes: counted WORD.. Valgrind counts `rep movsb`, by which glibc copies some KiB and
+# more, once for each byte, so glibc copies by vectors here.
 counted() {
-    valgrind --tool=callgrind --callgrind-out-file=/dev/null "$program" "$@" 2>&1 \
+    GLIBC_TUNABLES=glibc.cpu.x86_rep_movsb_threshold=1000000000 valgrind --tool=callgrind --callgrind-out-file=/dev/null "$program" "$@" 2>&1 \
         | sed -n 's/.*Collected : \([0-9]*\).*/\1/p'
 }
 
@@ -35,7 +37,5 @@ instructions() {
 echo "| Request | instructions of an ask | of an ask and its answer | ns of both |"
 echo "|---|---|---|---|"
 for class in $("$program" || true); do
-    times=1000000
-    [[ $class == readdir* ]] && times=20000
-    echo "| $class | $(instructions "$class" ask) | $(instructions "$class") | $("$program" "$class" $times) |"
+    echo "| $class | $(instructions "$class" ask) | $(instructions "$class") | $("$program" "$class" 2000) |"
 done
