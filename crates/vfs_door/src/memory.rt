@@ -38,17 +38,6 @@ impl Memory {
         }
     }
 
-    // How many bytes it has. The sum is that of lengths in memory, and does not wrap.
-    #[inline(always)]
-    fn size(&self) -> usize
-        ensures { result ≤ length self.now.writer.passed + length self.now.writer.left }
-    {
-        let writer = &self.writer;
-        writer
-            .bytes_written()
-            .wrapping_add(writer.available_bytes())
-    }
-
     // Whether it has so many bytes, in one segment.
     #[inline(always)]
     fn has(&self, total: usize) -> bool
@@ -57,7 +46,8 @@ impl Memory {
             total ≤ length self.now.writer.passed + length self.now.writer.left }
         ensures has { HasRoomFor total self.now → result ≡ true }
     {
-        self.writer.segments().len() == 1 && total <= self.size()
+        let segments = self.writer.segments();
+        segments.len() == 1 && total <= segments[0].len()
     }
 
     // Takes memory for `total` bytes of room. False where there is none.
