@@ -58,3 +58,10 @@ build_transport() {
         "${links[@]}"
     mv "$transport.$$" "$transport"
 }
+
+# The kind of file system that a folder is on: the type of its mount, but fuse.nizwarf-share if that has a folder
+# for its source.
+kind_of() {
+    findmnt -no FSTYPE,SOURCE -T "$1" | tail -n 1 |
+        awk '{ print $1 ($1 == "fuse.nizwarf" && $2 ~ "^/" ? "-share" : "") }'
+}
