@@ -1,0 +1,607 @@
+"""Random requests of FUSE to the library over the tree in memory, and the same by system calls on a tmpfs, for
+mirror.py. Nodes are meant by a number that counts among those that are known, so that a part of a session is
+one too."""
+import ctypes
+import errno
+import os
+import shutil
+import stat
+import struct
+import time
+import zlib
+
+import calls
+
+LIBC = calls.LIBC
+ROOM = 1 << 17
+NAMES = [b"a", b"b", b"c", b"d", b"e", b"f", b"g", b"\xff\xfe", b"x" * 255, b".hid", b"sp ace"]
+MODES = [0o644, 0o755, 0o600, 0o4755, 0o2755, 0o1777, 0]
+GROUPS = [0, 0, 0, 5, 6]
+ATTRIBUTES = [b"user.a", b"user.b", b"trusted.c", b"user." + b"n" * 250]
+FLAGS = [os.O_RDONLY, os.O_RDWR, os.O_WRONLY | os.O_TRUNC, os.O_RDWR | os.O_TRUNC | os.O_APPEND]
+AT_EMPTY_PATH = 0x1000
+OPERATIONS = {
+    "LOOKUP": 8, "CREATE": 8, "MKNOD": 4, "MKDIR": 8, "SYMLINK": 4, "LINK": 7, "UNLINK": 8, "RMDIR": 6, "RENAME": 14,
+    "SETATTR": 10, "READ": 6, "WRITE": 10, "OPEN": 4, "READLINK": 2, "READDIR": 4, "SETXATTR": 5, "GETXATTR": 3,
+    "LISTXATTR": 2, "REMOVEXATTR": 3, "FALLOCATE": 3, "FORGET": 5, "GETATTR": 3,
+}
+WATCHED = {"d": "a directory", "f": "a file", "l": "a symbolic link"}
+
+
+def generate(random):
+    """A random operation: a group, its name, and its words."""
+    name = random.choices(list(OPERATIONS), list(OPERATIONS.values()))[0]
+
+    def node(kinds="dfl", likely=0.93):
+        return kinds if random.random() < likely else "dfl", random.randrange(1 << 16)
+
+    def word():
+        return random.choice(NAMES) if random.random() < 0.97 else random.choice([b"x" * 256, b"y" * 300])
+
+    words = {
+        "LOOKUP": lambda: (node("d"), word()), "UNLINK": lambda: (node("d"), word()),
+        "RMDIR": lambda: (node("d"), word()), "CREATE": lambda: (node("d"), word(), random.choice(MODES)),
+        "MKNOD": lambda: (node("d"), word(), random.choice(MODES)),
+        "MKDIR": lambda: (node("d"), word(), random.choice(MODES) & 0o1777),
+        "SYMLINK": lambda: (node("d"), word(), random.choice([b"a", b"/x/y", b"t" * 200, b"u" * 4095])),
+        "LINK": lambda: (node("fl", 0.85), node("d"), word()),
+        "RENAME": lambda: (node("d"), word(), node("d"), word(), random.choice([0, 0, 0, 0, 1, 2, 2, 3])),
+        "SETATTR": lambda: (node(), random.choice(["mode", "owner", "size", "size", "size", "times", "now"]),
+                            random.choice(MODES),
+                            random.choice([0, 1, 5, 100, 4095, 4096, 4097, 70000, random.randrange(9000)]),
+                            random.choice([(0, 0), (3, 5), (0, 6)]), (random.randrange(2000), random.randrange(10**9))),
+        "WRITE": lambda: (node("f"), random.choice([0, 0, 1, 10, 4000, 4096, random.randrange(80000)]),
+                          random.choice([0, 1, 3, 100, 4096, random.randrange(9000)]), random.randrange(256)),
+        "READ": lambda: (node("f"), random.choice([0, 0, 1, 4096, random.randrange(80000)]),
+                         random.choice([0, 1, 100, 4096, 60000])),
+        "OPEN": lambda: (node("f", 1), random.choice(FLAGS)), "READLINK": lambda: (node("l", 0.8),),
+        "READDIR": lambda: (node("d"), random.random() < 0.5, random.choice([440, 600, 1000, 5000, 60000])),
+        "SETXATTR": lambda: (node("fd", 1), random.choice(ATTRIBUTES), random.choice([0, 1, 10, 300]),
+                             random.randrange(256), random.choice([0, 0, 1, 2, 3])),
+        "GETXATTR": lambda: (node("fd", 1), random.choice(ATTRIBUTES)), "LISTXATTR": lambda: (node("fd", 1),),
+        "REMOVEXATTR": lambda: (node("fd", 1), random.choice(ATTRIBUTES)),
+        "FALLOCATE": lambda: (node("f", 1), random.choice([0, 1, 4096, random.randrange(20000)]),
+                              random.choice([0, 1, 100, 5000]), random.choice([0, 0, 0, 1, 3, 16])),
+        "FORGET": lambda: (node(), random.random(), random.random() < 0.5), "GETATTR": lambda: (node(),),
+    }
+    return (random.choice(GROUPS), name, *words[name]())
+
+
+def shown(operation):
+    group, name, *words = operation
+    words = [f"a node of {word[0]} ({word[1]})" if isinstance(word, tuple) and isinstance(word[0], str)
+             else calls.short(word) for word in words]
+    return f"{name} {', '.join(words)}" + (f"   (of group {group})" if group else "")
+
+
+class Settings(ctypes.Structure):
+    _fields_ = [(name, ctypes.c_uint64) for name in ("seconds", "nodes", "bytes", "file")] + [
+        (name, ctypes.c_uint32) for name in ("nanoseconds", "uid", "gid", "mode")]
+
+
+class Segment(ctypes.Structure):
+    _fields_ = [("at", ctypes.c_void_p), ("len", ctypes.c_size_t)]
+
+
+class Library:
+    """A server of the library over a tree of its own, by messages."""
+    def __init__(self, file):
+        self.of = ctypes.CDLL(file)
+        self.server, self.length = ctypes.c_void_p(), ctypes.c_size_t()
+        self.room = ctypes.create_string_buffer(ROOM)
+        self.of.nizwarf_copy_at.restype = ctypes.c_size_t
+        self.of.nizwarf_tell_time_at.argtypes = [ctypes.c_void_p, ctypes.c_uint64, ctypes.c_uint32]
+        self.of.nizwarf_message_at.argtypes = [ctypes.c_void_p, ctypes.c_void_p, ctypes.c_size_t, ctypes.c_size_t,
+                                               ctypes.c_void_p]
+        self.of.nizwarf_copy_at.argtypes = [ctypes.c_void_p, ctypes.c_size_t, ctypes.c_void_p, ctypes.c_size_t]
+        settings = Settings(1000, 1 << 20, 1 << 32, 1 << 32, 0, 0, 0, 0o755)
+        if self.of.nizwarf_new_at(ctypes.byref(self.server), 4096, 1 << 20, ctypes.byref(settings)):
+            raise RuntimeError("there is no server")
+        self.unique, self.group = 0, 0
+        self.ask(26, 0, struct.pack("<IIII", 7, 31, 131072, 0x3BFFFFFB & ~(1 << 26)))
+
+    def end(self):
+        self.of.nizwarf_end_at(ctypes.byref(self.server))
+
+    def ask(self, opcode, node, body=b"", room=ROOM):
+        """What is answered to a request, behind its header; an error is raised."""
+        self.unique += 1
+        message = struct.pack("<IIQQIIII", 40 + len(body), opcode, self.unique, node, 0, self.group, 1, 0) + body
+        cut = 40 if self.unique % 3 else len(message)
+        buffer = ctypes.create_string_buffer(message, len(message))
+        at = ctypes.addressof(buffer)
+        pieces = (Segment * 2)(Segment(at, cut), Segment(at + cut, len(message) - cut))
+        server = ctypes.byref(self.server)
+        self.of.nizwarf_tell_time_at(server, 1000 + self.unique, self.unique % 1000)
+        code = self.of.nizwarf_message_at(server, pieces, 2, room, ctypes.byref(self.length))
+        if code:
+            raise RuntimeError(f"opcode {opcode} came to {code}")
+        length = self.length.value
+        if not length:
+            return b""
+        self.of.nizwarf_copy_at(server, 0, self.room, length)
+        reply = ctypes.string_at(self.room, length)
+        told, error, unique = struct.unpack_from("<IiQ", reply)
+        if told != length or unique != self.unique:
+            raise RuntimeError(f"a header of {told} bytes, to {unique}, in a reply of {length} to {self.unique}")
+        if error:
+            raise OSError(-error, "answered")
+        return reply[16:]
+
+    @staticmethod
+    def attributes(bytes_, at=0):
+        of = struct.unpack_from("<QQQQQQIIIIIII", bytes_, at)
+        return {"size": of[1], "atime": (of[3], of[6]), "mtime": (of[4], of[7]), "ctime": (of[5], of[8]),
+                "mode": of[9], "nlink": of[10], "uid": of[11], "gid": of[12]}
+
+    def entry(self, *words):
+        bytes_ = self.ask(*words)
+        return struct.unpack_from("<Q", bytes_)[0], self.attributes(bytes_, 40)
+
+    def getattr(self, node):
+        return self.attributes(self.ask(3, node, bytes(16)), 16)
+
+
+def way(file):
+    return f"/proc/self/fd/{file}"
+
+
+def keys_of(file):
+    return sorted(map(os.fsencode, os.listxattr(way(file))))
+
+
+def look(directory, name):
+    return os.open(name, os.O_PATH | os.O_NOFOLLOW, dir_fd=directory)
+
+
+def opened(file, flags, act):
+    opened_ = os.open(way(file), flags)
+    try:
+        return act(opened_)
+    finally:
+        os.close(opened_)
+
+
+class Node:
+    def __init__(self, file):
+        self.file, self.given = file, 0
+        is_so = os.fstat(file)
+        self.inode = is_so.st_ino
+        self.kind = "d" if stat.S_ISDIR(is_so.st_mode) else "l" if stat.S_ISLNK(is_so.st_mode) else "f"
+
+
+class Session:
+    """A tree, and a folder of a tmpfs, which begin empty."""
+    LENGTH = 1500
+
+    def __init__(self, places, number):
+        library, folder = places
+        os.umask(0)
+        self.folder = f"{folder}/mirror-{os.getpid()}-{number}"
+        os.mkdir(self.folder, 0o755)
+        self.library = Library(library)
+        self.nodes = {1: Node(os.open(self.folder, os.O_PATH))}
+        self.found, self.is_slow = [], False
+
+    def pick(self, of):
+        kinds, number = of
+        fit = [node for node, is_so in self.nodes.items() if is_so.kind in kinds] or [1]
+        return fit[number % len(fit)]
+
+    def file(self, node):
+        return self.nodes[node].file
+
+    def step(self, operation):
+        group, name, *words = operation
+        self.found, self.operation, self.library.group = [], name, group
+        self.is_slow = zlib.crc32(repr(operation).encode()) % 64 == 0
+        getattr(self, name.lower())(*words)
+        self.library.group = 0
+        return self.found
+
+    def note(self, what):
+        self.found.append(f"{self.operation}: {what}")
+
+    def both(self, request, call, watched=()):
+        """The answers, if both have one; and whether times moved alike of the nodes that are watched. Within a
+        tick of its clock a tmpfs may leave a time as it was: whether it does is looked at once in a while."""
+        watched = [node for node in dict.fromkeys(watched) if node in self.nodes]
+        before = [self.times(node) for node in watched]
+        if self.is_slow and watched:
+            time.sleep(0.011)
+        first = second = None
+        answers = []
+        LIBC.setfsgid(self.library.group)
+        try:
+            second_answer = call()
+        except OSError as error:
+            second = error.errno
+        finally:
+            LIBC.setfsgid(0)
+        try:
+            answers.append(request())
+        except OSError as error:
+            first = error.errno
+        if first != second:
+            names = [errno.errorcode.get(number, str(number)) if number else "ok" for number in (first, second)]
+            self.note(", ".join(names))
+            return None
+        if first:
+            return None
+        for node, (ours, theirs) in zip(watched, before):
+            now = self.times(node)
+            for at, which in enumerate(("mtime", "ctime")):
+                moves = now[0][at] != ours[at]
+                if moves != (now[1][at] != theirs[at]) and (self.is_slow or not moves):
+                    self.note(f"{which} of {WATCHED[self.nodes[node].kind]} {'moves' if moves else 'does not move'}")
+        return answers[0], second_answer
+
+    def times(self, node):
+        ours, theirs = self.library.getattr(node), os.fstat(self.file(node))
+        return (ours["mtime"], ours["ctime"]), (theirs.st_mtime_ns, theirs.st_ctime_ns)
+
+    def compare(self, node, ours=None):
+        """Attributes side by side; what differs is then made the same."""
+        ours, theirs, of = ours or self.library.getattr(node), os.fstat(self.file(node)), self.nodes[node]
+        for key in ("mode", "nlink", "uid", "gid", "size"):
+            if ours[key] != getattr(theirs, "st_" + key) and (key != "size" or of.kind != "d"):
+                self.note(f"{key} of {WATCHED[of.kind]}")
+                if key == "mode" and of.kind != "l":
+                    os.chmod(way(of.file), ours["mode"] & 0o7777)
+                elif key in ("uid", "gid"):
+                    LIBC.fchownat(of.file, b"", ours["uid"], ours["gid"], AT_EMPTY_PATH)
+
+    def learn(self, answers):
+        """An entry that was answered, and the descriptor of the same name."""
+        (node, attributes), file = answers
+        inode = os.fstat(file).st_ino
+        if node in self.nodes:
+            if self.nodes[node].inode != inode:
+                self.note("a node leads to another inode")
+            os.close(file)
+        else:
+            if any(of.inode == inode for of in self.nodes.values()):
+                self.note("two nodes for one inode")
+            self.nodes[node] = Node(file)
+        self.nodes[node].given += 1
+        self.compare(node, attributes)
+
+    def known(self, directory, name):
+        """The node of a name, if it is known."""
+        try:
+            file = look(self.file(directory), name)
+        except OSError:
+            return None
+        inode = os.fstat(file).st_ino
+        os.close(file)
+        return next((node for node, of in self.nodes.items() if of.inode == inode), None)
+
+    # A request each.
+
+    def lookup(self, of, name):
+        parent = self.pick(of)
+        if answers := self.both(lambda: self.library.entry(1, parent, name + b"\0"),
+                                lambda: look(self.file(parent), name), (parent,)):
+            self.learn(answers)
+
+    def make(self, of, name, opcode, body, call):
+        parent = self.pick(of)
+
+        def made():
+            call(self.file(parent))
+            return look(self.file(parent), name)
+
+        if answers := self.both(lambda: self.library.entry(opcode, parent, body), made, (parent,)):
+            self.learn(answers)
+            self.compare(parent)
+
+    def create(self, of, name, mode):
+        flags = os.O_CREAT | os.O_WRONLY | os.O_EXCL
+        self.make(of, name, 35, struct.pack("<IIII", flags, 0o100000 | mode, 0, 0) + name + b"\0",
+                  lambda directory: os.close(os.open(name, flags, mode, dir_fd=directory)))
+
+    def mknod(self, of, name, mode):
+        self.make(of, name, 8, struct.pack("<IIII", 0o100000 | mode, 0, 0, 0) + name + b"\0",
+                  lambda directory: os.mknod(name, 0o100000 | mode, dir_fd=directory))
+
+    def mkdir(self, of, name, mode):
+        self.make(of, name, 9, struct.pack("<II", mode, 0) + name + b"\0",
+                  lambda directory: os.mkdir(name, mode, dir_fd=directory))
+
+    def symlink(self, of, name, text):
+        self.make(of, name, 6, name + b"\0" + text + b"\0", lambda directory: os.symlink(text, name, dir_fd=directory))
+
+    def link(self, of, into, name):
+        node, parent = self.pick(of), self.pick(into)
+
+        def call():
+            calls.check(LIBC.linkat(self.file(node), b"", self.file(parent), name, AT_EMPTY_PATH))
+            return look(self.file(parent), name)
+
+        body = struct.pack("<Q", node) + name + b"\0"
+        if answers := self.both(lambda: self.library.entry(13, parent, body), call, (node, parent)):
+            self.learn(answers)
+            self.compare(node)
+
+    def remove(self, of, name, opcode, call):
+        parent = self.pick(of)
+        victim = self.known(parent, name)
+        watched = (parent, victim) if victim else (parent,)
+        if self.both(lambda: self.library.ask(opcode, parent, name + b"\0"),
+                     lambda: call(name, dir_fd=self.file(parent)), watched):
+            for node in watched:
+                self.compare(node)
+
+    def unlink(self, of, name):
+        self.remove(of, name, 10, os.unlink)
+
+    def rmdir(self, of, name):
+        self.remove(of, name, 11, os.rmdir)
+
+    def rename(self, of, name, into, new, flags):
+        old_parent, new_parent = self.pick(of), self.pick(into)
+        moved = [node for node in (self.known(old_parent, name), self.known(new_parent, new)) if node]
+        names = name + b"\0" + new + b"\0"
+
+        def request():
+            if flags:
+                return self.library.ask(45, old_parent, struct.pack("<QII", new_parent, flags, 0) + names)
+            return self.library.ask(12, old_parent, struct.pack("<Q", new_parent) + names)
+
+        def call():
+            calls.check(LIBC.renameat2(self.file(old_parent), name, self.file(new_parent), new, flags))
+
+        watched = (old_parent, new_parent, *moved)
+        if self.both(request, call, watched):
+            for node in dict.fromkeys(watched):
+                self.compare(node)
+
+    def setattr(self, of, what, mode, size, owner, when):
+        node = self.pick(of)
+        file, kind = self.file(node), self.nodes[node].kind
+        if what == "mode" and kind == "l":
+            return
+        # (the words of fuse_setattr_in: which hold, and then each)
+        valid = {"mode": 1, "owner": 6, "size": 8, "times": 0x30, "now": 0x1B0}[what]
+        seconds, nanoseconds = when if what == "times" else (0, 0)
+        body = struct.pack("<IIQQQQQQIIIIIIII", valid, 0, 0, size, 0, seconds, seconds, 0, nanoseconds, nanoseconds, 0,
+                           mode, 0, *owner, 0)
+        same = what == "size" and kind == "f" and os.fstat(file).st_size == size
+
+        def call():
+            if what == "mode":
+                os.chmod(way(file), mode)
+            elif what == "owner":
+                bits = os.fstat(file).st_mode
+                calls.check(LIBC.fchownat(file, b"", *owner, AT_EMPTY_PATH))
+                if kind != "l":
+                    # (a kernel asks for the mode apart)
+                    os.chmod(way(file), bits & 0o7777)
+            elif what == "size":
+                if kind == "l":
+                    raise OSError(errno.EINVAL, "")
+                os.truncate(way(file), size)
+            else:
+                times = struct.pack("<qqqq", seconds, nanoseconds, seconds, nanoseconds) if what == "times" else None
+                calls.check(LIBC.utimensat(file, b"", times, AT_EMPTY_PATH))
+
+        self.operation = "SETATTR of the size that it has" if same else f"SETATTR of {what}"
+        if answers := self.both(lambda: self.library.attributes(self.library.ask(4, node, body), 16), call, (node,)):
+            self.compare(node, answers[0])
+            if what == "times" and answers[0]["mtime"] != when:
+                self.note("another time")
+
+    def write(self, of, at, length, byte):
+        node = self.pick(of)
+        body = struct.pack("<QQIIQII", 0, at, length, 0, 0, 0, 0) + bytes([byte]) * length
+        call = self.on_file(node, os.O_WRONLY, lambda file: os.pwrite(file, bytes([byte]) * length, at))
+        if answers := self.both(lambda: struct.unpack_from("<I", self.library.ask(16, node, body))[0], call, (node,)):
+            if answers[0] != answers[1]:
+                self.note("another count")
+            self.compare(node)
+
+    def on_file(self, node, flags, act):
+        def call():
+            if self.nodes[node].kind == "l":
+                raise OSError(errno.EINVAL, "")
+            return opened(self.file(node), flags, act)
+        return call
+
+    def read(self, of, at, length):
+        node = self.pick(of)
+        body = struct.pack("<QQIIQII", 0, at, length, 0, 0, 0, 0)
+        call = self.on_file(node, os.O_RDONLY, lambda file: os.pread(file, length, at))
+        answers = self.both(lambda: self.library.ask(15, node, body, 16 + length), call, (node,))
+        if answers and answers[0] != answers[1]:
+            self.note("other bytes")
+
+    def open(self, of, flags):
+        node = self.pick(of)
+        if self.nodes[node].kind == "f":
+            if self.both(lambda: self.library.ask(14, node, struct.pack("<II", flags, 0)),
+                         lambda: opened(self.file(node), flags, lambda file: None), (node,)):
+                self.compare(node)
+
+    def readlink(self, of):
+        node = self.pick(of)
+
+        def call():
+            if self.nodes[node].kind != "l":
+                raise OSError(errno.EINVAL, "")
+            return os.readlink(b"", dir_fd=self.file(node))
+
+        if (answers := self.both(lambda: self.library.ask(5, node), call, (node,))) and answers[0] != answers[1]:
+            self.note("another text")
+
+    def setxattr(self, of, key, length, byte, flags):
+        node = self.pick(of)
+        if self.nodes[node].kind != "l":
+            value = bytes([byte]) * length
+            self.both(lambda: self.library.ask(21, node, struct.pack("<II", length, flags) + key + b"\0" + value),
+                      lambda: os.setxattr(way(self.file(node)), key, value, flags), (node,))
+
+    def getxattr(self, of, key):
+        node = self.pick(of)
+        if self.nodes[node].kind != "l":
+            if answers := self.both(lambda: self.library.ask(22, node, struct.pack("<II", 1000, 0) + key + b"\0"),
+                                    lambda: os.getxattr(way(self.file(node)), key), (node,)):
+                if answers[0] != answers[1]:
+                    self.note("another value")
+
+    def keys(self, node):
+        return sorted(self.library.ask(23, node, struct.pack("<II", 60000, 0)).split(b"\0")[:-1])
+
+    def listxattr(self, of):
+        node = self.pick(of)
+        if self.nodes[node].kind != "l":
+            answers = self.both(lambda: self.keys(node), lambda: keys_of(self.file(node)), (node,))
+            if answers and answers[0] != answers[1]:
+                self.note("other names")
+
+    def removexattr(self, of, key):
+        node = self.pick(of)
+        if self.nodes[node].kind != "l":
+            self.both(lambda: self.library.ask(24, node, key + b"\0"),
+                      lambda: os.removexattr(way(self.file(node)), key), (node,))
+
+    def fallocate(self, of, at, length, mode):
+        node = self.pick(of)
+        if self.nodes[node].kind != "f":
+            return
+        if mode:
+            self.operation += " " + {1: "KEEP_SIZE", 3: "PUNCH_HOLE", 16: "ZERO_RANGE"}[mode]
+        before = opened(self.file(node), os.O_RDONLY, lambda file: os.pread(file, 1 << 20, 0))
+        call = lambda: opened(self.file(node), os.O_RDWR, lambda file: calls.allocate(file, mode, at, length))
+        if self.both(lambda: self.library.ask(43, node, struct.pack("<QQQII", 0, at, length, mode, 0)), call, (node,)):
+            self.compare(node)
+        elif self.found:
+            # Of the two one alone has it: the bytes are as they were.
+            opened(self.file(node), os.O_RDWR,
+                   lambda file: (os.ftruncate(file, len(before)), os.pwrite(file, before, 0)))
+
+    def getattr(self, of):
+        self.compare(self.pick(of))
+
+    def forget(self, of, part, batch):
+        node = self.pick(of)
+        given = self.nodes[node].given
+        if node == 1 or not given:
+            return
+        count = given if part < 0.5 else max(1, int(given * part))
+        if batch:
+            self.library.ask(42, 0, struct.pack("<IIQQ", 1, 0, node, count))
+        else:
+            self.library.ask(2, node, struct.pack("<Q", count))
+        self.nodes[node].given -= count
+        if not self.nodes[node].given:
+            os.close(self.nodes.pop(node).file)
+
+    def readdir(self, of, plus, size):
+        self.listing(self.pick(of), plus, size)
+
+    def listing(self, node, plus, size=60000):
+        """The names of a directory, in pieces."""
+        if self.nodes[node].kind != "d":
+            try:
+                self.pieces(node, plus, size)
+                self.note("what is no directory is read")
+            except OSError as error:
+                if error.errno != errno.ENOTDIR:
+                    self.note(f"{errno.errorcode[error.errno]}, ENOTDIR")
+            return []
+        ours = self.pieces(node, plus, size)
+        theirs = [(b".", 4), (b"..", 4)]
+        with os.scandir(way(self.file(node))) as entries:
+            for entry in entries:
+                kind = 4 if entry.is_dir(follow_symlinks=False) else 10 if entry.is_symlink() else 8
+                theirs.append((os.fsencode(entry.name), kind))
+        if len(set(ours)) != len(ours):
+            self.note("a name twice")
+        if sorted(ours) != sorted(theirs):
+            self.note("other names")
+        return ours
+
+    def pieces(self, node, plus, size):
+        at, names = 0, []
+        opcode = 44 if plus else 28
+        while bytes_ := self.library.ask(opcode, node, struct.pack("<QQIIQII", 0, at, size, 0, 0, 0, 0), 16 + size):
+            place = 0
+            while place < len(bytes_):
+                entry = bytes_[place:place + 128] if plus else None
+                place += 128 if plus else 0
+                inode, at, length, kind = struct.unpack_from("<QQII", bytes_, place)
+                name = bytes_[place + 24:place + 24 + length]
+                place += (24 + length + 7) // 8 * 8
+                names.append((name, kind))
+                if plus and struct.unpack_from("<Q", entry)[0]:
+                    self.learn(((inode, self.library.attributes(entry, 40)), look(self.file(node), name)))
+        return names
+
+    def check(self):
+        """All of the tree, side by side. What is looked up for it is forgotten again."""
+        self.found, self.operation = [], "in the end"
+        before = {node: of.given for node, of in self.nodes.items()}
+        self.walk(1, 0)
+        for node, of in list(self.nodes.items()):
+            given = of.given - before.get(node, 0)
+            if given and node != 1:
+                self.library.ask(2, node, struct.pack("<Q", given))
+            of.given -= given
+            if node not in before:
+                os.close(self.nodes.pop(node).file)
+        return self.found
+
+    def walk(self, node, depth):
+        self.compare(node)
+        of = self.nodes[node]
+        if of.kind == "f":
+            theirs = opened(of.file, os.O_RDONLY, lambda file: os.pread(file, 1 << 20, 0))
+            ours = b""
+            while piece := self.library.ask(15, node, struct.pack("<QQIIQII", 0, len(ours), 60000, 0, 0, 0, 0)):
+                ours += piece
+            if ours != theirs:
+                self.note("contents")
+        elif of.kind == "l" and self.library.ask(5, node) != os.readlink(b"", dir_fd=of.file):
+            self.note("text of a symbolic link")
+        if of.kind != "l":
+            keys, most = self.keys(node), struct.pack("<II", 60000, 0)
+            if keys != keys_of(of.file):
+                self.note("attributes")
+            for key in keys if keys == keys_of(of.file) else []:
+                if self.library.ask(22, node, most + key + b"\0") != os.getxattr(way(of.file), key):
+                    self.note("value of an attribute")
+        if of.kind == "d" and depth < 40:
+            for name, _ in self.listing(node, depth % 2 == 0):
+                if name not in (b".", b".."):
+                    child = self.library.entry(1, node, name + b"\0")
+                    self.learn((child, look(of.file, name)))
+                    self.walk(child[0], depth + 1)
+
+    def finish(self):
+        """Takes all apart: nothing may be left."""
+        self.found, self.operation = [], "in the end"
+        self.empty(1)
+        for node, of in self.nodes.items():
+            if of.given and node != 1:
+                self.library.ask(2, node, struct.pack("<Q", of.given))
+        for key in os.listxattr(way(self.file(1))):
+            self.library.ask(24, 1, os.fsencode(key) + b"\0")
+        blocks, free, _, files, left = struct.unpack_from("<QQQQQ", self.library.ask(17, 1))
+        if free != blocks or left != files - 1:
+            self.note("something is left once all is given back")
+        return self.found
+
+    def end(self):
+        for of in self.nodes.values():
+            os.close(of.file)
+        self.library.end()
+        shutil.rmtree(self.folder)
+
+    def empty(self, node):
+        for name, kind in self.pieces(node, False, 60000):
+            if name not in (b".", b".."):
+                if kind == 4:
+                    child = self.library.entry(1, node, name + b"\0")
+                    self.learn((child, look(self.file(node), name)))
+                    self.empty(child[0])
+                self.library.ask(11 if kind == 4 else 10, node, name + b"\0")
