@@ -298,6 +298,12 @@ static int link_node(const struct call *call)
 
 /* ---- open files */
 
+/* Whether the client writes later. */
+static bool writes_later(const struct call *call)
+{
+	return atomic_load(&call->all->agreed) & FUSE_WRITEBACK_CACHE && call->all->options.writeback;
+}
+
 /* The flags of open(2) that a client may choose. */
 static int flags_of(const struct call *call)
 {
@@ -305,7 +311,7 @@ static int flags_of(const struct call *call)
 	int made = (int)(flags & (O_ACCMODE | O_APPEND | O_TRUNC | O_SYNC | O_DSYNC | O_NOATIME));
 
 	/* The kernel reads pages that are written in part, and knows itself where the end is. */
-	if (atomic_load(&call->all->agreed) & FUSE_WRITEBACK_CACHE && call->all->options.writeback) {
+	if (writes_later(call)) {
 		if ((made & O_ACCMODE) == O_WRONLY)
 			made = (made & ~O_ACCMODE) | O_RDWR;
 		made &= ~O_APPEND;
@@ -464,6 +470,9 @@ static int seek(const struct call *call)
 
 	if ((asked->more != SEEK_DATA && asked->more != SEEK_HOLE) || call->file->is_directory)
 		return EINVAL;
+	/* What the kernel has yet to write is a hole to the host. Refused once, it answers by the size. */
+	if (writes_later(call))
+		return ENOSYS;
 	at = lseek(call->file->counted.fd, (off_t)asked->offset, (int)asked->more);
 	call->answer->count = (uint64_t)at;
 	return failed(at < 0 ? -1 : 0);
