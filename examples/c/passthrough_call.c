@@ -456,11 +456,15 @@ static int write_file(const struct call *call)
 static int allocate(const struct call *call)
 {
 	const nizwarf_call *asked = call->asked;
+	int error;
 
 	if (asked->offset > INT64_MAX || asked->length > INT64_MAX)
 		return EFBIG;
-	return failed(fallocate(call->file->counted.fd, (int)asked->mode, (off_t)asked->offset,
-				(off_t)asked->length));
+	lose_fsetid(call);
+	error = failed(fallocate(call->file->counted.fd, (int)asked->mode, (off_t)asked->offset,
+				 (off_t)asked->length));
+	regain_fsetid(call);
+	return error;
 }
 
 static int seek(const struct call *call)
@@ -489,9 +493,11 @@ static int copy_range(const struct call *call)
 
 	if (!into)
 		return EBADF;
+	lose_fsetid(call);
 	copied = from < 0 || to < 0 || asked->lock_owner ? -1 :
 		 copy_file_range(call->file->counted.fd, &from, into->counted.fd, &to, length, 0);
 	error = from < 0 || to < 0 || asked->lock_owner ? EINVAL : failed(copied < 0 ? -1 : 0);
+	regain_fsetid(call);
 	file_put(into);
 	call->answer->count = (uint64_t)copied;
 	return error;

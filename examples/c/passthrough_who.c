@@ -54,14 +54,16 @@ void become_root(const struct call *call)
 }
 
 /* Whether the host is to take set-user-ID and set-group-ID bits away, as it does for who lacks
- * CAP_FSETID. */
+ * CAP_FSETID. FALLOCATE and COPY_FILE_RANGE have no flag for it, and since Linux 6.12 no caller: there
+ * they are only kept if it is said that root asks. */
 static bool kills(const struct call *call)
 {
 	const nizwarf_call *asked = call->asked;
 
 	return call->worker->is_root &&
 	       (asked->has & NIZWARF_KILL_PRIV ||
-		(asked->call == NIZWARF_SETATTR && asked->flags & FATTR_KILL_SUIDGID));
+		(asked->call == NIZWARF_SETATTR && asked->flags & FATTR_KILL_SUIDGID) ||
+		((asked->call == NIZWARF_FALLOCATE || asked->call == NIZWARF_COPY) && asked->uid));
 }
 
 void lose_fsetid(const struct call *call)
