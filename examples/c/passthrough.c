@@ -155,6 +155,9 @@ struct passthrough *passthrough_new(int root, int proc, const struct passthrough
 	all->options = *options;
 	all->seconds = options->cache == CACHE_NEVER ? NO_TIME :
 		       options->cache == CACHE_AUTO ? SHORT_TIME : LONG_TIME;
+	/* What is not remembered is not written later: the kernel would tell of times that are not so. */
+	if (options->cache == CACHE_NEVER || options->cache == CACHE_METADATA)
+		all->options.writeback = false;
 	for (unsigned i = 0; i < options->workers && i < TRANSPORT_MOST_WORKERS; i++) {
 		all->worker[i] = calloc(1, sizeof(struct worker));
 		if (!all->worker[i]) {
