@@ -11,6 +11,7 @@
 #include <string.h>
 #include <sys/epoll.h>
 #include <sys/eventfd.h>
+#include <sys/mman.h>
 #include <time.h>
 #include <unistd.h>
 #include "vhost_queue.h"
@@ -44,8 +45,8 @@ static pthread_rwlock_t in_flight;
 /* What wakes a worker: a kick, by the queue's number; a queue that is to be looked at; the end. */
 enum { LOOK = QUEUES, STOP };
 static int events, look, stop;
-/* What wakes the calling thread: a worker that failed. */
-static int over;
+/* What wakes the calling thread: a worker that failed; memory that is gone. */
+static int over, lost;
 
 struct worker {
 	unsigned number;
@@ -303,6 +304,29 @@ static void *run(void *given)
 	return NULL;
 }
 
+/* A front end can cut the file that its memory is of. Where that memory was are zeros from then on,
+ * so that the worker goes on, up to when the front end is hung up on. */
+static void lose_memory(int number, siginfo_t *about, void *context)
+{
+	const uintptr_t at = (uintptr_t)about->si_addr;
+
+	(void)context;
+	for (size_t i = 0; i < vhost_regions; i++) {
+		const struct region *r = &vhost_region[i];
+		const uintptr_t from = (uintptr_t)r->map;
+
+		if (at < from || at - from >= r->mapped)
+			continue;
+		if (mmap(r->map, r->mapped, PROT_READ | PROT_WRITE,
+			 MAP_PRIVATE | MAP_ANONYMOUS | MAP_NORESERVE | MAP_FIXED, -1, 0) == MAP_FAILED)
+			break;
+		tell(lost);
+		return;
+	}
+	/* (it comes again, and ends the process) */
+	signal(number, SIG_DFL);
+}
+
 /* ---- queues and workers, by the calling thread */
 
 /* A ring of the front end's view, aligned as it must be, or NULL. */
@@ -366,6 +390,11 @@ int queues_over(void)
 	return over;
 }
 
+int queues_lost(void)
+{
+	return lost;
+}
+
 void queues_tell(void)
 {
 	unsigned long count;
@@ -385,8 +414,10 @@ static int make_events(void)
 {
 	struct epoll_event looks = { .events = EPOLLIN | EPOLLET, .data.u32 = LOOK };
 	struct epoll_event stops = { .events = EPOLLIN, .data.u32 = STOP };
+	const struct sigaction loses = { .sa_sigaction = lose_memory, .sa_flags = SA_SIGINFO };
 	pthread_rwlockattr_t writer_first;
 
+	sigaction(SIGBUS, &loses, NULL);
 	pthread_rwlockattr_init(&writer_first);
 	pthread_rwlockattr_setkind_np(&writer_first, PTHREAD_RWLOCK_PREFER_WRITER_NONRECURSIVE_NP);
 	pthread_rwlock_init(&in_flight, &writer_first);
@@ -398,7 +429,8 @@ static int make_events(void)
 	look = eventfd(0, EFD_CLOEXEC | EFD_NONBLOCK);
 	stop = eventfd(0, EFD_CLOEXEC | EFD_NONBLOCK);
 	over = eventfd(0, EFD_CLOEXEC | EFD_NONBLOCK);
-	if (events < 0 || look < 0 || stop < 0 || over < 0 ||
+	lost = eventfd(0, EFD_CLOEXEC | EFD_NONBLOCK);
+	if (events < 0 || look < 0 || stop < 0 || over < 0 || lost < 0 ||
 	    epoll_ctl(events, EPOLL_CTL_ADD, look, &looks) ||
 	    epoll_ctl(events, EPOLL_CTL_ADD, stop, &stops))
 		return failed("eventfd");
@@ -450,4 +482,5 @@ void queues_end(const sigset_t *ending)
 	close(look);
 	close(stop);
 	close(over);
+	close(lost);
 }

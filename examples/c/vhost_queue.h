@@ -46,6 +46,8 @@ int queues_begin(const transport *by);
 void queues_end(const sigset_t *ending);
 /* What is readable once a worker failed. */
 int queues_over(void);
+/* What is readable once memory is gone that the front end shared. */
+int queues_lost(void);
 
 /* Between the two no request is in flight. */
 void queues_hold(void);

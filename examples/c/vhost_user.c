@@ -2,8 +2,7 @@
  *
  * The calling thread does what the front end's messages ask. The workers of vhost_queue.c wait for
  * kicks of any queue, and take one chain at a time, so as many requests are in flight as there are
- * workers. A message that changes queues or memory waits until no request is. The front end itself
- * must leave the memory there that it shared. */
+ * workers. A message that changes queues or memory waits until no request is. */
 #define _GNU_SOURCE
 #include <errno.h>
 #include <fcntl.h>
@@ -16,6 +15,7 @@
 #include <sys/stat.h>
 #include <sys/time.h>
 #include <sys/un.h>
+#include <time.h>
 #include <unistd.h>
 #include "vhost_queue.h"
 
@@ -298,7 +298,11 @@ static enum outcome serve_message(int client)
 /* Lets go of all that a front end left, and tells what came of its requests. */
 static void part_from_client(int client)
 {
+	uint64_t times;
+
 	queues_hold();
+	while (read(queues_lost(), &times, sizeof(times)) == sizeof(times))
+		;
 	for (int i = 0; i < QUEUES; i++) {
 		struct queue *q = &vhost_queue[i];
 
@@ -340,9 +344,9 @@ static enum end serve_client(int client, int signals)
 	}
 	for (;;) {
 		struct pollfd wait[] = { { signals, POLLIN, 0 }, { queues_over(), POLLIN, 0 },
-					 { client, POLLIN, 0 } };
+					 { client, POLLIN, 0 }, { queues_lost(), POLLIN, 0 } };
 
-		if (poll(wait, 3, -1) < 0) {
+		if (poll(wait, 4, -1) < 0) {
 			if (errno == EINTR)
 				continue;
 			failed("poll");
@@ -350,6 +354,10 @@ static enum end serve_client(int client, int signals)
 		}
 		if (wait[0].revents || wait[1].revents) {
 			end = wait[1].revents ? BROKEN : SIGNALLED;
+			break;
+		}
+		if (wait[3].revents) {
+			wrong("memory that it shared is gone");
 			break;
 		}
 		if (wait[2].revents && serve_message(client) == GONE)
@@ -366,6 +374,7 @@ static enum end serve_client(int client, int signals)
 /* Serves one front end after another. */
 static enum end serve_clients(int listener, int signals)
 {
+	const struct timespec pause = { 1, 0 };
 	enum end end = HUNG_UP;
 
 	while (end == HUNG_UP) {
@@ -384,6 +393,10 @@ static enum end serve_clients(int listener, int signals)
 		client = accept4(listener, NULL, NULL, SOCK_CLOEXEC);
 		if (client >= 0) {
 			end = serve_client(client, signals);
+		} else if (errno == EMFILE || errno == ENFILE || errno == ENOBUFS || errno == ENOMEM) {
+			/* (others may give some back) */
+			failed("accept");
+			nanosleep(&pause, NULL);
 		} else if (errno != EAGAIN && errno != ECONNABORTED && errno != EINTR) {
 			failed("accept");
 			return BROKEN;
