@@ -44,50 +44,77 @@ static const struct dirent64 *next_item(struct open_file *file)
 	return (const void *)(file->buffer + file->at);
 }
 
+/* What the items of a listing take: of its reply, and of the worker's names. */
+struct space {
+	size_t room, names, count;
+	bool lacks_memory;
+};
+
+/* A place for one item more; NULL: there is no memory. */
+static nizwarf_item *add_item(struct worker *w, size_t count)
+{
+	if (count == w->items_size / sizeof(nizwarf_item) &&
+	    !grow(&w->items, &w->items_size, 2 * w->items_size + 64 * sizeof(nizwarf_item)))
+		return NULL;
+	memset(&w->items[count], 0, sizeof(nizwarf_item));
+	return &w->items[count];
+}
+
+/* Puts an item of a directory into the worker's. False: it doesn't fit, or there is no memory. */
+static bool put_item(const struct call *call, const struct dirent64 *found, struct space *space)
+{
+	const bool plus = call->asked->has & NIZWARF_PLUS;
+	const size_t len = strlen(found->d_name) + 1, size = nizwarf_record_size(len, plus);
+	struct worker *w = call->worker;
+	nizwarf_item *item;
+
+	if (size > space->room)
+		return false;
+	item = add_item(w, space->count);
+	space->lacks_memory = !item;
+	if (!item)
+		return false;
+	item->ino = found->d_ino;
+	item->offset = (uint64_t)found->d_off;
+	item->type = found->d_type;
+	item->name = memcpy(w->names + space->names, found->d_name, len);
+	item->name_size = len;
+	/* Of one that can't be looked up, or went, there is the name alone. */
+	if (plus && is_plain(found->d_name) &&
+	    look_up(call, call->node.fd, found->d_name, &item->entry))
+		memset(&item->entry, 0, sizeof(item->entry));
+	/* What is above the folder is not told. */
+	if (call->node.node->counted.number == ROOT_NODE && !strcmp(found->d_name, ".."))
+		item->ino = call->node.node->inode;
+	space->names += len;
+	space->room -= size;
+	space->count++;
+	return true;
+}
+
 /* Puts the items that fit into the worker's, under the lock of the file. */
 static int list(const struct call *call)
 {
-	const bool plus = call->asked->has & NIZWARF_PLUS;
 	struct worker *w = call->worker;
 	struct open_file *file = call->file;
-	size_t room = call->asked->size, names = 0, count = 0;
+	struct space space = { .room = call->asked->size };
 	const struct dirent64 *next = NULL;
 	int error = move_to(file, call->asked->offset);
 
 	/* Names are copied, since the buffer changes; of each the record is longer than the name. */
-	if (!error && !grow(&w->names, &w->names_size, room))
+	if (!error && !grow(&w->names, &w->names_size, space.room))
 		error = ENOMEM;
-	while (!error && (next = next_item(file))) {
-		const size_t len = strlen(next->d_name) + 1, size = nizwarf_record_size(len, plus);
-		nizwarf_item *item;
-
-		if (size > room ||
-		    (count == w->items_size / sizeof(*item) &&
-		     !grow(&w->items, &w->items_size, 2 * w->items_size + 64 * sizeof(*item))))
-			break;
-		item = &w->items[count++];
-		memset(item, 0, sizeof(*item));
-		item->ino = next->d_ino;
-		item->offset = (uint64_t)next->d_off;
-		item->type = next->d_type;
-		item->name = memcpy(w->names + names, next->d_name, len);
-		item->name_size = len;
-		/* Of one that can't be looked up, or went, there is the name alone. */
-		if (plus && is_plain(next->d_name) &&
-		    look_up(call, call->node.fd, next->d_name, &item->entry))
-			memset(&item->entry, 0, sizeof(item->entry));
-		/* What is above the folder is not told. */
-		if (call->node.node->counted.number == ROOT_NODE && !strcmp(next->d_name, ".."))
-			item->ino = call->node.node->inode;
-		names += len;
-		room -= size;
+	while (!error && (next = next_item(file)) && put_item(call, next, &space)) {
 		file->offset = (uint64_t)next->d_off;
 		file->at += next->d_reclen;
 	}
-	if (!error && !next && !count)
+	if (!error && !next && !space.count)
 		error = errno;
+	/* (a listing of no item says that the directory ends) */
+	if (!error && next && !space.count && space.lacks_memory)
+		error = ENOMEM;
 	call->answer->items = w->items;
-	call->answer->items_len = count;
+	call->answer->items_len = space.count;
 	return error;
 }
 
