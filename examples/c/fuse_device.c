@@ -203,7 +203,7 @@ static int start(struct device *d, int fd)
 	w->memory = memory;
 	if (memory) {
 		w->request = memory + PAGE - BEFORE_WRITE;
-		w->room = memory + LONGEST + 3 * PAGE - BEFORE_READ;
+		w->room = memory + (size_t)LONGEST + 3 * PAGE - BEFORE_READ;
 	}
 	/* (the first one counts on from here, as soon as it runs) */
 	d->started++;
@@ -218,13 +218,24 @@ static int start(struct device *d, int fd)
 	return -1;
 }
 
+/* Opens /dev/fuse anew, of which `first` is a descriptor. */
+static int open_anew(const transport *by, int first)
+{
+	char name[16];
+
+	if (!by->descriptors)
+		return open("/dev/fuse", O_RDWR | O_CLOEXEC);
+	snprintf(name, sizeof(name), "%d", first);
+	return openat(by->descriptors, name, O_RDWR | O_CLOEXEC);
+}
+
 /* Starts the other workers. One that can't be cloned, as a socket, is read by all. */
 static void start_others(struct device *d)
 {
 	const uint32_t first = (uint32_t)d->worker[0].fd;
 
 	while (d->started < d->by->workers) {
-		int fd = open("/dev/fuse", O_RDWR | O_CLOEXEC);
+		int fd = open_anew(d->by, d->worker[0].fd);
 
 		if (fd < 0 || ioctl(fd, FUSE_DEV_IOC_CLONE, &first)) {
 			if (fd >= 0)
@@ -278,8 +289,7 @@ static void interrupted(int number)
 	(void)number;
 }
 
-/* Unmounts. -1: it could not. */
-static int unmount(const transport *by, const char *folder)
+int fuse_device_unmount(const transport *by, const char *folder)
 {
 	if (!umount2(folder, 0) || errno != EBUSY)
 		return 0;
@@ -332,19 +342,18 @@ static void wait_for_end(struct device *d, int signals, const char *folder)
 			continue;
 		if (asked++ || !folder)
 			return;
-		if (unmount(d->by, folder)) {
+		if (fuse_device_unmount(d->by, folder)) {
 			atomic_store(&d->failed, 1);
 			return;
 		}
 	}
 }
 
-int fuse_device_serve(const transport *by, int device, const char *folder)
+/* Blocks the signals that end it, and gives a descriptor of them. */
+static int await_signals(void)
 {
 	const struct sigaction interrupts = { .sa_handler = interrupted };
-	struct device *d = calloc(1, sizeof(*d));
 	sigset_t ending;
-	int signals, is_wrong = 1;
 
 	sigemptyset(&ending);
 	sigaddset(&ending, SIGINT);
@@ -353,57 +362,86 @@ int fuse_device_serve(const transport *by, int device, const char *folder)
 	pthread_sigmask(SIG_BLOCK, &ending, NULL);
 	signal(SIGPIPE, SIG_IGN);
 	sigaction(SIGRTMIN, &interrupts, NULL);
-	signals = signalfd(-1, &ending, SFD_CLOEXEC);
-	if (d) {
+	return signalfd(-1, &ending, SFD_CLOEXEC);
+}
+
+/* Serves by workers, until they have ended. Answers whether they failed. */
+static int serve(struct device *d, int device, int signals, const char *folder)
+{
+	if (start(d, device))
+		return 1;
+	wait_for_end(d, signals, folder);
+	pthread_mutex_lock(&d->lock);
+	atomic_store(&d->stop, 1);
+	pthread_cond_broadcast(&d->call);
+	pthread_mutex_unlock(&d->lock);
+	/* The first one has started the others. */
+	end(&d->worker[0]);
+	for (unsigned i = 1; i < d->started; i++)
+		end(&d->worker[i]);
+	return atomic_load(&d->failed);
+}
+
+static void close_each(const int *fds, size_t count)
+{
+	for (size_t i = 0; i < count; i++)
+		if (fds[i] >= 0)
+			close(fds[i]);
+}
+
+int fuse_device_serve(const transport *by, int device, const char *folder)
+{
+	struct device *d = calloc(1, sizeof(*d));
+	const int own[] = { await_signals(), eventfd(0, EFD_CLOEXEC), eventfd(0, EFD_CLOEXEC) };
+	int is_wrong = 1;
+
+	if (d && own[0] >= 0 && own[1] >= 0 && own[2] >= 0) {
 		d->by = by;
-		d->over = eventfd(0, EFD_CLOEXEC);
-		d->busy = eventfd(0, EFD_CLOEXEC);
+		d->over = own[1];
+		d->busy = own[2];
 		pthread_mutex_init(&d->lock, NULL);
 		pthread_cond_init(&d->call, NULL);
-	}
-	if (!d || signals < 0 || d->over < 0 || d->busy < 0) {
+		is_wrong = serve(d, device, own[0], folder);
+	} else {
 		say(by, "signalfd and eventfd");
 		close(device);
-	} else if (!start(d, device)) {
-		wait_for_end(d, signals, folder);
-		pthread_mutex_lock(&d->lock);
-		atomic_store(&d->stop, 1);
-		pthread_cond_broadcast(&d->call);
-		pthread_mutex_unlock(&d->lock);
-		/* The first one has started the others. */
-		end(&d->worker[0]);
-		for (unsigned i = 1; i < d->started; i++)
-			end(&d->worker[i]);
-		is_wrong = atomic_load(&d->failed);
 	}
 	if (is_wrong && folder)
 		umount2(folder, MNT_DETACH);
-	if (signals >= 0)
-		close(signals);
-	if (d && d->over >= 0)
-		close(d->over);
-	if (d && d->busy >= 0)
-		close(d->busy);
+	close_each(own, sizeof(own) / sizeof(*own));
 	free(d);
 	return is_wrong;
+}
+
+int fuse_device_open(const transport *by)
+{
+	const int device = open("/dev/fuse", O_RDWR | O_CLOEXEC);
+
+	return device < 0 ? say(by, "/dev/fuse") : device;
+}
+
+int fuse_device_mount_on(const transport *by, int device, const char *source, const char *folder,
+			 unsigned long flags, const char *options)
+{
+	char words[512];
+	const int len = snprintf(words, sizeof(words),
+				 "fd=%d,rootmode=40000,user_id=%u,group_id=%u%s", device,
+				 (unsigned)geteuid(), (unsigned)getegid(), options);
+
+	errno = E2BIG;
+	if (len >= 0 && (size_t)len < sizeof(words) &&
+	    !mount(source, folder, "fuse.nizwarf", flags, words))
+		return 0;
+	return say(by, folder);
 }
 
 int fuse_device_mount(const transport *by, const char *source, const char *folder,
 		      unsigned long flags, const char *options)
 {
-	const int device = open("/dev/fuse", O_RDWR | O_CLOEXEC);
-	char words[512];
-	int len;
+	const int device = fuse_device_open(by);
 
-	if (device < 0)
-		return say(by, "/dev/fuse");
-	len = snprintf(words, sizeof(words), "fd=%d,rootmode=40000,user_id=%u,group_id=%u%s", device,
-		       (unsigned)geteuid(), (unsigned)getegid(), options);
-	errno = E2BIG;
-	if (len >= 0 && (size_t)len < sizeof(words) &&
-	    !mount(source, folder, "fuse.nizwarf", flags, words))
+	if (device < 0 || !fuse_device_mount_on(by, device, source, folder, flags, options))
 		return device;
-	say(by, folder);
 	close(device);
 	return -1;
 }

@@ -5,11 +5,12 @@
 #include <stdio.h>
 #include <stdlib.h>
 #include <string.h>
+#include <time.h>
 #include <unistd.h>
 #include "passthrough_call.h"
 
-/* How long a client may remember, in seconds. */
-enum { NO_TIME = 0, SHORT_TIME = 1, LONG_TIME = 86400 };
+/* How long a client may remember, in milliseconds. */
+enum { NO_TIME = 0, SHORT_TIME = 1000, LONG_TIME = 86400000 };
 
 /* ---- pieces of requests and rooms */
 
@@ -90,6 +91,37 @@ static int32_t answer_call(struct call *call, const nizwarf_session *session,
 	return code;
 }
 
+/* Whether a request gives something back. Its client thinks that it did, whatever the reply is. */
+static bool gives_back(const nizwarf_segment *request)
+{
+	struct fuse_in_header header;
+
+	if (request->len < sizeof(header))
+		return false;
+	memcpy(&header, request->at, sizeof(header));
+	return header.opcode == FUSE_FORGET || header.opcode == FUSE_BATCH_FORGET ||
+	       header.opcode == FUSE_RELEASE || header.opcode == FUSE_RELEASEDIR ||
+	       header.opcode == FUSE_DESTROY;
+}
+
+/* Asks what a request asks for. One that gives something back waits for memory, up to ten seconds. */
+static int32_t ask(struct worker *w, const nizwarf_session *session, const nizwarf_segment *request,
+		   size_t segments, const nizwarf_room *room, size_t rooms, nizwarf_call *asked,
+		   nizwarf_told *told)
+{
+	const struct timespec pause = { 0, 1000000 };
+	int32_t code = NIZWARF_OUT_OF_MEMORY;
+
+	for (int tries = 0; code == NIZWARF_OUT_OF_MEMORY && tries < 10000; tries++) {
+		if (tries && !gives_back(request))
+			break;
+		if (tries)
+			nanosleep(&pause, NULL);
+		code = nizwarf_ask(&w->slot, session, request, segments, room, rooms, asked, told);
+	}
+	return code;
+}
+
 int32_t passthrough_serve(void *user, unsigned worker, const nizwarf_segment *request,
 			  size_t segments, const nizwarf_room *room, size_t rooms, size_t *len)
 {
@@ -104,7 +136,7 @@ int32_t passthrough_serve(void *user, unsigned worker, const nizwarf_segment *re
 	ssize_t pieces = 0;
 	int32_t code;
 
-	code = nizwarf_ask(&w->slot, &session, request, segments, room, rooms, &asked, &told);
+	code = ask(w, &session, request, segments, room, rooms, &asked, &told);
 	if (code != NIZWARF_ASKED) {
 		*len = told.len;
 		return code;
@@ -124,7 +156,7 @@ int passthrough_begin(void *user, unsigned worker)
 {
 	struct passthrough *all = user;
 
-	if (!begin_as_root(all->worker[worker]))
+	if (!begin_as_root(all->worker[worker], &all->options))
 		return 0;
 	fprintf(stderr, "nizwarf-share: capabilities: %s\n", strerror(errno));
 	return 1;
@@ -149,12 +181,15 @@ void passthrough_parted(void *user)
 struct passthrough *passthrough_new(int root, int proc, const struct passthrough_options *options)
 {
 	struct passthrough *all = calloc(1, sizeof(*all));
+	uint64_t time;
 
 	if (!all)
 		return NULL;
 	all->options = *options;
-	all->seconds = options->cache == CACHE_NEVER ? NO_TIME :
-		       options->cache == CACHE_AUTO ? SHORT_TIME : LONG_TIME;
+	time = options->cache == CACHE_NEVER ? NO_TIME :
+	       options->cache == CACHE_AUTO ? SHORT_TIME : LONG_TIME;
+	all->entry_time = options->entry_time == AS_CACHE_SAYS ? time : options->entry_time;
+	all->attr_time = options->attr_time == AS_CACHE_SAYS ? time : options->attr_time;
 	/* What is not remembered is not written later: the kernel would tell of times that are not so. */
 	if (options->cache == CACHE_NEVER || options->cache == CACHE_METADATA)
 		all->options.writeback = false;

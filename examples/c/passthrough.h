@@ -24,8 +24,13 @@ enum passthrough_cache {
 	CACHE_METADATA,
 };
 
+/* A time that isn't said. */
+#define AS_CACHE_SAYS UINT64_MAX
+
 struct passthrough_options {
 	enum passthrough_cache cache;
+	/* For how many milliseconds names and attributes are remembered. */
+	uint64_t entry_time, attr_time;
 	/* The client may write later what it was given to write. */
 	bool writeback;
 	/* Extended attributes are served. */
@@ -51,7 +56,7 @@ void passthrough_end(struct passthrough *all);
 
 /* Leaves the calling thread, if it is root, the capabilities alone that a worker has. 0, or -1 with
  * errno. */
-int passthrough_limit(void);
+int passthrough_limit(const struct passthrough_options *options);
 
 /* The functions of a transport, whose `user` is the passthrough. */
 int passthrough_begin(void *user, unsigned worker);

@@ -74,9 +74,9 @@ static int open_node(const struct call *call, int flags)
 
 enum { WANTED = STATX_BASIC_STATS | STATX_MNT_ID };
 
-static void tell_attr(nizwarf_attr *attr, const struct statx *seen)
+static nizwarf_attr attr_of(const struct statx *seen)
 {
-	*attr = (nizwarf_attr) {
+	return (nizwarf_attr) {
 		.ino = seen->stx_ino,
 		.size = seen->stx_size,
 		.blocks = seen->stx_blocks,
@@ -95,13 +95,16 @@ static void tell_attr(nizwarf_attr *attr, const struct statx *seen)
 	};
 }
 
-/* How long attributes hold. A client that writes later does not ask for the mode of a file that it
- * truncated, and that lost its set-user-ID bit so: with one they do not. */
-static uint64_t hold(const struct call *call, const struct statx *seen)
+/* Tells attributes, and how long they hold. A client that writes later does not ask for the mode of
+ * a file that it truncated, and that lost its set-user-ID bit so: with one they do not. */
+static void tell_attr(const struct call *call, const struct statx *seen, nizwarf_entry *entry)
 {
 	const bool may_lose = seen->stx_mode & (S_ISUID | S_ISGID) && S_ISREG(seen->stx_mode);
+	const uint64_t time = may_lose && call->all->options.writeback ? 0 : call->all->attr_time;
 
-	return may_lose && call->all->options.writeback ? 0 : call->all->seconds;
+	entry->attr = attr_of(seen);
+	entry->attr_seconds = time / 1000;
+	entry->attr_nanoseconds = (uint32_t)(time % 1000) * 1000000;
 }
 
 /* What is told of a node that has a lookup more. */
@@ -110,16 +113,20 @@ static void tell_entry(const struct call *call, uint64_t number, const struct st
 {
 	const struct passthrough *all = call->all;
 
-	*entry = (nizwarf_entry) { .node = number, .entry_seconds = all->seconds,
-				   .attr_seconds = hold(call, seen) };
-	tell_attr(&entry->attr, seen);
+	*entry = (nizwarf_entry) {
+		.node = number,
+		.entry_seconds = all->entry_time / 1000,
+		.entry_nanoseconds = (uint32_t)(all->entry_time % 1000) * 1000000,
+	};
+	tell_attr(call, seen, entry);
 	if (atomic_load(&all->agreed) & FUSE_SUBMOUNTS && all->options.announce_submounts &&
 	    S_ISDIR(seen->stx_mode) && seen->stx_mnt_id != call->node.node->mount)
 		entry->attr.flags = FUSE_ATTR_SUBMOUNT;
 }
 
-/* The entry of a file that was opened with O_PATH; the descriptor is the node's, or closed. */
-static int enter(const struct call *call, int fd, nizwarf_entry *entry)
+/* The entry of a file in a directory, which was opened with O_PATH; the descriptor is the node's, or
+ * closed. */
+static int enter(const struct call *call, int directory, int fd, nizwarf_entry *entry)
 {
 	struct statx seen;
 	uint64_t number;
@@ -130,11 +137,10 @@ static int enter(const struct call *call, int fd, nizwarf_entry *entry)
 		close(fd);
 		return error;
 	}
-	number = node_enter(&call->all->nodes, fd, &seen);
-	if (!number)
-		return ENOMEM;
-	tell_entry(call, number, &seen, entry);
-	return 0;
+	error = node_enter(&call->all->nodes, directory, fd, &seen, &number);
+	if (!error)
+		tell_entry(call, number, &seen, entry);
+	return error;
 }
 
 int look_up(const struct call *call, int directory, const char *name, nizwarf_entry *entry)
@@ -152,7 +158,7 @@ int look_up(const struct call *call, int directory, const char *name, nizwarf_en
 		return 0;
 	}
 	fd = openat(directory, name, O_PATH | O_NOFOLLOW | O_CLOEXEC);
-	return fd < 0 ? errno : enter(call, fd, entry);
+	return fd < 0 ? errno : enter(call, directory, fd, entry);
 }
 
 static int get_attr(const struct call *call)
@@ -162,8 +168,7 @@ static int get_attr(const struct call *call)
 
 	if (statx(fd, "", AT_EMPTY_PATH | AT_SYMLINK_NOFOLLOW, WANTED, &seen))
 		return errno;
-	tell_attr(&call->answer->entry.attr, &seen);
-	call->answer->entry.attr_seconds = hold(call, &seen);
+	tell_attr(call, &seen, &call->answer->entry);
 	return 0;
 }
 
@@ -395,7 +400,7 @@ static int create_file(struct call *call)
 		return error;
 	/* The name may be another file's by now. */
 	path = open_again(&call->all->nodes, fd, O_PATH);
-	error = path < 0 ? errno : enter(call, path, entry);
+	error = path < 0 ? errno : enter(call, call->node.fd, path, entry);
 	if (error) {
 		close(fd);
 		return error;
@@ -404,6 +409,20 @@ static int create_file(struct call *call)
 	if (error)
 		node_forget(&call->all->nodes, entry->node, 1);
 	return error;
+}
+
+/* Leaves out of the pieces what was moved. */
+static void move_on(struct iovec **data, size_t *pieces, size_t moved)
+{
+	while (*pieces && moved >= (*data)->iov_len) {
+		moved -= (*data)->iov_len;
+		(*data)++;
+		(*pieces)--;
+	}
+	if (moved) {
+		(*data)->iov_base = (char *)(*data)->iov_base + moved;
+		(*data)->iov_len -= moved;
+	}
 }
 
 /* READ and WRITE: of all that is there, right from or into the pieces. */
@@ -420,24 +439,17 @@ static int transfer(const struct call *call)
 	while (pieces) {
 		const int most = pieces < IOV_MAX ? (int)pieces : IOV_MAX;
 		const off_t at = (off_t)(asked->offset + done);
-		ssize_t moved = is_read ? preadv(fd, data, most, at) : pwritev(fd, data, most, at);
+		const ssize_t moved = is_read ? preadv(fd, data, most, at) : pwritev(fd, data, most, at);
 
 		if (moved < 0 && errno == EINTR)
 			continue;
-		if (moved < 0 && !done)
+		/* (of what a kernel writes later it doesn't look at how much was written) */
+		if (moved < 0 && (!done || asked->has & NIZWARF_DELAYED))
 			return errno;
 		if (moved <= 0)
 			break;
 		done += (size_t)moved;
-		while (pieces && (size_t)moved >= data->iov_len) {
-			moved -= (ssize_t)data->iov_len;
-			data++;
-			pieces--;
-		}
-		if (moved) {
-			data->iov_base = (char *)data->iov_base + moved;
-			data->iov_len -= (size_t)moved;
-		}
+		move_on(&data, &pieces, (size_t)moved);
 	}
 	call->answer->count = done;
 	return 0;

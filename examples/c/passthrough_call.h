@@ -31,8 +31,8 @@ struct passthrough {
 	struct nodes nodes;
 	/* The options that are agreed on with the client. */
 	atomic_ullong agreed;
-	/* How long it may remember names and attributes. */
-	uint64_t seconds;
+	/* For how many milliseconds it may remember names and attributes. */
+	uint64_t entry_time, attr_time;
 	struct worker *worker[TRANSPORT_MOST_WORKERS];
 };
 
@@ -71,7 +71,7 @@ int look_up(const struct call *call, int directory, const char *name, nizwarf_en
 
 /* Leaves the thread of a worker the capabilities that it needs, if it is root: 0, or -1 with
  * errno. */
-int begin_as_root(struct worker *w);
+int begin_as_root(struct worker *w, const struct passthrough_options *options);
 /* From now on this thread makes files as who asks: 0, or an error. Then it is root again. */
 int become(const struct call *call);
 void become_root(const struct call *call);

@@ -92,12 +92,33 @@ static void take(struct table *table, struct slot *slot)
 
 /* ---- nodes */
 
+/* Lets go of a mount. With its last node it is closed, so that the host can unmount it. */
+static void mount_put(struct host_mount *mount)
+{
+	struct host_mount **at;
+
+	if (!mount)
+		return;
+	pthread_mutex_lock(&mount->of->mounts_lock);
+	at = --mount->users ? NULL : &mount->of->mounts;
+	while (at && *at != mount)
+		at = &(*at)->next;
+	if (at)
+		*at = mount->next;
+	pthread_mutex_unlock(&mount->of->mounts_lock);
+	if (at) {
+		close(mount->fd);
+		free(mount);
+	}
+}
+
 static void free_node(struct node *node)
 {
 	if (!node || atomic_fetch_sub(&node->counted.users, 1) > 1)
 		return;
 	if (node->counted.fd >= 0)
 		close(node->counted.fd);
+	mount_put(node->handle_of);
 	free(node->handle);
 	free(node);
 }
@@ -235,57 +256,95 @@ static void grow_chains(struct nodes *all)
 	free(old);
 }
 
-/* A descriptor by which handles of a mount are opened, which is of a file that is there; NULL where
- * it can't be. */
-static const struct host_mount *mount_by(struct nodes *all, int fd, const struct statx *seen)
+/* Opens what handles of a mount are opened by: the file if that is a directory, or else the one that
+ * it was found in, so that no file is kept which its owner removes. -1: neither can be. */
+static int open_mount(const struct nodes *all, int directory, int fd, const struct statx *seen)
+{
+	struct statx above;
+
+	if (S_ISDIR(seen->stx_mode))
+		return open_again(all, fd, O_RDONLY | O_DIRECTORY);
+	if (directory >= 0 && !statx(directory, "", AT_EMPTY_PATH, STATX_MNT_ID, &above) &&
+	    mount_of(&above) == mount_of(seen))
+		return open_again(all, directory, O_RDONLY | O_DIRECTORY);
+	/* (a file on which another one is mounted) */
+	return S_ISREG(seen->stx_mode) ? open_again(all, fd, O_RDONLY) : -1;
+}
+
+/* The mount of a file, with a user more; NULL where there can be none. */
+static struct host_mount *mount_by(struct nodes *all, int directory, int fd, const struct statx *seen)
 {
 	struct host_mount *mount;
 
 	pthread_mutex_lock(&all->mounts_lock);
 	for (mount = all->mounts; mount && mount->id != mount_of(seen); mount = mount->next)
 		;
-	if (!mount && (S_ISREG(seen->stx_mode) || S_ISDIR(seen->stx_mode))) {
-		mount = malloc(sizeof(*mount));
-		if (mount) {
-			*mount = (struct host_mount) { mount_of(seen), open_again(all, fd, O_RDONLY),
-						       all->mounts };
-			if (mount->fd >= 0) {
-				all->mounts = mount;
-			} else {
-				free(mount);
-				mount = NULL;
-			}
+	if (!mount && (mount = malloc(sizeof(*mount)))) {
+		*mount = (struct host_mount) { all, mount_of(seen), open_mount(all, directory, fd, seen),
+					       0, all->mounts };
+		if (mount->fd >= 0) {
+			all->mounts = mount;
+		} else {
+			free(mount);
+			mount = NULL;
 		}
 	}
+	if (mount)
+		mount->users++;
 	pthread_mutex_unlock(&all->mounts_lock);
 	return mount;
 }
 
-/* The handle of a file by which it is opened again, or NULL. */
-static struct file_handle *handle_by(int fd, const struct host_mount *mount)
+/* The handle of a file; NULL if it has none. 0, or an error. */
+static int handle_by(int fd, struct file_handle **handle)
 {
-	struct file_handle *handle = calloc(1, sizeof(*handle) + MAX_HANDLE_SZ);
-	int id, again;
+	int id;
 
-	if (!handle)
-		return NULL;
-	handle->handle_bytes = MAX_HANDLE_SZ;
-	again = name_to_handle_at(fd, "", handle, &id, AT_EMPTY_PATH) ? -1 :
-		open_by_handle_at(mount->fd, handle, O_PATH | O_NOFOLLOW | O_CLOEXEC);
-	if (again < 0) {
-		free(handle);
-		return NULL;
-	}
-	close(again);
-	return handle;
+	*handle = calloc(1, sizeof(**handle) + MAX_HANDLE_SZ);
+	if (!*handle)
+		return ENOMEM;
+	(*handle)->handle_bytes = MAX_HANDLE_SZ;
+	if (!name_to_handle_at(fd, "", *handle, &id, AT_EMPTY_PATH))
+		return 0;
+	free(*handle);
+	*handle = NULL;
+	return 0;
 }
 
-uint64_t node_enter(struct nodes *all, int fd, const struct statx *seen)
+/* Whether a handle opens. */
+static bool opens(const struct host_mount *mount, struct file_handle *handle)
 {
-	const bool by_handle = fd >= all->handles_from || some_handle(all, seen);
-	const struct host_mount *mount = by_handle ? mount_by(all, fd, seen) : NULL;
-	struct file_handle *handle = mount ? handle_by(fd, mount) : NULL;
-	struct node *made = calloc(1, sizeof(*made)), *node;
+	const int fd = open_by_handle_at(mount->fd, handle, O_PATH | O_NOFOLLOW | O_CLOEXEC);
+
+	return fd >= 0 && !close(fd);
+}
+
+/* Has a node hold its file by a handle where that can be, or else by the descriptor. The handle and
+ * the descriptor are the node's from then on. 0, or an error. */
+static int hold(struct nodes *all, struct node *node, int directory, int fd, const struct statx *seen,
+		struct file_handle *handle)
+{
+	node->handle = handle;
+	node->handle_of = handle ? mount_by(all, directory, fd, seen) : NULL;
+	if (node->handle_of && opens(node->handle_of, handle)) {
+		node->counted.fd = -1;
+		close(fd);
+		return 0;
+	}
+	mount_put(node->handle_of);
+	node->handle_of = NULL;
+	free(handle);
+	node->handle = NULL;
+	node->counted.fd = fd;
+	return all->handles_alone ? EOPNOTSUPP : 0;
+}
+
+/* Adds a lookup of a known node; or `*made`, if that isn't NULL, which is NULL then. The node's
+ * number; 0: neither could be. */
+static uint64_t add_lookup(struct nodes *all, const struct statx *seen,
+			   const struct file_handle *handle, struct node **made)
+{
+	struct node *node, **chain;
 	uint64_t number = 0;
 
 	pthread_rwlock_wrlock(&all->nodes.lock);
@@ -293,35 +352,48 @@ uint64_t node_enter(struct nodes *all, int fd, const struct statx *seen)
 	if (node) {
 		atomic_fetch_add(&node->lookups, 1);
 		number = node->counted.number;
-	} else if (made && add(&all->nodes, &made->counted)) {
-		struct node **chain;
-
+	} else if (made && add(&all->nodes, &(*made)->counted)) {
 		if (all->nodes.count > all->chain_count)
 			grow_chains(all);
-		chain = chain_of(all, device_of(seen), seen->stx_ino);
-		atomic_init(&made->counted.users, 1);
-		atomic_init(&made->lookups, 1);
-		made->counted.fd = handle ? -1 : fd;
-		made->handle = handle;
-		made->handle_of = mount;
-		made->device = device_of(seen);
-		made->inode = seen->stx_ino;
-		made->mount = mount_of(seen);
-		made->type = seen->stx_mode & S_IFMT;
-		made->next = *chain;
-		*chain = made;
-		number = made->counted.number;
-		if (!handle)
-			fd = -1;
-		handle = NULL;
-		made = NULL;
+		chain = chain_of(all, (*made)->device, (*made)->inode);
+		(*made)->next = *chain;
+		*chain = *made;
+		number = (*made)->counted.number;
+		*made = NULL;
 	}
 	pthread_rwlock_unlock(&all->nodes.lock);
-	free(made);
-	free(handle);
-	if (fd >= 0)
-		close(fd);
 	return number;
+}
+
+int node_enter(struct nodes *all, int directory, int fd, const struct statx *seen, uint64_t *number)
+{
+	const bool by_handle = fd >= all->handles_from || some_handle(all, seen);
+	struct node *made = calloc(1, sizeof(*made));
+	struct file_handle *handle = NULL;
+	int error = made ? 0 : ENOMEM;
+
+	if (!error && by_handle)
+		error = handle_by(fd, &handle);
+	*number = !error && handle ? add_lookup(all, seen, handle, NULL) : 0;
+	if (error || *number) {
+		free(made);
+		free(handle);
+		close(fd);
+		return error;
+	}
+	atomic_init(&made->counted.users, 1);
+	atomic_init(&made->lookups, 1);
+	made->device = device_of(seen);
+	made->inode = seen->stx_ino;
+	made->mount = mount_of(seen);
+	made->type = seen->stx_mode & S_IFMT;
+	error = hold(all, made, directory, fd, seen, handle);
+	if (!error) {
+		*number = add_lookup(all, seen, made->handle, &made);
+		error = *number ? 0 : ENOMEM;
+	}
+	free_node(made);
+	return error;
 }
 
 /* Takes a node from its chain and its number, under the lock. */
@@ -394,6 +466,7 @@ int nodes_begin(struct nodes *all, int root, int proc, enum file_handles handles
 {
 	struct rlimit limit = { 0, 0 };
 	struct statx seen;
+	uint64_t number;
 
 	memset(all, 0, sizeof(*all));
 	table_begin(&all->nodes);
@@ -406,9 +479,10 @@ int nodes_begin(struct nodes *all, int root, int proc, enum file_handles handles
 		return -1;
 	/* The root stays open, whatever the others are. */
 	all->handles_from = INT_MAX;
-	if (node_enter(all, root, &seen) != ROOT_NODE)
+	if (node_enter(all, -1, root, &seen, &number))
 		return -1;
-	if (handles == HANDLES_PREFERRED)
+	all->handles_alone = handles == HANDLES_ALONE;
+	if (handles == HANDLES_PREFERRED || handles == HANDLES_ALONE)
 		all->handles_from = 0;
 	else if (handles == HANDLES_IF_SCARCE && !getrlimit(RLIMIT_NOFILE, &limit) &&
 		 limit.rlim_cur < INT_MAX)
@@ -424,13 +498,6 @@ void nodes_end(struct nodes *all)
 	root = slot_of(&all->nodes, ROOT_NODE);
 	if (root)
 		free_node((struct node *)root->thing);
-	while (all->mounts) {
-		struct host_mount *mount = all->mounts;
-
-		all->mounts = mount->next;
-		close(mount->fd);
-		free(mount);
-	}
 	table_end(&all->nodes);
 	table_end(&all->files);
 	pthread_mutex_destroy(&all->mounts_lock);

@@ -22,6 +22,8 @@ enum file_handles {
 	/* From three quarters of the descriptors on that may be open. */
 	HANDLES_IF_SCARCE,
 	HANDLES_PREFERRED,
+	/* What has none is not served. */
+	HANDLES_ALONE,
 };
 
 /* What a number leads to, before the fields of its kind. `users` are the table, and each call that
@@ -44,10 +46,15 @@ struct table {
 	uint32_t size, used, first_free, count;
 };
 
-/* A mount of the host, with a descriptor by which handles are opened. */
+struct nodes;
+
+/* A mount of the host, with a descriptor by which handles are opened. It is there as long as a node
+ * has a handle of it. */
 struct host_mount {
+	struct nodes *of;
 	uint64_t id;
 	int fd;
+	uint32_t users;
 	struct host_mount *next;
 };
 
@@ -59,7 +66,7 @@ struct node {
 	/* S_IFREG .., which a file keeps. */
 	mode_t type;
 	struct file_handle *handle;
-	const struct host_mount *handle_of;
+	struct host_mount *handle_of;
 	/* The next one in its chain. */
 	struct node *next;
 };
@@ -83,6 +90,7 @@ struct nodes {
 	int proc;
 	/* A new node whose descriptor is this one or a later one gets a handle. */
 	int handles_from;
+	bool handles_alone;
 	pthread_mutex_t mounts_lock;
 	struct host_mount *mounts;
 };
@@ -105,9 +113,9 @@ void node_put(struct grip *grip);
  * is opened. */
 uint64_t node_find(struct nodes *all, const struct statx *seen);
 
-/* The number of a file, with a lookup more, which was opened with O_PATH: `fd` is the node's from
- * then on, or closed. 0: there is no memory. */
-uint64_t node_enter(struct nodes *all, int fd, const struct statx *seen);
+/* Gives the number of a file, with a lookup more, which was opened with O_PATH: `fd` is the node's
+ * from then on, or closed. `directory` is one that it was found in. 0, or an error. */
+int node_enter(struct nodes *all, int directory, int fd, const struct statx *seen, uint64_t *number);
 
 /* Gives lookups back. With the last one the node goes. */
 void node_forget(struct nodes *all, uint64_t number, uint64_t count);

@@ -80,14 +80,15 @@ void regain_fsetid(const struct call *call)
 }
 
 /* What files are made, changed, owned and read with, whoever asks. */
-static const int kept[] = { CAP_CHOWN, CAP_DAC_OVERRIDE, CAP_DAC_READ_SEARCH, CAP_FOWNER,
-			    CAP_FSETID, CAP_MKNOD, CAP_SETFCAP, CAP_SETGID, CAP_SETUID };
+static const int kept[] = { CAP_CHOWN, CAP_DAC_OVERRIDE, CAP_FOWNER, CAP_FSETID, CAP_MKNOD, CAP_SETFCAP,
+			    CAP_SETGID, CAP_SETUID };
 
 /* Leaves the calling thread these, and tells which of them it had: -1 with errno. */
-static int limit(struct __user_cap_data_struct left[2])
+static int limit(struct __user_cap_data_struct left[2], const struct passthrough_options *options)
 {
 	struct __user_cap_header_struct header = { _LINUX_CAPABILITY_VERSION_3, 0 };
-	uint32_t mask = 0;
+	/* (by this one handles are opened, of any file) */
+	uint32_t mask = options->file_handles == HANDLES_NEVER ? 0 : 1u << CAP_DAC_READ_SEARCH;
 
 	for (size_t i = 0; i < sizeof(kept) / sizeof(*kept); i++)
 		mask |= 1u << kept[i];
@@ -101,15 +102,15 @@ static int limit(struct __user_cap_data_struct left[2])
 	return (int)syscall(SYS_capset, &header, left);
 }
 
-int passthrough_limit(void)
+int passthrough_limit(const struct passthrough_options *options)
 {
 	struct __user_cap_data_struct left[2];
 
-	return geteuid() == 0 ? limit(left) : 0;
+	return geteuid() == 0 ? limit(left, options) : 0;
 }
 
-int begin_as_root(struct worker *w)
+int begin_as_root(struct worker *w, const struct passthrough_options *options)
 {
 	w->is_root = geteuid() == 0;
-	return w->is_root && (limit(w->capabilities) || syscall(SYS_setgroups, 0, NULL)) ? -1 : 0;
+	return w->is_root && (limit(w->capabilities, options) || syscall(SYS_setgroups, 0, NULL)) ? -1 : 0;
 }

@@ -34,9 +34,11 @@ static const char usage[] =
 	"Mounts the folder on the mount point over /dev/fuse, until it is unmounted or SIGINT or\n"
 	"SIGTERM comes; or serves it on the socket to one virtual machine after another, as a\n"
 	"vhost-user device of virtio-fs.\n"
-	"  -o OPTIONS                of a mount, with commas between them: allow_other, ro, rw,\n"
-	"                            max_read=N, fsname=NAME, noexec, suid, nosuid, dev, nodev,\n"
-	"                            noatime, xattr, writeback\n"
+	"  -o OPTIONS                with commas between them: allow_other, ro, rw, max_read=N,\n"
+	"                            fsname=NAME, exec, noexec, suid, nosuid, dev, nodev, sync,\n"
+	"                            async, dirsync, atime, noatime, nodiratime, relatime, and\n"
+	"                            entry_timeout=SECONDS, attr_timeout=SECONDS: how long names\n"
+	"                            and attributes are remembered; xattr, writeback\n"
 	"  --shared-dir=FOLDER       the folder, in place of the word\n"
 	"  --socket-path=SOCKET      listens on a new socket of this path\n"
 	"  --fd=N                    listens on the socket of this descriptor\n"
@@ -50,14 +52,14 @@ static const char usage[] =
 	"  --announce-submounts      mounts below the folder are told to be such; with\n"
 	"  --no-announce-submounts   not, as without a word\n"
 	"  --inode-file-handles=HOW  when files are held by handles, and not by descriptors: never,\n"
-	"                            prefer: where they can be, auto (the default): only if\n"
-	"                            descriptors are scarce\n"
+	"                            prefer: where they can be, mandatory: what has none is an error,\n"
+	"                            auto (the default): only if descriptors are scarce\n"
 	"  --thread-pool-size=N      how many requests are served at once, 1 to 64 (4)\n"
 	"  --rlimit-nofile=N         the most open files; 0: as it is (1000000, or what may be)\n"
-	"  --sandbox=HOW             namespace (the default of root over vhost-user), chroot or none:\n"
-	"                            what else than the folder the server sees\n"
+	"  --sandbox=HOW             namespace (the default), chroot or none: what else than the\n"
+	"                            folder the server sees\n"
 	"  --seccomp=HOW             kill, trap, log or none: what a system call comes to that serving\n"
-	"                            doesn't make (kill over vhost-user if it is built in)\n"
+	"                            doesn't make (kill if it is built in)\n"
 	"  --log-level=LEVEL         off, error, warn, info (the default), debug\n"
 	"  --trace[=FILE]            prints each request and reply, as --log-level=debug, or writes\n"
 	"                            their bytes to a new FILE for vfs_decode\n"
@@ -75,7 +77,7 @@ static struct {
 	bool says_more, is_off, daemonizes, traces;
 } words = {
 	.files = { .cache = CACHE_AUTO, .readdirplus = true, .file_handles = HANDLES_IF_SCARCE,
-		   .workers = WORKERS },
+		   .workers = WORKERS, .entry_time = AS_CACHE_SAYS, .attr_time = AS_CACHE_SAYS },
 	.allow_other = "", .flags = MS_NOSUID | MS_NODEV, .max_read = TRANSPORT_PAYLOAD,
 	.most_files = MOST_FILES, .fd = -1, .sandbox = -1, .filter = -1, .says_more = true,
 };
@@ -119,22 +121,46 @@ static int one_of(const char *key, const char *value, const char *const *known)
 	refuse("it is not ", value);
 }
 
-/* Takes one option of a mount: a word, or KEY=VALUE. */
-static void take_option(const char *key, char *value)
+/* Seconds, perhaps with digits behind a point, in milliseconds. */
+static uint64_t milliseconds(const char *key, const char *value)
+{
+	double seconds = -1;
+	char *end = NULL;
+
+	if (value && *value >= '0' && *value <= '9' && !strpbrk(value, "xXeEpP"))
+		seconds = strtod(value, &end);
+	if (!end || *end || !(seconds >= 0 && seconds <= 1e9))
+		refuse("no number of seconds, or one out of bounds, in ", key);
+	return (uint64_t)(seconds * 1000 + 0.5);
+}
+
+/* Takes an option of mount(8) that all file systems have. Whether it is one. */
+static bool take_flag(const char *key)
 {
 	static const struct {
 		const char *word;
 		unsigned long set, clear;
 	} known[] = { { "ro", MS_RDONLY, 0 }, { "rw", 0, MS_RDONLY }, { "noexec", MS_NOEXEC, 0 },
-		      { "nosuid", MS_NOSUID, 0 }, { "suid", 0, MS_NOSUID }, { "nodev", MS_NODEV, 0 },
-		      { "dev", 0, MS_NODEV }, { "noatime", MS_NOATIME, 0 },
-		      { "default_permissions", 0, 0 } };
+		      { "exec", 0, MS_NOEXEC }, { "nosuid", MS_NOSUID, 0 }, { "suid", 0, MS_NOSUID },
+		      { "nodev", MS_NODEV, 0 }, { "dev", 0, MS_NODEV }, { "sync", MS_SYNCHRONOUS, 0 },
+		      { "async", 0, MS_SYNCHRONOUS }, { "dirsync", MS_DIRSYNC, 0 },
+		      { "noatime", MS_NOATIME, 0 }, { "atime", 0, MS_NOATIME },
+		      { "nodiratime", MS_NODIRATIME, 0 }, { "diratime", 0, MS_NODIRATIME },
+		      { "relatime", MS_RELATIME, 0 }, { "default_permissions", 0, 0 } };
 
-	for (size_t i = 0; !value && i < sizeof(known) / sizeof(*known); i++)
+	for (size_t i = 0; i < sizeof(known) / sizeof(*known); i++)
 		if (!strcmp(key, known[i].word)) {
 			words.flags = (words.flags | known[i].set) & ~known[i].clear;
-			return;
+			return true;
 		}
+	return false;
+}
+
+/* Takes one option of a mount: a word, or KEY=VALUE. */
+static void take_option(const char *key, char *value)
+{
+	if (!value && take_flag(key))
+		return;
 	if (!value && !strcmp(key, "allow_other"))
 		words.allow_other = ",allow_other";
 	else if (!value && !strcmp(key, "xattr"))
@@ -145,6 +171,10 @@ static void take_option(const char *key, char *value)
 		words.source = value;
 	else if (!strcmp(key, "max_read"))
 		words.max_read = number("max_read", value, 4096, TRANSPORT_PAYLOAD);
+	else if (!strcmp(key, "entry_timeout"))
+		words.files.entry_time = milliseconds(key, value);
+	else if (!strcmp(key, "attr_timeout"))
+		words.files.attr_time = milliseconds(key, value);
 	else
 		refuse("there is no such option: ", key);
 }
@@ -221,7 +251,7 @@ static void take_word(int word)
 	static const char *const caches[] = { "never", "auto", "always", "metadata", NULL };
 	static const char *const sandboxes[] = { "none", "chroot", "namespace", NULL };
 	static const char *const filters[] = { "none", "kill", "trap", "log", NULL };
-	static const char *const handles[] = { "never", "auto", "prefer", NULL };
+	static const char *const handles[] = { "never", "auto", "prefer", "mandatory", NULL };
 
 	switch (word) {
 	case 'o': take_options(optarg); break;
@@ -265,42 +295,49 @@ static void take_word(int word)
 	}
 }
 
+static bool is_mount(void)
+{
+	return !words.socket_path && words.fd < 0;
+}
+
+/* Refuses words that can't be together. */
+static void hold_together(void)
+{
+	if (!words.folder)
+		refuse("a folder is wanted", "");
+	if (is_mount() && !words.mount_point)
+		refuse("a mount point is wanted, or --socket-path", "");
+	if (words.socket_path && words.fd >= 0)
+		refuse("--socket-path and --fd are not both wanted", "");
+	if (words.socket_group && !words.socket_path)
+		refuse("--socket-group is of --socket-path", "");
+	if (is_mount() && geteuid() != 0)
+		refuse("only root may mount: run it as root", "");
+	if (words.sandbox == SANDBOX_CHROOT && geteuid() != 0)
+		refuse("root alone has --sandbox=chroot", "");
+	if (words.filter > FILTER_NONE && !has_filter)
+		refuse("--seccomp: it was built without libseccomp", "");
+}
+
 /* Takes the words, and holds them together. */
 static void take_words(int count, char **given)
 {
-	bool is_mount;
 	int word;
 
 	opterr = 0;
 	while ((word = getopt_long(count, given, "ho:V", known_words, NULL)) != -1)
 		take_word(word);
-	is_mount = !words.socket_path && words.fd < 0;
 	if (!words.folder && optind < count)
 		words.folder = given[optind++];
-	if (is_mount && optind < count)
+	if (is_mount() && optind < count)
 		words.mount_point = given[optind++];
-	if (!words.folder)
-		refuse("a folder is wanted", "");
-	if (is_mount && !words.mount_point)
-		refuse("a mount point is wanted, or --socket-path", "");
 	if (optind < count)
 		refuse("there is a word too many: ", given[optind]);
-	if (words.socket_path && words.fd >= 0)
-		refuse("--socket-path and --fd are not both wanted", "");
-	if (words.socket_group && !words.socket_path)
-		refuse("--socket-group is of --socket-path", "");
-	if (is_mount && words.sandbox > SANDBOX_NONE)
-		refuse("a mount has no sandbox, or it could not be unmounted", "");
-	if (is_mount && geteuid() != 0)
-		refuse("only root may mount: run it as root", "");
-	if (words.sandbox > SANDBOX_NONE && geteuid() != 0)
-		refuse("root alone can make a sandbox", "");
-	if (words.filter > FILTER_NONE && !has_filter)
-		refuse("--seccomp: it was built without libseccomp", "");
+	hold_together();
 	if (words.sandbox < 0)
-		words.sandbox = !is_mount && geteuid() == 0 ? SANDBOX_NAMESPACE : SANDBOX_NONE;
+		words.sandbox = SANDBOX_NAMESPACE;
 	if (words.filter < 0)
-		words.filter = !is_mount && has_filter ? FILTER_KILL : FILTER_NONE;
+		words.filter = has_filter ? FILTER_KILL : FILTER_NONE;
 	if (words.files.read_only)
 		words.flags |= MS_RDONLY;
 	if (words.flags & MS_RDONLY)
@@ -396,7 +433,7 @@ static void tell_ready(int manager, int parent, int nothing)
 }
 
 /* Listens for the owner, and for the group of those who may connect too. */
-static int listen_on_socket(const transport *by)
+static int listen_on_socket(const transport *of)
 {
 	const struct group *group = words.socket_group ? getgrnam(words.socket_group) : NULL;
 	mode_t before;
@@ -413,7 +450,7 @@ static int listen_on_socket(const transport *by)
 	if (words.socket_group && !group)
 		refuse("there is no group ", words.socket_group);
 	before = umask(0177);
-	listener = vhost_user_listen(by, words.socket_path);
+	listener = vhost_user_listen(of, words.socket_path);
 	umask(before);
 	if (listener < 0)
 		exit(-listener);
@@ -434,31 +471,60 @@ static bool is_below(const char *path, const char *folder)
 	return !strncmp(path, folder, len) && (!path[len] || path[len] == '/' || folder[len - 1] == '/');
 }
 
-static int mount_folder(const transport *by)
+/* The transport, and the device of a mount. */
+static transport by = { .program = "nizwarf-share", .writes_in_place = 1, .begin = passthrough_begin,
+			.end = passthrough_finish, .parted = passthrough_parted,
+			.serve = passthrough_serve };
+static int device = -1;
+
+static int mount_folder(void *user)
 {
 	char options[80];
+	int error;
 
+	(void)user;
 	snprintf(options, sizeof(options), ",default_permissions,max_read=%lu%s", words.max_read,
 		 words.allow_other);
-	return fuse_device_mount(by, words.source ? words.source : words.folder, words.mount_point,
-				 words.flags, options);
+	error = fuse_device_mount_on(&by, device, words.source ? words.source : words.folder,
+				     words.mount_point, words.flags, options);
+	/* (a device that others have too doesn't end with the server) */
+	if (words.sandbox != SANDBOX_NONE)
+		close(device);
+	return error;
+}
+
+static int unmount_folder(void *user)
+{
+	(void)user;
+	return fuse_device_unmount(&by, words.mount_point);
 }
 
 /* Leaves the process what it needs to serve. -1: it failed, and said why. */
 static int limit(void)
 {
+	const bool mounts = words.mount_point && words.sandbox == SANDBOX_NONE;
+
 	/* (to unmount takes more than the files do, and each worker limits itself) */
-	if ((!words.mount_point && passthrough_limit()) || prctl(PR_SET_NO_NEW_PRIVS, 1, 0, 0, 0))
+	if ((!mounts && passthrough_limit(&words.files)) || prctl(PR_SET_NO_NEW_PRIVS, 1, 0, 0, 0))
 		return failed("privileges");
-	return sandbox_filter((enum calls_filter)words.filter, words.mount_point != NULL);
+	return sandbox_filter((enum calls_filter)words.filter, mounts);
+}
+
+/* Mounts, from within the sandbox if there is one. */
+static int begin_mount(void)
+{
+	if (!words.mount_point)
+		return 0;
+	return words.sandbox == SANDBOX_NONE ? mount_folder(NULL) : sandbox_mount();
 }
 
 /* Serves in the sandbox, from its entering on. */
-static int serve(transport *by, int listener, int manager, int parent, int nothing)
+static int serve(int listener, int manager, int parent, int nothing)
 {
+	/* What stands by unmounts, where something does. */
+	const char *unmounts = words.sandbox == SANDBOX_NONE ? words.mount_point : NULL;
 	struct passthrough *all;
-	int root, proc, device = -1, status = 1;
-	bool is_mounted;
+	int root, proc, status = 1;
 
 	if (sandbox_enter((enum sandbox)words.sandbox, words.folder, &root, &proc))
 		return 1;
@@ -466,45 +532,53 @@ static int serve(transport *by, int listener, int manager, int parent, int nothi
 	all = passthrough_new(root, proc, &words.files);
 	if (!all)
 		return failed(words.folder), 1;
-	by->user = all;
-	is_mounted = words.mount_point && (device = mount_folder(by)) >= 0;
-	if ((is_mounted || !words.mount_point) && !limit()) {
-		tell_ready(manager, parent, nothing);
-		status = is_mounted ? fuse_device_serve(by, device, words.mount_point) :
-				      vhost_user_serve(by, listener);
-	} else if (is_mounted) {
-		umount2(words.mount_point, MNT_DETACH);
-		close(device);
+	by.user = all;
+	by.descriptors = proc;
+	if (!begin_mount()) {
+		if (!limit()) {
+			tell_ready(manager, parent, nothing);
+			status = words.mount_point ? fuse_device_serve(&by, device, unmounts) :
+						     vhost_user_serve(&by, listener);
+		} else if (unmounts) {
+			umount2(unmounts, MNT_DETACH);
+		}
 	}
 	passthrough_end(all);
 	close(proc);
 	return status;
 }
 
+/* Finds the folder and where it is mounted. Status 2: they can't be. */
+static int find_places(void)
+{
+	static char folder[PATH_MAX], mount_point[PATH_MAX];
+
+	if (!realpath(words.folder, folder))
+		return failed(words.folder), 2;
+	words.folder = folder;
+	if (!words.mount_point)
+		return 0;
+	if (!realpath(words.mount_point, mount_point))
+		return failed(words.mount_point), 2;
+	words.mount_point = mount_point;
+	/* A server that looks there would ask itself. */
+	if (is_below(mount_point, folder) && strcmp(mount_point, folder) != 0)
+		refuse("the mount point lies in the folder: ", mount_point);
+	return 0;
+}
+
 int main(int count, char **given)
 {
-	transport by = { .program = "nizwarf-share", .writes_in_place = 1, .begin = passthrough_begin,
-			 .end = passthrough_finish, .parted = passthrough_parted,
-			 .serve = passthrough_serve };
+	struct outside outside = { 0 };
 	int listener = -1, parent = -1, nothing = -1, manager, status;
-	static char folder[PATH_MAX], mount_point[PATH_MAX];
 
 	take_words(count, given);
 	by.workers = words.files.workers;
 	by.quiet = !words.says_more;
 	if (words.traces && trace_begin(&by, words.trace_file))
 		return 1;
-	if (!realpath(words.folder, folder))
-		return failed(words.folder), 2;
-	words.folder = folder;
-	if (words.mount_point) {
-		if (!realpath(words.mount_point, mount_point))
-			return failed(words.mount_point), 2;
-		words.mount_point = mount_point;
-		/* A server that looks there would ask itself. */
-		if (is_below(mount_point, folder) && strcmp(mount_point, folder) != 0)
-			refuse("the mount point lies in the folder: ", mount_point);
-	}
+	if ((status = find_places()))
+		return status;
 	/* (to write behind the largest size of a file is an error, and no end) */
 	signal(SIGXFSZ, SIG_IGN);
 	signal(SIGPIPE, SIG_IGN);
@@ -514,14 +588,19 @@ int main(int count, char **given)
 	if ((words.daemonizes || words.is_off) &&
 	    (nothing = open("/dev/null", O_RDWR | O_CLOEXEC)) < 0)
 		return failed("/dev/null"), 1;
+	if (words.mount_point && (device = fuse_device_open(&by)) < 0)
+		return 1;
 	if (!words.mount_point)
 		listener = listen_on_socket(&by);
 	if (words.daemonizes && (parent = go_to_background()) < 0)
 		return 1;
-	if (sandbox_fork((enum sandbox)words.sandbox, words.socket_path,
-			 words.daemonizes))
+	outside.socket_path = words.socket_path;
+	outside.in_background = words.daemonizes;
+	outside.mount = words.mount_point ? mount_folder : NULL;
+	outside.unmount = unmount_folder;
+	if (sandbox_fork((enum sandbox)words.sandbox, &outside))
 		return 1;
-	status = serve(&by, listener, manager, parent, nothing);
+	status = serve(listener, manager, parent, nothing);
 	if (words.socket_path && words.sandbox == SANDBOX_NONE)
 		unlink(words.socket_path);
 	return status;

@@ -2,6 +2,7 @@
 #define _GNU_SOURCE
 #include <errno.h>
 #include <fcntl.h>
+#include <linux/capability.h>
 #include <sched.h>
 #include <signal.h>
 #include <stdio.h>
@@ -23,11 +24,45 @@ static int failed(const char *what)
 	return -1;
 }
 
-/* Waits for the child, and ends as it did. */
-static _Noreturn void stand_by(pid_t child, const sigset_t *awaited, const char *socket_path,
-			       bool in_background)
+/* By which the server asks for a mount, and is told that it is there. */
+static int asks[2] = { -1, -1 }, tells[2] = { -1, -1 };
+
+static void close_pair(int first, int second)
 {
-	const int nothing = in_background ? open("/dev/null", O_RDWR | O_CLOEXEC) : -1;
+	if (first >= 0)
+		close(first);
+	if (second >= 0)
+		close(second);
+}
+
+/* Mounts once the server asks for it. Whether it is mounted. */
+static bool mount_outside(const struct outside *outside)
+{
+	char asked;
+	bool is_mounted;
+
+	close_pair(asks[1], tells[0]);
+	is_mounted = outside->mount && read(asks[0], &asked, 1) == 1 && !outside->mount(outside->user);
+	if (is_mounted && write(tells[1], "", 1) != 1)
+		failed("a pipe");
+	close_pair(asks[0], tells[1]);
+	return is_mounted;
+}
+
+int sandbox_mount(void)
+{
+	char told;
+	const bool is_mounted = write(asks[1], "", 1) == 1 && read(tells[0], &told, 1) == 1;
+
+	close_pair(asks[1], tells[0]);
+	return is_mounted ? 0 : -1;
+}
+
+/* Waits for the child, and ends as it did. */
+static _Noreturn void stand_by(pid_t child, const sigset_t *awaited, const struct outside *outside)
+{
+	const int nothing = outside->in_background ? open("/dev/null", O_RDWR | O_CLOEXEC) : -1;
+	bool is_mounted = mount_outside(outside), is_asked = false;
 	int signal, status;
 
 	for (int i = 0; nothing >= 0 && i < 3; i++)
@@ -35,43 +70,89 @@ static _Noreturn void stand_by(pid_t child, const sigset_t *awaited, const char 
 	for (;;) {
 		if (sigwait(awaited, &signal))
 			continue;
-		if (signal != SIGCHLD)
-			kill(child, signal);
-		else if (waitpid(child, &status, WNOHANG) == child)
+		if (signal == SIGCHLD && waitpid(child, &status, WNOHANG) == child)
 			break;
+		/* (where that is in use it goes with its last user, and the server with it) */
+		if (signal != SIGCHLD && is_mounted && !is_asked && !outside->unmount(outside->user))
+			is_asked = true;
+		else if (signal != SIGCHLD)
+			kill(child, signal);
 	}
-	if (socket_path)
-		unlink(socket_path);
+	if (is_mounted && !is_asked && status)
+		outside->unmount(outside->user);
+	if (outside->socket_path)
+		unlink(outside->socket_path);
 	if (WIFSIGNALED(status))
 		fprintf(stderr, "nizwarf-share: signal %d ended the server\n", WTERMSIG(status));
 	_exit(WIFEXITED(status) ? WEXITSTATUS(status) : 1);
 }
 
-int sandbox_fork(enum sandbox sandbox, const char *socket_path, bool in_background)
+/* Writes a text to a file in one piece. */
+static int put(const char *path, const char *text)
+{
+	const int fd = open(path, O_WRONLY | O_CLOEXEC);
+	const bool is_put = fd >= 0 && write(fd, text, strlen(text)) == (ssize_t)strlen(text);
+
+	if (fd >= 0)
+		close(fd);
+	return is_put ? 0 : -1;
+}
+
+/* Leaves the initial namespace of users, in which who isn't root may make no others. Who it is stays
+ * the same. */
+static int leave_users(void)
+{
+	const unsigned uid = geteuid(), gid = getegid();
+	char users[40], groups[40];
+
+	snprintf(users, sizeof(users), "%u %u 1", uid, uid);
+	snprintf(groups, sizeof(groups), "%u %u 1", gid, gid);
+	if (!unshare(CLONE_NEWUSER) && !put("/proc/self/setgroups", "deny") &&
+	    !put("/proc/self/uid_map", users) && !put("/proc/self/gid_map", groups))
+		return 0;
+	failed("--sandbox=namespace: a namespace of users");
+	fputs("nizwarf-share: --sandbox=none serves without\n", stderr);
+	return -1;
+}
+
+/* The signals that a server, or what stands by, waits for. */
+static void block_signals(sigset_t *awaited)
+{
+	sigemptyset(awaited);
+	sigaddset(awaited, SIGINT);
+	sigaddset(awaited, SIGTERM);
+	sigaddset(awaited, SIGHUP);
+	sigaddset(awaited, SIGCHLD);
+	sigprocmask(SIG_BLOCK, awaited, NULL);
+}
+
+int sandbox_fork(enum sandbox sandbox, const struct outside *outside)
 {
 	sigset_t awaited, child_ended;
 	pid_t child;
 
 	if (sandbox == SANDBOX_NONE)
 		return 0;
+	if (sandbox == SANDBOX_NAMESPACE && geteuid() != 0 && leave_users())
+		return -1;
 	/* (that of processes begins with the child; the others are the child's alone) */
 	if (sandbox == SANDBOX_NAMESPACE && unshare(CLONE_NEWPID))
 		return failed("--sandbox=namespace");
-	sigemptyset(&awaited);
-	sigaddset(&awaited, SIGINT);
-	sigaddset(&awaited, SIGTERM);
-	sigaddset(&awaited, SIGHUP);
-	sigaddset(&awaited, SIGCHLD);
-	sigemptyset(&child_ended);
-	sigaddset(&child_ended, SIGCHLD);
-	sigprocmask(SIG_BLOCK, &awaited, NULL);
+	if (outside->mount && (pipe2(asks, O_CLOEXEC) || pipe2(tells, O_CLOEXEC)))
+		return failed("a pipe");
+	block_signals(&awaited);
 	child = fork();
 	if (child < 0)
 		return failed("fork");
 	if (child)
-		stand_by(child, &awaited, socket_path, in_background);
+		stand_by(child, &awaited, outside);
+	close_pair(asks[0], tells[1]);
+	/* (a signal of the terminal is for what stands by) */
+	setpgid(0, 0);
 	/* The others stay blocked: as the first process of its namespace it would lose one that comes
 	 * before it waits for them. */
+	sigemptyset(&child_ended);
+	sigaddset(&child_ended, SIGCHLD);
 	sigprocmask(SIG_UNBLOCK, &child_ended, NULL);
 	/* (it must not outlive what stands by) */
 	prctl(PR_SET_PDEATHSIG, SIGTERM);
@@ -87,6 +168,15 @@ static int pivot(const char *folder)
 	    syscall(SYS_pivot_root, ".", ".") || umount2(".", MNT_DETACH) || chdir("/"))
 		return failed("--sandbox=namespace");
 	return 0;
+}
+
+/* What who isn't root has in namespaces of its own: by these it could do more with its own files. */
+static int drop_capabilities(void)
+{
+	struct __user_cap_header_struct header = { _LINUX_CAPABILITY_VERSION_3, 0 };
+	const struct __user_cap_data_struct none[2] = { 0 };
+
+	return syscall(SYS_capset, &header, none) ? failed("capabilities") : 0;
 }
 
 int sandbox_enter(enum sandbox sandbox, const char *folder, int *root, int *proc)
@@ -109,7 +199,7 @@ int sandbox_enter(enum sandbox sandbox, const char *folder, int *root, int *proc
 		return failed(folder);
 	if (fchdir(*proc))
 		return failed("/proc/self/fd");
-	return 0;
+	return sandbox == SANDBOX_NAMESPACE && geteuid() != 0 ? drop_capabilities() : 0;
 }
 
 #ifdef WITH_SECCOMP

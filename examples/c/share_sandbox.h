@@ -19,10 +19,24 @@ enum calls_filter { FILTER_NONE, FILTER_KILL, FILTER_TRAP, FILTER_LOG };
 /* Whether it is built with libseccomp. */
 extern const bool has_filter;
 
-/* Forks, where a sandbox is wanted, and goes on in the child alone. The parent passes signals on,
- * waits for the child, removes the socket of this path if that isn't NULL, and ends as the child
- * did. In the background it has no input and no output. -1: it failed, and said why. */
-int sandbox_fork(enum sandbox sandbox, const char *socket_path, bool in_background);
+/* What a process does that stands by outside of the sandbox. */
+struct outside {
+	/* Is removed at the end; NULL: nothing is. */
+	const char *socket_path;
+	/* It has no input and no output. */
+	bool in_background;
+	/* Mounts when sandbox_mount asks for it, and unmounts at a first signal: 0, or -1: it failed,
+	 * and said why. NULL: nothing is mounted. */
+	int (*mount)(void *user), (*unmount)(void *user);
+	void *user;
+};
+
+/* Forks, where a sandbox is wanted, and goes on in the child alone. The parent stands by: it passes
+ * signals on, waits for the child, and ends as that did. -1: it failed, and said why. */
+int sandbox_fork(enum sandbox sandbox, const struct outside *outside);
+
+/* Has what stands by mount. -1: it failed, and said why. */
+int sandbox_mount(void);
 
 /* Gives descriptors of the folder and of /proc/self/fd, in the sandbox from then on. -1: it failed,
  * and said why. */

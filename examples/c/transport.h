@@ -30,6 +30,8 @@ typedef struct {
 	int writes_in_place;
 	/* Not to print how many requests came to what, once a front end has gone. */
 	int quiet;
+	/* One of /proc/self/fd, by which /dev/fuse is opened again where it has no path; 0: none. */
+	int descriptors;
 	/* Is handed to each of the functions. */
 	void *user;
 	/* Both may be NULL. An answer that isn't 0 ends the transport, which then failed; `begin` said
@@ -48,6 +50,14 @@ typedef struct {
  * has itself, each with a comma before it. Answers the device's descriptor, or -1: it said why. */
 int fuse_device_mount(const transport *by, const char *source, const char *folder,
 		      unsigned long flags, const char *options);
+
+/* The same in two steps: opens the device, and mounts it. 0, or the descriptor, or -1: it said why. */
+int fuse_device_open(const transport *by);
+int fuse_device_mount_on(const transport *by, int device, const char *source, const char *folder,
+			 unsigned long flags, const char *options);
+
+/* Unmounts the folder; where that is in use it goes with its last user. 0, or -1: it said why. */
+int fuse_device_unmount(const transport *by, const char *folder);
 
 /* Serves a device until it is unmounted, and closes it. A first signal unmounts the folder; where
  * that is in use it goes with its last user, or at a second signal. The folder is NULL if somebody
