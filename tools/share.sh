@@ -7,6 +7,7 @@
 #        tools/share.sh FOLDER --socket-path=SOCKET [WORDS]
 #        tools/share.sh --words
 #        tools/share.sh --check
+#        tools/share.sh --load MINUTES
 # Words are those of virtiofsd, as --cache=always, --xattr, --thread-pool-size=4, and -o with the options of
 # a mount; --words lists them. `umount MOUNTPOINT` or Ctrl-C ends it.
 #
@@ -14,7 +15,13 @@
 # does there what a person does, with one worker, with four, with a cache of what is written later, with file
 # handles, with few descriptors; after each the descriptors of the server are counted. Over vhost-user it is
 # asked the hostile requests of tools/beside, and more that are made up, under sanitizers and in its sandbox; a
-# machine that goes away is followed by another. It takes two minutes, and wants python3.
+# machine that goes away is followed by another. tools/lint.sh holds its sources against clang-tidy and cppcheck,
+# if they are installed. It takes two minutes, and wants python3.
+#
+# With --load it is under load for so many minutes, and meets faults (tools/share_load.py): programs that stress a
+# file system, machines, both killed amid a request; full disks, descriptors that run out, allocations that are
+# refused in turn and by chance. What was written is held against what is there, and descriptors and memory are
+# counted. It wants python3 and stress-ng, and as much of the processor as it is given: `nice` and `taskset` bound it.
 #
 # It wants root, for a mount /dev/fuse, a C compiler and the Rattle toolchain; libseccomp-dev if there is to be
 # a filter of system calls. It links the proved library if that is built and no source is newer; otherwise
@@ -25,7 +32,7 @@ set -euo pipefail
 . "$(dirname "$0")/transport.sh"
 
 usage() {
-    echo "Usage: tools/share.sh FOLDER MOUNTPOINT [WORDS], or tools/share.sh --words, or tools/share.sh --check" >&2
+    echo "Usage: tools/share.sh FOLDER MOUNTPOINT [WORDS], or tools/share.sh --words, --check or --load MINUTES" >&2
     exit 2
 }
 
@@ -36,7 +43,8 @@ case $#:${1:-} in
         exec "$transport" --help
         ;;
     1:--check) ;;
-    *:--check | *:--words) usage ;;
+    2:--load) [[ $2 =~ ^[0-9]+$ ]] || usage ;;
+    *:--check | *:--words | *:--load) usage ;;
     *)
         build_transport share vfs_door
         exec "$transport" "$@"
@@ -51,7 +59,11 @@ if [ ! -e /dev/fuse ]; then
     echo "Missing: /dev/fuse. \`modprobe fuse\` makes it where the kernel has the module." >&2
     exit 2
 fi
-need mountpoint "Install util-linux."
+need unshare "Install util-linux."
+# What is mounted from here on is in no other namespace, where it would stay in use.
+if [ -z "${SHARE_IS_APART:-}" ]; then
+    SHARE_IS_APART=yes exec unshare --mount "$0" "$@"
+fi
 need python3 "Install it: apt-get install python3."
 build_transport share vfs_door
 share=$transport
@@ -72,14 +84,33 @@ trap 'tidy 2> /dev/null || true' EXIT
 chmod 755 "$work"
 status=0
 
+if [ "$1" = --load ]; then
+    need stress-ng "Install it: apt-get install stress-ng."
+    build_transport share vfs_door "$here/tools/refuse_some.c" -Wl,--wrap=malloc -Wl,--wrap=calloc \
+        -Wl,--wrap=realloc -Wl,--wrap=aligned_alloc
+    python3 -B "$here/tools/share_load.py" "$share" "$transport" "$here/out/c/ask" "$work" "$2" || status=1
+    umount -lq "$work"/* || true
+    exit "$status"
+fi
+
 wrong() {
     echo "FAILED: $1" >&2
     status=1
 }
 
-# How many descriptors the server has.
+# How many descriptors the server has, which is the child of what stands by its sandbox.
 descriptors() {
-    find "/proc/$server/fd" -mindepth 1 | wc -l
+    local child
+    child=$(cat "/proc/$server/task/$server/children")
+    find "/proc/$((${child:-$server}))/fd" -mindepth 1 | wc -l
+}
+
+# Until it is mounted.
+await_mount() {
+    for _ in $(seq 100); do
+        ! mountpoint -q "$work/mount" || break
+        sleep 0.05
+    done
 }
 
 # What a person does over a mount with these words.
@@ -89,10 +120,7 @@ try_mount() {
     mkdir "$work/folder" "$work/mount"
     "$share" -o allow_other --log-level=warn "$@" "$work/folder" "$work/mount" &
     server=$!
-    for _ in $(seq 100); do
-        ! mountpoint -q "$work/mount" || break
-        sleep 0.05
-    done
+    await_mount
     ls "$work/mount" > /dev/null
     before=$(descriptors)
     "$here/tools/session.sh" --shared "$work/mount" > "$work/said" || {
@@ -115,15 +143,12 @@ try_mount() {
     echo "$* : $(tail -n 1 "$work/said"), $before descriptors before it and $after after it."
 }
 
-# Ends by a signal, also where the folder is in use.
+# Ends by a signal, also where the folder is in use. What stands by unmounts if the server is killed.
 try_signals() {
     mkdir -p "$work/folder" "$work/mount"
-    "$share" --log-level=error "$work/folder" "$work/mount" &
+    "$share" --log-level=error "$@" "$work/folder" "$work/mount" &
     server=$!
-    for _ in $(seq 100); do
-        ! mountpoint -q "$work/mount" || break
-        sleep 0.05
-    done
+    await_mount
     exec 3> "$work/mount/open"
     kill -TERM "$server"
     for _ in $(seq 100); do
@@ -135,7 +160,19 @@ try_signals() {
     wait "$server" || wrong "the server ended with $? after a signal"
     server=
     [ "$(cat "$work/folder/open")" = late ] || wrong "an open file was cut off"
-    echo "A signal unmounted it, and an open file was served to its end."
+    echo "A signal unmounted it, and an open file was served to its end, with $*"
+}
+
+try_kill() {
+    local came=0
+    "$share" --log-level=off "$work/folder" "$work/mount" &
+    server=$!
+    await_mount
+    kill -KILL $(($(cat "/proc/$server/task/$server/children")))
+    wait "$server" || came=$?
+    server=
+    [ "$came" = 1 ] || wrong "it ended with $came when the server was killed"
+    ! mountpoint -q "$work/mount" || wrong "a mount is left of a server that was killed"
 }
 
 # Words that can't be, what is printed, and who is told that it serves.
@@ -144,8 +181,9 @@ try_words() {
     mkdir -p "$work/folder/below" "$work/mount"
     for words in "" "--cache=some $work/folder $work/mount" "$work/folder" "--no-such-word $work/folder $work/mount" \
         "$work/folder $work/folder/below" "$work/none $work/mount" "--fd=77 $work/folder" \
-        "--socket-path=$work/socket $work/folder too-many" "--sandbox=chroot $work/folder $work/mount" \
-        "--thread-pool-size=65 $work/folder $work/mount" "-o no-such-option $work/folder $work/mount"; do
+        "--socket-path=$work/socket $work/folder too-many" "--sandbox=some $work/folder $work/mount" \
+        "--thread-pool-size=65 $work/folder $work/mount" "-o no-such-option $work/folder $work/mount" \
+        "-o attr_timeout=0x1 $work/folder $work/mount" "--inode-file-handles=always $work/folder $work/mount"; do
         came=0
         # shellcheck disable=SC2086
         timeout 10 "$share" $words > "$work/said" 2>&1 || came=$?
@@ -184,16 +222,19 @@ try_words
 try_mount --thread-pool-size=1
 try_mount --thread-pool-size=4
 try_mount --thread-pool-size=4 --writeback
-try_mount --cache=always --xattr
+try_mount --cache=always --xattr --sandbox=none --seccomp=none
 try_mount --cache=never --no-readdirplus
 try_mount --inode-file-handles=prefer --xattr
+try_mount --inode-file-handles=mandatory -o entry_timeout=0.5,attr_timeout=0 --sandbox=chroot
 try_mount --rlimit-nofile=100
-try_signals
+try_signals --sandbox=namespace
+try_signals --sandbox=none
+try_kill
 
 # Asks a server over vhost-user: what it is, its words.
 ask() {
     python3 -B - "$here/tools/beside" "$here/out/c/ask" "$work" "$@" << 'PYTHON' || wrong "$1 over vhost-user"
-import os, random, socket, stat, struct, subprocess, sys, time
+import mmap, os, random, socket, stat, struct, subprocess, sys, time
 
 beside, ask, work, what, *daemon = sys.argv[1:]
 sys.path.insert(0, beside)
@@ -279,6 +320,35 @@ with open(work + "/log", "w+") as log:
         with open(f"/proc/{process.pid}/task/{process.pid}/children") as children:
             server = children.read().split() or [process.pid]
         return len(os.listdir(f"/proc/{server[0]}/fd"))
+
+    def tell(front, message, *words, fds=()):
+        body = struct.pack("<" + "IIQQQQ"[:len(words)] if message == 9 else "<" + "Q" * len(words), *words)
+        socket.send_fds(front, [struct.pack("<III", message, 1, len(body)) + body], fds)
+
+    def cut_memory():
+        """A front end takes its memory away and kicks: it is hung up on."""
+        memory, kick = os.memfd_create("memory"), os.eventfd(0)
+        os.ftruncate(memory, 1 << 20)
+        view = mmap.mmap(memory, 1 << 20)
+        with socket.socket(socket.AF_UNIX) as front:
+            front.connect(path)
+            front.settimeout(20)
+            tell(front, 2, 1 << 32 | 1 << 30)
+            tell(front, 5, 1, 0, 1 << 20, 1 << 32, 0, fds=[memory])
+            tell(front, 8, 1 | 128 << 32)
+            tell(front, 9, 1, 0, 1 << 32, (1 << 32) + 0x8000, (1 << 32) + 0x4000, 0)
+            tell(front, 12, 1, fds=[kick])
+            tell(front, 18, 1 | 1 << 32)
+            tell(front, 1)
+            front.recv(100)
+            view[0x4000:0x4004] = struct.pack("<HH", 0, 1)
+            view.close()
+            os.ftruncate(memory, 0)
+            os.eventfd_write(kick, 1)
+            if front.recv(100):
+                faults.append("a front end without its memory is not hung up on")
+        os.close(memory)
+        os.close(kick)
 
     one = Asking()
     init = requests.FIRST[1]
@@ -415,6 +485,7 @@ with open(work + "/log", "w+") as log:
             socket.send_fds(bad, [struct.pack("<IIIQ", number, 1, 8, 1)], [no_event.fileno()])
         time.sleep(0.1)
         bad.close()
+    cut_memory()
     one = Asking()
     one.hold("INIT, after front ends that said what can't be", init, 0)
     one.end()
@@ -449,8 +520,13 @@ for sanitizer in address,undefined thread; do
         plain=$share
         share=$transport
         ask "under the sanitizers $sanitizer" "$share" --xattr --announce-submounts --sandbox=none --seccomp=none
-        try_mount --thread-pool-size=4 --xattr --log-level=error
+        try_mount --thread-pool-size=4 --xattr --log-level=error --sandbox=none --seccomp=none
         share=$plain
     fi
 done
+if command -v clang-tidy > /dev/null && command -v cppcheck > /dev/null; then
+    "$here/tools/lint.sh" || wrong "tools/lint.sh"
+else
+    echo "clang-tidy or cppcheck is not installed: tools/lint.sh was left out." >&2
+fi
 exit "$status"

@@ -1,0 +1,29 @@
+#!/usr/bin/env bash
+# Holds the sources of nizwarf-share, in examples/c, against clang-tidy and cppcheck: what they find is printed.
+#
+# Usage: tools/lint.sh
+# It wants clang-tidy and cppcheck, and libseccomp-dev for the sandbox of share.c.
+# Status 0: nothing is found; 1: something is; 2: a program is missing.
+set -euo pipefail
+. "$(dirname "$0")/usage.sh"
+. "$(dirname "$0")/program.sh"
+take_none "$@"
+need clang-tidy "Install it: apt-get install clang-tidy."
+need cppcheck "Install it: apt-get install cppcheck."
+
+# Left out: names that the C library asks for, as _GNU_SOURCE; arguments of one type beside each other; calls of
+# the C library that only the last words before an end make; and what a kernel's style has otherwise.
+checks='clang-analyzer-*,bugprone-*,concurrency-*,misc-*,performance-*,portability-*
+    -bugprone-reserved-identifier,-bugprone-easily-swappable-parameters,-bugprone-assignment-in-if-condition
+    -concurrency-mt-unsafe,-clang-analyzer-security.insecureAPI.DeprecatedOrUnsafeBufferHandling
+    -performance-no-int-to-ptr'
+flags=(-std=c11 -I "$here/include" -Wall -Wextra)
+if echo '#include <seccomp.h>' | cc -fsyntax-only -x c - 2> /dev/null; then
+    flags+=(-DWITH_SECCOMP)
+fi
+sources=("$here"/examples/c/{share,passthrough,vhost_}*.c "$here/examples/c/fuse_device.c")
+clang-tidy --quiet --warnings-as-errors='*' "--checks=$(tr -s ' \n' , <<< "$checks")" "${sources[@]}" \
+    -- "${flags[@]}" 2> >(grep -v 'warnings generated' >&2)
+cppcheck --std=c11 --quiet --error-exitcode=1 --inline-suppr --enable=warning,performance,portability \
+    -I "$here/include" -DWITH_SECCOMP "${sources[@]}"
+echo "clang-tidy and cppcheck find nothing in ${#sources[@]} files."

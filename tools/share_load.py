@@ -1,0 +1,584 @@
+"""Load and faults for nizwarf-share, for share.sh: `--load` there.
+
+Usage: share_load.py SHARE REFUSING ASK WORK MINUTES
+SHARE is the program, REFUSING the same one linked with refuse_some.c, ASK tools/beside/ask.c, WORK an empty
+folder. It wants root and stress-ng.
+
+One server is mounted and one serves machines from beginning to end; others are started for a part of it. Parts
+follow each other until the minutes are over; each ends with what is held there: what was written and synced is
+there, byte by byte; no descriptor of the server is left but those it began with; its memory is bounded."""
+import errno
+import hashlib
+import os
+import random
+import signal
+import struct
+import subprocess
+import sys
+import tempfile
+import threading
+import time
+
+sys.path.insert(0, os.path.dirname(os.path.abspath(__file__)) + "/beside")
+import requests
+from requests import line, request, transfer
+
+MIB = 1 << 20
+# What a server may keep, in KiB.
+MOST_MEMORY = 128 * 1024
+STRESSORS = ("access", "chdir", "chmod", "chown", "copy-file", "dentry", "dir", "dirdeep", "dirmany", "fallocate",
+             "fcntl", "filename", "flock", "fpunch", "fstat", "getdent", "hdd", "iomix", "link", "lockf", "mknod",
+             "open", "rename", "symlink", "sync-file", "touch", "utime", "xattr")
+# What a program may be told of a full disk, of descriptors that ran out, and of refused allocations.
+FULL = {errno.ENOSPC}
+SCARCE = {errno.EMFILE, errno.ENFILE}
+REFUSED = {errno.ENOMEM, errno.EIO}
+
+faults = []
+counts = {}
+
+
+def wrong(what):
+    faults.append(what)
+    print(f"WRONG: {what}", file=sys.stderr, flush=True)
+
+
+def count(what, times=1):
+    counts[what] = counts.get(what, 0) + times
+
+
+def wait_for(fact, seconds=20):
+    """Whether a fact came to be."""
+    until = time.monotonic() + seconds
+    while not fact():
+        if time.monotonic() > until:
+            return False
+        time.sleep(0.05)
+    return True
+
+
+class Server:
+    """A server, which is mounted, or listens on a socket."""
+
+    def __init__(self, program, folder, *words, mount=None, socket=None, environment=None):
+        self.mount, self.folder = mount, folder
+        self.log = tempfile.TemporaryFile("w+", dir=work)
+        place = [folder, mount] if mount else [f"--socket-path={socket}", folder]
+        self.process = subprocess.Popen([program, "--log-level=error", *words, *place], stderr=self.log,
+                                        env=dict(os.environ, **(environment or {})))
+        self.is_up = wait_for(lambda: self.process.poll() is not None or
+                              (os.path.ismount(mount) if mount else os.path.exists(socket)))
+        self.is_up = self.is_up and self.process.poll() is None
+        if self.is_up and mount:
+            os.listdir(mount)
+
+    def pid(self):
+        """That of what serves: it may be the child of what stands by."""
+        with open(f"/proc/{self.process.pid}/task/{self.process.pid}/children") as children:
+            return int((children.read().split() or [self.process.pid])[0])
+
+    def descriptors(self):
+        return len(os.listdir(f"/proc/{self.pid()}/fd"))
+
+    def memory(self):
+        """What is resident, in KiB, and the most that was."""
+        with open(f"/proc/{self.pid()}/status") as status:
+            lines = dict(it.split(":", 1) for it in status)
+        return int(lines["VmRSS"].split()[0]), int(lines["VmHWM"].split()[0])
+
+    def said(self):
+        self.log.seek(0)
+        return self.log.read()
+
+    def end(self):
+        """Its status, once it is unmounted, or a signal came."""
+        if self.process.poll() is None:
+            if self.mount:
+                wait_for(lambda: subprocess.run(["umount", self.mount], capture_output=True, check=False).returncode == 0, 5)
+                if os.path.ismount(self.mount):
+                    users = subprocess.run(["fuser", "-vm", self.mount], capture_output=True, text=True, check=False)
+                    print(users.stdout, users.stderr, file=sys.stderr)
+            else:
+                self.process.terminate()
+        try:
+            return self.process.wait(20)
+        except subprocess.TimeoutExpired:
+            self.process.kill()
+            return "no end"
+
+
+def hold_end(server, what):
+    status = server.end()
+    if status != 0:
+        wrong(f"{what}: the server ended with {status}: {server.said()}")
+
+
+def hold_descriptors(server, before, what):
+    """The kernel gives back what it doesn't remember, if it is asked to; with it goes what the server held."""
+    def are_back():
+        with open("/proc/sys/vm/drop_caches", "w") as drop:
+            drop.write("2")
+        return server.descriptors() <= before
+    if not wait_for(are_back):
+        wrong(f"{what}: {server.descriptors()} descriptors, and {before} before it")
+    resident, most = server.memory()
+    counts["most memory of a server, KiB"] = max(counts.get("most memory of a server, KiB", 0), most)
+    if resident > MOST_MEMORY:
+        wrong(f"{what}: {resident} KiB resident")
+
+
+def empty(folder):
+    subprocess.run(["find", folder, "-mindepth", "1", "-delete"], stderr=subprocess.DEVNULL, check=False)
+    subprocess.run(f"rm -rf {folder}/* {folder}/.[!.]*", shell=True, check=False)
+
+
+class Keeper:
+    """Writes files through a mount, with errors that may come, and remembers those that were synced."""
+
+    def __init__(self, mount, folder, allowed, chance):
+        self.mount, self.folder, self.allowed, self.chance = mount + "/kept", folder + "/kept", allowed, chance
+        self.files, self.number = {}, 0
+        self.retry(lambda: os.makedirs(self.mount, exist_ok=True))
+
+    def retry(self, act):
+        """Acts until no error that may come does."""
+        for _ in range(1000):
+            try:
+                return act()
+            except OSError as error:
+                if not self.note(error, "a call"):
+                    return None
+                time.sleep(0.001)
+        return wrong("a thousand errors one after another")
+
+    def note(self, error, what):
+        """Whether it is an error that may come."""
+        count(f"{errno.errorcode[error.errno]} came through")
+        if error.errno not in self.allowed:
+            wrong(f"{what}: {error}")
+        return error.errno in self.allowed
+
+    def is_there(self, name):
+        def look():
+            try:
+                return bool(os.lstat(f"{self.mount}/{name}"))
+            except FileNotFoundError:
+                return False
+        return self.retry(look)
+
+    def remove(self, name):
+        def act():
+            try:
+                os.remove(f"{self.mount}/{name}")
+            except FileNotFoundError:
+                pass
+        self.retry(act)
+        self.files.pop(name, None)
+
+    def write(self, size):
+        """Writes a file, which is remembered if no error came, and removed if one did."""
+        name = f"file{self.number}"
+        self.number += 1
+        data = self.chance.randbytes(size)
+        try:
+            with open(f"{self.mount}/{name}", "wb", buffering=0) as file:
+                at = 0
+                while at < size:
+                    at += file.write(data[at:at + self.chance.choice((100, 4096, 65536, MIB))])
+                os.fsync(file.fileno())
+        except OSError as error:
+            self.note(error, "a write")
+            self.remove(name)
+            return False
+        self.files[name] = hashlib.sha256(data).digest()
+        count("files kept")
+        return True
+
+    def change(self):
+        """Renames a file, links it, or removes it."""
+        if not self.files:
+            return
+        name, other = self.chance.choice(sorted(self.files)), f"other{self.number}"
+        self.number += 1
+        what = self.chance.choice(("rename", "link", "remove"))
+        try:
+            if what == "rename":
+                os.rename(f"{self.mount}/{name}", f"{self.mount}/{other}")
+                self.files[other] = self.files.pop(name)
+            elif what == "link":
+                os.link(f"{self.mount}/{name}", f"{self.mount}/{other}")
+                self.files[other] = self.files[name]
+            else:
+                os.remove(f"{self.mount}/{name}")
+                del self.files[name]
+        except OSError as error:
+            self.note(error, what)
+            # (an error for want of memory may come behind what was done)
+            for it in (name, other):
+                if self.is_there(it):
+                    self.files.setdefault(it, self.files.get(name) or self.files.get(other))
+                else:
+                    self.files.pop(it, None)
+
+    def hold(self, what):
+        """What is remembered is there, through the mount and beside it, and nothing else."""
+        for folder in (self.mount, self.folder):
+            there = set(self.retry(lambda folder=folder: os.listdir(folder)))
+            if there != set(self.files):
+                wrong(f"{what}: names in {folder}: {sorted(there ^ set(self.files))[:10]}")
+            for name in there & set(self.files):
+                if self.retry(lambda path=f"{folder}/{name}": digest(path)) != self.files[name]:
+                    wrong(f"{what}: {folder}/{name} is another one")
+        count("files held against what was written", len(self.files))
+
+
+def digest(path):
+    with open(path, "rb") as file:
+        return hashlib.sha256(file.read()).digest()
+
+
+def keep(keeper, until, size):
+    """Writes and changes files until a time."""
+    while time.monotonic() < until:
+        if not keeper.write(keeper.chance.randrange(size)):
+            time.sleep(0.01)
+        keeper.change()
+        if len(keeper.files) > 50:
+            for name in sorted(keeper.files)[:25]:
+                keeper.remove(name)
+
+
+def stress(place, chance, seconds):
+    """Programs that stress a mount, of which some are killed."""
+    names = chance.sample(STRESSORS, 6)
+    words = [word for name in names for word in (f"--{name}", "1")]
+    os.makedirs(place + "/stress", exist_ok=True)
+    running = subprocess.Popen(["stress-ng", "--temp-path", place + "/stress", "--timeout", str(seconds), "--quiet",
+                                "--hdd-bytes", "8m", "--iomix-bytes", "8m", "--fallocate-bytes", "8m",
+                                "--copy-file-bytes", "8m", "--sync-file-bytes", "8m", "--dirmany-bytes", "4k",
+                                *words], stdout=subprocess.DEVNULL, stderr=subprocess.DEVNULL,
+                               start_new_session=True)
+    until = time.monotonic() + seconds
+    while running.poll() is None and time.monotonic() < until + 60:
+        time.sleep(0.5)
+        workers = subprocess.run(["pgrep", "-P", str(running.pid)], capture_output=True, text=True, check=False)
+        workers = workers.stdout.split()
+        if workers and chance.random() < 0.3:
+            try:
+                os.kill(int(chance.choice(workers)), signal.SIGKILL)
+                count("processes on a mount killed by SIGKILL")
+            except ProcessLookupError:
+                pass
+    if running.poll() is None:
+        wrong(f"stress-ng does not end: {names}")
+    # (those that were killed leave children)
+    try:
+        os.killpg(running.pid, signal.SIGKILL)
+    except ProcessLookupError:
+        pass
+    running.wait()
+    count("runs of stress-ng, of six of its stressors")
+
+
+def stress_and_keep(server, chance, what, seconds=20):
+    before = server.descriptors()
+    keeper = Keeper(server.mount, server.folder, FULL, chance)
+    keeping = threading.Thread(target=keep, args=(keeper, time.monotonic() + seconds, 300000))
+    keeping.start()
+    stress(server.mount, chance, seconds)
+    keeping.join()
+    if server.process.poll() is not None:
+        wrong(f"{what}: the server ended with {server.process.returncode}: {server.said()}")
+        return
+    empty(server.mount + "/stress")
+    keeper.hold(what)
+    empty(server.mount)
+    if os.listdir(server.folder):
+        wrong(f"{what}: left in the folder: {os.listdir(server.folder)[:10]}")
+    hold_descriptors(server, before, what)
+
+
+def with_words(chance):
+    """A server with other options, stressed."""
+    words = chance.choice((["--writeback", "-o", "allow_other"], ["--cache=always", "--xattr"], ["--cache=never"],
+                           ["--inode-file-handles=prefer", "--xattr"], ["--thread-pool-size=1"],
+                           ["--cache=metadata", "--no-readdirplus"], ["--rlimit-nofile=150"]))
+    server = Server(share, work + "/others", *words, mount=work + "/mounted")
+    if not server.is_up:
+        return wrong(f"no server with {words}: {server.said()}")
+    # (one descriptor more may be that of a mount, by which file handles are opened)
+    with open(work + "/mounted/one", "w"):
+        pass
+    os.remove(work + "/mounted/one")
+    stress_and_keep(server, chance, f"with {words}", 15)
+    return hold_end(server, f"with {words}")
+
+
+def full_disk(chance):
+    """The disk is full: an error comes through, what was synced is there, and it goes on once there is space."""
+    words = chance.choice(([], ["--writeback"], ["--cache=always"], ["--cache=never"]))
+    folder, mount = work + "/small", work + "/mounted"
+    os.makedirs(folder, exist_ok=True)
+    subprocess.run(["mount", "-t", "tmpfs", "-o", "size=16m,nr_inodes=300", "none", folder], check=True)
+    server = Server(share, folder, *words, mount=mount)
+    before = server.descriptors()
+    keeper = Keeper(mount, folder, FULL, chance)
+    for size in (3 * MIB, 200000, 1000, 0):
+        for _ in range(400):
+            if not keeper.write(size):
+                break
+        else:
+            wrong(f"a disk that is never full of files of {size} bytes, with {words}")
+        keeper.hold(f"a full disk, with {words}")
+        for name in sorted(keeper.files)[::2]:
+            keeper.remove(name)
+        if not keeper.write(100000):
+            wrong(f"no file can be written once there is space, with {words}")
+    keeper.hold(f"a disk that was full, with {words}")
+    empty(mount)
+    hold_descriptors(server, before, f"a full disk, with {words}")
+    hold_end(server, f"a full disk, with {words}")
+    subprocess.run(["umount", folder], check=True)
+    count("disks filled, of files of four sizes each")
+
+
+def few_descriptors(chance):
+    """Descriptors run out: an error comes through, and it goes on once some are given back."""
+    mount = work + "/mounted"
+    server = Server(share, work + "/others", "--inode-file-handles=never", "--rlimit-nofile=64", mount=mount)
+    before = server.descriptors()
+    keeper = Keeper(mount, work + "/others", SCARCE, chance)
+    opened = []
+    for i in range(200):
+        try:
+            opened.append(open(f"{mount}/kept/held{i}", "wb"))
+        except OSError as error:
+            keeper.note(error, "an open")
+    if not 5 < len(opened) < 64:
+        wrong(f"{len(opened)} of 200 files could be opened with 64 descriptors")
+    keep(keeper, time.monotonic() + 2, 100000)
+    for file in opened:
+        file.close()
+    with open("/proc/sys/vm/drop_caches", "w") as drop:
+        drop.write("2")
+    for i in range(200):
+        keeper.remove(f"held{i}")
+    # (the kernel gives a name back later than it closes it)
+    keeper.retry(lambda: os.listdir(mount + "/kept"))
+    keeper.hold("few descriptors")
+    keeper.retry(lambda: empty(mount))
+    empty(work + "/others")
+    hold_descriptors(server, before, "few descriptors")
+    hold_end(server, "few descriptors")
+    count("times descriptors ran out")
+
+
+def few_allocations(chance):
+    """One allocation in many is refused: errors come, and nothing is lost."""
+    mount, environment = work + "/mounted", {"REFUSE_FROM": "200", "REFUSE_ONE_IN": str(chance.choice((3, 20, 300)))}
+    server = Server(refusing, work + "/others", "--xattr", mount=mount, environment=environment)
+    if not server.is_up:
+        return wrong(f"no server with refused allocations: {server.said()}")
+    before = server.descriptors()
+    keeper = Keeper(mount, work + "/others", REFUSED, chance)
+    keep(keeper, time.monotonic() + 8, 200000)
+    keeper.hold("refused allocations")
+    for name in sorted(keeper.files):
+        keeper.remove(name)
+    keeper.retry(lambda: os.rmdir(keeper.mount))
+    hold_descriptors(server, before, "refused allocations")
+    hold_end(server, "refused allocations")
+    return count("runs with allocations refused by chance")
+
+
+class Asking:
+    """A front end of a virtual machine, which can be killed."""
+
+    def __init__(self, path):
+        self.program = subprocess.Popen([ask, path], stdin=subprocess.PIPE, stdout=subprocess.PIPE, text=True)
+
+    def send(self, text):
+        self.program.stdin.write(text + "\n")
+        self.program.stdin.flush()
+
+    def ask(self, text):
+        """The reply: its error, and what is behind its header."""
+        self.send(text)
+        answer = self.program.stdout.readline().split()
+        reply = bytes.fromhex(answer[1]) if len(answer) > 1 else b""
+        if not answer or not answer[0].isdigit():
+            return wrong(f"{answer} came of {text[:200]}") or (None, b"")
+        return (-struct.unpack_from("<i", reply, 4)[0], reply[16:]) if len(reply) >= 16 else (None, b"")
+
+    def end(self, is_killed=False):
+        if is_killed:
+            self.program.kill()
+        self.program.stdin.close()
+        self.program.wait()
+
+
+def asked_by_chance(chance, nodes, handles):
+    """A line of a request of what may be there."""
+    node, handle = chance.choice(nodes), chance.choice(handles)
+    name = b"name%d\0" % chance.randrange(40)
+    other = b"name%d\0" % chance.randrange(40)
+    size, place = chance.choice((0, 100, 4096, 65536, MIB)), chance.randrange(1 << 20)
+    what = chance.randrange(16)
+    return [lambda: line("16+128", request(1, name, node=node)),
+            lambda: line("16+104", request(3, bytes(16), node=node)),
+            lambda: line("16+128", request(9, struct.pack("<II", 0o755, 0) + name, node=node)),
+            lambda: line("16+144", request(35, struct.pack("<IIII", 0o102, 0o644, 0, 0) + name, node=node)),
+            lambda: line("16+16", request(14, struct.pack("<II", 2, 0), node=node)),
+            lambda: line("16+16", request(27, bytes(8), node=node)),
+            lambda: line(f"16+{size}", transfer(15, size, b"", place, node, handle)),
+            lambda: line("16+8", transfer(16, size // 16, bytes(size // 16), place, node, handle)),
+            lambda: line(f"16+{size}", transfer(44, size, b"", 0, node, handle)),
+            lambda: line(f"16+{size}", transfer(28, size, b"", 0, node, handle)),
+            lambda: line("16", request(10, name, node=node)),
+            lambda: line("16", request(11, name, node=node)),
+            lambda: line("16", request(12, struct.pack("<Q", chance.choice(nodes)) + name + other, node=node)),
+            lambda: line("16", request(18, struct.pack("<Q", handle) + bytes(16), node=node)),
+            lambda: line("16", request(21, struct.pack("<II", 3, 0) + b"user.a\0abc", node=node)),
+            lambda: line("0", request(2, struct.pack("<Q", 1), node=node))][what]()
+
+
+def machines(server, chance, socket):
+    """Machines that are killed amid a request, one after another."""
+    one = Asking(socket)
+    one.ask(requests.FIRST[1])
+    before = server.descriptors()
+    one.end()
+    for _ in range(20):
+        one, nodes, handles = Asking(socket), [1], [0]
+        one.ask(requests.FIRST[1])
+        for _ in range(chance.randrange(300)):
+            text = asked_by_chance(chance, nodes, handles)
+            error, body = one.ask(text)
+            count("requests of machines")
+            if error == 0 and len(body) in (128, 144):
+                nodes = (nodes + [struct.unpack_from("<Q", body)[0]])[-20:]
+            if error == 0 and len(body) in (16, 144):
+                handles = (handles + [struct.unpack_from("<Q", body, len(body) - 16)[0]])[-20:]
+        one.send(asked_by_chance(chance, nodes, handles))
+        one.end(is_killed=True)
+        count("machines killed by SIGKILL")
+        if server.process.poll() is not None:
+            return wrong(f"machines: the server ended with {server.process.returncode}: {server.said()}")
+    one = Asking(socket)
+    one.ask(requests.FIRST[1])
+    if not wait_for(lambda: server.descriptors() <= before):
+        wrong(f"machines: {server.descriptors()} descriptors, and {before} before them")
+    if server.memory()[0] > MOST_MEMORY:
+        wrong(f"machines: {server.memory()} KiB")
+    return one.end()
+
+
+
+def steps(one):
+    """A session of one machine: each step until it isn't refused, and what came of it."""
+    came = []
+
+    def ask_again(text, *others):
+        for _ in range(3):
+            error, body = one.ask(text)
+            if error not in (errno.ENOMEM, None):
+                break
+            count("requests refused for want of memory")
+        came.append(0 if error in others else error)
+        return body
+
+    def number(body, at=0):
+        return struct.unpack_from("<Q", body, at)[0] if len(body) >= at + 8 else 0
+
+    ask_again(requests.FIRST[1])
+    made = ask_again(line("16+144", request(35, struct.pack("<IIII", 0o102, 0o644, 0, 0) + b"file\0")))
+    node, handle = number(made), number(made, 128)
+    ask_again(line("16+8", transfer(16, 70000, b"x" * 70000, 0, node, handle), range(40, 70120, 4096)))
+    data = ask_again(line("+".join(["16"] + 30 * ["4000"]), transfer(15, 70000, b"", 0, node, handle)))
+    came.append(0 if data[:70000] == b"x" * 70000 else -1)
+    # (a name may have been made before memory was wanted)
+    ask_again(line("16+128", request(9, struct.pack("<II", 0o755, 0) + b"folder\0")), errno.EEXIST)
+    folder = number(ask_again(line("16+128", request(1, b"folder\0"))))
+    for i in range(3):
+        ask_again(line("16+128", request(6, b"link%d\0text\0" % i, node=folder)), errno.EEXIST)
+    ask_again(line("16+128", request(13, struct.pack("<Q", node) + b"second\0", node=folder)), errno.EEXIST)
+    ask_again(line("16", request(21, struct.pack("<II", 60000, 0) + b"user.a\0" + b"v" * 60000, node=node)),
+              errno.ENOSPC, errno.E2BIG)
+    ask_again(line("16+1024", request(23, struct.pack("<II", 1024, 0), node=node)))
+    listing = number(ask_again(line("16+16", request(27, bytes(8), node=folder))))
+    listed = ask_again(line("16+65536", transfer(44, 65536, b"", 0, folder, listing)))
+    came.append(0 if all(b"link%d" % i in listed for i in range(3)) and b"second" in listed else -2)
+    again = number(ask_again(line("16+16", request(14, struct.pack("<II", 2, 0), node=node))))
+    for handle_, opcode in ((handle, 18), (again, 18), (listing, 29)):
+        ask_again(line("16", request(opcode, struct.pack("<Q", handle_) + bytes(16), node=node)))
+    ask_again(line("16", request(12, struct.pack("<Q", 1) + b"second\0third\0", node=folder)))
+    ask_again(line("16+80", request(17)))
+    ask_again(line("16", request(10, b"file\0")))
+    one.ask(line("0", request(38)))
+    return came
+
+
+def in_turn():
+    """Each allocation of a session is refused, one a run, until one meets no refusal."""
+    folder, socket, number, is_refused = work + "/others", work + "/in-turn", 0, True
+    wanted = None
+    while is_refused:
+        empty(folder)
+        server = Server(refusing, folder, "--xattr", "--sandbox=none", "--thread-pool-size=1", socket=socket,
+                        environment={"REFUSE_FROM": str(number)})
+        if server.is_up:
+            one = Asking(socket)
+            one.ask(line("16", request(99)))
+            before, came = server.descriptors(), steps(one)
+            wanted = wanted or came
+            if came != wanted:
+                wrong(f"allocation {number} is refused, and {came} came for {wanted}")
+            if server.descriptors() > before:
+                wrong(f"allocation {number} is refused, and {server.descriptors()} descriptors are left of {before}")
+            one.end()
+            hold_end(server, f"allocation {number} is refused")
+        elif server.process.returncode == 0 or len(server.said().splitlines()) < 2:
+            wrong(f"allocation {number} is refused: status {server.process.returncode}, {server.said()}")
+        is_refused = number == 0 or "is refused" in server.said()
+        number += 1
+    empty(folder)
+    count("allocations refused in turn", number - 2)
+    if any(wanted):
+        wrong(f"a session that is refused nothing comes to {wanted}")
+
+
+def main(minutes):
+    seed = random.SystemRandom().randrange(1 << 32)
+    chance = random.Random(seed)
+    print(f"Load for {minutes} minutes, by seed {seed}.", flush=True)
+    for name in ("folder", "mount", "others", "mounted", "served"):
+        os.mkdir(f"{work}/{name}")
+    subprocess.run(["mount", "-t", "tmpfs", "-o", "size=256m,nr_inodes=100k", "none", work + "/folder"], check=True)
+    until = time.monotonic() + minutes * 60
+    in_turn()
+    mounted = Server(share, work + "/folder", "--xattr", mount=work + "/mount")
+    served = Server(share, work + "/served", "--xattr", socket=work + "/socket")
+    first = {it: it.memory()[0] for it in (mounted, served)}
+    parts = (lambda: stress_and_keep(mounted, chance, "the mount"), lambda: machines(served, chance, work + "/socket"),
+             lambda: with_words(chance), lambda: full_disk(chance), lambda: few_descriptors(chance),
+             lambda: few_allocations(chance))
+    rounds = 0
+    while time.monotonic() < until and len(faults) < 20:
+        for part in parts:
+            part()
+        rounds += 1
+        print(f"Round {rounds}: the mounted server has {mounted.descriptors()} descriptors and {mounted.memory()[0]} "
+              f"KiB, that of machines {served.descriptors()} and {served.memory()[0]} KiB.", flush=True)
+    for server in (mounted, served):
+        print(f"A server of {rounds} rounds: {first[server]} KiB at first, {server.memory()[0]} at its end.")
+        hold_end(server, "the end")
+    subprocess.run(["umount", work + "/folder"], check=True)
+    for what in sorted(counts):
+        print(f"{counts[what]:>10} {what}")
+    print(f"{rounds} rounds, {len(faults)} wrong.")
+    return 1 if faults else 0
+
+
+if __name__ == "__main__":
+    share, refusing, ask, work = sys.argv[1:5]
+    sys.exit(main(float(sys.argv[5])))
