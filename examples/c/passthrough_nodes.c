@@ -509,7 +509,7 @@ void nodes_end(struct nodes *all)
 uint64_t file_add(struct nodes *all, int fd, bool is_directory)
 {
 	struct open_file *file = calloc(1, sizeof(*file));
-	bool added = false;
+	uint64_t number = 0;
 
 	if (file) {
 		atomic_init(&file->counted.users, 1);
@@ -517,14 +517,16 @@ uint64_t file_add(struct nodes *all, int fd, bool is_directory)
 		file->is_directory = is_directory;
 		pthread_mutex_init(&file->lock, NULL);
 		pthread_rwlock_wrlock(&all->files.lock);
-		added = add(&all->files, &file->counted);
+		/* (behind the lock a client that guesses the number may have released it) */
+		if (add(&all->files, &file->counted))
+			number = file->counted.number;
 		pthread_rwlock_unlock(&all->files.lock);
 	}
-	if (added)
-		return file->counted.number;
-	free(file);
-	close(fd);
-	return 0;
+	if (!number) {
+		free(file);
+		close(fd);
+	}
+	return number;
 }
 
 struct open_file *file_get(struct nodes *all, uint64_t number)
