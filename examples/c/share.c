@@ -26,7 +26,7 @@
 #include "share_sandbox.h"
 #include "trace.h"
 
-enum { MOST_FILES = 1000000, WORKERS = 4 };
+enum { MOST_FILES = 1000000, LARGE_TABLE = 65536, WORKERS = 4 };
 
 static const char usage[] =
 	"Usage: nizwarf-share [WORDS] FOLDER MOUNTPOINT\n"
@@ -360,6 +360,21 @@ static void raise_limit(void)
 			(unsigned long long)limit.rlim_max);
 }
 
+/* Makes the table of descriptors as large as most folders want. To grow it while there are threads
+ * takes milliseconds each time, in which no request is answered. */
+static void grow_table(int root)
+{
+	struct rlimit limit;
+	int fd;
+
+	if (getrlimit(RLIMIT_NOFILE, &limit) || !limit.rlim_cur)
+		return;
+	fd = fcntl(root, F_DUPFD_CLOEXEC,
+		   limit.rlim_cur < LARGE_TABLE ? (int)limit.rlim_cur - 1 : LARGE_TABLE - 1);
+	if (fd >= 0)
+		close(fd);
+}
+
 /* A socket by which a service manager is told, connected; -1: none is wanted. */
 static int meet_manager(void)
 {
@@ -529,6 +544,7 @@ static int serve(int listener, int manager, int parent, int nothing)
 	if (sandbox_enter((enum sandbox)words.sandbox, words.folder, &root, &proc))
 		return 1;
 	umask(0);
+	grow_table(root);
 	all = passthrough_new(root, proc, &words.files);
 	if (!all)
 		return failed(words.folder), 1;
