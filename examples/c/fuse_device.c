@@ -6,9 +6,10 @@
  * FUSE_DEV_IOC_CLONE, and begins once the options are agreed on.
  *
  * The kernel wakes those that read in turn, so one client would be served by one cold worker after
- * another. So a worker that finds another one reading rests. While requests come the calling thread
- * looks each millisecond whether no one reads, since a request takes long or many come: it calls
- * one that rests then, and that calls the next if there was a request for it at once. */
+ * another. So a worker that finds another one reading, and no request that waits, rests. Those that
+ * rest are called by a worker that finds requests waiting time after time, and that calls the next
+ * if there was one for it; and by the calling thread, which looks each millisecond while requests
+ * come, if none was taken since and no one reads, since those that serve take long. */
 #define _GNU_SOURCE
 #include <errno.h>
 #include <fcntl.h>
@@ -31,6 +32,8 @@
 /* The longest request and reply: a header and its record take less than a page. Before the data of
  * a WRITE stand 80 bytes, and before those of a READ's reply 16. */
 enum { TICK = 1, QUIET_TICKS = 50 };
+/* After how many requests a worker looks whether others wait, and how often they must. */
+enum { LOOK_AFTER = 16, WAITED = 2 };
 enum { PAGE = 4096, LONGEST = TRANSPORT_PAYLOAD + PAGE, BEFORE_WRITE = 80, BEFORE_READ = 16 };
 
 enum outcome { SERVED, ENDED, FAILED };
@@ -41,6 +44,8 @@ struct worker {
 	struct device *of;
 	unsigned number;
 	int fd;
+	/* How many requests it served, and how often others waited when it looked last. */
+	unsigned served, waited;
 	pthread_t thread;
 	unsigned char *memory, *request, *room;
 };
@@ -101,11 +106,9 @@ static void tell(const struct device *d, int event)
 		say(d->by, "eventfd");
 }
 
-/* Calls one that rests, if one does and no one reads. */
+/* Calls one that rests, if one does. */
 static void call_one(struct device *d)
 {
-	if (atomic_load(&d->readers))
-		return;
 	pthread_mutex_lock(&d->lock);
 	if (d->resting > d->called) {
 		d->called++;
@@ -114,12 +117,34 @@ static void call_one(struct device *d)
 	pthread_mutex_unlock(&d->lock);
 }
 
-/* Rests if another one reads, until it is called. Answers whether it was. */
-static int rest(struct device *d)
+/* Whether a request waits. */
+static int is_waited_for(const struct worker *w)
 {
+	struct pollfd device = { w->fd, POLLIN, 0 };
+
+	return poll(&device, 1, 0) > 0;
+}
+
+/* Calls one that rests if requests wait, time after time. */
+static void look_for_others(struct worker *w)
+{
+	if (++w->served % LOOK_AFTER)
+		return;
+	w->waited = is_waited_for(w) ? w->waited + 1 : 0;
+	if (w->waited < WAITED)
+		return;
+	w->waited = 0;
+	call_one(w->of);
+}
+
+/* Rests if another one reads and no request waits, until it is called. Answers whether it was. */
+static int rest(struct worker *w)
+{
+	struct device *d = w->of;
 	int was_called = 0;
 
-	if (!atomic_load(&d->readers))
+	look_for_others(w);
+	if (!atomic_load(&d->readers) || is_waited_for(w))
 		return 0;
 	pthread_mutex_lock(&d->lock);
 	d->resting++;
@@ -167,7 +192,7 @@ static enum outcome serve_one(const struct worker *w, uint32_t *opcode, int was_
 	int32_t code;
 
 	*opcode = 0;
-	if (got > 0 && was_called)
+	if (got > 0 && was_called && !atomic_load(&w->of->readers))
 		call_one(w->of);
 	if (got == 0 || (got < 0 && errno == ENODEV))
 		return ENDED;
@@ -260,7 +285,7 @@ static void *run(void *given)
 			outcome = serve_one(w, &opcode, was_called);
 			if (opcode == FUSE_INIT && w->number == 0)
 				start_others(d);
-			was_called = outcome == SERVED && d->by->workers > 1 && rest(d);
+			was_called = outcome == SERVED && d->by->workers > 1 && rest(w);
 		} while (outcome == SERVED && !atomic_load(&d->stop));
 		if (d->by->end)
 			d->by->end(d->by->user, w->number);
@@ -304,7 +329,8 @@ static int next_tick(struct device *d, unsigned long *taken, int *quiet)
 
 	if (d->by->workers == 1)
 		return -1;
-	call_one(d);
+	if (now == *taken && !atomic_load(&d->readers))
+		call_one(d);
 	*quiet = now == *taken && atomic_load(&d->readers) ? *quiet + 1 : 0;
 	*taken = now;
 	if (*quiet < QUIET_TICKS)
