@@ -68,7 +68,7 @@ need python3 "Install it: apt-get install python3."
 build_transport share vfs_door
 share=$transport
 mkdir -p "$here/out/c"
-cc -std=c11 -O2 -Wall -Wextra -Werror -o "$here/out/c/ask" "$here/tools/beside/ask.c"
+cc -std=c11 -O2 -Wall -Wextra -Werror -DPATIENCE=600 -o "$here/out/c/ask" "$here/tools/beside/ask.c"
 
 # In memory where that is a file system: one on a disk may say of a directory that it has one name.
 work=$(mktemp -d -p "$(if [ -d /dev/shm ]; then echo /dev/shm; else echo /tmp; fi)")

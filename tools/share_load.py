@@ -47,7 +47,7 @@ def count(what, times=1):
     counts[what] = counts.get(what, 0) + times
 
 
-def wait_for(fact, seconds=20):
+def wait_for(fact, seconds=60):
     """Whether a fact came to be."""
     until = time.monotonic() + seconds
     while not fact():
@@ -94,14 +94,14 @@ class Server:
         """Its status, once it is unmounted, or a signal came."""
         if self.process.poll() is None:
             if self.mount:
-                wait_for(lambda: subprocess.run(["umount", self.mount], capture_output=True, check=False).returncode == 0, 5)
+                wait_for(lambda: not subprocess.call(["umount", self.mount], stderr=subprocess.DEVNULL))
                 if os.path.ismount(self.mount):
                     users = subprocess.run(["fuser", "-vm", self.mount], capture_output=True, text=True, check=False)
                     print(users.stdout, users.stderr, file=sys.stderr)
             else:
                 self.process.terminate()
         try:
-            return self.process.wait(20)
+            return self.process.wait(60)
         except subprocess.TimeoutExpired:
             self.process.kill()
             return "no end"
@@ -398,8 +398,16 @@ class Asking:
         self.program = subprocess.Popen([ask, path], stdin=subprocess.PIPE, stdout=subprocess.PIPE, text=True)
 
     def send(self, text):
-        self.program.stdin.write(text + "\n")
-        self.program.stdin.flush()
+        try:
+            self.program.stdin.write(text + "\n")
+            self.program.stdin.flush()
+        except BrokenPipeError:
+            pass
+
+    def is_answered(self):
+        """Whether there is a server that answers."""
+        self.send(line("16", request(99)))
+        return len(self.program.stdout.readline().split()) > 1
 
     def ask(self, text):
         """The reply: its error, and what is behind its header."""
@@ -413,7 +421,10 @@ class Asking:
     def end(self, is_killed=False):
         if is_killed:
             self.program.kill()
-        self.program.stdin.close()
+        try:
+            self.program.stdin.close()
+        except BrokenPipeError:
+            pass
         self.program.wait()
 
 
@@ -526,9 +537,8 @@ def in_turn():
         empty(folder)
         server = Server(refusing, folder, "--xattr", "--sandbox=none", "--thread-pool-size=1", socket=socket,
                         environment={"REFUSE_FROM": str(number)})
-        if server.is_up:
-            one = Asking(socket)
-            one.ask(line("16", request(99)))
+        one = Asking(socket) if server.is_up else None
+        if one and one.is_answered():
             before, came = server.descriptors(), steps(one)
             wanted = wanted or came
             if came != wanted:
@@ -537,8 +547,8 @@ def in_turn():
                 wrong(f"allocation {number} is refused, and {server.descriptors()} descriptors are left of {before}")
             one.end()
             hold_end(server, f"allocation {number} is refused")
-        elif server.process.returncode == 0 or len(server.said().splitlines()) < 2:
-            wrong(f"allocation {number} is refused: status {server.process.returncode}, {server.said()}")
+        elif not wait_for(lambda: server.process.poll()) or len(server.said().splitlines()) < 2:
+            wrong(f"allocation {number} is refused: status {server.process.poll()}, {server.said()}")
         is_refused = number == 0 or "is refused" in server.said()
         number += 1
     empty(folder)

@@ -6,7 +6,7 @@
  * descriptor of its own. Once a line is read it prints
  *   LENGTH HEX        what the daemon completed it with: a length, and so many bytes of the room
  *   .. behind HEX     the same, if other bytes of the room were written: the whole room
- *   none              not completed within three seconds; no line is asked after that
+ *   none              not completed within three seconds, or PATIENCE of a tenth; no line is asked after that
  *   hung up           the daemon closed the socket; nor after that
  * Status 3: it could not ask. */
 #define _GNU_SOURCE
@@ -23,6 +23,10 @@
 #include <sys/un.h>
 #include <time.h>
 #include <unistd.h>
+
+#ifndef PATIENCE
+#define PATIENCE 30
+#endif
 
 /* The memory: rings of two queues, the request from REQUEST on, the room from ROOM on. */
 enum { ENTRIES = 128, PIECES = 64, QUEUE = 1 << 16, REQUEST = 1 << 20, ROOM = 4 << 20, MEMORY = 8 << 20 };
@@ -156,7 +160,7 @@ static int64_t round_trip(void)
 	for (int tries = 0; __atomic_load_n(&used->idx, __ATOMIC_ACQUIRE) == asked; tries++) {
 		struct pollfd wait[] = { { call[1], POLLIN, 0 }, { connection, 0, 0 } };
 
-		if (tries == 30)
+		if (tries == PATIENCE)
 			return -1;
 		poll(wait, 2, 100);
 		if (wait[0].revents && read(call[1], &count, sizeof(count)) < 0)
@@ -237,7 +241,7 @@ int main(int count, char **words)
 		return 2;
 	}
 	/* A daemon that answers nothing must not hold it up. */
-	alarm(120);
+	alarm(4 * PATIENCE);
 	meet(words[1]);
 	begin();
 	while (fgets(line, sizeof(line), stdin)) {

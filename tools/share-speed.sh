@@ -1,0 +1,75 @@
+#!/usr/bin/env bash
+# Times nizwarf-share beside libfuse's passthrough_ll and bindfs: what programs do with files over a mount of
+# each, in turns, by one job and by four. It prints a table: a row has the medians of ratios, nizwarf-share's time by
+# that of another; below 1 it is the quicker one.
+#
+# Usage: tools/share-speed.sh [ROUNDS [CLASS..]]
+# Without a word 9 rounds of all classes, which take some ten minutes. Each has the options that it begins with,
+# but passthrough_ll `cache=auto`, which is that of nizwarf-share, and `default_permissions`, which the others have.
+# The folders are in memory.
+#
+# It wants root, /dev/fuse, git, python3 and a C compiler, and gets passthrough_ll, from libfuse's sources, and
+# bindfs from Debian's packages, by apt-get, into an ignored folder; nothing is installed.
+# Status 0: it was timed; 1: not so; 2: it could not start.
+set -euo pipefail
+. "$(dirname "$0")/usage.sh"
+. "$(dirname "$0")/transport.sh"
+. "$(dirname "$0")/debian.sh"
+
+rounds=${1:-9}
+if ! [[ $rounds =~ ^[1-9][0-9]*$ ]]; then
+    echo "Usage: tools/share-speed.sh [ROUNDS [CLASS..]]" >&2
+    exit 2
+fi
+if [ "$(id -u)" != 0 ] || [ ! -e /dev/fuse ]; then
+    echo "Only root may mount, and it takes /dev/fuse." >&2
+    exit 2
+fi
+for command in git python3 cc dpkg-deb; do
+    need "$command" "Install it."
+done
+# What is mounted here is in no other namespace, where it would stay in use.
+if [ -z "${SHARE_IS_APART:-}" ]; then
+    SHARE_IS_APART=yes exec unshare --mount "$0" "$@"
+fi
+
+# Gets the two others.
+get_others() {
+    local folder=$1 suite
+    suite=$(. /etc/os-release && echo "$VERSION_CODENAME")
+    use_suite "$suite" "$folder"
+    sed 's/^Types: deb$/Types: deb-src/' "$folder/sources/debian.sources" > "$folder/sources/source.sources"
+    apt-get "${apt[@]}" update
+    unpack_packages "$folder" libfuse3-3 libfuse3-dev bindfs
+    (cd "$folder" && apt-get "${apt[@]}" --download-only source fuse3 && tar -xf fuse3_*.orig.tar.?z)
+    cc -O2 -w -D_FILE_OFFSET_BITS=64 -pthread -I "$folder/usr/include/fuse3" -o "$folder/passthrough_ll" \
+        "$folder"/fuse-*/example/passthrough_ll.c "$folder"/lib/*/libfuse3.so.3
+    apt-cache "${apt[@]}" show libfuse3-3 bindfs | sed -n 's/^Version: //p' > "$folder/versions"
+}
+
+others=$here/out/share-speed
+if [ ! -x "$others/passthrough_ll" ]; then
+    echo "Getting libfuse's sources and bindfs .." >&2
+    rm -rf "$others"
+    mkdir -p "$others"
+    quietly "$others/said" get_others "$others"
+    if [ ! -x "$others/passthrough_ll" ]; then
+        cat "$others/said" >&2
+        exit 1
+    fi
+fi
+LD_LIBRARY_PATH=$(dirname "$(find "$others" -name libfuse3.so.3 -print -quit)")
+export LD_LIBRARY_PATH
+build_transport share vfs_door
+cc -std=c11 -O2 -Wall -Wextra -Werror -o "$here/out/c/share_speed" "$here/tools/share_speed.c"
+work=$(mktemp -d -p /dev/shm)
+tidy() {
+    umount -lq "$work"/*.mount
+    rm -rf "$work"
+}
+trap 'tidy 2> /dev/null || true' EXIT
+echo "libfuse and bindfs $(tr '\n' ' ' < "$others/versions")here $(git -C "$here" describe --always --dirty), Linux" \
+    "$(uname -r), $(nproc) processors, load $(cut -d ' ' -f 1-3 /proc/loadavg), $rounds rounds"
+python3 -B "$here/tools/share_speed.py" "$here/out/c/share_speed" "$transport" "$others/passthrough_ll" \
+    "$others/usr/bin/bindfs" "$here" "$work" "$rounds" "${@:2}"
+echo "load $(cut -d ' ' -f 1-3 /proc/loadavg)"

@@ -1,0 +1,326 @@
+/* Does what programs do with files, and takes the time of it: for share_speed.py.
+ *
+ * Usage: share_speed CLASS FOLDER JOBS
+ *        share_speed CLASS FOLDER JOBS SERVER [COMMAND..]
+ * Each of the jobs is a process with a folder of its own, job-N. The first makes them, with what is there before.
+ * The second prints the seconds from when all begin up to when the last one has ended, and those that the threads
+ * of the process SERVER were on a processor meanwhile. The class `run` is a command. */
+#define _GNU_SOURCE
+#include <dirent.h>
+#include <fcntl.h>
+#include <stdint.h>
+#include <stdio.h>
+#include <stdlib.h>
+#include <string.h>
+#include <sys/stat.h>
+#include <sys/wait.h>
+#include <time.h>
+#include <unistd.h>
+
+enum { FILES = 1000, MANY = 10000, BLOCK = 4096, CHUNK = 1 << 20, CHUNKS = 48, BLOCKS = 3000 };
+
+static char bytes[CHUNK];
+
+static void need(int fact, const char *what)
+{
+	if (!fact) {
+		perror(what);
+		exit(1);
+	}
+}
+
+static int open_file(const char *name, int flags)
+{
+	const int fd = open(name, flags | O_CLOEXEC, 0644);
+
+	need(fd >= 0, name);
+	return fd;
+}
+
+static const char *name_file(int i)
+{
+	static char name[32];
+
+	snprintf(name, sizeof(name), "file%05d", i);
+	return name;
+}
+
+/* ---- what is there before */
+
+static void make_files(int count)
+{
+	for (int i = 0; i < count; i++)
+		close(open_file(name_file(i), O_CREAT | O_WRONLY));
+}
+
+static void make_few(void)
+{
+	make_files(FILES);
+}
+
+static void make_many(void)
+{
+	make_files(MANY);
+}
+
+static void make_large(void)
+{
+	const int fd = open_file("large", O_CREAT | O_WRONLY);
+
+	for (int i = 0; i < CHUNKS; i++)
+		need(pwrite(fd, bytes, CHUNK, (off_t)i * CHUNK) == CHUNK, "large");
+	close(fd);
+}
+
+static void make_nothing(void)
+{
+}
+
+static char **command;
+
+/* ---- what is timed */
+
+/* Asks for the attributes, whatever is remembered. */
+static void stat_files(void)
+{
+	struct statx seen;
+
+	for (int i = 0; i < FILES; i++)
+		need(!statx(AT_FDCWD, name_file(i), AT_STATX_FORCE_SYNC, STATX_BASIC_STATS, &seen), "statx");
+}
+
+static void stat_missing(void)
+{
+	struct stat seen;
+
+	for (int i = 0; i < FILES; i++)
+		need(stat(name_file(i), &seen) < 0, "stat");
+}
+
+static void open_files(void)
+{
+	for (int i = 0; i < FILES; i++)
+		close(open_file(name_file(i), O_RDONLY));
+}
+
+static void create_and_unlink(void)
+{
+	make_few();
+	for (int i = 0; i < FILES; i++)
+		need(!unlink(name_file(i)), "unlink");
+}
+
+static void read_names(void)
+{
+	int count = 0;
+	DIR *dir = opendir(".");
+
+	need(dir != NULL, "opendir");
+	while (readdir(dir))
+		count++;
+	closedir(dir);
+	need(count == MANY + 2, "the names");
+}
+
+/* As `ls -l` does. */
+static void read_attributes(void)
+{
+	const struct dirent *found;
+	DIR *dir = opendir(".");
+	struct stat seen;
+
+	need(dir != NULL, "opendir");
+	while ((found = readdir(dir)))
+		need(!lstat(found->d_name, &seen), found->d_name);
+	closedir(dir);
+}
+
+static void write_large(void)
+{
+	const int fd = open_file("large", O_CREAT | O_WRONLY);
+
+	for (int i = 0; i < CHUNKS; i++)
+		need(write(fd, bytes, CHUNK) == CHUNK, "write");
+	close(fd);
+}
+
+/* Opens the file, of which nothing is in the kernel's cache then. */
+static int open_cold(int flags)
+{
+	const int fd = open_file("large", flags);
+
+	posix_fadvise(fd, 0, 0, POSIX_FADV_DONTNEED);
+	return fd;
+}
+
+static void read_large(void)
+{
+	const int fd = open_cold(O_RDONLY);
+
+	for (int i = 0; i < CHUNKS; i++)
+		need(read(fd, bytes, CHUNK) == CHUNK, "read");
+	close(fd);
+}
+
+/* A place of a block, by chance and always the same. */
+static off_t next_place(uint32_t *chance)
+{
+	*chance = *chance * 1103515245 + 12345;
+	return (off_t)((*chance >> 8) % (CHUNKS * (CHUNK / BLOCK))) * BLOCK;
+}
+
+static void read_blocks(void)
+{
+	const int fd = open_cold(O_RDONLY);
+	uint32_t chance = 1;
+
+	posix_fadvise(fd, 0, 0, POSIX_FADV_RANDOM);
+	for (int i = 0; i < BLOCKS; i++)
+		need(pread(fd, bytes, BLOCK, next_place(&chance)) == BLOCK, "pread");
+	close(fd);
+}
+
+static void write_blocks(void)
+{
+	const int fd = open_cold(O_WRONLY);
+	uint32_t chance = 1;
+
+	for (int i = 0; i < BLOCKS; i++)
+		need(pwrite(fd, bytes, BLOCK, next_place(&chance)) == BLOCK, "pwrite");
+	close(fd);
+}
+
+static void run_command(void)
+{
+	execvp(command[0], command);
+	need(0, command[0]);
+}
+
+static const struct {
+	const char *name;
+	void (*before)(void), (*act)(void);
+} classes[] = {
+	{ "stat", make_few, stat_files },
+	{ "stat-missing", make_nothing, stat_missing },
+	{ "open-close", make_few, open_files },
+	{ "create-unlink", make_nothing, create_and_unlink },
+	{ "readdir", make_many, read_names },
+	{ "ls-l", make_many, read_attributes },
+	{ "write-1m", make_nothing, write_large },
+	{ "read-1m", make_large, read_large },
+	{ "write-4k", make_large, write_blocks },
+	{ "read-4k", make_large, read_blocks },
+	{ "run", make_nothing, run_command },
+};
+
+/* Makes the folder of a job if there is none, and goes there. */
+static void enter(int job)
+{
+	char folder[32];
+
+	snprintf(folder, sizeof(folder), "job-%d", job);
+	mkdir(folder, 0755);
+	need(!chdir(folder), folder);
+}
+
+/* A job: it waits for the pipe's end, and acts. */
+static _Noreturn void run_job(size_t which, int job, const int ready[2], const int go[2])
+{
+	char byte;
+
+	enter(job);
+	close(go[1]);
+	need(write(ready[1], "", 1) == 1, "a pipe");
+	need(read(go[0], &byte, 1) == 0, "a pipe");
+	classes[which].act();
+	_exit(0);
+}
+
+static void prepare(size_t which, int jobs)
+{
+	for (int i = 0; i < jobs; i++) {
+		enter(i);
+		classes[which].before();
+		need(!chdir(".."), "..");
+	}
+}
+
+/* The nanoseconds that the threads of a process were on a processor. */
+static unsigned long long spent_by(const char *server)
+{
+	unsigned long long sum = 0, one;
+	char path[600];
+	const struct dirent *task;
+	DIR *tasks;
+
+	snprintf(path, sizeof(path), "/proc/%s/task", server);
+	tasks = opendir(path);
+	need(tasks != NULL, path);
+	while ((task = readdir(tasks))) {
+		FILE *file;
+
+		snprintf(path, sizeof(path), "/proc/%s/task/%s/schedstat", server, task->d_name);
+		file = *task->d_name != '.' ? fopen(path, "r") : NULL;
+		if (file && fscanf(file, "%llu", &one) == 1)
+			sum += one;
+		if (file)
+			fclose(file);
+	}
+	closedir(tasks);
+	return sum;
+}
+
+static double now(void)
+{
+	struct timespec time;
+
+	clock_gettime(CLOCK_MONOTONIC, &time);
+	return (double)time.tv_sec + (double)time.tv_nsec / 1e9;
+}
+
+/* Runs the jobs, and prints their times. Answers whether one failed. */
+static int take_time(size_t which, int jobs, const char *server)
+{
+	int ready[2], go[2], status, is_wrong = 0;
+	unsigned long long spent;
+	double from;
+	char byte;
+
+	need(!pipe(ready) && !pipe(go), "a pipe");
+	for (int i = 0; i < jobs; i++)
+		if (!fork())
+			run_job(which, i, ready, go);
+	/* (so that one that fails is seen) */
+	close(ready[1]);
+	for (int i = 0; i < jobs; i++)
+		need(read(ready[0], &byte, 1) == 1, "a job");
+	spent = spent_by(server);
+	from = now();
+	close(go[0]);
+	close(go[1]);
+	while (wait(&status) > 0)
+		is_wrong |= status;
+	from = now() - from;
+	printf("%.6f %.6f\n", from, (double)(spent_by(server) - spent) / 1e9);
+	return is_wrong ? 1 : 0;
+}
+
+int main(int count, char **words)
+{
+	const int jobs = count >= 4 ? atoi(words[3]) : 0;
+	const size_t known = sizeof(classes) / sizeof(*classes);
+	size_t which = 0;
+
+	while (which < known && jobs > 0 && strcmp(classes[which].name, words[1]) != 0)
+		which++;
+	if (jobs < 1 || which == known) {
+		fputs("Usage: share_speed CLASS FOLDER JOBS [SERVER [COMMAND..]]\n", stderr);
+		return 2;
+	}
+	memset(bytes, 7, sizeof(bytes));
+	need(!chdir(words[2]), words[2]);
+	if (count == 4)
+		return prepare(which, jobs), 0;
+	command = words + 5;
+	return take_time(which, jobs, words[4]);
+}
