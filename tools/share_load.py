@@ -407,7 +407,7 @@ class Asking:
     def is_answered(self):
         """Whether there is a server that answers."""
         self.send(line("16", request(99)))
-        return len(self.program.stdout.readline().split()) > 1
+        return self.program.stdout.readline()[:1].isdigit()
 
     def ask(self, text):
         """The reply: its error, and what is behind its header."""

@@ -17,7 +17,7 @@
 #include <time.h>
 #include <unistd.h>
 
-enum { FILES = 1000, MANY = 10000, BLOCK = 4096, CHUNK = 1 << 20, CHUNKS = 48, BLOCKS = 3000 };
+enum { FILES = 2000, MANY = 10000, TIMES = 5, BLOCK = 4096, CHUNK = 1 << 20, CHUNKS = 48, BLOCKS = 3000 };
 
 static char bytes[CHUNK];
 
@@ -112,14 +112,16 @@ static void create_and_unlink(void)
 
 static void read_names(void)
 {
-	int count = 0;
-	DIR *dir = opendir(".");
+	for (int i = 0; i < TIMES; i++) {
+		DIR *dir = opendir(".");
+		int count = 0;
 
-	need(dir != NULL, "opendir");
-	while (readdir(dir))
-		count++;
-	closedir(dir);
-	need(count == MANY + 2, "the names");
+		need(dir != NULL, "opendir");
+		while (readdir(dir))
+			count++;
+		closedir(dir);
+		need(count == MANY + 2, "the names");
+	}
 }
 
 /* As `ls -l` does. */

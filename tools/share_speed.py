@@ -13,9 +13,9 @@ import time
 CLASSES = ("stat", "stat-missing", "open-close", "create-unlink", "readdir", "ls-l", "write-1m", "read-1m", "write-4k",
            "read-4k", "git status", "untar")
 JOBS = 1, 4
-SAID = {"stat": "statx of 1,000 files, asked anew", "stat-missing": "stat of 1,000 names that are none",
-        "open-close": "open and close of 1,000 files", "create-unlink": "create and unlink of 1,000 files",
-        "readdir": "readdir of 10,000 names", "ls-l": "readdir and lstat of 10,000",
+SAID = {"stat": "statx of 2,000 files, asked anew", "stat-missing": "stat of 2,000 names that are none",
+        "open-close": "open and close of 2,000 files", "create-unlink": "create and unlink of 2,000 files",
+        "readdir": "readdir of 10,000 names, five times", "ls-l": "readdir and lstat of 10,000",
         "write-1m": "sequential WRITE, 48 MiB by 1 MiB", "read-1m": "sequential READ, 48 MiB by 1 MiB",
         "write-4k": "random WRITE, 3,000 of 4 KiB", "read-4k": "random READ, 3,000 of 4 KiB",
         "git status": "git status of this repository", "untar": "untar of this repository"}

@@ -6,10 +6,10 @@
  * FUSE_DEV_IOC_CLONE, and begins once the options are agreed on.
  *
  * The kernel wakes those that read in turn, so one client would be served by one cold worker after
- * another. So a worker that finds another one reading, and no request that waits, rests. Those that
- * rest are called by a worker that finds requests waiting time after time, and that calls the next
- * if there was one for it; and by the calling thread, which looks each millisecond while requests
- * come, if none was taken since and no one reads, since those that serve take long. */
+ * another. So a worker that finds another one reading, and no request that waits, rests. While
+ * requests come the calling thread looks each millisecond whether no one reads. It calls one that
+ * rests if none was taken since it looked last, as one takes long, or if some wait time after time;
+ * and that one calls the next if there was a request for it at once. */
 #define _GNU_SOURCE
 #include <errno.h>
 #include <fcntl.h>
@@ -31,9 +31,7 @@
 
 /* The longest request and reply: a header and its record take less than a page. Before the data of
  * a WRITE stand 80 bytes, and before those of a READ's reply 16. */
-enum { TICK = 1, QUIET_TICKS = 50 };
-/* After how many requests a worker looks whether others wait, and how often they must. */
-enum { LOOK_AFTER = 16, WAITED = 2 };
+enum { TICK = 1, QUIET_TICKS = 50, WAITED_TICKS = 4 };
 enum { PAGE = 4096, LONGEST = TRANSPORT_PAYLOAD + PAGE, BEFORE_WRITE = 80, BEFORE_READ = 16 };
 
 enum outcome { SERVED, ENDED, FAILED };
@@ -44,8 +42,6 @@ struct worker {
 	struct device *of;
 	unsigned number;
 	int fd;
-	/* How many requests it served, and how often others waited when it looked last. */
-	unsigned served, waited;
 	pthread_t thread;
 	unsigned char *memory, *request, *room;
 };
@@ -125,27 +121,11 @@ static int is_waited_for(const struct worker *w)
 	return poll(&device, 1, 0) > 0;
 }
 
-/* Calls one that rests if requests wait, time after time. */
-static void look_for_others(struct worker *w)
+/* Rests until it is called. Answers whether it was. */
+static int rest(struct device *d)
 {
-	if (++w->served % LOOK_AFTER)
-		return;
-	w->waited = is_waited_for(w) ? w->waited + 1 : 0;
-	if (w->waited < WAITED)
-		return;
-	w->waited = 0;
-	call_one(w->of);
-}
-
-/* Rests if another one reads and no request waits, until it is called. Answers whether it was. */
-static int rest(struct worker *w)
-{
-	struct device *d = w->of;
 	int was_called = 0;
 
-	look_for_others(w);
-	if (!atomic_load(&d->readers) || is_waited_for(w))
-		return 0;
 	pthread_mutex_lock(&d->lock);
 	d->resting++;
 	while (!d->called && !atomic_load(&d->stop))
@@ -157,6 +137,12 @@ static int rest(struct worker *w)
 	d->resting--;
 	pthread_mutex_unlock(&d->lock);
 	return was_called;
+}
+
+/* Rests if another one reads and no request waits. Answers whether it was called since. */
+static int rest_if_idle(const struct worker *w)
+{
+	return atomic_load(&w->of->readers) && !is_waited_for(w) ? rest(w->of) : 0;
 }
 
 /* Reads a request, and counts those that read. */
@@ -228,7 +214,7 @@ static int start(struct device *d, int fd)
 	w->memory = memory;
 	if (memory) {
 		w->request = memory + PAGE - BEFORE_WRITE;
-		w->room = memory + (size_t)LONGEST + 3 * PAGE - BEFORE_READ;
+		w->room = memory + (size_t)(LONGEST + 3 * PAGE - BEFORE_READ);
 	}
 	/* (the first one counts on from here, as soon as it runs) */
 	d->started++;
@@ -277,15 +263,16 @@ static void *run(void *given)
 	struct worker *w = given;
 	struct device *d = w->of;
 	enum outcome outcome = FAILED;
-	int was_called = 0;
+	int was_called;
 	uint32_t opcode;
 
 	if (!d->by->begin || !d->by->begin(d->by->user, w->number)) {
+		was_called = w->number ? rest(d) : 0;
 		do {
 			outcome = serve_one(w, &opcode, was_called);
 			if (opcode == FUSE_INIT && w->number == 0)
 				start_others(d);
-			was_called = outcome == SERVED && d->by->workers > 1 && rest(w);
+			was_called = outcome == SERVED ? rest_if_idle(w) : 0;
 		} while (outcome == SERVED && !atomic_load(&d->stop));
 		if (d->by->end)
 			d->by->end(d->by->user, w->number);
@@ -322,25 +309,44 @@ int fuse_device_unmount(const transport *by, const char *folder)
 	return umount2(folder, MNT_DETACH) ? say(by, folder) : 0;
 }
 
+/* What the calling thread saw when it looked last. */
+struct seen {
+	unsigned long taken;
+	unsigned quiet, waited;
+};
+
+/* Calls one that rests if requests are to be taken, and no one does. */
+static void look(struct device *d, struct seen *seen, unsigned long taken)
+{
+	if (atomic_load(&d->readers)) {
+		seen->waited = 0;
+		return;
+	}
+	seen->waited = is_waited_for(&d->worker[0]) ? seen->waited + 1 : 0;
+	if (taken != seen->taken && seen->waited < WAITED_TICKS)
+		return;
+	seen->waited = 0;
+	call_one(d);
+}
+
 /* How long to wait for the next tick, in milliseconds; -1: until somebody is busy. */
-static int next_tick(struct device *d, unsigned long *taken, int *quiet)
+static int next_tick(struct device *d, struct seen *seen)
 {
 	const unsigned long now = atomic_load(&d->taken);
 
 	if (d->by->workers == 1)
 		return -1;
-	if (now == *taken && !atomic_load(&d->readers))
-		call_one(d);
-	*quiet = now == *taken && atomic_load(&d->readers) ? *quiet + 1 : 0;
-	*taken = now;
-	if (*quiet < QUIET_TICKS)
+	look(d, seen, now);
+	seen->quiet = now == seen->taken && atomic_load(&d->readers) ? seen->quiet + 1 : 0;
+	seen->taken = now;
+	if (seen->quiet < QUIET_TICKS)
 		return TICK;
 	/* A worker that takes a request from now on sees this, or it is seen here that it did. */
 	atomic_store(&d->sleeps, 1);
 	if (atomic_load(&d->taken) == now && atomic_load(&d->readers))
 		return -1;
 	atomic_store(&d->sleeps, 0);
-	*quiet = 0;
+	seen->quiet = 0;
 	return TICK;
 }
 
@@ -350,12 +356,12 @@ static void wait_for_end(struct device *d, int signals, const char *folder)
 	struct pollfd wait[] = { { signals, POLLIN, 0 }, { d->over, POLLIN, 0 },
 				 { d->busy, POLLIN, 0 } };
 	struct signalfd_siginfo said;
-	unsigned long taken = 0;
-	int asked = 0, quiet = 0;
+	struct seen seen = { 0 };
 	uint64_t times;
+	int asked = 0;
 
 	while (!wait[1].revents) {
-		if (poll(wait, 3, next_tick(d, &taken, &quiet)) < 0) {
+		if (poll(wait, 3, next_tick(d, &seen)) < 0) {
 			if (errno == EINTR)
 				continue;
 			say(d->by, "poll");
@@ -363,7 +369,7 @@ static void wait_for_end(struct device *d, int signals, const char *folder)
 			return;
 		}
 		if (wait[2].revents && read(d->busy, &times, sizeof(times)) == sizeof(times))
-			quiet = 0;
+			seen.quiet = 0;
 		if (!wait[0].revents || read(signals, &said, sizeof(said)) != sizeof(said))
 			continue;
 		if (asked++ || !folder)

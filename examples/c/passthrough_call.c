@@ -143,22 +143,26 @@ static int enter(const struct call *call, int directory, int fd, nizwarf_entry *
 	return error;
 }
 
+int look_up_new(const struct call *call, int directory, const char *name, nizwarf_entry *entry)
+{
+	const int fd = openat(directory, name, O_PATH | O_NOFOLLOW | O_CLOEXEC);
+
+	return fd < 0 ? errno : enter(call, directory, fd, entry);
+}
+
 int look_up(const struct call *call, int directory, const char *name, nizwarf_entry *entry)
 {
 	struct statx seen;
 	uint64_t number;
-	int fd;
 
 	/* What is known is not opened again. */
 	if (statx(directory, name, AT_SYMLINK_NOFOLLOW | AT_NO_AUTOMOUNT, WANTED, &seen))
 		return errno;
 	number = node_find(&call->all->nodes, &seen);
-	if (number) {
-		tell_entry(call, number, &seen, entry);
-		return 0;
-	}
-	fd = openat(directory, name, O_PATH | O_NOFOLLOW | O_CLOEXEC);
-	return fd < 0 ? errno : enter(call, directory, fd, entry);
+	if (!number)
+		return look_up_new(call, directory, name, entry);
+	tell_entry(call, number, &seen, entry);
+	return 0;
 }
 
 static int get_attr(const struct call *call)

@@ -68,6 +68,8 @@ bool is_plain(const char *name);
 struct fd_name name_fd(int fd);
 /* The entry of a name in a directory: 0, or an error. */
 int look_up(const struct call *call, int directory, const char *name, nizwarf_entry *entry);
+/* The same, quicker if it isn't known. */
+int look_up_new(const struct call *call, int directory, const char *name, nizwarf_entry *entry);
 
 /* Leaves the thread of a worker the capabilities that it needs, if it is root: 0, or -1 with
  * errno. */

@@ -60,6 +60,16 @@ static nizwarf_item *add_item(struct worker *w, size_t count)
 	return &w->items[count];
 }
 
+/* The entry of an item. Of one that can't be looked up, or went, there is the name alone. */
+static void find_entry(const struct call *call, const struct dirent64 *found, nizwarf_entry *entry)
+{
+	const bool may_be_known = node_may_be_known(&call->all->nodes, call->node.node, found->d_ino);
+
+	if (may_be_known ? look_up(call, call->node.fd, found->d_name, entry) :
+			   look_up_new(call, call->node.fd, found->d_name, entry))
+		memset(entry, 0, sizeof(*entry));
+}
+
 /* Puts an item of a directory into the worker's. False: it doesn't fit, or there is no memory. */
 static bool put_item(const struct call *call, const struct dirent64 *found, struct space *space)
 {
@@ -79,10 +89,8 @@ static bool put_item(const struct call *call, const struct dirent64 *found, stru
 	item->type = found->d_type;
 	item->name = memcpy(w->names + space->names, found->d_name, len);
 	item->name_size = len;
-	/* Of one that can't be looked up, or went, there is the name alone. */
-	if (plus && is_plain(found->d_name) &&
-	    look_up(call, call->node.fd, found->d_name, &item->entry))
-		memset(&item->entry, 0, sizeof(item->entry));
+	if (plus && is_plain(found->d_name))
+		find_entry(call, found, &item->entry);
 	/* What is above the folder is not told. */
 	if (call->node.node->counted.number == ROOT_NODE && !strcmp(found->d_name, ".."))
 		item->ino = call->node.node->inode;

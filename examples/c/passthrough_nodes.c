@@ -215,6 +215,18 @@ static bool some_handle(struct nodes *all, const struct statx *seen)
 	return node != NULL;
 }
 
+bool node_may_be_known(struct nodes *all, const struct node *directory, uint64_t inode)
+{
+	struct node *node;
+
+	pthread_rwlock_rdlock(&all->nodes.lock);
+	node = *chain_of(all, directory->device, inode);
+	while (node && (node->inode != inode || node->device != directory->device))
+		node = node->next;
+	pthread_rwlock_unlock(&all->nodes.lock);
+	return node != NULL;
+}
+
 uint64_t node_find(struct nodes *all, const struct statx *seen)
 {
 	struct node *node;

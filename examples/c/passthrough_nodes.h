@@ -109,6 +109,9 @@ void nodes_end(struct nodes *all);
 int node_get(struct nodes *all, uint64_t number, struct grip *grip);
 void node_put(struct grip *grip);
 
+/* Whether a file of a directory with this inode may be known already. */
+bool node_may_be_known(struct nodes *all, const struct node *directory, uint64_t inode);
+
 /* The number of a file that is known already, with a lookup more; 0 where it isn't. Nothing of it
  * is opened. */
 uint64_t node_find(struct nodes *all, const struct statx *seen);
