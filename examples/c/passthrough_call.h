@@ -9,6 +9,8 @@
 
 /* The header of a reply, before the data of a READ, and the longest value of an attribute. */
 enum { HEADER = 16, LONGEST_VALUE = 65536 };
+/* What is asked of a file. */
+enum { WANTED = STATX_BASIC_STATS | STATX_MNT_ID };
 
 /* What a worker uses again from one call to the next. */
 struct worker {
@@ -66,6 +68,11 @@ const char *name_of(const struct call *call, nizwarf_range range);
 /* Whether a name is that of something in a directory. */
 bool is_plain(const char *name);
 struct fd_name name_fd(int fd);
+/* Tells attributes, and how long they hold. */
+void tell_attr(const struct call *call, const struct statx *seen, nizwarf_entry *entry);
+/* The entry of a file in a directory, which was opened with O_PATH; the descriptor is the node's, or
+ * closed. 0, or an error. */
+int enter(const struct call *call, int directory, int fd, nizwarf_entry *entry);
 /* The entry of a name in a directory: 0, or an error. */
 int look_up(const struct call *call, int directory, const char *name, nizwarf_entry *entry);
 /* The same, quicker if it isn't known. */

@@ -131,17 +131,20 @@ int open_again(const struct nodes *all, int fd, int flags)
 	return openat(all->proc, name, (flags & ~O_NOFOLLOW) | O_CLOEXEC);
 }
 
+int node_hold(struct nodes *all, uint64_t number, struct grip *grip)
+{
+	grip->node = (struct node *)get(&all->nodes, number);
+	grip->fd = grip->node ? grip->node->counted.fd : -1;
+	grip->own = -1;
+	return grip->node ? 0 : ESTALE;
+}
+
 int node_get(struct nodes *all, uint64_t number, struct grip *grip)
 {
-	int error;
+	int error = node_hold(all, number, grip);
 
-	grip->node = (struct node *)get(&all->nodes, number);
-	grip->own = -1;
-	if (!grip->node)
-		return ESTALE;
-	grip->fd = grip->node->counted.fd;
-	if (grip->fd >= 0)
-		return 0;
+	if (error || grip->fd >= 0)
+		return error;
 	grip->fd = grip->own = open_by_handle_at(grip->node->handle_of->fd, grip->node->handle,
 						 O_PATH | O_NOFOLLOW | O_CLOEXEC);
 	if (grip->fd >= 0)

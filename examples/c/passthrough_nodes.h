@@ -107,6 +107,8 @@ void nodes_end(struct nodes *all);
 
 /* Takes a node in hand. 0, or an error: ESTALE where there is none. */
 int node_get(struct nodes *all, uint64_t number, struct grip *grip);
+/* The same, without a descriptor if it has a handle. */
+int node_hold(struct nodes *all, uint64_t number, struct grip *grip);
 void node_put(struct grip *grip);
 
 /* Whether a file of a directory with this inode may be known already. */
