@@ -307,6 +307,7 @@ make_tree() {
     missing=$(for_programs page_missing "$tree/share/man")
     [ -z "$missing" ] || wrong "programs without a page: $missing"
     install -m 644 "$here"/{CHANGELOG.md,NOTICE.md,LICENSE-*} "$tree/share/doc/nizwarf/"
+    install -Dm 644 "$packaging/50-nizwarf-share.json" -t "$tree/share/qemu/vhost-user"
     install -m 755 "$packaging/install.sh" "$tree/"
 }
 
@@ -414,9 +415,11 @@ make_debs() {
     make_deb libnizwarf-dev "$root" "$out" "libnizwarf0 (= $version-1)"
 
     root=$folder/nizwarf
-    mkdir -p "$root/usr/share/man"
+    mkdir -p "$root/usr/share"/{man,qemu/vhost-user}
     for_programs build_program "$root/usr/bin" "$tree/lib/$soname"
     put_demo "$root/usr"
+    sed 's,/usr/local/,/usr/,' "$packaging/50-nizwarf-share.json" \
+        > "$root/usr/share/qemu/vhost-user/50-nizwarf-share.json"
     find "$tree/share/man" -mindepth 1 -maxdepth 1 ! -name man3 -exec cp -R {} "$root/usr/share/man/" \;
     make_deb nizwarf "$root" "$out"
 }

@@ -175,6 +175,31 @@ try_kill() {
     ! mountpoint -q "$work/mount" || wrong "a mount is left of a server that was killed"
 }
 
+# Who isn't root has a sandbox too, if the kernel lets users make namespaces.
+try_user() {
+    local user=(setpriv --reuid=65534 --regid=65534 --clear-groups)
+    if ! "${user[@]}" unshare --user true 2> /dev/null; then
+        echo "Users can't make namespaces here: a share by one was left out." >&2
+        return
+    fi
+    mkdir "$work/user"
+    chown 65534 "$work/user"
+    cp "$share" "$work/share"
+    "${user[@]}" "$work/share" --log-level=warn --socket-path="$work/user/socket" "$work/user" &
+    server=$!
+    python3 -B - "$here/tools/beside" << 'PYTHON' | timeout 60 "$here/out/c/ask" "$work/user/socket" > "$work/said"
+import struct, sys
+sys.path.insert(0, sys.argv[1])
+from requests import FIRST, line, request
+print(FIRST[1], line("16+128", request(9, struct.pack("<II", 0o755, 0) + b"made\0")), sep="\n")
+PYTHON
+    [ "$(stat -c %u "$work/user/made")" = 65534 ] || wrong "a share by a user: $(cat "$work/said")"
+    kill "$server"
+    wait "$server" || wrong "a share by a user ended with $?"
+    server=
+    echo "A user shares a folder in a sandbox."
+}
+
 # Words that can't be, what is printed, and who is told that it serves.
 try_words() {
     local came words
@@ -230,6 +255,7 @@ try_mount --rlimit-nofile=100
 try_signals --sandbox=namespace
 try_signals --sandbox=none
 try_kill
+try_user
 
 # Asks a server over vhost-user: what it is, its words.
 ask() {
