@@ -264,6 +264,7 @@ import mmap, os, random, socket, stat, struct, subprocess, sys, time
 
 beside, ask, work, what, *daemon = sys.argv[1:]
 sys.path.insert(0, beside)
+import generate
 import requests
 from requests import line, request, transfer
 
@@ -340,6 +341,17 @@ with open(work + "/log", "w+") as log:
         asking.end()
         if answers[-1] != ENOSYS:
             faults.append(f"{items[-2][0]}: the server did not go on: {answers}")
+
+    # Sessions made of a number, of requests that mostly break a rule.
+    for number in range(300):
+        asking = Asking()
+        asking.ask(requests.FIRST[1])
+        for made in generate.session(7, number):
+            asking.ask(line("16+4096", made or b"\0"))
+            count += 1
+        if asking.ask(requests.LAST[1]) != ENOSYS:
+            faults.append(f"session {number}: the server did not go on")
+        asking.end()
 
     def descriptors():
         """How many the server has, which is the only child of what stands by its sandbox."""
