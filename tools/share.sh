@@ -223,9 +223,10 @@ try_words() {
     mountpoint -q "$work/mount" || wrong "--daemonize, which did not wait for the mount, and said: $came"
     umount "$work/mount"
     timeout 60 python3 - "$share" "$work" << 'PYTHON' || wrong "NOTIFY_SOCKET"
-import os, socket, subprocess, sys
+import os, socket, struct, subprocess, sys
 share, work = sys.argv[1:]
 told = socket.socket(socket.AF_UNIX, socket.SOCK_DGRAM)
+told.setsockopt(socket.SOL_SOCKET, socket.SO_PASSCRED, 1)
 told.bind(work + "/told")
 told.settimeout(20)
 listening = socket.socket(socket.AF_UNIX)
@@ -234,7 +235,9 @@ listening.listen(1)
 for words in (["--socket-path=" + work + "/socket"], ["--fd=%d" % listening.fileno()]):
     server = subprocess.Popen([share, "--log-level=error", *words, work + "/folder"],
                               env=dict(os.environ, NOTIFY_SOCKET=work + "/told"), pass_fds=[listening.fileno()])
-    assert told.recv(100) == b"READY=1\n"
+    said, beside, _, _ = told.recvmsg(100, 100)
+    # (systemd believes the process alone that it started)
+    assert said == b"READY=1\n" and struct.unpack_from("i", beside[0][2])[0] == server.pid
     server.terminate()
     assert server.wait(20) == 0
 assert not os.path.exists(work + "/socket")

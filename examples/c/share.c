@@ -420,12 +420,29 @@ static int go_to_background(void)
 	return ends[1];
 }
 
-/* Tells whoever waits that it serves. `nothing` is /dev/null if it goes to the background, or is
- * to be quiet. */
-static void tell_ready(int manager, int parent, int nothing)
+/* Who waits until it serves: a service manager, and the process that was started. /dev/null, if it
+ * goes to the background or is to be quiet. -1: there is none. */
+static int manager = -1, starter = -1, nothing = -1;
+
+/* Lets go of those who wait, and of output. */
+static void go_quiet(void)
+{
+	for (int i = words.daemonizes ? 0 : 2; nothing >= 0 && i <= 2; i++)
+		dup2(nothing, i);
+	if (nothing >= 0)
+		close(nothing);
+	if (starter >= 0)
+		close(starter);
+	if (manager >= 0)
+		close(manager);
+}
+
+/* Tells whoever waits that it serves. */
+static void tell_ready(void *user)
 {
 	static const char ready[] = "READY=1\n";
 
+	(void)user;
 	if (words.says_more)
 		fprintf(stderr, "nizwarf-share: %s is served %s %s\n", words.folder,
 			words.mount_point ? "at" : "on",
@@ -433,18 +450,9 @@ static void tell_ready(int manager, int parent, int nothing)
 			words.socket_path ? words.socket_path : "the socket of --fd");
 	if (manager >= 0 && send(manager, ready, sizeof(ready) - 1, MSG_NOSIGNAL) < 0)
 		failed("NOTIFY_SOCKET");
-	if (parent >= 0 && write(parent, "", 1) == 1) {
-		dup2(nothing, 0);
-		dup2(nothing, 1);
-	}
-	if (nothing >= 0) {
-		dup2(nothing, 2);
-		close(nothing);
-	}
-	if (parent >= 0)
-		close(parent);
-	if (manager >= 0)
-		close(manager);
+	if (starter >= 0 && write(starter, "", 1) != 1)
+		failed("the process that was started");
+	go_quiet();
 }
 
 /* Listens for the owner, and for the group of those who may connect too. */
@@ -533,8 +541,19 @@ static int begin_mount(void)
 	return words.sandbox == SANDBOX_NONE ? mount_folder(NULL) : sandbox_mount();
 }
 
+/* Tells that it serves. (A service manager hears the process alone that it started.) */
+static void tell_outside(void)
+{
+	if (words.sandbox == SANDBOX_NONE) {
+		tell_ready(NULL);
+	} else {
+		sandbox_ready();
+		go_quiet();
+	}
+}
+
 /* Serves in the sandbox, from its entering on. */
-static int serve(int listener, int manager, int parent, int nothing)
+static int serve(int listener)
 {
 	/* What stands by unmounts, where something does. */
 	const char *unmounts = words.sandbox == SANDBOX_NONE ? words.mount_point : NULL;
@@ -552,7 +571,7 @@ static int serve(int listener, int manager, int parent, int nothing)
 	by.descriptors = proc;
 	if (!begin_mount()) {
 		if (!limit()) {
-			tell_ready(manager, parent, nothing);
+			tell_outside();
 			status = words.mount_point ? fuse_device_serve(&by, device, unmounts) :
 						     vhost_user_serve(&by, listener);
 		} else if (unmounts) {
@@ -586,7 +605,7 @@ static int find_places(void)
 int main(int count, char **given)
 {
 	struct outside outside = { 0 };
-	int listener = -1, parent = -1, nothing = -1, manager, status;
+	int listener = -1, status;
 
 	take_words(count, given);
 	by.workers = words.files.workers;
@@ -608,15 +627,15 @@ int main(int count, char **given)
 		return 1;
 	if (!words.mount_point)
 		listener = listen_on_socket(&by);
-	if (words.daemonizes && (parent = go_to_background()) < 0)
+	if (words.daemonizes && (starter = go_to_background()) < 0)
 		return 1;
 	outside.socket_path = words.socket_path;
-	outside.in_background = words.daemonizes;
+	outside.ready = tell_ready;
 	outside.mount = words.mount_point ? mount_folder : NULL;
 	outside.unmount = unmount_folder;
 	if (sandbox_fork((enum sandbox)words.sandbox, &outside))
 		return 1;
-	status = serve(listener, manager, parent, nothing);
+	status = serve(listener);
 	if (words.socket_path && words.sandbox == SANDBOX_NONE)
 		unlink(words.socket_path);
 	return status;

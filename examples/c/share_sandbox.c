@@ -24,49 +24,56 @@ static int failed(const char *what)
 	return -1;
 }
 
-/* By which the server asks for a mount, and is told that it is there. */
+/* By which the server asks for a mount, and is told that it is there; and tells that it is ready. */
 static int asks[2] = { -1, -1 }, tells[2] = { -1, -1 };
+enum { MOUNT = 'm', READY = 'r' };
 
-static void close_pair(int first, int second)
+/* Does what the server asks, up to when it is ready. Whether it is mounted. */
+static bool begin_outside(const struct outside *outside)
 {
-	if (first >= 0)
-		close(first);
-	if (second >= 0)
-		close(second);
-}
-
-/* Mounts once the server asks for it. Whether it is mounted. */
-static bool mount_outside(const struct outside *outside)
-{
+	bool is_mounted = false;
 	char asked;
-	bool is_mounted;
 
-	close_pair(asks[1], tells[0]);
-	is_mounted = outside->mount && read(asks[0], &asked, 1) == 1 && !outside->mount(outside->user);
-	if (is_mounted && write(tells[1], "", 1) != 1)
-		failed("a pipe");
-	close_pair(asks[0], tells[1]);
+	close(asks[1]);
+	close(tells[0]);
+	while (read(asks[0], &asked, 1) == 1) {
+		if (asked == READY) {
+			outside->ready(outside->user);
+			break;
+		}
+		is_mounted = !outside->mount(outside->user);
+		if (!is_mounted || write(tells[1], "", 1) != 1)
+			break;
+	}
+	close(asks[0]);
+	close(tells[1]);
 	return is_mounted;
 }
 
 int sandbox_mount(void)
 {
+	const char mounts = MOUNT;
 	char told;
-	const bool is_mounted = write(asks[1], "", 1) == 1 && read(tells[0], &told, 1) == 1;
 
-	close_pair(asks[1], tells[0]);
-	return is_mounted ? 0 : -1;
+	return write(asks[1], &mounts, 1) == 1 && read(tells[0], &told, 1) == 1 ? 0 : -1;
+}
+
+void sandbox_ready(void)
+{
+	const char is_ready = READY;
+
+	if (write(asks[1], &is_ready, 1) != 1)
+		failed("a pipe");
+	close(asks[1]);
+	close(tells[0]);
 }
 
 /* Waits for the child, and ends as it did. */
 static _Noreturn void stand_by(pid_t child, const sigset_t *awaited, const struct outside *outside)
 {
-	const int nothing = outside->in_background ? open("/dev/null", O_RDWR | O_CLOEXEC) : -1;
-	bool is_mounted = mount_outside(outside), is_asked = false;
+	bool is_mounted = begin_outside(outside), is_asked = false;
 	int signal, status;
 
-	for (int i = 0; nothing >= 0 && i < 3; i++)
-		dup2(nothing, i);
 	for (;;) {
 		if (sigwait(awaited, &signal))
 			continue;
@@ -138,7 +145,7 @@ int sandbox_fork(enum sandbox sandbox, const struct outside *outside)
 	/* (that of processes begins with the child; the others are the child's alone) */
 	if (sandbox == SANDBOX_NAMESPACE && unshare(CLONE_NEWPID))
 		return failed("--sandbox=namespace");
-	if (outside->mount && (pipe2(asks, O_CLOEXEC) || pipe2(tells, O_CLOEXEC)))
+	if (pipe2(asks, O_CLOEXEC) || pipe2(tells, O_CLOEXEC))
 		return failed("a pipe");
 	block_signals(&awaited);
 	child = fork();
@@ -146,7 +153,8 @@ int sandbox_fork(enum sandbox sandbox, const struct outside *outside)
 		return failed("fork");
 	if (child)
 		stand_by(child, &awaited, outside);
-	close_pair(asks[0], tells[1]);
+	close(asks[0]);
+	close(tells[1]);
 	/* (a signal of the terminal is for what stands by) */
 	setpgid(0, 0);
 	/* The others stay blocked: as the first process of its namespace it would lose one that comes

@@ -23,8 +23,8 @@ extern const bool has_filter;
 struct outside {
 	/* Is removed at the end; NULL: nothing is. */
 	const char *socket_path;
-	/* It has no input and no output. */
-	bool in_background;
+	/* Is called once the server is ready. */
+	void (*ready)(void *user);
 	/* Mounts when sandbox_mount asks for it, and unmounts at a first signal: 0, or -1: it failed,
 	 * and said why. NULL: nothing is mounted. */
 	int (*mount)(void *user), (*unmount)(void *user);
@@ -37,6 +37,9 @@ int sandbox_fork(enum sandbox sandbox, const struct outside *outside);
 
 /* Has what stands by mount. -1: it failed, and said why. */
 int sandbox_mount(void);
+
+/* Tells what stands by that the server is ready. */
+void sandbox_ready(void);
 
 /* Gives descriptors of the folder and of /proc/self/fd, in the sandbox from then on. -1: it failed,
  * and said why. */
