@@ -21,7 +21,8 @@ flags=(-std=c11 -I "$here/include" -Wall -Wextra)
 if echo '#include <seccomp.h>' | cc -fsyntax-only -x c - 2> /dev/null; then
     flags+=(-DWITH_SECCOMP)
 fi
-sources=("$here"/examples/c/{share,passthrough,vhost_}*.c "$here/examples/c/fuse_device.c")
+shopt -s nullglob
+sources=("$here"/examples/c/{share,passthrough,vhost_,fuse_,trace}*.c)
 clang-tidy --quiet --warnings-as-errors='*' "--checks=$(tr -s ' \n' , <<< "$checks")" "${sources[@]}" \
     -- "${flags[@]}" 2> >(grep -v 'warnings generated' >&2)
 cppcheck --std=c11 --quiet --error-exitcode=1 --inline-suppr --enable=warning,performance,portability \

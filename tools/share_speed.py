@@ -29,7 +29,8 @@ class Server:
         self.words = [word.format(folder=self.folder, mount=self.mount) for word in words]
 
     def begin(self):
-        self.process = subprocess.Popen(self.words, stdout=subprocess.DEVNULL)
+        # (libfuse's example warns of its own default)
+        self.process = subprocess.Popen(self.words, stdout=subprocess.DEVNULL, stderr=subprocess.DEVNULL)
         while not os.path.ismount(self.mount):
             if self.process.poll() is not None:
                 sys.exit(f"{self.words} ended with {self.process.returncode}")
