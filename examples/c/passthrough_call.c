@@ -592,6 +592,14 @@ static int make_of_node(struct call *call)
 	}
 }
 
+/* Tells the host that a descriptor of the file is closed, as it may have an error to tell. */
+static int flush(int fd)
+{
+	const int copy = dup(fd);
+
+	return copy < 0 ? errno : failed(close(copy));
+}
+
 /* A call of an open file, which is in hand. */
 static int make_of_file(const struct call *call)
 {
@@ -604,7 +612,7 @@ static int make_of_file(const struct call *call)
 	case NIZWARF_WRITE:
 		return write_file(call);
 	case NIZWARF_FLUSH:
-		return failed(close(dup(fd)));
+		return flush(fd);
 	case NIZWARF_FSYNC:
 	case NIZWARF_FSYNCDIR:
 		return failed(asked->has & NIZWARF_DATASYNC ? fdatasync(fd) : fsync(fd));
