@@ -5,7 +5,7 @@
 #
 # Usage: tools/share-speed.sh [ROUNDS [CLASS..]]
 # Without a word 9 rounds of all classes, which take some ten minutes. Each has the options that it begins with,
-# but passthrough_ll `cache=auto`, which is that of nizwarf-share, and `default_permissions`, which the others have.
+# but passthrough_ll `cache=auto`, which is that of nizwarf-share, and `default_permissions`, which the beside have.
 # The folders are in memory.
 #
 # It wants root, /dev/fuse, git, python3 and a C compiler, and gets passthrough_ll, from libfuse's sources, and
@@ -33,7 +33,7 @@ if [ -z "${SHARE_IS_APART:-}" ]; then
     SHARE_IS_APART=yes exec unshare --mount "$0" "$@"
 fi
 
-# Gets the two others.
+# Gets the two beside.
 get_others() {
     local folder=$1 suite
     suite=$(. /etc/os-release && echo "$VERSION_CODENAME")
@@ -47,18 +47,18 @@ get_others() {
     apt-cache "${apt[@]}" show libfuse3-3 bindfs | sed -n 's/^Version: //p' > "$folder/versions"
 }
 
-others=$here/out/share-speed
-if [ ! -x "$others/passthrough_ll" ]; then
+beside=$here/out/share-speed
+if [ ! -x "$beside/passthrough_ll" ]; then
     echo "Getting libfuse's sources and bindfs .." >&2
-    rm -rf "$others"
-    mkdir -p "$others"
-    quietly "$others/said" get_others "$others"
-    if [ ! -x "$others/passthrough_ll" ]; then
-        cat "$others/said" >&2
+    rm -rf "$beside"
+    mkdir -p "$beside"
+    quietly "$beside/said" get_others "$beside"
+    if [ ! -x "$beside/passthrough_ll" ]; then
+        cat "$beside/said" >&2
         exit 1
     fi
 fi
-LD_LIBRARY_PATH=$(dirname "$(find "$others" -name libfuse3.so.3 -print -quit)")
+LD_LIBRARY_PATH=$(dirname "$(find "$beside" -name libfuse3.so.3 -print -quit)")
 export LD_LIBRARY_PATH
 build_transport share vfs_door
 cc -std=c11 -O2 -Wall -Wextra -Werror -o "$here/out/c/share_speed" "$here/tools/share_speed.c"
@@ -68,8 +68,8 @@ tidy() {
     rm -rf "$work"
 }
 trap 'tidy 2> /dev/null || true' EXIT
-echo "libfuse and bindfs $(tr '\n' ' ' < "$others/versions")here $(git -C "$here" describe --always --dirty), Linux" \
+echo "libfuse and bindfs $(tr '\n' ' ' < "$beside/versions")here $(git -C "$here" describe --always --dirty), Linux" \
     "$(uname -r), $(nproc) processors, load $(cut -d ' ' -f 1-3 /proc/loadavg), $rounds rounds"
-python3 -B "$here/tools/share_speed.py" "$here/out/c/share_speed" "$transport" "$others/passthrough_ll" \
-    "$others/usr/bin/bindfs" "$here" "$work" "$rounds" "${@:2}"
+python3 -B "$here/tools/share_speed.py" "$here/out/c/share_speed" "$transport" "$beside/passthrough_ll" \
+    "$beside/usr/bin/bindfs" "$here" "$work" "$rounds" "${@:2}"
 echo "load $(cut -d ' ' -f 1-3 /proc/loadavg)"

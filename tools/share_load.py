@@ -488,48 +488,65 @@ def machines(server, chance, socket):
 
 
 
-def steps(one):
-    """A session of one machine: each step until it isn't refused, and what came of it."""
-    came = []
+def number(body, at=0):
+    """A number in a reply; 0 if it isn't as long."""
+    return struct.unpack_from("<Q", body, at)[0] if len(body) >= at + 8 else 0
 
-    def ask_again(text, *others):
+
+class Steps:
+    """A session of one machine: each step until it isn't refused, and what came of it."""
+
+    def __init__(self, one):
+        self.one, self.came = one, []
+
+    def ask(self, text, *others):
+        """The body of the reply. Errors besides may come, since a name may be made before memory is wanted."""
         for _ in range(3):
-            error, body = one.ask(text)
+            error, body = self.one.ask(text)
             if error not in (errno.ENOMEM, None):
                 break
             count("requests refused for want of memory")
-        came.append(0 if error in others else error)
+        self.came.append(0 if error in others else error)
         return body
 
-    def number(body, at=0):
-        return struct.unpack_from("<Q", body, at)[0] if len(body) >= at + 8 else 0
+    def hold(self, fact):
+        self.came.append(0 if fact else -1)
 
-    ask_again(requests.FIRST[1])
-    made = ask_again(line("16+144", request(35, struct.pack("<IIII", 0o102, 0o644, 0, 0) + b"file\0")))
-    node, handle = number(made), number(made, 128)
-    ask_again(line("16+8", transfer(16, 70000, b"x" * 70000, 0, node, handle), range(40, 70120, 4096)))
-    data = ask_again(line("+".join(["16"] + 30 * ["4000"]), transfer(15, 70000, b"", 0, node, handle)))
-    came.append(0 if data[:70000] == b"x" * 70000 else -1)
-    # (a name may have been made before memory was wanted)
-    ask_again(line("16+128", request(9, struct.pack("<II", 0o755, 0) + b"folder\0")), errno.EEXIST)
-    folder = number(ask_again(line("16+128", request(1, b"folder\0"))))
-    for i in range(3):
-        ask_again(line("16+128", request(6, b"link%d\0text\0" % i, node=folder)), errno.EEXIST)
-    ask_again(line("16+128", request(13, struct.pack("<Q", node) + b"second\0", node=folder)), errno.EEXIST)
-    ask_again(line("16", request(21, struct.pack("<II", 60000, 0) + b"user.a\0" + b"v" * 60000, node=node)),
-              errno.ENOSPC, errno.E2BIG)
-    ask_again(line("16+1024", request(23, struct.pack("<II", 1024, 0), node=node)))
-    listing = number(ask_again(line("16+16", request(27, bytes(8), node=folder))))
-    listed = ask_again(line("16+65536", transfer(44, 65536, b"", 0, folder, listing)))
-    came.append(0 if all(b"link%d" % i in listed for i in range(3)) and b"second" in listed else -2)
-    again = number(ask_again(line("16+16", request(14, struct.pack("<II", 2, 0), node=node))))
-    for handle_, opcode in ((handle, 18), (again, 18), (listing, 29)):
-        ask_again(line("16", request(opcode, struct.pack("<Q", handle_) + bytes(16), node=node)))
-    ask_again(line("16", request(12, struct.pack("<Q", 1) + b"second\0third\0", node=folder)))
-    ask_again(line("16+80", request(17)))
-    ask_again(line("16", request(10, b"file\0")))
-    one.ask(line("0", request(38)))
-    return came
+    def write_and_read(self):
+        made = self.ask(line("16+144", request(35, struct.pack("<IIII", 0o102, 0o644, 0, 0) + b"file\0")))
+        node, handle = number(made), number(made, 128)
+        data = b"x" * 70000
+        self.ask(line("16+8", transfer(16, 70000, data, 0, node, handle), range(40, 70120, 4096)))
+        read = self.ask(line("+".join(["16"] + 30 * ["4000"]), transfer(15, 70000, b"", 0, node, handle)))
+        self.hold(read[:70000] == data)
+        again = number(self.ask(line("16+16", request(14, struct.pack("<II", 2, 0), node=node))))
+        for it in (handle, again):
+            self.ask(line("16", request(18, struct.pack("<Q", it) + bytes(16), node=node)))
+        return node
+
+    def name_and_list(self, node):
+        self.ask(line("16+128", request(9, struct.pack("<II", 0o755, 0) + b"folder\0")), errno.EEXIST)
+        folder = number(self.ask(line("16+128", request(1, b"folder\0"))))
+        for i in range(3):
+            self.ask(line("16+128", request(6, b"link%d\0text\0" % i, node=folder)), errno.EEXIST)
+        self.ask(line("16+128", request(13, struct.pack("<Q", node) + b"second\0", node=folder)), errno.EEXIST)
+        handle = number(self.ask(line("16+16", request(27, bytes(8), node=folder))))
+        listed = self.ask(line("16+65536", transfer(44, 65536, b"", 0, folder, handle)))
+        self.hold(all(name in listed for name in (b"link0", b"link1", b"link2", b"second")))
+        self.ask(line("16", request(29, struct.pack("<Q", handle) + bytes(16), node=folder)))
+        self.ask(line("16", request(12, struct.pack("<Q", 1) + b"second\0third\0", node=folder)))
+
+    def run(self):
+        self.ask(requests.FIRST[1])
+        node = self.write_and_read()
+        self.ask(line("16", request(21, struct.pack("<II", 60000, 0) + b"user.a\0" + b"v" * 60000, node=node)),
+                 errno.ENOSPC, errno.E2BIG)
+        self.ask(line("16+1024", request(23, struct.pack("<II", 1024, 0), node=node)))
+        self.name_and_list(node)
+        self.ask(line("16+80", request(17)))
+        self.ask(line("16", request(10, b"file\0")))
+        self.one.ask(line("0", request(38)))
+        return self.came
 
 
 def in_turn():
@@ -542,7 +559,7 @@ def in_turn():
                         environment={"REFUSE_FROM": str(number)})
         one = Asking(socket) if server.is_up else None
         if one and one.is_answered():
-            before, came = server.descriptors(), steps(one)
+            before, came = server.descriptors(), Steps(one).run()
             wanted = wanted or came
             if came != wanted:
                 wrong(f"allocation {number} is refused, and {came} came for {wanted}")

@@ -76,8 +76,9 @@ def main():
                "bindfs": Server([bindfs, "-f", "{folder}", "{mount}"]),
                "bindfs, threads": Server([bindfs, "-f", "--multithreaded", "{folder}", "{mount}"])}
     names = list(servers)
-    print("| Class | jobs | time by passthrough_ll's | by bindfs's | by that of bindfs with threads | by the quickest's |"
-          " processor time by passthrough_ll's | by bindfs's |\n|---|---|---|---|---|---|---|---|", flush=True)
+    print("| Class | jobs | time by passthrough_ll's | by bindfs's | by that of bindfs with threads |"
+          " by the quickest's | processor time by passthrough_ll's | by bindfs's |\n|---|---|---|---|---|---|---|---|",
+          flush=True)
     for what in sys.argv[8:] or CLASSES:
         for jobs in JOBS:
             times = {name: [] for name in names}
