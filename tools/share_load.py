@@ -26,7 +26,7 @@ from requests import line, request, transfer
 MIB = 1 << 20
 # What a server may keep, in KiB.
 MOST_MEMORY = 128 * 1024
-STRESSORS = ("access", "chdir", "chmod", "chown", "copy-file", "dentry", "dir", "dirdeep", "dirmany", "fallocate",
+STRESSORS = ("access", "chdir", "chmod", "chown", "dentry", "dir", "dirdeep", "dirmany", "fallocate",
              "fcntl", "filename", "flock", "fpunch", "fstat", "getdent", "hdd", "iomix", "link", "lockf", "mknod",
              "open", "rename", "symlink", "sync-file", "touch", "utime", "xattr")
 # What a program may be told of a full disk, of descriptors that ran out, and of refused allocations.
@@ -254,11 +254,10 @@ def stress(place, chance, seconds):
     words = [word for name in names for word in (f"--{name}", "1")]
     os.makedirs(place + "/stress", exist_ok=True)
     running = subprocess.Popen(["stress-ng", "--temp-path", place + "/stress", "--timeout", str(seconds), "--quiet",
-                                "--hdd-bytes", "8m", "--iomix-bytes", "8m", "--fallocate-bytes", "8m",
-                                "--copy-file-bytes", "8m", "--sync-file-bytes", "8m", "--dirmany-bytes", "4k",
-                                *words], stdout=subprocess.DEVNULL, stderr=subprocess.DEVNULL,
-                               start_new_session=True)
-    until = time.monotonic() + seconds
+                                "--hdd-bytes", "8m", "--iomix-bytes", "8m", "--fallocate-bytes", "8m", *words],
+                               stdout=subprocess.DEVNULL, stderr=subprocess.DEVNULL, start_new_session=True)
+    began = time.monotonic()
+    until = began + seconds
     while running.poll() is None and time.monotonic() < until + 60:
         time.sleep(0.5)
         workers = subprocess.run(["pgrep", "-P", str(running.pid)], capture_output=True, text=True, check=False)
@@ -277,6 +276,8 @@ def stress(place, chance, seconds):
     except ProcessLookupError:
         pass
     running.wait()
+    if time.monotonic() < began + seconds / 2:
+        wrong(f"stress-ng ended at once with {running.returncode}: {names}")
     count("runs of stress-ng, of six of its stressors")
 
 
