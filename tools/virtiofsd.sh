@@ -2,7 +2,7 @@
 # Builds the daemon virtiofsd 1.13.2 with the protocol layer here in place of its own, or holds it against the
 # unmodified one.
 #
-# Usage: tools/virtiofsd.sh [--check [--seed N] [--requests N]] [FOLDER]
+# Usage: tools/virtiofsd.sh [--check [--seed N] [--requests N] | --unmodified] [FOLDER]
 # It leaves the daemon as nizwarf-virtiofsd in the folder, which is out/virtiofsd if none is given. The daemon
 # takes virtiofsd's options, which its own --help lists. It is built again if a source is newer.
 #
@@ -10,6 +10,9 @@
 # lists of its own and which are unpacked into the folder, and never installed: 50 MB. virtiofsd's
 # src/server.rs is replaced by bindings/virtiofsd/server.rs, which stands on the crate of bindings/rust; no
 # other source changes. The first run takes a minute for the download, and three for one processor.
+#
+# With --unmodified it builds virtiofsd as it is, by the same compiler, and leaves it as virtiofsd in the folder:
+# tools/virtiofsd-speed.sh measures the two side by side.
 #
 # With --check it builds it, and asks it and Debian's own program of virtiofsd 1.13.2 the same over equal
 # folders, by vhost-user: the hostile requests of tools/beside, and N well-formed ones by a seed (20000, and
@@ -28,14 +31,15 @@ set -euo pipefail
 
 refuse() {
     echo "$1" >&2
-    echo "Usage: tools/virtiofsd.sh [--check [--seed N] [--requests N]] [FOLDER]" >&2
+    echo "Usage: tools/virtiofsd.sh [--check [--seed N] [--requests N] | --unmodified] [FOLDER]" >&2
     exit 2
 }
 
-check='' seed=1 count=20000 folder=''
+check='' unmodified='' seed=1 count=20000 folder=''
 while [ $# -gt 0 ]; do
     case $1 in
         --check) check=1 ;;
+        --unmodified) unmodified=1 ;;
         --seed | --requests)
             [ -n "$check" ] || refuse "$1 is for --check."
             [[ ${2:-} =~ ^[1-9][0-9]{0,8}$ ]] || refuse "$1 wants a number from 1 on."
@@ -50,6 +54,7 @@ while [ $# -gt 0 ]; do
     esac
     shift
 done
+[ -z "$check" ] || [ -z "$unmodified" ] || refuse "--check and --unmodified don't go together."
 if [ "$(uname -m)" != x86_64 ]; then
     echo "It is made for x86-64 alone." >&2
     exit 2
@@ -86,7 +91,7 @@ link_library() {
 
 link_library cap-ng libcap-ng0
 link_library seccomp libseccomp2
-find_library vfs_door
+[ -n "$unmodified" ] || find_library vfs_door
 
 # Copies a file if the other is not the same, so that its time stays where nothing changed.
 renew() {
@@ -120,38 +125,42 @@ if [ ! -e "$from" ]; then
     exit 2
 fi
 
-# The crate, with its protocol layer replaced.
-tree=$folder/tree
+# The crate, as it is, or with its protocol layer replaced.
+tree=$folder/tree daemon=$folder/nizwarf-virtiofsd
+if [ -n "$unmodified" ]; then
+    tree=$folder/unmodified daemon=$folder/virtiofsd
+fi
 if [ ! -e "$tree/Cargo.toml" ]; then
     mkdir -p "$tree/.cargo"
     cp -R "$from/src" "$tree/"
 fi
-{
-    cat "$from/Cargo.toml"
-    printf '\n[dependencies.nizwarf]\npath = "%s"\n' "$here/bindings/rust"
-} > "$folder/Cargo.toml"
+cp "$from/Cargo.toml" "$folder/Cargo.toml"
+needed=("$tree/src" "$tree/Cargo.toml" "$here/tools/virtiofsd.sh")
+if [ -z "$unmodified" ]; then
+    printf '\n[dependencies.nizwarf]\npath = "%s"\n' "$here/bindings/rust" >> "$folder/Cargo.toml"
+    renew "$here/bindings/virtiofsd/server.rs" "$tree/src/server.rs"
+    for file in "${library[@]}"; do
+        renew "$file" "$folder/lib/${file##*/}"
+    done
+    needed+=("$folder/lib" "$here"/bindings/rust/{src,build.rs,Cargo.toml})
+fi
 renew "$folder/Cargo.toml" "$tree/Cargo.toml"
-renew "$here/bindings/virtiofsd/server.rs" "$tree/src/server.rs"
 printf '[source.crates-io]\nreplace-with = "debian"\n[source.debian]\ndirectory = "%s"\n[net]\noffline = true\n' \
     "$crates" > "$tree/.cargo/config.toml"
-for file in "${library[@]}"; do
-    renew "$file" "$folder/lib/${file##*/}"
-done
 
 # Shows how far cargo is.
 show_progress() {
     tee "$folder/said" | awk '/^ *Compiling/ && ++n % 25 == 0 { print n " crates compiled" > "/dev/stderr" }'
 }
 
+# One codegen unit, so that what is inlined does not hang on how a crate happens to be cut.
 build() {
     cd "$tree"
-    CARGO_HOME=$folder/home CARGO_TARGET_DIR=$folder/target NIZWARF_LIB_DIR=$folder/lib \
+    CARGO_PROFILE_RELEASE_CODEGEN_UNITS=1 CARGO_HOME=$folder/home CARGO_TARGET_DIR=$folder/target NIZWARF_LIB_DIR=$folder/lib \
         CARGO_ENCODED_RUSTFLAGS=$'-L\x1fnative='$folder/link cargo build --release --offline 2>&1 | show_progress
 }
 
-daemon=$folder/nizwarf-virtiofsd
-if [ ! -e "$daemon" ] || [ -n "$(find "$tree/src" "$tree/Cargo.toml" "$folder/lib" \
-    "$here"/bindings/rust/{src,build.rs,Cargo.toml} -newer "$daemon" -print -quit)" ]; then
+if [ ! -e "$daemon" ] || [ -n "$(find "${needed[@]}" -newer "$daemon" -print -quit)" ]; then
     echo "Building virtiofsd .." >&2
     (build) || {
         tail -n 40 "$folder/said" >&2

@@ -1,0 +1,225 @@
+"""Measures vhost-user daemons of virtio-fs in turns. tools/virtiofsd-speed.sh starts it and says what it does.
+
+Usage: pace.py [--rounds N] [--ms N] [--pools LIST] [--depths LIST] [--classes LIST] [--instructions]
+               PACE WORK DATA THEIRS REPLACED SHARE
+PACE is the built pace.c, WORK a folder for what is shared, and DATA the file of all figures. The others are
+the daemons: virtiofsd as it is, with the layer here, and nizwarf-share.
+"""
+import argparse
+import os
+import re
+import statistics
+import subprocess
+import sys
+
+NAMES = ("virtiofsd", "with this layer", "nizwarf-share")
+CLASSES = {
+    "unknown": "an unknown opcode", "getattr": "GETATTR", "lookup": "LOOKUP", "read-4k": "READ of 4 KiB",
+    "write-4k": "WRITE of 4 KiB", "read-1m": "READ of 1 MiB", "write-1m": "WRITE of 1 MiB",
+    "readdir": "READDIR of 1,000", "readdirplus": "READDIRPLUS of 1,000",
+}
+
+
+def options():
+    parser = argparse.ArgumentParser(add_help=False)
+    parser.add_argument("--rounds", type=int, default=31)
+    parser.add_argument("--ms", type=int, default=8)
+    parser.add_argument("--pools", type=numbers, default=[0, 2, 4])
+    parser.add_argument("--depths", type=numbers, default=[1, 4, 16])
+    parser.add_argument("--classes", type=lambda text: text.split(","), default=list(CLASSES))
+    parser.add_argument("--instructions", action="store_true")
+    for name in ("pace", "work", "data", "theirs", "replaced", "share"):
+        parser.add_argument(name)
+    given = parser.parse_args()
+    for name in given.classes:
+        if name not in CLASSES:
+            sys.exit(f"There is no class {name}: {','.join(CLASSES)}.")
+    return given
+
+
+def numbers(text):
+    return [int(word) for word in text.split(",")]
+
+
+def fill(folder):
+    """Makes what is shared: a file of 32 MiB, and a folder of 1,000 names."""
+    os.makedirs(f"{folder}/names")
+    with open(f"{folder}/file", "wb") as file:
+        file.write(os.urandom(1 << 20) * 32)
+    for number in range(1000):
+        with open(f"{folder}/names/name-{number}", "w", encoding="utf-8"):
+            pass
+
+
+class Daemon:
+    """A daemon that serves a front end."""
+
+    def __init__(self, given, number, pool, before=()):
+        program = (given.theirs, given.replaced, given.share)[number]
+        self.name, self.socket = NAMES[number], f"{given.work}/socket-{number}"
+        words = [f"--socket-path={self.socket}", f"--shared-dir={given.work}/shared", "--xattr",
+                 f"--thread-pool-size={pool}", "--sandbox=none", "--seccomp=none"]
+        if number < 2:
+            words.append("--no-announce-submounts")
+        self.said = open(f"{given.work}/said-{number}", "w+", encoding="utf-8")
+        self.process = subprocess.Popen([*before, program, *words], stdout=self.said, stderr=self.said,
+                                        stdin=subprocess.DEVNULL)
+        self.front = subprocess.Popen([given.pace, self.socket, str(self.process.pid)], text=True,
+                                      stdin=subprocess.PIPE, stdout=subprocess.PIPE)
+
+    def ask(self, kind, depth, count):
+        """Gives nanoseconds by the clock, those of the processor, and the bytes of all replies."""
+        try:
+            self.front.stdin.write(f"{kind} {depth} {count}\n")
+            self.front.stdin.flush()
+            line = self.front.stdout.readline()
+        except BrokenPipeError:
+            line = ""
+        if not line:
+            self.said.seek(0)
+            sys.exit(f"{self.name} can't be asked for {kind}:\n{self.said.read()[-2000:]}")
+        return tuple(int(word) for word in line.split())
+
+    def end(self):
+        """Ends it, and gives what it said."""
+        self.front.stdin.close()
+        self.front.wait()
+        try:
+            self.process.wait(1)
+        except subprocess.TimeoutExpired:
+            self.process.terminate()
+            self.process.wait()
+        if os.path.exists(self.socket):
+            os.remove(self.socket)
+        self.said.seek(0)
+        return self.said.read()
+
+
+def same_bytes(daemons, kind, answers):
+    """Stops where a daemon's replies have other lengths than the first one's."""
+    for daemon, (*_, length) in zip(daemons, answers):
+        if length != answers[0][2]:
+            print(f"{kind}: {daemon.name} replies {length} bytes, {daemons[0].name} {answers[0][2]}.")
+            sys.exit(1)
+
+
+def compare(daemons, kind, depth, given):
+    """The rounds of a class: for each, of each daemon the time by the clock and of the processor, in
+    nanoseconds a request."""
+    count = 4 * depth
+    while (wall := daemons[0].ask(kind, depth, count)[0]) < given.ms * 500_000:
+        count = max(2 * count, count * given.ms * 1_000_000 // max(wall, 1) // 2)
+    count = max(depth, count * given.ms * 1_000_000 // wall)
+    rounds = []
+    for number in range(given.rounds):
+        order = daemons if number % 2 else daemons[::-1]
+        asked = {daemon: daemon.ask(kind, depth, count) for daemon in order}
+        answers = [asked[daemon] for daemon in daemons]
+        same_bytes(daemons, kind, answers)
+        rounds.append([(wall / count, ran / count) for wall, ran, _ in answers])
+    return rounds
+
+
+def figures(rounds, which, what):
+    """Of a daemon: the median, the least, and the median and the quartiles of its ratios to the first one."""
+    column = [answers[which][what] for answers in rounds]
+    ratios = sorted(answers[which][what] / answers[0][what] for answers in rounds)
+    quarter = len(ratios) // 4
+    return statistics.median(column), min(column), statistics.median(ratios), ratios[quarter], ratios[-1 - quarter]
+
+
+def measure(given):
+    """Gives lines of figures: pool, depth, class, daemon, and those of the processor and of the clock."""
+    lines = []
+    for pool in given.pools:
+        daemons = [Daemon(given, number, pool) for number in range(len(NAMES))]
+        for depth in given.depths:
+            for kind in given.classes:
+                print(f"pool {pool}, {depth} in flight, {CLASSES[kind]}", file=sys.stderr)
+                rounds = compare(daemons, kind, depth, given)
+                for which, daemon in enumerate(daemons):
+                    lines.append((pool, depth, kind, daemon.name, *figures(rounds, which, 1),
+                                  *figures(rounds, which, 0)))
+        for daemon in daemons:
+            daemon.end()
+    return lines
+
+
+def span(numbers):
+    """The least and the greatest of ratios, as they are shown."""
+    least, most = f"{min(numbers):.2f}", f"{max(numbers):.2f}"
+    return least if least == most else f"{least} to {most}"
+
+
+def show(lines, given, load, counts):
+    """The table: of each class and daemon what its ratios come to, over all settings."""
+    settings = len(given.pools) * len(given.depths)
+    print(f"{settings} settings (pools {given.pools}, in flight {given.depths}), in each {given.rounds} rounds of "
+          f"{given.ms} ms. Load of the machine before and after: {load}.\n")
+    heads = [f"{name}: {what}" for name in NAMES[1:]
+             for what in ("processor", "clock", *(["instructions"] if counts else []))]
+    print("| Request | " + " | ".join(heads) + " |")
+    print("|---" * (1 + len(heads)) + "|")
+    for kind in given.classes:
+        cells = []
+        for which, name in enumerate(NAMES[1:], 1):
+            found = [line for line in lines if line[2:4] == (kind, name)]
+            cells += [span([line[6] for line in found]), span([line[11] for line in found])]
+            if counts:
+                cells.append(f"{counts[kind][which] / counts[kind][0]:.2f}")
+        print(f"| {CLASSES[kind]} | " + " | ".join(cells) + " |")
+
+
+def keep(lines, path, load, counts):
+    """Writes all figures: a line for each setting, class and daemon."""
+    part = "{0}_median\t{0}_least\t{0}_ratio\t{0}_ratio_low\t{0}_ratio_high"
+    with open(path, "w", encoding="utf-8") as file:
+        file.write(f"# load before and after: {load}; times in nanoseconds a request\n")
+        file.write("pool\tdepth\tclass\tdaemon\t" + part.format("processor") + "\t" + part.format("clock")
+                   + "\tinstructions\n")
+        for line in lines:
+            count = counts[line[2]][NAMES.index(line[3])] if counts else ""
+            words = [f"{word:.3f}" if isinstance(word, float) else str(word) for word in (*line, count)]
+            file.write("\t".join(words) + "\n")
+
+
+def count_instructions(given, number, kind, count):
+    daemon = Daemon(given, number, 0, ("valgrind", "--tool=callgrind", "--callgrind-out-file=/dev/null"))
+    daemon.ask(kind, 1, count)
+    said = daemon.end()
+    found = re.search(r"Collected : (\d+)", said)
+    if not found:
+        sys.exit(f"valgrind counted nothing:\n{said[-2000:]}")
+    return int(found[1])
+
+
+def all_instructions(given):
+    """Of each class the instructions that each daemon's own code takes for a request."""
+    counts = {}
+    for kind in given.classes:
+        short, long = (2, 12) if "readdir" in kind else (50, 550)
+        counts[kind] = []
+        for number, name in enumerate(NAMES):
+            print(f"Instructions: {CLASSES[kind]}, {name}", file=sys.stderr)
+            less, more = (count_instructions(given, number, kind, count) for count in (short, long))
+            counts[kind].append((more - less) // (long - short))
+    return counts
+
+
+def load_now():
+    return f"{os.getloadavg()[0]:.1f}"
+
+
+def main():
+    given = options()
+    fill(f"{given.work}/shared")
+    load = load_now()
+    lines = measure(given)
+    load = f"{load} and {load_now()}"
+    counts = all_instructions(given) if given.instructions else {}
+    keep(lines, given.data, load, counts)
+    show(lines, given, load, counts)
+    print(f"{given.data} has all figures.", file=sys.stderr)
+
+
+main()

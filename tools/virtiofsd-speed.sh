@@ -1,0 +1,75 @@
+#!/usr/bin/env bash
+# Measures virtiofsd 1.13.2 with the protocol layer here in place of its own, and nizwarf-share, beside the
+# unmodified virtiofsd: processor time and time by the clock of a request, as ratios.
+#
+# Usage: tools/virtiofsd-speed.sh [--rounds N] [--ms N] [--pools LIST] [--depths LIST] [--classes LIST]
+#                                 [--instructions] [FOLDER]
+# Each daemon shares the same folder, in /dev/shm if that is there, and serves one front end over vhost-user,
+# tools/beside/pace.c: a request's header, record and data lie in descriptors as those of a guest of Linux. For
+# each class of requests, number in flight (1,4,16) and size of the thread pool (0,2,4) the daemons are asked in
+# turns, N rounds (31) of N ms (8) each. It prints a table in Markdown: the medians of the rounds' ratios to the
+# unmodified virtiofsd, as the least and the greatest over all settings. All figures are in speed.tsv in the
+# folder, which is out/virtiofsd if none is given. tools/beside/pace.c has the classes.
+#
+# Processor time is that of the daemon's threads, the kernel's part too, as /proc/PID/task/*/schedstat has it.
+# With --instructions the table has also those of the daemons' own code for a request, which do not move with
+# the machine: counted by valgrind, without a pool and with one request in flight.
+#
+# It takes two minutes once all is built, and one more for instructions. tools/virtiofsd.sh builds the daemons,
+# by the same compiler, which takes five from nothing. It wants what that wants, root, Python 3, and valgrind for
+# --instructions.
+# Status 0: it was measured; 1: a daemon replied otherwise than the first one; 2: it could not start.
+set -euo pipefail
+. "$(dirname "$0")/usage.sh"
+. "$(dirname "$0")/transport.sh"
+
+refuse() {
+    echo "$1" >&2
+    echo "Usage: tools/virtiofsd-speed.sh [--rounds N] [--ms N] [--pools LIST] [--depths LIST] [--classes LIST]" >&2
+    echo "                                [--instructions] [FOLDER]" >&2
+    exit 2
+}
+
+words=() folder=''
+while [ $# -gt 0 ]; do
+    case $1 in
+        --instructions)
+            need valgrind "Install it: apt-get install valgrind."
+            words+=("$1")
+            ;;
+        --rounds | --ms)
+            [[ ${2:-} =~ ^[1-9][0-9]{0,4}$ ]] || refuse "$1 wants a number from 1 on."
+            words+=("$1" "$2")
+            shift
+            ;;
+        --pools | --depths)
+            [[ ${2:-} =~ ^[0-9]{1,2}(,[0-9]{1,2})*$ ]] || refuse "$1 wants numbers with commas."
+            words+=("$1" "$2")
+            shift
+            ;;
+        --classes)
+            [[ ${2:-} =~ ^[a-z0-9-]+(,[a-z0-9-]+)*$ ]] || refuse "$1 wants names with commas."
+            words+=("$1" "$2")
+            shift
+            ;;
+        -* | '') refuse "There is no option '$1'." ;;
+        *)
+            [ -z "$folder" ] || refuse "There is more than one folder."
+            folder=$1
+            ;;
+    esac
+    shift
+done
+need python3 "Install it: apt-get install python3."
+[ "$(id -u)" = 0 ] || refuse "virtiofsd is started as root: run it as root."
+folder=${folder:-$here/out/virtiofsd}
+"$here/tools/virtiofsd.sh" "$folder" > /dev/null
+"$here/tools/virtiofsd.sh" --unmodified "$folder" > /dev/null
+build_transport share vfs_door
+cc -std=c11 -O2 -Wall -Wextra -Werror -o "$folder/pace" "$here/tools/beside/pace.c"
+memory=/dev/shm
+[ -w "$memory" ] || memory=${TMPDIR:-/tmp}
+work=$(mktemp -d "$memory/nizwarf-XXXXXX")
+trap 'rm -rf "$work"' EXIT
+python3 -B "$here/tools/beside/pace.py" "${words[@]}" "$folder/pace" "$work" "$folder/speed.tsv" \
+    "$folder/virtiofsd" "$folder/nizwarf-virtiofsd" "$transport"
