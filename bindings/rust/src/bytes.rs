@@ -44,8 +44,15 @@ impl<'r> Bytes<'r> {
     /// The bytes from `at` on, `len` or as many as there are.
     pub(crate) fn new(slices: &'r [IoSlice<'r>], at: usize, len: usize) -> Self {
         let mut bytes = Bytes { slices, at, len };
-        bytes.len = bytes.pieces().map(<[u8]>::len).sum();
+        if bytes.in_first().is_none() {
+            bytes.len = bytes.pieces().map(<[u8]>::len).sum();
+        }
         bytes
+    }
+
+    /// Returns the bytes if all are in the first slice.
+    fn in_first(&self) -> Option<&'r [u8]> {
+        self.slices.first()?.get(self.at..self.at.checked_add(self.len)?)
     }
 
     /// Returns the number of bytes.
@@ -75,6 +82,9 @@ impl<'r> Bytes<'r> {
     /// Returns the bytes as one slice. They are copied only if they span several slices.
     #[must_use]
     pub fn to_cow(&self) -> Cow<'r, [u8]> {
+        if let Some(bytes) = self.in_first() {
+            return Cow::Borrowed(bytes);
+        }
         match self.pieces().next() {
             None => Cow::Borrowed(&[]),
             Some(piece) if piece.len() == self.len => Cow::Borrowed(piece),

@@ -362,22 +362,151 @@ impl<'r> Decoder<'_, 'r> {
     }
 }
 
-/// Converts the calls that create, rename or remove a name.
-fn name_call(pending: Box<Pending>, request: Request<'_>) -> Result<Call<'_>, Box<Pending>> {
+/// Converts a call of the library. (If it is inlined, the fields of all variants are merged in registers, which
+/// takes longer.)
+#[allow(clippy::too_many_lines)] // a table
+#[inline(never)]
+fn call_of(pending: Box<Pending>, request: Request<'_>) -> Call<'_> {
     let asked = Decoder { raw: &pending.call, request };
     let raw = asked.raw;
-    let parent = raw.node;
-    Ok(match raw.call {
-        1 => Call::Lookup { parent, name: asked.name(), to: To::new(pending) },
+    match raw.call {
+        // About a node or a directory.
+        2 => Call::Forget { node: raw.node, count: raw.length, to: To::new(pending) },
+        3 => Call::Getattr { node: raw.node, handle: asked.handle(), to: To::new(pending) },
+        4 => Call::Setattr {
+            node: raw.node,
+            attr: raw.attr,
+            handle: asked.handle(),
+            valid: SetattrValid::from_bits_truncate(raw.flags),
+            to: To::new(pending),
+        },
+        5 => Call::Readlink { node: raw.node, to: To::new(pending) },
+        17 => Call::Statfs { node: raw.node, to: To::new(pending) },
+        21 => Call::Setxattr {
+            node: raw.node,
+            name: asked.name(),
+            value: asked.bytes(raw.data).to_cow(),
+            flags: raw.flags,
+            extra_flags: SetxattrFlags::from_bits_truncate(raw.more),
+            to: To::new(pending),
+        },
+        22 => Call::Getxattr {
+            node: raw.node,
+            name: asked.name(),
+            size: raw.size,
+            to: To::new(pending),
+        },
+        23 => Call::Listxattr { node: raw.node, size: raw.size, to: To::new(pending) },
+        24 => Call::Removexattr { node: raw.node, name: asked.name(), to: To::new(pending) },
+        27 => Call::Opendir { node: raw.node, flags: raw.flags, to: To::new(pending) },
+        28 => Call::Readdir {
+            node: raw.node,
+            handle: raw.handle,
+            size: raw.size,
+            offset: raw.offset,
+            plus: asked.has(PLUS),
+            to: To::new(pending),
+        },
+        29 => Call::Releasedir {
+            node: raw.node,
+            flags: raw.flags,
+            handle: raw.handle,
+            to: To::new(pending),
+        },
+        30 => Call::Fsyncdir {
+            node: raw.node,
+            datasync: asked.has(DATASYNC),
+            handle: raw.handle,
+            to: To::new(pending),
+        },
+        34 => Call::Access { node: raw.node, mask: raw.more, to: To::new(pending) },
+        50 => Call::Syncfs { node: raw.node, to: To::new(pending) },
+        // About a file.
+        14 => Call::Open {
+            node: raw.node,
+            kill_priv: asked.has(KILL_PRIV),
+            flags: raw.flags,
+            to: To::new(pending),
+        },
+        15 => Call::Read {
+            node: raw.node,
+            handle: raw.handle,
+            size: raw.size,
+            offset: raw.offset,
+            lock_owner: asked.owner(),
+            flags: raw.flags,
+            to: To::new(pending),
+        },
+        16 => Call::Write {
+            node: raw.node,
+            handle: raw.handle,
+            data: asked.bytes(raw.data).first(raw.size as usize),
+            size: raw.size,
+            offset: raw.offset,
+            lock_owner: asked.owner(),
+            delayed_write: asked.has(DELAYED),
+            kill_priv: asked.has(KILL_PRIV),
+            flags: raw.flags,
+            to: To::new(pending),
+        },
+        18 => Call::Release {
+            node: raw.node,
+            flags: raw.flags,
+            handle: raw.handle,
+            flush: asked.has(FLUSHES),
+            flock_release: asked.has(FLOCK_RELEASE),
+            lock_owner: asked.owner(),
+            to: To::new(pending),
+        },
+        20 => Call::Fsync {
+            node: raw.node,
+            datasync: asked.has(DATASYNC),
+            handle: raw.handle,
+            to: To::new(pending),
+        },
+        25 => Call::Flush {
+            node: raw.node,
+            handle: raw.handle,
+            lock_owner: raw.lock_owner,
+            to: To::new(pending),
+        },
+        43 => Call::Fallocate {
+            node: raw.node,
+            handle: raw.handle,
+            mode: raw.mode,
+            offset: raw.offset,
+            length: raw.length,
+            to: To::new(pending),
+        },
+        46 => Call::Lseek {
+            node: raw.node,
+            handle: raw.handle,
+            offset: raw.offset,
+            whence: raw.more,
+            to: To::new(pending),
+        },
+        47 => Call::CopyFileRange {
+            node_in: raw.node,
+            handle_in: raw.handle,
+            offset_in: raw.offset,
+            node_out: raw.other_node,
+            handle_out: raw.other_handle,
+            offset_out: raw.other_offset,
+            len: raw.length,
+            flags: raw.lock_owner,
+            to: To::new(pending),
+        },
+        // That look up, create, rename or remove a name.
+        1 => Call::Lookup { parent: raw.node, name: asked.name(), to: To::new(pending) },
         6 => Call::Symlink {
             linkname: asked.other_name(),
-            parent,
+            parent: raw.node,
             name: asked.name(),
             extensions: asked.extensions(),
             to: To::new(pending),
         },
         8 => Call::Mknod {
-            parent,
+            parent: raw.node,
             name: asked.name(),
             mode: raw.mode,
             rdev: raw.rdev,
@@ -386,17 +515,17 @@ fn name_call(pending: Box<Pending>, request: Request<'_>) -> Result<Call<'_>, Bo
             to: To::new(pending),
         },
         9 => Call::Mkdir {
-            parent,
+            parent: raw.node,
             name: asked.name(),
             mode: raw.mode,
             umask: raw.umask,
             extensions: asked.extensions(),
             to: To::new(pending),
         },
-        10 => Call::Unlink { parent, name: asked.name(), to: To::new(pending) },
-        11 => Call::Rmdir { parent, name: asked.name(), to: To::new(pending) },
+        10 => Call::Unlink { parent: raw.node, name: asked.name(), to: To::new(pending) },
+        11 => Call::Rmdir { parent: raw.node, name: asked.name(), to: To::new(pending) },
         12 => Call::Rename {
-            parent,
+            parent: raw.node,
             name: asked.name(),
             new_parent: raw.other_node,
             new_name: asked.other_name(),
@@ -410,7 +539,7 @@ fn name_call(pending: Box<Pending>, request: Request<'_>) -> Result<Call<'_>, Bo
             to: To::new(pending),
         },
         35 => Call::Create {
-            parent,
+            parent: raw.node,
             name: asked.name(),
             mode: raw.mode,
             kill_priv: asked.has(KILL_PRIV),
@@ -419,125 +548,7 @@ fn name_call(pending: Box<Pending>, request: Request<'_>) -> Result<Call<'_>, Bo
             extensions: asked.extensions(),
             to: To::new(pending),
         },
-        _ => return Err(pending),
-    })
-}
-
-/// Converts the calls about a file.
-fn file_call(pending: Box<Pending>, request: Request<'_>) -> Result<Call<'_>, Box<Pending>> {
-    let asked = Decoder { raw: &pending.call, request };
-    let raw = asked.raw;
-    let (node, handle, flags) = (raw.node, raw.handle, raw.flags);
-    Ok(match raw.call {
-        14 => Call::Open { node, kill_priv: asked.has(KILL_PRIV), flags, to: To::new(pending) },
-        15 => Call::Read {
-            node,
-            handle,
-            size: raw.size,
-            offset: raw.offset,
-            lock_owner: asked.owner(),
-            flags,
-            to: To::new(pending),
-        },
-        16 => Call::Write {
-            node,
-            handle,
-            data: asked.bytes(raw.data).first(raw.size as usize),
-            size: raw.size,
-            offset: raw.offset,
-            lock_owner: asked.owner(),
-            delayed_write: asked.has(DELAYED),
-            kill_priv: asked.has(KILL_PRIV),
-            flags,
-            to: To::new(pending),
-        },
-        18 => Call::Release {
-            node,
-            flags,
-            handle,
-            flush: asked.has(FLUSHES),
-            flock_release: asked.has(FLOCK_RELEASE),
-            lock_owner: asked.owner(),
-            to: To::new(pending),
-        },
-        20 => Call::Fsync { node, datasync: asked.has(DATASYNC), handle, to: To::new(pending) },
-        25 => Call::Flush { node, handle, lock_owner: raw.lock_owner, to: To::new(pending) },
-        43 => Call::Fallocate {
-            node,
-            handle,
-            mode: raw.mode,
-            offset: raw.offset,
-            length: raw.length,
-            to: To::new(pending),
-        },
-        46 => {
-            Call::Lseek { node, handle, offset: raw.offset, whence: raw.more, to: To::new(pending) }
-        }
-        47 => Call::CopyFileRange {
-            node_in: node,
-            handle_in: handle,
-            offset_in: raw.offset,
-            node_out: raw.other_node,
-            handle_out: raw.other_handle,
-            offset_out: raw.other_offset,
-            len: raw.length,
-            flags: raw.lock_owner,
-            to: To::new(pending),
-        },
-        _ => return Err(pending),
-    })
-}
-
-/// Converts the calls about a node or a directory.
-fn node_call(pending: Box<Pending>, request: Request<'_>) -> Result<Call<'_>, Box<Pending>> {
-    let asked = Decoder { raw: &pending.call, request };
-    let raw = asked.raw;
-    let (node, handle, size) = (raw.node, raw.handle, raw.size);
-    Ok(match raw.call {
-        2 => Call::Forget { node, count: raw.length, to: To::new(pending) },
-        3 => Call::Getattr { node, handle: asked.handle(), to: To::new(pending) },
-        4 => Call::Setattr {
-            node,
-            attr: raw.attr,
-            handle: asked.handle(),
-            valid: SetattrValid::from_bits_truncate(raw.flags),
-            to: To::new(pending),
-        },
-        5 => Call::Readlink { node, to: To::new(pending) },
-        17 => Call::Statfs { node, to: To::new(pending) },
-        21 => Call::Setxattr {
-            node,
-            name: asked.name(),
-            value: asked.bytes(raw.data).to_cow(),
-            flags: raw.flags,
-            extra_flags: SetxattrFlags::from_bits_truncate(raw.more),
-            to: To::new(pending),
-        },
-        22 => Call::Getxattr { node, name: asked.name(), size, to: To::new(pending) },
-        23 => Call::Listxattr { node, size, to: To::new(pending) },
-        24 => Call::Removexattr { node, name: asked.name(), to: To::new(pending) },
-        27 => Call::Opendir { node, flags: raw.flags, to: To::new(pending) },
-        28 => Call::Readdir {
-            node,
-            handle,
-            size,
-            offset: raw.offset,
-            plus: asked.has(PLUS),
-            to: To::new(pending),
-        },
-        29 => Call::Releasedir { node, flags: raw.flags, handle, to: To::new(pending) },
-        30 => Call::Fsyncdir { node, datasync: asked.has(DATASYNC), handle, to: To::new(pending) },
-        34 => Call::Access { node, mask: raw.more, to: To::new(pending) },
-        50 => Call::Syncfs { node, to: To::new(pending) },
-        _ => return Err(pending),
-    })
-}
-
-/// Converts the calls about the session, those without arguments, and unknown ones.
-fn other_call(pending: Box<Pending>, request: Request<'_>) -> Call<'_> {
-    let asked = Decoder { raw: &pending.call, request };
-    let raw = asked.raw;
-    match raw.call {
+        // About the session; without arguments; unknown.
         26 => Call::Init {
             capable: FsOptions::from_bits_truncate(raw.length),
             readahead: raw.readahead,
@@ -563,10 +574,6 @@ impl<'r> PendingCall<'r> {
     pub(crate) fn new(pending: Box<Pending>, request: Request<'r>) -> Self {
         let RawCall { uid, gid, pid, unique, .. } = pending.call;
         let context = Context { uid, gid, pid, unique };
-        let call = node_call(pending, request)
-            .or_else(|pending| file_call(pending, request))
-            .or_else(|pending| name_call(pending, request))
-            .unwrap_or_else(|pending| other_call(pending, request));
-        PendingCall { context, call }
+        PendingCall { context, call: call_of(pending, request) }
     }
 }

@@ -19,6 +19,14 @@ struct RawSlot {
     at: *mut c_void,
 }
 
+impl RawSlot {
+    /// Copies bytes of the reply, from offset `at` on, and returns how many.
+    fn copy(&mut self, at: usize, piece: &mut [u8]) -> usize {
+        // SAFETY: the pointers are valid for this call, and the piece has so many bytes.
+        unsafe { nizwarf_copy_slot_at(self, at, piece.as_mut_ptr(), piece.len()) }
+    }
+}
+
 /// `nizwarf_session`.
 #[repr(C)]
 #[derive(Clone, Copy, Debug, PartialEq, Eq)]
@@ -528,18 +536,15 @@ impl Slot {
 
     /// Copies bytes of the reply, from offset `at` on, and returns how many.
     pub(crate) fn copy(&mut self, at: usize, piece: &mut [u8]) -> usize {
-        // SAFETY: the pointers are valid for this call, and the piece has so many bytes.
-        unsafe { nizwarf_copy_slot_at(&mut self.raw, at, piece.as_mut_ptr(), piece.len()) }
+        self.raw.copy(at, piece)
     }
 
     /// Returns the first bytes of the reply.
     pub(crate) fn lend(&mut self, len: usize) -> &[u8] {
-        let mut reply = std::mem::take(&mut self.reply);
-        if reply.len() < len {
-            reply.resize(len, 0);
+        if self.reply.len() < len {
+            self.reply.resize(len, 0);
         }
-        let copied = self.copy(0, &mut reply[..len]);
-        self.reply = reply;
+        let copied = self.raw.copy(0, &mut self.reply[..len]);
         &self.reply[..copied]
     }
 }
