@@ -11,6 +11,7 @@
 //! a panic of the file system is answered EIO.
 
 use crate::descriptor_utils::{Reader, Writer};
+use crate::file_traits::FileReadWriteAtVolatile;
 use crate::filesystem::{
     Context, DirectoryIterator, Entry, Extensions, FileSystem, GetxattrReply, ListxattrReply,
     SecContext, SerializableFileSystem, ZeroCopyReader, ZeroCopyWriter,
@@ -18,16 +19,17 @@ use crate::filesystem::{
 use crate::fuse::{Attr, FsOptions, OpenOptions, SetattrIn, SetattrValid, SetxattrFlags};
 use crate::oslib::WritevFlags;
 use crate::soft_idmap::Id;
-use nizwarf::{Asked, Call, Item, PendingCall, Session, Slot, Told};
+use nizwarf::{Asked, Call, Item, Reply, Session, Slot, Told};
 use std::cell::RefCell;
 use std::ffi::CStr;
 use std::fs::File;
-use std::io::{self, IoSlice, Read, Write};
-use std::iter::repeat;
+use std::io::{self, IoSlice, Read};
 use std::panic::{catch_unwind, AssertUnwindSafe};
 use std::sync::atomic::{AtomicBool, AtomicU64, Ordering};
 use std::sync::Arc;
 use std::time::Duration;
+use vhost_user_backend::bitmap::BitmapMmapRegion;
+use vm_memory::VolatileSlice;
 
 /// The number of WRITE, and the length of its header and record, which precede the data.
 const WRITE: [u8; 4] = 16_u32.to_le_bytes();
@@ -67,11 +69,11 @@ impl<F: FileSystem + Sync> Server<F> {
     /// None: an error would end the worker of the queue.
     pub fn handle_message<T>(
         &self,
-        r: Reader,
-        w: Writer,
+        mut r: Reader,
+        mut w: Writer,
         _vu_req: Option<&mut T>,
     ) -> crate::Result<usize> {
-        Ok(LOCAL.with(|local| self.serve(&mut local.borrow_mut(), r, w)))
+        Ok(LOCAL.with(|local| self.serve(&mut local.borrow_mut(), &mut r, &mut w)))
     }
 
     /// Ends the session, as a reset of the device does.
@@ -81,7 +83,7 @@ impl<F: FileSystem + Sync> Server<F> {
         0
     }
 
-    fn serve(&self, local: &mut Local, mut r: Reader, mut w: Writer) -> usize {
+    fn serve(&self, local: &mut Local, r: &mut Reader, w: &mut Writer) -> usize {
         let Local { slot, request } = local;
         let mut session = Session::default();
         let options = self.options.load(Ordering::Relaxed);
@@ -89,16 +91,16 @@ impl<F: FileSystem + Sync> Server<F> {
         if request.is_empty() {
             *request = vec![0; session.longest_message()];
         }
-        let request = match take_request(request, &mut r) {
+        let request = match take_request(request, r) {
             Ok(request) => [IoSlice::new(request)],
             Err(_) => return 0,
         };
         let (outcome, mut reply) = match slot.ask(&session, &request, w.available_bytes()) {
             Asked::Finished(done) => (done.outcome, done.reply),
-            Asked::Call(PendingCall { context, call }) => {
-                debug!("{context:?} asks for {call:?}");
-                let asker = Asker::new(&self.fs, context);
-                let told = asker.make(slot, call, r, &mut w);
+            Asked::Call(pending) => {
+                debug!("It asks for {pending:?}");
+                let asker = Asker::new(&self.fs, pending.context);
+                let told = asker.make(slot, pending.call, r, w);
                 if let Some(options) = told.options {
                     self.options.store(options.bits(), Ordering::Relaxed);
                 }
@@ -110,24 +112,96 @@ impl<F: FileSystem + Sync> Server<F> {
             return 0;
         }
         debug!("The reply has {} bytes", reply.len());
-        match w.write_all(reply.bytes()) {
-            Ok(()) => reply.len(),
-            Err(_) => 0,
-        }
+        put_reply(&mut reply, w)
     }
 }
 
 /// Copies a request, so that the guest cannot change it any more, and returns it. The data of a WRITE stay in
 /// the reader. In the request there are other bytes in their place: the library looks at their length alone.
 fn take_request<'b>(buffer: &'b mut [u8], r: &mut Reader) -> io::Result<&'b [u8]> {
-    let len = r.available_bytes().min(buffer.len());
-    let request = &mut buffer[..len];
-    let (head, tail) = request.split_at_mut(len.min(WRITE_HEAD));
-    r.read_exact(head)?;
-    if head.get(4..8) != Some(&WRITE[..]) {
-        r.read_exact(tail)?;
+    let (head, tail) = buffer.split_at_mut(WRITE_HEAD);
+    let mut len = 0;
+    let lent = Lent::new(|pieces| {
+        let mut left = &mut head[..];
+        for piece in pieces {
+            let copied = piece.copy_to(left);
+            left = &mut left[copied..];
+            len += piece.len();
+        }
+        // Where nothing more is read, it is quicker to leave the pieces in the reader.
+        if len > WRITE_HEAD {
+            Ok(WRITE_HEAD)
+        } else {
+            Err(LEFT.into())
+        }
+    });
+    // The length of the first pieces tells whether there is a byte behind the head.
+    let _ = r.write_to_file_at(lent, WRITE_HEAD + 1, 0, None);
+    if len > WRITE_HEAD {
+        len = WRITE_HEAD
+            + if head[4..8] == WRITE { r.available_bytes().min(tail.len()) } else { r.read(tail)? };
     }
-    Ok(request)
+    Ok(&buffer[..len])
+}
+
+/// Puts a reply into the writer, and returns the length with which the request is completed.
+fn put_reply(reply: &mut Reply, w: &mut Writer) -> usize {
+    let len = reply.len();
+    let mut left = reply.bytes();
+    if left.is_empty() {
+        return len;
+    }
+    let count = left.len();
+    let lent = Lent::new(|pieces| {
+        for piece in pieces {
+            piece.copy_from(left);
+            left = &left[left.len().min(piece.len())..];
+        }
+        Err(LEFT.into())
+    });
+    let _ = w.read_from_file_at(lent, count, 0);
+    if left.is_empty() {
+        len
+    } else {
+        0
+    }
+}
+
+/// The error with which a [`Lent`] leaves its pieces where they are.
+const LEFT: io::ErrorKind = io::ErrorKind::Other;
+
+/// In place of a file, a function that is lent the pieces of guest memory which the file would get.
+struct Lent<T>(RefCell<T>);
+
+impl<T> Lent<T>
+where
+    T: FnMut(&[&VolatileSlice<BitmapMmapRegion>]) -> io::Result<usize>,
+{
+    fn new(function: T) -> Self {
+        Lent(RefCell::new(function))
+    }
+}
+
+impl<T> FileReadWriteAtVolatile<BitmapMmapRegion> for Lent<T>
+where
+    T: FnMut(&[&VolatileSlice<BitmapMmapRegion>]) -> io::Result<usize>,
+{
+    fn read_vectored_at_volatile(
+        &self,
+        pieces: &[&VolatileSlice<BitmapMmapRegion>],
+        _offset: u64,
+    ) -> io::Result<usize> {
+        self.0.borrow_mut()(pieces)
+    }
+
+    fn write_vectored_at_volatile(
+        &self,
+        pieces: &[&VolatileSlice<BitmapMmapRegion>],
+        _offset: u64,
+        _flags: Option<WritevFlags>,
+    ) -> io::Result<usize> {
+        self.0.borrow_mut()(pieces)
+    }
 }
 
 /// Makes calls for a caller.
@@ -160,8 +234,15 @@ impl<'f, F: FileSystem> Asker<'f, F> {
         self.tell(|fs, ctx| fs.forget(ctx, node.into(), 1));
     }
 
+    /// Releases the handle of a file whose reply does not fit: the client does not know it.
+    fn release(&self, node: u64, handle: u64, flags: u32) {
+        // Nobody can be told of an error.
+        let _ = self
+            .ask(|fs, ctx| fs.release(ctx, node.into(), flags, handle.into(), false, false, None));
+    }
+
     /// Makes the call that a request asks for, and answers it.
-    fn make<'s>(&self, slot: &'s mut Slot, call: Call, r: Reader, w: &mut Writer) -> Told<'s> {
+    fn make<'s>(&self, slot: &'s mut Slot, call: Call, r: &mut Reader, w: &mut Writer) -> Told<'s> {
         match call {
             Call::Lookup { .. }
             | Call::Symlink { .. }
@@ -255,7 +336,12 @@ impl<'f, F: FileSystem> Asker<'f, F> {
                     let (handle, options) = opened((handle, options));
                     (entry_of(entry), handle, options)
                 });
-                to.answer(slot, result)
+                let made = result.as_ref().ok().map(|(entry, handle, _)| (entry.inode, *handle));
+                let told = to.answer(slot, result);
+                if let (Err(_), Some((node, Some(handle)))) = (told.outcome, made) {
+                    self.release(node, handle, flags);
+                }
+                told
             }
             other => self.refuse(slot, other),
         }
@@ -298,15 +384,18 @@ impl<'f, F: FileSystem> Asker<'f, F> {
         &self,
         slot: &'s mut Slot,
         call: Call,
-        mut r: Reader,
+        r: &mut Reader,
         w: &mut Writer,
     ) -> Told<'s> {
         match call {
             Call::Read { node, handle, size, offset, lock_owner, flags, to } => {
                 let most = to.most();
+                let is_longer = most < to.room().saturating_sub(REPLY_HEADER);
                 let result = self.ask(|fs, ctx| {
                     let mut data = w.split_at(REPLY_HEADER).map_err(io::Error::other)?;
-                    data.split_at(most).map_err(io::Error::other)?;
+                    if is_longer {
+                        data.split_at(most).map_err(io::Error::other)?;
+                    }
                     let (node, handle, data) = (node.into(), handle.into(), Room(data));
                     fs.read(ctx, node, handle, data, size, offset, lock_owner, flags)
                 });
@@ -324,9 +413,12 @@ impl<'f, F: FileSystem> Asker<'f, F> {
                 to,
                 ..
             } => {
-                let most = r.available_bytes().min(size as usize);
+                let most = size as usize;
+                let is_longer = most < r.available_bytes();
                 let result = self.ask(|fs, ctx| {
-                    r.split_at(most).map_err(io::Error::other)?;
+                    if is_longer {
+                        r.split_at(most).map_err(io::Error::other)?;
+                    }
                     let (node, handle, data) = (node.into(), handle.into(), Data(r));
                     fs.write(
                         ctx, node, handle, data, size, offset, lock_owner, delayed, kill_priv,
@@ -344,7 +436,13 @@ impl<'f, F: FileSystem> Asker<'f, F> {
         match call {
             Call::Open { node, kill_priv, flags, to } => {
                 let result = self.ask(|fs, ctx| fs.open(ctx, node.into(), kill_priv, flags));
-                to.answer(slot, result.map(opened))
+                let result = result.map(opened);
+                let handle = handle_of(&result);
+                let told = to.answer(slot, result);
+                if let (Err(_), Some(handle)) = (told.outcome, handle) {
+                    self.release(node, handle, flags);
+                }
+                told
             }
             Call::Release { node, flags, handle, flush, flock_release, lock_owner, to } => {
                 let result = self.ask(|fs, ctx| {
@@ -404,7 +502,15 @@ impl<'f, F: FileSystem> Asker<'f, F> {
         match call {
             Call::Opendir { node, flags, to } => {
                 let result = self.ask(|fs, ctx| fs.opendir(ctx, node.into(), flags));
-                to.answer(slot, result.map(opened))
+                let result = result.map(opened);
+                let handle = handle_of(&result);
+                let told = to.answer(slot, result);
+                if let (Err(_), Some(handle)) = (told.outcome, handle) {
+                    // Nobody can be told of an error.
+                    let _ =
+                        self.ask(|fs, ctx| fs.releasedir(ctx, node.into(), flags, handle.into()));
+                }
+                told
             }
             Call::Readdir { node, handle, size, offset, plus, to } => {
                 let result =
@@ -413,8 +519,12 @@ impl<'f, F: FileSystem> Asker<'f, F> {
                     Ok(items) => LISTING.with(move |listing| {
                         let mut listing = listing.borrow_mut();
                         let most = (size as usize).min(to.room().saturating_sub(REPLY_HEADER));
-                        self.list(&mut listing, items, node, most, plus);
-                        to.answer(slot, Ok(&listing.items()))
+                        self.list(&mut listing, items, most, plus);
+                        let items = match plus {
+                            true => self.look_up(listing.items(), node),
+                            false => listing.items().collect(),
+                        };
+                        to.answer(slot, Ok(&items))
                     }),
                     Err(error) => to.fail(slot, &error),
                 }
@@ -433,30 +543,30 @@ impl<'f, F: FileSystem> Asker<'f, F> {
         }
     }
 
-    /// Lists items up to the first that does not fit, or, with `plus`, whose lookup fails. The first of all is
-    /// looked up even if it does not fit, since the error of its lookup is the reply.
-    fn list(
-        &self,
-        listing: &mut Listing,
-        mut items: F::DirIter,
-        node: u64,
-        most: usize,
-        plus: bool,
-    ) {
+    /// Lists items up to the first that does not fit. With `plus`, the first of all is listed even if it does not
+    /// fit, since the error of its lookup is the reply.
+    fn list(&self, listing: &mut Listing, mut items: F::DirIter, most: usize, plus: bool) {
         listing.clear();
         // If the iterator panics, the listing ends.
-        while let Ok(true) = self.ask(|_, _| Ok(listing.add(&mut items, most, plus))) {
-            if !plus || matches!(listing.last_name().to_bytes(), b"." | b"..") {
+        self.tell(|_, _| while listing.add(&mut items, most, plus) {});
+    }
+
+    /// Looks items up, but for `.` and `..`, up to the first whose lookup fails.
+    fn look_up<'l>(&self, listed: impl Iterator<Item = Item<'l>>, node: u64) -> Vec<Item<'l>> {
+        let mut items = Vec::with_capacity(listed.size_hint().0);
+        for item in listed {
+            if item.is_dot() {
+                items.push(item);
                 continue;
             }
-            let name = listing.last_name();
-            let result = self.ask(|fs, ctx| fs.lookup(ctx, node.into(), name)).map(entry_of);
+            let result = self.ask(|fs, ctx| fs.lookup(ctx, node.into(), item.name()));
             let failed = result.is_err();
-            listing.look_up(result);
+            items.push(item.looked_up(&result.map(entry_of)));
             if failed {
                 break;
             }
         }
+        items
     }
 
     /// The calls about the session.
@@ -546,8 +656,6 @@ struct Listing {
     /// The names one after another, each with its NUL.
     names: Vec<u8>,
     records: Vec<Record>,
-    /// For each record the result of its lookup, if there was one. It is empty without `plus`.
-    entries: Vec<Option<io::Result<nizwarf::Entry>>>,
     /// The length of the records in the reply.
     len: usize,
 }
@@ -562,13 +670,12 @@ struct Record {
 
 impl Listing {
     const fn new() -> Self {
-        Listing { names: Vec::new(), records: Vec::new(), entries: Vec::new(), len: 0 }
+        Listing { names: Vec::new(), records: Vec::new(), len: 0 }
     }
 
     fn clear(&mut self) {
         self.names.clear();
         self.records.clear();
-        self.entries.clear();
         self.len = 0;
     }
 
@@ -589,37 +696,15 @@ impl Listing {
             kind: item.type_,
             at: self.names.len(),
         });
-        if plus {
-            self.entries.push(None);
-        }
         self.names.extend_from_slice(item.name.to_bytes_with_nul());
         true
     }
 
-    fn last_name(&self) -> &CStr {
-        name_in(&self.names, self.records.last().map_or(0, |record| record.at))
-    }
-
-    fn look_up(&mut self, result: io::Result<nizwarf::Entry>) {
-        if let Some(last) = self.entries.last_mut() {
-            *last = Some(result);
-        }
-    }
-
-    fn items(&self) -> Vec<Item<'_>> {
-        let entries = self.entries.iter().map(Option::as_ref).chain(repeat(None));
-        self.records
-            .iter()
-            .zip(entries)
-            .map(|(record, entry)| {
-                let name = name_in(&self.names, record.at);
-                let item = Item::new(record.ino, record.offset, record.kind, name);
-                match entry {
-                    Some(result) => item.looked_up(result),
-                    None => item,
-                }
-            })
-            .collect()
+    fn items(&self) -> impl Iterator<Item = Item<'_>> {
+        self.records.iter().map(move |record| {
+            let name = name_in(&self.names, record.at);
+            Item::new(record.ino, record.offset, record.kind, name)
+        })
     }
 }
 
@@ -637,9 +722,9 @@ impl ZeroCopyWriter for Room<'_> {
 }
 
 /// The data of a WRITE.
-struct Data<'r>(Reader<'r>);
+struct Data<'a, 'r>(&'a mut Reader<'r>);
 
-impl ZeroCopyReader for Data<'_> {
+impl ZeroCopyReader for Data<'_, '_> {
     fn write_to_file_at(
         &mut self,
         file: &File,
@@ -736,6 +821,10 @@ fn opened<H: Into<u64>>(
 ) -> (Option<u64>, nizwarf::OpenOptions) {
     let options = nizwarf::OpenOptions::from_bits_truncate(options.bits());
     (handle.map(Into::into), options)
+}
+
+fn handle_of(result: &io::Result<(Option<u64>, nizwarf::OpenOptions)>) -> Option<u64> {
+    result.as_ref().ok().and_then(|(handle, _)| *handle)
 }
 
 fn extensions_of(extensions: nizwarf::Extensions) -> Extensions {

@@ -8,8 +8,8 @@ virtiofsd. Both get the options of DAEMON and a folder of their own, made in FOL
     request after it, and answer all as virtiofsd does, if that goes on
   COUNT well-formed requests by SEED, in sessions with the options of OPTIONS: the replies must be the same,
     and after each session the folders, and the number of open descriptors
-  entries in rooms that are too short for them: the replaced one must give them back to its file system, which
-    shows in its number of descriptors
+  entries and handles in rooms that are too short for them: the replaced one must give them back to its file
+    system, which shows in its number of descriptors
   COUNT requests by SEED of which most are broken, of the replaced one alone: each must be completed
 Of a reply the numbers of nodes, handles and inodes, the times, and how full the file system is do not count.
 Status 0: all were; 1: not so; 2: it could not start.
@@ -211,10 +211,12 @@ def reply_to(daemon, line):
 
 
 def give_back():
-    """Requests for entries, each in a room that is too short for its reply, and what was not given back."""
+    """Requests for entries and handles, each in a room that is too short for its reply, and what was kept."""
     asked = [("LOOKUP", 1, b"l\0", "143"), ("MKDIR", 9, struct.pack("<II", 0o755, 0) + b"a\0", "16+127"),
              ("MKNOD", 8, struct.pack("<IIII", 0o100644, 0, 0, 0) + b"b\0", "16"), ("SYMLINK", 6, b"c\0d\0", "40"),
-             ("LINK", 13, struct.pack("<Q", 2) + b"e\0", "100")]
+             ("LINK", 13, struct.pack("<Q", 2) + b"e\0", "100"), ("OPEN", 14, bytes(8), "16+15"),
+             ("OPENDIR", 27, bytes(8), "31"), ("CREATE", 35, struct.pack("<IIII", 2, 0o644, 0, 0) + b"f\0", "16+128+15"),
+             ("CREATE", 35, struct.pack("<IIII", 2, 0o644, 0, 0) + b"g\0", "16")]
     with tempfile.TemporaryDirectory(dir=beside.folder) as at, Daemon([replaced], at, []) as here:
         here.ask(INIT)
         here.ask(requests.line("16+128", requests.request(1, b"h2\0")))
@@ -315,7 +317,7 @@ def main(seed, count):
          f"What the replaced one made of {sum(found.values()):,} requests of which most are broken")
     tried, shown = give_back()
     faults += shown
-    show([("given back", tried - len(shown)), ("kept", len(shown))], f"What became of {tried} entries without room")
+    show([("given back", tried - len(shown)), ("kept", len(shown))], f"What became of {tried} entries and handles without room")
     for fault in faults[:20]:
         print(f"\n{fault}", file=sys.stderr)
     print(f"\n{len(faults)} faults.")
