@@ -22,8 +22,8 @@ CLASSES = {
 
 def options():
     parser = argparse.ArgumentParser(add_help=False)
-    parser.add_argument("--rounds", type=int, default=31)
-    parser.add_argument("--ms", type=int, default=8)
+    parser.add_argument("--rounds", type=int, default=61)
+    parser.add_argument("--ms", type=int, default=4)
     parser.add_argument("--pools", type=numbers, default=[0, 2, 4])
     parser.add_argument("--depths", type=numbers, default=[1, 4, 16])
     parser.add_argument("--classes", type=lambda text: text.split(","), default=list(CLASSES))
@@ -51,6 +51,14 @@ def fill(folder):
             pass
 
 
+def processors(pool):
+    """That of the front end, and those of the daemons, which are the same for each: so all of them have the same
+    neighbours. Without a pool a daemon has one."""
+    front, *rest = sorted(os.sched_getaffinity(0))
+    rest = rest or [front]
+    return [front, *rest[:max(1, pool)]]
+
+
 class Daemon:
     """A daemon that serves a front end."""
 
@@ -62,10 +70,12 @@ class Daemon:
         if number < 2:
             words.append("--no-announce-submounts")
         self.said = open(f"{given.work}/said-{number}", "w+", encoding="utf-8")
+        front, *rest = processors(pool)
         self.process = subprocess.Popen([*before, program, *words], stdout=self.said, stderr=self.said,
-                                        stdin=subprocess.DEVNULL)
+                                        stdin=subprocess.DEVNULL, preexec_fn=lambda: os.sched_setaffinity(0, rest))
         self.front = subprocess.Popen([given.pace, self.socket, str(self.process.pid)], text=True,
-                                      stdin=subprocess.PIPE, stdout=subprocess.PIPE)
+                                      stdin=subprocess.PIPE, stdout=subprocess.PIPE,
+                                      preexec_fn=lambda: os.sched_setaffinity(0, [front]))
 
     def ask(self, kind, depth, count):
         """Gives nanoseconds by the clock, those of the processor, and the bytes of all replies."""
@@ -152,7 +162,7 @@ def span(numbers):
 
 
 def show(lines, given, load, counts):
-    """The table: of each class and daemon what its ratios come to, over all settings."""
+    """The table: of each class and daemon the medians of its ratios to virtiofsd, over all settings."""
     settings = len(given.pools) * len(given.depths)
     print(f"{settings} settings (pools {given.pools}, in flight {given.depths}), in each {given.rounds} rounds of "
           f"{given.ms} ms. Load of the machine before and after: {load}.\n")
@@ -164,7 +174,7 @@ def show(lines, given, load, counts):
         cells = []
         for which, name in enumerate(NAMES[1:], 1):
             found = [line for line in lines if line[2:4] == (kind, name)]
-            cells += [span([line[6] for line in found]), span([line[11] for line in found])]
+            cells += [span([line[median] for line in found]) for median in (6, 11)]
             if counts:
                 cells.append(f"{counts[kind][which] / counts[kind][0]:.2f}")
         print(f"| {CLASSES[kind]} | " + " | ".join(cells) + " |")
