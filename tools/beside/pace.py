@@ -139,8 +139,9 @@ def figures(rounds, which, what):
 
 
 def measure(given):
-    """Gives lines of figures: pool, depth, class, daemon, and those of the processor and of the clock."""
-    lines = []
+    """Gives lines of figures: pool, depth, class, daemon, and those of the processor and of the clock; and the
+    ratios of all rounds of a class and a daemon, those of the processor and those of the clock."""
+    lines, ratios = [], {}
     for pool in given.pools:
         daemons = [Daemon(given, number, pool) for number in range(len(NAMES))]
         for depth in given.depths:
@@ -150,22 +151,27 @@ def measure(given):
                 for which, daemon in enumerate(daemons):
                     lines.append((pool, depth, kind, daemon.name, *figures(rounds, which, 1),
                                   *figures(rounds, which, 0)))
+                    kept = ratios.setdefault((kind, daemon.name), ([], []))
+                    for answers in rounds:
+                        (clock, ran), (first_clock, first_ran) = answers[which], answers[0]
+                        kept[0].append(ran / first_ran)
+                        kept[1].append(clock / first_clock)
         for daemon in daemons:
             daemon.end()
-    return lines
+    return lines, ratios
 
 
-def span(numbers):
-    """The least and the greatest of ratios, as they are shown."""
-    least, most = f"{min(numbers):.2f}", f"{max(numbers):.2f}"
-    return least if least == most else f"{least} to {most}"
+def middle(ratios):
+    """The median of ratios, and between what half of them lie."""
+    quarter = len(ratios) // 4
+    low, high = sorted(ratios)[quarter], sorted(ratios)[-1 - quarter]
+    return f"{statistics.median(ratios):.2f} ({low:.2f} to {high:.2f})"
 
 
-def show(lines, given, load, counts):
-    """The table: of each class and daemon the medians of its ratios to virtiofsd, over all settings."""
-    settings = len(given.pools) * len(given.depths)
-    print(f"{settings} settings (pools {given.pools}, in flight {given.depths}), in each {given.rounds} rounds of "
-          f"{given.ms} ms. Load of the machine before and after: {load}.\n")
+def show(ratios, given, load, counts):
+    """The table: of each class and daemon the ratios of all rounds to those of virtiofsd."""
+    print(f"{given.rounds} rounds of {given.ms} ms in each of {len(given.pools) * len(given.depths)} settings (pools "
+          f"{given.pools}, in flight {given.depths}). Load of the machine before and after: {load}.\n")
     heads = [f"{name}: {what}" for name in NAMES[1:]
              for what in ("processor", "clock", *(["instructions"] if counts else []))]
     print("| Request | " + " | ".join(heads) + " |")
@@ -173,8 +179,7 @@ def show(lines, given, load, counts):
     for kind in given.classes:
         cells = []
         for which, name in enumerate(NAMES[1:], 1):
-            found = [line for line in lines if line[2:4] == (kind, name)]
-            cells += [span([line[median] for line in found]) for median in (6, 11)]
+            cells += [middle(found) for found in ratios[kind, name]]
             if counts:
                 cells.append(f"{counts[kind][which] / counts[kind][0]:.2f}")
         print(f"| {CLASSES[kind]} | " + " | ".join(cells) + " |")
@@ -224,11 +229,11 @@ def main():
     given = options()
     fill(f"{given.work}/shared")
     load = load_now()
-    lines = measure(given)
+    lines, ratios = measure(given)
     load = f"{load} and {load_now()}"
     counts = all_instructions(given) if given.instructions else {}
     keep(lines, given.data, load, counts)
-    show(lines, given, load, counts)
+    show(ratios, given, load, counts)
     print(f"{given.data} has all figures.", file=sys.stderr)
 
 
