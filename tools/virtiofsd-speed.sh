@@ -8,9 +8,10 @@
 # tools/beside/pace.c: a request's header, record and data lie in descriptors as those of a guest of Linux. For
 # each class of requests, number in flight (1,4,16) and size of the thread pool (0,2,4) the daemons are asked in
 # turns, N rounds (61) of N ms (4) each, on the same processors: the front end has one, and without a pool a
-# daemon one. It prints a table in Markdown: of all rounds' ratios to the unmodified virtiofsd the median, and
-# between what half of them lie. Those of each setting are in speed.tsv in the folder, which is out/virtiofsd if
-# none is given. tools/beside/pace.c has the classes.
+# daemon one. It prints a page, docs/generated/end-to-end.md is one: of all rounds' ratios to the unmodified
+# virtiofsd the median, and between what half of them lie. Those of each setting are in speed.tsv in the folder,
+# which is out/virtiofsd if none is given; docs/speed/end-to-end.tsv are such. tools/pictures.sh draws the page.
+# tools/beside/pace.c has the classes.
 #
 # Processor time is that of the daemon's threads, the kernel's part too, as /proc/PID/task/*/schedstat has it.
 # With --instructions the table has also those of the daemons' own code for a request, which do not move with

@@ -169,9 +169,11 @@ def middle(ratios):
 
 
 def show(ratios, given, load, counts):
-    """The table: of each class and daemon the ratios of all rounds to those of virtiofsd."""
-    print(f"{given.rounds} rounds of {given.ms} ms in each of {len(given.pools) * len(given.depths)} settings (pools "
-          f"{given.pools}, in flight {given.depths}). Load of the machine before and after: {load}.\n")
+    """The page: of each class and daemon the ratios of all rounds to those of virtiofsd."""
+    print("# Requests to a daemon, by virtiofsd's time\n")
+    print(f"Of {given.rounds} rounds of {given.ms} ms in each of {len(given.pools) * len(given.depths)} settings (thread "
+          f"pools {given.pools}, in flight {given.depths}) the median of the ratios, and between what half of them "
+          f"lie. The load of the machine was {load}. `tools/virtiofsd-speed.sh` made this page.\n")
     heads = [f"{name}: {what}" for name in NAMES[1:]
              for what in ("processor", "clock", *(["instructions"] if counts else []))]
     print("| Request | " + " | ".join(heads) + " |")
@@ -189,7 +191,7 @@ def keep(lines, path, load, counts):
     """Writes all figures: a line for each setting, class and daemon."""
     part = "{0}_median\t{0}_least\t{0}_ratio\t{0}_ratio_low\t{0}_ratio_high"
     with open(path, "w", encoding="utf-8") as file:
-        file.write(f"# load before and after: {load}; times in nanoseconds a request\n")
+        file.write(f"# the load of the machine was {load}; times in nanoseconds a request\n")
         file.write("pool\tdepth\tclass\tdaemon\t" + part.format("processor") + "\t" + part.format("clock")
                    + "\tinstructions\n")
         for line in lines:
@@ -230,7 +232,7 @@ def main():
     fill(f"{given.work}/shared")
     load = load_now()
     lines, ratios = measure(given)
-    load = f"{load} and {load_now()}"
+    load = f"{load} before it, and {load_now()} after it"
     counts = all_instructions(given) if given.instructions else {}
     keep(lines, given.data, load, counts)
     show(ratios, given, load, counts)
