@@ -10,6 +10,7 @@
 #   lookup.svg   the steps of the table in docs/ARCHITECTURE.md: what stands in bold, the words up to
 #                the first full stop, the first function, and the crates of all files
 #   ratios.svg   the ratios of the table in docs/generated/ratios.md
+#   end-to-end.svg  those of the table in docs/generated/end-to-end.md
 set -eu
 . "$(dirname "$0")/usage.sh"
 case $#,${1:-} in
@@ -23,6 +24,7 @@ exec python3 - "$@" <<'PYTHON'
 import html, os, re, sys, textwrap
 
 ARCHITECTURE = "docs/ARCHITECTURE.md"
+END_TO_END = "docs/generated/end-to-end.md"
 RATIOS = "docs/generated/ratios.md"
 CODE = re.compile(r"`([^`]+)`")
 # Tints that black text is read on.
@@ -285,13 +287,13 @@ def bar(picture, x, y, scale, cell, colour, column):
     picture.text(column, y + 9, cell, font_size=11)
 
 
-def grid(picture, x, scale, top, bottom):
-    for tenth in range(0, 11, 2):
+def grid(picture, x, scale, top, bottom, whole="virtiofsd's Rust", last=10):
+    for tenth in range(0, last + 1, 2):
         at = x + scale * tenth / 10
         picture.shape("line", x1=at, y1=top - 6, x2=at, y2=bottom,
                       stroke="#888" if tenth in (0, 10) else "#ddd")
         picture.text(at, bottom + 16, f"{tenth / 10:.1f}", text_anchor="middle", font_size=11)
-    picture.text(x + scale, top - 12, "virtiofsd's Rust", text_anchor="middle")
+    picture.text(x + scale, top - 12, whole, text_anchor="middle")
 
 
 def key(picture, x, y, colours):
@@ -326,11 +328,44 @@ def ratios():
     return picture.drawn(axis + int(scale * 1.1) + 120, bottom + 30)
 
 
+def middle(picture, x, y, scale, cell, colour, column, end):
+    """The first figure of a cell as a bar, the span from the second to the third as a line, and the text."""
+    median, low, high = (min(float(figure), end) for figure in re.findall(r"\d+\.\d+", cell))
+    picture.box(x, y, scale * median, 9, fill=colour, stroke="none")
+    picture.shape("line", x1=x + scale * low, y1=y + 4.5, x2=x + scale * high, y2=y + 4.5, stroke="black")
+    picture.text(column, y + 9, cell, font_size=11)
+
+
+def end_to_end():
+    rows = table(END_TO_END, "| Request | with this layer: processor |")
+    colours = {"with this layer: processor": "#2f6fc4", "clock": "#8fb4e8",
+               "nizwarf-share: processor": "#b3722a", "its clock": "#e3bd8d"}
+    left, axis, scale, top, thin, end = 20, 180, 420, 66, 12, 1.3
+    picture = Picture("Time of a request to a daemon by its time in virtiofsd")
+    height = thin * len(colours) + 10
+    bottom = top + height * len(rows)
+    grid(picture, axis, scale, top, bottom, "virtiofsd", 12)
+    for at, (name, processor, clock, _, share, share_clock, _) in enumerate(rows):
+        y = top + height * at
+        picture.text(left, y + height // 2, name)
+        for i, (cell, colour) in enumerate(zip((processor, clock, share, share_clock), colours.values())):
+            middle(picture, axis, y + thin * i, scale, cell, colour, axis + int(scale * end) + 12, end)
+    x = left
+    for words, colour in colours.items():
+        picture.box(x, 14, 20, 11, fill=colour, stroke="none")
+        picture.text(x + 25, 24, words)
+        x += 38 + wide(words)
+    picture.shape("line", x1=x, y1=19.5, x2=x + 20, y2=19.5, stroke="black")
+    picture.text(x + 25, 24, "half of the rounds")
+    return picture.drawn(axis + int(scale * end) + 150, bottom + 30)
+
+
 def main():
     if sys.argv[1:] not in ([], ["--check"]):
         fault("it takes --check or nothing")
     old = []
-    for name, draw in (("crates", crates), ("lookup", lookup), ("ratios", ratios)):
+    for name, draw in (("crates", crates), ("lookup", lookup), ("ratios", ratios),
+                       ("end-to-end", end_to_end)):
         path, drawn = f"docs/pictures/{name}.svg", draw()
         if sys.argv[1:]:
             old += [path] if not os.path.exists(path) or read(path) != drawn else []
