@@ -23,7 +23,7 @@ use crate::flags::FsOptions;
 /// ```
 #[must_use]
 pub fn print_request(request: &[u8], options: FsOptions) -> String {
-    text_of(ffi::request_line(request, options.bits()))
+    text_of(&ffi::request_line(request, options.bits()))
 }
 
 /// Returns the reply to a request as a line of text, in the same way. The first 48 bytes of the request are
@@ -36,12 +36,12 @@ pub fn print_request(request: &[u8], options: FsOptions) -> String {
 /// ```
 #[must_use]
 pub fn print_reply(request: &[u8], reply: &[u8]) -> String {
-    text_of(ffi::reply_line(request, reply))
+    text_of(&ffi::reply_line(request, reply))
 }
 
 /// A line of the library is ASCII.
-fn text_of(line: Vec<u8>) -> String {
-    String::from_utf8_lossy(&line).into_owned()
+fn text_of(line: &[u8]) -> String {
+    String::from_utf8_lossy(line).into_owned()
 }
 
 /// The result of [`Session::check`].
@@ -73,7 +73,7 @@ impl Session {
     /// ```
     ///
     /// # Errors
-    /// The [`Refusal`] of the request. [`Refusal::OutOfMemory`] comes only from a BATCH_FORGET or a security
+    /// The [`Refusal`] of the request. [`Refusal::OutOfMemory`] comes only from a `BATCH_FORGET` or a security
     /// context: nothing else is allocated.
     pub fn check(&self, request: &[u8], room: usize) -> Result<Checked, Refusal> {
         let (code, call, interrupts) = ffi::check(&self.0, request, room);
@@ -96,7 +96,8 @@ mod tests {
     fn request(opcode: u8, body: &[u8]) -> Vec<u8> {
         let mut bytes = vec![0; 40];
         bytes.extend_from_slice(body);
-        (bytes[0], bytes[4], bytes[8]) = (bytes.len() as u8, opcode, 7);
+        let [len, ..] = bytes.len().to_le_bytes();
+        (bytes[0], bytes[4], bytes[8]) = (len, opcode, 7);
         bytes
     }
 
