@@ -13,7 +13,7 @@ use Rattle.vfs_files.specs.declared.entry.Context.{Context}
 use Rattle.vfs_grammar.specs.Listing.{Got, IsGot, Line, given_back, node_got}
 use Rattle.vfs_listings.specs.Reading.{GivesBackNode}
 use Rattle.vfs_listings.proofs.Filling.{flat_map-push}
-use Rattle.vfs_make_listings.specs.Kept.{TellLines, TellsLine}
+use Rattle.vfs_make_listings.specs.Kept.{TellGots, TellsGot}
 
 -- what is given back of a line
 abbrev pub back_of : Context → Line → List Event
@@ -26,13 +26,13 @@ module _ {S I : Type 0} (allows : S → Call → Handed I → S → Type 0) (giv
     pub done : List Line
     pub left : List Line
     pub lines_are : lines ≡ done ++ left
-    pub told : TellLines (drop index items) left
+    pub told : TellGots (drop index items) left
     pub got : All (IsGot plus) left
     pub ran : Ran allows gives at before (flat_map (back_of ctx) done) s at
 
   abbrev pub Giving : (index : ℕ) → (s : S) → Type 0
   Giving index s =
-      (lines : List Line) (at : Option I) → TellLines items lines → All (IsGot plus) lines → GivenOf index s lines at
+      (lines : List Line) (at : Option I) → TellGots items lines → All (IsGot plus) lines → GivenOf index s lines at
 
   pub giving_start : Giving 0 before
   giving_start lines at told got = record {
@@ -51,32 +51,32 @@ module _ {S I : Type 0} (allows : S → Call → Handed I → S → Type 0) (giv
 
   -- an item more, of lines that are left
   one_more : (index : ℕ) (s new : S) (item : ItemData) (rest : List ItemData) (lines done left : List Line) (at : Option I)
-      (node : Option ℕ) → lines ≡ done ++ left → TellLines (item ∷ rest) left → All (IsGot plus) left
+      (node : Option ℕ) → lines ≡ done ++ left → TellGots (item ∷ rest) left → All (IsGot plus) left
       → Ran allows gives at before (flat_map (back_of ctx) done) s at → rest ≡ drop index items
-      → ((l : Line) → TellsLine item l → IsGot plus l → node ≡ node_got l.got)
+      → ((l : Line) → TellsGot item l.got → IsGot plus l → node ≡ node_got l.got)
       → GivesBackNode allows ctx node s new → GivenOf index new lines at
   one_more index s new item rest lines done [] at node e told got ran here is back = absurd told
   one_more index s new item rest lines done (l ∷ ls) at node e told got ran here is back = record {
     done = done ++ l ∷ [];
     left = ls;
     lines_are = e ∙ sym (append_assoc done (l ∷ []) ls);
-    told = subst (λ (x : List ItemData). TellLines x ls) here told.1;
+    told = subst (λ (x : List ItemData). TellGots x ls) here told.1;
     got = All-tail (IsGot plus) l ls got;
     ran = rw (flat_map-push (back_of ctx) done l) (ran_on allows gives ran (ran_node (node_got l.got) at s new
         (subst (λ (n : Option ℕ). GivesBackNode allows ctx n s new) (is l told.0 (All-head (IsGot plus) l ls got)) back)));
   }
 
   pub giving_more : {index : ℕ} {s new : S} → Giving index s → (d : ItemData) → index < length items → (node : Option ℕ)
-      → ((l : Line) → TellsLine (get_or items index d) l → IsGot plus l → node ≡ node_got l.got)
+      → ((l : Line) → TellsGot (get_or items index d) l.got → IsGot plus l → node ≡ node_got l.got)
       → GivesBackNode allows ctx node s new → Giving (index + 1) new
   giving_more {index} {s} {new} g d here node is back lines at told got =
       let r = g lines at told got in
       let next : suc index ≡ index + 1 = omega arith in
       let rest : drop (suc index) items ≡ drop (index + 1) items = ap (λ (n : ℕ). drop n items) next in
       one_more (index + 1) s new (get_or items index d) (drop (suc index) items) lines r.done r.left at node r.lines_are
-      (subst (λ (x : List ItemData). TellLines x r.left) (drop-cons items index d here) r.told) r.got r.ran rest is back
+      (subst (λ (x : List ItemData). TellGots x r.left) (drop-cons items index d here) r.told) r.got r.ran rest is back
 
-  none_left : (s : S) (lines done left : List Line) (at : Option I) → lines ≡ done ++ left → TellLines [] left
+  none_left : (s : S) (lines done left : List Line) (at : Option I) → lines ≡ done ++ left → TellGots [] left
       → Ran allows gives at before (flat_map (back_of ctx) done) s at
       → Ran allows gives at before (flat_map (back_of ctx) lines) s at
   none_left s lines done [] at e told ran =
@@ -84,8 +84,8 @@ module _ {S I : Type 0} (allows : S → Call → Handed I → S → Type 0) (giv
   none_left s lines done (l ∷ ls) at e told ran = absurd told
 
   pub giving_end : {index : ℕ} {s : S} → Giving index s → length items ≤ index → (lines : List Line) (at : Option I)
-      → TellLines items lines → All (IsGot plus) lines → Ran allows gives at before (flat_map (back_of ctx) lines) s at
+      → TellGots items lines → All (IsGot plus) lines → Ran allows gives at before (flat_map (back_of ctx) lines) s at
   giving_end {index} {s} g all lines at told got =
       let r = g lines at told got in
       none_left s lines r.done r.left at r.lines_are
-      (subst (λ (x : List ItemData). TellLines x r.left) (drop_all index items all) r.told) r.ran
+      (subst (λ (x : List ItemData). TellGots x r.left) (drop_all index items all) r.told) r.ran

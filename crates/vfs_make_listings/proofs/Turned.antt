@@ -33,7 +33,7 @@ use Rattle.vfs_make.specs.declared.handled.Handled.{Handled}
 use Rattle.vfs_make.proofs.Twice.{fault_is}
 use Rattle.vfs_listings.specs.Reading.{GivesBackNode}
 use Rattle.vfs_listings.proofs.Filling.{flat_map-push}
-use Rattle.vfs_make_listings.specs.Kept.{TellLines}
+use Rattle.vfs_make_listings.specs.Kept.{TellGots, TellLines}
 use Rattle.vfs_make_listings.specs.Listed.{FitsListing, GivesUp, GivesUpOn, IsListingAsked, IsUnopenedSo, ListingIsHandled, ReadsOn, back_of}
 use Rattle.vfs_make_listings.specs.Taken.{TakesAll, TakesSome, last_events, lines_with}
 use Rattle.vfs_make.specs.Told.{caller}
@@ -68,8 +68,14 @@ tail_got : (plus : Bool) (size space written : ℕ) (stop : Stop) → Stops plus
 tail_got plus size space w End s = none_got plus
 tail_got plus size space w (At l) s = one_got plus l s.0
 
-tell_drop : (n : ℕ) (items : List ItemData) (lines : List Line) → TellLines items lines
-    → TellLines (drop n items) (drop n lines)
+gots_of : (items : List ItemData) (lines : List Line) → TellLines items lines → TellGots items lines
+gots_of [] [] t = tt
+gots_of [] (l ∷ lines) t = absurd t
+gots_of (i ∷ items) [] t = absurd t
+gots_of (i ∷ items) (l ∷ lines) t = (t.0.got, gots_of items lines t.1)
+
+tell_drop : (n : ℕ) (items : List ItemData) (lines : List Line) → TellGots items lines
+    → TellGots (drop n items) (drop n lines)
 tell_drop zero items lines t = t
 tell_drop (suc n) [] [] t = tt
 tell_drop (suc n) [] (l ∷ lines) t = absurd t
@@ -142,7 +148,7 @@ module _ (l : Listing) where
       (old mid new : S) (items : List ItemData) where
     pub gave_up : (between : S) (node : Option ℕ)
         → TakesSome allows gives l.ctx l.plus l.parent l.size l.space it old node mid items
-        → ((lines : List Line) (at : Option I) → TellLines items lines → All (IsGot l.plus) lines
+        → ((lines : List Line) (at : Option I) → TellGots items lines → All (IsGot l.plus) lines
         → Ran allows gives at mid (flat_map (λ k. given_back l.ctx (node_got k.got)) lines) between at)
         → GivesBackNode allows l.ctx node between new → GivesUpOn allows gives l it old new
     gave_up between node t back last =
@@ -171,9 +177,9 @@ module _ (l : Listing) where
   module _ {S I : Type 0} (allows : S → Call → Handed I → S → Type 0) (gives : I → Option Item → I → Type 0)
       (limits : Limits) (options : ℕ) (echo : Echo) (it : I) (old mid new : S) (writer writer_after : Written)
       (items : List ItemData) (a : AnswerData) where
-    module _ (came : Answered) (t : TakesAll allows gives l.ctx l.plus l.parent l.size l.space it old mid items)
+    module _ (came : Answered) (t : TakesAll allows gives l.ctx l.plus l.parent l.size l.space it old mid (TellLines items))
         (c : ListingIsAnswered limits echo l options a items writer came writer_after)
-        (back : (lines : List Line) (at : Option I) → TellLines (drop came.taken items) lines → All (IsGot l.plus) lines
+        (back : (lines : List Line) (at : Option I) → TellGots (drop came.taken items) lines → All (IsGot l.plus) lines
         → Ran allows gives at mid (flat_map (λ k. given_back l.ctx (node_got k.got)) lines) new at) where
       read_by : (r : IsRead l c.events c.records c.answer)
           → IsOfferedBy a items l c.events c.records c.answer r came.taken → a.error ≡ pos 0
@@ -201,7 +207,8 @@ module _ (l : Listing) where
           subst (λ (x : List Line). All (IsGot l.plus) x) (sym (with_tail t.lines t.stop))
           (All-append (IsGot l.plus) t.lines (tail_of t.stop) (all_got l.plus l.size l.space 0 t.lines t.written) tail) in
           let rest = drop came.taken (lines_with t.lines t.stop) in
-          let given = back rest t.at_hand (tell_drop came.taken items (lines_with t.lines t.stop) t.kept)
+          let gots = gots_of items (lines_with t.lines t.stop) t.kept in
+          let given = back rest t.at_hand (tell_drop came.taken items (lines_with t.lines t.stop) gots)
           (All-drop (IsGot l.plus) came.taken (lines_with t.lines t.stop) all) in
           let ran = ran_on allows gives t.ran given in
           let lines = flat_map (line_events l.ctx l.parent l.plus) t.lines in
@@ -386,20 +393,20 @@ module _ {S I : Type 0} (allows : S → Call → Handed I → S → Type 0) (giv
       (space_is : space ≡ length writer.left - 16) (it : I) (old mid : S) (items : List ItemData) where
     -- items that were taken, answered, and given back if they aren't in the reply
     pub read_told : (new : S) (a : AnswerData) (came : Answered) (handled : Handled) (offered rest : List ItemData)
-        → TakesAll allows gives (caller told) plus told.node told.size space it old mid items
+        → TakesAll allows gives (caller told) plus told.node told.size space it old mid (TellLines items)
         → offered ≡ items → AnswersEachListing limits told a offered writer (Some came) writer_after
         → a.error ≡ pos 0 → rest ≡ drop came.taken items
-        → ((lines : List Line) (at : Option I) → TellLines rest lines → All (IsGot plus) lines
+        → ((lines : List Line) (at : Option I) → TellGots rest lines → All (IsGot plus) lines
         → Ran allows gives at mid (flat_map (λ k. given_back (caller told) (node_got k.got)) lines) new at)
         → handled ≡ (record { outcome = came.outcome; options = came.options })
         → ReadsOn allows gives limits options echo l it old writer handled.outcome handled.options writer_after new
     read_told new a came handled offered rest takes offered_is each fine rest_is back handled_is =
-        let t = as_listing (λ ctx b parent size n. TakesAll allows gives ctx b parent size n it old mid items)
+        let t = as_listing (λ ctx b parent size n. TakesAll allows gives ctx b parent size n it old mid (TellLines items))
         plus space plus_is space_is takes in
         let given = as_listing (λ ctx b parent size n. (lines : List Line) (at : Option I)
-        → TellLines (drop came.taken items) lines → All (IsGot b) lines
+        → TellGots (drop came.taken items) lines → All (IsGot b) lines
         → Ran allows gives at mid (flat_map (λ k. given_back ctx (node_got k.got)) lines) new at) plus space plus_is space_is
-        (subst (λ (x : List ItemData). (lines : List Line) (at : Option I) → TellLines x lines → All (IsGot plus) lines
+        (subst (λ (x : List ItemData). (lines : List Line) (at : Option I) → TellGots x lines → All (IsGot plus) lines
         → Ran allows gives at mid (flat_map (λ k. given_back (caller told) (node_got k.got)) lines) new at) rest_is back) in
         let c = listing_answered limits options echo l told a items writer writer_after asked came
         (subst (λ (x : List ItemData). AnswersEachListing limits told a x writer (Some came) writer_after) offered_is each) in
@@ -411,16 +418,16 @@ module _ {S I : Type 0} (allows : S → Call → Handed I → S → Type 0) (giv
     pub gave_up_told : (between new : S) (node : Option ℕ) (offered : List ItemData)
         → TakesSome allows gives (caller told) plus told.node told.size space it old node mid items
         → offered ≡ items
-        → ((lines : List Line) (at : Option I) → TellLines offered lines → All (IsGot plus) lines
+        → ((lines : List Line) (at : Option I) → TellGots offered lines → All (IsGot plus) lines
         → Ran allows gives at mid (flat_map (λ k. given_back (caller told) (node_got k.got)) lines) between at)
         → GivesBackNode allows (caller told) node between new → GivesUpOn allows gives l it old new
     gave_up_told between new node offered takes offered_is back last =
         let t = as_listing (λ ctx b parent size n. TakesSome allows gives ctx b parent size n it old node mid items)
         plus space plus_is space_is takes in
         let given = as_listing (λ ctx b parent size n. (lines : List Line) (at : Option I)
-        → TellLines items lines → All (IsGot b) lines
+        → TellGots items lines → All (IsGot b) lines
         → Ran allows gives at mid (flat_map (λ k. given_back ctx (node_got k.got)) lines) between at) plus space plus_is space_is
-        (subst (λ (x : List ItemData). (lines : List Line) (at : Option I) → TellLines x lines → All (IsGot plus) lines
+        (subst (λ (x : List ItemData). (lines : List Line) (at : Option I) → TellGots x lines → All (IsGot plus) lines
         → Ran allows gives at mid (flat_map (λ k. given_back (caller told) (node_got k.got)) lines) between at) offered_is back) in
         let one = as_listing (λ ctx b parent size n. GivesBackNode allows ctx node between new) plus space plus_is space_is last in
         gave_up l allows gives it old mid new items between node t given one

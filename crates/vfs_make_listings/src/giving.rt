@@ -6,7 +6,7 @@ ghost use Rattle.vfs_files.specs.RunLaws.{Ran};
 ghost use Rattle.vfs_grammar.specs.Listing.{IsGot, Line, given_back, node_got};
 ghost use Rattle.vfs_listings.specs.Reading.{GivesBackNode};
 ghost use Rattle.vfs_make.specs.Told.{caller};
-ghost use Rattle.vfs_make_listings.specs.Kept.{TellLines, TellsLine};
+ghost use Rattle.vfs_make_listings.specs.Kept.{TellGots, TellsGot};
 
 use vfs_calls::{CallData, ItemData};
 use vfs_files::{FileSystem, Number};
@@ -23,7 +23,7 @@ pub fn give_back_node<F: FileSystem>(fs: &mut F, call: &CallData, node: Option<u
 
 // The node of the entry that an item got, if it got one.
 fn node_of(item: &ItemData<'_>, plus: bool) -> Option<u64>
-    ensures { (l : Line) → TellsLine item.now l → IsGot plus l → result ≡ node_got l.got }
+    ensures { (l : Line) → TellsGot item.now l.got → IsGot plus l → result ≡ node_got l.got }
 {
     if plus && item.error == 0 {
         Some(item.entry.node)
@@ -36,7 +36,7 @@ fn node_of(item: &ItemData<'_>, plus: bool) -> Option<u64>
 /// entry.
 pub fn give_back<F: FileSystem>(fs: &mut F, call: &CallData, plus: bool, items: &[ItemData<'_>])
     ensures { (lines : List Line) (at : Option F.DirIter) →
-        TellLines items.now lines → All (IsGot plus) lines →
+        TellGots items.now lines → All (IsGot plus) lines →
         Ran F.allows F.DirIter.gives at fs.old
         (flat_map (λ l. given_back (caller call.now) (node_got l.got)) lines) fs.new at }
 {

@@ -9,8 +9,8 @@ ghost use Rattle.vfs_grammar.specs.Reply.{Echo};
 ghost use Rattle.vfs_make_listings.specs.Listed.{GivesUp, GivesUpOn, IsListingAsked, IsUnopenedSo, ListingIsHandled, ReadsOn};
 
 use crate::giving::{give_back, give_back_node};
+use crate::names::lend_names;
 use crate::reading::take_items;
-use bumpalo::Bump;
 use std::alloc::Global;
 use vfs_answer::{Answered, answer};
 use vfs_calls::{AnswerData, CallData, has};
@@ -59,10 +59,11 @@ fn read_and_answer<F: FileSystem>(
 {
     let plus = is_plus(call);
     let space = w.available_bytes().saturating_sub(OutHeader::SIZE);
-    let names = Bump::new(alloc);
+    let mut names = Vec::new(alloc);
     let mut items = Vec::new(alloc);
-    match take_items(fs, call, plus, it, space, &names, &mut items) {
+    match take_items(alloc, fs, call, plus, it, space, &mut names, &mut items) {
         Ok(()) => {
+            lend_names(&names, &mut items);
             let came = answer(limits, call, &AnswerData::default(), &[], &items, w)?;
             give_back(fs, call, plus, &items[came.taken..]);
             Some(handled(came))

@@ -1,6 +1,6 @@
-//! An item of a directory: what its lookup got, its copy, and whether its record fits.
+//! An item of a directory: what its lookup got, its data, and whether its record fits.
 
-ghost use Rattle.std.specs.Prelude.{◌≡◌, ◌≢◌, ◌+◌, ◌<◌, length, if◌then◌else◌, IfOk, Some, MatchOption};
+ghost use Rattle.std.specs.Prelude.{◌≡◌, ◌≢◌, ◌+◌, ◌<◌, ℕ, length, if◌then◌else◌, List, Some, MatchOption};
 ghost use Rattle.vfs_files.specs.Entries.{entry_out_of};
 ghost use Rattle.vfs_files.specs.Items.{item};
 ghost use Rattle.vfs_files.specs.Names.{name_of, name_text};
@@ -8,14 +8,11 @@ ghost use Rattle.vfs_grammar.specs.Dirents.{Fits, dirent_len};
 ghost use Rattle.vfs_grammar.specs.Listing.{FitsGot, dot_out, is_dot, judged, len_of};
 ghost use Rattle.vfs_listings.specs.Reading.{LooksUp};
 ghost use Rattle.vfs_make.specs.Told.{caller};
-ghost use Rattle.vfs_make_listings.specs.Kept.{IsToldOf, TellsLine};
+ghost use Rattle.vfs_make_listings.specs.Kept.{IsToldOf, TellsBy};
 
-use bumpalo::Bump;
-use bumpalo::collections::into_bump_slice;
-use std::alloc::AllocError;
 use std::time::Duration;
 use vfs_calls::{CallData, EntryData, ItemData};
-use vfs_files::{CStr, DirEntry, Entry, FileSystem};
+use vfs_files::{DirEntry, Entry, FileSystem};
 use vfs_flags::Fault;
 use vfs_make::{context, entry_data, failed, node};
 use vfs_wire::{Attr, ByteValued, Dirent, EntryOut};
@@ -105,15 +102,6 @@ pub fn written_len(dir_entry: DirEntry<'_>, got: &Got, max: usize, space: usize)
     }
 }
 
-// A name and the 0 that ends it, in memory of its own.
-fn with_nul<'a>(names: &'a Bump, name: CStr<'_>) -> Result<&'a [u8], AllocError>
-    ensures { IfOk result (λ bytes. name_of bytes.now ≡ Some (name_text name.entry)) }
-{
-    let mut bytes = Vec::from_slice(names, name.to_bytes())?;
-    bytes.push(0)?;
-    Ok(into_bump_slice(bytes))
-}
-
 // The data of what an item got: its entry, and the number of its fault or 0.
 fn got_data(got: &Got) -> (EntryData, i32)
     ensures { IsToldOf result.0 result.1 got.now }
@@ -125,22 +113,18 @@ fn got_data(got: &Got) -> (EntryData, i32)
     }
 }
 
-/// An item as it is offered, with its name in memory of its own.
-pub fn item_data<'a>(
-    names: &'a Bump,
-    dir_entry: DirEntry<'_>,
-    got: &Got,
-) -> Result<ItemData<'a>, AllocError>
-    ensures { IfOk result (λ told.
-        TellsLine told (record { item = item dir_entry.entry; got = got.now })) }
+/// An item as it is offered, but for its name: `lend_names` puts that.
+pub fn item_data<'a>(dir_entry: DirEntry<'_>, got: &Got) -> ItemData<'a>
+    ensures { (name : List ℕ) → name_of name ≡ Some (name_text dir_entry.entry.name) →
+        TellsBy name result (record { item = item dir_entry.entry; got = got.now }) }
 {
     let (entry, error) = got_data(got);
-    Ok(ItemData {
+    ItemData {
         ino: dir_entry.ino,
         offset: dir_entry.offset,
-        name: with_nul(names, dir_entry.name)?,
+        name: b"".as_slice(),
         entry,
         type_: dir_entry.type_,
         error,
-    })
+    }
 }

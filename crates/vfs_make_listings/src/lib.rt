@@ -5,6 +5,7 @@
 mod giving;
 mod handled;
 mod items;
+mod names;
 mod reading;
 mod uses;
 

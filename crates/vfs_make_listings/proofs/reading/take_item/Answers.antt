@@ -7,7 +7,7 @@ returns-in-Ok g c = record {
   got = c.look_up-got.result;
   looks_up = c.look_up-got.ensures.looks_up;
   fits = c.look_up-got.ensures.fits;
-  kept = kept_so _ _ _ _ _ c.written_len.result c.written_len.ensures c.in-Ok.ensures;
+  kept = kept_so _ _ _ _ _ _ _ c.written_len.result c.written_len.ensures c.in-Ok.ensures;
 }
 
 pub returns-in-Err : goal.returns-in-Err

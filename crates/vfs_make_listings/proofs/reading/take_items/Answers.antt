@@ -5,7 +5,7 @@ use Rattle.vfs_make_listings.proofs.Keeping.{keeping_start, keeping_more, keepin
 use Rattle.vfs_make_listings.proofs.reading.take_items.Goals as goal
 
 pub items-init : goal.items-init
-items-init g c = keeping_start _ _ _ _ _ _ _ _ _ _ c.requires
+items-init g c = keeping_start _ _ _ _ _ _ _ _ _ _ _ c.requires.names c.requires.items
 
 pub returns-in-None : goal.returns-in-None
 returns-in-None g c =

@@ -1,9 +1,0 @@
-use Rattle.std.proofs.Common.{◌≡◌, ◌++◌, ◌∷◌, [], List, ℕ, rules}
-use Rattle.vfs_files.specs.Names.{name_text}
-use Rattle.vfs_files.proofs.Texts.{name_is_found}
-use Rattle.vfs_make_listings.proofs.items.with_nul.Goals as goal
-
-pub returns : goal.returns
-returns c =
-    let bytes : c.into_bump_slice.result.now ≡ name_text c.args.name ++ 0 ∷ [] = search rules in
-    name_is_found c.into_bump_slice.result.now (name_text c.args.name) (bytes, c.args.name.no_nul)
