@@ -10,7 +10,7 @@ use Rattle.vfs_files.specs.Items.{Item}
 use Rattle.vfs_files.specs.RunLaws.{Ran, ran_call, ran_nothing, ran_on}
 use Rattle.vfs_files.specs.Runs.{Event}
 use Rattle.vfs_files.specs.declared.entry.Context.{Context}
-use Rattle.vfs_grammar.specs.Listing.{Got, IsGot, Line, given_back, node_got}
+use Rattle.vfs_grammar.specs.Listing.{IsGot, Line, given_back, node_got}
 use Rattle.vfs_listings.specs.Reading.{GivesBackNode}
 use Rattle.vfs_listings.proofs.Filling.{flat_map-push}
 use Rattle.vfs_make_listings.specs.Kept.{TellGots, TellsGot}

@@ -1,5 +1,5 @@
 -- The loop that takes items: one more is kept, and each stop.
-use Rattle.std.proofs.Common.{◌≡◌, ◌≢◌, ◌<◌, ◌≤◌, MatchOption, ◌+◌, ◌-◌, ℕ, List, [], ◌∷◌, ◌++◌, Bool, Option, None, Some, Result, Ok, Err, arith, refl, sym, ap, subst, ◌∙◌, sum_by, append-nil, length, Vec}
+use Rattle.std.proofs.Common.{◌≡◌, ◌≢◌, ◌<◌, ◌≤◌, MatchOption, ◌+◌, ◌-◌, ℕ, List, [], ◌∷◌, ◌++◌, Bool, Option, None, Some, Result, Ok, Err, arith, refl, sym, subst, sum_by, length, Vec}
 use Rattle.std.proofs.lemmas.List.Sums.{sum_by_push}
 use Rattle.std.specs.List.{flat_map}
 use Rattle.std.specs.declared.alloc.Global.{Global}
@@ -9,7 +9,7 @@ use Rattle.vfs_files.specs.Items.{Item}
 use Rattle.vfs_files.specs.RunLaws.{Ran, ran_on, ran_nothing, ran_taking}
 use Rattle.vfs_files.specs.declared.entry.Context.{Context}
 use Rattle.vfs_grammar.specs.Dirents.{Fits}
-use Rattle.vfs_grammar.specs.Listing.{AreWritten, At, End, Line, judged, fate, len_of, line_events, line_len}
+use Rattle.vfs_grammar.specs.Listing.{AreWritten, At, End, Line, judged, len_of, line_events, line_len}
 use Rattle.vfs_grammar.proofs.Listings.{fits_within}
 use Rattle.vfs_listings.proofs.Filling.{flat_map-push, line_got, ran_line, written_more}
 use Rattle.vfs_make_listings.specs.Kept.{TellGots, TellLines, TellLinesBy, TellsBy, TellsLine}

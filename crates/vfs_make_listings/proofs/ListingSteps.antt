@@ -1,6 +1,6 @@
 -- From a directory that was asked for and handled to the step that it is.
 use Rattle.std.specs.Prelude.{⊤, ◌⊎◌}
-use Rattle.std.proofs.Common.{◌≡◌, ◌≢◌, ◌-◌, ◌≤◌, ◌<◌, ◌^◌, ℕ, List, [], ◌∷◌, length, Option, Some, None, Result, refl, ap, sym, subst, inl, inr, arith, IfNone, IfSome, IsSome, ◌∙◌, rules}
+use Rattle.std.proofs.Common.{◌≡◌, ◌≢◌, ◌≤◌, ℕ, List, [], ◌∷◌, length, Option, Some, None, Result, refl, ap, sym, subst, inl, inr, arith, IfNone, IfSome, IsSome, ◌∙◌, rules}
 use Rattle.vfs_segments.specs.Written.{Written}
 use Rattle.vfs_answer.specs.Kinds.{kind_told}
 use Rattle.vfs_ask.specs.Asked.{IsAsked, Tells, interrupted_by, told_of_listing}
@@ -21,7 +21,7 @@ use Rattle.vfs_server.specs.Step.{IsStep}
 use Rattle.vfs_server.proofs.Steps.{came}
 use Rattle.vfs_make.specs.declared.handled.Handled.{Handled}
 use Rattle.vfs_make.proofs.Stepping.{Stepped, step_of, with_memory}
-use Rattle.vfs_make_listings.specs.Listed.{FitsListing, GivesUp, IsListingAsked, ListingIsHandled, ListsFor}
+use Rattle.vfs_make_listings.specs.Listed.{GivesUp, IsListingAsked, ListingIsHandled, ListsFor}
 use Rattle.vfs_make_listings.proofs.Asking.{IsListable, is_listable}
 
 some_is : (j k : Kind) → Some j ≡ Some k → j ≡ k

@@ -1,5 +1,5 @@
 -- From items that were taken, answered and given back to the directory that was read.
-use Rattle.std.proofs.Common.{◌≡◌, ◌≢◌, ◌∙◌, ◌≤◌, ◌<◌, ◌+◌, ◌-◌, ℕ, pos, List, [], ◌∷◌, ◌++◌, length, drop, Bool, true, false, nat_lt, Option, Some, None, Result, Ok, Err, refl, ap, sym, subst, inl, inr, arith, sum_by, append-nil, append_assoc, zero, suc}
+use Rattle.std.proofs.Common.{◌≡◌, ◌∙◌, ◌+◌, ◌-◌, ℕ, pos, List, [], ◌∷◌, ◌++◌, length, drop, Bool, true, false, nat_lt, Option, Some, None, Result, Ok, Err, refl, ap, sym, subst, inl, inr, arith, sum_by, append-nil, append_assoc, zero, suc}
 use Rattle.std.proofs.Math.Seq.{drop-append_seam}
 use Rattle.std.proofs.lemmas.List.Elements.{All-append, All-cons, All-drop, All-head, All-tail}
 use Rattle.std.proofs.lemmas.List.Sums.{sum_by-cons}
@@ -19,11 +19,11 @@ use Rattle.vfs_calls.specs.declared.data.ItemData.{ItemData}
 use Rattle.vfs_files.specs.Calls.{Call, Data, Failed, Handed, IsAnswer, Iterator, Plain, Readdir, read_answer}
 use Rattle.vfs_files.specs.Items.{Item}
 use Rattle.vfs_files.specs.RunLaws.{Ran, ran_on}
-use Rattle.vfs_files.specs.Runs.{Calls, Event, Happening, IsRun, Opens, Taken, events_of}
+use Rattle.vfs_files.specs.Runs.{Calls, Event, Opens, Taken, events_of}
 use Rattle.vfs_files.specs.declared.entry.Context.{Context}
 use Rattle.vfs_grammar.specs.Dirents.{Fails, Fits, Full, Verdict}
 use Rattle.vfs_grammar.specs.Forms.{Listing}
-use Rattle.vfs_grammar.specs.Listing.{AreWritten, At, End, Got, IsGot, IsListing, Line, Stop, Stops, answer_at, answer_of, fate, given_back, judged, len_of, line_events, line_len, node_got, stop_events}
+use Rattle.vfs_grammar.specs.Listing.{AreWritten, At, End, Got, IsGot, Line, Stop, Stops, answer_at, answer_of, fate, given_back, judged, len_of, line_events, line_len, node_got, stop_events}
 use Rattle.vfs_grammar.specs.Reply.{Echo, reply_of}
 use Rattle.vfs_grammar.specs.Turn.{IsRead}
 use Rattle.vfs_grammar.specs.declared.error.Error.{Error}

@@ -1,5 +1,3 @@
-use Rattle.std.proofs.Common.{◌≡◌, List, ℕ, length, Option, None, Some, IfNone, IfSome}
-use Rattle.std.specs.declared.option.Option.TheVariants as option
 use Rattle.vfs_make_listings.proofs.Turned.{given_up_so, listed_so, never_given_up, not_opened_so}
 use Rattle.vfs_make_listings.proofs.handled.list_and_answer.Goals as goal
 

@@ -1,4 +1,4 @@
-use Rattle.std.proofs.Common.{◌≡◌, ◌∙◌, ◌-◌, ◌++◌, ℕ, List, append-nil, length, drop, take, arith, ap, pos, refl, rules, length-drop, subst, sym, Vec}
+use Rattle.std.proofs.Common.{◌≡◌, ◌∙◌, ◌-◌, ◌++◌, ℕ, List, append-nil, length, drop, take, arith, ap, pos, rules, length-drop, subst, sym, Vec}
 use Rattle.std.proofs.lemmas.List.{drop_all, take_all}
 use Rattle.std.specs.declared.alloc.Global.{Global}
 use Rattle.vfs_calls.specs.declared.data.ItemData.{ItemData}

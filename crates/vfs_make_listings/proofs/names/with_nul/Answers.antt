@@ -1,4 +1,4 @@
-use Rattle.std.proofs.Common.{◌≡◌, ◌++◌, ◌∷◌, [], List, ℕ, rules}
+use Rattle.std.proofs.Common.{◌≡◌, ◌++◌, ◌∷◌, [], rules}
 use Rattle.vfs_files.specs.Names.{name_text}
 use Rattle.vfs_files.proofs.Texts.{name_is_found}
 use Rattle.vfs_make_listings.proofs.names.with_nul.Goals as goal

@@ -1,4 +1,3 @@
-use Rattle.std.proofs.Common.{rules}
 use Rattle.vfs_make_listings.proofs.Keeping.{kept_so}
 use Rattle.vfs_make_listings.proofs.reading.take_item.Goals as goal
 
