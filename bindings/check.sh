@@ -6,14 +6,14 @@
 # --msrv is passed to rust/check.sh. Languages that are not installed are skipped, with a message.
 #
 # Python and Go use the shared library. If out/packages has one and no source is newer, it is used. Otherwise
-# it is linked from the proved library, or from that which tools/unproved.sh builds in a minute.
+# it is linked from the proved library, or from that which tools/lib/unproved.sh builds in a minute.
 # It needs a C compiler and the Rattle toolchain; and python3, go with cgo, and cargo for their languages.
 # Status 0: all checks passed; 1: one failed; 2: it could not start.
 # shellcheck source-path=SCRIPTDIR/../tools
 set -euo pipefail
 tools=$(cd "$(dirname "$0")/../tools" && pwd)
-. "$tools/usage.sh"
-. "$tools/transport.sh"
+. "$tools/lib/usage.sh"
+. "$tools/lib/transport.sh"
 . "$tools/../bindings/hello.sh"
 
 if [ $# -gt 1 ] || [ "${1:---msrv}" != --msrv ]; then

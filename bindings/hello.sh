@@ -15,9 +15,9 @@ step() {
     fi
 }
 
-# Tests a program with tools/c-hello.c, which runs it as `PROGRAM --fd N`.
+# Tests a program with tools/gate/c-hello.c, which runs it as `PROGRAM --fd N`.
 ask_hello() {
-    [ -e "$folder/client" ] || cc -O1 -o "$folder/client" "$here/tools/c-hello.c"
+    [ -e "$folder/client" ] || cc -O1 -o "$folder/client" "$here/tools/gate/c-hello.c"
     timeout 60 "$folder/client" "$1"
 }
 

@@ -7,9 +7,9 @@
 # a proof, which takes a minute, and keeps them: later runs take a second. Status 0: each answer is the
 # stored one.
 set -euo pipefail
-. "$(dirname "$0")/usage.sh"
+. "$(dirname "$0")/lib/usage.sh"
 take_none "$@"
-. "$(dirname "$0")/messages.sh"
+. "$(dirname "$0")/lib/messages.sh"
 
 build_programs vfs_demo vfs_decode
 

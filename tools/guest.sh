@@ -10,16 +10,16 @@
 # The kernel is Debian's package linux-image-cloud-amd64, or that of the argument; of another suite of
 # Debian than the machine's where one is named, as linux-image-cloud-amd64/trixie. Kernel and busybox are
 # downloaded by apt-get, and unpacked into the folder `guest` of `out`, where a second run finds them. The
-# guest has one processor that QEMU computes, so no /dev/kvm is wanted; its session is tools/session.sh.
+# guest has one processor that QEMU computes, so no /dev/kvm is wanted; its session is tools/lib/session.sh.
 #
 # It wants QEMU (apt-get install qemu-system-x86), xz, a C compiler and the Rattle toolchain, and no root.
-# It links the proved library where that is built and no source is newer; otherwise tools/unproved.sh builds
+# It links the proved library where that is built and no source is newer; otherwise tools/lib/unproved.sh builds
 # it without a proof, which takes a minute. The transport is examples/c/vhost.c, which nothing is proved of.
 # Status 0: each step was right, and the guest unmounted it; 1: not so; 2: it could not start.
 set -euo pipefail
-. "$(dirname "$0")/usage.sh"
-. "$(dirname "$0")/transport.sh"
-. "$(dirname "$0")/debian.sh"
+. "$(dirname "$0")/lib/usage.sh"
+. "$(dirname "$0")/lib/transport.sh"
+. "$(dirname "$0")/lib/debian.sh"
 
 shared='' by=''
 if [ "${1:-}" = --share ] || [ "${1:-}" = --virtiofsd ]; then
@@ -86,7 +86,7 @@ mkdir -p "$root"/{bin,dev,etc,mnt,modules,proc,tmp}
 printf '%s\n' root:x:0:0::/:/bin/sh nobody:x:65534:65534::/:/bin/sh > "$root/etc/passwd"
 printf '%s\n' root:x:0: nogroup:x:65534: > "$root/etc/group"
 cp "$busybox" "$root/bin/"
-cp "$here/tools/session.sh" "$root/"
+cp "$here/tools/lib/session.sh" "$root/"
 modules='virtio_ring virtio virtio_pci_modern_dev virtio_pci_legacy_dev virtio_pci fuse virtiofs'
 for module in $modules; do
     file=$(find "$kernel" -name "$module.ko" -o -name "$module.ko.xz" | sed -n 1p)

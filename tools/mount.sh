@@ -10,18 +10,18 @@
 # memory size=BYTES, nr_inodes=N (k, m, g), mode=OCTAL, uid=N, gid=N. With --trace each request and each reply
 # is printed, or their bytes go to a new FILE for vfs_decode.
 #
-# With --check it is mounted on a folder of its own: tools/session.sh does there what a person does, memory
+# With --check it is mounted on a folder of its own: tools/lib/session.sh does there what a person does, memory
 # goes back that was written and cut, and it is unmounted; then it is mounted again, with other options, and
 # ends by a signal; and once more, with limits, which bound the server's memory. It wants python3 then.
 #
 # It wants root, /dev/fuse, a C compiler and the Rattle toolchain. It links the proved library where that
-# is built and no source is newer; otherwise tools/unproved.sh builds it without a proof, which takes a
+# is built and no source is newer; otherwise tools/lib/unproved.sh builds it without a proof, which takes a
 # minute. The transport is examples/c/mount.c, which nothing is proved of.
 # Status 0: it was served and unmounted, and with --check each step was right; 1: not so; 2: it could not
 # start.
 set -euo pipefail
-. "$(dirname "$0")/usage.sh"
-. "$(dirname "$0")/transport.sh"
+. "$(dirname "$0")/lib/usage.sh"
+. "$(dirname "$0")/lib/transport.sh"
 
 # Stops, since the words can't be.
 usage() {
@@ -168,7 +168,7 @@ PYTHON
 
 start -o allow_other
 status=0
-"$here/tools/session.sh" "$folder" || status=1
+"$here/tools/lib/session.sh" "$folder" || status=1
 cut_files || status=1
 umount "$folder"
 ended "Unmounted"

@@ -5,12 +5,12 @@
 #
 # Usage: tools/new-library.sh NAME [TREE]
 # NAME and TREE are lowercase letters, digits and _. It writes crates/NAME, a line of crates.txt, and
-# tools/unproved/NAME, by which `tools/mount.sh --library NAME FOLDER` builds and mounts it without a proof.
+# tools/lib/unproved/NAME, by which `tools/mount.sh --library NAME FOLDER` builds and mounts it without a proof.
 #
 # With TREE it is over the read-only tree of the crate TREE, and nothing is to be changed in it. If there is no
 # crates/TREE yet, it is made too, of the three files of crates/example_tree, for you to change.
 set -euo pipefail
-. "$(dirname "$0")/usage.sh"
+. "$(dirname "$0")/lib/usage.sh"
 cd "$(dirname "$0")/.."
 
 name=${1:-} tree=${2:-}
@@ -20,7 +20,7 @@ usage() {
 }
 [[ $# -ge 1 && $# -le 2 && $name =~ ^[a-z][a-z0-9_]*$ && $name != "$tree" ]] || usage
 [[ $# = 1 || $tree =~ ^[a-z][a-z0-9_]*$ ]] || usage
-if [ -e "crates/$name" ] || [ -e "tools/unproved/$name" ]; then usage; fi
+if [ -e "crates/$name" ] || [ -e "tools/lib/unproved/$name" ]; then usage; fi
 
 # A crate with the tree of example_tree, without its callers and edits, which are of those three files.
 new_tree() {
@@ -72,9 +72,9 @@ if [ -n "$tree" ]; then
     if [ ! -e "crates/$tree/src" ]; then new_tree; fi
     words_of_tree
 fi
-mkdir "crates/$name" "tools/unproved/$name"
+mkdir "crates/$name" "tools/lib/unproved/$name"
 cp -R crates/vfs_c/{src,specs,proofs,must-fail} "crates/$name/"
-cp tools/unproved/vfs_c/* "tools/unproved/$name/"
+cp tools/lib/unproved/vfs_c/* "tools/lib/unproved/$name/"
 grep -rl vfs_c "crates/$name" | xargs sed -i "s/\bvfs_c\b/$name/g"
 # The laws, one edit and the last small caller, which finds no name in a new tree, are those of the tree.
 rm -r "crates/$name/src/laws.rt" "crates/$name/specs/Laws.antt" "crates/$name/proofs/laws" \

@@ -11,8 +11,8 @@
 #   nizwarf-VERSION-linux-ARCH.tar.gz  all of it, with an install.sh
 #
 # The libraries, and the demo's programs, are the proved ones if each is built and no source is newer.
-# Otherwise tools/unproved.sh builds those that are missing without a proof, in a minute or two each, and the
-# version says so of all that is made: 0.2.0~unproved. The same objects and compiler give the same bytes.
+# Otherwise tools/lib/unproved.sh builds those that are missing without a proof, in a minute or two each, and
+# the version says so of all that is made: 0.2.0~unproved. The same objects and compiler give the same bytes.
 #
 #   --check     makes all twice, and compares; lintian must find no error in the packages, and mandoc none in
 #               the pages
@@ -22,9 +22,9 @@
 # says so.
 # Status 0: all is made, and as it should be; 1: not so; 2: it could not start.
 set -euo pipefail
-. "$(dirname "$0")/usage.sh"
-. "$(dirname "$0")/transport.sh"
-. "$(dirname "$0")/messages.sh"
+. "$(dirname "$0")/lib/usage.sh"
+. "$(dirname "$0")/lib/transport.sh"
+. "$(dirname "$0")/lib/messages.sh"
 # shellcheck disable=SC2154
 session=$crate library=()
 

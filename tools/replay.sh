@@ -11,8 +11,8 @@
 # a proof, which takes a minute, and keeps them: later runs take a second. Status 0: each line was
 # answered, as EXPECTED says if it is given; 1: an answer differs.
 set -euo pipefail
-. "$(dirname "$0")/usage.sh"
-. "$(dirname "$0")/messages.sh"
+. "$(dirname "$0")/lib/usage.sh"
+. "$(dirname "$0")/lib/messages.sh"
 
 bytes=
 if [ "${1:-}" = --bytes ]; then

@@ -11,25 +11,26 @@
 # Words are those of virtiofsd, as --cache=always, --xattr, --thread-pool-size=4, and -o with the options of
 # a mount; --words lists them. `umount MOUNTPOINT` or Ctrl-C ends it.
 #
-# With --check it refuses words that can't be, and shares folders of its own. Over /dev/fuse tools/session.sh
-# does there what a person does, with one worker, with four, with a cache of what is written later, with file
-# handles, with few descriptors; after each the descriptors of the server are counted. Over vhost-user it is
-# asked the hostile requests of tools/beside, and more that are made up, under sanitizers and in its sandbox; a
-# machine that goes away is followed by another. tools/lint.sh holds its sources against clang-tidy and cppcheck,
-# if they are installed. It takes two minutes, and wants python3.
+# With --check it refuses words that can't be, and shares folders of its own. Over /dev/fuse
+# tools/lib/session.sh does there what a person does, with one worker, with four, with a cache of what is
+# written later, with file handles, with few descriptors; after each the descriptors of the server are counted.
+# Over vhost-user it is asked the hostile requests of tools/compare/beside, and more that are made up, under
+# sanitizers and in its sandbox; a machine that goes away is followed by another. tools/gate/lint.sh holds its
+# sources against clang-tidy and cppcheck, if they are installed. It takes two minutes, and wants python3.
 #
-# With --load it is under load for so many minutes, and meets faults (tools/share_load.py): programs that stress a
-# file system, machines, both killed amid a request; full disks, descriptors that run out, allocations that are
-# refused in turn and by chance. What was written is held against what is there, and descriptors and memory are
-# counted. It wants python3 and stress-ng, and as much of the processor as it is given: `nice` and `taskset` bound it.
+# With --load it is under load for so many minutes, and meets faults (tools/lib/share_load.py): programs that
+# stress a file system, machines, both killed amid a request; full disks, descriptors that run out, allocations
+# that are refused in turn and by chance. What was written is held against what is there, and descriptors and
+# memory are counted. It wants python3 and stress-ng, and as much of the processor as it is given: `nice` and
+# `taskset` bound it.
 #
 # It wants root, for a mount /dev/fuse, a C compiler and the Rattle toolchain; libseccomp-dev if there is to be
 # a filter of system calls. It links the proved library if that is built and no source is newer; otherwise
-# tools/unproved.sh builds it without a proof, which takes a minute.
+# tools/lib/unproved.sh builds it without a proof, which takes a minute.
 # Status 0: it was served and ended, and with --check all was right; 1: not so; 2: it could not start.
 set -euo pipefail
-. "$(dirname "$0")/usage.sh"
-. "$(dirname "$0")/transport.sh"
+. "$(dirname "$0")/lib/usage.sh"
+. "$(dirname "$0")/lib/transport.sh"
 
 usage() {
     echo "Usage: tools/share.sh FOLDER MOUNTPOINT [WORDS], or tools/share.sh --words, --check or --load MINUTES" >&2
@@ -68,7 +69,7 @@ need python3 "Install it: apt-get install python3."
 build_transport share vfs_door
 share=$transport
 mkdir -p "$here/out/c"
-cc -std=c11 -O2 -Wall -Wextra -Werror -DPATIENCE=600 -o "$here/out/c/ask" "$here/tools/beside/ask.c"
+cc -std=c11 -O2 -Wall -Wextra -Werror -DPATIENCE=600 -o "$here/out/c/ask" "$here/tools/compare/beside/ask.c"
 
 # In memory where that is a file system: one on a disk may say of a directory that it has one name.
 work=$(mktemp -d -p "$(if [ -d /dev/shm ]; then echo /dev/shm; else echo /tmp; fi)")
@@ -86,9 +87,9 @@ status=0
 
 if [ "$1" = --load ]; then
     need stress-ng "Install it: apt-get install stress-ng."
-    build_transport share vfs_door "$here/tools/refuse_some.c" -Wl,--wrap=malloc -Wl,--wrap=calloc \
+    build_transport share vfs_door "$here/tools/lib/refuse_some.c" -Wl,--wrap=malloc -Wl,--wrap=calloc \
         -Wl,--wrap=realloc -Wl,--wrap=aligned_alloc
-    python3 -B "$here/tools/share_load.py" "$share" "$transport" "$here/out/c/ask" "$work" "$2" || status=1
+    python3 -B "$here/tools/lib/share_load.py" "$share" "$transport" "$here/out/c/ask" "$work" "$2" || status=1
     umount -lq "$work"/* || true
     exit "$status"
 fi
@@ -123,7 +124,7 @@ try_mount() {
     await_mount
     ls "$work/mount" > /dev/null
     before=$(descriptors)
-    "$here/tools/session.sh" --shared "$work/mount" > "$work/said" || {
+    "$here/tools/lib/session.sh" --shared "$work/mount" > "$work/said" || {
         grep -A 2 WRONG "$work/said" >&2 || true
         wrong "the session with $*"
     }
@@ -187,7 +188,7 @@ try_user() {
     cp "$share" "$work/share"
     "${user[@]}" "$work/share" --log-level=warn --socket-path="$work/user/socket" "$work/user" &
     server=$!
-    python3 -B - "$here/tools/beside" << 'PYTHON' | timeout 60 "$here/out/c/ask" "$work/user/socket" > "$work/said"
+    python3 -B - "$here/tools/compare/beside" << 'PYTHON' | timeout 60 "$here/out/c/ask" "$work/user/socket" > "$work/said"
 import struct, sys
 sys.path.insert(0, sys.argv[1])
 from requests import FIRST, line, request
@@ -262,7 +263,7 @@ try_user
 
 # Asks a server over vhost-user: what it is, its words.
 ask() {
-    python3 -B - "$here/tools/beside" "$here/out/c/ask" "$work" "$@" << 'PYTHON' || wrong "$1 over vhost-user"
+    python3 -B - "$here/tools/compare/beside" "$here/out/c/ask" "$work" "$@" << 'PYTHON' || wrong "$1 over vhost-user"
 import mmap, os, random, socket, stat, struct, subprocess, sys, time
 
 beside, ask, work, what, *daemon = sys.argv[1:]
@@ -332,7 +333,7 @@ with open(work + "/log", "w+") as log:
             self.asking.stdin.close()
             self.asking.wait()
 
-    # The sessions of tools/beside: after each the queue is still served.
+    # The sessions of tools/compare/beside: after each the queue is still served.
     count = 0
     for items, _ in requests.sessions():
         asking, answers = Asking(), []
@@ -566,8 +567,8 @@ for sanitizer in address,undefined thread; do
     fi
 done
 if command -v clang-tidy > /dev/null && command -v cppcheck > /dev/null; then
-    "$here/tools/lint.sh" || wrong "tools/lint.sh"
+    "$here/tools/gate/lint.sh" || wrong "tools/gate/lint.sh"
 else
-    echo "clang-tidy or cppcheck is not installed: tools/lint.sh was left out." >&2
+    echo "clang-tidy or cppcheck is not installed: tools/gate/lint.sh was left out." >&2
 fi
 exit "$status"

@@ -12,22 +12,22 @@
 # other source changes. The first run takes a minute for the download, and three for one processor.
 #
 # With --unmodified it builds virtiofsd as it is, by the same compiler, and leaves it as virtiofsd in the folder:
-# tools/virtiofsd-speed.sh measures the two side by side.
+# tools/measure/virtiofsd-speed.sh measures the two side by side.
 #
 # With --check it builds it, and asks it and Debian's own program of virtiofsd 1.13.2 the same over equal
-# folders, by vhost-user: the hostile requests of tools/beside, and N well-formed ones by a seed (20000, and
-# 1). It then asks the one with the layer here as many that are mostly broken. It prints how many came to the
-# same, what differs and why, and what was survived. It takes three minutes, and wants root and Python 3.
+# folders, by vhost-user: the hostile requests of tools/compare/beside, and N well-formed ones by a seed (20000,
+# and 1). It then asks the one with the layer here as many that are mostly broken. It prints how many came to
+# the same, what differs and why, and what was survived. It takes three minutes, and wants root and Python 3.
 #
 # It wants apt-get, a C compiler, cargo 1.85 or later, libcap-ng, libseccomp, and the Rattle toolchain. It
-# links the proved library if that is built and no source is newer; otherwise tools/unproved.sh builds it
+# links the proved library if that is built and no source is newer; otherwise tools/lib/unproved.sh builds it
 # without a proof, which takes a minute more. CARGO_BUILD_JOBS is how many processors cargo uses.
 # Status 0: it was built, and with --check all came to the same, or to what is known to differ; 1: not so;
 # 2: it could not start.
 set -euo pipefail
-. "$(dirname "$0")/usage.sh"
-. "$(dirname "$0")/transport.sh"
-. "$(dirname "$0")/debian.sh"
+. "$(dirname "$0")/lib/usage.sh"
+. "$(dirname "$0")/lib/transport.sh"
+. "$(dirname "$0")/lib/debian.sh"
 
 refuse() {
     echo "$1" >&2
@@ -200,8 +200,8 @@ if [[ $version != *1.13.2* ]]; then
     echo "This is $version and not virtiofsd 1.13.2." >&2
     exit 2
 fi
-cc -std=c11 -O2 -Wall -Wextra -Werror -o "$folder/ask" "$here/tools/beside/ask.c"
+cc -std=c11 -O2 -Wall -Wextra -Werror -o "$folder/ask" "$here/tools/compare/beside/ask.c"
 work=$(mktemp -d)
 trap 'rm -rf "$work"' EXIT
-python3 -B "$here/tools/beside/replaced.py" "$folder/ask" "$work" "$seed" "$count" "$daemon" \
+python3 -B "$here/tools/compare/beside/replaced.py" "$folder/ask" "$work" "$seed" "$count" "$daemon" \
     "${theirs[@]}"

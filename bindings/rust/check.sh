@@ -8,7 +8,7 @@
 # with the rustc of Debian 12, the oldest supported one. It is downloaded and unpacked into out/rust/debian,
 # which takes 400 MB, and not installed.
 #
-# If the proved library is built and no source is newer, it is used. Otherwise tools/unproved.sh builds the
+# If the proved library is built and no source is newer, it is used. Otherwise tools/lib/unproved.sh builds the
 # library without a proof, in a minute. The output is in out/rust.
 # It needs cargo, a C compiler, and the Rattle toolchain for the library; it uses rustfmt and clippy if they
 # are installed. If NIZWARF_LIB_DIR is set, the library is that in this folder: see build.rs.
@@ -16,9 +16,9 @@
 # shellcheck source-path=SCRIPTDIR/../../tools
 set -euo pipefail
 tools=$(cd "$(dirname "$0")/../../tools" && pwd)
-. "$tools/usage.sh"
-. "$tools/transport.sh"
-. "$tools/debian.sh"
+. "$tools/lib/usage.sh"
+. "$tools/lib/transport.sh"
+. "$tools/lib/debian.sh"
 . "$tools/../bindings/hello.sh"
 
 if [ $# -gt 1 ] || [ "${1:---msrv}" != --msrv ]; then
@@ -83,7 +83,7 @@ step "Tests and doctests" cargo test --offline
 echo "$(passed) tests and doctests passed."
 cargo build --quiet --offline --examples
 
-# tools/c-hello.c passes a descriptor by its number.
+# tools/gate/c-hello.c passes a descriptor by its number.
 # shellcheck disable=SC2016
 printf '#!/usr/bin/env bash\nexec "%s" - <&"$2"\n' "$built/debug/examples/hello" > "$folder/hello"
 chmod +x "$folder/hello"

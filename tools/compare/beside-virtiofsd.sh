@@ -1,7 +1,7 @@
 #!/usr/bin/env bash
 # Asks virtiofsd 1.13.2 and the server here the same hostile requests over vhost-user, and sorts what comes.
 #
-# Usage: tools/beside-virtiofsd.sh [--page | --suite SUITE]
+# Usage: tools/compare/beside-virtiofsd.sh [--page | --suite SUITE]
 # virtiofsd and its libraries are packages of Debian 13, which apt-get downloads by lists of its own and
 # which are unpacked into the folder `beside` of `out`, and never installed. It shares an empty folder; the
 # server here has its files in memory. Each session goes to a new process of both, and one more request
@@ -11,14 +11,14 @@
 # version is, and leaves the page alone.
 #
 # It wants root, apt-get, a C compiler, Python 3 and the Rattle toolchain, and takes a minute. It links the
-# proved library if that is built and no source is newer; otherwise tools/unproved.sh builds it without a
+# proved library if that is built and no source is newer; otherwise tools/lib/unproved.sh builds it without a
 # proof, which takes a minute more. The transport is examples/c/vhost.c.
 # Status 0: each request is of a kind, the server here went on each time, and the page, unless --suite is
 # given, says what came; 1: not so; 2: it could not start.
 set -euo pipefail
-. "$(dirname "$0")/usage.sh"
-. "$(dirname "$0")/transport.sh"
-. "$(dirname "$0")/debian.sh"
+. "$(dirname "$0")/../lib/usage.sh"
+. "$(dirname "$0")/../lib/transport.sh"
+. "$(dirname "$0")/../lib/debian.sh"
 
 how=compare suite=trixie
 if [ $# = 1 ] && [ "$1" = --page ]; then
@@ -26,7 +26,7 @@ if [ $# = 1 ] && [ "$1" = --page ]; then
 elif [ $# = 2 ] && [ "$1" = --suite ] && [[ $2 =~ ^[a-z]+$ ]]; then
     how=show suite=$2
 elif [ $# != 0 ]; then
-    echo "Usage: tools/beside-virtiofsd.sh [--page | --suite SUITE]" >&2
+    echo "Usage: tools/compare/beside-virtiofsd.sh [--page | --suite SUITE]" >&2
     exit 2
 fi
 for command in apt-get dpkg-deb; do
@@ -72,7 +72,7 @@ fi
 package=$(gzip -dc "$there/usr/share/doc/virtiofsd/changelog.Debian.gz" | sed -nE '1s/.*\(([^)]*)\).*/\1/p')
 library_is="the library for C proved"
 [[ ${library[0]} != */unproved/* ]] || library_is="the library for C built without a proof"
-cc -std=c11 -O2 -Wall -Wextra -Werror -o "$work/ask" "$here/tools/beside/ask.c"
-python3 -B "$here/tools/beside/beside.py" "$how" "$work/ask" "$transport" "$work" \
+cc -std=c11 -O2 -Wall -Wextra -Werror -o "$work/ask" "$here/tools/compare/beside/ask.c"
+python3 -B "$here/tools/compare/beside/beside.py" "$how" "$work/ask" "$transport" "$work" \
     "Debian's package $package of virtiofsd, and $library_is" "${virtiofsd[@]}" \
     --socket-path SOCKET --shared-dir SHARE --sandbox none --seccomp none --no-announce-submounts --xattr

@@ -3,7 +3,7 @@
 # to the one here, and sorts what comes: it went on, it ended, it panicked, it read past the message, or it
 # left a request without the reply that is due.
 #
-# Usage: tools/beside.sh [--seed N] [--count M] [--only NAME] [--suite SUITE] [--page]
+# Usage: tools/compare/beside.sh [--seed N] [--count M] [--only NAME] [--suite SUITE] [--page]
 # The others are the newest libfuse, fuser, go-fuse and virtiofsd of Debian's suite SUITE, which is sid if none
 # is given, and virtiofsd 1.13.2 of trixie. apt-get downloads them, and the compilers of Rust and Go, by lists of
 # its own into the folder `beside` of `out`, where they are unpacked and never installed; compilers go once they
@@ -14,22 +14,22 @@
 # address sanitizer, with the bytes behind each message poisoned. The server here is the library vfs_door; a
 # page that can't be read begins behind each of its messages. virtiofsd is asked by vhost-user.
 #
-# The sessions are those of tools/beside/requests.py. With --count it makes M sessions more, which are the same
-# for each N of --seed, and shrinks what breaks a server to its smallest request. With --only it asks the servers
-# alone whose name has that text. With --page it prints the tables in markdown, for
+# The sessions are those of tools/compare/beside/requests.py. With --count it makes M sessions more, which are
+# the same for each N of --seed, and shrinks what breaks a server to its smallest request. With --only it asks
+# the servers alone whose name has that text. With --page it prints the tables in markdown, for
 # docs/generated/beside.md.
 #
 # It wants root, apt-get, a C compiler with the address sanitizer, Python 3 and the Rattle toolchain. It takes a
 # minute, and ten more the first time. It links the proved library if that is built and no source is newer;
-# otherwise tools/unproved.sh builds it without a proof.
+# otherwise tools/lib/unproved.sh builds it without a proof.
 # Status 0: the server here went on each time, alone and as a check; 1: not so; 2: it could not start.
 set -euo pipefail
-. "$(dirname "$0")/usage.sh"
-. "$(dirname "$0")/transport.sh"
-. "$(dirname "$0")/debian.sh"
+. "$(dirname "$0")/../lib/usage.sh"
+. "$(dirname "$0")/../lib/transport.sh"
+. "$(dirname "$0")/../lib/debian.sh"
 
 usage() {
-    echo "Usage: tools/beside.sh [--seed N] [--count M] [--only NAME] [--suite SUITE] [--page]" >&2
+    echo "Usage: tools/compare/beside.sh [--seed N] [--count M] [--only NAME] [--suite SUITE] [--page]" >&2
     exit 2
 }
 
@@ -81,14 +81,14 @@ mkdir -p "$built"
 get_once() {
     if [ ! -e "$1" ] && [[ "$2 behind the check" == *$only* ]]; then
         echo "Getting $2 of Debian's $3 .." >&2
-        quietly "$work/said" "$here/tools/beside/get.sh" "$2" "$3" "$1" "$work" ||
+        quietly "$work/said" "$here/tools/compare/beside/get.sh" "$2" "$3" "$1" "$work" ||
             echo "$2 of $3 can't be had or built here: it is left out." >&2
     fi
 }
 
-"${sanitized[@]}" -o "$work/nizwarf" "$here/tools/beside/nizwarf.c" "${library[@]}"
+"${sanitized[@]}" -o "$work/nizwarf" "$here/tools/compare/beside/nizwarf.c" "${library[@]}"
 "${sanitized[@]}" -o "$work/check" "$here/examples/c/check.c" "${library[@]}"
-"${compile[@]}" -o "$work/ask" "$here/tools/beside/ask.c"
+"${compile[@]}" -o "$work/ask" "$here/tools/compare/beside/ask.c"
 get_once "$built/libfuse" libfuse "$suite"
 get_once "$built/fuser" fuser "$suite"
 get_once "$built/go-fuse" go-fuse "$suite"
@@ -139,5 +139,5 @@ if [ ! -s "$work/servers" ]; then
     exit 2
 fi
 status=0
-python3 -B "$here/tools/beside/others.py" "${ask[@]}" "$work/servers" "$work" || status=$?
+python3 -B "$here/tools/compare/beside/others.py" "${ask[@]}" "$work/servers" "$work" || status=$?
 exit "$status"

@@ -2,30 +2,31 @@
 # Asks a file system and a tmpfs the same at random, and compares what each answers: errors, attributes, which
 # times move, contents, listings. Of what differs and isn't known it prints the smallest sequence that does.
 #
-# Usage: tools/mirror.sh [--library | --mount] SEED COUNT
-#        tools/mirror.sh --share SEED COUNT [-- WORDS]
-#        tools/mirror.sh SEED COUNT FOLDER BESIDE
+# Usage: tools/compare/mirror.sh [--library | --mount] SEED COUNT
+#        tools/compare/mirror.sh --share SEED COUNT [-- WORDS]
+#        tools/compare/mirror.sh SEED COUNT FOLDER BESIDE
 # Without folders it asks the tree in memory, COUNT operations in each of two ways: system calls on a mount of it,
 # as tools/mount.sh makes one, and messages to the library. With --library or --mount it asks in one of them. With
 # --share it asks a folder on a tmpfs, as tools/share.sh shares it with these WORDS, and without -- over a cache of
 # what is written later too. With two folders it asks these. The same SEED asks the same.
 #
 # Calls are those of root and of others, on names, descriptors and maps; requests are those of a kernel. A directory's
-# size, blocks and times of access are not compared. What is known to differ has a row in tools/mirror/known.txt,
+# size, blocks and times of access are not compared. What is known to differ has a row in mirror/known.txt here,
 # and how often it came is printed; each of the two then goes on alike.
 #
 # It wants root, Python 3 and util-linux; but with FOLDER and BESIDE also a C compiler, the Rattle toolchain and, for
 # a mount, /dev/fuse. It links the proved library if that is built and no source is newer; otherwise
-# tools/unproved.sh builds it without a proof, which takes a minute. It asks some 2,000 times in a second.
+# tools/lib/unproved.sh builds it without a proof, which takes a minute. It asks some 2,000 times in a second.
 # Status 0: only what is known differs; 1: not so; 2: it could not start.
 set -euo pipefail
-. "$(dirname "$0")/usage.sh"
-. "$(dirname "$0")/transport.sh"
+. "$(dirname "$0")/../lib/usage.sh"
+. "$(dirname "$0")/../lib/transport.sh"
+. "$(dirname "$0")/../lib/mounts.sh"
 
 usage() {
     [ $# = 0 ] || echo "$1" >&2
-    echo "Usage: tools/mirror.sh [--library | --mount | --share] SEED COUNT [-- WORDS], or tools/mirror.sh SEED COUNT" >&2
-    echo "FOLDER BESIDE" >&2
+    echo "Usage: tools/compare/mirror.sh [--library | --mount | --share] SEED COUNT [-- WORDS]," >&2
+    echo "or SEED COUNT FOLDER BESIDE" >&2
     exit 2
 }
 
@@ -52,15 +53,11 @@ elif [ $# = 2 ] && [ ${#ways[@]} = 2 ]; then
 elif [ $# != 0 ]; then
     usage
 fi
-if [ "$(id -u)" != 0 ]; then
-    echo "It asks as several users: run it as root." >&2
-    exit 2
-fi
+need_root "It asks as several users"
 need python3 "Install it: apt-get install python3."
-need mountpoint "Install util-linux."
-known=$here/tools/mirror/known.txt
+known=$here/tools/compare/mirror/known.txt
 mirror() {
-    python3 -B "$here/tools/mirror/mirror.py" "$1" "$2" "$seed" "$count" "$known" "${@:3}"
+    python3 -B "$here/tools/compare/mirror/mirror.py" "$1" "$2" "$seed" "$count" "$known" "${@:3}"
 }
 
 if [[ ${ways[0]} == /* ]]; then
@@ -68,20 +65,9 @@ if [[ ${ways[0]} == /* ]]; then
     exit
 fi
 
-# What is mounted is so in a namespace of its own, which ends with the script.
-if [ -z "${NIZWARF_OWN_MOUNTS:-}" ]; then
-    NIZWARF_OWN_MOUNTS=yes exec unshare --mount --propagation private "$0" "${given[@]}"
-fi
-work=$(mktemp -d)
-chmod 755 "$work"
+own_mounts "${given[@]}"
 server=
-# shellcheck disable=SC2317
-tidy() {
-    [ -z "$server" ] || kill "$server"
-    umount -l "$work/mount" "$work/tmpfs"
-    rm -rf --one-file-system "$work"
-}
-trap 'tidy 2> /dev/null || true' EXIT
+own_work ""
 mkdir "$work/mount" "$work/tmpfs"
 mount -t tmpfs -o mode=755 none "$work/tmpfs"
 mkdir "$work/tmpfs/beside" "$work/tmpfs/folder"

@@ -1,7 +1,7 @@
 #!/usr/bin/env bash
 # Compares the programs with virtiofsd's own code, request by request, in sessions that are made for it.
 #
-# Usage: tools/compare.sh [--source FOLDER] [--jobs N] [SEED [COUNT]]
+# Usage: tools/compare/oracle.sh [--source FOLDER] [--jobs N] [SEED [COUNT]]
 # COUNT requests (a million, if it isn't said) in sessions by SEED (1), half of them over the scripted file
 # system of vfs_script and half over the files in memory of vfs_demo, and the sessions that kernels were
 # recorded to ask. Each session is asked as it is cut, and with each request in one segment and one room.
@@ -10,21 +10,21 @@
 # outcome, and where something differs the smallest request that does; progress goes to standard error.
 # The same seed and count make the same sessions.
 #
-# The proved programs run where they are built and no source is newer; otherwise tools/unproved.sh builds
+# The proved programs run where they are built and no source is newer; otherwise tools/lib/unproved.sh builds
 # them without a proof, which takes some minutes. The Rust is virtiofsd 1.13.2's, mended as
-# docs/DIFFERENCES.md says: tools/oracle/build.sh gets it from Debian's package of its source, or from
+# docs/DIFFERENCES.md says: tools/compare/oracle/build.sh gets it from Debian's package of its source, or from
 # FOLDER. --jobs N takes N processors, and not all.
 #
 # It wants the Rattle toolchain, rustc and Python 3; a million requests take some minutes on four
 # processors. Status 0: no difference; 1: there is one; 2: it could not start.
 set -euo pipefail
-. "$(dirname "$0")/usage.sh"
-. "$(dirname "$0")/program.sh"
+. "$(dirname "$0")/../lib/usage.sh"
+. "$(dirname "$0")/../lib/program.sh"
 
 # Tells how it is used, and stops.
 refuse() {
     echo "$1" >&2
-    echo "Usage: tools/compare.sh [--source FOLDER] [--jobs N] [SEED [COUNT]]" >&2
+    echo "Usage: tools/compare/oracle.sh [--source FOLDER] [--jobs N] [SEED [COUNT]]" >&2
     exit 2
 }
 
@@ -75,6 +75,6 @@ for program in vfs_script vfs_demo; do
 done
 for program in "${programs[@]}"; do
     [[ $program != */unproved/* ]] || echo "${program##*/}"
-done | xargs -r -n 1 -P "$jobs" "$here/tools/unproved.sh" || exit 2
-"$here/tools/oracle/build.sh" "${source[@]}" || exit 2
-exec python3 -B "$here/tools/oracle/compare.py" "$seed" "$count" "$jobs" "$here/out/oracle/later" "${programs[@]}"
+done | xargs -r -n 1 -P "$jobs" "$here/tools/lib/unproved.sh" || exit 2
+"$here/tools/compare/oracle/build.sh" "${source[@]}" || exit 2
+exec python3 -B "$here/tools/compare/oracle/compare.py" "$seed" "$count" "$jobs" "$here/out/oracle/later" "${programs[@]}"

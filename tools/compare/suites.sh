@@ -1,11 +1,12 @@
 #!/usr/bin/env bash
 # Runs suites that others wrote on a mounted folder, and on another one beside it, and prints a table of where
-# they come to something else. Each difference has its reason in tools/suites/reasons.txt, or is a fault.
+# they come to something else. Each difference has its reason in tools/compare/suites/reasons.txt, or is a
+# fault.
 #
-# Usage: tools/suites.sh [OPTIONS] FOLDER BESIDE
-#        tools/suites.sh [OPTIONS] --share [--on FOLDER] [-- WORDS]
-#        tools/suites.sh [OPTIONS] --tree
-#        tools/suites.sh --list
+# Usage: tools/compare/suites.sh [OPTIONS] FOLDER BESIDE
+#        tools/compare/suites.sh [OPTIONS] --share [--on FOLDER] [-- WORDS]
+#        tools/compare/suites.sh [OPTIONS] --tree
+#        tools/compare/suites.sh --list
 # With folders, each suite runs in a new one below each of the two, and what it made is removed. With --share
 # they run over what tools/share.sh shares: with one worker, with four, with a writeback cache, or with these
 # WORDS instead; beside the folder itself, and beside libfuse's own passthrough_ll, which is only shown. It is on a
@@ -24,23 +25,25 @@
 # each of its cases came to, is in a folder of out/suites/logs. It takes about ten minutes for each folder.
 #
 # It wants root, apt-get, a C compiler, make and Python 3; with --share or --tree also /dev/fuse and the Rattle
-# toolchain. It links the proved library if that is built and no source is newer; otherwise tools/unproved.sh
-# builds it without a proof, which takes a minute.
-# Status 0: all is equal, or has a reason; 1: not so; 2: it could not start.
+# toolchain. It links the proved library if that is built and no source is newer; otherwise
+# tools/lib/unproved.sh builds it without a proof, which takes a minute. Status 0: all is equal, or has a
+# reason; 1: not so; 2: it could not start.
 set -euo pipefail
-. "$(dirname "$0")/usage.sh"
-. "$(dirname "$0")/transport.sh"
+. "$(dirname "$0")/../lib/usage.sh"
+. "$(dirname "$0")/../lib/transport.sh"
+. "$(dirname "$0")/../lib/debian.sh"
+. "$(dirname "$0")/../lib/mounts.sh"
 
 usage() {
     [ $# = 0 ] || echo "$1" >&2
-    echo "Usage: tools/suites.sh [--only NAME..] [--quick] [--jobs N] [--sanitizer NAME] FOLDER BESIDE," >&2
+    echo "Usage: tools/compare/suites.sh [--only NAME..] [--quick] [--jobs N] [--sanitizer NAME] FOLDER BESIDE," >&2
     echo "or --share [--on FOLDER] [-- WORDS], or --tree, or --list" >&2
     exit 2
 }
 
 given=("$@")
 need python3 "Install it: apt-get install python3."
-suites=("$here/tools/suites/suites.py")
+suites=("$here/tools/compare/suites/suites.py")
 mapfile -t all < <(python3 -B "${suites[0]}" --list | sed 's/ .*//')
 only=() more=() folders=() words=() flags=() what='' on='' jobs=1
 while [ $# -gt 0 ]; do
@@ -100,48 +103,30 @@ done
 for folder in "${folders[@]}"; do
     [ -d "$folder" ] || usage "$folder is no folder."
 done
-if [ "$(id -u)" != 0 ]; then
-    echo "Suites make files of other users: run it as root." >&2
-    exit 2
-fi
+need_root "Suites make files of other users"
 if [ -n "$what" ] && [ ! -e /dev/fuse ]; then
     echo "Missing: /dev/fuse. \`modprobe fuse\` makes it where the kernel has the module." >&2
     exit 2
 fi
-for command in unshare mountpoint setpriv; do
-    need "$command" "Install util-linux."
-done
+need setpriv "Install util-linux."
 need cc "Install a C compiler: apt-get install gcc libc6-dev."
 need xz "Install it: apt-get install xz-utils."
 
-# What is mounted is so in a namespace of its own, which ends with the script.
-if [ -z "${NIZWARF_OWN_MOUNTS:-}" ]; then
-    NIZWARF_OWN_MOUNTS=yes exec unshare --mount --propagation private "$0" "${given[@]}"
-fi
-
+own_mounts "${given[@]}"
 mountpoint -q /sys/fs/fuse/connections || mount -t fusectl none /sys/fs/fuse/connections 2> /dev/null || true
 
 there=$here/out/suites
 logs=$there/logs/$$
 mkdir -p "$logs"
-work=$(mktemp -d)
-chmod 755 "$work"
-# shellcheck disable=SC2317
-tidy() {
-    awk -v below="$work/" 'index($2 "/", below) == 1 { print $2 }' /proc/self/mounts | sort -r | xargs -r umount -l
-    rm -rf --one-file-system "$work"
-    [ -z "$on" ] || rm -rf --one-file-system "$on/nizwarf-suites-$$"
-}
-trap 'tidy 2> /dev/null || true' EXIT
+own_work "${on:+$on/nizwarf-suites-$$}"
 
 # Gets what a suite or a server wants, or says that it can't be had.
 get() {
-    quietly "$logs/get-$1" "$here/tools/suites/get.sh" "$1" "$there" 2> /dev/null || {
+    quietly "$logs/get-$1" "$here/tools/compare/suites/get.sh" "$1" "$there" 2> /dev/null || {
         echo "$1 can't be had here, and is left out: $logs/get-$1 says why." >&2
         return 1
     }
 }
-. "$here/tools/debian.sh"
 
 # Adds a column: column NAME KIND JUDGED HOW WORDS..
 column() {
@@ -206,6 +191,6 @@ echo "Linux $(uname -r), $(sed -n 's/^PRETTY_NAME="\(.*\)"/\1/p' /etc/os-release
 echo "What they say is in $logs." >&2
 status=0
 python3 -B "${suites[0]}" --there "$work/there" --columns "$work/columns" --work "$work/run" --logs "$logs" \
-    --suites "${run[*]}" --reasons "$here/tools/suites/reasons.txt" --jobs "$jobs" "${more[@]}" || status=$?
+    --suites "${run[*]}" --reasons "$here/tools/compare/suites/reasons.txt" --jobs "$jobs" "${more[@]}" || status=$?
 echo "Linux $(uname -r); $(for name in "${run[@]}"; do echo "$name $(cat "$there/have-$name")"; done | paste -sd ',' | sed 's/,/, /g')"
 exit "$status"

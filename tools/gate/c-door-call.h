@@ -1,4 +1,4 @@
-/* What the rules of docs/PROTOCOL.md make of a request, written again in C, for tools/c-door.c. */
+/* What the rules of docs/PROTOCOL.md make of a request, written again in C, for tools/gate/c-door.c. */
 #ifndef C_DOOR_CALL_H
 #define C_DOOR_CALL_H
 

@@ -3,12 +3,12 @@
  *
  * A request of each opcode goes to both: whole, cut short at each length, in two pieces at each
  * place, and with one byte changed. What the door finishes is as the server has it. A call that it
- * tells is the one that tools/c-door-call.h finds; of the server's reply an answer is made by hand,
+ * tells is the one that tools/gate/c-door-call.h finds; of the server's reply an answer is made by hand,
  * and for that the door puts the same bytes. Rooms of each small length follow the room rule.
  *
  * Requests that kernels were recorded to ask go to both too, if it is given a file of them.
  *
- * tools/c-example.sh links it with both libraries. Status 0: all is as it should be. */
+ * tools/gate/c-example.sh links it with both libraries. Status 0: all is as it should be. */
 #include "c-door.h"
 
 enum { MOST_ITEMS = 512 };

@@ -1,4 +1,4 @@
-/* How tools/c-door.c and tools/c-door-cases.c make requests, ask and answer. */
+/* How tools/gate/c-door.c and tools/gate/c-door-cases.c make requests, ask and answer. */
 #ifndef C_DOOR_H
 #define C_DOOR_H
 

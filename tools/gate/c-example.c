@@ -1,7 +1,7 @@
 /* Holds the library for transports in C against its header: a session of INIT, MKDIR, LOOKUP and GETATTR, in
  * which each allocation is refused in turn; codes of what can't be done; settings; what stays in the rooms.
  *
- * tools/c-example.sh links it with --wrap=malloc, --wrap=realloc and --wrap=free. Status 0: all is as
+ * tools/gate/c-example.sh links it with --wrap=malloc, --wrap=realloc and --wrap=free. Status 0: all is as
  * it should be, and no memory is left behind. */
 #include <errno.h>
 #include <linux/fuse.h>

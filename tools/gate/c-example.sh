@@ -1,28 +1,28 @@
 #!/usr/bin/env bash
 # Compiles examples/c/serve.c against include/nizwarf.h, links the library for C, and runs it: it answers
-# an INIT, a MKDIR and a LOOKUP, and checks the replies. Then tools/c-example.c holds the library against what the
-# header says, also where each allocation is refused in turn. tools/c-hello.c asks a few requests of
-# examples/c/hello.c, a file system over the library vfs_door; tools/c-door.c, tools/c-door-cases.c,
-# tools/c-door-threads.c, tools/c-ops.c and tools/c-text.c hold that library against what the headers say. All that runs
-# under the sanitizers of the compiler too, if it has them. All names that the libraries define begin
-# with `nizwarf_`. Last, tools/package.sh packs the libraries, and the examples are built by pkg-config against
-# what is installed of that, shared and static, and do the same.
+# an INIT, a MKDIR and a LOOKUP, and checks the replies. Then tools/gate/c-example.c holds the library against
+# what the header says, also where each allocation is refused in turn. tools/gate/c-hello.c asks a few requests
+# of examples/c/hello.c, a file system over the library vfs_door; tools/gate/c-door.c,
+# tools/gate/c-door-cases.c, tools/gate/c-door-threads.c, tools/gate/c-ops.c and tools/gate/c-text.c hold that
+# library against what the headers say. All that runs under the sanitizers of the compiler too, if it has them.
+# All names that the libraries define begin with `nizwarf_`. Last, tools/package.sh packs the libraries, and the
+# examples are built by pkg-config against what is installed of that, shared and static, and do the same.
 #
-# Usage: tools/c-example.sh [--prove]
-# It takes each proved library where that is built and no source is newer; otherwise tools/unproved.sh
+# Usage: tools/gate/c-example.sh [--prove]
+# It takes each proved library where that is built and no source is newer; otherwise tools/lib/unproved.sh
 # builds it without a proof, which takes a minute. With --prove they are proved first, as crates/vfs_c/out
 # and crates/vfs_door/out have them then: a few minutes, and half an hour where no lower crate was proved
 # before.
 # Status 0: all is as it should be; 1: not so; 2: it could not start.
 set -euo pipefail
-. "$(dirname "$0")/usage.sh"
-. "$(dirname "$0")/transport.sh"
+. "$(dirname "$0")/../lib/usage.sh"
+. "$(dirname "$0")/../lib/transport.sh"
 
 case $# in
     0) ;;
     1) [ "$1" = --prove ] ;;
     *) false ;;
-esac || { echo "Usage: tools/c-example.sh [--prove]" >&2 && exit 2; }
+esac || { echo "Usage: tools/gate/c-example.sh [--prove]" >&2 && exit 2; }
 
 folder=$(mktemp -d)
 trap 'rm -rf "$folder"' EXIT
@@ -60,21 +60,21 @@ threaded=(-g -O1 -fsanitize=thread -pthread)
 run_all() {
     compile examples/c/serve.c "$@"
     "$folder/program"
-    compile tools/c-example.c "$@" "${counted[@]}"
+    compile tools/gate/c-example.c "$@" "${counted[@]}"
     "$folder/program"
     compile examples/c/hello.c "$here/examples/c/fuse_device.c" -pthread "$@"
     mv "$folder/program" "$folder/hello"
-    compile tools/c-hello.c "$@"
+    compile tools/gate/c-hello.c "$@"
     timeout 60 "$folder/program" "$folder/hello"
-    compile tools/c-ops.c "$@"
+    compile tools/gate/c-ops.c "$@"
     "$folder/program"
-    compile tools/c-door.c "$@"
+    compile tools/gate/c-door.c "$@"
     "$folder/program" "$folder/recorded"
-    compile tools/c-door-cases.c "$@" "${counted[@]}"
+    compile tools/gate/c-door-cases.c "$@" "${counted[@]}"
     "$folder/program"
-    compile tools/c-text.c "$@" "${counted[@]}"
+    compile tools/gate/c-text.c "$@" "${counted[@]}"
     "$folder/program" "$folder/recorded"
-    compile tools/c-door-threads.c "$@" -pthread
+    compile tools/gate/c-door-threads.c "$@" -pthread
     timeout 60 "$folder/program"
 }
 
@@ -89,7 +89,7 @@ fi
 if has_flags "${sanitized[@]}"; then
     run_all "${sanitized[@]}" > /dev/null
     if has_flags "${threaded[@]}"; then
-        compile tools/c-door-threads.c "${threaded[@]}"
+        compile tools/gate/c-door-threads.c "${threaded[@]}"
         timeout 60 "$folder/program" > /dev/null
     fi
     echo "The sanitizers found nothing."
@@ -125,7 +125,7 @@ if ! command -v pkg-config > /dev/null; then
     echo "Missing: the command \`pkg-config\`, so nothing is packed: apt-get install pkg-config." >&2
     exit
 fi
-compile tools/c-hello.c
+compile tools/gate/c-hello.c
 "$here/tools/package.sh" --no-demo --out "$folder/packages" > "$folder/said" 2>&1 || { cat "$folder/said" >&2 && exit 1; }
 grep '^Missing' "$folder/said" >&2 || true
 tar -xzf "$folder"/packages/*.tar.gz -C "$folder"

@@ -1,7 +1,7 @@
 /* A client of examples/c/hello.c, at the other end of a socket: it asks a few requests as a kernel
  * does, and checks the replies.
  *
- * Usage: c-hello HELLO, the program. tools/c-example.sh runs it. Status 0: all is as it should
+ * Usage: c-hello HELLO, the program. tools/gate/c-example.sh runs it. Status 0: all is as it should
  * be. */
 #define _GNU_SOURCE
 #include <errno.h>

@@ -2,7 +2,7 @@
  * Each request comes to its function, with its arguments; what the client doesn't get is given
  * back; an empty table answers as the header says.
  *
- * tools/c-example.sh links it with the library. Status 0: all is as it should be. */
+ * tools/gate/c-example.sh links it with the library. Status 0: all is as it should be. */
 #include <stdarg.h>
 #include "nizwarf_ops.h"
 #include "c-door.h"

@@ -4,8 +4,8 @@
  *
  * Usage: c-text LINES
  * LINES are those of a session, as crates/vfs_script/stdin has them; others than requests are left out.
- * tools/c-example.sh links it with --wrap=malloc, --wrap=realloc and --wrap=free. Status 0: all is as it should
- * be. */
+ * tools/gate/c-example.sh links it with --wrap=malloc, --wrap=realloc and --wrap=free. Status 0: all is as it
+ * should be. */
 #include <linux/fuse.h>
 #include <stdio.h>
 #include <stdlib.h>

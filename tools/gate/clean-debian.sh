@@ -1,7 +1,7 @@
 #!/usr/bin/env bash
 # Installs the packages on a clean Debian 12, without the Rattle toolchain, and uses them there as a person does.
 #
-# Usage: tools/clean-debian.sh [--keep] [--unpack]
+# Usage: tools/gate/clean-debian.sh [--keep] [--unpack]
 # debootstrap makes the Debian in out/debian, from where the machine's own apt gets its packages; apt-get installs
 # debootstrap if it is missing. If debootstrap makes none, or with --unpack, packages are downloaded by
 # apt-get and unpacked, but not configured. In that Debian
@@ -18,8 +18,9 @@
 # It wants root, /dev/fuse, and apt-get with a mirror: 150 MB are downloaded, and 100 MB more for Rust.
 # Status 0: each step was right; 1: not so; 2: it could not start.
 set -euo pipefail
-. "$(dirname "$0")/usage.sh"
-. "$(dirname "$0")/debian.sh"
+. "$(dirname "$0")/../lib/usage.sh"
+. "$(dirname "$0")/../lib/debian.sh"
+. "$(dirname "$0")/../lib/mounts.sh"
 
 keep=
 unpack=
@@ -28,26 +29,20 @@ for word in "$@"; do
         --keep) keep=yes ;;
         --unpack) unpack=yes ;;
         *)
-            echo "Usage: tools/clean-debian.sh [--keep] [--unpack]" >&2
+            echo "Usage: tools/gate/clean-debian.sh [--keep] [--unpack]" >&2
             exit 2
             ;;
     esac
 done
-if [ "$(id -u)" != 0 ]; then
-    echo "Only root may mount, and make a Debian: run it as root." >&2
-    exit 2
-fi
+need_root "Only root may mount, and make a Debian"
 if [ ! -e /dev/fuse ]; then
     echo "Missing: /dev/fuse. \`modprobe fuse\` makes it where the kernel has the module." >&2
     exit 2
 fi
 need apt-get "The Debian is made of packages."
-need unshare "Install util-linux."
-if [ -z "${NIZWARF_OWN_MOUNTS:-}" ]; then
-    NIZWARF_OWN_MOUNTS=yes exec unshare --mount --propagation private "$0" "$@"
-fi
+own_mounts "$@"
 
-here=$(cd "$(dirname "$0")/.." && pwd)
+here=$(cd "$(dirname "$0")/../.." && pwd)
 root=$here/out/debian/root
 packages=$here/out/debian/packages
 rust=$here/bindings/rust

@@ -1,7 +1,7 @@
 #!/usr/bin/env bash
 # Holds the Markdown pages of the repository against its sources, as far as a script can.
 #
-# Usage: tools/documents.sh
+# Usage: tools/gate/documents.sh
 # It prints each fault with its file and line, and ends with their count. Status 0: there is none.
 #
 #   links               the file is there, and so is the heading behind a `#`
@@ -27,13 +27,13 @@
 #   the toolchain       README.md's has the logic of `rt version`, whose kits have several letters for one
 #                       logic; figures keep the one that they were made with
 #   the version         is one in CHANGELOG.md, include/nizwarf.h and, if it is there, bindings/rust/Cargo.toml
-#   pictures            are those that tools/pictures.sh draws
+#   pictures            are those that tools/gate/pictures.sh draws
 set -eu
-. "$(dirname "$0")/usage.sh"
+. "$(dirname "$0")/../lib/usage.sh"
 take_none "$@"
 need rt "Put the folder bin of the Rattle toolchain on the PATH."
 need python3 "Install it: apt-get install python3."
-cd "$(dirname "$0")/.."
+cd "$(dirname "$0")/../.."
 
 kit=$(rt version) exec python3 - <<'PYTHON'
 import glob, os, re, subprocess, sys
@@ -41,7 +41,7 @@ import glob, os, re, subprocess, sys
 KIT = os.environ["kit"]
 COUNTED = ["README.md", *sorted(glob.glob("docs/*.md")), "CONTRIBUTING.md", "CHANGELOG.md", "NOTICE.md",
            *sorted(glob.glob("crates/*/README.md"))]
-DOCUMENTS = [*COUNTED, "tools/oracle/README.md"]
+DOCUMENTS = [*COUNTED, "tools/README.md", "tools/compare/oracle/README.md"]
 # Pages of which only links are looked at.
 LINKED = [*sorted(glob.glob("docs/generated/*.md")), *sorted(glob.glob("bindings/*/README.md"))]
 # Where no crate is named in PROTOCOL.md, it is this one, as that page says.
@@ -287,7 +287,7 @@ for line in read("docs/generated/edits.md").splitlines():
     listed |= {(crate, name) for name in re.findall(r"^\| `(\w+)` \|", line)}
 for crate, edit in sorted(edits ^ listed):
     where = "lacks" if (crate, edit) in edits else "has, and the crate has not,"
-    faults.append(f"docs/generated/edits.md {where} {edit} of {crate}: run tools/edits-table.sh")
+    faults.append(f"docs/generated/edits.md {where} {edit} of {crate}: run tools/gate/edits-table.sh")
 trusted = read("README.md").partition("**Trusted**")[2]
 kit_crates = {name for line in re.findall(r"^\w+.*: (.*)", read("crates.txt"), re.M) for name in line.split()}
 for name in sorted(kit_crates - CRATE_NAMES - {"core", "std_alloc"} - set(CODE.findall(trusted))):
@@ -308,7 +308,7 @@ for path in filter(os.path.exists, VERSIONS):
     version = version or said
     if said != version:
         faults.append(f"{path}: the version is {said or 'not there'}, and that of CHANGELOG.md {version}")
-faults += subprocess.run(["tools/pictures.sh", "--check"], stdout=subprocess.PIPE,
+faults += subprocess.run(["tools/gate/pictures.sh", "--check"], stdout=subprocess.PIPE,
                          stderr=subprocess.STDOUT, text=True).stdout.splitlines()
 
 print("\n".join([*faults, f"{len(DOCUMENTS) + len(LINKED)} documents, {len(faults)} faults"]))

@@ -1,18 +1,18 @@
 #!/usr/bin/env bash
 # Makes docs/generated/edits.md: the edits that the prover must refuse, each with where it was refused.
 #
-# Usage: tools/edits-table.sh [LOG ..]
+# Usage: tools/gate/edits-table.sh [LOG ..]
 # Each LOG is what `rt ci`, `.ci/run` or `rt must-fail` printed. A row has the edit, the file that it changes, and
 # the function and goal at which it was refused, of the last run that printed it: what no LOG has stays as it is
 # on the page, where a row that was in no run yet has what the edit guards. Edits that are there no more go. With
 # no LOG the rows alone are brought up to date.
 set -eu
-. "$(dirname "$0")/usage.sh"
+. "$(dirname "$0")/../lib/usage.sh"
 for file in "$@"; do
-    [ -f "$file" ] || { echo "Usage: tools/edits-table.sh [LOG ..], where each LOG is a file." >&2 && exit 2; }
+    [ -f "$file" ] || { echo "Usage: tools/gate/edits-table.sh [LOG ..], where each LOG is a file." >&2 && exit 2; }
 done
 need python3 "Install it: apt-get install python3."
-cd "$(dirname "$0")/.."
+cd "$(dirname "$0")/../.."
 
 exec python3 - "$@" <<'PYTHON'
 import glob, os, re, sys
@@ -22,7 +22,7 @@ HEAD = """# Edits that the prover must refuse
 
 Each changes a body to do something wrong, or weakens a definition. `rt must-fail NAME` tries those of a crate,
 and `rt ci` all. Where no run was read yet, the last column has in brackets what the edit guards, or nothing.
-`tools/edits-table.sh` makes this page.
+`tools/gate/edits-table.sh` makes this page.
 """
 PRINTED = re.compile(r"^rt: must-fail (\w+)/(\S+)\.edit: refused, as it must be(.*)$", re.M)
 ROW = re.compile(r"^\| `(\w+)` \| [^|]* \| (.*) \|$")

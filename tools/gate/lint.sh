@@ -1,12 +1,12 @@
 #!/usr/bin/env bash
 # Holds the sources of nizwarf-share, in examples/c, against clang-tidy and cppcheck: what they find is printed.
 #
-# Usage: tools/lint.sh
+# Usage: tools/gate/lint.sh
 # It wants clang-tidy and cppcheck, and libseccomp-dev for the sandbox of share.c.
 # Status 0: nothing is found; 1: something is; 2: a program is missing.
 set -euo pipefail
-. "$(dirname "$0")/usage.sh"
-. "$(dirname "$0")/program.sh"
+. "$(dirname "$0")/../lib/usage.sh"
+. "$(dirname "$0")/../lib/program.sh"
 take_none "$@"
 need clang-tidy "Install it: apt-get install clang-tidy."
 need cppcheck "Install it: apt-get install cppcheck."

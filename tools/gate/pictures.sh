@@ -1,7 +1,7 @@
 #!/usr/bin/env bash
 # Draws docs/pictures/*.svg out of what stands beside them.
 #
-# Usage: tools/pictures.sh [--check]
+# Usage: tools/gate/pictures.sh [--check]
 # With --check it writes nothing, and names each picture that is not what it would draw. Status 0:
 # there is none.
 #
@@ -12,13 +12,13 @@
 #   ratios.svg   the ratios of the table in docs/generated/ratios.md
 #   end-to-end.svg  those of the table in docs/generated/end-to-end.md
 set -eu
-. "$(dirname "$0")/usage.sh"
+. "$(dirname "$0")/../lib/usage.sh"
 case $#,${1:-} in
     0, | 1,--check) ;;
-    *) echo "Usage: tools/pictures.sh [--check]" >&2 && exit 2 ;;
+    *) echo "Usage: tools/gate/pictures.sh [--check]" >&2 && exit 2 ;;
 esac
 need python3 "Install it: apt-get install python3."
-cd "$(dirname "$0")/.."
+cd "$(dirname "$0")/../.."
 
 exec python3 - "$@" <<'PYTHON'
 import html, os, re, sys, textwrap
@@ -38,7 +38,7 @@ def read(path):
 
 
 def fault(text):
-    sys.exit(f"tools/pictures.sh: {text}")
+    sys.exit(f"tools/gate/pictures.sh: {text}")
 
 
 def table(path, head):
@@ -374,7 +374,7 @@ def main():
             with open(path, "w", encoding="utf-8") as file:
                 file.write(drawn)
     for path in old:
-        print(f"{path}: old, draw it by tools/pictures.sh")
+        print(f"{path}: old, draw it by tools/gate/pictures.sh")
     sys.exit(1 if old else 0)
 
 

@@ -21,19 +21,19 @@
 # vfs_demo answers its stored session. Any of its allocations is refused, and a run ends as above, or
 # the program itself wants memory: status 4, and `out of memory` behind some of the answers.
 #
-# Usage: tools/refuse-allocations.sh
+# Usage: tools/gate/refuse-allocations.sh
 # It wants both programs built and as new as the sources, as `rt ci` leaves them, a C compiler and
 # Python, and takes seconds. Status 0: all runs ended so, and their counts are printed.
 set -eu
-. "$(dirname "$0")/usage.sh"
+. "$(dirname "$0")/../lib/usage.sh"
 take_none "$@"
 need "${CC:-cc}" "Install a C compiler: apt-get install gcc libc6-dev."
 need python3 "Install it: apt-get install python3."
-cd "$(dirname "$0")/.."
+cd "$(dirname "$0")/../.."
 
 folder=$(mktemp -d)
 trap 'rm -rf "$folder"' EXIT
-"${CC:-cc}" -shared -fPIC -O2 -o "$folder/refuse_allocation.so" tools/refuse_allocation.c -ldl
+"${CC:-cc}" -shared -fPIC -O2 -o "$folder/refuse_allocation.so" tools/gate/refuse_allocation.c -ldl
 
 python3 - "$folder" <<'PYTHON'
 import collections, glob, os, re, subprocess, sys, threading

@@ -4,7 +4,7 @@
 . "$(dirname "${BASH_SOURCE[0]}")/program.sh"
 
 # Builds those of these programs without a proof, at once, that are not proved or have a newer source;
-# tools/unproved.sh keeps them. It says which are which.
+# tools/lib/unproved.sh keeps them. It says which are which.
 build_programs() {
     local name job jobs=()
     for name in "$@"; do
@@ -13,7 +13,7 @@ build_programs() {
             continue
         fi
         echo "$name is built without a proof (\`rt run < stdin\` in crates/$name proves it)." >&2
-        "$here/tools/unproved.sh" "$name" &
+        "$here/tools/lib/unproved.sh" "$name" &
         jobs+=($!)
     done
     for job in ${jobs[@]+"${jobs[@]}"}; do

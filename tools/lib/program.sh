@@ -1,7 +1,7 @@
 # For the scripts beside it: where the programs are, vfs_demo where none is named.
 # shellcheck shell=bash
 
-here=$(cd "$(dirname "${BASH_SOURCE[0]}")/.." && pwd)
+here=$(cd "$(dirname "${BASH_SOURCE[0]}")/../.." && pwd)
 # shellcheck disable=SC2034
 crate=$here/crates/vfs_demo
 # shellcheck disable=SC2034

@@ -1,7 +1,7 @@
 #!/bin/sh
 # What a person does with the mounted file system in memory, with what must come of it.
 #
-# Usage: tools/session.sh [--shared] FOLDER
+# Usage: tools/lib/session.sh [--shared] FOLDER
 # FOLDER is a mount that nothing was done with. tools/mount.sh runs it, and tools/guest.sh in the guest, by
 # busybox. With --shared it is a mount of a folder of the host, as tools/share.sh makes, where names are not
 # counted. What must come is written by hand, from what POSIX says, and of what that leaves open from what Linux
@@ -21,7 +21,7 @@ if [ "${1:-}" = --shared ]; then
     shift
 fi
 if [ $# != 1 ] || [ ! -d "$1" ]; then
-    echo "Usage: tools/session.sh [--shared] FOLDER, which is there" >&2
+    echo "Usage: tools/lib/session.sh [--shared] FOLDER, which is there" >&2
     exit 2
 fi
 export LC_ALL=C

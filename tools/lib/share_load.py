@@ -1,7 +1,7 @@
 """Load and faults for nizwarf-share, for share.sh: `--load` there.
 
 Usage: share_load.py SHARE REFUSING ASK WORK MINUTES
-SHARE is the program, REFUSING the same one linked with refuse_some.c, ASK tools/beside/ask.c, WORK an empty
+SHARE is the program, REFUSING the same one linked with refuse_some.c, ASK tools/compare/beside/ask.c, WORK an empty
 folder. It wants root and stress-ng.
 
 One server is mounted and one serves machines from beginning to end; others are started for a part of it. Parts
@@ -19,7 +19,7 @@ import tempfile
 import threading
 import time
 
-sys.path.insert(0, os.path.dirname(os.path.abspath(__file__)) + "/beside")
+sys.path.insert(0, os.path.dirname(os.path.abspath(__file__)) + "/../compare/beside")
 import requests
 from requests import line, request, transfer
 

@@ -5,13 +5,13 @@
 
 # Sets `library` to the library, which is vfs_c where no name is given, and what it stands on:
 # find_library [NAME]. That is the proved one where it is built and no source is newer; otherwise
-# tools/unproved.sh builds it without a proof. It says which one it is.
+# tools/lib/unproved.sh builds it without a proof. It says which one it is.
 find_library() {
     local name=${1:-vfs_c}
     local built=$here/crates/$name/out/lib$name.a
     need cc "Install a C compiler: apt-get install gcc libc6-dev."
     need rt "The Rattle toolchain builds the library: put its folder bin on the PATH."
-    if ! grep -q "^$name staticlib:" "$here/crates.txt" || [ ! -d "$here/tools/unproved/$name" ]; then
+    if ! grep -q "^$name staticlib:" "$here/crates.txt" || [ ! -d "$here/tools/lib/unproved/$name" ]; then
         echo "There is no library $name for C: \`tools/new-library.sh $name\` makes it." >&2
         exit 2
     fi
@@ -19,7 +19,7 @@ find_library() {
         echo "The library $name is the proved one." >&2
     else
         built=$here/out/unproved/lib$name.a
-        "$here/tools/unproved.sh" "$name"
+        "$here/tools/lib/unproved.sh" "$name"
         echo "The library $name is built without a proof; \`rt lib\` in crates/$name proves it." >&2
     fi
     library=("$built" "$(dirname "$(rt doc)")/c/liblibc_c.a")

@@ -2,7 +2,7 @@
 # Builds a program, or a static library, without a proof, for tools that ask it many lines: in a minute,
 # where the proofs of all crates take half an hour.
 #
-# Usage: tools/unproved.sh NAME
+# Usage: tools/lib/unproved.sh NAME
 # It leaves the program of crates/NAME as NAME in the folder `unproved` of `out`, or the static library as
 # libNAME.a, and builds it only where a source is newer. No promise stands on it: `rt run`, `rt lib` and
 # `rt ci` build what is proved.
@@ -16,14 +16,14 @@ set -euo pipefail
 . "$(dirname "$0")/program.sh"
 
 name=${1:-}
-calls=$here/tools/unproved/$name
+calls=$here/tools/lib/unproved/$name
 if [ $# = 1 ] && [ -e "$here/crates/$name/src/main.rt" ]; then
     out=$here/out/unproved/$name
 elif [ $# = 1 ] && [ -n "$name" ] && [ -d "$calls" ] && [ -e "$here/crates/$name/src/lib.rt" ]; then
     out=$here/out/unproved/lib$name.a
 else
-    echo "Usage: tools/unproved.sh NAME, where crates/NAME is a program, or a library with calls in" >&2
-    echo "tools/unproved." >&2
+    echo "Usage: tools/lib/unproved.sh NAME, where crates/NAME is a program, or a library with calls in" >&2
+    echo "tools/lib/unproved." >&2
     exit 2
 fi
 if [ -e "$out" ] && is_newest "$out"; then

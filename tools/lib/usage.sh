@@ -15,10 +15,18 @@ need() {
     fi
 }
 
+# Stops where somebody else than root runs it: need_root "why".
+need_root() {
+    if [ "$(id -u)" != 0 ]; then
+        echo "$1: run it as root." >&2
+        exit 2
+    fi
+}
+
 # Stops a tool that takes no arguments where it was given some: take_none "$@".
 take_none() {
     if [ $# != 0 ]; then
-        echo "Usage: tools/${0##*/}" >&2
+        echo "Usage: $0" >&2
         exit 2
     fi
 }

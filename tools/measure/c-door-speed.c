@@ -1,4 +1,4 @@
-/* Asks and answers one request again and again, for tools/door-speed.sh.
+/* Asks and answers one request again and again, for tools/measure/door-speed.sh.
  *
  * Usage: c-door-speed CLASS TIMES [ask]
  *

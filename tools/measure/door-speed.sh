@@ -2,21 +2,21 @@
 # Counts the instructions of an ask by the door (include/nizwarf.h), and of an ask with its answer, for some
 # requests in one piece, and takes their time: a line for each class, as a row of a table.
 #
-# Usage: tools/door-speed.sh
+# Usage: tools/measure/door-speed.sh
 # It takes the proved library where that is built (`rt lib` in crates/vfs_door), and says which one it is.
 # Instructions are those of all that runs, the inline functions of the header too, by the difference of a long
 # run and a short one under valgrind. Times are the least of 500 runs, each short enough for other work on
 # the machine to leave some alone, and move with the machine.
 set -euo pipefail
-. "$(dirname "$0")/usage.sh"
-. "$(dirname "$0")/transport.sh"
+. "$(dirname "$0")/../lib/usage.sh"
+. "$(dirname "$0")/../lib/transport.sh"
 take_none "$@"
 need valgrind "Install it: apt-get install valgrind."
 find_library vfs_door
 folder=$(mktemp -d)
 trap 'rm -rf "$folder"' EXIT
 program=$folder/c-door-speed
-cc -std=c11 -O2 -Wall -Wextra -Werror -I "$here/include" -o "$program" "$here/tools/c-door-speed.c" "${library[@]}"
+cc -std=c11 -O2 -Wall -Wextra -Werror -I "$here/include" -o "$program" "$here/tools/measure/c-door-speed.c" "${library[@]}"
 
 # How many instructions a run takes: counted WORD.. Valgrind counts `rep movsb`, by which glibc copies some KiB and
 # more, once for each byte, so glibc copies by vectors here.

@@ -1,5 +1,5 @@
 //! Times many reads and writes of 16 bytes over pieces of 64, by virtiofsd's reader and writer and by
-//! this project's, in one process: `tools/speed.sh --beside --growth` builds and runs it.
+//! this project's, in one process: `tools/measure/speed.sh --beside --growth` builds and runs it.
 //!
 //! A line for each number of calls: nanoseconds of processor time a call, the least of the runs of
 //! each side, and the middle of the ratios of runs that followed each other.

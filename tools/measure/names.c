@@ -3,7 +3,7 @@
  *
  * Usage: names N ..
  * For each N it prints N and the nanoseconds of a LOOKUP and of an entry of a READDIRPLUS: of nine passes
- * the median. tools/names.sh builds it and runs it. */
+ * the median. tools/measure/names.sh builds it and runs it. */
 #define _GNU_SOURCE
 #include <linux/fuse.h>
 #include <stdio.h>

@@ -3,7 +3,7 @@
 # each, in turns, by one job and by four. It prints a table: a row has the medians of ratios, nizwarf-share's time by
 # that of another; below 1 it is the quicker one.
 #
-# Usage: tools/share-speed.sh [ROUNDS [CLASS..]]
+# Usage: tools/measure/share-speed.sh [ROUNDS [CLASS..]]
 # Without a word 9 rounds of all classes, which take some ten minutes. Each has the options that it begins with,
 # but passthrough_ll `cache=auto`, which is that of nizwarf-share, and `default_permissions`, which the beside have.
 # The folders are in memory.
@@ -12,13 +12,13 @@
 # bindfs from Debian's packages, by apt-get, into an ignored folder; nothing is installed.
 # Status 0: it was timed; 1: not so; 2: it could not start.
 set -euo pipefail
-. "$(dirname "$0")/usage.sh"
-. "$(dirname "$0")/transport.sh"
-. "$(dirname "$0")/debian.sh"
+. "$(dirname "$0")/../lib/usage.sh"
+. "$(dirname "$0")/../lib/transport.sh"
+. "$(dirname "$0")/../lib/debian.sh"
 
 rounds=${1:-9}
 if ! [[ $rounds =~ ^[1-9][0-9]*$ ]]; then
-    echo "Usage: tools/share-speed.sh [ROUNDS [CLASS..]]" >&2
+    echo "Usage: tools/measure/share-speed.sh [ROUNDS [CLASS..]]" >&2
     exit 2
 fi
 if [ "$(id -u)" != 0 ] || [ ! -e /dev/fuse ]; then
@@ -61,7 +61,7 @@ fi
 LD_LIBRARY_PATH=$(dirname "$(find "$beside" -name libfuse3.so.3 -print -quit)")
 export LD_LIBRARY_PATH
 build_transport share vfs_door
-cc -std=c11 -O2 -Wall -Wextra -Werror -o "$here/out/c/share_speed" "$here/tools/share_speed.c"
+cc -std=c11 -O2 -Wall -Wextra -Werror -o "$here/out/c/share_speed" "$here/tools/measure/share_speed.c"
 work=$(mktemp -d -p /dev/shm)
 tidy() {
     umount -lq "$work"/*.mount
@@ -70,6 +70,6 @@ tidy() {
 trap 'tidy 2> /dev/null || true' EXIT
 echo "libfuse and bindfs $(tr '\n' ' ' < "$beside/versions")here $(git -C "$here" describe --always --dirty), Linux" \
     "$(uname -r), $(nproc) processors, load $(cut -d ' ' -f 1-3 /proc/loadavg), $rounds rounds"
-python3 -B "$here/tools/share_speed.py" "$here/out/c/share_speed" "$transport" "$beside/passthrough_ll" \
+python3 -B "$here/tools/measure/share_speed.py" "$here/out/c/share_speed" "$transport" "$beside/passthrough_ll" \
     "$beside/usr/bin/bindfs" "$here" "$work" "$rounds" "${@:2}"
 echo "load $(cut -d ' ' -f 1-3 /proc/loadavg)"

@@ -2,13 +2,13 @@
 # Draws docs/speed/growth.svg out of docs/speed/growth.tsv: nanoseconds a pair of a BATCH_FORGET over
 # the number of its pairs, both on scales of doubling.
 #
-# Usage: tools/speed-picture.sh
+# Usage: tools/measure/speed-picture.sh
 # A line of the figures is: the number of pairs, nanoseconds a pair in virtiofsd's Rust, and here. The
 # first line names the columns.
 set -eu
-. "$(dirname "${BASH_SOURCE[0]}")/usage.sh"
+. "$(dirname "${BASH_SOURCE[0]}")/../lib/usage.sh"
 take_none "$@"
-folder=$(cd "$(dirname "${BASH_SOURCE[0]}")/../docs/speed" && pwd)
+folder=$(cd "$(dirname "${BASH_SOURCE[0]}")/../../docs/speed" && pwd)
 
 awk -F '\t' '
 function log2(x) { return log(x) / log(2) }

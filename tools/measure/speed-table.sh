@@ -1,18 +1,19 @@
 #!/usr/bin/env bash
 # Makes docs/generated/ratios.md, the table of ratios, out of figures that were measured.
 #
-# Usage: tools/speed-table.sh [FILE ..]
-# Each FILE is what a run of `tools/speed.sh --beside` printed. Their figures go to docs/speed/ratios.tsv,
-# and from there into the table; with no FILE the table is made anew from the figures that are there. A cell
-# has the least and the greatest ratio of all passes, time here by time in virtiofsd's Rust.
-# docs/speed/classes.tsv has the names of the classes. tools/pictures.sh draws the ratios from the table.
+# Usage: tools/measure/speed-table.sh [FILE ..]
+# Each FILE is what a run of `tools/measure/speed.sh --beside` printed. Their figures go to
+# docs/speed/ratios.tsv, and from there into the table; with no FILE the table is made anew from the figures
+# that are there. A cell has the least and the greatest ratio of all passes, time here by time in virtiofsd's
+# Rust. docs/speed/classes.tsv has the names of the classes. tools/gate/pictures.sh draws the ratios from the
+# table.
 set -eu
-. "$(dirname "$0")/usage.sh"
+. "$(dirname "$0")/../lib/usage.sh"
 for file in "$@"; do
     [ -f "$file" ] || { sed -n '2,/^set/s/^# \{0,1\}//p' "$0" | sed '/^set/d' >&2 && exit 2; }
 done
 need python3 "Install it: apt-get install python3."
-here=$(cd "$(dirname "$0")/.." && pwd)
+here=$(cd "$(dirname "$0")/../.." && pwd)
 
 exec python3 - "$here" "$@" <<'PYTHON'
 import csv, sys
@@ -42,7 +43,7 @@ def figures(paths):
                     one = found.setdefault((words[0], words[1]), ([], words[6], words[11]))
                     one[0].append(float(words[14]))
     if not found:
-        sys.exit("tools/speed-table.sh: the files have no figures")
+        sys.exit("tools/measure/speed-table.sh: the files have no figures")
     return found
 
 
@@ -85,7 +86,7 @@ with open(PAGE, "w", encoding="utf-8") as file:
 
 Time of a request here by its time in virtiofsd's Rust, the least and the greatest of three passes, and
 allocations of a request in one piece. [SPEED.md](../SPEED.md) says how and when it was measured;
-`tools/speed-table.sh` makes this page.
+`tools/measure/speed-table.sh` makes this page.
 
 {table()}
 """)

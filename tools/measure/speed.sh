@@ -1,12 +1,12 @@
 #!/usr/bin/env bash
 # Measures what requests cost, with the library of crates/vfs_speed.
 #
-# Usage: tools/speed.sh [--beside [--source FOLDER]] [--growth] [--only TEXT] [--runs N] [--ms N]
+# Usage: tools/measure/speed.sh [--beside [--source FOLDER]] [--growth] [--only TEXT] [--runs N] [--ms N]
 # By itself it prints, for each class of request and each cutting of it, the processor time of a
 # request in nanoseconds, the least and the middle of N runs of N milliseconds, and its allocations.
 # With --growth: how the time of many reads and writes of 16 bytes over pieces of 64 grows.
 #
-# --beside holds virtiofsd's own Rust beside it, in one process. tools/oracle/build.sh builds that from
+# --beside holds virtiofsd's own Rust beside it, in one process. tools/compare/oracle/build.sh builds that from
 # Debian's package of its source, or from FOLDER. The replies of both are compared first, and nothing is
 # timed where they differ. Then trust the last column, the middle of the ratios of runs that followed
 # each other.
@@ -14,8 +14,8 @@
 # It builds the library where sources are newer, with its proof: in a minute where the crates below are
 # proved, and in half an hour where nothing is.
 set -euo pipefail
-. "$(dirname "${BASH_SOURCE[0]}")/usage.sh"
-here=$(cd "$(dirname "${BASH_SOURCE[0]}")/.." && pwd)
+. "$(dirname "${BASH_SOURCE[0]}")/../lib/usage.sh"
+here=$(cd "$(dirname "${BASH_SOURCE[0]}")/../.." && pwd)
 crate=$here/crates/vfs_speed
 library=$crate/out/libvfs_speed.a
 
@@ -42,7 +42,7 @@ need rt "The Rattle toolchain builds the library: put its folder bin on the PATH
 kit=$(cd "$(dirname "$(rt doc)")" && pwd)
 if [ -n "$beside" ]; then
     need rustc "Install a Rust compiler: apt-get install rustc."
-    "$here/tools/oracle/build.sh" "${source[@]}"
+    "$here/tools/compare/oracle/build.sh" "${source[@]}"
 else
     need cc "Install a C compiler: apt-get install gcc libc6-dev."
 fi
@@ -57,7 +57,7 @@ fi
 if [ -z "$beside" ]; then
     wraps=$(printf ' -Wl,--wrap=%s' malloc calloc realloc aligned_alloc)
     # shellcheck disable=SC2086
-    cc -O2 -o "$folder/speed" "$here/tools/speed.c" "$library" "$kit/c/liblibc_c.a" $wraps
+    cc -O2 -o "$folder/speed" "$here/tools/measure/speed.c" "$library" "$kit/c/liblibc_c.a" $wraps
     "$folder/speed" ${growth:+--growth} "${flags[@]}"
     exit
 fi
@@ -69,11 +69,11 @@ if [ -n "$growth" ]; then
     for name in vm_memory virtio_queue vhost_user_backend; do
         rust+=(--extern "$name=$beside/fast/lib$name.rlib")
     done
-    rustc "${rust[@]}" -o "$folder/growth" "$here/tools/growth.rs"
+    rustc "${rust[@]}" -o "$folder/growth" "$here/tools/measure/growth.rs"
     "$folder/growth"
     exit
 fi
-rustc "${rust[@]}" -o "$folder/beside" "$here/tools/oracle/src/bin/beside.rs"
+rustc "${rust[@]}" -o "$folder/beside" "$here/tools/compare/oracle/src/bin/beside.rs"
 if ! "$folder/beside" "${flags[@]}" --digests > "$folder/digests"; then
     grep DIFFER "$folder/digests" >&2 || echo "The replies can't be compared." >&2
     exit 1

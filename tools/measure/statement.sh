@@ -2,7 +2,7 @@
 # Counts what a reader of a promise has to read: the definitions that it names, those that these name, and
 # so on.
 #
-# Usage: tools/statement.sh [--files | --once | --beside] [CRATE/FILE.NAME ..]
+# Usage: tools/measure/statement.sh [--files | --once | --beside] [CRATE/FILE.NAME ..]
 # A definition to begin with is written vfs_server/Session.IsSession, which is also what is counted without one.
 #
 #   --files    each file, with how many of its definitions and lines are reached
@@ -12,9 +12,9 @@
 # Lines are those of definitions, without comments and empty lines. Types of the code, as records and enums of
 # the protocol, are counted apart.
 set -eu
-. "$(dirname "$0")/usage.sh"
+. "$(dirname "$0")/../lib/usage.sh"
 need python3 "Install it: apt-get install python3."
-cd "$(dirname "$0")/.."
+cd "$(dirname "$0")/../.."
 
 exec python3 - "$@" <<'PYTHON'
 import collections, glob, re, sys
@@ -118,7 +118,7 @@ def main():
     words = sys.argv[1:]
     show = words.pop(0) if words and words[0].startswith("--") else ""
     if show not in ("", "--files", "--once", "--beside"):
-        sys.exit(f"statement.sh: {show} is no option: see tools/statement.sh --help")
+        sys.exit(f"statement.sh: {show} is no option: see tools/measure/statement.sh --help")
     specs = Specs()
     by = specs.reach([start_of(specs, it) for it in words or ["vfs_server/Session.IsSession"]])
     reached = [it for it in by if it[0] != "declared"]

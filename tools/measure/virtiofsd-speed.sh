@@ -2,16 +2,16 @@
 # Measures virtiofsd 1.13.2 with the protocol layer here in place of its own, and nizwarf-share, beside the
 # unmodified virtiofsd: processor time and time by the clock of a request, as ratios.
 #
-# Usage: tools/virtiofsd-speed.sh [--rounds N] [--ms N] [--pools LIST] [--depths LIST] [--classes LIST]
+# Usage: tools/measure/virtiofsd-speed.sh [--rounds N] [--ms N] [--pools LIST] [--depths LIST] [--classes LIST]
 #                                 [--instructions] [FOLDER]
 # Each daemon shares the same folder, in /dev/shm if that is there, and serves one front end over vhost-user,
-# tools/beside/pace.c: a request's header, record and data lie in descriptors as those of a guest of Linux. For
-# each class of requests, number in flight (1,4,16) and size of the thread pool (0,2,4) the daemons are asked in
-# turns, N rounds (61) of N ms (4) each, on the same processors: the front end has one, and without a pool a
-# daemon one. It prints a page, docs/generated/end-to-end.md is one: of all rounds' ratios to the unmodified
-# virtiofsd the median, and between what half of them lie. Those of each setting are in speed.tsv in the folder,
-# which is out/virtiofsd if none is given; docs/speed/end-to-end.tsv are such. tools/pictures.sh draws the page.
-# tools/beside/pace.c has the classes.
+# tools/compare/beside/pace.c: a request's header, record and data lie in descriptors as those of a guest of
+# Linux. For each class of requests, number in flight (1,4,16) and size of the thread pool (0,2,4) the daemons
+# are asked in turns, N rounds (61) of N ms (4) each, on the same processors: the front end has one, and without
+# a pool a daemon one. It prints a page, docs/generated/end-to-end.md is one: of all rounds' ratios to the
+# unmodified virtiofsd the median, and between what half of them lie. Those of each setting are in speed.tsv in
+# the folder, which is out/virtiofsd if none is given; docs/speed/end-to-end.tsv are such.
+# tools/gate/pictures.sh draws the page. tools/compare/beside/pace.c has the classes.
 #
 # Processor time is that of the daemon's threads, the kernel's part too, as /proc/PID/task/*/schedstat has it.
 # With --instructions the table has also those of the daemons' own code for a request, which do not move with
@@ -22,12 +22,12 @@
 # --instructions.
 # Status 0: it was measured; 1: a daemon replied otherwise than the first one; 2: it could not start.
 set -euo pipefail
-. "$(dirname "$0")/usage.sh"
-. "$(dirname "$0")/transport.sh"
+. "$(dirname "$0")/../lib/usage.sh"
+. "$(dirname "$0")/../lib/transport.sh"
 
 refuse() {
     echo "$1" >&2
-    echo "Usage: tools/virtiofsd-speed.sh [--rounds N] [--ms N] [--pools LIST] [--depths LIST] [--classes LIST]" >&2
+    echo "Usage: tools/measure/virtiofsd-speed.sh [--rounds N] [--ms N] [--pools LIST] [--depths LIST] [--classes LIST]" >&2
     echo "                                [--instructions] [FOLDER]" >&2
     exit 2
 }
@@ -68,10 +68,10 @@ folder=${folder:-$here/out/virtiofsd}
 "$here/tools/virtiofsd.sh" "$folder" > /dev/null
 "$here/tools/virtiofsd.sh" --unmodified "$folder" > /dev/null
 build_transport share vfs_door
-cc -std=c11 -O2 -Wall -Wextra -Werror -o "$folder/pace" "$here/tools/beside/pace.c"
+cc -std=c11 -O2 -Wall -Wextra -Werror -o "$folder/pace" "$here/tools/compare/beside/pace.c"
 memory=/dev/shm
 [ -w "$memory" ] || memory=${TMPDIR:-/tmp}
 work=$(mktemp -d "$memory/nizwarf-XXXXXX")
 trap 'rm -rf "$work"' EXIT
-python3 -B "$here/tools/beside/pace.py" "${words[@]}" "$folder/pace" "$work" "$folder/speed.tsv" \
+python3 -B "$here/tools/compare/beside/pace.py" "${words[@]}" "$folder/pace" "$work" "$folder/speed.tsv" \
     "$folder/virtiofsd" "$folder/nizwarf-virtiofsd" "$transport"

@@ -1,5 +1,5 @@
 //! Calls that ask for memory, each between two lines by which a refusal can be aimed at it: for
-//! `tools/refuse-allocations.sh` alone.
+//! `tools/gate/refuse-allocations.sh` alone.
 //!
 //! Each part of the output is about one call:
 //!

@@ -1,16 +1,16 @@
 #!/usr/bin/env bash
 # Gets a server of FUSE from Debian's packages, and builds it with what of it stands beside this script.
 #
-# Usage: tools/beside/get.sh libfuse|fuser|go-fuse|virtiofsd SUITE TO FOLDER
+# Usage: tools/compare/beside/get.sh libfuse|fuser|go-fuse|virtiofsd SUITE TO FOLDER
 # It leaves the program as TO, and its package's version as TO.version; of virtiofsd TO is the folder with the
 # daemon and its libraries. FOLDER is for what it makes meanwhile; in it are lists of packages from one call to
-# the next. tools/beside.sh calls it.
+# the next. tools/compare/beside.sh calls it.
 set -euo pipefail
-. "$(dirname "$0")/../usage.sh"
-. "$(dirname "$0")/../debian.sh"
+. "$(dirname "$0")/../../lib/usage.sh"
+. "$(dirname "$0")/../../lib/debian.sh"
 
 if [ $# != 4 ]; then
-    echo "Usage: tools/beside/get.sh libfuse|fuser|go-fuse|virtiofsd SUITE TO FOLDER" >&2
+    echo "Usage: tools/compare/beside/get.sh libfuse|fuser|go-fuse|virtiofsd SUITE TO FOLDER" >&2
     exit 2
 fi
 beside=$(cd "$(dirname "$0")" && pwd)

@@ -1,5 +1,5 @@
 #!/usr/bin/env python3
-"""Asks several servers of FUSE the same sessions, and sorts what comes. tools/beside.sh builds them.
+"""Asks several servers of FUSE the same sessions, and sorts what comes. tools/compare/beside.sh builds them.
 
 Usage: others.py [--seed N --count M] [--page] PEERS FOLDER
 A line of the file PEERS has, with tabs between: `pair` or `vhost`, a name, a version, what its documents say of

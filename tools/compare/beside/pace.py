@@ -1,4 +1,4 @@
-"""Measures vhost-user daemons of virtio-fs in turns. tools/virtiofsd-speed.sh starts it and says what it does.
+"""Measures vhost-user daemons of virtio-fs in turns. tools/measure/virtiofsd-speed.sh starts it and says what it does.
 
 Usage: pace.py [--rounds N] [--ms N] [--pools LIST] [--depths LIST] [--classes LIST] [--instructions]
                PACE WORK DATA THEIRS REPLACED SHARE
@@ -173,7 +173,7 @@ def show(ratios, given, load, counts):
     print("# Requests to a daemon, by virtiofsd's time\n")
     print(f"Of {given.rounds} rounds of {given.ms} ms in each of {len(given.pools) * len(given.depths)} settings (thread "
           f"pools {given.pools}, in flight {given.depths}) the median of the ratios, and between what half of them "
-          f"lie. The load of the machine was {load}. `tools/virtiofsd-speed.sh` made this page.\n")
+          f"lie. The load of the machine was {load}. `tools/measure/virtiofsd-speed.sh` made this page.\n")
     heads = [f"{name}: {what}" for name in NAMES[1:]
              for what in ("processor", "clock", *(["instructions"] if counts else []))]
     print("| Request | " + " | ".join(heads) + " |")

@@ -1,4 +1,4 @@
-"""Asks two sides the same at random, shrinks what differs, and says so: what tools/mirror.sh calls.
+"""Asks two sides the same at random, shrinks what differs, and says so: what tools/compare/mirror.sh calls.
 
     mirror.py calls KIND SEED COUNT KNOWN FOLDER BESIDE
     mirror.py requests KIND SEED COUNT KNOWN LIBRARY BESIDE"""

@@ -1,7 +1,7 @@
 #!/usr/bin/env bash
-# Builds virtiofsd's own code over lists of byte segments: the oracle that tools/compare.sh asks.
+# Builds virtiofsd's own code over lists of byte segments: the oracle that tools/compare/oracle.sh asks.
 #
-# Usage: tools/oracle/build.sh [--source FOLDER]
+# Usage: tools/compare/oracle/build.sh [--source FOLDER]
 # The code is that of virtiofsd 1.13.2: fuse.rs, descriptor_utils.rs, filesystem.rs and server.rs. It is
 # taken from Debian's package librust-virtiofsd-dev, of this machine's Debian or of Debian 13, which
 # apt-get downloads by lists of its own and which is unpacked below out/oracle and never installed. With
@@ -10,15 +10,15 @@
 #
 # In out/oracle it leaves the programs `raw` (the code as it stands), `mended` (without the faults that
 # docs/DIFFERENCES.md lists) and `later` (entries given back, and a limit that is chosen), and in
-# out/oracle/fast what tools/speed.sh links. It runs virtiofsd's own tests of its segments over the crates
-# that stand in, where the source has them, and holds the three programs against differences.txt.
+# out/oracle/fast what tools/measure/speed.sh links. It runs virtiofsd's own tests of its segments over the
+# crates that stand in, where the source has them, and holds the three programs against differences.txt.
 #
 # It wants rustc and Python 3, builds only what is older than its sources or by another compiler, and takes
 # half a minute.
 set -euo pipefail
-. "$(dirname "${BASH_SOURCE[0]}")/../usage.sh"
+. "$(dirname "${BASH_SOURCE[0]}")/../../lib/usage.sh"
 here=$(cd "$(dirname "${BASH_SOURCE[0]}")" && pwd)
-out=$here/../../out/oracle
+out=$here/../../../out/oracle
 mkdir -p "$out"
 out=$(cd "$out" && pwd)
 
@@ -135,7 +135,7 @@ while [ $# -gt 0 ]; do
             shift 2
             ;;
         *)
-            echo "Usage: tools/oracle/build.sh [--source FOLDER]" >&2
+            echo "Usage: tools/compare/oracle/build.sh [--source FOLDER]" >&2
             exit 2
             ;;
     esac

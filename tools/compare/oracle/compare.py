@@ -1,5 +1,5 @@
 #!/usr/bin/env python3
-"""Compares the programs of this repository with the oracle, for tools/compare.sh.
+"""Compares the programs of this repository with the oracle, for tools/compare/oracle.sh.
 
 Usage: compare.py SEED COUNT JOBS ORACLE PROGRAM ..
 Each session goes to a program as it is cut, and with each request in one segment and one room:
@@ -22,7 +22,7 @@ import time
 
 import sessions
 
-TOP = pathlib.Path(__file__).resolve().parents[2]
+TOP = pathlib.Path(__file__).resolve().parents[3]
 # For each way of asking: the program, the sessions that it gets, and how the oracle is asked.
 WAYS = {"vfs_script": ("vfs_script", "script", "script"), "vfs_demo": ("vfs_demo", "memory", "memory"),
         "refusals": ("vfs_script", "memory", "rooms")}

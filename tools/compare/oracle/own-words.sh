@@ -2,14 +2,14 @@
 # Shows that no line of the repository is virtiofsd's: no line has twelve words in a row that stand in a
 # row in one of its four files.
 #
-# Usage: tools/oracle/own-words.sh [--source FOLDER] [FILE ..]
+# Usage: tools/compare/oracle/own-words.sh [--source FOLDER] [FILE ..]
 # It reads the files that git has or would add, or FILE .., and prints each such line with its place. Words
 # are runs of letters, digits and _, so that neither blanks nor signs nor the ends of the Rust's lines
-# matter. The four files are those that tools/oracle/build.sh has unpacked, or FOLDER's. Status 0: there is
-# no such line.
+# matter. The four files are those that tools/compare/oracle/build.sh has unpacked, or FOLDER's. Status 0: there
+# is no such line.
 set -euo pipefail
-. "$(dirname "$0")/../usage.sh"
-top=$(cd "$(dirname "$0")/../.." && pwd)
+. "$(dirname "$0")/../../lib/usage.sh"
+top=$(cd "$(dirname "$0")/../../.." && pwd)
 
 source=$top/out/oracle/source
 if [ "${1:-}" = --source ]; then
@@ -17,7 +17,7 @@ if [ "${1:-}" = --source ]; then
     source=$(cd "$2" && pwd)
     shift 2
 elif [ ! -d "$source" ]; then
-    echo "There is no $source: tools/oracle/build.sh unpacks it, or --source FOLDER names the four files." >&2
+    echo "There is no $source: tools/compare/oracle/build.sh unpacks it, or --source FOLDER names the four files." >&2
     exit 2
 fi
 files=()
@@ -30,7 +30,7 @@ cd "$top"
 [ ${#files[@]} -gt 0 ] || { echo "git has no files here: it wants git and a clone, or FILE .." >&2 && exit 2; }
 printf '%s\0' "${files[@]}" | python3 -B -c '
 import pathlib, re, sys
-sys.path.insert(0, "tools/oracle")
+sys.path.insert(0, "tools/compare/oracle")
 import edits
 
 RUN = 12

@@ -1,17 +1,17 @@
 #!/usr/bin/env bash
 # Gets what a suite wants from Debian's packages, and builds it if it is a source.
 #
-# Usage: tools/suites/get.sh WHAT FOLDER
-# WHAT is a suite of tools/suites.sh, or passthrough_ll or bindfs. Packages that the machine doesn't have are
-# downloaded by apt-get and unpacked below FOLDER, and never installed: programs and libraries in FOLDER/root,
-# CPython with its tests in FOLDER/cpython, coreutils as built in FOLDER/coreutils. FOLDER/have-WHAT has the version.
-# Nothing is done if it is there already. tools/suites.sh calls it.
+# Usage: tools/compare/suites/get.sh WHAT FOLDER
+# WHAT is a suite of tools/compare/suites.sh, or passthrough_ll or bindfs. Packages that the machine doesn't
+# have are downloaded by apt-get and unpacked below FOLDER, and never installed: programs and libraries in
+# FOLDER/root, CPython with its tests in FOLDER/cpython, coreutils as built in FOLDER/coreutils.
+# FOLDER/have-WHAT has the version. Nothing is done if it is there already. tools/compare/suites.sh calls it.
 set -euo pipefail
-. "$(dirname "$0")/../usage.sh"
-. "$(dirname "$0")/../debian.sh"
+. "$(dirname "$0")/../../lib/usage.sh"
+. "$(dirname "$0")/../../lib/debian.sh"
 
 if [ $# != 2 ]; then
-    echo "Usage: tools/suites/get.sh WHAT FOLDER" >&2
+    echo "Usage: tools/compare/suites/get.sh WHAT FOLDER" >&2
     exit 2
 fi
 what=$1 there=$2

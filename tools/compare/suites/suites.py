@@ -1,4 +1,4 @@
-"""Runs the suites of others in a folder each, and says where folders differ: what tools/suites.sh calls.
+"""Runs the suites of others in a folder each, and says where folders differ: what tools/compare/suites.sh calls.
 
 Each suite is a process of its own, in namespaces of its own, which prints a line for each case: its name, a tab,
 and what came: ok, failed, skipped or something longer."""
@@ -298,7 +298,7 @@ def pgbench(run):
 
 
 def git(run):
-    source = HERE.parent.parent
+    source = HERE.parent.parent.parent
     status, _ = run.call(["git", "-c", "safe.directory=*", "-C", source, "rev-parse", "HEAD~5"], said=False)
     run.env |= {f"GIT_{who}_{what}": "suites" for who in ("AUTHOR", "COMMITTER") for what in ("NAME", "EMAIL")}
     run.env |= {"GIT_CONFIG_COUNT": "2", "GIT_CONFIG_KEY_0": "safe.directory", "GIT_CONFIG_VALUE_0": "*",
