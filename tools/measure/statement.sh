@@ -10,7 +10,8 @@
 #   --beside   those of the same files that are not reached
 #
 # Lines are those of definitions, without comments and empty lines. Types of the code, as records and enums of
-# the protocol, are counted apart.
+# the protocol, are counted apart. So are the definitions of the files Decoders.antt: how a record is made of its
+# fields follows of how it is split into them, by the law decoding_is_the_inverse of vfs_wire.
 set -eu
 . "$(dirname "$0")/../lib/usage.sh"
 need python3 "Install it: apt-get install python3."
@@ -121,7 +122,9 @@ def main():
         sys.exit(f"statement.sh: {show} is no option: see tools/measure/statement.sh --help")
     specs = Specs()
     by = specs.reach([start_of(specs, it) for it in words or ["vfs_server/Session.IsSession"]])
-    reached = [it for it in by if it[0] != "declared"]
+    all_reached = [it for it in by if it[0] != "declared"]
+    reached = [it for it in all_reached if not it[0].endswith(".Decoders")]
+    followed = [it for it in all_reached if it[0].endswith(".Decoders")]
     at = lambda it: specs.of[it[0]][it[1]]
     files = collections.Counter(at(it).path for it in reached)
     lines = collections.Counter()
@@ -140,7 +143,10 @@ def main():
                     print(f"{module}.{name}")
     crates = {path.split("/")[1] for path in files}
     print(f"{len(reached)} definitions, {sum(lines.values())} lines, in {len(files)} files of {len(crates)} crates;"
-          f" {len(by) - len(reached)} types of the code")
+          f" {len(by) - len(all_reached)} types of the code")
+    if followed:
+        both = sum(len(at(it).lines) for it in all_reached)
+        print(f"with the {len(followed)} decoders, which a law gives: {len(all_reached)} definitions, {both} lines")
 
 
 main()

@@ -2,8 +2,8 @@
 use Rattle.std.specs.Prelude.{ℕ, ◌+◌, List, [], ◌∷◌, ◌++◌, length}
 use Rattle.vfs_flags.specs.declared.opcode.Opcode.TheVariants.{Lookup, Read}
 use Rattle.vfs_wire.specs.Fields.{bytes_of}
-use Rattle.vfs_wire.specs.Headers.{in_header, request_header}
-use Rattle.vfs_wire_more.specs.Files.{read_in}
+use Rattle.vfs_wire.specs.Records.{in_header, request_header}
+use Rattle.vfs_wire_more.specs.Records.{read_in}
 
 -- a LOOKUP of this name: its header, the name, and a nul
 abbrev pub lookup_request : (unique parent : ℕ) → (name : List ℕ) → List ℕ

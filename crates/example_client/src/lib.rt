@@ -7,7 +7,7 @@
 
 ghost use Rattle.std.specs.Prelude.{◌≡◌, ◌≢◌, ◌+◌, ◌<◌, ◌≤◌, ◌^◌, pos, length, drop, IfOk, IfSome, IsNone, IsOk};
 ghost use Rattle.vfs_wire.specs.Fields.{numbers_at, value_of};
-ghost use Rattle.vfs_wire.specs.Headers.{out_header};
+ghost use Rattle.vfs_wire.specs.Records.{out_header};
 ghost use Rattle.example_client.specs.Requests.{lookup_request, read_request};
 
 mod uses;

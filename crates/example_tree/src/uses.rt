@@ -2,7 +2,7 @@
 
 ghost use Rattle.std.specs.Prelude.{◌≡◌, ◌≤◌, [], ◌∷◌, codes, Ok, Err, Some, None, MatchResult, option_map};
 ghost use Rattle.std.specs.Duration.{as_nanos};
-ghost use Rattle.vfs_files.specs.Items.{item_of};
+ghost use Rattle.vfs_files.specs.Values.{item_of};
 
 use crate::Docs;
 use std::time::Duration;

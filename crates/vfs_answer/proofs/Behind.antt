@@ -3,7 +3,7 @@
 use Rattle.std.proofs.Common.{◌≡◌, ◌≤◌, ◌+◌, ◌∙◌, ℕ, List, ◌++◌, length, take, drop, Option, Result, Ok, refl, ap, sym, arith, append_assoc, length-append, length-take, length-drop}
 use Rattle.std.proofs.lemmas.List.{take_at, drop-append-le, take-append-drop}
 use Rattle.vfs_wire.specs.Fields.{bytes_of}
-use Rattle.vfs_wire.specs.Headers.{out_header}
+use Rattle.vfs_wire.specs.Records.{out_header}
 use Rattle.vfs_segments.specs.Written.{Written, whole, wrote}
 use Rattle.vfs_messages.specs.Rooms.{data_header, Replies, with_behind}
 use Rattle.vfs_messages.proofs.Rooms.{whole_behind}

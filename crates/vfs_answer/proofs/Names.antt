@@ -5,7 +5,8 @@ use Rattle.std.proofs.lemmas.Bool.Decides.{nat_tests}
 use Rattle.std.proofs.lemmas.Grind.{common_steps}
 use Rattle.std.proofs.lemmas.List.{get_or-take, length-take, length_push, get_or_append_left, get_or_at}
 use Rattle.std.proofs.lemmas.List.Sums.{position_or_len_is}
-use Rattle.vfs_files.specs.Names.{name_of, name_to}
+use Rattle.vfs_files.specs.Values.{name_of}
+use Rattle.vfs_files.specs.Places.{name_to}
 use Rattle.vfs_files.proofs.Texts.{found_is_name}
 use Rattle.vfs_answer.specs.Names.{AreNonzero}
 

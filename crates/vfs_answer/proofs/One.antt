@@ -4,13 +4,11 @@ use Rattle.std.proofs.lemmas.Bool.Decides.{nat_tests}
 use Rattle.std.proofs.lemmas.List.Sums.{sum_by-cons}
 use Rattle.vfs_segments.specs.Written.{Written}
 use Rattle.vfs_files.specs.Calls.{Data, read_answer}
-use Rattle.vfs_files.specs.Items.{Item}
-use Rattle.vfs_files.specs.Names.{name_of}
+use Rattle.vfs_files.specs.Values.{Item, name_of}
 use Rattle.vfs_files.specs.Runs.{Event}
 use Rattle.vfs_messages.specs.Rooms.{Replies}
-use Rattle.vfs_grammar.specs.Dirents.{Fits}
+use Rattle.vfs_grammar.specs.Listing.{Fits, Line, Stop, End, At, Got, len_of, line_len, answer_of, AreWritten, Stops, verdict}
 use Rattle.vfs_grammar.specs.Forms.{Listing}
-use Rattle.vfs_grammar.specs.Listing.{Line, Stop, End, At, Got, judged, len_of, line_len, answer_of, AreWritten, Stops}
 use Rattle.vfs_grammar.specs.Reply.{Echo, reply_of}
 use Rattle.vfs_grammar.specs.Turn.{IsRead}
 use Rattle.vfs_grammar.specs.declared.limits.Limits.{Limits}
@@ -28,7 +26,7 @@ one_len : (got : Got) (i : Item) → got ≡ Ok None → length i.name ≡ 1 →
 one_len got i g e = rw (g, e) refl
 
 -- it fits
-one_fits : (max space : ℕ) (got : Got) (i : Item) → got ≡ Ok None → length i.name ≡ 1 → 32 ≤ max → 32 ≤ space → judged max space got i ≡ Fits
+one_fits : (max space : ℕ) (got : Got) (i : Item) → got ≡ Ok None → length i.name ≡ 1 → 32 ≤ max → 32 ≤ space → verdict max space got i ≡ Fits
 one_fits max space got i g e m s =
     let a : nat_lt max 32 ≡ false = grind (arith, nat_tests) in
     let b : nat_lt space 32 ≡ false = grind (arith, nat_tests) in

@@ -3,18 +3,16 @@ use Rattle.std.proofs.Common.{◌≡◌, ◌≤◌, ◌+◌, ◌-◌, ◌∙◌,
 use Rattle.std.specs.Prelude.{◌↔◌}
 use Rattle.std.specs.Int.{next_multiple_of}
 use Rattle.vfs_wire.specs.Fields.{bytes_of}
-use Rattle.vfs_wire.specs.Listings.{dirent, direntplus}
+use Rattle.vfs_wire.specs.Records.{dirent, direntplus}
 use Rattle.vfs_wire.specs.declared.entries.EntryOut.{EntryOut}
 use Rattle.vfs_wire.specs.declared.listings.Dirent.{Dirent}
 use Rattle.vfs_wire.specs.declared.listings.Direntplus.{Direntplus}
-use Rattle.vfs_segments.specs.Written.{wrote}
-use Rattle.vfs_files.specs.Entries.{entry_out_of}
-use Rattle.vfs_files.specs.Items.{Item}
+use Rattle.vfs_segments.specs.Written.{wrote, Written}
+use Rattle.vfs_files.specs.Values.{entry_out_of, Item}
 use Rattle.vfs_files.specs.declared.entry.Entry.{Entry}
-use Rattle.vfs_grammar.specs.Dirents.{dirent_of, dirent_bytes, record_bytes}
+use Rattle.vfs_grammar.specs.Listing.{dirent_of, dirent_bytes, record_bytes}
 use Rattle.vfs_grammar.proofs.Dirents.{length-dirent_bytes, length-record_bytes}
 use Rattle.vfs_listings.proofs.Putting.{puts_by, dirent_parts, direntplus_parts}
-use Rattle.vfs_segments.specs.Written.{Written}
 use Rattle.vfs_listings.specs.Reading.{PutsBeginning}
 
 -- the same of another success

@@ -5,9 +5,8 @@ use Rattle.std.proofs.lemmas.List.{length_push, take_more, take_all, take-append
 use Rattle.std.proofs.lemmas.List.Sums.{sum_by_push}
 use Rattle.std.specs.List.{flat_map}
 use Rattle.vfs_segments.specs.Written.{Written}
-use Rattle.vfs_files.specs.Names.{name_of}
-use Rattle.vfs_grammar.specs.Dirents.{Verdict, Fits, Full, Fails}
-use Rattle.vfs_grammar.specs.Listing.{Line, End, At, line_len, line_bytes, bytes_got, len_of, judged, fate, AreWritten, told, answer_at}
+use Rattle.vfs_files.specs.Values.{name_of}
+use Rattle.vfs_grammar.specs.Listing.{Verdict, Fits, Full, Fails, Line, End, At, line_len, line_bytes, bytes_got, len_of, AreWritten, answer_at, verdict}
 use Rattle.vfs_grammar.proofs.Listings.{fits_within, length-bytes_got}
 use Rattle.vfs_listings.specs.Reading.{Puts, cut_by}
 use Rattle.vfs_listings.specs.ReadingLaws.{puts_nothing}
@@ -123,14 +122,14 @@ module _ (plus : Bool) (size : ℕ) (items : List ItemData) (old : Written) wher
   -- an item that is not written
   taking_stop : {index written taken m : ℕ} {now then : Written} {result : Result ℕ (Option ℕ)} → (f : Taking index written taken now) → (d : ItemData)
       → index < length items → (a : AddsItem plus (size - written) (get_or items index d) now result then)
-      → (v : Verdict) → judged (size - written) (length now.left) a.line.got a.line.item ≡ v → v ≢ Fits
+      → (v : Verdict) → verdict (size - written) (length now.left) a.line.got a.line.item ≡ v → v ≢ Fits
       → m ≡ taken_by (answer_at plus written v) taken
       → ReadsOffered plus size items old (answer_at plus written v) m then
   taking_stop {index} {written} {taken} {m} {now} {then} {result} f d here a v is wrong number =
       let l = a.line in
       let room : length now.left ≡ length old.left - sum_by line_len f.lines = omega (arith, f.left, f.count) in
       let max : size - written ≡ size - sum_by line_len f.lines = omega (arith, f.count) in
-      let fated : fate size (length old.left) (sum_by line_len f.lines) l ≡ v = rw (← max, ← room) is in
+      let fated : (verdict (size - (sum_by line_len f.lines)) ((length old.left) - (sum_by line_len f.lines)) l.got l.item) ≡ v = rw (← max, ← room) is in
       let cut : Puts now (cut_by v (length now.left) (bytes_got l.got l.item)) then =
       rw (← is) (cut_put (size - written) l.got l.item now result then a.adds (λ e. wrong (sym is ∙ e))) in
       record {
@@ -154,7 +153,7 @@ module _ (plus : Bool) (size : ℕ) (items : List ItemData) (old : Written) wher
   -- an item that fails
   pub taking_failed : {index written taken m : ℕ} {now then : Written} {fault : Option ℕ} {result : Result ℕ (Option ℕ)} → Taking index written taken now
       → (d : ItemData) → index < length items → AddsItem plus (size - written) (get_or items index d) now (Err fault) then
-      → result ≡ told plus written fault → m ≡ taken_by result taken → ReadsOffered plus size items old result m then
+      → result ≡ answer_at plus written (Fails fault) → m ≡ taken_by result taken → ReadsOffered plus size items old result m then
   taking_failed {index} {written} {taken} {m} {now} {then} {fault} {result} f d here a e number =
       subst (λ (r : Result ℕ (Option ℕ)). ReadsOffered plus size items old r m then) (sym e)
       (taking_stop f d here a (Fails fault) (has_failed (size - written) (length now.left) a.line.got a.line.item now fault then a.adds) (λ e. cc)

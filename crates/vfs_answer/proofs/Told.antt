@@ -1,7 +1,7 @@
 -- What came of an answer, in the room that was told at the call.
 use Rattle.std.proofs.Common.{◌≡◌, ◌≤◌, ◌+◌, ◌∙◌, ℕ, List, ◌++◌, true, length, take, drop, Option, Some, Result, Ok, Err, IfOk, MatchResult, ap, sym, subst, arith, length-append, length-take, length-drop}
 use Rattle.vfs_wire.specs.Fields.{bytes_of}
-use Rattle.vfs_wire.specs.Headers.{out_header}
+use Rattle.vfs_wire.specs.Records.{out_header}
 use Rattle.vfs_segments.specs.Written.{Written, wrote}
 use Rattle.vfs_files.specs.Calls.{Kind, Data, Answer, IsFault, read_answer}
 use Rattle.vfs_messages.specs.Rooms.{data_header, Replies, with_behind}

@@ -6,11 +6,11 @@ use Rattle.std.proofs.lemmas.Int.{ints}
 use Rattle.vfs_flags.specs.Flags.{known_fs_options}
 use Rattle.vfs_wire.specs.Fields.{bytes_of}
 use Rattle.vfs_wire.specs.FieldLaws.{length-bytes_of}
-use Rattle.vfs_wire.specs.Entries.{entry_out}
+use Rattle.vfs_wire.specs.Records.{entry_out}
 use Rattle.vfs_wire.specs.declared.entries.EntryOut.{EntryOut}
 use Rattle.vfs_segments.specs.Written.{Written}
 use Rattle.vfs_files.specs.Calls.{Call, kind_of, Getattr, Lookup, Init, Answer, Failed, Found, Options, FitsEntry, IsAnswer, TimedAttributes, Entries, Agreements, Iterators}
-use Rattle.vfs_files.specs.Entries.{entry_out_of}
+use Rattle.vfs_files.specs.Values.{entry_out_of}
 use Rattle.vfs_files.specs.declared.entry.Context.{Context}
 use Rattle.vfs_files.specs.declared.entry.Entry.{Entry}
 use Rattle.vfs_messages.specs.Rooms.{Replies, with_behind}

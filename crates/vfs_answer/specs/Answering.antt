@@ -1,6 +1,6 @@
 -- What comes of an answer.
 use Rattle.std.specs.Prelude.{◌≡◌, ◌==◌, ◌&&◌, if◌then◌else◌, ◌+◌, ◌-◌, ◌^◌, ◌++◌, ⊤, ℕ, List, Bool, true, false, Option, Some, None, length, drop, nat_le, nat_lt, unwrap_or}
-use Rattle.vfs_wire.specs.Headers.{out_header}
+use Rattle.vfs_wire.specs.Records.{out_header}
 use Rattle.vfs_segments.specs.Written.{Written, whole}
 use Rattle.vfs_files.specs.Calls.{Kind, Quiet, Data, Agreements, Iterators, Answer, Options, IsAnswer}
 use Rattle.vfs_messages.specs.Rooms.{Replies, with_behind}

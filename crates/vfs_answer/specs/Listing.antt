@@ -2,7 +2,7 @@
 use Rattle.std.specs.Prelude.{◌≡◌, ◌==◌, ◌-◌, ℕ, pos, bit_and, length, not, List, Option, Result}
 use Rattle.std.proofs.Common.{inl, inr}
 use Rattle.vfs_segments.specs.Written.{Written}
-use Rattle.vfs_wire.specs.Headers.{out_header}
+use Rattle.vfs_wire.specs.Records.{out_header}
 use Rattle.vfs_files.specs.Calls.{Data, IsAnswer, read_answer}
 use Rattle.vfs_files.specs.Runs.{Event}
 use Rattle.vfs_messages.specs.Rooms.{Replies}

@@ -2,9 +2,7 @@
 use Rattle.std.specs.Prelude.{◌≡◌, ◌≢◌, ◌⊎◌, ⊤, ℕ, pos, length, List, [], ◌∷◌, ◌++◌, Bool, true, false, Option, None, Some, Result, Ok, Err, sum_by}
 use Rattle.std.specs.List.{flat_map}
 use Rattle.vfs_segments.specs.Written.{Written}
-use Rattle.vfs_files.specs.Entries.{entry_out_of}
-use Rattle.vfs_files.specs.Items.{Item}
-use Rattle.vfs_files.specs.Names.{name_of}
+use Rattle.vfs_files.specs.Values.{entry_out_of, Item, name_of}
 use Rattle.vfs_grammar.specs.Listing.{Got, Line, Stop, End, At, is_dot, IsGot, AreWritten, Stops, answer_of, line_len, line_bytes}
 use Rattle.vfs_listings.specs.Reading.{AddsGot, Puts, cut_short}
 use Rattle.vfs_calls.specs.Values.{IsFaultOf, entry_out_for}

@@ -1,11 +1,10 @@
 -- What an answer as data says: the answer of the call, by its kind.
 use Rattle.std.specs.Prelude.{◌≡◌, ◌≢◌, ◌⊎◌, ◌<◌, ◌≤◌, ◌+◌, ◌-◌, ◌^◌, ⊤, ℕ, pos, length, min, take, drop, bit_and, List, Option, Some, None, Result, Ok, Err}
-use Rattle.vfs_flags.specs.Errors.{eio, erange}
+use Rattle.vfs_flags.specs.Numbers.{eio, erange}
 use Rattle.vfs_flags.specs.Flags.{known_fs_options, known_open_options}
-use Rattle.vfs_wire.specs.Headers.{out_header}
-use Rattle.vfs_files.specs.Entries.{entry_out_of, whole_seconds, nanoseconds_beyond}
-use Rattle.vfs_files.specs.Calls.{Kind, Quiet, Told, Untold, Data, Agreements, Entries, TimedAttributes, Openings, Creations, Capacities, Texts, TextsOrCounts, Offsets, Writes, Faults}
-use Rattle.vfs_files.specs.Calls.{Answer, Done, Failed, Options, Found, Attributes, Put, Opened, Created, Statistics, Text, Count, Offset, Wrote}
+use Rattle.vfs_wire.specs.Records.{out_header}
+use Rattle.vfs_files.specs.Values.{entry_out_of, whole_seconds, nanoseconds_beyond}
+use Rattle.vfs_files.specs.Calls.{Kind, Quiet, Told, Untold, Data, Agreements, Entries, TimedAttributes, Openings, Creations, Capacities, Texts, TextsOrCounts, Offsets, Writes, Faults, Answer, Done, Failed, Options, Found, Attributes, Put, Opened, Created, Statistics, Text, Count, Offset, Wrote}
 use Rattle.vfs_calls.specs.Values.{IsFaultOf, attr_of, entry_out_for, statistics_of, handle_of, most_nanoseconds}
 use Rattle.vfs_calls.specs.declared.data.AnswerData.{AnswerData}
 use Rattle.vfs_grammar.specs.Records.{size_of}

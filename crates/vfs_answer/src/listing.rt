@@ -1,12 +1,9 @@
 //! The records of a directory, from the items that were offered.
 
 ghost use Rattle.std.specs.Prelude.{◌≡◌, ◌≤◌, ◌<◌, ◌^◌, length, Ok, Err, Some};
-ghost use Rattle.vfs_files.specs.Entries.{entry_out_of};
-ghost use Rattle.vfs_files.specs.Items.{item};
-ghost use Rattle.vfs_files.specs.Names.{name_of, name_text};
-ghost use Rattle.vfs_grammar.specs.Listing.{is_dot, dot_out, told};
+ghost use Rattle.vfs_files.specs.Values.{entry_out_of, item, name_of, name_text};
+ghost use Rattle.vfs_grammar.specs.Listing.{is_dot, dot_out, verdict, answer_at, Fails};
 ghost use Rattle.vfs_files.specs.declared.entry.Entry.{Entry as AnyEntry};
-ghost use Rattle.vfs_grammar.specs.Dirents.{verdict};
 ghost use Rattle.vfs_listings.specs.Reading.{got_of, Adds};
 ghost use Rattle.vfs_answer.specs.Offered.{item_told, taken_by, AddsItem, IsFound, ReadsOffered};
 
@@ -115,7 +112,7 @@ fn add_dot(
     w: &mut Writer,
 ) -> Result<usize, Fault>
     ensures { (entry : AnyEntry) × (entry_out_of entry ≡ dot_out (item_told offered.now (name_text name.entry)))
-        × Adds (verdict max (length w.old.left) (Some entry) (item_told offered.now (name_text name.entry)))
+        × Adds (verdict max (length w.old.left) (Ok (Some entry)) (item_told offered.now (name_text name.entry)))
         (Some entry) (item_told offered.now (name_text name.entry)) w.old result w.new }
 {
     let dir_entry = named(offered, name);
@@ -150,7 +147,7 @@ fn add_item(
 
 /// What is answered where an item fails behind so many bytes of records, of so many items.
 fn tell(plus: bool, written: usize, taken: usize, fault: Fault) -> Listed
-    ensures answer { result.answer ≡ told plus written fault }
+    ensures answer { result.answer ≡ answer_at plus written (Fails fault) }
     ensures taken { result.taken ≡ taken_by result.answer taken }
     ensures within { result.taken ≤ taken }
 {

@@ -1,7 +1,7 @@
 //! The names of items that are offered.
 
 ghost use Rattle.std.specs.Prelude.{◌≡◌, ◌+◌, ◌≤◌, ◌<◌, ◌↔◌, Some, None, length, true, MatchOption};
-ghost use Rattle.vfs_files.specs.Names.{name_of, name_text};
+ghost use Rattle.vfs_files.specs.Values.{name_of, name_text};
 ghost use Rattle.vfs_answer.specs.Names.{AreNonzero};
 
 use vfs_files::CStr;

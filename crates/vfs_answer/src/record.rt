@@ -5,13 +5,12 @@
 
 ghost use Rattle.std.specs.Prelude.{◌≡◌, ◌+◌, ◌-◌, ◌<◌, ◌≤◌, ◌^◌, length, Some, None, Ok, Err};
 ghost use Rattle.std.specs.Int.{next_multiple_of};
-ghost use Rattle.vfs_flags.specs.Errors.{eoverflow};
+ghost use Rattle.vfs_flags.specs.Numbers.{eoverflow};
 ghost use Rattle.vfs_files.specs.Answers.{FitsEntry};
-ghost use Rattle.vfs_files.specs.Entries.{entry_out_of};
-ghost use Rattle.vfs_files.specs.Names.{name_text};
+ghost use Rattle.vfs_files.specs.Values.{entry_out_of, name_text};
 ghost use Rattle.vfs_files.specs.declared.entry.Entry.{Entry};
 ghost use Rattle.vfs_calls.specs.Values.{entry_out_for};
-ghost use Rattle.vfs_grammar.specs.Dirents.{dirent_bytes, dirent_of, record_bytes, verdict};
+ghost use Rattle.vfs_grammar.specs.Listing.{verdict, dirent_bytes, dirent_of, record_bytes};
 ghost use Rattle.vfs_listings.specs.Reading.{Adds, PutsBeginning};
 ghost use Rattle.vfs_answer.specs.Offered.{item_told};
 
@@ -221,7 +220,7 @@ pub(crate) fn add_plain(
     w: &mut Writer,
 ) -> Result<usize, Fault>
     requires { max < 2 ^ 32 }
-    ensures { Adds (verdict max (length w.old.left) None (item_told offered.now (name_text name.entry)))
+    ensures { Adds (verdict max (length w.old.left) (Ok None) (item_told offered.now (name_text name.entry)))
         None (item_told offered.now (name_text name.entry)) w.old result w.new }
 {
     let name_len = name.to_bytes().len();
@@ -246,7 +245,7 @@ pub(crate) fn add_plus(
 ) -> Result<usize, Fault>
     requires { max < 2 ^ 32 }
     ensures { (entry : Entry) → entry_out_of entry ≡ entry_out_for offered.now.entry →
-        Adds (verdict max (length w.old.left) (Some entry) (item_told offered.now (name_text name.entry)))
+        Adds (verdict max (length w.old.left) (Ok (Some entry)) (item_told offered.now (name_text name.entry)))
         (Some entry) (item_told offered.now (name_text name.entry)) w.old result w.new }
 {
     let name_len = name.to_bytes().len();

@@ -2,7 +2,7 @@
 
 ghost use Rattle.std.specs.Prelude.{◌≡◌, ◌≤◌, ◌<◌, ◌-◌, ◌^◌, ◌+◌, ◌++◌, ℕ, [], length, if◌then◌else◌, is_err, IfOk, MatchResult, Ok};
 ghost use Rattle.vfs_wire.specs.Fields.{bytes_of};
-ghost use Rattle.vfs_wire.specs.Headers.{out_header};
+ghost use Rattle.vfs_wire.specs.Records.{out_header};
 ghost use Rattle.vfs_segments.specs.Written.{wrote};
 ghost use Rattle.vfs_files.specs.Answers.{IsAnswer, IsFault, KeepsTextShort, Quiet, Told, Untold, Agreements, Entries, TimedAttributes, Openings, Creations, Capacities, Texts, TextsOrCounts, Offsets, Writes, Faults, Done, Failed, Text, Count, init_answer, done_answer, entry_answer, attr_answer, opened_answer, created_answer, statistics_answer, offset_answer, written_answer};
 ghost use Rattle.vfs_grammar.specs.Limits.{AreLimits};

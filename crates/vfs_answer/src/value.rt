@@ -1,7 +1,7 @@
 //! The answer of a call, as its kind has it, from an answer as data.
 
 ghost use Rattle.std.specs.Prelude.{◌≡◌, ◌≢◌, ◌<◌, ◌-◌, ◌^◌, ◌+◌, ℕ, List, pos, length, take, drop, bit_and, IfOk, MatchResult};
-ghost use Rattle.vfs_flags.specs.Errors.{eio};
+ghost use Rattle.vfs_flags.specs.Numbers.{eio};
 ghost use Rattle.vfs_flags.specs.Flags.{fs_options_bits, open_options_bits, known_fs_options, known_open_options};
 ghost use Rattle.vfs_files.specs.Answers.{Told, Untold, Entries, TimedAttributes, Openings, Creations, Capacities, Offsets, Writes, Agreements, Texts, TextsOrCounts, Data, Faults, Failed, KeepsTextShort, read_answer, init_answer, done_answer, entry_answer, attr_answer, opened_answer, created_answer, statistics_answer, offset_answer, written_answer};
 ghost use Rattle.vfs_calls.specs.Values.{handle_of};

@@ -1,6 +1,6 @@
 -- The requests of a session's lines, handled as one session.
 use Rattle.std.specs.Prelude.{◌≡◌, ℕ, List, map, replicate, Option, Result}
-use Rattle.vfs_files.specs.Items.{Item}
+use Rattle.vfs_files.specs.Values.{Item}
 use Rattle.vfs_files.specs.Calls.{Call, Handed}
 use Rattle.vfs_grammar.specs.declared.error.Error.{Error}
 use Rattle.vfs_lines.specs.Lines.{request}

@@ -2,7 +2,7 @@
 
 ghost use Rattle.std.specs.Prelude.{◌≡◌, map, IfOk, IfErr, IfSome, OnOk};
 ghost use Rattle.std.specs.Io.KnownBytes.{Appends};
-ghost use Rattle.vfs_lines.specs.Lines.{first_limit_of, or_default, IsFault};
+ghost use Rattle.vfs_lines.specs.Lines.{first_limit_of, or_default, IsRunFault};
 ghost use Rattle.vfs_segments.specs.Segments.{segments_of, contents, flat_bytes};
 ghost use Rattle.vfs_answers.specs.Session.{IsAnswered, segments_asked, room_for, zeros};
 
@@ -36,7 +36,7 @@ pub fn server_for<F>(fs: F, lines: &[&[u8]]) -> Server<F>
 /// All bytes of an input.
 pub fn read_all<R: io::Read>(alloc: Global, input: &mut R) -> Result<Vec<u8>, RunError>
     ensures read { IfSome (R.remaining input.old) (λ text. IfOk result (λ v. v.items ≡ text)) }
-    ensures fault { IfErr result (λ e. IsFault e) }
+    ensures fault { IfErr result (λ e. IsRunFault e) }
 {
     let mut text = Vec::new(alloc);
     match input.read_to_end(&mut text) {

@@ -2,16 +2,17 @@
 use Rattle.std.proofs.Common.{◌≡◌, ◌≢◌, ◌∙◌, ◌+◌, ◌-◌, ◌==◌, ◌||◌, ◌≤◌, ◌<◌, ℕ, zero, suc, Bool, true, false, not, if◌then◌else◌, is_some, nat_lt, List, [], ◌∷◌, length, take, drop, position, Option, None, Some, Result, Ok, Err, refl, ap, sym, arith, length-take, length-drop}
 use Rattle.std.proofs.lemmas.Bool.Decides.{nat_tests}
 use Rattle.std.proofs.lemmas.List.{drop-drop}
-use Rattle.vfs_flags.specs.ExtType.{ext_type_of}
+use Rattle.vfs_flags.specs.Numbers.{ext_type_of}
 use Rattle.vfs_flags.specs.Flags.{security_ctx, create_supp_group}
 use Rattle.vfs_flags.specs.declared.ext_type.ExtType.{ExtType}
 use Rattle.vfs_flags.specs.declared.ext_type.ExtType.TheVariants.{SecCtx, SupGroups}
-use Rattle.vfs_wire.specs.Extensions.{ext_header, secctx}
+use Rattle.vfs_wire.specs.Records.{ext_header, secctx}
 use Rattle.vfs_wire.specs.Fields.{value_of}
 use Rattle.vfs_wire.specs.declared.extensions.ExtHeader.{ExtHeader}
-use Rattle.vfs_files.specs.Extensions.{ExtensionValues}
-use Rattle.vfs_files.specs.Names.{cut_at}
-use Rattle.vfs_grammar.specs.Extensions.{error_or, value_behind, name_and_value, context_in, security_context_in, group_in, Block, block_size, block_in, cut_on, cut_of_most, cut_of, has_option, reads_extensions, no_extensions, Received, nothing_received, with_context, with_group, receive_kind, receive, receive_all, received_at_end, extensions_of, extensions_in}
+use Rattle.vfs_files.specs.Values.{ExtensionValues}
+use Rattle.vfs_files.specs.Places.{cut_at}
+use Rattle.vfs_grammar.specs.Extensions.{error_or, name_and_value, context_in, security_context_in, group_in, Block, block_size, block_in, cut_on, cut_of_most, cut_of, has_option, reads_extensions, no_extensions, Received, nothing_received, with_context, with_group, receive_kind, receive, receive_all, received_at_end, extensions_of, extensions_in}
+use Rattle.vfs_grammar.specs.FormParts.{value_behind}
 use Rattle.vfs_grammar.specs.Records.{record_of}
 use Rattle.vfs_grammar.specs.declared.error.Error.{Error}
 use Rattle.vfs_grammar.specs.declared.error.Error.TheVariants.{DecodeMessage, InvalidHeaderLength}

@@ -4,8 +4,7 @@ use Rattle.std.proofs.lemmas.Bool.Decides.{nat_tests}
 use Rattle.vfs_flags.specs.declared.opcode.Opcode.{Opcode}
 use Rattle.vfs_flags.specs.declared.opcode.Opcode.TheVariants.{Read, Readdir, Readdirplus}
 use Rattle.vfs_wire.specs.Fields.{bytes_of}
-use Rattle.vfs_wire.specs.Headers.{out_header}
-use Rattle.vfs_wire.specs.Init.{init_out}
+use Rattle.vfs_wire.specs.Records.{out_header, init_out}
 use Rattle.vfs_wire.specs.declared.headers.InHeader.{InHeader}
 use Rattle.vfs_segments.specs.Written.{Written}
 use Rattle.vfs_grammar.specs.Ask.{ask, form_of, header_of}
@@ -17,7 +16,8 @@ use Rattle.vfs_grammar.specs.declared.error.Error.{Error}
 use Rattle.vfs_grammar.specs.declared.error.Error.TheVariants.{DecodeMessage, EncodeMessage, FlushMessage, MissingParameter, InvalidCString, InvalidCString2, InvalidHeaderLength, InvalidXattrSize, MissingExtension, OutOfMemory}
 use Rattle.vfs_grammar.proofs.Refusing.{MayRefuse}
 use Rattle.vfs_grammar.proofs.Rooms.{length-fault_reply, length-body_reply}
-use Rattle.vfs_laws.specs.Turns.{opcode_in, unique_of}
+use Rattle.vfs_grammar.specs.Books.{opcode_in}
+use Rattle.vfs_laws.specs.Turns.{unique_of}
 use Rattle.vfs_laws.proofs.Asking.{IsCramped, IsCrampedBy, ask_cases}
 use Rattle.vfs_calls.specs.declared.call.CallData.{CallData}
 use Rattle.vfs_ask.specs.Asked.{Tells}

@@ -2,12 +2,13 @@
 use Rattle.std.proofs.Common.{◌≡◌, ◌∙◌, ◌+◌, ◌-◌, ◌==◌, ◌<◌, ℕ, zero, suc, Bool, true, false, if◌then◌else◌, nat_lt, List, [], ◌∷◌, length, take, drop, position, Option, None, Some, Result, Ok, Err, refl, ap, sym, arith, length-take, length-drop}
 use Rattle.std.proofs.lemmas.List.{take_min, take_all}
 use Rattle.std.proofs.lemmas.List.Quantifiers.{position-Some}
-use Rattle.vfs_wire.specs.Headers.{in_header}
+use Rattle.vfs_wire.specs.Records.{in_header}
 use Rattle.vfs_wire.specs.declared.headers.InHeader.{InHeader}
-use Rattle.vfs_files.specs.Names.{name_of, name_to, first_name, cut_at}
-use Rattle.vfs_files.specs.Extensions.{ExtensionValues}
+use Rattle.vfs_files.specs.Values.{name_of, first_name, ExtensionValues}
+use Rattle.vfs_files.specs.Places.{name_to, cut_at}
 use Rattle.vfs_grammar.specs.Extensions.{error_or, extensions_in}
-use Rattle.vfs_grammar.specs.Forms.{tail_of, name_in, name_or_refusal, names_in, both_or_refusal, second_or_refusal, value_in, sized_or_refusal, extended_in, extended_or_refusal, behind_name, link_in_tail, link_or_refusal}
+use Rattle.vfs_grammar.specs.Forms.{tail_of, name_in, two_names_in, value_in, extended_in, link_in_tail}
+use Rattle.vfs_grammar.specs.FormParts.{name_or_refusal, both_or_refusal, second_or_refusal, sized_or_refusal, extended_or_refusal, behind_name, link_or_refusal}
 use Rattle.vfs_grammar.specs.Records.{size_of}
 use Rattle.vfs_grammar.specs.declared.error.Error.{Error}
 
@@ -105,7 +106,7 @@ names_at tail (Some i) at x e =
     let n = name_at (drop (i + 1) tail) (position is_nul (drop (i + 1) tail)) x.1 s.1 in
     both tail x.0 x.1 i n.0 at s.0 n.1
 
-pub names_stand : (tail : List ℕ) (x : List ℕ × List ℕ) → names_in tail ≡ Ok x → Both tail x.0 x.1
+pub names_stand : (tail : List ℕ) (x : List ℕ × List ℕ) → two_names_in tail ≡ Ok x → Both tail x.0 x.1
 names_stand tail x e = names_at tail (position is_nul tail) refl x e
 
 value_at : (size : ℕ) (tail : List ℕ) (p : Option ℕ) → position is_nul tail ≡ p → (x : List ℕ × List ℕ) → sized_or_refusal size (cut_at tail p) ≡ Ok x → Both tail x.0 x.1

@@ -6,16 +6,15 @@ use Rattle.vfs_flags.specs.declared.constants.TheConstants.{OPEN_KILL_SUIDGID}
 use Rattle.vfs_flags.specs.declared.opcode.Opcode.{Opcode}
 use Rattle.vfs_flags.specs.declared.opcode.Opcode.TheVariants as opcode
 use Rattle.vfs_segments.specs.Written.{Written}
-use Rattle.vfs_wire.specs.Headers.{in_header}
+use Rattle.vfs_wire.specs.Records.{in_header}
 use Rattle.vfs_wire.specs.declared.headers.InHeader.{InHeader}
-use Rattle.vfs_wire_more.specs.Names.{create_in, mkdir_in, mknod_in}
+use Rattle.vfs_wire_more.specs.Records.{create_in, mkdir_in, mknod_in}
 use Rattle.vfs_wire_more.specs.declared.names.CreateIn.{CreateIn}
 use Rattle.vfs_wire_more.specs.declared.names.MkdirIn.{MkdirIn}
 use Rattle.vfs_wire_more.specs.declared.names.MknodIn.{MknodIn}
 use Rattle.vfs_files.specs.Calls.{Call}
 use Rattle.vfs_files.specs.Calls as call
-use Rattle.vfs_files.specs.Entries.{context_of}
-use Rattle.vfs_files.specs.Extensions.{ExtensionValues}
+use Rattle.vfs_files.specs.Values.{context_of, ExtensionValues}
 use Rattle.vfs_grammar.specs.Ask.{ask_opcode, form_of, has_flag}
 use Rattle.vfs_grammar.specs.Extensions.{error_or, extensions_in}
 use Rattle.vfs_grammar.specs.Forms.{Ask, Ends, Asks, Lists, Listing, WithMemory, refused_or, tail_of}

@@ -1,7 +1,7 @@
 -- Where no memory is wanted, no request is refused for want of it.
 use Rattle.std.proofs.Common.{◌≡◌, ◌≢◌, ◌≤◌, ◌+◌, ◌-◌, ◌∙◌, ℕ, Bool, true, false, List, [], length, replicate, if◌then◌else◌, Result, Ok, Err, refl, subst, sym, inl, inr, arith, length-append}
 use Rattle.std.proofs.lemmas.List.{length-replicate}
-use Rattle.vfs_wire.specs.Headers.{in_header}
+use Rattle.vfs_wire.specs.Records.{in_header}
 use Rattle.vfs_wire.specs.declared.headers.InHeader.{InHeader}
 use Rattle.vfs_segments.specs.Written.{Written}
 use Rattle.vfs_grammar.specs.Ask.{ask, header_of}
@@ -9,7 +9,8 @@ use Rattle.vfs_grammar.specs.Forms.{Ask, Ends, Asks, Lists, WithMemory}
 use Rattle.vfs_grammar.specs.Records.{record_of}
 use Rattle.vfs_grammar.specs.Reply.{Reply, Refusal, NoReply, Bytes, OpenBehind}
 use Rattle.vfs_grammar.specs.Room.{IsReplied}
-use Rattle.vfs_grammar.specs.Turn.{Turn, Follows, turn_with_memory_tells}
+use Rattle.vfs_grammar.specs.Turn.{Turn}
+use Rattle.vfs_grammar.specs.Witnesses.{turn_with_memory_tells, FollowsFor}
 use Rattle.vfs_grammar.specs.declared.limits.Limits.{Limits}
 use Rattle.vfs_grammar.specs.declared.error.Error.{Error}
 use Rattle.vfs_grammar.specs.declared.error.Error.TheVariants.{DecodeMessage, OutOfMemory}
@@ -58,7 +59,7 @@ module _ (wanted : Type 0) (none : ¬ wanted) (q : List ℕ) (limits : Limits) (
 
   record Turned (a : Ask) : Type 0 where
     room_after : List ℕ
-    follows : Follows (turn_with_memory_tells (turn_of room_after)) limits options a options
+    follows : FollowsFor (turn_with_memory_tells (turn_of room_after)) limits options a options
 
   turned : (a : Ask) → Tells wanted q options interrupts room a writer (asked.Finished outcome interrupted) writer_after told → Turned a
   turned (Ends reply) t = let b = came reply writer writer_after outcome t.0 in record { room_after = b.room_after; follows = (refl, b.says, refl) }
@@ -73,7 +74,7 @@ module _ (wanted : Type 0) (none : ¬ wanted) (q : List ℕ) (limits : Limits) (
   finished_lacks_no_memory all t =
       let b = turned (ask limits options room q) t in
       enough_memory limits options options (turn_of b.room_after)
-      (subst (λ (n : ℕ). Follows (turn_with_memory_tells (turn_of b.room_after)) limits options (ask limits options n q) options) (sym all) b.follows)
+      (subst (λ (n : ℕ). FollowsFor (turn_with_memory_tells (turn_of b.room_after)) limits options (ask limits options n q) options) (sym all) b.follows)
 
 lacks_no_memory_of : (wanted : Type 0) → ¬ wanted → (q : List ℕ) (limits : Limits) (options interrupts room : ℕ) (writer writer_after : Written) (told : CallData) (result : Asked)
     → length writer.left ≡ room

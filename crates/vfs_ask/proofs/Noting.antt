@@ -1,7 +1,7 @@
 -- A file system that notes its call is asked for what the grammar says.
 use Rattle.std.proofs.Common.{◌≡◌, ◌∙◌, ℕ, List, [], ◌∷◌, Option, None, Some, Result, length, refl, ap, inl, inr}
 use Rattle.vfs_segments.specs.Written.{Written}
-use Rattle.vfs_files.specs.Items.{Item}
+use Rattle.vfs_files.specs.Values.{Item}
 use Rattle.vfs_files.specs.Calls.{Call, Readdir, Answer, Failed, Handed, Plain, kind_of}
 use Rattle.vfs_files.specs.Answers.{Kind, Quiet, Told, Untold, Data, Agreements, Entries, TimedAttributes, Openings, Creations, Capacities, Texts, TextsOrCounts, Offsets, Writes, Iterators, Faults}
 use Rattle.vfs_files.specs.Runs.{Happening, Calls, Opens, Takes, IsRun, events_of, Event, Called, OpenedDirectory}
@@ -9,7 +9,8 @@ use Rattle.vfs_files.specs.declared.entry.Context.{Context}
 use Rattle.vfs_grammar.specs.Forms.{Ask, Ends, Asks, Lists, WithMemory, Listing}
 use Rattle.vfs_grammar.specs.Reply.{Reply, reply_of}
 use Rattle.vfs_grammar.specs.Room.{unseen}
-use Rattle.vfs_grammar.specs.Turn.{Follows, node_answered, IsRead}
+use Rattle.vfs_grammar.specs.Turn.{node_answered, IsRead}
+use Rattle.vfs_grammar.specs.Witnesses.{FollowsFor}
 use Rattle.vfs_grammar.specs.declared.limits.Limits.{Limits}
 use Rattle.vfs_grammar.specs.declared.error.Error.{Error}
 use Rattle.vfs_entries.specs.Delivery.{CallsAndGivesBack}
@@ -117,7 +118,7 @@ none_noted old new start e = ap (λ (s : Asking). s.call.now) e ∙ start
 pub asking_notes : (wanted : Type 0) (limits : Limits) (options after : ℕ) (a : Ask) (old new : ServerState Asking)
     (writer writer_after : Written) (outcome : Result ℕ Error)
     → old.fs.call.now ≡ nothing
-    → Follows (server_tells Notes GivesNone wanted old writer outcome writer_after new) limits options a after
+    → FollowsFor (server_tells Notes GivesNone wanted old writer outcome writer_after new) limits options a after
     → Noted wanted a old.fs new.fs writer outcome writer_after
 asking_notes wanted limits options after (Ends reply) old new writer writer_after outcome start f =
     record { is_noted = (none_noted old.fs new.fs start f.0, f.1); same_record = stayed old.fs new.fs f.0 }

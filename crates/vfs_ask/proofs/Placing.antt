@@ -6,10 +6,9 @@ use Rattle.std.proofs.lemmas.List.{drop-drop, drop-take, take_all}
 use Rattle.vfs_flags.specs.declared.constants.TheConstants.{OPEN_KILL_SUIDGID, WRITE_CACHE, WRITE_KILL_PRIV, WRITE_LOCKOWNER}
 use Rattle.vfs_flags.specs.declared.opcode.Opcode.{Opcode}
 use Rattle.vfs_flags.specs.declared.opcode.Opcode.TheVariants as opcode
-use Rattle.vfs_wire.specs.Entries.{forget_one}
+use Rattle.vfs_wire.specs.Records.{forget_one, in_header, out_header}
 use Rattle.vfs_wire.specs.FieldLaws.{value_of-take}
 use Rattle.vfs_wire.specs.Fields.{value_of}
-use Rattle.vfs_wire.specs.Headers.{in_header, out_header}
 use Rattle.vfs_wire.specs.declared.entries.ForgetOne.{ForgetOne}
 use Rattle.vfs_wire.specs.declared.headers.InHeader.{InHeader}
 use Rattle.vfs_wire_more.specs.declared.files.WriteIn.{WriteIn}
@@ -18,11 +17,10 @@ use Rattle.vfs_wire_more.specs.declared.names.MkdirIn.{MkdirIn}
 use Rattle.vfs_wire_more.specs.declared.names.MknodIn.{MknodIn}
 use Rattle.vfs_files.specs.Calls.{Call, Readdir}
 use Rattle.vfs_files.specs.Calls as call
-use Rattle.vfs_files.specs.Entries.{context_of}
-use Rattle.vfs_files.specs.Extensions.{ExtensionValues}
+use Rattle.vfs_files.specs.Values.{context_of, ExtensionValues}
 use Rattle.vfs_grammar.specs.Ask.{form_of, ask_opcode, has_flag, if_set}
 use Rattle.vfs_grammar.specs.Extensions.{extensions_in}
-use Rattle.vfs_grammar.specs.Forms.{Ask, Ends, Asks, Lists, WithMemory, Listing, Without, Record, refused_or, within, tail_of, name_in, names_in, value_in, extended_in, link_in_tail, pairs_in, pairs_of, space_behind_header, Layout, layout_size, layout_record, behind, Form, NoTail, NameTail, TwoNames, NameAndValue, NameAndExtensions, LinkAndExtensions, Pairs, WithRest, IntoRoom, Directories, Versions, Silent, NotServed, ask_form}
+use Rattle.vfs_grammar.specs.Forms.{Ask, Ends, Asks, Lists, WithMemory, Listing, Without, Record, refused_or, within, tail_of, name_in, two_names_in, value_in, extended_in, link_in_tail, pairs_in, pairs_of, space_behind_header, Layout, layout_size, layout_record, behind, Form, NoTail, NameTail, TwoNames, NameAndValue, NameAndExtensions, LinkAndExtensions, Pairs, WithRest, IntoRoom, Directories, Versions, Silent, NotServed, ask_form}
 use Rattle.vfs_grammar.specs.Reply.{Echo, echo_of}
 use Rattle.vfs_grammar.specs.Records.{record_of, size_of}
 use Rattle.vfs_grammar.specs.declared.limits.Limits.{Limits}
@@ -208,7 +206,7 @@ module _ (q : List ℕ) (h : InHeader) (head : size_of in_header ≤ length q) (
       limit (above r) _ (part (name_in tail) _ (λ name found. let n = name_stands tail name found in s r name (first_stands layout tail name n.0 (ends layout r is) whole n.1)))))
   form_shown (TwoNames layout call) s =
       part (layout_record layout rest) _ (λ r is. part (tail_of h (layout_size layout) (behind layout rest)) _ (λ tail whole.
-      part (names_in tail) _ (λ x found. s r x.0 x.1 (both_stand layout tail x.0 x.1 (ends layout r is) whole (names_stand tail x found)))))
+      part (two_names_in tail) _ (λ x found. s r x.0 x.1 (both_stand layout tail x.0 x.1 (ends layout r is) whole (names_stand tail x found)))))
   form_shown (NameAndValue layout size call) s =
       part (layout_record layout rest) _ (λ r is. part (tail_of h (layout_size layout) (behind layout rest)) _ (λ tail whole.
       part (value_in (size r) tail) _ (λ x found. s r x.0 x.1 (both_stand layout tail x.0 x.1 (ends layout r is) whole (value_stands (size r) tail x found)))))

@@ -1,13 +1,11 @@
 -- A reply to a request that asks for no call is short.
 use Rattle.std.proofs.Common.{◌≡◌, ◌⊎◌, ◌≤◌, ◌+◌, ℕ, Bool, true, false, List, [], length, drop, nat_lt, nat_le, IfOk, if◌then◌else◌, Option, Some, None, Result, Ok, Err, refl, subst, inl, inr, arith}
 use Rattle.std.proofs.lemmas.Bool.Decides.{nat_tests}
-use Rattle.vfs_flags.specs.Errors.{enosys}
-use Rattle.vfs_flags.specs.Opcode.{opcode_of}
+use Rattle.vfs_flags.specs.Numbers.{enosys, opcode_of}
 use Rattle.vfs_flags.specs.declared.opcode.Opcode.{Opcode}
 use Rattle.vfs_flags.specs.declared.opcode.Opcode.TheVariants as opcode
 use Rattle.vfs_wire.specs.Fields.{value_of, bytes_of, little}
-use Rattle.vfs_wire.specs.Headers.{in_header}
-use Rattle.vfs_wire.specs.Init.{init_out}
+use Rattle.vfs_wire.specs.Records.{in_header, init_out}
 use Rattle.vfs_wire.specs.declared.headers.InHeader.{InHeader}
 use Rattle.vfs_segments.specs.Written.{Written}
 use Rattle.vfs_grammar.specs.Ask.{ask, ask_header, ask_number, form_of}

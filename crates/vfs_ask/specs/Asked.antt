@@ -1,8 +1,7 @@
 -- What is told of a request: its call as data, or that it is finished.
 use Rattle.std.specs.Prelude.{◌≡◌, ◌≤◌, ◌⊎◌, ⊤, ◌==◌, ◌+◌, ◌*◌, ℕ, List, length, take, drop, nat_lt, if◌then◌else◌, Option, None, Some, Result, Ok, Err, IfOk}
 use Rattle.vfs_segments.specs.Written.{Written}
-use Rattle.vfs_wire.specs.Headers.{in_header, out_header}
-use Rattle.vfs_wire.specs.Init.{init_out}
+use Rattle.vfs_wire.specs.Records.{in_header, out_header, init_out}
 use Rattle.vfs_wire.specs.declared.headers.InHeader.{InHeader}
 use Rattle.vfs_wire_more.specs.Locks.{interrupt_in}
 use Rattle.vfs_wire_more.specs.declared.locks.InterruptIn.{InterruptIn}

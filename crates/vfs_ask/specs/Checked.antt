@@ -1,6 +1,6 @@
 -- What a check says of a request.
 use Rattle.std.specs.Prelude.{◌≡◌, ◌⊎◌, ℕ, List, nat_lt, if◌then◌else◌, Ok, Err}
-use Rattle.vfs_wire.specs.Headers.{out_header}
+use Rattle.vfs_wire.specs.Records.{out_header}
 use Rattle.vfs_segments.specs.Unread.{Unread}
 use Rattle.vfs_grammar.specs.Ask.{ask}
 use Rattle.vfs_grammar.specs.Forms.{Ask, Ends, Asks, Lists, WithMemory}

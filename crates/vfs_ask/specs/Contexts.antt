@@ -3,9 +3,9 @@ use Rattle.std.specs.Prelude.{◌≡◌, ◌⊎◌, ◌<◌, ◌+◌, ◌-◌, �
 use Rattle.vfs_flags.specs.Flags.{security_ctx}
 use Rattle.vfs_flags.specs.declared.opcode.Opcode.{Opcode}
 use Rattle.vfs_flags.specs.declared.opcode.Opcode.TheVariants as opcode
-use Rattle.vfs_files.specs.Extensions.{ExtensionValues}
+use Rattle.vfs_files.specs.Values.{ExtensionValues}
 use Rattle.vfs_wire.specs.declared.headers.InHeader.{InHeader}
-use Rattle.vfs_wire_more.specs.Names.{create_in, mkdir_in, mknod_in}
+use Rattle.vfs_wire_more.specs.Records.{create_in, mkdir_in, mknod_in}
 use Rattle.vfs_grammar.specs.Extensions.{error_or, extensions_in, has_option}
 use Rattle.vfs_grammar.specs.Forms.{tail_of}
 use Rattle.vfs_grammar.specs.Records.{record_of, size_of}

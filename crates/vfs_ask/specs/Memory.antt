@@ -1,7 +1,7 @@
 -- Which requests are refused for want of memory.
 use Rattle.std.specs.Prelude.{◌≢◌, ⊤, ℕ, Err}
-use Rattle.vfs_flags.specs.Opcode.{opcode_of}
-use Rattle.vfs_wire.specs.Headers.{in_header}
+use Rattle.vfs_flags.specs.Numbers.{opcode_of}
+use Rattle.vfs_wire.specs.Records.{in_header}
 use Rattle.vfs_segments.specs.Lengths.{lengths_from}
 use Rattle.vfs_segments.specs.Unread.{Unread}
 use Rattle.vfs_grammar.specs.Ask.{header_of}

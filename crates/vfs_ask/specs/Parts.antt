@@ -2,11 +2,8 @@
 use Rattle.std.specs.Prelude.{◌+◌, ◌-◌, ◌*◌, ◌^◌, ℕ, min}
 use Rattle.vfs_flags.specs.declared.opcode.Opcode.{Opcode}
 use Rattle.vfs_flags.specs.declared.opcode.Opcode.TheVariants as opcode
-use Rattle.vfs_wire.specs.Entries.{batch_forget_in}
-use Rattle.vfs_wire.specs.Headers.{in_header, out_header}
-use Rattle.vfs_wire_more.specs.Files.{write_in}
-use Rattle.vfs_wire_more.specs.Names.{create_in, link_in, mkdir_in, mknod_in, rename_in, rename2_in}
-use Rattle.vfs_wire_more.specs.Xattrs.{getxattr_in}
+use Rattle.vfs_wire.specs.Records.{batch_forget_in, in_header, out_header}
+use Rattle.vfs_wire_more.specs.Records.{write_in, create_in, link_in, mkdir_in, mknod_in, rename_in, rename2_in, getxattr_in}
 use Rattle.vfs_grammar.specs.Ask.{setxattr_layout}
 use Rattle.vfs_grammar.specs.Forms.{layout_size}
 use Rattle.vfs_grammar.specs.Records.{size_of, pair_size}

@@ -2,9 +2,9 @@
 
 ghost use Rattle.std.specs.Prelude.{◌≡◌, ◌≢◌, ◌≤◌, ◌+◌, ℕ, List, Ok, Some, drop, false, length, true};
 ghost use Rattle.vfs_flags.specs.Flags.{fs_options_bits};
-ghost use Rattle.vfs_flags.specs.Opcode.{opcode_of};
+ghost use Rattle.vfs_flags.specs.Numbers.{opcode_of};
 ghost use Rattle.vfs_flags.specs.declared.opcode.Opcode.{Opcode};
-ghost use Rattle.vfs_wire.specs.Headers.{in_header};
+ghost use Rattle.vfs_wire.specs.Records.{in_header};
 ghost use Rattle.vfs_wire_more.specs.Locks.{interrupt_in};
 ghost use Rattle.vfs_messages.specs.Rooms.{with_behind};
 ghost use Rattle.vfs_grammar.specs.Ask.{ask, ask_header, ask_opcode};

@@ -2,7 +2,7 @@
 
 ghost use Rattle.std.specs.Prelude.{◌≡◌, ℕ, List};
 ghost use Rattle.vfs_flags.specs.Flags.{fs_options_bits};
-ghost use Rattle.vfs_wire_more.specs.Files.{read_in};
+ghost use Rattle.vfs_wire_more.specs.Records.{read_in};
 ghost use Rattle.vfs_calls.specs.Shapes.{nothing};
 ghost use Rattle.vfs_grammar.specs.Ask.{listing_of, lists_too_much};
 ghost use Rattle.vfs_grammar.specs.Forms.{Directories, Record, ask_form};

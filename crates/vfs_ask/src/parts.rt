@@ -3,7 +3,7 @@
 ghost use Rattle.std.specs.Prelude.{◌≡◌, ◌+◌, ◌≤◌};
 ghost use Rattle.vfs_flags.specs.Flags.{fs_options_bits};
 ghost use Rattle.vfs_segments.specs.declared.record.TheConstants.{LARGEST_RECORD};
-ghost use Rattle.vfs_wire.specs.Headers.{in_header};
+ghost use Rattle.vfs_wire.specs.Records.{in_header};
 ghost use Rattle.vfs_grammar.specs.Records.{size_of};
 ghost use Rattle.vfs_ask.specs.Parts.{parts_of, place_behind, with_parts};
 

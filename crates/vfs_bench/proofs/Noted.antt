@@ -1,6 +1,6 @@
 -- The notes of a recorder over a run.
 use Rattle.std.proofs.Common.{◌≡◌, Bool, true, false, cond, List, [], ◌∷◌, ◌++◌, Option, Some, length, nat_lt, ap, sym, ◌∙◌, append-nil, append_assoc}
-use Rattle.vfs_files.specs.Items.{Item}
+use Rattle.vfs_files.specs.Values.{Item}
 use Rattle.vfs_files.specs.Calls.{Call, Handed, Plain, Iterator}
 use Rattle.vfs_files.specs.Runs.{Happening, Calls, Opens, Takes, IsRun, events_of}
 use Rattle.vfs_bench.specs.declared.note.Note.{Note}

@@ -10,8 +10,7 @@ use Rattle.vfs_files.specs.declared.xattr.GetxattrReply.{GetxattrReply}
 use Rattle.vfs_files.specs.declared.xattr.GetxattrReply.TheVariants as getxattr
 use Rattle.vfs_files.specs.declared.xattr.ListxattrReply.{ListxattrReply}
 use Rattle.vfs_files.specs.declared.xattr.ListxattrReply.TheVariants as listxattr
-use Rattle.vfs_files.specs.Answers.{init_answer, attr_answer, done_answer, opened_answer, statistics_answer, text_answer, getxattr_answer, listxattr_answer, offset_answer, written_answer, read_answer}
-use Rattle.vfs_files.specs.Answers.{directory_answer}
+use Rattle.vfs_files.specs.Answers.{init_answer, attr_answer, done_answer, opened_answer, statistics_answer, text_answer, getxattr_answer, listxattr_answer, offset_answer, written_answer, read_answer, directory_answer}
 use Rattle.vfs_files.specs.Calls.{Readdir}
 use Rattle.vfs_files.specs.declared.entry.Context.{Context}
 use Rattle.vfs_bench.specs.Notes.{note_of_handed}

@@ -1,6 +1,6 @@
 -- The directories of the tests' file system.
 use Rattle.std.specs.Prelude.{◌≡◌, List, [], ◌∷◌, Option, Some, None, map}
-use Rattle.vfs_files.specs.Items.{Item}
+use Rattle.vfs_files.specs.Values.{Item}
 use Rattle.vfs_bench.specs.declared.directory.ScriptItem.{ScriptItem}
 
 -- the values of an item

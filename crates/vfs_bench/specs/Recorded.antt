@@ -1,6 +1,6 @@
 -- A file system that notes the calls of another, as contracts see it.
 use Rattle.std.specs.Prelude.{◌≡◌, ℕ, Bool, true, false, List, [], ◌∷◌, ◌++◌, Option, length, nat_lt, if◌then◌else◌}
-use Rattle.vfs_files.specs.Items.{Item}
+use Rattle.vfs_files.specs.Values.{Item}
 use Rattle.vfs_files.specs.Calls.{Call, Handed}
 use Rattle.vfs_files.specs.Runs.{IsRun, events_of}
 use Rattle.vfs_bench.specs.declared.note.Note.{Note}

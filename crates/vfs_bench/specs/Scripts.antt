@@ -1,8 +1,7 @@
 -- What the tests' file system may do.
 use Rattle.std.specs.Prelude.{◌≡◌, ◌==◌, ◌≤◌, ◌<◌, ◌+◌, ◌-◌, ◌^◌, ◌⊎◌, ℕ, List, length, min, replicate, Option, Some, None, Result, Ok, Err, Bool, true, false, if◌then◌else◌}
 use Rattle.vfs_views.specs.declared.file.WritevFlags.{WritevFlags}
-use Rattle.vfs_files.specs.Answers.{Answer, Done, Failed, Text, Handed, Plain, Iterator}
-use Rattle.vfs_files.specs.Answers.{init_answer, entry_answer, attr_answer, done_answer, opened_answer, created_answer, statistics_answer, text_answer, getxattr_answer, listxattr_answer, offset_answer, written_answer, read_answer}
+use Rattle.vfs_files.specs.Answers.{Answer, Done, Failed, Text, Handed, Plain, Iterator, init_answer, entry_answer, attr_answer, done_answer, opened_answer, created_answer, statistics_answer, text_answer, getxattr_answer, listxattr_answer, offset_answer, written_answer, read_answer}
 use Rattle.vfs_files.specs.Calls.{Call, Lookup, Forget, Getattr, Setattr, Readlink, Symlink, Mknod, Mkdir, Link, Open, Read, Write, Statfs, Getxattr, Listxattr, Init, Opendir, Readdir, Create, Destroy, BatchForget, Lseek, Copyfilerange, Tmpfile, no_such_call, out_of_memory}
 use Rattle.vfs_files.specs.Transfers.{Transfers, reads_of, writes_of}
 use Rattle.vfs_bench.specs.Directories.{Reading}
@@ -20,8 +19,8 @@ fails (Some failing) call = failing == call
 
 -- what a file answers that is to move so many bytes: its fault at the call that is to fail, else as
 -- many as it moves a call at most
-abbrev pub answer_of : ScriptFile → ℕ → Result ℕ (Option ℕ)
-answer_of file len =
+abbrev pub script_answer : ScriptFile → ℕ → Result ℕ (Option ℕ)
+script_answer file len =
     if fails file.fails_at (called file).calls then Err file.fault else Ok (min len file.most)
 
 -- how many bytes that is
@@ -33,7 +32,7 @@ count_of (Err fault) = 0
 pub record ReadsScript
     (old : ScriptFile) (off room : ℕ) (answer : Result ℕ (Option ℕ)) (moved : List ℕ)
     (new : ScriptFile) : Type 0 where
-  pub answered : answer ≡ answer_of old room
+  pub answered : answer ≡ script_answer old room
   pub bytes : moved ≡ replicate (count_of answer) old.byte
   pub counted : new ≡ called old
 
@@ -41,7 +40,7 @@ pub record ReadsScript
 pub record WritesScript
     (old : ScriptFile) (bytes : List ℕ) (off : ℕ) (flags : Option WritevFlags)
     (answer : Result ℕ (Option ℕ)) (new : ScriptFile) : Type 0 where
-  pub answered : answer ≡ answer_of old (length bytes)
+  pub answered : answer ≡ script_answer old (length bytes)
   pub counted : new ≡ called old
 
 -- what the maker of a script set for a call that moves no bytes and reads no directory: one answer

@@ -3,7 +3,7 @@
 ghost use Rattle.std.specs.Prelude.{◌≡◌, ◌≤◌, length, replicate, IfOk};
 ghost use Rattle.std.specs.List.{concat};
 ghost use Rattle.vfs_views.specs.Views.{IsSameRoom};
-ghost use Rattle.vfs_bench.specs.Scripts.{answer_of, called};
+ghost use Rattle.vfs_bench.specs.Scripts.{script_answer, called};
 
 use vfs_flags::Fault;
 use vfs_views::{PositionedFile, Slices, SlicesMut, WritevFlags};
@@ -29,7 +29,7 @@ pub struct ScriptFile {
 impl ScriptFile {
     // Counts a call that is to move `len` bytes, and answers how many it moves.
     fn called(&mut self, len: usize) -> Result<usize, Fault>
-        ensures answered { result ≡ answer_of self.old len }
+        ensures answered { result ≡ script_answer self.old len }
         ensures counted { self.new ≡ called self.old }
         ensures bound { IfOk result (λ n. n ≤ len) }
     {

@@ -1,7 +1,7 @@
 //! What is noted of a call.
 
 ghost use Rattle.std.specs.Prelude.{◌≡◌};
-ghost use Rattle.vfs_flags.specs.Opcode.{opcode_of};
+ghost use Rattle.vfs_flags.specs.Numbers.{opcode_of};
 
 use vfs_flags::Opcode;
 

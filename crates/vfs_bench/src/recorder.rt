@@ -2,7 +2,7 @@
 
 ghost use Rattle.std.specs.Prelude.{◌≡◌, [], false, length, map, option_map, IfOk, IfErr};
 ghost use Rattle.vfs_flags.specs.Flags.{setattr_valid_bits};
-ghost use Rattle.vfs_flags.specs.Opcode.{number_of};
+ghost use Rattle.vfs_flags.specs.Numbers.{number_of};
 ghost use Rattle.vfs_files.specs.Calls.{Getattr, Setattr, BatchForget, out_of_memory};
 ghost use Rattle.vfs_files.specs.Answers.{Plain, Done, attr_answer, entry_answer};
 ghost use Rattle.vfs_bench.specs.Notes.{asked, told};

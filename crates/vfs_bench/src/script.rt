@@ -2,10 +2,7 @@
 
 ghost use Rattle.std.specs.Prelude.{◌≡◌, ℕ, List, None, Some, Ok, Err, IfOk};
 ghost use Rattle.vfs_flags.specs.Flags.{setattr_valid_bits};
-ghost use Rattle.vfs_files.specs.Calls.{Getattr, Setattr, BatchForget, Options, Plain, Done};
-ghost use Rattle.vfs_files.specs.Calls.{not_served, default_opening, default_statistics};
-ghost use Rattle.vfs_files.specs.Calls.{init_answer, attr_answer, opened_answer, text_answer};
-ghost use Rattle.vfs_files.specs.Calls.{getxattr_answer, listxattr_answer};
+ghost use Rattle.vfs_files.specs.Calls.{Getattr, Setattr, BatchForget, Options, Plain, Done, not_served, default_opening, default_statistics, init_answer, attr_answer, opened_answer, text_answer, getxattr_answer, listxattr_answer};
 ghost use Rattle.vfs_files.specs.Answers.{Text, FitsText, KeepsTextShort, written_answer};
 ghost use Rattle.vfs_bench.specs.Scripts.{Plays, MayCopy, WritesFile};
 

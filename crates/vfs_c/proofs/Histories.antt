@@ -5,11 +5,11 @@ use Rattle.vfs_server.specs.Step.{ServerState}
 use Rattle.vfs_history.specs.History.{GoesOn, GoesOnChanged, turn_of}
 use Rattle.vfs_c.specs.Files.{State, Allows, Gives}
 use Rattle.vfs_c.specs.History.{Answered, Told}
-use Rattle.vfs_c.specs.Served.{Served, told_time}
+use Rattle.vfs_c.specs.Served.{ServedInC, told_time}
 
 pub answered : GoesOn Allows Gives → (old : ServerState State) (request : List ℕ) (total : ℕ)
     (number : ℤ) (len : ℕ) (room : List ℕ) (shown : ℕ) (new : ServerState State)
-    → Served old request total number len room shown new
+    → ServedInC old request total number len room shown new
     → Answered old request total number len room shown new
 answered goes old request total number len room shown new (inr r) = inr r
 answered goes old request total number len room shown new (inl s) =

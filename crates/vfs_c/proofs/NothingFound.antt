@@ -1,18 +1,18 @@
 -- A LOOKUP of a name in a new tree, and what is copied out of its reply.
 use Rattle.std.proofs.Common.{◌≡◌, ◌∙◌, ℕ, ℤ, pos, List, [], ◌∷◌, ◌++◌, length, take, drop, min, Option, Some, None, IfSome, MatchOption, Result, Ok, refl, ap, sym, subst, inl, inr, arith}
 use Rattle.std.proofs.lemmas.List.{drop_all}
-use Rattle.vfs_flags.specs.Opcode.{opcode_of}
+use Rattle.vfs_flags.specs.Numbers.{opcode_of}
 use Rattle.vfs_wire.specs.Fields.{little, number, value_of}
-use Rattle.vfs_wire.specs.Headers.{in_header}
+use Rattle.vfs_wire.specs.Records.{in_header}
 use Rattle.vfs_files.specs.Calls.{Call, Lookup, Answer, Failed, Entries, Plain}
-use Rattle.vfs_files.specs.Entries.{context_of}
+use Rattle.vfs_files.specs.Values.{context_of}
 use Rattle.vfs_files.specs.Runs.{Event, Called, Happening, Calls, Opens, Takes, IsRun, events_of}
 use Rattle.vfs_grammar.specs.Ask.{ask}
 use Rattle.vfs_grammar.specs.Forms.{Asks, WithMemory}
 use Rattle.vfs_grammar.specs.Reply.{Echo, echo_of, reply_of}
 use Rattle.vfs_grammar.specs.Room.{IsReplied}
 use Rattle.vfs_grammar.specs.Samples.{lookup_of_a}
-use Rattle.vfs_grammar.specs.Turn.{Turn, Follows, turn_tells}
+use Rattle.vfs_grammar.specs.Turn.{Turn, Follows}
 use Rattle.vfs_grammar.specs.declared.error.Error.{Error}
 use Rattle.vfs_grammar.specs.declared.limits.Limits.{Limits}
 use Rattle.vfs_server.specs.Step.{ServerState}
@@ -73,7 +73,7 @@ turn_is : (settings : Settings) (t : Turn) (after : ℕ) (new : State)
     (run : List (Happening Iterator × State))
     → IsRun Allows Gives None (told (new_state settings) 1 0) run new → events_of run ≡ t.events
     → length t.room ≡ 4096 → number_of t.outcome ≡ ok
-    → Follows (turn_tells t) limits 0 (WithMemory (Asks echo lookup)) after
+    → Follows t limits 0 (WithMemory (Asks echo lookup)) after
     → (t.outcome ≡ Ok 16) × (take 16 t.room_after ≡ no_such_name)
 turn_is settings t after new run is events long answered (inl f) =
     let call = first_call (told (new_state settings) 1 0) new run lookup f.0 _ is (events ∙ f.1) in
@@ -96,8 +96,8 @@ looked_up settings old new code len room shown is t answered =
     let h : IsHistory Allows Gives old (Handled t.t ∷ []) new = t.extends old [] refl in
     let handled : IsHandled Allows Gives first t.t h.0 =
     subst (λ (s : ServerState State). IsHandled Allows Gives s t.t h.0) is h.1 in
-    let asked : Follows (turn_tells t.t) limits 0 (WithMemory (Asks echo lookup)) h.0.options =
-    subst (λ a. Follows (turn_tells t.t) limits 0 a h.0.options)
+    let asked : Follows t.t limits 0 (WithMemory (Asks echo lookup)) h.0.options =
+    subst (λ a. Follows t.t limits 0 a h.0.options)
     (ap (λ (q : List ℕ). ask limits 0 (length t.t.room) q) t.asked ∙ asks (length t.t.room)) handled.turn in
     let r = turn_is settings t.t h.0.options h.0.fs handled.run handled.is_run handled.events t.space
     (sym t.numbered ∙ answered) asked in (

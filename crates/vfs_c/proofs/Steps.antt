@@ -6,7 +6,7 @@ use Rattle.vfs_grammar.specs.declared.error.Error.{Error}
 use Rattle.vfs_server.specs.Step.{ServerState, IsStep, ReadsDirectories}
 use Rattle.vfs_rooms.specs.Codes.{number_of, length_of, shown_of}
 use Rattle.vfs_c.specs.Files.{State, Allows, Gives}
-use Rattle.vfs_c.specs.Served.{Served}
+use Rattle.vfs_c.specs.Served.{ServedInC}
 
 -- the last bytes of all are those behind the bytes that were passed before
 pub room_behind : (passed room_after all room : List ℕ) (total : ℕ)
@@ -29,7 +29,7 @@ pub stepped : (old middle answered new : ServerState State) (request : List ℕ)
     → length before.left ≡ total → bytes ≡ whole after
     → room ≡ drop (length bytes - total) bytes
     → number ≡ number_of outcome → len ≡ length_of outcome → shown ≡ shown_of outcome total
-    → Served old request total number len room shown new
+    → ServedInC old request total number len room shown new
 stepped old middle answered new request total number len bytes room shown before after outcome same kept step dirs space is end numbered counted copied =
     inl (record {
       before = before;

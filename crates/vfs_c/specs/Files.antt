@@ -1,7 +1,7 @@
 -- The file system behind the server, as contracts see it. A library over another one has other
 -- values here, and another `src/files.rt`.
 use Rattle.std.specs.Prelude.{ℕ, List, Option}
-use Rattle.vfs_files.specs.Items.{Item}
+use Rattle.vfs_files.specs.Values.{Item}
 use Rattle.vfs_files.specs.Calls.{Call, Handed}
 use Rattle.vfs_files.specs.Listing.{GivesFirst}
 use Rattle.vfs_tree.specs.State as tree

@@ -23,7 +23,7 @@ told_time server seconds nanoseconds =
 -- The server made a step, as the grammar says, with a writer that had so many bytes left; if a
 -- directory was read, it was read so. `room` has the bytes that the step left in their place, of
 -- which the first `shown` are there to be copied out.
-pub record Stepped (old : ServerState State) (request : List ℕ) (total : ℕ) (number : ℤ) (len : ℕ)
+pub record SteppedInC (old : ServerState State) (request : List ℕ) (total : ℕ) (number : ℤ) (len : ℕ)
     (room : List ℕ) (shown : ℕ) (new : ServerState State) : Type 0 where
   pub before : Written
   pub space : length before.left ≡ total
@@ -46,8 +46,8 @@ pub record Refused (old : ServerState State) (request : List ℕ) (number : ℤ)
   pub same : new ≡ old
 
 -- a request with so many bytes of room was served: by a step, or it was not handed on
-abbrev pub Served : (old : ServerState State) → (request : List ℕ) → (total : ℕ) → (number : ℤ)
+abbrev pub ServedInC : (old : ServerState State) → (request : List ℕ) → (total : ℕ) → (number : ℤ)
     → (len : ℕ) → (room : List ℕ) → (shown : ℕ) → (new : ServerState State) → Type 0
-Served old request total number len room shown new =
-    Stepped old request total number len room shown new
+ServedInC old request total number len room shown new =
+    SteppedInC old request total number len room shown new
     ⊎ Refused old request number len shown new

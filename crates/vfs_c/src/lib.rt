@@ -22,7 +22,7 @@ ghost use Rattle.vfs_flags.specs.declared.constants.TheConstants.{LEAST_MAX_BUFF
 ghost use Rattle.vfs_segments.specs.Segments.{segments_of, flat_bytes};
 ghost use Rattle.vfs_rooms.specs.Codes.{ok, no_memory, no_server, wrong_size};
 ghost use Rattle.vfs_c.specs.History.{Answered, Told};
-ghost use Rattle.vfs_c.specs.Served.{new_server, told_time, Served};
+ghost use Rattle.vfs_c.specs.Served.{new_server, told_time, ServedInC};
 ghost use Rattle.vfs_rooms.specs.Parts.{part_from};
 
 use crate::files::{Files, Settings};
@@ -116,7 +116,7 @@ pub extern "C" fn nizwarf_message_at(
     ensures none { handle.old.value ≡ None →
         (result ≡ no_server) × (len.new ≡ 0) × (handle.new.value ≡ None) }
     ensures served { IfSome handle.old.value (λ s. MatchOption handle.new.value ⊥ (λ t.
-        Served s.server (flat_bytes (segments_of request.now)) room
+        ServedInC s.server (flat_bytes (segments_of request.now)) room
         result len.new (drop t.start t.room.items) t.shown t.server)) }
     ensures history { IfSome handle.old.value (λ s. MatchOption handle.new.value ⊥ (λ t.
         Answered s.server (flat_bytes (segments_of request.now)) room

@@ -3,7 +3,7 @@
 ghost use Rattle.std.specs.Prelude.{◌≡◌, ◌≤◌, ◌-◌, ◌++◌, length, take, drop, min, IfSome};
 ghost use Rattle.vfs_flags.specs.declared.constants.TheConstants.{LEAST_MAX_BUFFER, GREATEST_MAX_BUFFER};
 ghost use Rattle.vfs_segments.specs.Segments.{segments_of, contents, flat_bytes, lengths_of};
-ghost use Rattle.vfs_c.specs.Served.{new_server, told_time, Served};
+ghost use Rattle.vfs_c.specs.Served.{new_server, told_time, ServedInC};
 ghost use Rattle.vfs_rooms.specs.Parts.{part_from};
 
 use crate::files::{Files, Settings, new_files, tell_time};
@@ -62,7 +62,7 @@ impl Session {
     /// Answers the request in these segments, with `total` bytes of room: the outcome's number, and
     /// the length of the reply, 0 where there is none.
     pub fn answer(&mut self, alloc: Global, request: &[&[u8]], total: usize) -> (i32, usize)
-        ensures { Served self.old.server (flat_bytes (segments_of request.now)) total
+        ensures { ServedInC self.old.server (flat_bytes (segments_of request.now)) total
             result.0 result.1 (drop self.new.start self.new.room.items) self.new.shown
             self.new.server }
     {
@@ -77,7 +77,7 @@ impl Session {
     // Answers the request that this reader has left.
     fn answer_reader(&mut self, alloc: Global, reader: Reader<'_>, total: usize) -> (i32, usize)
         requires { self.old.shown ≡ 0 }
-        ensures { Served self.old.server reader.entry.left total
+        ensures { ServedInC self.old.server reader.entry.left total
             result.0 result.1 (drop self.new.start self.new.room.items) self.new.shown
             self.new.server }
     {

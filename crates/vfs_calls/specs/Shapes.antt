@@ -1,11 +1,11 @@
 -- A call as data: which numbers each call has. Names and values are shown by their lengths alone; where they
 -- stand in the request is told by the request's form.
 use Rattle.std.specs.Prelude.{ℕ, pos, ◌+◌, List, Bool, true, false, length, Option, Some, None, unwrap_or}
-use Rattle.vfs_flags.specs.Errors.{eio}
+use Rattle.vfs_flags.specs.Numbers.{eio}
 use Rattle.vfs_wire.specs.declared.attributes.SetattrIn.{SetattrIn}
 use Rattle.vfs_files.specs.Calls.{Call, Kind, Quiet, kind_of, Answer, Done, Failed}
 use Rattle.vfs_files.specs.Calls as call
-use Rattle.vfs_files.specs.Extensions.{ExtensionValues}
+use Rattle.vfs_files.specs.Values.{ExtensionValues}
 use Rattle.vfs_files.specs.declared.entry.Context.{Context}
 use Rattle.vfs_calls.specs.declared.call.Range.{Range}
 use Rattle.vfs_calls.specs.declared.call.SetattrData.{SetattrData}

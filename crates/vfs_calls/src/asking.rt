@@ -4,7 +4,7 @@ ghost use Rattle.std.specs.Prelude.{◌≡◌, ◌+◌, ◌<◌, ◌^◌, None};
 ghost use Rattle.vfs_flags.specs.Flags.{setattr_valid_bits};
 ghost use Rattle.vfs_files.specs.Calls.{Getattr, Setattr, BatchForget, Plain, Done};
 ghost use Rattle.vfs_files.specs.Answers.{attr_answer};
-ghost use Rattle.vfs_files.specs.Extensions.{extension_values_of};
+ghost use Rattle.vfs_files.specs.Values.{extension_values_of};
 ghost use Rattle.vfs_calls.specs.Asked.{Notes};
 ghost use Rattle.vfs_calls.specs.Shapes.{asks, bit, bit_of, extended, made_by, setattr_of};
 

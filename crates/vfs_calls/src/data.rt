@@ -1,7 +1,7 @@
 //! An answer as data, and what it is to a server.
 
 ghost use Rattle.std.specs.Prelude.{◌≡◌, min};
-ghost use Rattle.vfs_files.specs.Entries.{entry_out_of, whole_seconds, nanoseconds_beyond};
+ghost use Rattle.vfs_files.specs.Values.{entry_out_of, whole_seconds, nanoseconds_beyond};
 ghost use Rattle.vfs_calls.specs.Values.{IsFaultOf, attr_of, entry_out_for, statistics_of, most_nanoseconds};
 
 use std::time::Duration;

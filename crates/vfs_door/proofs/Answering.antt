@@ -2,10 +2,9 @@
 use Rattle.std.proofs.Common.{◌≡◌, ◌≤◌, ◌+◌, ◌-◌, ◌∙◌, ℕ, ℤ, List, length, replicate, true, Option, Some, None, IfSome, ap, subst, inl, arith, rules}
 use Rattle.std.proofs.lemmas.List.{length-replicate}
 use Rattle.vfs_segments.specs.Written.{Written, whole}
-use Rattle.vfs_files.specs.Calls.{Kind, Data, Iterators}
+use Rattle.vfs_files.specs.Calls.{Kind, Data, Iterators, read_answer}
 use Rattle.vfs_messages.specs.Rooms.{with_behind}
 use Rattle.vfs_grammar.specs.Reply.{reply_of, reply_to}
-use Rattle.vfs_files.specs.Calls.{read_answer}
 use Rattle.vfs_grammar.specs.declared.limits.Limits.{Limits}
 use Rattle.vfs_calls.specs.declared.call.CallData.{CallData}
 use Rattle.vfs_calls.specs.declared.data.AnswerData.{AnswerData}

@@ -2,8 +2,8 @@
 use Rattle.std.proofs.Common.{◌≡◌, ◌≤◌, ◌+◌, ◌++◌, ◌∙◌, ℕ, List, [], ◌∷◌, length, take, drop, Result, refl, ap, sym, arith, length-append, append_assoc}
 use Rattle.std.proofs.lemmas.List.{drop_at, length-take-le, take_at}
 use Rattle.std.proofs.Math.Seq.{take-append-add}
-use Rattle.vfs_segments.specs.Written.{Written, whole}
-use Rattle.vfs_messages.specs.Rooms.{Leaves, Replies, with_behind}
+use Rattle.vfs_segments.specs.Written.{Written, whole, Leaves}
+use Rattle.vfs_messages.specs.Rooms.{Replies, with_behind}
 use Rattle.vfs_grammar.specs.Reply.{Reply, Refusal, NoReply, Bytes, OpenBehind}
 use Rattle.vfs_grammar.specs.declared.error.Error.{Error}
 use Rattle.vfs_door.specs.Shown.{AreFirst, shown_of}

@@ -3,13 +3,12 @@ use Rattle.std.proofs.Common.{◌≡◌, ◌≢◌, ◌⊎◌, ◌≤◌, ◌^�
 use Rattle.std.proofs.lemmas.Int.{ints}
 use Rattle.std.proofs.lemmas.List.{append_cancel_left}
 use Rattle.std.specs.Prelude.{⊤}
-use Rattle.vfs_flags.specs.Opcode.{opcode_of}
-use Rattle.vfs_wire.specs.Entries.{entry_out}
+use Rattle.vfs_flags.specs.Numbers.{opcode_of}
+use Rattle.vfs_wire.specs.Records.{entry_out, in_header}
 use Rattle.vfs_wire.specs.Fields.{little, number, value_of, bytes_of}
-use Rattle.vfs_wire.specs.Headers.{in_header}
 use Rattle.vfs_segments.specs.Written.{Written, whole}
 use Rattle.vfs_files.specs.Calls.{Call, Lookup, Answer, Failed, Found, Entries}
-use Rattle.vfs_files.specs.Entries.{context_of, entry_out_of}
+use Rattle.vfs_files.specs.Values.{context_of, entry_out_of}
 use Rattle.vfs_files.specs.declared.entry.Entry.{Entry}
 use Rattle.vfs_grammar.specs.Ask.{ask}
 use Rattle.vfs_grammar.specs.Forms.{Ask, Asks as asks_call, WithMemory}
@@ -32,8 +31,7 @@ use Rattle.vfs_answer.specs.declared.answered.Answered.{Answered}
 use Rattle.vfs_answer.proofs.Using.{in_room}
 use Rattle.vfs_rooms.specs.Codes.{ok, no_memory, is_asked, number_of, length_of}
 use Rattle.vfs_door.specs.Answering.{AnswersIn, AnswersOrNot, IsPassedOn, put_of}
-use Rattle.vfs_door.specs.Asking.{AsksOrNot}
-use Rattle.vfs_door.specs.Asking.{IsPassedOn as IsAskedOn}
+use Rattle.vfs_door.specs.Asking.{AsksOrNot, IsPassedOn as IsAskedOn}
 use Rattle.vfs_door.specs.Shown.{AreFirst}
 use Rattle.vfs_door.specs.Uses.{IsLookupOfA, no_such_name}
 use Rattle.vfs_door.specs.declared.data.ToldData.{ToldData}

@@ -20,8 +20,7 @@ use Rattle.vfs_answer.specs.declared.answered.Answered.{Answered}
 use Rattle.vfs_messages.proofs.Rooms.{with_none_behind}
 use Rattle.vfs_in_flight.specs.OneTurn.{AreOneTurn}
 use Rattle.vfs_rooms.specs.Codes.{ok, no_memory, too_long, is_asked, number_of}
-use Rattle.vfs_door.specs.Answering.{AnswersOrNot, put_of}
-use Rattle.vfs_door.specs.Answering.{IsPassedOn as IsAnswerTold}
+use Rattle.vfs_door.specs.Answering.{AnswersOrNot, put_of, IsPassedOn as IsAnswerTold}
 use Rattle.vfs_door.specs.Asking.{AsksOrNot, IsPassedOn}
 use Rattle.vfs_door.specs.Uses.{IsOneTurn}
 use Rattle.vfs_door.specs.declared.data.ToldData.{ToldData}

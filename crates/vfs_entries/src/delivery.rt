@@ -3,7 +3,7 @@
 ghost use Rattle.std.specs.Prelude.{◌≡◌, length, None, is_err, if◌then◌else◌};
 ghost use Rattle.vfs_files.specs.Answers.{Entries, Creations, IsAnswer, entry_answer, created_answer};
 ghost use Rattle.vfs_files.specs.Calls.{Call, Plain};
-ghost use Rattle.vfs_files.specs.Entries.{context_of};
+ghost use Rattle.vfs_files.specs.Values.{context_of};
 ghost use Rattle.vfs_listings.specs.Reading.{GivesBackNode};
 ghost use Rattle.vfs_grammar.specs.Reply.{reply_to};
 ghost use Rattle.vfs_messages.specs.Rooms.{Replies};

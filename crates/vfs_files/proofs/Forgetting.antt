@@ -1,7 +1,7 @@
 -- Runs of `forget`.
 use Rattle.std.proofs.Common.{ℕ, List, [], ◌∷◌, ◌++◌, map, Option, None, refl, ap, sym, ◌∙◌}
 use Rattle.std.proofs.lemmas.List.{map-append}
-use Rattle.vfs_files.specs.Items.{Item}
+use Rattle.vfs_files.specs.Values.{Item}
 use Rattle.vfs_files.specs.Calls.{Call, Forget, Done, Handed, Plain}
 use Rattle.vfs_files.specs.Runs.{Event, Called, Happening, Calls, ForgetsEach, events_of}
 use Rattle.vfs_files.specs.declared.entry.Context.{Context}

@@ -3,8 +3,8 @@ use Rattle.std.proofs.Common.{◌≡◌, ◌≢◌, ◌<◌, ◌≤◌, ◌-◌,
 use Rattle.std.proofs.Math.Seq.{drop-append_seam}
 use Rattle.std.proofs.lemmas.Bool.{cases_Bool, ltb-true, ltb-false}
 use Rattle.std.proofs.lemmas.List.{drop-append-le, take-append-le, take_all, length-drop, get_or_append_left, get_or-append_right}
-use Rattle.vfs_files.specs.Items.{Item}
-use Rattle.vfs_files.specs.Listing.{items_from, AreInTurn, IsListing}
+use Rattle.vfs_files.specs.Values.{Item}
+use Rattle.vfs_files.specs.Listing.{items_from, AreInTurn, IsEntryList}
 use Rattle.vfs_files.specs.declared.listing.Kept.{Kept}
 
 -- a name is the same with more bytes behind all of them
@@ -54,7 +54,7 @@ module _ (names text : List ℕ) (last : Kept) (ends : last.end ≡ length (name
       (turn.0, omega (arith, turn.1, long), turn_pushed e.end es turn.2)
 
 module _ (names : List ℕ) (entries : List Kept) (given begin : ℕ)
-    (old : IsListing names entries given begin) (text : List ℕ)
+    (old : IsEntryList names entries given begin) (text : List ℕ)
     (no_nul : (k : ℕ) → k < length text → get_or text k 0 ≢ 0)
     (last : Kept) (more : List ℕ) (added : List Kept) (names_are : more ≡ names ++ text)
     (entries_are : added ≡ entries ++ last ∷ []) (ends : last.end ≡ length more) where
@@ -72,10 +72,10 @@ module _ (names : List ℕ) (entries : List Kept) (given begin : ℕ)
       ∙ ap (items_from begin (names ++ text)) left
       ∙ items_pushed names text last ends' begin (drop given entries) old.in_turn
 
-  pub listing_pushed : IsListing more added given begin
+  pub listing_pushed : IsEntryList more added given begin
   listing_pushed =
-      subst (λ ns. IsListing ns added given begin) (sym names_are)
-      (subst (λ es. IsListing (names ++ text) es given begin) (sym entries_are) (record {
+      subst (λ ns. IsEntryList ns added given begin) (sym names_are)
+      (subst (λ es. IsEntryList (names ++ text) es given begin) (sym entries_are) (record {
         within = let long = length-append entries (last ∷ []) in omega (arith, long, old.within);
         in_turn = subst (AreInTurn begin (names ++ text)) (sym left)
             (turn_pushed names text last ends' begin (drop given entries) old.in_turn);

@@ -6,13 +6,10 @@ use Rattle.vfs_flags.specs.Flags.{fs_options_bits, open_options_bits}
 use Rattle.vfs_flags.specs.declared.fs_options.FsOptions.{FsOptions}
 use Rattle.vfs_flags.specs.declared.open_options.OpenOptions.{OpenOptions}
 use Rattle.vfs_wire.specs.Fields.{Fit}
-use Rattle.vfs_wire.specs.Attributes.{attr, attr_out}
-use Rattle.vfs_wire.specs.Entries.{entry_out}
-use Rattle.vfs_wire.specs.Listings.{kstatfs}
-use Rattle.vfs_wire.specs.Stat.{kstatfs_of}
+use Rattle.vfs_wire.specs.Records.{attr, attr_out, entry_out, kstatfs, kstatfs_of}
 use Rattle.vfs_wire.specs.declared.attributes.Attr.{Attr}
 use Rattle.vfs_wire.specs.declared.stat.Statvfs64.{Statvfs64}
-use Rattle.vfs_files.specs.Entries.{entry_out_of, whole_seconds, nanoseconds_beyond}
+use Rattle.vfs_files.specs.Values.{entry_out_of, whole_seconds, nanoseconds_beyond}
 use Rattle.vfs_files.specs.declared.entry.Entry.{Entry}
 use Rattle.vfs_files.specs.declared.xattr.GetxattrReply.{GetxattrReply}
 use Rattle.vfs_files.specs.declared.xattr.GetxattrReply.TheVariants as getxattr
@@ -181,21 +178,10 @@ IsFault (Some number) = (0 < number) × (number < 2 ^ 31)
 abbrev pub FitsEntry : Entry → Type 0
 FitsEntry entry = Fit entry_out.widths (entry_out.fields (entry_out_of entry))
 
--- each number of attributes and of their timeout, in whole seconds and the nanoseconds beyond, is
--- within its width in the reply
-abbrev pub FitsAttributes : Attr → Duration → Type 0
-FitsAttributes attributes timeout =
-    Fit attr_out.widths
-    (whole_seconds timeout ∷ nanoseconds_beyond timeout ∷ 0 ∷ attr.fields attributes)
-
 -- a handle's number, or 0 where there is no handle, and the bits of how to use it are within their
 -- widths in the reply, of 8 and 4 bytes; 4 bytes behind them are padding
 abbrev pub FitsOpening : Option ℕ → ℕ → Type 0
 FitsOpening handle options = Fit (8 ∷ 4 ∷ 4 ∷ []) (unwrap_or handle 0 ∷ options ∷ 0 ∷ [])
-
--- each number of what a file system holds is within its width in the reply
-abbrev pub FitsStatistics : Statvfs64 → Type 0
-FitsStatistics statistics = Fit kstatfs.widths (kstatfs.fields (kstatfs_of statistics))
 
 -- the length of a reply with this text, 16 bytes of its header included, is below 2 ^ 32
 abbrev pub FitsText : List ℕ → Type 0
@@ -212,7 +198,8 @@ abbrev pub Counts : Result ℕ (Option ℕ) → List ℕ → ℕ → Type 0
 Counts (Ok count) bytes size = (count ≡ length bytes) × (count ≤ size) × FitsText bytes
 Counts (Err fault) bytes size = ⊤
 
--- an answer of this kind, with its numbers in their widths
+-- an answer of this kind, with its numbers in their widths in the reply; a time is in whole seconds and the
+-- nanoseconds beyond
 abbrev pub IsAnswer : Kind → Answer → Type 0
 IsAnswer Quiet Done = Unit {0}
 IsAnswer Quiet _ = ⊥
@@ -222,10 +209,13 @@ IsAnswer Untold Done = Unit {0}
 IsAnswer (Data size) (Put bytes) = (length bytes ≤ size) × FitsText bytes
 IsAnswer Agreements (Options want) = want < 2 ^ 64
 IsAnswer Entries (Found entry) = FitsEntry entry
-IsAnswer TimedAttributes (Attributes attributes timeout) = FitsAttributes attributes timeout
+IsAnswer TimedAttributes (Attributes attributes timeout) =
+    Fit attr_out.widths
+    (whole_seconds timeout ∷ nanoseconds_beyond timeout ∷ 0 ∷ attr.fields attributes)
 IsAnswer Openings (Opened handle options) = FitsOpening handle options
 IsAnswer Creations (Created entry handle options) = FitsEntry entry × FitsOpening handle options
-IsAnswer Capacities (Statistics statistics) = FitsStatistics statistics
+IsAnswer Capacities (Statistics statistics) =
+    Fit kstatfs.widths (kstatfs.fields (kstatfs_of statistics))
 IsAnswer Texts (Text bytes) = FitsText bytes
 IsAnswer TextsOrCounts (Text bytes) = FitsText bytes
 IsAnswer TextsOrCounts (Count length) = length < 2 ^ 32

@@ -1,6 +1,6 @@
 -- Bytes in memory, as a file: what one read moves, what a READ puts, and what a write leaves.
 use Rattle.std.specs.Prelude.{◌≡◌, ◌<◌, ◌^◌, ◌+◌, ◌-◌, ℕ, List, [], ◌∷◌, ◌++◌, length, min, take, drop, replicate, Option, Some, Result, Ok, Err}
-use Rattle.vfs_flags.specs.Errors.{enomem}
+use Rattle.vfs_flags.specs.Numbers.{enomem}
 use Rattle.vfs_views.specs.Segments.{with_bytes_at}
 
 -- the bytes from place off on, at most so many

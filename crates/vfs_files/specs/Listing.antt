@@ -1,6 +1,6 @@
 -- Entries of a directory in memory, which are given one after another.
 use Rattle.std.specs.Prelude.{◌≡◌, ◌≢◌, ◌<◌, ◌≤◌, ℕ, List, [], ◌∷◌, length, drop, slice_index, slice_range, Option, Some, None}
-use Rattle.vfs_files.specs.Items.{Item}
+use Rattle.vfs_files.specs.Values.{Item}
 use Rattle.vfs_files.specs.declared.listing.Kept.{Kept}
 
 -- what an iterator with these items left gives: the first, and the others are left, or the end,
@@ -28,7 +28,7 @@ AreInTurn begin names (kept ∷ entries) =
 
 -- what holds of a list: so many entries were given, the names of those that are left stand from a
 -- place to the end, and no byte of a name is 0
-pub record IsListing (names : List ℕ) (entries : List Kept) (given begin : ℕ) : Type 0 where
+pub record IsEntryList (names : List ℕ) (entries : List Kept) (given begin : ℕ) : Type 0 where
   pub within : given ≤ length entries
   pub in_turn : AreInTurn begin names (drop given entries)
   pub no_nul : (k : ℕ) → k < length names → slice_index names k ≢ 0

@@ -1,6 +1,6 @@
 -- What is known of runs: two in a row, and runs of which only the events are told.
 use Rattle.std.proofs.Common.{◌≡◌, List, [], ◌∷◌, ◌++◌, Option, Some, None, refl, ap, sym, ◌∙◌, subst, ◌⊎◌, inl, inr}
-use Rattle.vfs_files.specs.Items.{Item}
+use Rattle.vfs_files.specs.Values.{Item}
 use Rattle.vfs_files.specs.Calls.{Call, Answer, Handed, Plain}
 use Rattle.vfs_files.specs.Runs.{Event, Called, Taken, Happening, Calls, Opens, Takes, event_of, at_hand, IsRun, events_of, RunsJoin}
 

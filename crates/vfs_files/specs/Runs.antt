@@ -1,6 +1,6 @@
 -- Events, and runs of a file system. Only a run knows the types of states and iterators.
 use Rattle.std.specs.Prelude.{◌≡◌, ℕ, List, [], ◌∷◌, ◌++◌, map, Option, Some, None}
-use Rattle.vfs_files.specs.Items.{Item}
+use Rattle.vfs_files.specs.Values.{Item}
 use Rattle.vfs_files.specs.Calls.{Call, Forget, Answer, Done, Handed, Plain, Iterator}
 use Rattle.vfs_files.specs.declared.entry.Context.{Context}
 

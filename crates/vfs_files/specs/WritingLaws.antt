@@ -8,7 +8,7 @@ use Rattle.vfs_views.specs.declared.file.WritevFlags.{WritevFlags}
 use Rattle.vfs_files.specs.Transfers.{Ending, Finished, Stuck, Broken, Past, outcome, count_moved, writes_of, Goes, Ends, Transfers}
 use Rattle.vfs_files.specs.declared.bytes_mut.BytesMut.{BytesMut}
 use Rattle.vfs_files.specs.Bytes.{fitting, lengthened, written, Writes}
-use Rattle.vfs_files.specs.BytesMut.{bytes_of, Keeps, WritesFile}
+use Rattle.vfs_files.specs.BytesMut.{bytes_held, Keeps, WritesFile}
 
 -- bytes that are written within a list leave its length
 length-with_bytes_at : (at : ℕ) (w xs : List ℕ) → at + length w ≤ length xs
@@ -116,7 +116,7 @@ module _ (count off : ℕ) (left : List ℕ) (flags : Option WritevFlags) where
   record MovesNone (old : BytesMut) (answer : Result (List ℕ) (Option ℕ)) (new : BytesMut)
       : Type 0 where
     none : counted answer ≡ Ok 0
-    same : bytes_of new ≡ bytes_of old
+    same : bytes_held new ≡ bytes_held old
     keeps : Keeps old new
 
   later_call : (m : ℕ) (old : BytesMut) (answer : Result (List ℕ) (Option ℕ)) (new : BytesMut)
@@ -124,10 +124,10 @@ module _ (count off : ℕ) (left : List ℕ) (flags : Option WritevFlags) where
       → writes_of gives left flags m old (off + m) len answer new → MovesNone old answer new
   later_call m old (Ok part) new len past h =
       let w =
-      write_past old.most (bytes_of old) _ (off + m) (Ok (length part)) (bytes_of new) past h.0.0 in
+      write_past old.most (bytes_held old) _ (off + m) (Ok (length part)) (bytes_held new) past h.0.0 in
       record { none = w.0; same = w.1; keeps = h.0.1 }
   later_call m old (Err fault) new len past h =
-      let w = write_past old.most (bytes_of old) _ (off + m) (Err fault) (bytes_of new) past h.0 in
+      let w = write_past old.most (bytes_held old) _ (off + m) (Err fault) (bytes_held new) past h.0 in
       record { none = w.0; same = w.1; keeps = h.1 }
 
   -- what the ending of a transfer leaves whose first call moved something
@@ -139,14 +139,14 @@ module _ (count off : ℕ) (left : List ℕ) (flags : Option WritevFlags) where
       → WritesFile old (take count left) off (outcome m ending) new
   after_one old part one middle new m Finished w mid same e =
       let end = e.1 ∙ mid in (
-        (same ∙ w.0.0, ap bytes_of end ∙ w.0.1),
+        (same ∙ w.0.0, ap bytes_held end ∙ w.0.1),
         keeps_then old one new w.1 (same_keeps one new end),
       )
   after_one old part one middle new m Stuck w mid same e =
       let past = at_limit old.most part m same w.0.0 (omega (arith, e.0)) in
       let kept = keeps_then old one middle w.1 (same_keeps one middle mid) in
       let l = later_call m middle (Ok []) new _ (omega (arith, past, kept.limit)) e.1 in (
-        (same ∙ w.0.0, l.same ∙ ap bytes_of mid ∙ w.0.1),
+        (same ∙ w.0.0, l.same ∙ ap bytes_held mid ∙ w.0.1),
         keeps_then old middle new kept l.keeps,
       )
   after_one old part one middle new m (Broken fault) w mid same e =
@@ -171,7 +171,7 @@ module _ (count off : ℕ) (left : List ℕ) (flags : Option WritevFlags) where
       let none : length (take count left) ≡ 0 = omega (arith, e.0, length-take count left) in
       let same : old ≡ new = sym (e.1 ∙ g) in
       rw (← same) (
-        write_none old.most (bytes_of old) (take count left) off none,
+        write_none old.most (bytes_held old) (take count left) off none,
         same_keeps old old refl,
       )
   write_cases old middle new [] Stuck low g e =

@@ -2,7 +2,7 @@
 
 ghost use Rattle.std.specs.Prelude.{◌≡◌, ◌≤◌, ◌++◌, ℕ, List, length, take, drop, min, Err, Some};
 ghost use Rattle.std.specs.List.{concat};
-ghost use Rattle.vfs_flags.specs.Errors.{ebadf};
+ghost use Rattle.vfs_flags.specs.Numbers.{ebadf};
 ghost use Rattle.vfs_views.specs.Views.{IsSameRoom};
 ghost use Rattle.vfs_files.specs.Bytes.{PutsPart};
 

@@ -1,9 +1,8 @@
 //! Bytes in memory as a file that is written, and a transfer of the bytes of a WRITE into them.
 
-ghost use Rattle.std.specs.Prelude.{◌≡◌, ◌-◌, ◌<◌, ◌≤◌, ℕ, List, IfErr, IfOk, OnOk, Some};
-ghost use Rattle.std.specs.Prelude.{length, take, replicate, vec_len, vec_capacity};
+ghost use Rattle.std.specs.Prelude.{◌≡◌, ◌-◌, ◌<◌, ◌≤◌, ℕ, List, IfErr, IfOk, OnOk, Some, length, take, replicate, vec_len, vec_capacity};
 ghost use Rattle.std.specs.List.{concat};
-ghost use Rattle.vfs_flags.specs.Errors.{enomem};
+ghost use Rattle.vfs_flags.specs.Numbers.{enomem};
 ghost use Rattle.vfs_views.specs.Segments.{with_bytes_at};
 ghost use Rattle.vfs_files.specs.Bytes.{lengthened, Writes};
 

@@ -7,8 +7,7 @@
 //! has none: it is to call the `forget` of the same file system for each pair, in order.
 
 ghost use Rattle.std.specs.Prelude.{◌≡◌, Ok, Err};
-ghost use Rattle.vfs_files.specs.Calls.{Options, init_answer, opened_answer};
-ghost use Rattle.vfs_files.specs.Calls.{not_served, default_opening, default_statistics};
+ghost use Rattle.vfs_files.specs.Calls.{Options, init_answer, opened_answer, not_served, default_opening, default_statistics};
 ghost use Rattle.vfs_files.specs.declared.migration.MigrateError.TheVariants.{Unsupported};
 
 use crate::entry::Entry;

@@ -2,7 +2,7 @@
 
 ghost use Rattle.std.specs.Prelude.{ℕ, Option};
 ghost use Rattle.std.specs.Borrow.{sem};
-ghost use Rattle.vfs_files.specs.Items.{Item, item_of, Rests};
+ghost use Rattle.vfs_files.specs.Values.{Item, item_of, Rests};
 
 use crate::name::CStr;
 

@@ -1,7 +1,7 @@
 //! What a call is told of its caller, and what it answers of a node.
 
 ghost use Rattle.std.specs.Prelude.{◌≡◌};
-ghost use Rattle.vfs_files.specs.Entries.{context_of, entry_out_of};
+ghost use Rattle.vfs_files.specs.Values.{context_of, entry_out_of};
 
 use std::time::Duration;
 use vfs_flags::{GuestGid, GuestUid};

@@ -18,7 +18,7 @@ pub struct SecContext {
 }
 
 impl SecContext {
-    ghost use Rattle.vfs_files.specs.Extensions.{context_values};
+    ghost use Rattle.vfs_files.specs.Values.{context_values};
 
     /// An equal context, in memory of its own, or the fault ENOMEM where there is none.
     pub fn clone(&self, alloc: Global) -> Result<SecContext, Fault>
@@ -43,8 +43,7 @@ pub struct Extensions {
 }
 
 impl Extensions {
-    ghost use Rattle.vfs_files.specs.Extensions.{extension_values_of};
-
+    ghost use Rattle.vfs_files.specs.Values.{extension_values_of};
     /// No extension.
     pub fn none() -> Extensions
         ensures { extension_values_of result ≡ record { context = None; group = None } }

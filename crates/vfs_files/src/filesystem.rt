@@ -2,21 +2,9 @@
 
 ghost use Rattle.std.specs.Prelude.{option_map, map, ℕ, List};
 ghost use Rattle.vfs_flags.specs.Flags.{fs_options_bits, setattr_valid_bits, setxattr_flags_bits};
-ghost use Rattle.vfs_files.specs.Names.{name_text};
-ghost use Rattle.vfs_files.specs.Extensions.{extension_values_of};
-ghost use Rattle.vfs_files.specs.Calls.{Call, Lookup, Forget, Getattr, Setattr, Readlink, Symlink};
-ghost use Rattle.vfs_files.specs.Calls.{Mknod, Mkdir, Unlink, Rmdir, Rename, Link, Open, Read};
-ghost use Rattle.vfs_files.specs.Calls.{Write, Statfs, Release, Fsync, Setxattr, Getxattr};
-ghost use Rattle.vfs_files.specs.Calls.{Listxattr, Removexattr};
-ghost use Rattle.vfs_files.specs.Calls.{Flush, Init, Opendir, Readdir, Releasedir, Fsyncdir};
-ghost use Rattle.vfs_files.specs.Calls.{Getlk, Setlk, Setlkw, Access, Create, Bmap, Destroy};
-ghost use Rattle.vfs_files.specs.Calls.{Ioctl, Poll, NotifyReply, BatchForget, Fallocate, Lseek};
-ghost use Rattle.vfs_files.specs.Calls.{Copyfilerange, Syncfs, Tmpfile};
-ghost use Rattle.vfs_files.specs.Answers.{Handed, Plain, Done, Failed, init_answer, entry_answer};
-ghost use Rattle.vfs_files.specs.Answers.{attr_answer, done_answer, opened_answer, created_answer};
-ghost use Rattle.vfs_files.specs.Answers.{statistics_answer, text_answer, getxattr_answer};
-ghost use Rattle.vfs_files.specs.Answers.{listxattr_answer, offset_answer, written_answer};
-ghost use Rattle.vfs_files.specs.Answers.{KeepsTextShort, Counts, read_answer, directory_answer};
+ghost use Rattle.vfs_files.specs.Values.{name_text, extension_values_of};
+ghost use Rattle.vfs_files.specs.Calls.{Call, Lookup, Forget, Getattr, Setattr, Readlink, Symlink, Mknod, Mkdir, Unlink, Rmdir, Rename, Link, Open, Read, Write, Statfs, Release, Fsync, Setxattr, Getxattr, Listxattr, Removexattr, Flush, Init, Opendir, Readdir, Releasedir, Fsyncdir, Getlk, Setlk, Setlkw, Access, Create, Bmap, Destroy, Ioctl, Poll, NotifyReply, BatchForget, Fallocate, Lseek, Copyfilerange, Syncfs, Tmpfile};
+ghost use Rattle.vfs_files.specs.Answers.{Handed, Plain, Done, Failed, init_answer, entry_answer, attr_answer, done_answer, opened_answer, created_answer, statistics_answer, text_answer, getxattr_answer, listxattr_answer, offset_answer, written_answer, KeepsTextShort, Counts, read_answer, directory_answer};
 
 use crate::directory::DirectoryIterator;
 use crate::entry::{Context, Entry};

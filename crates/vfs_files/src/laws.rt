@@ -1,10 +1,9 @@
 //! What holds of names and of every file system by their definitions.
 
 ghost use Rattle.std.specs.Prelude.{◌≡◌, ℕ, List, [], ◌∷◌, Option, Some, None};
-ghost use Rattle.vfs_files.specs.Names.{IsName, name_of};
+ghost use Rattle.vfs_files.specs.Values.{IsName, name_of, Item};
 ghost use Rattle.vfs_files.specs.Answers.{IsAnswer};
 ghost use Rattle.vfs_files.specs.Calls.{Call, Answer, Plain, Iterator, kind_of, default_answer};
-ghost use Rattle.vfs_files.specs.Items.{Item};
 ghost use Rattle.vfs_files.specs.Runs.{IsRun, Calls, Opens, Takes, RunsJoin, EventsJoin};
 
 use crate::filesystem::FileSystem;

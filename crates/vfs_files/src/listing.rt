@@ -2,7 +2,7 @@
 
 ghost use Rattle.std.specs.Prelude.{◌≡◌, ◌++◌, ◌∷◌, [], length, IfErr, OnOk};
 ghost use Rattle.vfs_files.specs.Calls.{out_of_memory};
-ghost use Rattle.vfs_files.specs.Items.{item};
+ghost use Rattle.vfs_files.specs.Values.{item};
 
 use crate::directory::{DirEntry, DirectoryIterator};
 use crate::name::CStr;
@@ -39,8 +39,8 @@ pub struct EntryList {
 
 impl Model for EntryList {
     ghost use Rattle.std.specs.Prelude.{List, drop};
-    ghost use Rattle.vfs_files.specs.Items.{Item};
-    ghost use Rattle.vfs_files.specs.Listing.{IsListing, items_from};
+    ghost use Rattle.vfs_files.specs.Values.{Item};
+    ghost use Rattle.vfs_files.specs.Listing.{IsEntryList, items_from};
 
     ghost Value = { List Item };
 
@@ -48,7 +48,7 @@ impl Model for EntryList {
         items_from list.begin list.names.items (drop list.given list.entries.items) };
 
     ghost invariant = { λ list.
-        IsListing list.names.items list.entries.items list.given list.begin };
+        IsEntryList list.names.items list.entries.items list.given list.begin };
 }
 
 impl EntryList {

@@ -1,9 +1,7 @@
 //! The state of a file system, carried over to another host.
 
 ghost use Rattle.std.specs.Prelude.{◌≡◌};
-ghost use Rattle.vfs_files.specs.Migrations.{MigrationCall, PrepareSerialization, Serialize};
-ghost use Rattle.vfs_files.specs.Migrations.{DeserializeAndApply, MigrationAnswer, Prepared};
-ghost use Rattle.vfs_files.specs.Migrations.{Migrated, Traffic, IsWritten, IsTaken};
+ghost use Rattle.vfs_files.specs.Migrations.{MigrationCall, PrepareSerialization, Serialize, DeserializeAndApply, MigrationAnswer, Prepared, Migrated, Traffic, IsWritten, IsTaken};
 
 use std::fmt::{self, Display, Formatter};
 use std::io;

@@ -30,7 +30,7 @@ pub struct CStr<'a> {
 
 impl<'a> CStr<'a> {
     ghost use Rattle.std.specs.Prelude.{MatchOption, Some, None, take};
-    ghost use Rattle.vfs_files.specs.Names.{name_of, name_text};
+    ghost use Rattle.vfs_files.specs.Values.{name_of, name_text};
 
     /// The name in these bytes: all but the last, where the last is 0 and no other is. `None`
     /// where there is no 0, where one stands before the end, and for no bytes at all. A single 0
@@ -111,7 +111,7 @@ impl Model for CString {
 impl CString {
     ghost use Rattle.std.specs.Prelude.{IfOk, IfErr};
     ghost use Rattle.vfs_files.specs.Calls.{out_of_memory};
-    ghost use Rattle.vfs_files.specs.Names.{name_text};
+    ghost use Rattle.vfs_files.specs.Values.{name_text};
 
     /// The same name, in memory of its own, or the fault ENOMEM where there is none.
     pub fn new(alloc: Global, name: CStr<'_>) -> Result<CString, Fault>

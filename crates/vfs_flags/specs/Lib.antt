@@ -1,4 +1,3 @@
-pub mod Errors
-pub mod ExtType
+pub mod FlagTables
 pub mod Flags
-pub mod Opcode
+pub mod Numbers

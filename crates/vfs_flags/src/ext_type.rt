@@ -2,7 +2,7 @@
 
 ghost use Rattle.std.specs.Prelude.{◌≡◌};
 ghost use Rattle.std.specs.Result.{result_ok};
-ghost use Rattle.vfs_flags.specs.ExtType.{ext_type_of};
+ghost use Rattle.vfs_flags.specs.Numbers.{ext_type_of};
 
 /// What an extension of a request that creates a node holds: `type` of `struct fuse_ext_header`.
 #[derive(Clone, Copy, Debug)]

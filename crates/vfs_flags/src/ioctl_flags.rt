@@ -2,7 +2,8 @@
 
 ghost use Rattle.std.specs.Prelude.{⊤, ◌≡◌};
 ghost use Rattle.std.specs.Int.RustNames.{bit_and, bit_or};
-ghost use Rattle.vfs_flags.specs.Flags.{ioctl_flags_bits, ioctl_flags_table};
+ghost use Rattle.vfs_flags.specs.Flags.{ioctl_flags_bits};
+ghost use Rattle.vfs_flags.specs.FlagTables.{ioctl_flags_table};
 
 use crate::flag_list::flag_list;
 use bitflags::{Flag, Flags};

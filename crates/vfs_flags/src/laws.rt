@@ -1,8 +1,9 @@
 //! The numbers of the protocol as they are written down. Each function here does nothing: its
 //! contract is the law, for a caller's proof to cite.
 
-ghost use Rattle.std.specs.Prelude.{◌≡◌};
-ghost use Rattle.vfs_flags.specs.Flags.{known_fs_options, known_setattr_valid, known_open_options, known_ioctl_flags, known_setxattr_flags, known_notify_inval_entry_out_flags, known_setupmapping_flags, supported_fs_options};
+ghost use Rattle.std.specs.Prelude.{◌≡◌, ◌∷◌, []};
+ghost use Rattle.vfs_flags.specs.Flags.{create_supp_group, init_ext, known_fs_options, known_setattr_valid, known_open_options, known_ioctl_flags, known_setxattr_flags, known_notify_inval_entry_out_flags, known_setupmapping_flags, supported_fs_options};
+ghost use Rattle.vfs_flags.specs.FlagTables.{bits_of_all, bits_of_table, fs_options_table, setattr_valid_table, open_options_table, ioctl_flags_table, setxattr_flags_table, notify_inval_entry_out_flags_table, setupmapping_flags_table, async_read, atomic_o_trunc, big_writes, has_ioctl_dir, auto_inval_data, async_dio, parallel_dirops, max_pages_option, submounts, allow_idmap};
 
 use crate::*;
 
@@ -16,6 +17,22 @@ pub fn masks_have_their_bits()
     ensures notify_inval_entry_out_flags { known_notify_inval_entry_out_flags ≡ 1 }
     ensures setupmapping_flags { known_setupmapping_flags ≡ 3 }
     ensures supported { supported_fs_options ≡ 0x10448449829 }
+{}
+
+/// The bits that are known are those of the flags that have a name, and what a server supports are the
+/// options of these names.
+pub fn masks_are_of_their_names()
+    ensures fs_options { known_fs_options ≡ bits_of_table fs_options_table }
+    ensures setattr_valid { known_setattr_valid ≡ bits_of_table setattr_valid_table }
+    ensures open_options { known_open_options ≡ bits_of_table open_options_table }
+    ensures ioctl_flags { known_ioctl_flags ≡ bits_of_table ioctl_flags_table }
+    ensures setxattr_flags { known_setxattr_flags ≡ bits_of_table setxattr_flags_table }
+    ensures notify_inval_entry_out_flags { known_notify_inval_entry_out_flags ≡ bits_of_table notify_inval_entry_out_flags_table }
+    ensures setupmapping_flags { known_setupmapping_flags ≡ bits_of_table setupmapping_flags_table }
+    ensures supported { supported_fs_options ≡
+        bits_of_all (async_read ∷ atomic_o_trunc ∷ big_writes ∷ has_ioctl_dir ∷ auto_inval_data ∷
+        async_dio ∷ parallel_dirops ∷ max_pages_option ∷ submounts ∷ init_ext ∷
+        create_supp_group ∷ allow_idmap ∷ []) }
 {}
 
 /// The versions and the number of the root.

@@ -2,7 +2,7 @@
 
 ghost use Rattle.std.specs.Prelude.{◌≡◌, ◌↔◌, IfOk, IsOk};
 ghost use Rattle.std.specs.Result.{result_ok};
-ghost use Rattle.vfs_flags.specs.Opcode.{opcode_of, number_of, IsOpcode};
+ghost use Rattle.vfs_flags.specs.Numbers.{opcode_of, number_of, IsOpcode};
 
 /// The kind of a request: `opcode` of `struct fuse_in_header`. Its numbers are 1 to 51 without 7
 /// and 19, which no kernel sends. The names are those of `enum fuse_opcode`.
@@ -116,7 +116,7 @@ impl TryFrom<u32> for Opcode {
         × IfOk r (λ o. number_of o ≡ n)
         × (IsOk r ↔ IsOpcode n) };
 
-    #[tactic(auto, unfolding(crate::specs::Opcode::opcode_of))]
+    #[tactic(auto, unfolding(crate::specs::Numbers::opcode_of))]
     fn try_from(n: u32) -> Result<Opcode, ()> {
         match n {
             1 => Ok(Opcode::Lookup),

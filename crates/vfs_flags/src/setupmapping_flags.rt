@@ -2,7 +2,8 @@
 
 ghost use Rattle.std.specs.Prelude.{⊤, ◌≡◌};
 ghost use Rattle.std.specs.Int.RustNames.{bit_and, bit_or};
-ghost use Rattle.vfs_flags.specs.Flags.{setupmapping_flags_bits, setupmapping_flags_table};
+ghost use Rattle.vfs_flags.specs.Flags.{setupmapping_flags_bits};
+ghost use Rattle.vfs_flags.specs.FlagTables.{setupmapping_flags_table};
 
 use crate::flag_list::flag_list;
 use bitflags::{Flag, Flags};

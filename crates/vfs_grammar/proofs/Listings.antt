@@ -3,12 +3,11 @@ use Rattle.std.proofs.Common.{◌≡◌, ◌≤◌, ◌+◌, ◌-◌, ◌^◌, �
 use Rattle.std.proofs.lemmas.Bool.{ltb-false}
 use Rattle.std.proofs.lemmas.List.Sums.{sum_by-cons}
 use Rattle.std.specs.List.{flat_map}
-use Rattle.vfs_files.specs.Items.{Item}
+use Rattle.vfs_files.specs.Values.{Item}
 use Rattle.vfs_files.specs.Runs.{Event}
 use Rattle.vfs_files.specs.declared.entry.Context.{Context}
-use Rattle.vfs_grammar.specs.Dirents.{Verdict, Fits, Full, Fails, record_len}
+use Rattle.vfs_grammar.specs.Listing.{Verdict, Fits, Full, Fails, record_len, Got, Line, Stop, End, At, len_of, bytes_got, line_len, line_bytes, AreWritten, answer_at, answer_of, IsListing, verdict}
 use Rattle.vfs_grammar.proofs.Dirents.{length-record_bytes}
-use Rattle.vfs_grammar.specs.Listing.{Got, Line, Stop, End, At, judged, fate, len_of, bytes_got, line_len, line_bytes, AreWritten, answer_at, answer_of, IsListing}
 
 -- ---- one record
 
@@ -23,7 +22,7 @@ fits_by false false true max room len fault hb hc h = cc
 fits_by false false false max room len fault hb hc h = (hb refl, hc refl)
 
 -- what fits is no longer than what may be put, and than the room
-pub fits_within : (max room : ℕ) (got : Got) (i : Item) → judged max room got i ≡ Fits
+pub fits_within : (max room : ℕ) (got : Got) (i : Item) → verdict max room got i ≡ Fits
     → (len_of got i ≤ max) × (len_of got i ≤ room)
 fits_within max room (Err fault) i h = cc
 fits_within max room (Ok entry) i h =
@@ -32,7 +31,7 @@ fits_within max room (Ok entry) i h =
     (ltb-false max (record_len entry i)) (ltb-false room (record_len entry i)) h
 
 -- what fits is as long as its record
-pub length-bytes_got : (max room : ℕ) (got : Got) (i : Item) → judged max room got i ≡ Fits
+pub length-bytes_got : (max room : ℕ) (got : Got) (i : Item) → verdict max room got i ≡ Fits
     → length (bytes_got got i) ≡ len_of got i
 length-bytes_got max room (Ok entry) i h = length-record_bytes entry i
 length-bytes_got max room (Err fault) i h = cc
@@ -77,7 +76,7 @@ answer_at_is true total n (Fails fault) e = told_by (nat_lt 0 total) total fault
 answer_of_is : (plus : Bool) (size room total n : ℕ) (stop : Stop)
     → Ok n ≡ answer_of plus size room total stop → n ≡ total
 answer_of_is plus size room total n End e = cc
-answer_of_is plus size room total n (At l) e = answer_at_is plus total n (fate size room total l) e
+answer_of_is plus size room total n (At l) e = answer_at_is plus total n ((verdict (size - total) (room - total) l.got l.item)) e
 
 module _ {plus : Bool} {ctx : Context} {parent size room : ℕ} {events : List Event} {body : List ℕ}
     {result : Result ℕ (Option ℕ)} where

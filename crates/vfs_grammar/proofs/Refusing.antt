@@ -1,16 +1,16 @@
 -- The errors by which the table refuses a request; the extensions of a request are refused by no
 -- other.
 use Rattle.std.proofs.Common.{◌==◌, ◌||◌, ◌&&◌, ℕ, zero, suc, Bool, true, false, not, List, [], ◌∷◌, length, take, drop, is_some, nat_lt, if◌then◌else◌, Option, Some, None, Result, Ok, Err}
-use Rattle.vfs_flags.specs.ExtType.{ext_type_of}
+use Rattle.vfs_flags.specs.Numbers.{ext_type_of}
 use Rattle.vfs_flags.specs.Flags.{security_ctx, create_supp_group}
 use Rattle.vfs_flags.specs.declared.ext_type.ExtType.{ExtType}
 use Rattle.vfs_flags.specs.declared.ext_type.ExtType.TheVariants.{SecCtx, SupGroups}
 use Rattle.vfs_wire.specs.Fields.{Table, lone_number, value_of}
-use Rattle.vfs_wire.specs.Extensions.{ext_header, secctx, supp_groups}
-use Rattle.vfs_files.specs.Extensions.{ExtensionValues}
-use Rattle.vfs_files.specs.Names.{first_name}
-use Rattle.vfs_grammar.specs.Extensions.{error_or, value_behind, name_and_value, context_in, security_context_in, group_in, Block, block_size, block_in, Cut, cut_on, cut_of_most, cut_of, has_option, reads_extensions, Received, nothing_received, with_context, with_group, receive_kind, receive, receive_all, received_at_end, extensions_in}
-use Rattle.vfs_grammar.specs.Forms.{behind_name, extended_or_refusal, extended_in, link_or_refusal, link_in_tail}
+use Rattle.vfs_wire.specs.Records.{ext_header, secctx, supp_groups}
+use Rattle.vfs_files.specs.Values.{ExtensionValues, first_name}
+use Rattle.vfs_grammar.specs.Extensions.{error_or, name_and_value, context_in, security_context_in, group_in, Block, block_size, block_in, Cut, cut_on, cut_of_most, cut_of, has_option, reads_extensions, Received, nothing_received, with_context, with_group, receive_kind, receive, receive_all, received_at_end, extensions_in}
+use Rattle.vfs_grammar.specs.FormParts.{value_behind, behind_name, extended_or_refusal, link_or_refusal}
+use Rattle.vfs_grammar.specs.Forms.{extended_in, link_in_tail}
 use Rattle.vfs_grammar.specs.Records.{size_of, record_of}
 use Rattle.vfs_grammar.specs.declared.error.Error.{Error}
 use Rattle.vfs_grammar.specs.declared.error.Error.TheVariants.{DecodeMessage, EncodeMessage, FlushMessage, InvalidCString2, OutOfMemory}

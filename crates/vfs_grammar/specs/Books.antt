@@ -2,12 +2,12 @@
 -- and a client gives these counts back by forgets. Four sums are kept of a node: two of the events
 -- that happened, and two of the bytes that came and went.
 use Rattle.std.specs.Prelude.{ℕ, zero, suc, ◌==◌, if◌then◌else◌, List, [], ◌∷◌, take, drop, sum_by, count_by, Option, Some, Result, Ok, Err, ◌≡◌, ◌≢◌, ◌≤◌, ◌+◌}
-use Rattle.vfs_flags.specs.Opcode.{opcode_of}
+use Rattle.vfs_flags.specs.Numbers.{opcode_of}
 use Rattle.vfs_flags.specs.declared.opcode.Opcode.{Opcode}
 use Rattle.vfs_files.specs.Calls.{Call, Lookup, Symlink, Mknod, Mkdir, Link, Create, Forget, BatchForget, Answer, Found, Created}
 use Rattle.vfs_files.specs.Runs.{Event, Called}
 use Rattle.vfs_grammar.specs.Nodes.{u32_at, u64_at, nodes_in}
-use Rattle.vfs_grammar.specs.Records.{in_header_size, out_header_size, pair_size, opcode_place, node_place, pairs_place, error_place}
+use Rattle.vfs_grammar.specs.Records.{in_header_size, out_header_size, pair_size, pairs_place}
 use Rattle.vfs_grammar.specs.Turn.{Turn, events_in}
 use Rattle.vfs_grammar.specs.declared.error.Error.{Error}
 use Rattle.vfs_flags.specs.declared.opcode.Opcode.TheVariants as opcode
@@ -23,19 +23,19 @@ counts n pairs = sum_by (λ pair. if pair.0 == n then pair.1 else 0) pairs
 -- ---- events
 
 -- the node of an answer's entry, where it has one
-abbrev pub node_of : Answer → List ℕ
-node_of (Found entry) = entry.inode ∷ []
-node_of (Created entry handle options) = entry.inode ∷ []
-node_of _ = []
+abbrev pub entry_node : Answer → List ℕ
+entry_node (Found entry) = entry.inode ∷ []
+entry_node (Created entry handle options) = entry.inode ∷ []
+entry_node _ = []
 
 -- the node of the entry that a call answered: of these six calls, and of no other
 abbrev pub answered_nodes : Call → Answer → List ℕ
-answered_nodes (Lookup _ _ _) answer = node_of answer
-answered_nodes (Symlink _ _ _ _ _) answer = node_of answer
-answered_nodes (Mknod _ _ _ _ _ _ _) answer = node_of answer
-answered_nodes (Mkdir _ _ _ _ _ _) answer = node_of answer
-answered_nodes (Link _ _ _ _) answer = node_of answer
-answered_nodes (Create _ _ _ _ _ _ _ _) answer = node_of answer
+answered_nodes (Lookup _ _ _) answer = entry_node answer
+answered_nodes (Symlink _ _ _ _ _) answer = entry_node answer
+answered_nodes (Mknod _ _ _ _ _ _ _) answer = entry_node answer
+answered_nodes (Mkdir _ _ _ _ _ _) answer = entry_node answer
+answered_nodes (Link _ _ _ _) answer = entry_node answer
+answered_nodes (Create _ _ _ _ _ _ _ _) answer = entry_node answer
 answered_nodes _ answer = []
 
 -- what a call gives back, as pairs of a node and a count: these two calls, and no other
@@ -64,9 +64,9 @@ sent n events = sum_by (sent_by n) events
 
 -- ---- bytes
 
--- the opcode that a request's bytes have
+-- the opcode that a request's bytes have, which stands in place 4
 abbrev pub opcode_in : (request : List ℕ) → Option Opcode
-opcode_in request = opcode_of (u32_at opcode_place request)
+opcode_in request = opcode_of (u32_at 4 request)
 
 -- the nodes of the entries behind the header of a reply, by its request's opcode
 abbrev pub nodes_behind : Option Opcode → (reply : List ℕ) → List ℕ
@@ -79,24 +79,24 @@ nodes_behind (Some opcode.Create) reply = u64_at out_header_size reply ∷ []
 nodes_behind (Some opcode.Readdirplus) reply = nodes_in (drop out_header_size reply)
 nodes_behind _ reply = []
 
--- the nodes that a reply delivers: none where its header says an error
+-- the nodes that a reply delivers: none where its header says an error, in place 4
 abbrev pub delivered_nodes : Option Opcode → (reply : List ℕ) → List ℕ
-delivered_nodes opcode reply = if u32_at error_place reply == 0 then nodes_behind opcode reply else []
+delivered_nodes opcode reply = if u32_at 4 reply == 0 then nodes_behind opcode reply else []
 
 -- so many pairs of a node and a count, that bytes begin with
 abbrev pub pairs_at : (count : ℕ) → (bytes : List ℕ) → List (ℕ × ℕ)
 pairs_at zero bytes = []
 pairs_at (suc count) bytes = (u64_at 0 bytes, u64_at 8 bytes) ∷ pairs_at count (drop pair_size bytes)
 
--- what a request's bytes give back, by its opcode, as pairs of a node and a count
+-- what a request's bytes give back, by its opcode, as pairs of a node and a count; the node that a
+-- request is for stands in place 16
 abbrev pub forgets_in : Option Opcode → (request : List ℕ) → List (ℕ × ℕ)
-forgets_in (Some opcode.Forget) request = (u64_at node_place request, u64_at in_header_size request) ∷ []
+forgets_in (Some opcode.Forget) request = (u64_at 16 request, u64_at in_header_size request) ∷ []
 forgets_in (Some opcode.BatchForget) request = pairs_at (u32_at in_header_size request) (drop pairs_place request)
 forgets_in _ request = []
 
 -- the entries of a node in a room by this outcome: in the reply that it counts, where there is one
-abbrev pub delivered_by :
-    (n : ℕ) → Option Opcode → Result ℕ Error → (room_after : List ℕ) → ℕ
+abbrev pub delivered_by : (n : ℕ) → Option Opcode → Result ℕ Error → (room_after : List ℕ) → ℕ
 delivered_by n opcode (Ok m) room_after =
     if m == 0 then 0 else times n (delivered_nodes opcode (take m room_after))
 delivered_by n opcode (Err error) room_after = 0

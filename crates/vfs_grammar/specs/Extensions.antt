@@ -1,36 +1,29 @@
 -- The extensions of a request that makes a node: blocks, one behind the other, and what they say.
-use Rattle.std.specs.Prelude.{◌-◌, ◌==◌, ◌||◌, ◌&&◌, not, ℕ, zero, suc, bit_and, Bool, true, false, List, [], ◌∷◌, length, take, drop, is_some, nat_lt, if◌then◌else◌, Option, Some, None, Result, Ok, Err}
-use Rattle.vfs_flags.specs.ExtType.{ext_type_of}
+use Rattle.std.specs.Prelude.{◌-◌, ◌==◌, ◌||◌, ◌&&◌, not, ℕ, zero, suc, bit_and, Bool, true, false, List, [], ◌∷◌, length, take, drop, is_some, nat_lt, if◌then◌else◌, Option, Some, None, Result, Ok, Err, ok_or}
+use Rattle.vfs_flags.specs.Numbers.{ext_type_of}
 use Rattle.vfs_flags.specs.Flags.{security_ctx, create_supp_group}
 use Rattle.vfs_flags.specs.declared.ext_type.ExtType.{ExtType}
 use Rattle.vfs_flags.specs.declared.ext_type.ExtType.TheVariants.{SecCtx, SupGroups}
 use Rattle.vfs_wire.specs.Fields.{lone_number, value_of}
-use Rattle.vfs_wire.specs.Extensions.{ext_header, secctx, supp_groups}
-use Rattle.vfs_files.specs.Extensions.{ExtensionValues}
-use Rattle.vfs_files.specs.Names.{first_name}
+use Rattle.vfs_wire.specs.Records.{ext_header, secctx, supp_groups}
+use Rattle.vfs_files.specs.Values.{ExtensionValues, first_name}
 use Rattle.vfs_grammar.specs.Records.{size_of, record_of}
 use Rattle.vfs_grammar.specs.declared.error.Error.{Error}
 use Rattle.vfs_grammar.specs.declared.error.Error.TheVariants.{DecodeMessage, InvalidHeaderLength, MissingExtension, MissingParameter}
 
 -- a part that is at fault says its error; otherwise what is made of the part
-abbrev pub error_or :
-    {A B : Type 0} → Result A Error → (next : A → Result B Error) → Result B Error
+abbrev pub error_or : {A B : Type 0} → Result A Error → (A → Result B Error) → Result B Error
 error_or (Err error) next = Err error
 error_or (Ok part) next = next part
 
 -- ---- one body
 
--- the name and the value of a context, where the name is found and `size` bytes are behind it
-abbrev pub value_behind :
-    (size : ℕ) → (name : Option (List ℕ × List ℕ)) → Result (List ℕ × List ℕ) Error
-value_behind size None = Err DecodeMessage
-value_behind size (Some cut) =
-    if nat_lt (length cut.1) size then Err DecodeMessage else Ok (cut.0, take size cut.1)
-
 -- a name, which runs through the first 0, and the `size` bytes behind it; more is ignored
 abbrev pub name_and_value : (size : ℕ) → (bytes : List ℕ) → Result (List ℕ × List ℕ) Error
 name_and_value size [] = Err MissingParameter
-name_and_value size (b ∷ bytes) = value_behind size (first_name (b ∷ bytes))
+name_and_value size (b ∷ bytes) =
+    error_or (ok_or (first_name (b ∷ bytes)) DecodeMessage) (λ cut.
+    if nat_lt (length cut.1) size then Err DecodeMessage else Ok (cut.0, take size cut.1))
 
 -- the name and the value of the context that bytes begin with: behind a record with the size of the
 -- value, which isn't 0
@@ -42,8 +35,7 @@ context_in bytes =
 
 -- the context in the body of a block of `nr` contexts: none where there are none, whatever the
 -- body; more than one are refused
-abbrev pub security_context_in :
-    (nr : ℕ) → (body : List ℕ) → Result (Option (List ℕ × List ℕ)) Error
+abbrev pub security_context_in : ℕ → (body : List ℕ) → Result (Option (List ℕ × List ℕ)) Error
 security_context_in nr body =
     if nat_lt 1 nr then Err DecodeMessage
     else if nr == 0 then Ok None
@@ -73,10 +65,10 @@ block_in bytes =
     error_or (record_of ext_header bytes) (λ r.
     if nat_lt r.size (size_of ext_header) then Err InvalidHeaderLength
     else if nat_lt (length bytes) r.size then Err DecodeMessage
-    else
-    Ok (record {
+    else Ok (record {
       ext_type = r.ext_type;
-      body = take (r.size - size_of ext_header) (drop (size_of ext_header) bytes);
+      body =
+          take (r.size - size_of ext_header) (drop (size_of ext_header) bytes);
     }))
 
 -- what bytes are: blocks, one behind the other, and why what is left then begins with no block,
@@ -95,8 +87,7 @@ abbrev pub cut_of_most : (most : ℕ) → (bytes : List ℕ) → Cut
 cut_of_most zero bytes = record { blocks = []; fault = None }
 cut_of_most (suc most) [] = record { blocks = []; fault = None }
 cut_of_most (suc most) (b ∷ bytes) =
-    cut_on (block_in (b ∷ bytes))
-    (cut_of_most most (drop (block_size (b ∷ bytes)) (b ∷ bytes)))
+    cut_on (block_in (b ∷ bytes)) (cut_of_most most (drop (block_size (b ∷ bytes)) (b ∷ bytes)))
 
 -- what bytes are
 unfoldable pub cut_of : (bytes : List ℕ) → Cut
@@ -110,8 +101,7 @@ has_option options option = bit_and options option == option
 
 -- extensions are read, since there is an option for one of them
 abbrev pub reads_extensions : (options : ℕ) → Bool
-reads_extensions options =
-    has_option options security_ctx || has_option options create_supp_group
+reads_extensions options = has_option options security_ctx || has_option options create_supp_group
 
 -- no extension
 abbrev pub no_extensions : ExtensionValues
@@ -128,17 +118,13 @@ nothing_received = record { has_contexts = false; values = no_extensions }
 
 -- with a block of contexts
 abbrev pub with_context : Received → Option (List ℕ × List ℕ) → Received
-with_context received context = record {
-  has_contexts = true;
-  values = record { context = context; group = received.values.group };
-}
+with_context received context =
+    record { has_contexts = true; values = record received.values { context = context } }
 
 -- with a block of groups
 abbrev pub with_group : Received → (group : ℕ) → Received
-with_group received group = record {
-  has_contexts = received.has_contexts;
-  values = record { context = received.values.context; group = Some group };
-}
+with_group received group =
+    record received { values = record received.values { group = Some group } }
 
 -- What is received with a block of this kind. One that wasn't agreed on, or a second of a kind,
 -- is refused, and so is an unknown kind.
@@ -147,13 +133,10 @@ abbrev pub receive_kind :
 receive_kind options received None body = Err DecodeMessage
 receive_kind options received (Some (SecCtx nr)) body =
     if not (has_option options security_ctx) || received.has_contexts then Err DecodeMessage
-    else
-    error_or (security_context_in nr body) (λ context. Ok (with_context received context))
+    else error_or (security_context_in nr body) (λ context. Ok (with_context received context))
 receive_kind options received (Some SupGroups) body =
-    if not (has_option options create_supp_group) || is_some received.values.group then
-    Err DecodeMessage
-    else
-    error_or (group_in body) (λ group. Ok (with_group received group))
+    if not (has_option options create_supp_group) || is_some received.values.group
+    then Err DecodeMessage else error_or (group_in body) (λ group. Ok (with_group received group))
 
 -- what is received with one more block
 abbrev pub receive : (options : ℕ) → Received → Block → Result Received Error
@@ -167,16 +150,14 @@ receive_all options received (block ∷ blocks) =
     error_or (receive options received block) (λ more. receive_all options more blocks)
 
 -- the values, where nothing but blocks was there, and a context that was agreed on was received
-abbrev pub received_at_end :
-    (options : ℕ) → (fault : Option Error) → Received → Result ExtensionValues Error
+abbrev pub received_at_end : (options : ℕ) → Option Error → Received → Result ExtensionValues Error
 received_at_end options (Some error) received = Err error
 received_at_end options None received =
     if has_option options security_ctx && not received.has_contexts then Err MissingExtension
     else Ok received.values
 
 -- the extensions that a cut says, where so much was received before
-abbrev pub extensions_of :
-    (options : ℕ) → Received → Cut → Result ExtensionValues Error
+abbrev pub extensions_of : (options : ℕ) → Received → Cut → Result ExtensionValues Error
 extensions_of options received cut =
     error_or (receive_all options received cut.blocks) (received_at_end options cut.fault)
 
@@ -194,5 +175,3 @@ abbrev pub extensions_after :
 extensions_after options skip bytes =
     if nat_lt (length bytes) skip && reads_extensions options then Err DecodeMessage
     else extensions_in options (drop skip bytes)
-
--- ---- what the calls that read extensions say of them

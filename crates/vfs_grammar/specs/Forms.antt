@@ -1,19 +1,14 @@
 -- The forms of requests: what stands behind the header, and in which order it is refused.
-use Rattle.std.specs.Prelude.{ℕ, zero, suc, ◌+◌, ◌*◌, ◌-◌, ◌==◌, bit_and, [], ◌∷◌, Bool, true, false, List, length, take, drop, nat_lt, if◌then◌else◌, Option, Some, None, Result, Ok, Err}
-use Rattle.vfs_flags.specs.Errors.{enomem, enosys, eproto}
+use Rattle.std.specs.Prelude.{ℕ, zero, suc, ◌+◌, ◌*◌, ◌-◌, ◌==◌, bit_and, [], ◌∷◌, Bool, true, false, List, length, take, drop, nat_lt, if◌then◌else◌, Option, Some, None, Result, Ok, Err, ok_or, option_map, unwrap_or}
+use Rattle.vfs_flags.specs.Numbers.{enomem, enosys, eproto}
 use Rattle.vfs_flags.specs.Flags.{init_ext}
 use Rattle.vfs_flags.specs.declared.constants.TheConstants.{KERNEL_VERSION, MIN_KERNEL_MINOR_VERSION}
 use Rattle.vfs_wire.specs.Fields.{Table, bytes_of, value_of}
-use Rattle.vfs_wire.specs.Headers.{in_header, out_header}
-use Rattle.vfs_wire.specs.Init.{init_in_compat, init_in_ext, init_out}
-use Rattle.vfs_wire.specs.Entries.{forget_one}
+use Rattle.vfs_wire.specs.Records.{in_header, out_header, init_in_compat, init_in_ext, init_out, forget_one}
 use Rattle.vfs_wire.specs.declared.init.InitInCompat.{InitInCompat}
 use Rattle.vfs_wire.specs.declared.headers.InHeader.{InHeader}
-use Rattle.vfs_wire.specs.declared.init.InitInExt.{InitInExt}
 use Rattle.vfs_files.specs.Calls.{Call}
-use Rattle.vfs_files.specs.Entries.{context_of}
-use Rattle.vfs_files.specs.Extensions.{ExtensionValues}
-use Rattle.vfs_files.specs.Names.{name_of, first_name}
+use Rattle.vfs_files.specs.Values.{context_of, ExtensionValues, name_of, first_name}
 use Rattle.vfs_files.specs.declared.entry.Context.{Context}
 use Rattle.vfs_grammar.specs.Extensions.{error_or, extensions_in}
 use Rattle.vfs_grammar.specs.Options.{options_offered}
@@ -62,8 +57,7 @@ refused_or (Ok part) next = next part
 
 -- what is above a limit is answered by the fault ENOMEM
 abbrev pub within : (above : Bool) → InHeader → (next : Ask) → Ask
-within true h next = faulted enomem h
-within false h next = next
+within above h next = if above then faulted enomem h else next
 
 -- the tail of a request, of what follows the header and a record of `size` bytes: as long as
 -- `len` says
@@ -73,74 +67,39 @@ tail_of h size behind =
     else if nat_lt (length behind) (h.len - (size_of in_header + size)) then Err DecodeMessage
     else Ok (take (h.len - (size_of in_header + size)) behind)
 
--- a name, or the refusal of what is none
-abbrev pub name_or_refusal : Option (List ℕ) → Result (List ℕ) Error
-name_or_refusal None = Err InvalidCString
-name_or_refusal (Some name) = Ok name
-
 -- the name that a tail is
 abbrev pub name_in : (tail : List ℕ) → Result (List ℕ) Error
-name_in tail = name_or_refusal (name_of tail)
-
--- a name before another, or the refusal of what is none
-abbrev pub second_or_refusal : (first : List ℕ) → Option (List ℕ)
-    → Result (List ℕ × List ℕ) Error
-second_or_refusal first None = Err InvalidCString
-second_or_refusal first (Some second) = Ok (first, second)
-
--- a name and the name that follows it, or the refusal of what has none
-abbrev pub both_or_refusal : Option (List ℕ × List ℕ) → Result (List ℕ × List ℕ) Error
-both_or_refusal None = Err MissingParameter
-both_or_refusal (Some part) = second_or_refusal part.0 (name_of part.1)
+name_in tail = ok_or (name_of tail) InvalidCString
 
 -- the two names that a tail is: the first ends at its first 0, and the second is the rest
-abbrev pub names_in : (tail : List ℕ) → Result (List ℕ × List ℕ) Error
-names_in tail = both_or_refusal (first_name tail)
-
--- a name and what follows it, or the refusal of what has none, and of what isn't as long as a record
--- says
-abbrev pub sized_or_refusal : (size : ℕ) → Option (List ℕ × List ℕ)
-    → Result (List ℕ × List ℕ) Error
-sized_or_refusal size None = Err MissingParameter
-sized_or_refusal size (Some part) =
-    if length part.1 == size then Ok part else Err (InvalidXattrSize (size, length part.1))
+abbrev pub two_names_in : (tail : List ℕ) → Result (List ℕ × List ℕ) Error
+two_names_in tail =
+    error_or (ok_or (first_name tail) MissingParameter) (λ part.
+    error_or (ok_or (name_of part.1) InvalidCString) (λ second. Ok (part.0, second)))
 
 -- the name and the value that a tail is: the name ends at its first 0, and the value is the rest, of
 -- this size
 abbrev pub value_in : (size : ℕ) → (tail : List ℕ) → Result (List ℕ × List ℕ) Error
-value_in size tail = sized_or_refusal size (first_name tail)
-
--- what follows the first name, where a 0 ends it, and else nothing
-abbrev pub behind_name : Option (List ℕ × List ℕ) → List ℕ
-behind_name None = []
-behind_name (Some part) = part.1
-
--- the first name with these extensions, or the refusal of one that no 0 ends
-abbrev pub extended_or_refusal : Option (List ℕ × List ℕ) → ExtensionValues
-    → Result (List ℕ × ExtensionValues) Error
-extended_or_refusal None extensions = Err InvalidCString
-extended_or_refusal (Some part) extensions = Ok (part.0, extensions)
+value_in size tail =
+    error_or (ok_or (first_name tail) MissingParameter) (λ part.
+    if length part.1 == size then Ok part else Err (InvalidXattrSize (size, length part.1)))
 
 -- The name and the extensions that bytes are: the name ends at its first 0, and the extensions are
 -- the rest. A name without a 0 runs to the end, and is refused after the extensions.
 abbrev pub extended_in : (options : ℕ) → (bytes : List ℕ) → Result (List ℕ × ExtensionValues) Error
 extended_in options [] = Err MissingParameter
 extended_in options (b ∷ bytes) =
-    error_or (extensions_in options (behind_name (first_name (b ∷ bytes))))
-    (extended_or_refusal (first_name (b ∷ bytes)))
-
--- a name, and the text with extensions behind it, or the refusal of what has none
-abbrev pub link_or_refusal : (options : ℕ) → Option (List ℕ × List ℕ)
-    → Result (List ℕ × List ℕ × ExtensionValues) Error
-link_or_refusal options None = Err MissingParameter
-link_or_refusal options (Some part) =
-    error_or (extended_in options part.1) (λ text. Ok (part.0, text.0, text.1))
+    error_or
+    (extensions_in options (unwrap_or (option_map (λ part. part.1) (first_name (b ∷ bytes))) []))
+    (λ ext. error_or (ok_or (first_name (b ∷ bytes)) InvalidCString) (λ part. Ok (part.0, ext)))
 
 -- the name, the link's text and the extensions that a tail is: name and text end at their first 0,
 -- and the extensions are the rest
 abbrev pub link_in_tail : (options : ℕ) → (tail : List ℕ)
     → Result (List ℕ × List ℕ × ExtensionValues) Error
-link_in_tail options tail = link_or_refusal options (first_name tail)
+link_in_tail options tail =
+    error_or (ok_or (first_name tail) MissingParameter) (λ part.
+    error_or (extended_in options part.1) (λ text. Ok (part.0, text.0, text.1)))
 
 -- so many pairs of a node and a count
 abbrev pub pairs_of : (count : ℕ) → (bytes : List ℕ) → List (ℕ × ℕ)
@@ -161,26 +120,21 @@ space_behind_header space =
     if nat_lt space (size_of out_header) then Err EncodeMessage
     else Ok (space - size_of out_header)
 
--- the word of flags in INIT's second record
-abbrev pub flags2_in : Result InitInExt Error → Result ℕ Error
-flags2_in (Ok r) = Ok r.flags2
-flags2_in (Err error) = Err error
-
 -- the second word of INIT's flags: in a record of its own, where INIT_EXT in the first says that
 -- there is one, and else 0
 abbrev pub second_flags : (flags : ℕ) → (behind : List ℕ) → Result ℕ Error
 second_flags flags behind =
-    if bit_and flags init_ext == 0 then Ok 0 else flags2_in (record_of init_in_ext behind)
+    if bit_and flags init_ext == 0 then Ok 0
+    else error_or (record_of init_in_ext behind) (λ r. Ok r.flags2)
 
 -- INIT of this version: an older one is refused, and a newer major one is told ours
 abbrev pub ask_version : InHeader → InitInCompat → (flags2 : ℕ) → Ask
 ask_version h r flags2 =
     if nat_lt r.major KERNEL_VERSION then faulted eproto h
-    else if nat_lt KERNEL_VERSION r.major then
-    Ends (Bytes (body_reply (bytes_of init_out version_out) h.unique))
+    else if nat_lt KERNEL_VERSION r.major
+    then Ends (Bytes (body_reply (bytes_of init_out version_out) h.unique))
     else if nat_lt r.minor MIN_KERNEL_MINOR_VERSION then faulted eproto h
-    else
-    Asks (record { unique = h.unique; max_readahead = r.max_readahead; ctx = context_of h })
+    else Asks (record (echo_of h) { max_readahead = r.max_readahead })
     (call.Init (options_offered r.flags flags2))
 
 -- a request's record: none, in the place of which this stands, or one of this table
@@ -207,8 +161,8 @@ abbrev pub behind : {R : Type 0} → Layout R → (rest : List ℕ) → List ℕ
 behind layout rest = drop (layout_size layout) rest
 
 -- where there is no limit, no record asks for more than it
-abbrev pub unlimited : {R : Type 0} → R → Bool
-unlimited r = false
+abbrev pub never : {R : Type 0} → R → Bool
+never r = false
 
 -- A line of the protocol's table: the form of a request, with its record and the call that it
 -- asks for. By the form something may follow the record: nothing; a name; two names; a name and a
@@ -239,70 +193,61 @@ pub data Form : Type 1 where
   Silent : Form
   NotServed : Form
 
--- For what a request may want memory: for nothing; for its tail; for its tail, and for a context among
--- the extensions that these options have read; or for its pairs.
-pub data MemoryUse : Type 1 where
-  ForNothing : MemoryUse
-  ForTail : {R : Type 0} (layout : Layout R) → MemoryUse
-  ForTailAndContext : {R : Type 0} (layout : Layout R) (options : ℕ) → MemoryUse
-  ForPairs : {R : Type 0} (layout : Layout R) (above : R → Bool) (count : R → ℕ) → MemoryUse
+-- What is said of a request by what it may want memory for, which is the one table of this: for
+-- nothing; for its tail; for its tail, and for a context among the extensions that these options have
+-- read; or for its pairs.
+module _ (nothing : Type 0) (tail : (R : Type 0) → Layout R → Type 0)
+    (context : (R : Type 0) → Layout R → (options : ℕ) → Type 0)
+    (pairs : (R : Type 0) → Layout R → (R → Bool) → (R → ℕ) → Type 0) where
+  abbrev pub by_memory : Form → Type 0
+  by_memory (NameTail layout above call) = tail _ layout
+  by_memory (TwoNames layout call) = tail _ layout
+  by_memory (NameAndValue layout size call) = tail _ layout
+  by_memory (NameAndExtensions layout options call) = context _ layout options
+  by_memory (LinkAndExtensions layout options call) = context _ layout options
+  by_memory (Pairs layout above count call) = pairs _ layout above count
+  by_memory _ = nothing
 
--- for what a request of each form may want it
-abbrev pub memory_use : Form → MemoryUse
-memory_use (NameTail layout above call) = ForTail layout
-memory_use (TwoNames layout call) = ForTail layout
-memory_use (NameAndValue layout size call) = ForTail layout
-memory_use (NameAndExtensions layout options call) = ForTailAndContext layout options
-memory_use (LinkAndExtensions layout options call) = ForTailAndContext layout options
-memory_use (Pairs layout above count call) = ForPairs layout above count
-memory_use _ = ForNothing
+module _ (h : InHeader) (rest : List ℕ) where
+  -- what a request asks whose tail follows its record, and who may want memory for the tail
+  abbrev pub with_tail : {R : Type 0} → Layout R → (next : R → (tail : List ℕ) → Ask) → Ask
+  with_tail layout next =
+      refused_or (layout_record layout rest) (λ r.
+      refused_or (tail_of h (layout_size layout) (behind layout rest)) (λ tail.
+      WithMemory (next r tail)))
 
--- What a request of each form asks, by the bytes behind its header: in which order it is refused,
--- and where it wants memory for what it may want it for.
-abbrev pub ask_form : InHeader → (rest : List ℕ) → Form → Ask
-ask_form h rest (NoTail layout above call) =
-    refused_or (layout_record layout rest) (λ r. within (above r) h (Asks (echo_of h) (call r)))
-ask_form h rest (NameTail layout above call) =
-    refused_or (layout_record layout rest) (λ r.
-    refused_or (tail_of h (layout_size layout) (behind layout rest)) (λ tail.
-    WithMemory (within (above r) h
-    (refused_or (name_in tail) (λ name. Asks (echo_of h) (call r name))))))
-ask_form h rest (TwoNames layout call) =
-    refused_or (layout_record layout rest) (λ r.
-    refused_or (tail_of h (layout_size layout) (behind layout rest)) (λ tail.
-    WithMemory (refused_or (names_in tail) (λ names. Asks (echo_of h) (call r names.0 names.1)))))
-ask_form h rest (NameAndValue layout size call) =
-    refused_or (layout_record layout rest) (λ r.
-    refused_or (tail_of h (layout_size layout) (behind layout rest)) (λ tail.
-    WithMemory (refused_or (value_in (size r) tail) (λ part. Asks (echo_of h) (call r part.0 part.1)))))
-ask_form h rest (NameAndExtensions layout options call) =
-    refused_or (layout_record layout rest) (λ r.
-    refused_or (tail_of h (layout_size layout) (behind layout rest)) (λ tail.
-    WithMemory (refused_or (extended_in options tail) (λ part.
-    Asks (echo_of h) (call r part.0 part.1)))))
-ask_form h rest (LinkAndExtensions layout options call) =
-    refused_or (layout_record layout rest) (λ r.
-    refused_or (tail_of h (layout_size layout) (behind layout rest)) (λ tail.
-    WithMemory (refused_or (link_in_tail options tail) (λ part.
-    Asks (echo_of h) (call r part.0 part.1 part.2)))))
-ask_form h rest (Pairs layout above count call) =
-    refused_or (layout_record layout rest) (λ r.
-    within (above r) h
-    (refused_or (pairs_in (count r) (behind layout rest)) (λ pairs.
-    WithMemory (Asks (echo_of h) (call r pairs)))))
-ask_form h rest (WithRest layout call) =
-    refused_or (layout_record layout rest) (λ r. Asks (echo_of h) (call r (behind layout rest)))
-ask_form h rest (IntoRoom layout space call) =
-    refused_or (layout_record layout rest) (λ r.
-    refused_or (space_behind_header space) (λ space_for_data.
-    Asks (echo_of h) (call r space_for_data)))
-ask_form h rest (Directories layout above space listing) =
-    refused_or (layout_record layout rest) (λ r.
-    within (above r) h
-    (refused_or (space_behind_header space) (λ space_for_records.
-    Lists (echo_of h) (listing r space_for_records))))
-ask_form h rest Versions =
-    refused_or (record_of init_in_compat rest) (λ r.
-    refused_or (second_flags r.flags (drop (size_of init_in_compat) rest)) (ask_version h r))
-ask_form h rest Silent = silent
-ask_form h rest NotServed = faulted enosys h
+  -- What a request of each form asks, by the bytes behind its header: in which order it is refused,
+  -- and where it wants memory for what it may want it for.
+  abbrev pub ask_form : Form → Ask
+  ask_form (NoTail layout above call) =
+      refused_or (layout_record layout rest) (λ r. within (above r) h (Asks (echo_of h) (call r)))
+  ask_form (NameTail layout above call) = with_tail layout (λ r tail.
+      within (above r) h (refused_or (name_in tail) (λ name. Asks (echo_of h) (call r name))))
+  ask_form (TwoNames layout call) = with_tail layout (λ r tail.
+      refused_or (two_names_in tail) (λ names. Asks (echo_of h) (call r names.0 names.1)))
+  ask_form (NameAndValue layout size call) = with_tail layout (λ r tail.
+      refused_or (value_in (size r) tail) (λ part. Asks (echo_of h) (call r part.0 part.1)))
+  ask_form (NameAndExtensions layout options call) = with_tail layout (λ r tail.
+      refused_or (extended_in options tail) (λ part. Asks (echo_of h) (call r part.0 part.1)))
+  ask_form (LinkAndExtensions layout options call) = with_tail layout (λ r tail.
+      refused_or (link_in_tail options tail) (λ part.
+      Asks (echo_of h) (call r part.0 part.1 part.2)))
+  ask_form (Pairs layout above count call) =
+      refused_or (layout_record layout rest) (λ r. within (above r) h
+      (refused_or (pairs_in (count r) (behind layout rest)) (λ pairs.
+      WithMemory (Asks (echo_of h) (call r pairs)))))
+  ask_form (WithRest layout call) =
+      refused_or (layout_record layout rest) (λ r.
+      Asks (echo_of h) (call r (behind layout rest)))
+  ask_form (IntoRoom layout space call) =
+      refused_or (layout_record layout rest) (λ r.
+      refused_or (space_behind_header space) (λ for_data. Asks (echo_of h) (call r for_data)))
+  ask_form (Directories layout above space listing) =
+      refused_or (layout_record layout rest) (λ r. within (above r) h
+      (refused_or (space_behind_header space) (λ for_records.
+      Lists (echo_of h) (listing r for_records))))
+  ask_form Versions =
+      refused_or (record_of init_in_compat rest) (λ r.
+      refused_or (second_flags r.flags (drop (size_of init_in_compat) rest)) (ask_version h r))
+  ask_form Silent = silent
+  ask_form NotServed = faulted enosys h

@@ -1,16 +1,69 @@
 -- The reading of a directory as a whole: the items that were taken and what each got, what stopped
 -- it, and what is answered. Nothing here knows a file system's state or its iterators.
-use Rattle.std.specs.Prelude.{◌≡◌, ◌≢◌, ⊤, ◌+◌, ◌-◌, ◌*◌, ◌%◌, ◌^◌, ◌⊎◌, ◌&&◌, ◌||◌, nat_lt, if◌then◌else◌, ℕ, Bool, true, false, List, [], ◌∷◌, ◌++◌, codes, Option, Some, None, Result, Ok, Err, sum_by}
+use Rattle.std.specs.Prelude.{◌≡◌, ◌≢◌, ⊤, ◌+◌, ◌-◌, ◌*◌, ◌%◌, ◌^◌, ◌⊎◌, ◌&&◌, ◌||◌, nat_lt, if◌then◌else◌, ℕ, Bool, true, false, List, [], ◌∷◌, ◌++◌, codes, Option, Some, None, Result, Ok, Err, sum_by, length, replicate}
 use Rattle.std.specs.List.{flat_map}
 use Rattle.std.specs.Str.{bytes_eq}
 use Rattle.vfs_wire.specs.declared.entries.EntryOut.{EntryOut}
 use Rattle.vfs_files.specs.Calls.{Call, Readdir, Lookup, Forget, Failed, Found, Done}
-use Rattle.vfs_files.specs.Entries.{entry_out_of}
-use Rattle.vfs_files.specs.Items.{Item}
+use Rattle.vfs_files.specs.Values.{entry_out_of, Item}
 use Rattle.vfs_files.specs.Runs.{Event, Called, OpenedDirectory, Taken}
 use Rattle.vfs_files.specs.declared.entry.Context.{Context}
 use Rattle.vfs_files.specs.declared.entry.Entry.{Entry}
-use Rattle.vfs_grammar.specs.Dirents.{Verdict, Fits, Full, Fails, verdict, record_bytes, record_len, FitsOption}
+use Rattle.std.specs.Int.{next_multiple_of}
+use Rattle.vfs_flags.specs.Numbers.{eoverflow}
+use Rattle.vfs_wire.specs.Fields.{bytes_of}
+use Rattle.vfs_wire.specs.Records.{attr, entry_out, dirent}
+use Rattle.vfs_wire.specs.declared.listings.Dirent.{Dirent}
+use Rattle.vfs_files.specs.Answers.{FitsEntry}
+use Rattle.vfs_grammar.specs.Records.{dirent_size, entry_out_size}
+
+-- ---- the record of an entry
+
+-- how long the record of an item with a name of this length is, without an entry: a `Dirent`
+-- and the name, rounded up to a multiple of 8
+abbrev pub dirent_len : ℕ → ℕ
+dirent_len n = next_multiple_of (dirent_size + n) 8
+
+-- how long the `EntryOut` of an entry is, where there is one
+abbrev pub entry_len : Option Entry → ℕ
+entry_len None = 0
+entry_len (Some entry) = entry_out_size
+
+-- how long a record is
+abbrev pub record_len : Option Entry → Item → ℕ
+record_len entry i = entry_len entry + dirent_len (length i.name)
+
+-- the `Dirent` of an item
+abbrev pub dirent_of : Item → Dirent
+dirent_of i = record { ino = i.ino; off = i.offset; namelen = length i.name; type_ = i.type_ }
+
+-- the bytes of a record without an entry: the `Dirent`, the name, and zeros to a multiple of 8
+unfoldable pub dirent_bytes : Item → List ℕ
+dirent_bytes i =
+    bytes_of dirent (dirent_of i)
+    ++ (i.name ++ replicate (dirent_len (length i.name) - (dirent_size + length i.name)) 0)
+
+-- the bytes of the `EntryOut` of an entry, where there is one
+abbrev pub entry_bytes : Option Entry → List ℕ
+entry_bytes None = []
+entry_bytes (Some entry) = bytes_of entry_out (entry_out_of entry)
+
+-- the bytes of a record
+abbrev pub record_bytes : Option Entry → Item → List ℕ
+record_bytes entry i = entry_bytes entry ++ dirent_bytes i
+
+-- each number of an entry, where there is one, is within its width in the record
+abbrev pub FitsOption : Option Entry → Type 0
+FitsOption None = Unit {0}
+FitsOption (Some entry) = FitsEntry entry
+
+-- what becomes of a record: it is put whole; it is too long for what may still be put; or it fails
+pub data Verdict : Type 0 where
+  Fits : Verdict
+  Full : Verdict
+  Fails : (fault : Option ℕ) → Verdict
+
+-- ---- items and what they get
 
 -- what an item got: an entry for READDIRPLUS, none for READDIR, or the fault of its lookup
 abbrev pub Got : Type 0
@@ -37,36 +90,13 @@ pub data Stop : Type 0 where
 abbrev pub is_dot : List ℕ → Bool
 is_dot name = bytes_eq name (codes ".") || bytes_eq name (codes "..")
 
--- what a type of file is multiplied by in a mode, whose twelve low bits are permissions
-abbrev pub mode_per_type : ℕ
-mode_per_type = 4096
-
--- the `EntryOut` of `.` and `..`: zeros, but for the item's number and its type as a mode
+-- The `EntryOut` of `.` and `..`: zeros, but for the item's number and its type as a mode, whose twelve low
+-- bits are permissions.
 abbrev pub dot_out : Item → EntryOut
-dot_out i = record {
-  nodeid = 0;
-  generation = 0;
-  entry_valid = 0;
-  attr_valid = 0;
-  entry_valid_nsec = 0;
-  attr_valid_nsec = 0;
-  attr = record {
+dot_out i = record (entry_out.made (replicate 22 0)) {
+  attr = record (attr.made (replicate 16 0)) {
     ino = i.ino;
-    size = 0;
-    blocks = 0;
-    atime = 0;
-    mtime = 0;
-    ctime = 0;
-    atimensec = 0;
-    mtimensec = 0;
-    ctimensec = 0;
-    mode = (i.type_ * mode_per_type) % 2 ^ 32;
-    nlink = 0;
-    uid = 0;
-    gid = 0;
-    rdev = 0;
-    blksize = 0;
-    flags = 0;
+    mode = (i.type_ * 2 ^ 12) % 2 ^ 32;
   };
 }
 
@@ -144,14 +174,17 @@ bytes_got (Err fault) i = []
 abbrev pub line_bytes : Line → List ℕ
 line_bytes l = bytes_got l.got l.item
 
--- what becomes of an item that got this: one whose lookup failed fails with that fault
-abbrev pub judged : (max space : ℕ) → Got → Item → Verdict
-judged max space (Ok entry) i = verdict max space entry i
-judged max space (Err fault) i = Fails fault
-
--- what becomes of a line behind so many bytes of records
-abbrev pub fate : (size space written : ℕ) → Line → Verdict
-fate size space written l = judged (size - written) (space - written) l.got l.item
+-- What becomes of an item that got this, where `max` bytes may still be put and there is space for
+-- `space`, by the first of these that applies: one whose lookup failed fails with that fault; a name of
+-- 2 ^ 32 bytes or more is EOVERFLOW; a record longer than `max` is too long; one longer than the space
+-- is a fault of writing, which has no number.
+abbrev pub verdict : (max space : ℕ) → Got → Item → Verdict
+verdict max space (Err fault) i = Fails fault
+verdict max space (Ok entry) i =
+    if nat_lt (2 ^ 32 - 1) (length i.name) then Fails (Some eoverflow)
+    else if nat_lt max (record_len entry i) then Full
+    else if nat_lt space (record_len entry i) then Fails None
+    else Fits
 
 -- ---- the whole
 
@@ -159,61 +192,53 @@ fate size space written l = judged (size - written) (space - written) l.got l.it
 abbrev pub AreWritten : (plus : Bool) (size space written : ℕ) → List Line → Type 0
 AreWritten plus size space written [] = ⊤
 AreWritten plus size space written (l ∷ ls) =
-    (fate size space written l ≡ Fits)
-    × IsGot plus l
-    × FitsGot l.got
+    (verdict (size - written) (space - written) l.got l.item ≡ Fits) × IsGot plus l × FitsGot l.got
     × AreWritten plus size space (written + line_len l) ls
 
 -- the stop applies behind so many bytes of records
 abbrev pub Stops : (plus : Bool) (size space written : ℕ) → Stop → Type 0
 Stops plus size space written End = ⊤
-Stops plus size space written (At l) = IsGot plus l × (fate size space written l ≢ Fits)
+Stops plus size space written (At l) =
+    IsGot plus l × (verdict (size - written) (space - written) l.got l.item ≢ Fits)
 
--- what is answered where an item fails behind so many bytes of records: for READDIR the fault, and
--- for READDIRPLUS too where nothing was written, else how much was
-abbrev pub told : (plus : Bool) (written : ℕ) → (fault : Option ℕ) → Result ℕ (Option ℕ)
-told plus written fault = if plus && nat_lt 0 written then Ok written else Err fault
-
--- what is answered behind so many bytes of records, by what became of the last item
+-- What is answered behind so many bytes of records, by what became of the last item: how many they
+-- are. But where it failed, READDIR answers the fault, and READDIRPLUS too where nothing was written.
 abbrev pub answer_at : (plus : Bool) (written : ℕ) → Verdict → Result ℕ (Option ℕ)
-answer_at plus written Fits = Ok written
-answer_at plus written Full = Ok written
-answer_at plus written (Fails fault) = told plus written fault
+answer_at plus written (Fails fault) =
+    if plus && nat_lt 0 written then Ok written else Err fault
+answer_at plus written _ = Ok written
 
 -- what is answered at a stop behind so many bytes of records
 abbrev pub answer_of : (plus : Bool) (size space written : ℕ) → Stop → Result ℕ (Option ℕ)
 answer_of plus size space written End = Ok written
-answer_of plus size space written (At l) = answer_at plus written (fate size space written l)
+answer_of plus size space written (At l) =
+    answer_at plus written (verdict (size - written) (space - written) l.got l.item)
 
 -- A directory that is read from its iterator, for READDIR or, where `plus`, for READDIRPLUS, with
 -- at most `size` bytes of records and this space for them. Lines are written whole, and then one
 -- stop comes. That gives the events after `readdir`, the records, and the answer: how many bytes
 -- these have, or a fault in their place.
-pub record IsListing
-    (plus : Bool) (ctx : Context) (parent size space : ℕ)
-    (events : List Event) (body : List ℕ) (result : Result ℕ (Option ℕ)) : Type 0 where
+pub record IsListing (plus : Bool) (ctx : Context) (parent size space : ℕ) (events : List Event)
+    (body : List ℕ) (result : Result ℕ (Option ℕ)) : Type 0 where
   pub lines : List Line
   pub stop : Stop
   pub written : AreWritten plus size space 0 lines
   pub stops : Stops plus size space (sum_by line_len lines) stop
   pub events_are :
-      events
-      ≡ flat_map (line_events ctx parent plus) lines ++ stop_events ctx parent plus stop
+      events ≡ flat_map (line_events ctx parent plus) lines ++ stop_events ctx parent plus stop
   pub body_is : body ≡ flat_map line_bytes lines
   pub answer_is : result ≡ answer_of plus size space (sum_by line_len lines) stop
 
 -- `readdir` failed: its fault is the answer, and nothing is taken
-pub record IsUnopened
-    (call : Call) (events : List Event) (body : List ℕ) (result : Result ℕ (Option ℕ)) : Type 0
-  where
-    pub fault : Option ℕ
-    pub events_are : events ≡ Called call (Failed fault) ∷ []
-    pub body_is : body ≡ []
-    pub answer_is : result ≡ Err fault
+pub record IsUnopened (call : Call) (events : List Event) (body : List ℕ)
+    (result : Result ℕ (Option ℕ)) : Type 0 where
+  pub fault : Option ℕ
+  pub events_are : events ≡ Called call (Failed fault) ∷ []
+  pub body_is : body ≡ []
+  pub answer_is : result ≡ Err fault
 
 -- `readdir` handed back an iterator, and the directory is read from it
-pub record IsOpened
-    (plus : Bool) (call : Call) (ctx : Context) (parent size space : ℕ)
+pub record IsOpened (plus : Bool) (call : Call) (ctx : Context) (parent size space : ℕ)
     (events : List Event) (body : List ℕ) (result : Result ℕ (Option ℕ)) : Type 0 where
   pub takings : List Event
   pub events_are : events ≡ OpenedDirectory call ∷ takings

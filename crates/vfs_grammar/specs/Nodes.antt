@@ -1,7 +1,7 @@
 -- The nodes in a directory's records with entries, read from their bytes alone.
 use Rattle.std.specs.Prelude.{ℕ, zero, suc, ◌+◌, List, [], ◌∷◌, length, drop, nat_le, if◌then◌else◌}
 use Rattle.vfs_wire.specs.Fields.{number}
-use Rattle.vfs_grammar.specs.Dirents.{dirent_len}
+use Rattle.vfs_grammar.specs.Listing.{dirent_len}
 use Rattle.vfs_grammar.specs.Records.{entry_out_size, namelen_place}
 
 -- the number of the four bytes from this place on

@@ -32,19 +32,9 @@ dirent_size = 24
 abbrev pub pair_size : ℕ
 pair_size = 16
 
--- where a request has its opcode and its node, and a BATCH_FORGET its first pair
-abbrev pub opcode_place : ℕ
-opcode_place = 4
-
-abbrev pub node_place : ℕ
-node_place = 16
-
+-- where a BATCH_FORGET has its first pair
 abbrev pub pairs_place : ℕ
 pairs_place = 48
-
--- where a reply has its error
-abbrev pub error_place : ℕ
-error_place = 4
 
 -- where a directory's record with an entry has the length of its name
 abbrev pub namelen_place : ℕ

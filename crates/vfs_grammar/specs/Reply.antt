@@ -1,18 +1,11 @@
 -- What comes back to the client, and the bytes of replies.
-use Rattle.std.specs.Prelude.{ℕ, pos, ◌+◌, ◌-ℤ◌, ◌/◌, ◌%◌, ◌^◌, List, [], ◌∷◌, ◌++◌, length, Bool, true, false, Option, Some, None, unwrap_or}
+use Rattle.std.specs.Prelude.{ℕ, pos, ◌+◌, ◌-ℤ◌, ◌/◌, ◌%◌, ◌^◌, List, [], ◌∷◌, ◌++◌, length, Bool, true, false, Option, Some, None, unwrap_or, replicate}
 use Rattle.std.specs.declared.time.Duration.{Duration}
-use Rattle.vfs_flags.specs.Errors.{eio}
+use Rattle.vfs_flags.specs.Numbers.{eio}
 use Rattle.vfs_flags.specs.declared.constants.TheConstants.{KERNEL_VERSION, KERNEL_MINOR_VERSION}
 use Rattle.vfs_wire.specs.Fields.{bytes_of}
-use Rattle.vfs_wire.specs.Headers.{out_header}
-use Rattle.vfs_wire.specs.Init.{init_out}
-use Rattle.vfs_wire.specs.Attributes.{attr_out}
-use Rattle.vfs_wire.specs.Entries.{entry_out}
-use Rattle.vfs_wire_more.specs.Files.{open_out, write_out}
-use Rattle.vfs_wire.specs.Listings.{kstatfs}
-use Rattle.vfs_wire_more.specs.Ranges.{lseek_out}
-use Rattle.vfs_wire.specs.Stat.{kstatfs_of}
-use Rattle.vfs_wire_more.specs.Xattrs.{getxattr_out}
+use Rattle.vfs_wire.specs.Records.{out_header, init_out, attr_out, entry_out, kstatfs, kstatfs_of}
+use Rattle.vfs_wire_more.specs.Records.{open_out, write_out, lseek_out, getxattr_out}
 use Rattle.vfs_wire.specs.declared.headers.InHeader.{InHeader}
 use Rattle.vfs_wire.specs.declared.init.InitOut.{InitOut}
 use Rattle.vfs_wire.specs.declared.attributes.Attr.{Attr}
@@ -21,7 +14,7 @@ use Rattle.vfs_wire_more.specs.declared.files.OpenOut.{OpenOut}
 use Rattle.vfs_wire_more.specs.declared.files.WriteOut.{WriteOut}
 use Rattle.vfs_wire_more.specs.declared.xattrs.GetxattrOut.{GetxattrOut}
 use Rattle.vfs_files.specs.Answers.{Kind, Quiet, Told, Untold, Data, Agreements, Entries, TimedAttributes, Openings, Creations, Capacities, Texts, TextsOrCounts, Offsets, Writes, Iterators, Faults, Answer, Done, Failed, Options, Found, Put, Attributes, Opened, Created, Statistics, Text, Count, Offset, Wrote}
-use Rattle.vfs_files.specs.Entries.{context_of, entry_out_of, whole_seconds, nanoseconds_beyond}
+use Rattle.vfs_files.specs.Values.{context_of, entry_out_of, whole_seconds, nanoseconds_beyond}
 use Rattle.vfs_files.specs.declared.entry.Context.{Context}
 use Rattle.vfs_grammar.specs.Limits.{max_pages}
 use Rattle.vfs_grammar.specs.Records.{size_of}
@@ -49,14 +42,12 @@ echo_of h = record { unique = h.unique; max_readahead = 0; ctx = context_of h }
 
 -- the number of a fault: that of EIO where it has none
 abbrev pub fault_number : Option ℕ → ℕ
-fault_number None = eio
-fault_number (Some number) = number
+fault_number fault = unwrap_or fault eio
 
 -- a reply that says a fault: the header alone, with the negated number
 abbrev pub fault_reply : (fault : Option ℕ) → (unique : ℕ) → List ℕ
 fault_reply fault unique =
-    bytes_of out_header
-    (record {
+    bytes_of out_header (record {
       len = size_of out_header;
       error = pos 0 -ℤ pos (fault_number fault);
       unique = unique;
@@ -71,18 +62,16 @@ body_reply body unique =
 
 -- the attributes of a node and how long they hold, as GETATTR replies them
 abbrev pub attr_out_of : Attr → (timeout : Duration) → AttrOut
-attr_out_of attr timeout =
-    record {
-      attr_valid = whole_seconds timeout;
-      attr_valid_nsec = nanoseconds_beyond timeout;
-      dummy = 0;
-      attr = attr;
-    }
+attr_out_of attr timeout = record {
+  attr_valid = whole_seconds timeout;
+  attr_valid_nsec = nanoseconds_beyond timeout;
+  dummy = 0;
+  attr = attr;
+}
 
 -- what was opened, as OPEN, OPENDIR and CREATE reply it: handle 0 where there is none
 abbrev pub open_out_of : (handle : Option ℕ) → (options : ℕ) → OpenOut
-open_out_of handle options =
-    record { fh = unwrap_or handle 0; open_flags = options; padding = 0 }
+open_out_of handle options = record { fh = unwrap_or handle 0; open_flags = options; padding = 0 }
 
 -- how many bytes extended attributes have, as GETXATTR and LISTXATTR reply it
 abbrev pub getxattr_out_of : (length : ℕ) → GetxattrOut
@@ -92,43 +81,27 @@ getxattr_out_of length = record { size = length; padding = 0 }
 abbrev pub write_out_of : (count : ℕ) → WriteOut
 write_out_of count = record { size = count; padding = 0 }
 
--- what INIT replies to a client of a newer major version: the version that the server speaks
+-- what INIT replies to a client of a newer major version: the version that the server speaks, and zeros
 abbrev pub version_out : InitOut
-version_out =
-    record {
-      major = KERNEL_VERSION;
-      minor = KERNEL_MINOR_VERSION;
-      max_readahead = 0;
-      flags = 0;
-      max_background = 0;
-      congestion_threshold = 0;
-      max_write = 0;
-      time_gran = 0;
-      max_pages = 0;
-      map_alignment = 0;
-      flags2 = 0;
-      unused = 0 ∷ 0 ∷ 0 ∷ 0 ∷ 0 ∷ 0 ∷ 0 ∷ [];
-    }
+version_out = record (init_out.made (replicate 18 0)) {
+  major = KERNEL_VERSION;
+  minor = KERNEL_MINOR_VERSION;
+}
 
--- What INIT replies, of the limits, the client's read-ahead and the agreed options. Requests in the
+-- What INIT replies, of the version, the limits, the client's read-ahead and the agreed options. Requests in the
 -- background are bounded by what the field holds, and the threshold is three quarters of that, each
 -- quarter without its rest; times are kept by the nanosecond.
 abbrev pub init_out_of : Limits → (max_readahead options : ℕ) → InitOut
-init_out_of limits max_readahead options =
-    record {
-      major = KERNEL_VERSION;
-      minor = KERNEL_MINOR_VERSION;
-      max_readahead = max_readahead;
-      flags = options % 2 ^ 32;
-      max_background = 65535;
-      congestion_threshold = 49149;
-      max_write = limits.max_buffer;
-      time_gran = 1;
-      max_pages = max_pages limits;
-      map_alignment = 0;
-      flags2 = options / 2 ^ 32;
-      unused = 0 ∷ 0 ∷ 0 ∷ 0 ∷ 0 ∷ 0 ∷ 0 ∷ [];
-    }
+init_out_of limits max_readahead options = record version_out {
+  max_readahead = max_readahead;
+  flags = options % 2 ^ 32;
+  max_background = 65535;
+  congestion_threshold = 49149;
+  max_write = limits.max_buffer;
+  time_gran = 1;
+  max_pages = max_pages limits;
+  flags2 = options / 2 ^ 32;
+}
 
 -- The body of the reply to an answer, by what it is: nothing where it says that something was done.
 -- A fault has none, and that of INIT doesn't stand in its answer alone.
@@ -163,7 +136,6 @@ reply_to unique _ answer = Bytes (answer_reply (body_of answer) unique answer)
 
 -- What comes back of a call of this kind with this answer, where these are the options after it.
 abbrev pub reply_of : Limits → Echo → (options : ℕ) → Kind → Answer → Reply
-reply_of limits echo options Agreements answer =
-    Bytes (answer_reply (bytes_of init_out (init_out_of limits echo.max_readahead options))
-    echo.unique answer)
+reply_of limits echo options Agreements answer = Bytes (answer_reply
+    (bytes_of init_out (init_out_of limits echo.max_readahead options)) echo.unique answer)
 reply_of limits echo options kind answer = reply_to echo.unique kind answer

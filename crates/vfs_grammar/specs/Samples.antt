@@ -2,9 +2,8 @@
 -- find. No promise rests on them.
 use Rattle.std.specs.Prelude.{ℕ, List, [], ◌∷◌, ◌++◌, replicate, Some, pos}
 use Rattle.vfs_wire.specs.Fields.{value_of}
-use Rattle.vfs_wire.specs.Attributes.{attr}
-use Rattle.vfs_files.specs.Items.{Item}
-use Rattle.vfs_files.specs.Extensions.{ExtensionValues}
+use Rattle.vfs_wire.specs.Records.{attr}
+use Rattle.vfs_files.specs.Values.{Item, ExtensionValues}
 use Rattle.vfs_files.specs.declared.entry.Entry.{Entry}
 use Rattle.vfs_files.specs.declared.entry.Context.{Context}
 

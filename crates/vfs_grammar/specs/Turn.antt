@@ -29,41 +29,6 @@ node_answered Entries (Found entry) = counted entry.inode
 node_answered Creations (Created entry handle options) = counted entry.inode
 node_answered _ _ = None
 
--- Who tells what happened at a request: how much space there was for the reply; that the file system wasn't
--- called; that it was called, so, with this answer, and that one lookup of a node, if there is one,
--- was then given back for this caller; that a directory was read, with these records and this
--- answer; and that this came back to the client; and that there was no memory for a copy, and no
--- call.
-pub record Witness : Type 1 where
-  pub space : ℕ
-  pub no_call : Type 0
-  pub called : Call → Answer → Context → (back : Option ℕ) → Type 0
-  pub listed : Listing → (records : List ℕ) → Result ℕ (Option ℕ) → Type 0
-  pub replied : Reply → Type 0
-  pub no_memory : Type 0
-
--- The table of what follows from a request that asks this, with the options before and after it.
--- An entry that a call answered and whose reply doesn't fit is given back. The records of a
--- directory are replied as the data of a READ are.
-abbrev pub Follows : Witness → Limits → (options : ℕ) → Ask → (after : ℕ) → Type 0
-Follows w limits options (Ends reply) after = w.no_call × w.replied reply × (after ≡ options)
-Follows w limits options (Asks echo call) after =
-    (answer : Answer)
-    × w.called call answer echo.ctx
-    (unseen w.space (reply_of limits echo after (kind_of call) answer)
-    (node_answered (kind_of call) answer))
-    × IsAnswer (kind_of call) answer
-    × w.replied (reply_of limits echo after (kind_of call) answer)
-    × (after ≡ options_after call answer options)
-Follows w limits options (Lists echo listing) after =
-    (records : List ℕ) × (answer : Result ℕ (Option ℕ)) × w.listed listing records answer
-    × IsAnswer (Data listing.size) (read_answer answer records)
-    × w.replied (reply_of limits echo after (Data listing.size) (read_answer answer records))
-    × (after ≡ options)
-Follows w limits options (WithMemory rest) after =
-    Follows w limits options rest after
-    ⊎ (w.no_memory × w.replied (Refusal OutOfMemory) × (after ≡ options))
-
 -- a request with all that a reader of the bytes and of the calls sees of it
 pub record Turn : Type 0 where
   pub request : List ℕ
@@ -72,31 +37,36 @@ pub record Turn : Type 0 where
   pub outcome : Result ℕ Error
   pub room_after : List ℕ
 
--- what a turn tells: by its events, its outcome and its room
-abbrev pub turn_tells : Turn → Witness
-turn_tells t = record {
-  space = length t.room;
-  no_call = t.events ≡ [];
-  called = λ call answer ctx back. t.events ≡ Called call answer ∷ given_back ctx back;
-  listed = λ listing records answer. IsRead listing t.events records answer;
-  replied = λ reply. IsReplied reply t.room t.outcome t.room_after;
-  no_memory = t.events ≡ [];
-}
+-- What follows in a turn from a request that asks this, with the options before and after it. One that
+-- is ended has no call. One that asks a call has this, with an answer of its kind; an entry in it whose
+-- reply doesn't fit is given back. A directory's records are replied as the data of a READ are. One
+-- that wants memory follows with it, or is refused for want of it, and has no call.
+abbrev pub Follows : Turn → Limits → (options : ℕ) → Ask → (after : ℕ) → Type 0
+Follows t limits options (Ends reply) after =
+    (t.events ≡ []) × IsReplied reply t.room t.outcome t.room_after × (after ≡ options)
+Follows t limits options (Asks echo call) after =
+    (answer : Answer)
+    × (t.events ≡ Called call answer ∷ given_back echo.ctx
+    (unseen (length t.room) (reply_of limits echo after (kind_of call) answer)
+    (node_answered (kind_of call) answer)))
+    × IsAnswer (kind_of call) answer
+    × IsReplied (reply_of limits echo after (kind_of call) answer) t.room t.outcome t.room_after
+    × (after ≡ options_after call answer options)
+Follows t limits options (Lists echo l) after =
+    (records : List ℕ) × (answer : Result ℕ (Option ℕ)) × IsRead l t.events records answer
+    × IsAnswer (Data l.size) (read_answer answer records)
+    × IsReplied (reply_of limits echo after (Data l.size) (read_answer answer records)) t.room
+    t.outcome t.room_after
+    × (after ≡ options)
+Follows t limits options (WithMemory rest) after =
+    Follows t limits options rest after
+    ⊎ ((t.events ≡ []) × IsReplied (Refusal OutOfMemory) t.room t.outcome t.room_after
+    × (after ≡ options))
 
--- what a turn tells in which memory was there for each copy
-abbrev pub turn_with_memory_tells : Turn → Witness
-turn_with_memory_tells t = record (turn_tells t) { no_memory = ⊥ }
-
--- a turn: what the table gives for the request
+-- a turn: what follows from what its request asks, where there is so much space for the reply
 abbrev pub IsTurn : Limits → (options : ℕ) → Turn → (after : ℕ) → Type 0
 IsTurn limits options t after =
-    Follows (turn_tells t) limits options (ask limits options (length t.room) t.request) after
-
--- the same of a turn in which memory was there for each copy
-abbrev pub IsTurnWithMemory : Limits → (options : ℕ) → Turn → (after : ℕ) → Type 0
-IsTurnWithMemory limits options t after =
-    Follows (turn_with_memory_tells t) limits options
-    (ask limits options (length t.room) t.request) after
+    Follows t limits options (ask limits options (length t.room) t.request) after
 
 -- turns in order, from these options to those: each begins with the options that the one before
 -- it left

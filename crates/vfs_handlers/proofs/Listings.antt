@@ -6,7 +6,7 @@ use Rattle.vfs_segments.specs.Written.{Written, Moves, held_over}
 use Rattle.vfs_wire_more.specs.declared.files.ReadIn.{ReadIn}
 use Rattle.vfs_files.specs.Answers.{Handed, Counts}
 use Rattle.vfs_files.specs.Calls.{Call}
-use Rattle.vfs_files.specs.Items.{Item}
+use Rattle.vfs_files.specs.Values.{Item}
 use Rattle.vfs_files.specs.Runs.{Event, Happening, IsRun}
 use Rattle.vfs_listings.specs.Reading.{Puts}
 use Rattle.vfs_listings.proofs.Filling.{moves_of, counts_of_listing}

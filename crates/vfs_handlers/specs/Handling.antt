@@ -2,14 +2,15 @@
 use Rattle.std.specs.Prelude.{◌≡◌, length, ℕ, List, Option, None, Result}
 use Rattle.vfs_flags.specs.declared.opcode.Opcode.{Opcode}
 use Rattle.vfs_segments.specs.Written.{Written, Moves}
-use Rattle.vfs_files.specs.Items.{Item}
+use Rattle.vfs_files.specs.Values.{Item}
 use Rattle.vfs_files.specs.Calls.{Call, Handed, Plain, Counts, read_answer}
 use Rattle.vfs_files.specs.Runs.{Happening, IsRun, events_of}
-use Rattle.vfs_grammar.specs.Forms.{Listing, Ask, memory_use}
+use Rattle.vfs_grammar.specs.Forms.{Listing, Ask}
 use Rattle.vfs_grammar.specs.Ask.{ask_opcode, form_of}
 use Rattle.vfs_messages.specs.Rooms.{Replies}
 use Rattle.vfs_entries.specs.Delivery.{CallsAndGivesBack}
-use Rattle.vfs_grammar.specs.Turn.{Witness, Follows, IsRead}
+use Rattle.vfs_grammar.specs.Witnesses.{Witness, FollowsFor}
+use Rattle.vfs_grammar.specs.Turn.{IsRead}
 use Rattle.vfs_grammar.specs.declared.error.Error.{Error}
 use Rattle.vfs_handlers.specs.Memory.{MayWantFor}
 use Rattle.vfs_handlers.specs.State.{ServerState}
@@ -42,7 +43,7 @@ module _ {S I : Type 0} (allows : S → Call → Handed I → S → Type 0)
   abbrev pub Handles : (wanted : Type 0) → Ask → (old : ServerState S) → (writer : Written)
       → Result ℕ Error → (writer_after : Written) → (new : ServerState S) → Type 0
   Handles wanted a old writer outcome writer_after new =
-      Follows (server_tells wanted old writer outcome writer_after new)
+      FollowsFor (server_tells wanted old writer outcome writer_after new)
       old.limits old.options a new.options
       × (new.limits ≡ old.limits)
 
@@ -54,7 +55,7 @@ module _ {S I : Type 0} (allows : S → Call → Handed I → S → Type 0)
       let reader = request.r.now in
       Handles
       (MayWantFor header reader.pieces
-      (memory_use (form_of old.limits old.options (length writer.left) header opcode)))
+      (form_of old.limits old.options (length writer.left) header opcode))
       (ask_opcode old.limits old.options (length writer.left) opcode header reader.left)
       old writer outcome writer_after new
 

@@ -4,23 +4,22 @@ use Rattle.std.specs.Prelude.{◌⊎◌, ℕ, List, Option, Some, None}
 use Rattle.vfs_flags.specs.declared.opcode.Opcode.{Opcode}
 use Rattle.vfs_wire.specs.declared.headers.InHeader.{InHeader}
 use Rattle.vfs_grammar.specs.Ask.{form_of}
-use Rattle.vfs_grammar.specs.Forms.{layout_size, MemoryUse, ForNothing, ForTail, ForTailAndContext, ForPairs, memory_use}
+use Rattle.vfs_grammar.specs.Forms.{Form, layout_size, by_memory}
 use Rattle.vfs_grammar.specs.declared.limits.Limits.{Limits}
 use Rattle.vfs_messages.specs.Parts.{MayHoldContext, TailIsCut, pieces_behind}
 
--- memory may be wanted for a request, where the bytes behind its header lie in these pieces: for a
--- tail that is cut, for a context, or for pairs
-abbrev pub MayWantFor : InHeader → (pieces : List ℕ) → MemoryUse → Type 0
-MayWantFor h pieces ForNothing = ⊥
-MayWantFor h pieces (ForTail layout) =
-    TailIsCut h (layout_size layout) (pieces_behind layout pieces)
-MayWantFor h pieces (ForTailAndContext layout options) =
-    TailIsCut h (layout_size layout) (pieces_behind layout pieces) ⊎ MayHoldContext options
-MayWantFor h pieces (ForPairs layout above count) = Unit {0}
+-- memory may be wanted for a request of this form, where the bytes behind its header lie in these
+-- pieces: for a tail that is cut, for a context, or for pairs
+abbrev pub MayWantFor : InHeader → (pieces : List ℕ) → Form → Type 0
+MayWantFor h pieces form =
+    by_memory ⊥ (λ R layout. TailIsCut h (layout_size layout) (pieces_behind layout pieces))
+    (λ R layout options.
+    TailIsCut h (layout_size layout) (pieces_behind layout pieces) ⊎ MayHoldContext options)
+    (λ R layout above count. Unit {0}) form
 
 -- the same by the opcode
 abbrev pub MayWantBehind : Limits → (options space : ℕ) → Option Opcode → InHeader
     → (pieces : List ℕ) → Type 0
 MayWantBehind limits options space None h pieces = ⊥
 MayWantBehind limits options space (Some opcode) h pieces =
-    MayWantFor h pieces (memory_use (form_of limits options space h opcode))
+    MayWantFor h pieces (form_of limits options space h opcode)

@@ -3,7 +3,7 @@
 
 ghost use Rattle.std.specs.Prelude.{◌≡◌, length};
 ghost use Rattle.vfs_files.specs.Calls.{Read};
-ghost use Rattle.vfs_files.specs.Entries.{context_of};
+ghost use Rattle.vfs_files.specs.Values.{context_of};
 ghost use Rattle.vfs_flags.specs.declared.constants.TheConstants.{READ_LOCKOWNER};
 ghost use Rattle.vfs_grammar.specs.Ask.{if_set};
 ghost use Rattle.vfs_handlers.specs.Handling.{Serves, ReadsInto};

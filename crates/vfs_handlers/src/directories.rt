@@ -1,7 +1,7 @@
 //! Open directories, and what is read of them.
 
 ghost use Rattle.std.specs.Prelude.{◌≡◌, length};
-ghost use Rattle.vfs_wire_more.specs.Files.{read_in};
+ghost use Rattle.vfs_wire_more.specs.Records.{read_in};
 ghost use Rattle.vfs_grammar.specs.Ask.{listing_of, lists_too_much};
 ghost use Rattle.vfs_grammar.specs.Forms.{Directories, Record, ask_form};
 ghost use Rattle.vfs_handlers.specs.Handling.{Handles, Serves};

@@ -1,7 +1,7 @@
 //! Names, and the lookups that the kernel counts.
 
 ghost use Rattle.std.specs.Prelude.{◌≡◌, ◌*◌, nat_lt};
-ghost use Rattle.vfs_wire.specs.Entries.{forget_one};
+ghost use Rattle.vfs_wire.specs.Records.{forget_one};
 ghost use Rattle.vfs_grammar.specs.Records.{size_of};
 ghost use Rattle.vfs_handlers.specs.Handling.{Serves};
 

@@ -1,7 +1,7 @@
 //! A request on its way to a handler.
 
 ghost use Rattle.std.specs.Prelude.{◌≡◌};
-ghost use Rattle.vfs_files.specs.Entries.{context_of};
+ghost use Rattle.vfs_files.specs.Values.{context_of};
 
 use std::alloc::Global;
 use vfs_files::{Context, Number};

@@ -1,7 +1,7 @@
 //! A session, and the way of a request to its handler.
 
 ghost use Rattle.std.specs.Prelude.{◌≡◌, length};
-ghost use Rattle.vfs_flags.specs.Opcode.{opcode_of};
+ghost use Rattle.vfs_flags.specs.Numbers.{opcode_of};
 ghost use Rattle.vfs_files.specs.Calls.{Destroy};
 ghost use Rattle.vfs_files.specs.Answers.{Plain, Done};
 ghost use Rattle.vfs_grammar.specs.Ask.{ask_header};

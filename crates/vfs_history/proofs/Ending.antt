@@ -1,17 +1,17 @@
 -- A server that is ended without a request: a turn of a DESTROY.
 use Rattle.std.proofs.Common.{◌≡◌, ℕ, Bool, false, nat_lt, [], ◌∷◌, Option, refl, ap, sym, subst, arith}
 use Rattle.std.proofs.lemmas.Bool.Decides.{nat_tests}
-use Rattle.vfs_flags.specs.Opcode.{opcode_of}
+use Rattle.vfs_flags.specs.Numbers.{opcode_of}
 use Rattle.vfs_wire.specs.Fields.{number, value_of}
-use Rattle.vfs_wire.specs.Headers.{in_header}
-use Rattle.vfs_files.specs.Items.{Item}
+use Rattle.vfs_wire.specs.Records.{in_header}
+use Rattle.vfs_files.specs.Values.{Item}
 use Rattle.vfs_files.specs.Calls.{Call, Destroy, Done, Handed, Plain}
 use Rattle.vfs_files.specs.Runs.{Calls}
 use Rattle.vfs_grammar.specs.Ask.{ask}
 use Rattle.vfs_grammar.specs.Forms.{Ask, Asks, within}
 use Rattle.vfs_grammar.specs.Limits.{max_len}
 use Rattle.vfs_grammar.specs.Reply.{echo_of}
-use Rattle.vfs_grammar.specs.Turn.{Follows, IsTurn, turn_tells}
+use Rattle.vfs_grammar.specs.Turn.{Follows, IsTurn}
 use Rattle.vfs_grammar.specs.declared.limits.Limits.{Limits}
 use Rattle.vfs_server.specs.Step.{ServerState}
 use Rattle.vfs_history.specs.History.{IsHandled, destroy_request, turn_of_end}
@@ -29,7 +29,7 @@ ask-destroy limits options =
 
 turn-end : (limits : Limits) (options after : ℕ) → after ≡ 0 → IsTurn limits options turn_of_end after
 turn-end limits options after none =
-    subst (λ (a : Ask). Follows (turn_tells turn_of_end) limits options a after)
+    subst (λ (a : Ask). Follows turn_of_end limits options a after)
     (sym (ask-destroy limits options)) (Done, refl, tt, (refl, refl), none)
 
 pub is_end : {S I : Type 0} (allows : S → Call → Handed I → S → Type 0)

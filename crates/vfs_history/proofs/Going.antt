@@ -1,7 +1,7 @@
 -- A history, moment by moment.
 use Rattle.std.proofs.Common.{◌≡◌, ℕ, List, [], ◌∷◌, ◌++◌, map, Option, None, Result, refl, ap, ◌∙◌, subst}
 use Rattle.vfs_segments.specs.Written.{Written}
-use Rattle.vfs_files.specs.Items.{Item}
+use Rattle.vfs_files.specs.Values.{Item}
 use Rattle.vfs_files.specs.Calls.{Call, Handed}
 use Rattle.vfs_files.specs.Runs.{Event, events_of}
 use Rattle.vfs_files.specs.RunLaws.{run-join, events_of-append}

@@ -1,7 +1,7 @@
 -- A request that was served, as a moment of a history.
 use Rattle.std.proofs.Common.{ℕ, List, replicate, take, Option, Result, Ok, Err, refl, ap, sym, subst, ◌∙◌, append-nil}
 use Rattle.vfs_segments.specs.Written.{Written}
-use Rattle.vfs_files.specs.Items.{Item}
+use Rattle.vfs_files.specs.Values.{Item}
 use Rattle.vfs_files.specs.Calls.{Call, Handed}
 use Rattle.vfs_grammar.specs.declared.error.Error.{Error}
 use Rattle.vfs_server.specs.Served.{room_of}

@@ -2,14 +2,14 @@
 use Rattle.std.proofs.Common.{◌≡◌, inl, inr, ℕ, List, [], ◌∷◌, ◌++◌, map, Option, Some, None, Result, refl, ap, sym, subst, ◌∙◌}
 use Rattle.vfs_segments.specs.Unread.{Unread}
 use Rattle.vfs_segments.specs.Written.{Written}
-use Rattle.vfs_files.specs.Items.{Item}
+use Rattle.vfs_files.specs.Values.{Item}
 use Rattle.vfs_files.specs.Calls.{Call, Handed}
 use Rattle.vfs_files.specs.Runs.{Event, Called, OpenedDirectory, Taken, Happening, Calls, Opens, Takes, IsRun, at_hand, events_of}
 use Rattle.vfs_files.specs.declared.entry.Context.{Context}
 use Rattle.vfs_grammar.specs.Forms.{Listing, Ask, Ends, Asks, Lists, WithMemory}
 use Rattle.vfs_grammar.specs.Ask.{ask}
 use Rattle.vfs_grammar.specs.Listing.{given_back}
-use Rattle.vfs_grammar.specs.Turn.{Turn, AreTurns, Follows, IsRead, turn_tells, events_in}
+use Rattle.vfs_grammar.specs.Turn.{Turn, AreTurns, Follows, IsRead, events_in}
 use Rattle.vfs_grammar.specs.declared.limits.Limits.{Limits}
 use Rattle.vfs_server.specs.Step.{ServerState}
 use Rattle.vfs_server.specs.Session.{AreServed}
@@ -44,7 +44,7 @@ fresh_read l es records answer (inl u) = subst IsFresh (sym u.events_are) tt
 fresh_read l es records answer (inr o) = subst IsFresh (sym o.events_are) tt
 
 -- the events of a turn are so
-fresh_turn : (limits : Limits) (options after : ℕ) (t : Turn) (a : Ask) → Follows (turn_tells t) limits options a after → IsFresh t.events
+fresh_turn : (limits : Limits) (options after : ℕ) (t : Turn) (a : Ask) → Follows t limits options a after → IsFresh t.events
 fresh_turn limits options after t (Ends reply) f = subst IsFresh (sym f.0) tt
 fresh_turn limits options after t (Asks echo call) f = subst IsFresh (sym f.1) (fresh_back _ _)
 fresh_turn limits options after t (Lists echo listing) f = fresh_read listing t.events f.0 f.1 f.2

@@ -1,9 +1,8 @@
 -- What small callers say of a server that they call message by message.
 use Rattle.std.specs.Prelude.{◌≡◌, ℕ, List, [], ◌∷◌, ◌++◌, map, replicate, take, Option, Result, Ok, Err}
-use Rattle.vfs_segments.specs.Written.{Written}
-use Rattle.vfs_files.specs.Items.{Item}
+use Rattle.vfs_segments.specs.Written.{Written, Leaves}
+use Rattle.vfs_files.specs.Values.{Item}
 use Rattle.vfs_files.specs.Calls.{Call, Handed}
-use Rattle.vfs_messages.specs.Rooms.{Leaves}
 use Rattle.vfs_grammar.specs.Turn.{Turn, events_in}
 use Rattle.vfs_grammar.specs.Books.{KeepsBooks, NeverBelow}
 use Rattle.vfs_grammar.specs.declared.error.Error.{Error}

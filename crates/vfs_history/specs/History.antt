@@ -2,7 +2,7 @@
 -- file system by its owner between them.
 use Rattle.std.specs.Prelude.{◌≡◌, ◌≢◌, ◌≤◌, ◌+◌, ℕ, List, [], ◌∷◌, ◌++◌, replicate, take, sum_by, Option, None, Result, Ok}
 use Rattle.vfs_segments.specs.Written.{Written}
-use Rattle.vfs_files.specs.Items.{Item}
+use Rattle.vfs_files.specs.Values.{Item}
 use Rattle.vfs_files.specs.Calls.{Call, Destroy, Done, Handed, Plain}
 use Rattle.vfs_files.specs.Runs.{Event, Called, Happening, IsRun, events_of}
 use Rattle.vfs_grammar.specs.Turn.{Turn, IsTurn, AreTurns, events_in}

@@ -1,15 +1,14 @@
 -- What the grammar never asks: a directory by a call; and how much room it leaves for records.
 use Rattle.std.proofs.Common.{◌≡◌, ◌≢◌, ◌≤◌, ◌-◌, ℕ, Bool, true, false, List, length, drop, nat_lt, if◌then◌else◌, Option, Some, None, Result, Ok, Err, refl, arith}
 use Rattle.std.proofs.lemmas.Bool.Decides.{nat_tests}
-use Rattle.vfs_flags.specs.Opcode.{opcode_of}
+use Rattle.vfs_flags.specs.Numbers.{opcode_of, enomem}
 use Rattle.vfs_flags.specs.declared.opcode.Opcode.{Opcode}
 use Rattle.vfs_flags.specs.declared.opcode.Opcode.TheVariants as opcode
 use Rattle.vfs_wire.specs.Fields.{value_of}
-use Rattle.vfs_wire.specs.Headers.{in_header}
+use Rattle.vfs_wire.specs.Records.{in_header}
 use Rattle.vfs_wire.specs.declared.headers.InHeader.{InHeader}
 use Rattle.vfs_files.specs.Calls.{Iterators, kind_of}
 use Rattle.vfs_grammar.specs.Ask.{ask, ask_header, ask_number, form_of}
-use Rattle.vfs_flags.specs.Errors.{enomem}
 use Rattle.vfs_grammar.specs.Forms.{Ask, Ends, Asks, Lists, WithMemory, Form, Directories, Layout, Listing, ask_form, refused, refused_or, faulted, within, space_behind_header, layout_record}
 use Rattle.vfs_grammar.specs.Reply.{echo_of}
 use Rattle.vfs_grammar.specs.Limits.{max_len}

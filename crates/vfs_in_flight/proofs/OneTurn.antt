@@ -1,16 +1,16 @@
 -- From what ask and answer tell to the turn that both are.
 use Rattle.std.proofs.Common.{◌≡◌, ◌+◌, ◌-◌, ◌++◌, ◌∙◌, ◌==◌, ℕ, Bool, true, false, bit_and, not, List, [], ◌∷◌, Option, None, Some, Result, length, refl, ap, sym, subst, inl, inr, length-append, append-nil, IfSome}
 use Rattle.std.specs.Prelude.{⊤}
-use Rattle.vfs_segments.specs.Written.{Written}
+use Rattle.vfs_segments.specs.Written.{Written, Leaves}
 use Rattle.vfs_files.specs.Calls.{Call, Init, Data, kind_of, read_answer}
 use Rattle.vfs_files.specs.Runs.{Event, Called}
-use Rattle.vfs_messages.specs.Rooms.{Leaves, Replies, with_behind}
+use Rattle.vfs_messages.specs.Rooms.{Replies, with_behind}
 use Rattle.vfs_grammar.specs.Ask.{ask}
 use Rattle.vfs_grammar.specs.Forms.{Ask, Ends, Asks, Lists, WithMemory, Listing}
 use Rattle.vfs_grammar.specs.Listing.{given_back}
 use Rattle.vfs_grammar.specs.Reply.{Echo, Reply, Refusal, NoReply, Bytes, OpenBehind, reply_of}
 use Rattle.vfs_grammar.specs.Room.{IsReplied, unseen}
-use Rattle.vfs_grammar.specs.Turn.{Turn, Follows, turn_tells, node_answered}
+use Rattle.vfs_grammar.specs.Turn.{Turn, Follows, node_answered}
 use Rattle.vfs_grammar.specs.declared.limits.Limits.{Limits}
 use Rattle.vfs_grammar.specs.declared.error.Error.{Error}
 use Rattle.vfs_calls.specs.Shapes.{bit}
@@ -62,7 +62,7 @@ module _ (limits : Limits) (options : ℕ) (request : List ℕ) (a : AnswerData)
     room_after : List ℕ
     happened : Happened limits asks a text items old.left came events
     leaves : Leaves old room_after new
-    follows : Follows (turn_tells (turn_of events room_after)) limits options asks came.options
+    follows : Follows (turn_of events room_after) limits options asks came.options
 
   turned_call : (echo : Echo) (call : Call)
       → CallIsAnswered limits echo call options a text old came new → Turned (Asks echo call)
@@ -185,7 +185,7 @@ are_one_turn limits options request asked_in after told a text items old behind 
       room_after = t.room_after;
       happened = subst (λ q. Happened limits q a text items (old.left ++ behind) came t.events) asks t.happened;
       leaves = t.leaves;
-      turn = subst (λ q. Follows (turn_tells (turn_of limits options request a text items (with_behind old behind) came (with_behind new behind) t.events t.room_after)) limits options q came.options) asks t.follows;
+      turn = subst (λ q. Follows (turn_of limits options request a text items (with_behind old behind) came (with_behind new behind) t.events t.room_after) limits options q came.options) asks t.follows;
     }
 
 none_behind : (w : Written) → w ≡ with_behind w []

@@ -1,9 +1,9 @@
 -- A request that was asked for its call, and whose call was answered, as one turn of the grammar.
 use Rattle.std.specs.Prelude.{◌≡◌, ◌++◌, ℕ, List, ◌∷◌, length, unwrap_or, Option, Some, Result}
-use Rattle.vfs_segments.specs.Written.{Written}
+use Rattle.vfs_segments.specs.Written.{Written, Leaves}
 use Rattle.vfs_files.specs.Calls.{Answer, kind_of}
 use Rattle.vfs_files.specs.Runs.{Event, Called}
-use Rattle.vfs_messages.specs.Rooms.{Leaves, with_behind}
+use Rattle.vfs_messages.specs.Rooms.{with_behind}
 use Rattle.vfs_grammar.specs.Ask.{ask}
 use Rattle.vfs_grammar.specs.Forms.{Ask, Ends, Asks, Lists, WithMemory, Listing}
 use Rattle.vfs_grammar.specs.Listing.{given_back}

@@ -1,24 +1,23 @@
 -- Every case of what a request may ask, by its form.
 use Rattle.std.proofs.Common.{◌≡◌, ◌<◌, ◌+◌, ◌-◌, ◌*◌, ◌==◌, ℕ, Bool, true, false, bit_and, List, length, take, drop, nat_lt, if◌then◌else◌, Option, Some, None, Result, Ok, Err, refl, arith}
 use Rattle.std.proofs.lemmas.Bool.Decides.{nat_tests}
-use Rattle.vfs_flags.specs.Errors.{enomem, enosys, eproto}
+use Rattle.vfs_flags.specs.Numbers.{enomem, enosys, eproto, opcode_of}
 use Rattle.vfs_flags.specs.Flags.{init_ext}
-use Rattle.vfs_flags.specs.Opcode.{opcode_of}
 use Rattle.vfs_flags.specs.declared.constants.TheConstants.{KERNEL_VERSION, MIN_KERNEL_MINOR_VERSION}
 use Rattle.vfs_flags.specs.declared.opcode.Opcode.{Opcode}
 use Rattle.vfs_wire.specs.Fields.{Table, bytes_of, value_of}
-use Rattle.vfs_wire.specs.Headers.{in_header, out_header}
-use Rattle.vfs_wire.specs.Init.{init_in_compat, init_in_ext, init_out}
-use Rattle.vfs_wire.specs.Entries.{forget_one}
+use Rattle.vfs_wire.specs.Records.{in_header, out_header, init_in_compat, init_in_ext, init_out, forget_one}
 use Rattle.vfs_wire.specs.declared.headers.InHeader.{InHeader}
 use Rattle.vfs_wire.specs.declared.init.InitInCompat.{InitInCompat}
 use Rattle.vfs_files.specs.Calls.{Call}
-use Rattle.vfs_files.specs.Names.{name_of, first_name}
+use Rattle.vfs_files.specs.Values.{name_of, first_name}
 use Rattle.vfs_grammar.specs.Limits.{max_len}
 use Rattle.vfs_grammar.specs.Records.{size_of, record_of}
 use Rattle.vfs_grammar.specs.Ask.{form_of, ask_number, ask_header, ask, header_of}
-use Rattle.vfs_grammar.specs.Forms.{second_or_refusal, both_or_refusal, sized_or_refusal, Listing, Ask, Ends, Asks, Lists, WithMemory, refused, silent, within, refused_or, tail_of, name_or_refusal, pairs_of, pairs_in, second_flags, flags2_in, ask_version, Layout, Without, Record, layout_record, Form, NoTail, NameTail, TwoNames, NameAndValue, NameAndExtensions, LinkAndExtensions, Pairs, WithRest, IntoRoom, Directories, Versions, Silent, NotServed, space_behind_header, ask_form, extended_in, link_in_tail}
-use Rattle.vfs_laws.specs.Turns.{unique_of, opcode_in}
+use Rattle.vfs_grammar.specs.FormParts.{second_or_refusal, both_or_refusal, sized_or_refusal, name_or_refusal, flags2_in}
+use Rattle.vfs_grammar.specs.Forms.{Listing, Ask, Ends, Asks, Lists, WithMemory, refused, silent, within, refused_or, tail_of, pairs_of, pairs_in, second_flags, ask_version, Layout, Without, Record, layout_record, Form, NoTail, NameTail, TwoNames, NameAndValue, NameAndExtensions, LinkAndExtensions, Pairs, WithRest, IntoRoom, Directories, Versions, Silent, NotServed, space_behind_header, ask_form, extended_in, link_in_tail}
+use Rattle.vfs_laws.specs.Turns.{unique_of}
+use Rattle.vfs_grammar.specs.Books.{opcode_in}
 use Rattle.vfs_grammar.specs.Reply.{Bytes, Echo, fault_reply, body_reply, version_out}
 use Rattle.vfs_grammar.specs.declared.limits.Limits.{Limits}
 use Rattle.vfs_grammar.specs.declared.error.Error.{Error}

@@ -9,7 +9,7 @@ use Rattle.vfs_grammar.specs.Listing.{given_back}
 use Rattle.vfs_grammar.specs.Reply.{Reply}
 use Rattle.vfs_grammar.specs.Room.{unseen}
 use Rattle.vfs_grammar.specs.Turn.{counted, node_answered}
-use Rattle.vfs_grammar.specs.Books.{times, counts, node_of, answered_nodes, forgets_of, answered, sent}
+use Rattle.vfs_grammar.specs.Books.{times, counts, entry_node, answered_nodes, forgets_of, answered, sent}
 use Rattle.vfs_laws.proofs.ListedNodes.{no_node}
 use Rattle.vfs_laws.proofs.Replying.{LastOnly, one_event}
 use Rattle.vfs_laws.proofs.Saying.{AreForgets}
@@ -32,12 +32,12 @@ module _ (n : ℕ) (some : n ≢ 0) (ctx : Context) where
   counted_back : (node : ℕ) → sent n (given_back ctx (counted node)) ≡ times n (node ∷ [])
   counted_back node = counted_by (nat_eq node 0) node refl
 
-  entries_back : (answer : Answer) → IsAnswer Entries answer → sent n (given_back ctx (node_answered Entries answer)) ≡ times n (node_of answer)
+  entries_back : (answer : Answer) → IsAnswer Entries answer → sent n (given_back ctx (node_answered Entries answer)) ≡ times n (entry_node answer)
   entries_back (Found entry) is = counted_back entry.inode
   entries_back (Created entry handle options) is = absurd is
   entries_back _ is = refl
 
-  creations_back : (answer : Answer) → IsAnswer Creations answer → sent n (given_back ctx (node_answered Creations answer)) ≡ times n (node_of answer)
+  creations_back : (answer : Answer) → IsAnswer Creations answer → sent n (given_back ctx (node_answered Creations answer)) ≡ times n (entry_node answer)
   creations_back (Created entry handle options) is = counted_back entry.inode
   creations_back (Found entry) is = absurd is
   creations_back _ is = refl

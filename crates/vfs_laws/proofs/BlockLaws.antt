@@ -5,7 +5,7 @@ use Rattle.std.proofs.lemmas.Bool.{le-ltb}
 use Rattle.std.proofs.lemmas.List.{drop_at, take_at}
 use Rattle.vfs_wire.specs.Fields.{value_of, bytes_of}
 use Rattle.vfs_wire.specs.FieldLaws.{value_of-bytes_of-then, value_of-take, length-bytes_of}
-use Rattle.vfs_wire.specs.Extensions.{ext_header}
+use Rattle.vfs_wire.specs.Records.{ext_header}
 use Rattle.vfs_wire.specs.declared.extensions.ExtHeader.{ExtHeader}
 use Rattle.vfs_grammar.specs.Extensions.{Block, block_in, block_size, error_or}
 use Rattle.vfs_laws.specs.Extensions.{IsBlock, block_bytes}

@@ -3,20 +3,13 @@
 use Rattle.std.proofs.Common.{◌≡◌, ◌≤◌, ◌+◌, ◌-◌, ◌^◌, ◌<◌, ◌++◌, ℕ, ℤ, List, length, take, Option, pos, ◌-ℤ◌, ap, sym, ◌∙◌, arith, length-append}
 use Rattle.std.proofs.lemmas.List.{take_all, take_at}
 use Rattle.vfs_wire.specs.Fields.{bytes_of}
-use Rattle.vfs_wire.specs.Headers.{out_header}
+use Rattle.vfs_wire.specs.Records.{out_header, attr_out, entry_out, kstatfs, init_out, kstatfs_of}
 use Rattle.vfs_wire.specs.declared.headers.OutHeader.{OutHeader}
 use Rattle.vfs_wire.specs.FieldLaws.{length-little, length-bytes_of}
-use Rattle.vfs_wire.specs.Attributes.{attr_out}
-use Rattle.vfs_wire.specs.Entries.{entry_out}
-use Rattle.vfs_wire_more.specs.Files.{open_out, write_out}
-use Rattle.vfs_wire.specs.Listings.{kstatfs}
-use Rattle.vfs_wire_more.specs.Ranges.{lseek_out}
-use Rattle.vfs_wire.specs.Stat.{kstatfs_of}
-use Rattle.vfs_wire_more.specs.Xattrs.{getxattr_out}
-use Rattle.vfs_wire.specs.Init.{init_out}
+use Rattle.vfs_wire_more.specs.Records.{open_out, write_out, lseek_out, getxattr_out}
 use Rattle.vfs_wire.specs.declared.init.InitOut.{InitOut}
 use Rattle.vfs_files.specs.Answers.{Kind, Quiet, Told, Untold, Data, Agreements, Entries, TimedAttributes, Openings, Creations, Capacities, Texts, TextsOrCounts, Offsets, Writes, Iterators, Faults, IsAnswer, Answer, Done, Failed, Options, Found, Put, Attributes, Opened, Created, Statistics, Text, Count, Offset, Wrote}
-use Rattle.vfs_files.specs.Entries.{entry_out_of}
+use Rattle.vfs_files.specs.Values.{entry_out_of}
 use Rattle.vfs_files.specs.declared.entry.Entry.{Entry}
 use Rattle.vfs_grammar.specs.Reply.{Reply, NoReply, Bytes, OpenBehind, Echo, body_of, answer_reply, reply_of, fault_reply, fault_number, body_reply, attr_out_of, init_out_of, open_out_of, getxattr_out_of, write_out_of}
 use Rattle.vfs_grammar.specs.Records.{size_of}

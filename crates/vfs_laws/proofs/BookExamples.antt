@@ -1,14 +1,13 @@
 -- The books held against turns written out: each sum, computed.
 use Rattle.std.proofs.Common.{◌-◌, length, take, ◌≡◌, ◌+◌, ◌/◌, ◌%◌, ℕ, List, [], ◌∷◌, ◌++◌, replicate, false, Option, Some, None, Result, Ok, Err, sum_by, refl, pos}
-use Rattle.vfs_flags.specs.Opcode.{opcode_of}
+use Rattle.vfs_flags.specs.Numbers.{opcode_of}
 use Rattle.vfs_wire.specs.Fields.{number, value_of}
-use Rattle.vfs_wire.specs.Attributes.{attr}
+use Rattle.vfs_wire.specs.Records.{attr}
 use Rattle.vfs_files.specs.declared.entry.Context.{Context}
 use Rattle.vfs_files.specs.declared.entry.Entry.{Entry}
-use Rattle.vfs_files.specs.Extensions.{ExtensionValues}
+use Rattle.vfs_files.specs.Values.{ExtensionValues, Item}
 use Rattle.vfs_files.specs.Calls.{Found, Created, Done, Text}
 use Rattle.vfs_files.specs.Calls as call
-use Rattle.vfs_files.specs.Items.{Item}
 use Rattle.vfs_files.specs.Runs.{Event, Called, OpenedDirectory, Taken}
 use Rattle.vfs_grammar.specs.Listing.{given_back}
 use Rattle.vfs_grammar.specs.Turn.{Turn, events_in}

@@ -4,17 +4,18 @@ use Rattle.std.proofs.lemmas.Bool.Decides.{nat_tests}
 use Rattle.vfs_flags.specs.declared.opcode.Opcode.{Opcode}
 use Rattle.vfs_flags.specs.declared.opcode.Opcode.TheVariants.{Read, Readdir, Readdirplus}
 use Rattle.vfs_wire.specs.Fields.{bytes_of}
-use Rattle.vfs_wire.specs.Headers.{out_header}
-use Rattle.vfs_wire.specs.Init.{init_out}
+use Rattle.vfs_wire.specs.Records.{out_header, init_out}
 use Rattle.vfs_wire.specs.declared.headers.InHeader.{InHeader}
 use Rattle.vfs_files.specs.Calls.{Kind, Answer, IsAnswer, Data, kind_of, read_answer}
 use Rattle.vfs_grammar.specs.Ask.{form_of, ask, header_of}
 use Rattle.vfs_grammar.specs.Forms.{Ask}
-use Rattle.vfs_laws.specs.Turns.{unique_of, opcode_in, CarriesData, IsCutOff, CutsOff, cut_turn_tells, LacksRoomForHeader}
+use Rattle.vfs_laws.specs.Turns.{unique_of, CarriesData, IsCutOff, CutsOff, cut_turn_tells, LacksRoomForHeader}
+use Rattle.vfs_grammar.specs.Books.{opcode_in}
 use Rattle.vfs_grammar.specs.Records.{size_of}
 use Rattle.vfs_grammar.specs.Reply.{Bytes, Refusal, Echo, fault_reply, body_reply, reply_of, version_out}
 use Rattle.vfs_grammar.specs.Room.{IsReplied}
-use Rattle.vfs_grammar.specs.Turn.{Turn, Follows, IsTurn, turn_tells}
+use Rattle.vfs_grammar.specs.Turn.{Turn, Follows, IsTurn}
+use Rattle.vfs_grammar.specs.Witnesses.{FollowsFor}
 use Rattle.vfs_grammar.specs.declared.limits.Limits.{Limits}
 use Rattle.vfs_grammar.specs.declared.error.Error.{Error}
 use Rattle.vfs_grammar.specs.declared.error.Error.TheVariants.{EncodeMessage, OutOfMemory}
@@ -57,10 +58,10 @@ cramped_by limits options room None h small = absurd small
 cramped_by limits options room (Some opcode) h small = cramped_form limits options room h opcode small
 
 pub cut_off : (limits : Limits) (options after : ℕ) (t : Turn) → IsTurn limits options t after → t.outcome ≡ Err EncodeMessage
-    → Follows (cut_turn_tells t) limits options (ask limits options (length t.room) t.request) after ⊎ LacksRoomForHeader options after t
+    → FollowsFor (cut_turn_tells t) limits options (ask limits options (length t.room) t.request) after ⊎ LacksRoomForHeader options after t
 cut_off limits options after t f o =
     let Lacks = LacksRoomForHeader options after t in
-    let P : Ask → Type 0 = λ a. Follows (turn_tells t) limits options a after → Follows (cut_turn_tells t) limits options a after ⊎ Lacks in
+    let P : Ask → Type 0 = λ a. Follows t limits options a after → FollowsFor (cut_turn_tells t) limits options a after ⊎ Lacks in
     let u = unique_of t.request in
     ask_cases P u
     (record {
@@ -84,7 +85,7 @@ cut_off limits options after t f o =
         f.5,
       );
     })
-    (λ a p f. elim f as (λ x. (Follows (cut_turn_tells t) limits options a after ⊎ ((t.events ≡ []) × CutsOff (Refusal OutOfMemory) t.room t.room_after × (after ≡ options))) ⊎ Lacks) [
+    (λ a p f. elim f as (λ x. (FollowsFor (cut_turn_tells t) limits options a after ⊎ ((t.events ≡ []) × CutsOff (Refusal OutOfMemory) t.room t.room_after × (after ≡ options))) ⊎ Lacks) [
       | inl g ↦ elim (p g) [ inl cut ↦ inl (inl cut) | inr lacks ↦ inr lacks ]
       | inr g ↦ absurd (let a = sym g.1.0 ∙ o in cc)
     ])

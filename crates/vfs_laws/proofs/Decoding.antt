@@ -10,7 +10,7 @@ use Rattle.std.specs.Int.{w32, cast_signed, cast_unsigned}
 use Rattle.vfs_flags.specs.declared.opcode.Opcode.{Opcode}
 use Rattle.vfs_wire.specs.Fields.{little, number, bytes_of}
 use Rattle.vfs_wire.specs.FieldLaws.{length-little, number-little}
-use Rattle.vfs_wire.specs.Headers.{out_header}
+use Rattle.vfs_wire.specs.Records.{out_header}
 use Rattle.vfs_wire.specs.declared.headers.OutHeader.{OutHeader}
 use Rattle.vfs_grammar.specs.Forms.{pairs_of}
 use Rattle.vfs_grammar.specs.Reply.{body_reply, fault_reply, fault_number}

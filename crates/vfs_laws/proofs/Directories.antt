@@ -8,7 +8,7 @@ use Rattle.vfs_grammar.specs.Ask.{ask}
 use Rattle.vfs_grammar.specs.Forms.{Listing, Lists}
 use Rattle.vfs_grammar.specs.Reply.{Echo, reply_to}
 use Rattle.vfs_grammar.specs.Room.{IsReplied, IsPutOpen}
-use Rattle.vfs_grammar.specs.Turn.{Turn, Follows, IsRead, IsTurn, turn_tells}
+use Rattle.vfs_grammar.specs.Turn.{Turn, Follows, IsRead, IsTurn}
 use Rattle.vfs_grammar.specs.declared.limits.Limits.{Limits}
 use Rattle.vfs_grammar.specs.declared.error.Error.{Error}
 
@@ -22,7 +22,7 @@ module _ (limits : Limits) (options after : ℕ) (t : Turn) (echo : Echo) (l : L
     (turn : IsTurn limits options t after) (lists : ask limits options (length t.room) t.request ≡ Lists echo l) where
   pub stops : StopsForACause l echo.unique t
   stops =
-      let f : Follows (turn_tells t) limits options (Lists echo l) after = subst (λ a. Follows (turn_tells t) limits options a after) lists turn in
+      let f : Follows t limits options (Lists echo l) after = subst (λ a. Follows t limits options a after) lists turn in
       record {
         records = f.0;
         answer = f.1;

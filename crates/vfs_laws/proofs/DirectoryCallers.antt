@@ -1,9 +1,9 @@
 -- What small callers cite of directories: what their requests ask, and what came back of them.
 use Rattle.std.proofs.Common.{◌≡◌, ◌≤◌, ◌+◌, ◌/◌, ℕ, Bool, true, false, List, [], ◌∷◌, Option, Some, None, Result, Ok, length, take, refl, ap, ◌∙◌, arith, subst}
-use Rattle.vfs_flags.specs.Opcode.{opcode_of}
+use Rattle.vfs_flags.specs.Numbers.{opcode_of}
 use Rattle.vfs_wire.specs.Fields.{little, number}
 use Rattle.vfs_files.specs.Calls.{Call, Readdir, Answer, Failed}
-use Rattle.vfs_files.specs.Items.{Item}
+use Rattle.vfs_files.specs.Values.{Item}
 use Rattle.vfs_files.specs.Runs.{Event, Called, OpenedDirectory, Taken}
 use Rattle.vfs_grammar.specs.Directories.{takings, IsWhole, listing_reply}
 use Rattle.vfs_grammar.specs.Listing.{IsDirectory}

@@ -4,13 +4,11 @@ use Rattle.std.specs.Int.{bit_at}
 use Rattle.std.proofs.lemmas.List.{take_all, take_at, take-append-le, take-take}
 use Rattle.std.proofs.lemmas.Nat.Bits.{bit_at_and, bit_at_or}
 use Rattle.std.proofs.lemmas.Bool.Decides.{nat_tests}
-use Rattle.vfs_flags.specs.Errors.{enomem, enosys}
+use Rattle.vfs_flags.specs.Numbers.{enomem, enosys, opcode_of}
 use Rattle.vfs_flags.specs.Flags.{supported_fs_options}
-use Rattle.vfs_flags.specs.Opcode.{opcode_of}
 use Rattle.vfs_flags.specs.declared.opcode.Opcode.{Opcode}
 use Rattle.vfs_wire.specs.Fields.{bytes_of, value_of}
-use Rattle.vfs_wire.specs.Headers.{in_header, out_header}
-use Rattle.vfs_wire.specs.Init.{init_out}
+use Rattle.vfs_wire.specs.Records.{in_header, out_header, init_out}
 use Rattle.vfs_wire.specs.declared.headers.InHeader.{InHeader}
 use Rattle.vfs_wire.specs.declared.headers.OutHeader.{OutHeader}
 use Rattle.vfs_files.specs.Calls.{Call, Kind, Init, Destroy, Readdir, Answer, Failed, Options, Data, Iterators, kind_of, read_answer, IsAnswer, IsFault}
@@ -20,12 +18,13 @@ use Rattle.vfs_grammar.specs.Listing.{given_back}
 use Rattle.vfs_grammar.specs.Limits.{max_len}
 use Rattle.vfs_grammar.specs.Records.{size_of}
 use Rattle.vfs_grammar.specs.Ask.{form_of, ask, ask_number}
-use Rattle.vfs_grammar.specs.Forms.{Listing, Ask, Ends, Asks, Lists, WithMemory, refused, Form, NoTail, NameTail, TwoNames, NameAndValue, NameAndExtensions, LinkAndExtensions, Pairs, WithRest, IntoRoom, Directories, Versions, Silent, NotServed, Layout, refused_or, layout_record, layout_size, tail_of, behind, ask_form, memory_use}
+use Rattle.vfs_grammar.specs.Forms.{Listing, Ask, Ends, Asks, Lists, WithMemory, refused, Form, NoTail, NameTail, TwoNames, NameAndValue, NameAndExtensions, LinkAndExtensions, Pairs, WithRest, IntoRoom, Directories, Versions, Silent, NotServed, Layout, refused_or, layout_record, layout_size, tail_of, behind, ask_form}
 use Rattle.vfs_laws.specs.Turns.{TailIsWhole, HasWhole, unique_of, BeginsWithHeader, WantsMemory, WantsMemoryBehind}
 use Rattle.vfs_grammar.specs.Options.{AreAgreed, agreed, options_after}
 use Rattle.vfs_grammar.specs.Reply.{Reply, Echo, echo_of, Refusal, NoReply, Bytes, OpenBehind, fault_reply, body_reply, reply_of, version_out}
 use Rattle.vfs_grammar.specs.Room.{IsReplied, unseen}
-use Rattle.vfs_grammar.specs.Turn.{Turn, Follows, IsRead, IsTurn, IsTurnWithMemory, node_answered, turn_tells, turn_with_memory_tells}
+use Rattle.vfs_grammar.specs.Turn.{Turn, Follows, IsRead, IsTurn, node_answered}
+use Rattle.vfs_grammar.specs.Witnesses.{IsTurnWithMemory, turn_with_memory_tells, FollowsFor}
 use Rattle.vfs_grammar.specs.declared.limits.Limits.{Limits}
 use Rattle.vfs_grammar.specs.declared.error.Error.{Error}
 use Rattle.vfs_grammar.specs.declared.error.Error.TheVariants.{DecodeMessage, EncodeMessage, FlushMessage, InvalidCString2, OutOfMemory}
@@ -59,7 +58,7 @@ ended_so NoReply room outcome left e h o n = h.1
 ended_so (Bytes bytes) room outcome left e h o n = absurd (n (bytes_error bytes room outcome left e h o))
 ended_so (OpenBehind bytes) room outcome left e h o n = absurd (let a = sym h.says ∙ o in cc)
 
-nothing_follows : (limits : Limits) (options : ℕ) (a : Ask) (t : Turn) (after : ℕ) (e : Error) → Follows (turn_tells t) limits options a after → t.outcome ≡ Err e → e ≢ EncodeMessage → (t.events ≡ []) × (t.room_after ≡ t.room) × (after ≡ options)
+nothing_follows : (limits : Limits) (options : ℕ) (a : Ask) (t : Turn) (after : ℕ) (e : Error) → Follows t limits options a after → t.outcome ≡ Err e → e ≢ EncodeMessage → (t.events ≡ []) × (t.room_after ≡ t.room) × (after ≡ options)
 nothing_follows limits options (Ends reply) t after e f o n = (f.0, ended_so reply t.room t.outcome t.room_after e f.1 o n, f.2)
 nothing_follows limits options (Asks echo call) t after e f o n = absurd (n (answer_error limits echo after (kind_of call) f.0 t.room t.outcome t.room_after e f.2 f.3 o))
 nothing_follows limits options (Lists echo l) t after e f o n = absurd (n (answer_error limits echo after (Data l.size) (read_answer f.1 f.0) t.room t.outcome t.room_after e f.3 f.4 o))
@@ -85,10 +84,10 @@ of_error : (error e : Error) (outcome : Result ℕ Error) → outcome ≡ Err er
 of_error error e outcome h o m = let same : error ≡ e = (let a = sym h ∙ o in cc) in subst MayAnswer same m
 
 answers : (limits : Limits) (options after : ℕ) (t : Turn) (e : Error) → t.outcome ≡ Err e
-    → Follows (turn_tells t) limits options (ask limits options (length t.room) t.request) after → MayAnswer e
+    → Follows t limits options (ask limits options (length t.room) t.request) after → MayAnswer e
 unfolding MayAnswer
 answers limits options after t e o =
-    let P : Ask → Type 0 = λ a. Follows (turn_tells t) limits options a after → MayAnswer e in
+    let P : Ask → Type 0 = λ a. Follows t limits options a after → MayAnswer e in
     let u = unique_of t.request in
     let encode : e ≡ EncodeMessage → MayAnswer e = λ h. subst MayAnswer (sym h) tt in
     ask_cases P u
@@ -116,7 +115,7 @@ never_second limits options after t f o = answers limits options after t Invalid
 module _ (limits : Limits) (options after : ℕ) (t : Turn) (lacks : t.outcome ≡ Err OutOfMemory) where
   -- behind what doesn't take memory, it isn't wanted
   Gives : Type 0 → Ask → Type 0
-  Gives Q a = Follows (turn_tells t) limits options a after → Q
+  Gives Q a = Follows t limits options a after → Q
 
   each : (Q : Type 0) (unique : ℕ) → EachCase (Gives Q) unique
   unfolding Gives
@@ -148,10 +147,10 @@ module _ (limits : Limits) (options after : ℕ) (t : Turn) (lacks : t.outcome �
       layout_cases (Gives Q) h.unique all l rest _ (λ r is.
       tail_cases (Gives Q) h.unique all h _ _ _ (λ tail whole f. record { whole_record = is_ok _ r is; whole_tail = is_ok _ tail whole }))
 
-  memory_form : (h : InHeader) (rest : List ℕ) (form : Form) → Gives (HasWhole h rest (memory_use form)) (ask_form h rest form)
+  memory_form : (h : InHeader) (rest : List ℕ) (form : Form) → Gives (HasWhole h rest form) (ask_form h rest form)
   unfolding Gives
   memory_form h rest (NoTail l above call) =
-      let Q = HasWhole h rest (memory_use (NoTail l above call)) in
+      let Q = HasWhole h rest (NoTail l above call) in
       let all = each Q h.unique in
       layout_cases (Gives Q) h.unique all l rest _ (λ r is.
       within_cases (Gives Q) h.unique all (above r) h _ refl (λ no. all.asks _ _ refl))
@@ -161,7 +160,7 @@ module _ (limits : Limits) (options after : ℕ) (t : Turn) (lacks : t.outcome �
   memory_form h rest (NameAndExtensions l options call) = memory_tail h rest l _
   memory_form h rest (LinkAndExtensions l options call) = memory_tail h rest l _
   memory_form h rest (Pairs l above count call) =
-      let Q = HasWhole h rest (memory_use (Pairs l above count call)) in
+      let Q = HasWhole h rest (Pairs l above count call) in
       let all = each Q h.unique in
       layout_cases (Gives Q) h.unique all l rest _ (λ r is.
       within_cases (Gives Q) h.unique all (above r) h _ refl (λ no.
@@ -172,24 +171,24 @@ module _ (limits : Limits) (options after : ℕ) (t : Turn) (lacks : t.outcome �
         whole_pairs = is_ok _ pairs whole;
       })))
   memory_form h rest (WithRest l call) =
-      let Q = HasWhole h rest (memory_use (WithRest l call)) in
+      let Q = HasWhole h rest (WithRest l call) in
       let all = each Q h.unique in
       layout_cases (Gives Q) h.unique all l rest _ (λ r is. all.asks _ _ refl)
   memory_form h rest (IntoRoom l room call) =
-      let Q = HasWhole h rest (memory_use (IntoRoom l room call)) in
+      let Q = HasWhole h rest (IntoRoom l room call) in
       let all = each Q h.unique in
       layout_cases (Gives Q) h.unique all l rest _ (λ r is.
       room_cases (Gives Q) h.unique all room _ (cramped Q) (λ room_for_data. all.asks _ _ refl))
   memory_form h rest (Directories l above room listing) =
-      let Q = HasWhole h rest (memory_use (Directories l above room listing)) in
+      let Q = HasWhole h rest (Directories l above room listing) in
       let all = each Q h.unique in
       layout_cases (Gives Q) h.unique all l rest _ (λ r is.
       within_cases (Gives Q) h.unique all (above r) h _ refl (λ no.
       room_cases (Gives Q) h.unique all room _ (cramped Q) (λ room_for_records. all.lists (echo_of h) (listing r room_for_records) refl)))
   memory_form h rest Versions =
-      versions_cases (Gives (HasWhole h rest (memory_use Versions))) h.unique (each (HasWhole h rest (memory_use Versions)) h.unique) h rest refl
-  memory_form h rest Silent = (each (HasWhole h rest (memory_use Silent)) h.unique).nothing
-  memory_form h rest NotServed = (each (HasWhole h rest (memory_use NotServed)) h.unique).fault (Some enosys)
+      versions_cases (Gives (HasWhole h rest Versions)) h.unique (each (HasWhole h rest Versions) h.unique) h rest refl
+  memory_form h rest Silent = (each (HasWhole h rest Silent) h.unique).nothing
+  memory_form h rest NotServed = (each (HasWhole h rest NotServed) h.unique).fault (Some enosys)
 
   memory_number : (room : ℕ) (opcode : Option Opcode) (h : InHeader) (rest : List ℕ) → Gives (WantsMemoryBehind limits options room opcode h rest) (ask_number limits options room opcode h rest)
   memory_number room None h rest = (each (WantsMemoryBehind limits options room None h rest) h.unique).fault (Some enosys)
@@ -214,7 +213,7 @@ module _ (limits : Limits) (options after : ℕ) (t : Turn) (lacks : t.outcome �
 -- where memory was there for each copy, no request is refused for want of it
 pub enough_memory : (limits : Limits) (options after : ℕ) (t : Turn) → IsTurnWithMemory limits options t after → t.outcome ≢ Err OutOfMemory
 enough_memory limits options after t f o =
-    let P : Ask → Type 0 = λ a. Follows (turn_with_memory_tells t) limits options a after → MayRefuse OutOfMemory in
+    let P : Ask → Type 0 = λ a. FollowsFor (turn_with_memory_tells t) limits options a after → MayRefuse OutOfMemory in
     let u = unique_of t.request in
     ask_cases P u
     (record {
@@ -274,7 +273,7 @@ pub begins : (limits : Limits) (options after n : ℕ) (t : Turn) → IsTurn lim
     → BeginsWithHeader n (unique_of t.request) t.room_after
 begins limits options after n t f o some =
     let u = unique_of t.request in
-    let P : Ask → Type 0 = λ a. Follows (turn_tells t) limits options a after → BeginsWithHeader n u t.room_after in
+    let P : Ask → Type 0 = λ a. Follows t limits options a after → BeginsWithHeader n u t.room_after in
     ask_cases P u
     (record {
       refusal = λ x m f. absurd (let a = sym f.1.0 ∙ o in cc);
@@ -311,7 +310,7 @@ listed_alone l events records result call answer options (inl u) e =
 listed_alone l events records result call answer options (inr o) e = absurd (let a = sym o.events_are ∙ e in cc)
 
 -- the options after the one call of a turn
-pub after_call : (limits : Limits) (options : ℕ) (a : Ask) (t : Turn) (after : ℕ) (call : Call) (answer : Answer) → Follows (turn_tells t) limits options a after → t.events ≡ Called call answer ∷ [] → after ≡ options_after call answer options
+pub after_call : (limits : Limits) (options : ℕ) (a : Ask) (t : Turn) (after : ℕ) (call : Call) (answer : Answer) → Follows t limits options a after → t.events ≡ Called call answer ∷ [] → after ≡ options_after call answer options
 after_call limits options (Ends reply) t after call answer f e = absurd (let a = sym f.0 ∙ e in cc)
 after_call limits options (Asks echo c) t after call answer f e =
     let a = sym f.1 ∙ e in
@@ -340,7 +339,7 @@ call_keeps Destroy answer options events ctx room reply e no_init no_destroy = a
 call_keeps _ answer options events ctx room reply e no_init no_destroy = refl
 
 -- what is asked keeps the options, but for an accepted INIT and a DESTROY
-keeps : (limits : Limits) (options : ℕ) (a : Ask) (t : Turn) (after : ℕ) → Follows (turn_tells t) limits options a after
+keeps : (limits : Limits) (options : ℕ) (a : Ask) (t : Turn) (after : ℕ) → Follows t limits options a after
     → ((offered want : ℕ) → t.events ≢ Called (Init offered) (Options want) ∷ []) → ((answer : Answer) → t.events ≢ Called Destroy answer ∷ [])
     → after ≡ options
 keeps limits options (Ends reply) t after f no_init no_destroy = f.2
@@ -370,7 +369,7 @@ listed_kind l events records result call answer rest (inl u) e a =
 listed_kind l events records result call answer rest (inr o) e a = absurd (let x = sym o.events_are ∙ e in cc)
 
 -- the call that a turn begins with was answered by an answer of its kind
-called_kind : (limits : Limits) (options : ℕ) (a : Ask) (t : Turn) (after : ℕ) (call : Call) (answer : Answer) (rest : List Event) → Follows (turn_tells t) limits options a after
+called_kind : (limits : Limits) (options : ℕ) (a : Ask) (t : Turn) (after : ℕ) (call : Call) (answer : Answer) (rest : List Event) → Follows t limits options a after
     → t.events ≡ Called call answer ∷ rest → IsAnswer (kind_of call) answer
 called_kind limits options (Ends reply) t after call answer rest f e = absurd (let a = sym f.0 ∙ e in cc)
 called_kind limits options (Asks echo c) t after call answer rest f e =

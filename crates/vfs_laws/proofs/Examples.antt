@@ -1,9 +1,9 @@
 -- The definitions held against examples: what these bytes ask, and what these replies are, computed.
 use Rattle.std.proofs.Common.{◌≡◌, ◌+◌, ◌/◌, ◌%◌, ◌^◌, ℕ, Bool, List, [], ◌∷◌, ◌++◌, take, replicate, true, false, Some, None, Ok, Err, refl, pos, negsuc}
-use Rattle.vfs_flags.specs.Opcode.{opcode_of}
+use Rattle.vfs_flags.specs.Numbers.{opcode_of}
 use Rattle.vfs_flags.specs.declared.constants.TheConstants.{GREATEST_MAX_BUFFER}
 use Rattle.vfs_wire.specs.Fields.{number, little, value_of}
-use Rattle.vfs_wire.specs.Attributes.{attr, setattr_in}
+use Rattle.vfs_wire.specs.Records.{attr, setattr_in}
 use Rattle.vfs_wire.specs.declared.attributes.Attr.{Attr}
 use Rattle.vfs_wire.specs.declared.stat.Statvfs64.{Statvfs64}
 use Rattle.vfs_files.specs.declared.entry.Context.{Context}

@@ -4,12 +4,13 @@ use Rattle.std.proofs.lemmas.Bool.Decides.{nat_tests}
 use Rattle.vfs_flags.specs.declared.opcode.Opcode.{Opcode}
 use Rattle.vfs_flags.specs.declared.opcode.Opcode.TheVariants.{BatchForget}
 use Rattle.vfs_wire.specs.Fields.{Table, value_of}
-use Rattle.vfs_wire.specs.Entries.{batch_forget_in}
+use Rattle.vfs_wire.specs.Records.{batch_forget_in}
 use Rattle.vfs_wire.specs.declared.entries.BatchForgetIn.{BatchForgetIn}
 use Rattle.vfs_wire.specs.declared.headers.InHeader.{InHeader}
 use Rattle.vfs_grammar.specs.Ask.{form_of, header_of}
-use Rattle.vfs_grammar.specs.Forms.{Layout, Without, Record, tail_of, pairs_of, MemoryUse, ForNothing, ForTail, ForTailAndContext, ForPairs, memory_use}
-use Rattle.vfs_laws.specs.Turns.{TailIsWhole, PairsAreWhole, HasWhole, opcode_in, behind_header, count_of_pairs, WantsMemory, WantsMemoryBehind}
+use Rattle.vfs_grammar.specs.Forms.{Layout, Without, Record, tail_of, pairs_of, Form, NoTail, NameTail, TwoNames, NameAndValue, NameAndExtensions, LinkAndExtensions, Pairs, WithRest, IntoRoom, Directories, Versions, Silent, NotServed}
+use Rattle.vfs_laws.specs.Turns.{TailIsWhole, PairsAreWhole, HasWhole, behind_header, count_of_pairs, WantsMemory, WantsMemoryBehind}
+use Rattle.vfs_grammar.specs.Books.{opcode_in}
 use Rattle.vfs_grammar.specs.Records.{size_of, record_of}
 use Rattle.vfs_grammar.specs.declared.limits.Limits.{Limits}
 use Rattle.vfs_grammar.specs.declared.error.Error.{Error}
@@ -44,19 +45,28 @@ whole_tail h rest (Record t) w =
     let record_is = record_len t rest w.whole_record in
     omega (arith, tail, record_is, length-drop (size_of t) rest)
 
--- memory for pairs, as BATCH_FORGET wants it
-abbrev IsForPairs : MemoryUse → Type 0
-IsForPairs (ForPairs l above count) = Unit {0}
+-- the form of pairs, which BATCH_FORGET alone has
+abbrev IsForPairs : Form → Type 0
+IsForPairs (Pairs l above count call) = Unit {0}
 IsForPairs _ = ⊥
 
-by_use : (h : InHeader) (rest : List ℕ) (use_of : MemoryUse) → HasWhole h rest use_of → (IsForPairs use_of → ⊥) → h.len ≤ 40 + length rest
-by_use h rest ForNothing w other = absurd w
-by_use h rest (ForTail l) w other = whole_tail h rest l w
-by_use h rest (ForTailAndContext l options) w other = whole_tail h rest l w
-by_use h rest (ForPairs l above count) w other = absurd (other tt)
+by_form : (h : InHeader) (rest : List ℕ) (form : Form) → HasWhole h rest form → (IsForPairs form → ⊥) → h.len ≤ 40 + length rest
+by_form h rest (NoTail l above call) w other = absurd w
+by_form h rest (NameTail l above call) w other = whole_tail h rest l w
+by_form h rest (TwoNames l call) w other = whole_tail h rest l w
+by_form h rest (NameAndValue l size call) w other = whole_tail h rest l w
+by_form h rest (NameAndExtensions l options call) w other = whole_tail h rest l w
+by_form h rest (LinkAndExtensions l options call) w other = whole_tail h rest l w
+by_form h rest (Pairs l above count call) w other = absurd (other tt)
+by_form h rest (WithRest l call) w other = absurd w
+by_form h rest (IntoRoom l space call) w other = absurd w
+by_form h rest (Directories l above space listing) w other = absurd w
+by_form h rest Versions w other = absurd w
+by_form h rest Silent w other = absurd w
+by_form h rest NotServed w other = absurd w
 
 module _ (limits : Limits) (options room : ℕ) where
-  pairs_alone : (h : InHeader) (opcode : Opcode) → opcode ≢ BatchForget → IsForPairs (memory_use (form_of limits options room h opcode)) → ⊥
+  pairs_alone : (h : InHeader) (opcode : Opcode) → opcode ≢ BatchForget → IsForPairs (form_of limits options room h opcode) → ⊥
   pairs_alone h BatchForget other p = other refl
   pairs_alone h _ other p = p
 
@@ -64,7 +74,7 @@ module _ (limits : Limits) (options room : ℕ) where
       → WantsMemoryBehind limits options room opcode h rest → h.len ≤ 40 + length rest
   by_number h rest None other w = absurd w
   by_number h rest (Some opcode) other w =
-      by_use h rest (memory_use (form_of limits options room h opcode)) w (pairs_alone h opcode (λ e. other (ap Some e)))
+      by_form h rest (form_of limits options room h opcode) w (pairs_alone h opcode (λ e. other (ap Some e)))
 
   module _ (request : List ℕ) where
     -- a request for which memory is wanted has as many bytes as its `len` says

@@ -4,18 +4,16 @@ use Rattle.std.proofs.Common.{◌≡◌, ◌<◌, ◌≤◌, ◌-◌, ◌⊎◌,
 use Rattle.std.proofs.lemmas.List.Elements.{All-nil, All-cons, All-head, All-tail}
 use Rattle.std.specs.List.{All, flat_map}
 use Rattle.vfs_wire.specs.Fields.{little, bytes_of}
-use Rattle.vfs_wire.specs.Entries.{entry_out}
+use Rattle.vfs_wire.specs.Records.{entry_out}
 use Rattle.vfs_wire.specs.declared.entries.EntryOut.{EntryOut}
 use Rattle.vfs_files.specs.Calls.{Readdir, Lookup, Forget, Failed, Found, Done}
-use Rattle.vfs_files.specs.Entries.{entry_out_of}
-use Rattle.vfs_files.specs.Items.{Item}
+use Rattle.vfs_files.specs.Values.{entry_out_of, Item}
 use Rattle.vfs_files.specs.Runs.{Event, Called, Taken}
 use Rattle.vfs_files.specs.declared.entry.Context.{Context}
 use Rattle.vfs_files.specs.declared.entry.Entry.{Entry}
 use Rattle.vfs_grammar.specs.Directories.{GoesOn, EndsWhole, EndsFull, IsWhole}
-use Rattle.vfs_grammar.specs.Listing.{Got, Line, Stop, End, At, Gets, IsGot, IsDotEntry, is_dot, dot_out, lookups, lookup_of, line_events, stop_events, given_back, node_got, line_bytes, line_len, bytes_got, len_of, judged, fate, told, answer_at, answer_of, AreWritten, Stops, IsListing, IsDirectory}
+use Rattle.vfs_grammar.specs.Listing.{Got, Line, Stop, End, At, Gets, IsGot, IsDotEntry, is_dot, dot_out, lookups, lookup_of, line_events, stop_events, given_back, node_got, line_bytes, line_len, bytes_got, len_of, answer_at, answer_of, AreWritten, Stops, IsListing, IsDirectory, verdict, Fails, Fits, dirent_bytes, record_bytes, record_len}
 use Rattle.vfs_grammar.proofs.Dirents.{length-record_bytes}
-use Rattle.vfs_grammar.specs.Dirents.{Fits, dirent_bytes, record_bytes, record_len}
 use Rattle.vfs_grammar.specs.Samples.{file_a, root_dot, record_of_a, record_of_dot, entry_of_dot}
 
 -- ---- records
@@ -282,15 +280,15 @@ refused_is plus ctx parent handle size offset room body result (inr o) = let are
 
 module _ (ctx : Context) (parent size room : ℕ) where
   -- what failed was not written
-  not_written : (written : ℕ) (l : Line) (fault : Option ℕ) → l.got ≡ Err fault → fate size room written l ≡ Fits → ⊥
+  not_written : (written : ℕ) (l : Line) (fault : Option ℕ) → l.got ≡ Err fault → (verdict (size - written) (room - written) l.got l.item) ≡ Fits → ⊥
   not_written written l fault got fits =
-      let failed = ap (λ (g : Got). judged (size - written) (room - written) g l.item) got in cc
+      let failed = ap (λ (g : Got). verdict (size - written) (room - written) g l.item) got in cc
 
   -- what is answered where the last item's lookup failed
   answered_by : (total : ℕ) (last : Line) (fault : Option ℕ) → last.got ≡ Err fault
-      → answer_of true size room total (At last) ≡ told true total fault
+      → answer_of true size room total (At last) ≡ answer_at true total (Fails fault)
   answered_by total last fault got =
-      ap (λ (g : Got). answer_at true total (judged (size - total) (room - total) g last.item)) got
+      ap (λ (g : Got). answer_at true total (verdict (size - total) (room - total) g last.item)) got
 
   -- the lookup of the first item failed
   first_by : (lines : List Line) (s : Stop) → AreWritten true size room 0 lines → Stops true size room (sum_by line_len lines) s

@@ -1,21 +1,20 @@
 -- The books of a directory that is read: what its lookups answered is the nodes of its records, and
 -- what it gave back, which only its last event does.
-use Rattle.std.proofs.Common.{◌≡◌, ◌≢◌, ◌≤◌, ◌+◌, ◌==◌, ℕ, nat_eq, nat_lt, Bool, true, false, cond, if◌then◌else◌, List, [], ◌∷◌, ◌++◌, length, drop, map, Option, Some, None, unwrap_or, Result, Ok, Err, sum_by, refl, ap, sym, ◌∙◌, inl, inr, arith, zero-add, append_assoc, append-nil}
+use Rattle.std.proofs.Common.{◌≡◌, ◌≢◌, ◌≤◌, ◌+◌, ◌-◌, ◌==◌, ℕ, nat_eq, nat_lt, Bool, true, false, cond, if◌then◌else◌, List, [], ◌∷◌, ◌++◌, length, drop, map, Option, Some, None, unwrap_or, Result, Ok, Err, sum_by, refl, ap, sym, ◌∙◌, inl, inr, arith, zero-add, append_assoc, append-nil}
 use Rattle.std.proofs.lemmas.Bool.Decides.{nat_tests}
 use Rattle.std.proofs.lemmas.List.Sums.{sum_by-cons}
 use Rattle.std.specs.List.{flat_map}
 use Rattle.vfs_flags.specs.declared.opcode.Opcode.{Opcode}
 use Rattle.vfs_wire.specs.declared.entries.EntryOut.{EntryOut}
 use Rattle.vfs_files.specs.declared.entry.Context.{Context}
-use Rattle.vfs_files.specs.Items.{Item}
+use Rattle.vfs_files.specs.Values.{Item}
 use Rattle.vfs_files.specs.Calls.{Call, Readdir, Data, read_answer}
 use Rattle.vfs_files.specs.Runs.{Event, OpenedDirectory, Taken}
 use Rattle.vfs_laws.specs.Listings.{node_of_line}
-use Rattle.vfs_grammar.specs.Listing.{Got, Line, Stop, End, At, Gets, IsGot, is_dot, lookups, line_events, stop_events, given_back, line_len, line_bytes, AreWritten, Stops, fate, answer_at, answer_of, IsListing, IsUnopened, IsOpened, IsDirectory, node_got}
+use Rattle.vfs_grammar.specs.Listing.{Got, Line, Stop, End, At, Gets, IsGot, is_dot, lookups, line_events, stop_events, given_back, line_len, line_bytes, AreWritten, Stops, answer_at, answer_of, IsListing, IsUnopened, IsOpened, IsDirectory, node_got, verdict, Fails, Verdict, Fits, Full}
 use Rattle.vfs_laws.proofs.Takings.{lines_least}
 use Rattle.vfs_laws.proofs.Nodes.{nodes_in-listing}
 use Rattle.vfs_grammar.specs.Nodes.{nodes_in}
-use Rattle.vfs_grammar.specs.Dirents.{Verdict, Fits, Full, Fails}
 use Rattle.vfs_grammar.specs.Reply.{reply_to, body_of, fault_reply, body_reply}
 use Rattle.vfs_grammar.specs.Room.{IsReplied}
 use Rattle.vfs_grammar.specs.Turn.{Turn}
@@ -191,7 +190,7 @@ verdict_fault written (Fails fault) g e = told_fault (nat_lt 0 written) written 
 
 stop_fault : (size room written : ℕ) (s : Stop) (g : Option ℕ) → Err g ≡ answer_of true size room written s → written ≡ 0
 stop_fault size room written End g e = absurd cc
-stop_fault size room written (At l) g e = verdict_fault written (fate size room written l) g e
+stop_fault size room written (At l) g e = verdict_fault written ((verdict (size - written) (room - written) l.got l.item)) g e
 
 -- READDIRPLUS answers a fault only where no record was written, and READDIR delivers nothing
 fault_delivers : (plus : Bool) (ctx : Context) (parent size room n : ℕ) (events : List Event) (body : List ℕ) (g : Option ℕ)

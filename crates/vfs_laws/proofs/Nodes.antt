@@ -4,20 +4,18 @@ use Rattle.std.proofs.lemmas.Bool.Decides.{nat_tests}
 use Rattle.std.proofs.lemmas.List.{drop_at, drop-drop}
 use Rattle.std.proofs.lemmas.List.Elements.{All-head, All-tail}
 use Rattle.std.specs.List.{All, flat_map}
-use Rattle.vfs_wire.specs.Entries.{entry_out}
+use Rattle.vfs_wire.specs.Records.{entry_out}
 use Rattle.vfs_wire.specs.Fields.{little, number, bytes_of}
 use Rattle.vfs_wire.specs.FieldLaws.{length-little, number-little}
 use Rattle.vfs_files.specs.Answers.{FitsEntry}
-use Rattle.vfs_files.specs.Entries.{entry_out_of}
-use Rattle.vfs_files.specs.Items.{Item}
+use Rattle.vfs_files.specs.Values.{entry_out_of, Item}
 use Rattle.vfs_files.specs.Runs.{Event}
 use Rattle.vfs_files.specs.declared.entry.Context.{Context}
 use Rattle.vfs_files.specs.declared.entry.Entry.{Entry}
-use Rattle.vfs_grammar.specs.Listing.{Got, Line, Gets, FitsGot, is_dot, judged, line_len, line_bytes, bytes_got, AreWritten, IsListing}
+use Rattle.vfs_grammar.specs.Listing.{Got, Line, Gets, FitsGot, is_dot, line_len, line_bytes, bytes_got, AreWritten, IsListing, verdict, Fails, Fits, Full, dirent_len, record_len, record_bytes, dirent_bytes, entry_bytes}
 use Rattle.vfs_grammar.proofs.Listings.{length-lines}
 use Rattle.vfs_grammar.specs.Nodes.{u32_at, u64_at, nodes_of, nodes_in}
 use Rattle.vfs_grammar.proofs.Dirents.{length-record_bytes, length-entry_bytes}
-use Rattle.vfs_grammar.specs.Dirents.{Fits, Full, Fails, verdict, dirent_len, record_len, record_bytes, dirent_bytes, entry_bytes}
 use Rattle.vfs_laws.specs.Listings.{node_of_line, rows_bytes, IsRow}
 use Rattle.vfs_laws.proofs.Takings.{lines_least}
 
@@ -118,7 +116,7 @@ short_by true b c n fault h e = cc
 short_by false b c n fault h e = h refl
 
 -- what fits has a short name
-name_short : (max room : ℕ) (entry : Option Entry) (i : Item) → verdict max room entry i ≡ Fits
+name_short : (max room : ℕ) (entry : Option Entry) (i : Item) → verdict max room (Ok entry) i ≡ Fits
     → length i.name < 2 ^ 32
 name_short max room entry i h =
     short_by (nat_lt (2 ^ 32 - 1) (length i.name)) (nat_lt max (record_len entry i))
@@ -130,7 +128,7 @@ no_entry true i h = h
 no_entry false i h = h
 
 nodes_of-line : (most max room : ℕ) (i : Item) (got : Got) (dot : Bool) (bytes : List ℕ)
-    (nodes : List ℕ) → judged max room got i ≡ Fits → Gets true dot i got → FitsGot got
+    (nodes : List ℕ) → verdict max room got i ≡ Fits → Gets true dot i got → FitsGot got
     → nodes_of most bytes ≡ nodes → nodes_of (suc most) (bytes_got got i ++ bytes) ≡ node_of_line
     (record { item = i; got = got }) ∷ nodes
 nodes_of-line most max room i (Err fault) dot bytes nodes fits got wide rest = cc

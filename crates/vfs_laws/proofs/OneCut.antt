@@ -4,7 +4,7 @@ use Rattle.std.specs.Prelude.{nat_lt}
 use Rattle.std.proofs.lemmas.List.{take-append-drop, drop-drop, length-take}
 use Rattle.vfs_wire.specs.Fields.{value_of}
 use Rattle.vfs_wire.specs.FieldLaws.{value_of-take}
-use Rattle.vfs_wire.specs.Extensions.{ext_header}
+use Rattle.vfs_wire.specs.Records.{ext_header}
 use Rattle.vfs_wire.specs.declared.extensions.ExtHeader.{ExtHeader}
 use Rattle.vfs_grammar.specs.Extensions.{Block, Cut, block_in, block_size, cut_on, cut_of_most, cut_of, error_or}
 use Rattle.vfs_laws.specs.Extensions.{IsBlock, IsCut, error_of, fault_of}

@@ -10,7 +10,7 @@ use Rattle.vfs_grammar.specs.Ask.{ask}
 use Rattle.vfs_grammar.specs.Forms.{Ask, Ends, Asks, Lists, WithMemory}
 use Rattle.vfs_grammar.specs.Reply.{Reply, Refusal, NoReply, Bytes, OpenBehind, Echo, reply_of, fault_reply, body_reply}
 use Rattle.vfs_grammar.specs.Room.{IsReplied, unseen}
-use Rattle.vfs_grammar.specs.Turn.{Turn, Follows, IsTurn, node_answered, turn_tells}
+use Rattle.vfs_grammar.specs.Turn.{Turn, Follows, IsTurn, node_answered}
 use Rattle.vfs_grammar.specs.declared.limits.Limits.{Limits}
 use Rattle.vfs_grammar.specs.declared.error.Error.{Error}
 use Rattle.vfs_grammar.specs.declared.error.Error.TheVariants.{EncodeMessage, OutOfMemory}
@@ -113,7 +113,7 @@ module _ (n : ℕ) (t : Turn) where
 
   -- what a request asks
   ask_books : n ≢ 0 → (limits : Limits) (options : ℕ) (a : Ask) (after : ℕ) → AskFits (opcode_in t.request) t.request a
-      → Follows (turn_tells t) limits options a after → Balances n t
+      → Follows t limits options a after → Balances n t
   ask_books some limits options (Ends reply) after fits f = end_books reply fits f.0 f.1
   ask_books some limits options (Asks echo c) after fits f =
       let s = say limits echo after (kind_of c) f.0 in
@@ -139,7 +139,7 @@ turn_books n limits options t after some turn =
 
 -- ---- in the middle of a request
 
-ask_last : (n : ℕ) → n ≢ 0 → (limits : Limits) (options : ℕ) (a : Ask) (t : Turn) (after : ℕ) → Follows (turn_tells t) limits options a after → LastOnly n t.events
+ask_last : (n : ℕ) → n ≢ 0 → (limits : Limits) (options : ℕ) (a : Ask) (t : Turn) (after : ℕ) → Follows t limits options a after → LastOnly n t.events
 ask_last n some limits options (Ends reply) t after f = no_event n t.events f.0
 ask_last n some limits options (Asks echo c) t after f =
     call_last n echo.ctx (kind_of c) c f.0 (length t.room) (reply_of limits echo after (kind_of c) f.0) t.events (are_forgets c) f.1

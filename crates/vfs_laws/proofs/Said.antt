@@ -7,15 +7,8 @@ use Rattle.std.specs.declared.time.Duration.{Duration}
 use Rattle.vfs_flags.specs.Flags.{supported_fs_options}
 use Rattle.vfs_wire.specs.Fields.{Table, Fit, little, number, row, numbers_at, bytes_of, value_of}
 use Rattle.vfs_wire.specs.FieldLaws.{length-little, number-little, length-bytes_of, value_of-bytes_of-then}
-use Rattle.vfs_wire.specs.Attributes.{attr_out}
-use Rattle.vfs_wire.specs.Entries.{entry_out}
-use Rattle.vfs_wire_more.specs.Files.{open_out, write_out}
-use Rattle.vfs_wire.specs.Headers.{out_header}
-use Rattle.vfs_wire.specs.Init.{init_out}
-use Rattle.vfs_wire.specs.Listings.{kstatfs}
-use Rattle.vfs_wire_more.specs.Ranges.{lseek_out}
-use Rattle.vfs_wire.specs.Stat.{kstatfs_of}
-use Rattle.vfs_wire_more.specs.Xattrs.{getxattr_out}
+use Rattle.vfs_wire.specs.Records.{attr_out, entry_out, out_header, init_out, kstatfs, kstatfs_of}
+use Rattle.vfs_wire_more.specs.Records.{open_out, write_out, lseek_out, getxattr_out}
 use Rattle.vfs_wire.specs.declared.attributes.Attr.{Attr}
 use Rattle.vfs_wire_more.specs.declared.files.WriteOut.{WriteOut}
 use Rattle.vfs_wire.specs.declared.headers.OutHeader.{OutHeader}
@@ -24,7 +17,7 @@ use Rattle.vfs_wire.specs.declared.stat.Statvfs64.{Statvfs64}
 use Rattle.vfs_wire_more.specs.declared.xattrs.GetxattrOut.{GetxattrOut}
 use Rattle.vfs_files.specs.Answers.{Kind, Agreements, Data, Entries, TimedAttributes, Openings, Creations, Capacities, Texts, TextsOrCounts, Offsets, Writes, IsAnswer, Answer, Failed, Options, Found, Put, Attributes, Opened, Created, Statistics, Text, Count, Offset, Wrote, read_answer}
 use Rattle.vfs_files.specs.Calls.{Call, Init, kind_of}
-use Rattle.vfs_files.specs.Entries.{entry_out_of}
+use Rattle.vfs_files.specs.Values.{entry_out_of}
 use Rattle.vfs_files.specs.Runs.{Event, Called}
 use Rattle.vfs_files.specs.declared.entry.Entry.{Entry}
 use Rattle.vfs_grammar.specs.Ask.{ask}
@@ -34,7 +27,7 @@ use Rattle.vfs_grammar.specs.Limits.{AreLimits, max_pages}
 use Rattle.vfs_grammar.specs.Options.{agreed, options_after}
 use Rattle.vfs_grammar.specs.Reply.{Bytes, OpenBehind, Echo, reply_of, body_reply, init_out_of, attr_out_of, open_out_of, getxattr_out_of, write_out_of}
 use Rattle.vfs_grammar.specs.Room.{IsReplied}
-use Rattle.vfs_grammar.specs.Turn.{Turn, Follows, IsRead, turn_tells}
+use Rattle.vfs_grammar.specs.Turn.{Turn, Follows, IsRead}
 use Rattle.vfs_grammar.specs.declared.limits.Limits.{Limits}
 use Rattle.vfs_grammar.specs.declared.error.Error.{Error}
 use Rattle.vfs_grammar.specs.declared.error.Error.TheVariants.{EncodeMessage}
@@ -83,7 +76,7 @@ listed_says limits after echo l t records result call answer (inl u) e a p =
 listed_says limits after echo l t records result call answer (inr o) e a p = absurd (let x = sym o.events_are ∙ e in cc)
 
 says : (limits : Limits) (options : ℕ) (a : Ask) (t : Turn) (after : ℕ) (call : Call) (answer : Answer)
-    → Follows (turn_tells t) limits options a after → t.events ≡ Called call answer ∷ [] → Says limits after answer t
+    → Follows t limits options a after → t.events ≡ Called call answer ∷ [] → Says limits after answer t
 says limits options (Ends reply) t after call answer f e = absurd (let a = sym f.0 ∙ e in cc)
 says limits options (Asks echo c) t after call answer f e =
     let a = sym f.1 ∙ e in

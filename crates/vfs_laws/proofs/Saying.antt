@@ -2,16 +2,15 @@
 use Rattle.std.proofs.Common.{◌≡◌, ◌<◌, ◌^◌, ℕ, Bool, true, false, List, [], ◌∷◌, ◌++◌, Option, Some, None, refl, ap, sym, arith}
 use Rattle.vfs_wire.specs.Fields.{little, number, bytes_of}
 use Rattle.vfs_wire.specs.FieldLaws.{number-little}
-use Rattle.vfs_wire.specs.Entries.{entry_out}
-use Rattle.vfs_wire_more.specs.Files.{open_out}
-use Rattle.vfs_wire.specs.Init.{init_out}
+use Rattle.vfs_wire.specs.Records.{entry_out, init_out}
+use Rattle.vfs_wire_more.specs.Records.{open_out}
 use Rattle.vfs_files.specs.declared.entry.Entry.{Entry}
-use Rattle.vfs_files.specs.Entries.{entry_out_of}
+use Rattle.vfs_files.specs.Values.{entry_out_of}
 use Rattle.vfs_files.specs.Answers.{Kind, Quiet, Untold, Agreements, Entries, Creations, Answer, Done, Failed, Found, Created, IsAnswer, IsFault, FitsEntry}
 use Rattle.vfs_files.specs.Calls.{Call, Lookup, Symlink, Mknod, Mkdir, Link, Create, Forget, BatchForget, Destroy, kind_of}
 use Rattle.vfs_grammar.specs.Reply.{Echo, body_of, init_out_of, fault_number, open_out_of}
 use Rattle.vfs_grammar.specs.declared.limits.Limits.{Limits}
-use Rattle.vfs_grammar.specs.Books.{node_of, answered_nodes, forgets_of}
+use Rattle.vfs_grammar.specs.Books.{entry_node, answered_nodes, forgets_of}
 
 -- a fault; a body behind a header; or nothing
 pub data Saying : Type 0 where
@@ -47,7 +46,7 @@ node_first false body = []
 
 -- the nodes of an answer, where it has an entry
 entry_nodes : (entry : Bool) → Answer → List ℕ
-entry_nodes true answer = node_of answer
+entry_nodes true answer = entry_node answer
 entry_nodes false answer = []
 
 answered_nodes-by : (call : Call) (answer : Answer)
@@ -87,7 +86,7 @@ entry_first-then e rest fits = number-little 8 e.inode _ fits.0
 
 entry_fits : (limits : Limits) (echo : Echo) (options : ℕ) (kind : Kind) (answer : Answer)
     → HasEntry kind → IsAnswer kind answer
-    → NodesFit (node_of answer) true (say limits echo options kind answer)
+    → NodesFit (entry_node answer) true (say limits echo options kind answer)
 unfolding HasEntry
 entry_fits limits echo options Entries (Found e) has fits =
     ap (λ (k : ℕ). k ∷ []) (sym (entry_first e fits))

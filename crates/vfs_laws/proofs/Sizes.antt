@@ -2,24 +2,25 @@
 use Rattle.std.proofs.Common.{◌≡◌, ◌≤◌, ◌<◌, ◌+◌, ◌-◌, ◌*◌, ℕ, Bool, true, false, List, length, drop, nat_le, nat_lt, if◌then◌else◌, Option, Some, Ok, Err, refl, ap, sym, ◌∙◌, arith, length-drop}
 use Rattle.std.proofs.lemmas.Bool.Decides.{nat_tests}
 use Rattle.std.proofs.lemmas.List.{drop-drop}
-use Rattle.vfs_flags.specs.Errors.{enomem}
+use Rattle.vfs_flags.specs.Numbers.{enomem}
 use Rattle.vfs_flags.specs.declared.opcode.Opcode.{Opcode}
 use Rattle.vfs_flags.specs.declared.opcode.Opcode.TheVariants.{Read, Readdir, Readdirplus, BatchForget}
 use Rattle.vfs_wire.specs.Fields.{value_of}
-use Rattle.vfs_wire.specs.Entries.{batch_forget_in}
-use Rattle.vfs_wire_more.specs.Files.{read_in}
+use Rattle.vfs_wire.specs.Records.{batch_forget_in}
+use Rattle.vfs_wire_more.specs.Records.{read_in}
 use Rattle.vfs_wire.specs.declared.headers.InHeader.{InHeader}
 use Rattle.vfs_files.specs.Calls as call
 use Rattle.vfs_files.specs.Calls.{Answer, Failed, Put, Data, IsAnswer, read_answer}
-use Rattle.vfs_files.specs.Entries.{context_of}
+use Rattle.vfs_files.specs.Values.{context_of}
 use Rattle.vfs_files.specs.declared.entry.Context.{Context}
 use Rattle.vfs_grammar.specs.Ask.{ask, ask_number, lists_too_much, listing_of, header_of}
 use Rattle.vfs_grammar.specs.Forms.{Ask, Asks, Lists, WithMemory, faulted, refused, refused_or, within, pairs_in, Record, Directories, ask_form}
-use Rattle.vfs_laws.specs.Turns.{opcode_in, behind_header, count_of_pairs, CarriesData, size_asked}
+use Rattle.vfs_grammar.specs.Books.{opcode_in}
+use Rattle.vfs_laws.specs.Turns.{behind_header, count_of_pairs, CarriesData, size_asked}
 use Rattle.vfs_grammar.specs.Limits.{max_len}
 use Rattle.vfs_grammar.specs.Reply.{Echo, echo_of, fault_reply, body_reply, reply_to}
 use Rattle.vfs_grammar.specs.Room.{IsReplied}
-use Rattle.vfs_grammar.specs.Turn.{Turn, Follows, IsTurn, turn_tells}
+use Rattle.vfs_grammar.specs.Turn.{Turn, Follows, IsTurn}
 use Rattle.vfs_grammar.specs.declared.limits.Limits.{Limits}
 use Rattle.vfs_grammar.specs.declared.error.Error.{Error}
 use Rattle.vfs_grammar.specs.declared.error.Error.TheVariants.{DecodeMessage, EncodeMessage}
@@ -101,7 +102,7 @@ module _ (limits : Limits) (options after n : ℕ) (t : Turn) (answered : t.outc
 
   -- where this is asked, no more is answered than a header and so many bytes
   Keeps : Ask → Type 0
-  Keeps a = Follows (turn_tells t) limits options a after → n ≤ 16 + size
+  Keeps a = Follows t limits options a after → n ≤ 16 + size
 
   refusal_keeps : (e : Error) → Keeps (refused e)
   unfolding Keeps

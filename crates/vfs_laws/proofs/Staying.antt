@@ -2,14 +2,14 @@
 use Rattle.std.proofs.Common.{◌≡◌, ◌≤◌, ◌<◌, ℕ, Bool, true, false, List, ◌++◌, length, take, drop, nat_le, if◌then◌else◌, Option, Result, Ok, Err, refl, ap, sym, ◌∙◌, inl, inr, arith, length-append, length-drop, length-take}
 use Rattle.std.proofs.lemmas.Bool.Decides.{nat_tests}
 use Rattle.vfs_wire.specs.Fields.{bytes_of}
-use Rattle.vfs_wire.specs.Init.{init_out}
+use Rattle.vfs_wire.specs.Records.{init_out}
 use Rattle.vfs_files.specs.Calls.{Kind, Answer, IsAnswer, Data, kind_of, read_answer}
 use Rattle.vfs_grammar.specs.Ask.{ask}
 use Rattle.vfs_grammar.specs.Forms.{Ask, Ends, Asks, Lists, WithMemory}
 use Rattle.vfs_laws.specs.Turns.{unique_of}
 use Rattle.vfs_grammar.specs.Reply.{Reply, Refusal, NoReply, Bytes, OpenBehind, Echo, reply_of, fault_reply, body_reply, version_out}
 use Rattle.vfs_grammar.specs.Room.{IsReplied}
-use Rattle.vfs_grammar.specs.Turn.{Turn, Follows, IsTurn, turn_tells}
+use Rattle.vfs_grammar.specs.Turn.{Turn, Follows, IsTurn}
 use Rattle.vfs_grammar.specs.declared.limits.Limits.{Limits}
 use Rattle.vfs_grammar.specs.declared.error.Error.{Error}
 use Rattle.vfs_grammar.specs.declared.error.Error.TheVariants.{EncodeMessage, OutOfMemory}
@@ -33,7 +33,7 @@ replied_length NoReply room outcome room_after h = ap length h.1
 replied_length (Bytes reply) room outcome room_after h = ap length h.leaves ∙ put_length (nat_le (length reply) (length room)) reply room refl
 replied_length (OpenBehind reply) room outcome room_after h = h.same_length
 
-length_follows : (limits : Limits) (options : ℕ) (a : Ask) (t : Turn) (after : ℕ) → Follows (turn_tells t) limits options a after → length t.room_after ≡ length t.room
+length_follows : (limits : Limits) (options : ℕ) (a : Ask) (t : Turn) (after : ℕ) → Follows t limits options a after → length t.room_after ≡ length t.room
 length_follows limits options (Ends reply) t after f = replied_length reply t.room t.outcome t.room_after f.1
 length_follows limits options (Asks echo call) t after f =
     replied_length (reply_of limits echo after (kind_of call) f.0) t.room t.outcome t.room_after f.3
@@ -77,7 +77,7 @@ answer_silent limits echo options kind answer room outcome room_after a h o =
 
 pub same_room : (limits : Limits) (options after : ℕ) (t : Turn) → IsTurn limits options t after → t.outcome ≡ Ok 0 → t.room_after ≡ t.room
 same_room limits options after t f o =
-    let P : Ask → Type 0 = λ a. Follows (turn_tells t) limits options a after → t.room_after ≡ t.room in
+    let P : Ask → Type 0 = λ a. Follows t limits options a after → t.room_after ≡ t.room in
     let u = unique_of t.request in
     ask_cases P u
     (record {

@@ -3,23 +3,21 @@
 -- bytes say.
 use Rattle.std.proofs.Common.{◌≡◌, ◌<◌, ◌*◌, ◌^◌, ℕ, Bool, true, false, if◌then◌else◌, nat_lt, List, [], ◌∷◌, length, drop, Option, Some, None, Result, Ok, Err, refl, ap, ◌∙◌, arith}
 use Rattle.std.proofs.lemmas.List.{drop-drop}
-use Rattle.vfs_flags.specs.Errors.{enomem, enosys, eproto}
+use Rattle.vfs_flags.specs.Numbers.{enomem, enosys, eproto}
 use Rattle.vfs_flags.specs.declared.constants.TheConstants.{KERNEL_VERSION, MIN_KERNEL_MINOR_VERSION}
 use Rattle.vfs_flags.specs.declared.opcode.Opcode.{Opcode}
 use Rattle.vfs_flags.specs.declared.opcode.Opcode.TheVariants.{Forget, BatchForget, Init, Interrupt, Readdir, Readdirplus, SetupMapping, RemoveMapping}
 use Rattle.vfs_wire.specs.Fields.{Table, bytes_of, value_of}
-use Rattle.vfs_wire.specs.Headers.{in_header}
-use Rattle.vfs_wire.specs.Init.{init_in_compat, init_out}
-use Rattle.vfs_wire.specs.Entries.{forget_in, forget_one, batch_forget_in}
+use Rattle.vfs_wire.specs.Records.{in_header, init_in_compat, init_out, forget_in, forget_one, batch_forget_in}
 use Rattle.vfs_wire.specs.declared.entries.BatchForgetIn.{BatchForgetIn}
 use Rattle.vfs_wire.specs.declared.entries.ForgetIn.{ForgetIn}
 use Rattle.vfs_wire.specs.declared.headers.InHeader.{InHeader}
 use Rattle.vfs_wire.specs.declared.init.InitInCompat.{InitInCompat}
 use Rattle.vfs_files.specs.Calls.{Call}
 use Rattle.vfs_files.specs.Calls as call
-use Rattle.vfs_files.specs.Extensions.{ExtensionValues}
+use Rattle.vfs_files.specs.Values.{ExtensionValues}
 use Rattle.vfs_grammar.specs.Ask.{form_of, ask_number, ask_header, ask}
-use Rattle.vfs_grammar.specs.Forms.{Ask, Ends, Asks, Lists, WithMemory, refused, faulted, silent, refused_or, within, tail_of, name_in, names_in, value_in, extended_in, link_in_tail, pairs_of, pairs_in, space_behind_header, second_flags, ask_version, Layout, layout_size, layout_record, behind, Form, NoTail, NameTail, TwoNames, NameAndValue, NameAndExtensions, LinkAndExtensions, Pairs, WithRest, IntoRoom, Directories, Versions, Silent, NotServed, ask_form}
+use Rattle.vfs_grammar.specs.Forms.{Ask, Ends, Asks, Lists, WithMemory, refused, faulted, silent, refused_or, within, tail_of, name_in, two_names_in, value_in, extended_in, link_in_tail, pairs_of, pairs_in, space_behind_header, second_flags, ask_version, Layout, layout_size, layout_record, behind, Form, NoTail, NameTail, TwoNames, NameAndValue, NameAndExtensions, LinkAndExtensions, Pairs, WithRest, IntoRoom, Directories, Versions, Silent, NotServed, ask_form}
 use Rattle.vfs_grammar.specs.Limits.{max_len}
 use Rattle.vfs_grammar.specs.Records.{size_of, record_of}
 use Rattle.vfs_grammar.specs.Reply.{Reply, Refusal, NoReply, Bytes, OpenBehind, Echo, echo_of, body_reply, version_out}
@@ -100,7 +98,7 @@ module _ (P : Ask → Type 0) (h : InHeader) (rest : List ℕ) where
     form_shown (NameTail layout above call) s =
         tail_shown layout _ (λ r tail is. limit_shown (above r) _ (part_shown (name_in tail) _ (λ name found. s (r, name) is)))
     form_shown (TwoNames layout call) s =
-        tail_shown layout _ (λ r tail is. part_shown (names_in tail) _ (λ names found. s (r, names.0, names.1) is))
+        tail_shown layout _ (λ r tail is. part_shown (two_names_in tail) _ (λ names found. s (r, names.0, names.1) is))
     form_shown (NameAndValue layout size call) s =
         tail_shown layout _ (λ r tail is. part_shown (value_in (size r) tail) _ (λ part found. s (r, part.0, part.1) is))
     form_shown (NameAndExtensions layout options call) s =

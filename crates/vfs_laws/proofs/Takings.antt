@@ -7,18 +7,17 @@ use Rattle.std.proofs.lemmas.List.Elements.{All-nil, All-cons, All-head, All-tai
 use Rattle.std.proofs.lemmas.List.Sums.{sum_by-cons}
 use Rattle.std.specs.List.{All, flat_map}
 use Rattle.vfs_files.specs.Calls.{Lookup, Failed}
-use Rattle.vfs_files.specs.Items.{Item}
+use Rattle.vfs_files.specs.Values.{Item}
 use Rattle.vfs_files.specs.Runs.{Event, Called, OpenedDirectory, Taken}
 use Rattle.vfs_files.specs.declared.entry.Context.{Context}
 use Rattle.vfs_files.specs.declared.entry.Entry.{Entry}
 use Rattle.vfs_grammar.specs.Directories.{takings, least_record, GoesOn, IsWhole}
-use Rattle.vfs_grammar.specs.Dirents.{Fits, Full, Fails, verdict, record_len}
-use Rattle.vfs_grammar.specs.Listing.{Got, Line, Stop, End, At, Gets, is_dot, lookup_of, lookups, line_events, given_back, node_got, stop_events, Stops, judged, len_of, line_len, line_bytes, AreWritten, answer_at, answer_of, IsListing, IsGot}
+use Rattle.vfs_grammar.specs.Listing.{Fits, Full, Fails, record_len, Got, Line, Stop, End, At, Gets, is_dot, lookup_of, lookups, line_events, given_back, node_got, stop_events, Stops, len_of, line_len, line_bytes, AreWritten, answer_at, answer_of, IsListing, IsGot, verdict}
 use Rattle.vfs_grammar.proofs.Listings.{length-lines, lines_within}
 
 -- ---- how many are taken
 
-least_by : (plus dot : Bool) (max room : ℕ) (got : Got) (i : Item) → judged max room got i ≡ Fits
+least_by : (plus dot : Bool) (max room : ℕ) (got : Got) (i : Item) → verdict max room got i ≡ Fits
     → Gets plus dot i got → least_record plus ≤ len_of got i
 least_by plus dot max room (Err fault) i h g = cc
 least_by false dot max room (Ok entry) i h g = omega arith
@@ -158,8 +157,8 @@ full_by false false true max room len short above below past roomy wrong =
 full_by false false false max room len short above below past roomy wrong = absurd (wrong refl)
 
 verdict_full : (max room : ℕ) (entry : Option Entry) (i : Item) → length i.name < 2 ^ 32
-    → max ≤ room → verdict max room entry i ≢ Fits
-    → (verdict max room entry i ≡ Full) × (max < record_len entry i)
+    → max ≤ room → verdict max room (Ok entry) i ≢ Fits
+    → (verdict max room (Ok entry) i ≡ Full) × (max < record_len entry i)
 verdict_full max room entry i short roomy wrong =
     full_by (nat_lt (2 ^ 32 - 1) (length i.name)) (nat_lt max (record_len entry i))
     (nat_lt room (record_len entry i)) max room (record_len entry i)
@@ -169,8 +168,8 @@ verdict_full max room entry i short roomy wrong =
 stop_full : (plus : Bool) (ctx : Context) (parent max room : ℕ) (i : Item) (got : Got)
     → Gets plus (is_dot i.name) i got
     → All GoesOn (stop_events ctx parent plus (At (record { item = i; got = got }))) → max ≤ room
-    → judged max room got i ≢ Fits
-    → (judged max room got i ≡ Full) × (max < len_of got i)
+    → verdict max room got i ≢ Fits
+    → (verdict max room got i ≡ Full) × (max < len_of got i)
 stop_full plus ctx parent max room i (Ok entry) g h roomy wrong =
     verdict_full max room entry i (All-head GoesOn (Taken (Some i)) _ h) roomy wrong
 stop_full plus ctx parent max room i (Err fault) g h roomy wrong =

@@ -10,13 +10,14 @@ use Rattle.std.proofs.lemmas.List.Sums.{position_or_len_is}
 use Rattle.vfs_flags.specs.Flags.{security_ctx, create_supp_group}
 use Rattle.vfs_wire.specs.Fields.{Table, Fit, bytes_of, lone_number}
 use Rattle.vfs_wire.specs.FieldLaws.{value_of-bytes_of-then, length-bytes_of}
-use Rattle.vfs_wire.specs.Extensions.{secctx, supp_groups}
+use Rattle.vfs_wire.specs.Records.{secctx, supp_groups}
 use Rattle.vfs_wire.specs.declared.extensions.Secctx.{Secctx}
 use Rattle.vfs_wire.specs.declared.extensions.SuppGroups.{SuppGroups}
-use Rattle.vfs_files.specs.Names.{first_name, cut_at}
-use Rattle.vfs_files.specs.Extensions.{ExtensionValues}
+use Rattle.vfs_files.specs.Values.{first_name, ExtensionValues}
+use Rattle.vfs_files.specs.Places.{cut_at}
 use Rattle.vfs_grammar.specs.Records.{size_of, record_of}
-use Rattle.vfs_grammar.specs.Extensions.{Block, Received, error_or, value_behind, name_and_value, context_in, security_context_in, group_in, has_option, reads_extensions, nothing_received, with_context, with_group, receive, cut_of, extensions_of, extensions_in, extensions_after}
+use Rattle.vfs_grammar.specs.Extensions.{Block, Received, error_or, name_and_value, context_in, security_context_in, group_in, has_option, reads_extensions, nothing_received, with_context, with_group, receive, cut_of, extensions_of, extensions_in, extensions_after}
+use Rattle.vfs_grammar.specs.FormParts.{value_behind}
 use Rattle.vfs_laws.specs.Extensions.{context_bytes, context_block, group_bytes, group_block, blocks_of, FitsContext, MayFitContext, MayFitGroup, FitExtensions, IsBlock}
 use Rattle.vfs_grammar.specs.declared.error.Error.{Error}
 use Rattle.vfs_grammar.specs.declared.error.Error.TheVariants.{DecodeMessage}

@@ -1,20 +1,21 @@
 -- The words of the laws of turns.
 use Rattle.std.specs.Prelude.{◌≡◌, ◌<◌, ◌^◌, ℕ, ℤ, List, take, Bool, false, Ok, IsOk, ◌≤◌, [], ◌∷◌, length, drop, Option, Some, None}
-use Rattle.vfs_flags.specs.Opcode.{opcode_of}
+use Rattle.vfs_flags.specs.Numbers.{opcode_of}
 use Rattle.vfs_flags.specs.declared.opcode.Opcode.{Opcode}
 use Rattle.vfs_wire.specs.Fields.{bytes_of, value_of}
-use Rattle.vfs_wire.specs.Headers.{out_header, in_header}
+use Rattle.vfs_wire.specs.Records.{out_header, in_header, batch_forget_in}
 use Rattle.vfs_wire.specs.declared.headers.InHeader.{InHeader}
-use Rattle.vfs_wire.specs.Entries.{batch_forget_in}
-use Rattle.vfs_wire_more.specs.Files.{read_in}
+use Rattle.vfs_wire_more.specs.Records.{read_in}
 use Rattle.vfs_files.specs.Calls.{Call, Readdir, Answer}
 use Rattle.vfs_files.specs.Runs.{Called}
 use Rattle.vfs_grammar.specs.Records.{size_of}
 use Rattle.vfs_grammar.specs.Ask.{header_of, form_of}
-use Rattle.vfs_grammar.specs.Forms.{tail_of, pairs_in, Layout, layout_size, layout_record, behind, MemoryUse, ForNothing, ForTail, ForTailAndContext, ForPairs, memory_use}
+use Rattle.vfs_grammar.specs.Forms.{tail_of, pairs_in, Layout, layout_size, layout_record, behind, Form, by_memory}
+use Rattle.vfs_grammar.specs.Books.{opcode_in}
 use Rattle.vfs_grammar.specs.Limits.{max_len}
 use Rattle.vfs_grammar.specs.Reply.{Reply, Bytes}
-use Rattle.vfs_grammar.specs.Turn.{Witness, Turn, IsTurn, turn_tells}
+use Rattle.vfs_grammar.specs.Witnesses.{Witness, turn_tells}
+use Rattle.vfs_grammar.specs.Turn.{Turn, IsTurn}
 use Rattle.vfs_grammar.specs.declared.limits.Limits.{Limits}
 use Rattle.vfs_flags.specs.declared.opcode.Opcode.TheVariants as opcode
 
@@ -45,18 +46,18 @@ pub record PairsAreWhole {R : Type 0} (rest : List ℕ) (layout : Layout R) (abo
   pub in_limit : above counts ≡ false
   pub whole_pairs : IsOk (pairs_in (count counts) (behind layout rest))
 
--- a request has whole what memory may be wanted for: its tail, or its pairs
-abbrev pub HasWhole : InHeader → (rest : List ℕ) → MemoryUse → Type 0
-HasWhole h rest ForNothing = ⊥
-HasWhole h rest (ForTail layout) = TailIsWhole h rest layout
-HasWhole h rest (ForTailAndContext layout options) = TailIsWhole h rest layout
-HasWhole h rest (ForPairs layout above count) = PairsAreWhole rest layout above count
+-- a request of this form has whole what memory may be wanted for: its tail, or its pairs
+abbrev pub HasWhole : InHeader → (rest : List ℕ) → Form → Type 0
+HasWhole h rest form =
+    by_memory ⊥ (λ R layout. TailIsWhole h rest layout)
+    (λ R layout options. TailIsWhole h rest layout)
+    (λ R layout above count. PairsAreWhole rest layout above count) form
 
 -- memory is wanted behind this header, by the form of its opcode
 abbrev pub WantsMemoryBehind : Limits → (options space : ℕ) → Option Opcode → InHeader → List ℕ → Type 0
 WantsMemoryBehind limits options space None h rest = ⊥
 WantsMemoryBehind limits options space (Some opcode) h rest =
-    HasWhole h rest (memory_use (form_of limits options space h opcode))
+    HasWhole h rest (form_of limits options space h opcode)
 
 -- a request for which memory may be wanted: its header is whole, its `len` in the limit, and it
 -- is of a form with a tail or pairs, which are whole
@@ -81,10 +82,6 @@ CarriesData (Some opcode.Read) = Unit {0}
 CarriesData (Some opcode.Readdir) = Unit {0}
 CarriesData (Some opcode.Readdirplus) = Unit {0}
 CarriesData _ = ⊥
-
--- the opcode that the header of a request says
-abbrev pub opcode_in : (request : List ℕ) → Option Opcode
-opcode_in request = opcode_of (header_of request).opcode
 
 -- how many bytes of data such a request asks for: the `size` of its record
 abbrev pub size_asked : (request : List ℕ) → ℕ

@@ -3,7 +3,7 @@
 
 ghost use Rattle.std.specs.Prelude.{◌≡◌, ◌<◌, ◌^◌, ◌++◌, ℕ, List, length, IsTrue, IsFalse, is_some, Ok, Some, None};
 ghost use Rattle.vfs_flags.specs.Flags.{security_ctx, create_supp_group};
-ghost use Rattle.vfs_files.specs.Extensions.{ExtensionValues};
+ghost use Rattle.vfs_files.specs.Values.{ExtensionValues};
 ghost use Rattle.vfs_grammar.specs.Extensions.{Block, cut_of, has_option, extensions_after};
 ghost use Rattle.vfs_laws.specs.Extensions.{blocks_of, group_block, FitExtensions, IsCut, fault_of};
 

@@ -3,29 +3,25 @@
 ghost use Rattle.std.specs.Prelude.{◌≡◌, ◌≢◌, ◌<◌, ◌≤◌, ◌+◌, ◌*◌, ◌-◌, ◌/◌, ◌^◌, ◌⊎◌, ℕ, length, take, drop, List, [], ◌∷◌, Option, Ok, Err, Some};
 ghost use Rattle.std.specs.declared.time.Duration.{Duration};
 ghost use Rattle.vfs_flags.specs.declared.opcode.Opcode.{Opcode};
-ghost use Rattle.vfs_wire.specs.Attributes.{attr_out};
-ghost use Rattle.vfs_wire.specs.Entries.{entry_out};
+ghost use Rattle.vfs_wire.specs.Records.{attr_out, entry_out, init_out, kstatfs, kstatfs_of};
 ghost use Rattle.vfs_wire.specs.Fields.{value_of};
-ghost use Rattle.vfs_wire_more.specs.Files.{open_out, write_out};
-ghost use Rattle.vfs_wire.specs.Init.{init_out};
-ghost use Rattle.vfs_wire.specs.Listings.{kstatfs};
-ghost use Rattle.vfs_wire_more.specs.Ranges.{lseek_out};
-ghost use Rattle.vfs_wire.specs.Stat.{kstatfs_of};
-ghost use Rattle.vfs_wire_more.specs.Xattrs.{getxattr_out};
+ghost use Rattle.vfs_wire_more.specs.Records.{open_out, write_out, lseek_out, getxattr_out};
 ghost use Rattle.vfs_wire.specs.declared.attributes.Attr.{Attr};
 ghost use Rattle.vfs_wire.specs.declared.stat.Statvfs64.{Statvfs64};
 ghost use Rattle.vfs_files.specs.Calls.{Found, Attributes, Opened, Created, Statistics, Count, Offset, Wrote, Text, Put, Call, Init, Destroy, BatchForget, Answer, Options, kind_of, IsAnswer};
-ghost use Rattle.vfs_files.specs.Entries.{entry_out_of, context_of};
+ghost use Rattle.vfs_files.specs.Values.{entry_out_of, context_of};
 ghost use Rattle.vfs_files.specs.Runs.{Event, Called};
 ghost use Rattle.vfs_files.specs.declared.entry.Entry.{Entry};
 ghost use Rattle.vfs_grammar.specs.Ask.{ask, ask_number, header_of};
-ghost use Rattle.vfs_grammar.specs.Forms.{Listing, Lists, Asks, WithMemory, faulted, refused_or, pairs_in};
-ghost use Rattle.vfs_laws.specs.Turns.{IsAnswered, body_in, unique_of, BeginsWithHeader, WantsMemory, behind_header, opcode_in, count_of_pairs, CarriesData, size_asked, cut_turn_tells, LacksRoomForHeader};
+ghost use Rattle.vfs_grammar.specs.Forms.{Ask, Listing, Lists, Asks, WithMemory, faulted, refused_or, pairs_in};
+ghost use Rattle.vfs_laws.specs.Turns.{IsAnswered, body_in, unique_of, BeginsWithHeader, WantsMemory, behind_header, count_of_pairs, CarriesData, size_asked, cut_turn_tells, LacksRoomForHeader};
+ghost use Rattle.vfs_grammar.specs.Books.{opcode_in};
 ghost use Rattle.vfs_grammar.specs.Limits.{default_limits, AreLimits, max_len};
 ghost use Rattle.vfs_grammar.specs.Options.{AreAgreed};
 ghost use Rattle.vfs_grammar.specs.Directories.{StopsForACause, ComesWhole, TakesFew};
 ghost use Rattle.vfs_grammar.specs.Reply.{Echo, echo_of, attr_out_of, open_out_of};
-ghost use Rattle.vfs_grammar.specs.Turn.{Turn, IsTurn, IsTurnWithMemory, Follows};
+ghost use Rattle.vfs_grammar.specs.Turn.{Turn, IsTurn, Follows};
+ghost use Rattle.vfs_grammar.specs.Witnesses.{IsTurnWithMemory, FollowsFor, turn_tells};
 ghost use Rattle.vfs_grammar.specs.declared.error.Error.{Error};
 ghost use Rattle.vfs_grammar.specs.declared.limits.Limits.{Limits};
 
@@ -111,7 +107,7 @@ pub fn refusals_change_nothing()
 pub fn unfit_replies_are_cut_off()
     ensures { (limits : Limits) (options after : ℕ) (t : Turn) → IsTurn limits options t after →
         t.outcome ≡ Err Error.EncodeMessage →
-        Follows (cut_turn_tells t) limits options
+        FollowsFor (cut_turn_tells t) limits options
         (ask limits options (length t.room) t.request) after
         ⊎ LacksRoomForHeader options after t }
 {}
@@ -136,6 +132,14 @@ pub fn rooms_stay()
 pub fn two_errors_are_never_answered()
     ensures { (limits : Limits) (options after : ℕ) (t : Turn) → IsTurn limits options t after →
         (t.outcome ≢ Err Error.FlushMessage) × (t.outcome ≢ Err Error.InvalidCString2) }
+{}
+
+/// What follows in a turn is what follows by a witness of which the turn tells all.
+pub fn turns_are_told_by_witnesses()
+    ensures plainly { (limits : Limits) (options after : ℕ) (t : Turn) (asks : Ask) →
+        FollowsFor (turn_tells t) limits options asks after → Follows t limits options asks after }
+    ensures as_told { (limits : Limits) (options after : ℕ) (t : Turn) (asks : Ask) →
+        Follows t limits options asks after → FollowsFor (turn_tells t) limits options asks after }
 {}
 
 /// `OutOfMemory` is answered only to a request of a form with a tail or pairs, whose header,

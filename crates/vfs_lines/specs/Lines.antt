@@ -159,10 +159,10 @@ session_before_bad bad lines =
     before_bad (before_requests lines) bad (drop (before_requests lines) lines)
 
 -- the faults that no line is to blame for
-abbrev pub IsFault : RunError → Type 0
-IsFault (BadLine number) = ⊥
-IsFault Io = Unit {0}
-IsFault OutOfMemory = Unit {0}
+abbrev pub IsRunFault : RunError → Type 0
+IsRunFault (BadLine number) = ⊥
+IsRunFault Io = Unit {0}
+IsRunFault OutOfMemory = Unit {0}
 
 -- what a parsed line holds
 abbrev pub request : Line → Request

@@ -6,14 +6,13 @@ use Rattle.std.proofs.lemmas.Grind.{flat_map-append}
 use Rattle.std.specs.List.{flat_map}
 use Rattle.vfs_segments.specs.Written.{Written, Moves, wrote}
 use Rattle.vfs_files.specs.Calls.{Call, Lookup, Forget, Handed, Found, Failed, Done, Counts}
-use Rattle.vfs_files.specs.Items.{Item}
+use Rattle.vfs_files.specs.Values.{Item}
 use Rattle.vfs_files.specs.Runs.{Event}
 use Rattle.vfs_files.specs.RunLaws.{Ran, ran_on, ran_nothing, ran_taking, ran_call}
 use Rattle.vfs_files.specs.declared.entry.Context.{Context}
 use Rattle.vfs_files.specs.declared.entry.Entry.{Entry}
-use Rattle.vfs_grammar.specs.Dirents.{Verdict, Fits, Full, Fails, verdict, record_bytes, record_len, FitsOption}
+use Rattle.vfs_grammar.specs.Listing.{Verdict, Fits, Full, Fails, record_bytes, record_len, FitsOption, Got, Line, End, At, Gets, IsListing, IsGot, FitsGot, is_dot, lookup_of, lookups, line_events, given_back, node_got, line_len, line_bytes, len_of, bytes_got, AreWritten, answer_at, verdict}
 use Rattle.vfs_listings.specs.Reading.{Adds, cut_by, AddsGot, Puts, LooksUpName, LooksUp, GivesBack, AddsLine, ReadsItems}
-use Rattle.vfs_grammar.specs.Listing.{Got, Line, End, At, Gets, IsListing, IsGot, FitsGot, is_dot, lookup_of, lookups, line_events, given_back, node_got, line_len, line_bytes, len_of, bytes_got, judged, fate, AreWritten, told, answer_at}
 use Rattle.vfs_grammar.proofs.Listings.{fits_within, length-bytes_got, length-listing, listing_within}
 use Rattle.vfs_listings.specs.ReadingLaws.{puts_nothing}
 use Rattle.vfs_listings.proofs.Putting.{wrote-wrote}
@@ -124,10 +123,10 @@ put_by (Fails (Some number)) entry i old n new h some = cc
 
 pub was_put : (max room : ℕ) (got : Got) (i : Item) (old : Written) (n : ℕ) (new : Written)
     → AddsGot max room got i old (Ok n) new → 0 < n
-    → (judged max room got i ≡ Fits) × (n ≡ len_of got i) × (new ≡ wrote old (bytes_got got i))
+    → (verdict max room got i ≡ Fits) × (n ≡ len_of got i) × (new ≡ wrote old (bytes_got got i))
     × FitsGot got
 was_put max room (Ok entry) i old n new h some =
-    put_by (verdict max room entry i) entry i old n new h some
+    put_by (verdict max room (Ok entry) i) entry i old n new h some
 was_put max room (Err fault) i old n new h some = cc
 
 full_by : (v : Verdict) (entry : Option Entry) (i : Item) (old new : Written)
@@ -139,8 +138,8 @@ full_by (Fails (Some number)) entry i old new h = cc
 
 -- 0 came of one that is too long
 pub was_full : (max room : ℕ) (got : Got) (i : Item) (old new : Written)
-    → AddsGot max room got i old (Ok 0) new → judged max room got i ≡ Full
-was_full max room (Ok entry) i old new h = full_by (verdict max room entry i) entry i old new h
+    → AddsGot max room got i old (Ok 0) new → verdict max room got i ≡ Full
+was_full max room (Ok entry) i old new h = full_by (verdict max room (Ok entry) i) entry i old new h
 was_full max room (Err fault) i old new h = cc
 
 -- what was put of a record that was not written
@@ -163,11 +162,11 @@ cut_none (Some number) room = refl
 
 pub cut_put : (max : ℕ) (got : Got) (i : Item) (old : Written) (result : Result ℕ (Option ℕ))
     (new : Written) → AddsGot max (length old.left) got i old result new
-    → judged max (length old.left) got i ≢ Fits
-    → Puts old (cut_by (judged max (length old.left) got i) (length old.left) (bytes_got got i))
+    → verdict max (length old.left) got i ≢ Fits
+    → Puts old (cut_by (verdict max (length old.left) got i) (length old.left) (bytes_got got i))
     new
 cut_put max (Ok entry) i old result new h wrong =
-    cut_put_by (verdict max (length old.left) entry i) entry i old result new h wrong
+    cut_put_by (verdict max (length old.left) (Ok entry) i) entry i old result new h wrong
 cut_put max (Err fault) i old result new h wrong =
     rw (cut_none fault (length old.left)) (puts_nothing old new h.1)
 
@@ -182,9 +181,9 @@ failed_by (Fails (Some number)) entry i old fault new h = let same : Some number
 -- a fault came of one that fails
 pub has_failed : (max room : ℕ) (got : Got) (i : Item) (old : Written) (fault : Option ℕ)
     (new : Written) → AddsGot max room got i old (Err fault) new
-    → judged max room got i ≡ Fails fault
+    → verdict max room got i ≡ Fails fault
 has_failed max room (Ok entry) i old fault new h =
-    failed_by (verdict max room entry i) entry i old fault new h
+    failed_by (verdict max room (Ok entry) i) entry i old fault new h
 has_failed max room (Err other) i old fault new h = let same : other ≡ fault = cc in ap Fails same
 
 -- what was put moved the writer on
@@ -212,16 +211,16 @@ counts_of_listing plus ctx parent size room events body (Err fault) h small = tt
 
 pub written_more : (plus : Bool) (size room written : ℕ) (ls : List Line) (l : Line)
     → AreWritten plus size room written ls
-    → fate size room (written + sum_by line_len ls) l ≡ Fits → IsGot plus l → FitsGot l.got
+    → (verdict (size - (written + sum_by line_len ls)) (room - (written + sum_by line_len ls)) l.got l.item) ≡ Fits → IsGot plus l → FitsGot l.got
     → AreWritten plus size room written (ls ++ l ∷ [])
 written_more plus size room written [] l w f got fits =
-    (subst (λ n. fate size room n l ≡ Fits) (omega arith) f, got, fits, tt)
+    (subst (λ n. (verdict (size - n) (room - n) l.got l.item) ≡ Fits) (omega arith) f, got, fits, tt)
 written_more plus size room written (k ∷ ls) l w f got fits = (
   w.0,
   w.1,
   w.2,
   written_more plus size room (written + line_len k) ls l w.3
-      (subst (λ n. fate size room n l ≡ Fits) (omega (arith, sum_by-cons line_len k ls)) f) got
+      (subst (λ n. (verdict (size - n) (room - n) l.got l.item) ≡ Fits) (omega (arith, sum_by-cons line_len k ls)) f) got
       fits,
 )
 
@@ -264,7 +263,7 @@ module _ {S I : Type 0} (allows : S → Call → Handed I → S → Type 0)
       → Filling (written + n) next new then
   filling_more {written} {n} {it} {next} {s} {new} {now} {then} f i h a some =
       let l : Line = record { item = i; got = a.got } in
-      let v = judged (size - written) (length now.left) a.got i in
+      let v = verdict (size - written) (length now.left) a.got i in
       let put = was_put (size - written) (length now.left) a.got i now n then a.adds some in
       let fits = fits_within (size - written) (length now.left) a.got i put.0 in
       let room : length now.left ≡ length old.left - (0 + sum_by line_len f.lines) =
@@ -319,7 +318,7 @@ module _ {S I : Type 0} (allows : S → Call → Handed I → S → Type 0)
       {result : Result ℕ (Option ℕ)} → Filling written it s now → (i : Item)
       → gives it (Some i) next
       → (a : AddsLine allows ctx plus parent (size - written) i s now result new then)
-      → (v : Verdict) → judged (size - written) (length now.left) a.got i ≡ v → v ≢ Fits
+      → (v : Verdict) → verdict (size - written) (length now.left) a.got i ≡ v → v ≢ Fits
       → ReadsItems allows gives ctx plus parent size first before old (answer_at plus written v) new
       then
   filling_stop {written} {it} {next} {s} {new} {now} {then} {result} f i h a v is wrong =
@@ -327,7 +326,7 @@ module _ {S I : Type 0} (allows : S → Call → Handed I → S → Type 0)
       let room : length now.left ≡ length old.left - sum_by line_len f.lines =
       omega (arith, f.left, f.count) in
       let max : size - written ≡ size - sum_by line_len f.lines = omega (arith, f.count) in
-      let here : fate size (length old.left) (sum_by line_len f.lines) l ≡ v =
+      let here : (verdict (size - (sum_by line_len f.lines)) ((length old.left) - (sum_by line_len f.lines)) l.got l.item) ≡ v =
       rw (← max, ← room) is in
       let back : GivesBack allows ctx v a.got a.middle new =
       (let P : Verdict → Type 0 = λ z. GivesBack allows ctx z a.got a.middle new in
@@ -374,7 +373,7 @@ module _ {S I : Type 0} (allows : S → Call → Handed I → S → Type 0)
       {fault : Option ℕ} {result : Result ℕ (Option ℕ)} → Filling written it s now → (i : Item)
       → gives it (Some i) next
       → AddsLine allows ctx plus parent (size - written) i s now (Err fault) new then
-      → result ≡ told plus written fault → ReadsItems allows gives ctx plus parent size first
+      → result ≡ answer_at plus written (Fails fault) → ReadsItems allows gives ctx plus parent size first
       before old result new then
   filling_failed {written} {it} {next} {s} {new} {now} {then} {fault} {result} f i h a e =
       let why = has_failed (size - written) (length now.left) a.got i now fault then a.adds in

@@ -5,14 +5,13 @@ use Rattle.std.proofs.Math.Nat.{lt_of_not-le}
 use Rattle.std.proofs.lemmas.Bool.Decides.{nat_tests}
 use Rattle.std.proofs.lemmas.List.{take_all, drop-drop}
 use Rattle.vfs_wire.specs.Fields.{bytes_of}
-use Rattle.vfs_wire.specs.Listings.{dirent, direntplus}
+use Rattle.vfs_wire.specs.Records.{dirent, direntplus}
 use Rattle.std.specs.Int.{next_multiple_of}
 use Rattle.vfs_segments.specs.Written.{Written, wrote}
-use Rattle.vfs_files.specs.Entries.{entry_out_of}
-use Rattle.vfs_files.specs.Items.{Item}
+use Rattle.vfs_files.specs.Values.{entry_out_of, Item}
 use Rattle.vfs_files.specs.declared.entry.Entry.{Entry}
 use Rattle.vfs_listings.specs.Reading.{PutsBeginning, Adds}
-use Rattle.vfs_grammar.specs.Dirents.{dirent_len, dirent_of, dirent_bytes, record_len, record_bytes, FitsOption, verdict}
+use Rattle.vfs_grammar.specs.Listing.{verdict, dirent_len, dirent_of, dirent_bytes, record_len, record_bytes, FitsOption}
 use Rattle.vfs_grammar.proofs.Dirents.{length-record_bytes}
 
 -- two writes are one
@@ -63,7 +62,7 @@ pub adds_whole : {E : Type 0} (max : ℕ) (entry : Option Entry) (i : Item) (old
     (len : ℕ) (result : Result (Unit {0}) E)
     → len ≡ record_len entry i → length i.name ≤ 2 ^ 32 - 1 → len ≤ max
     → PutsBeginning old (record_bytes entry i) result new → IsOk result → FitsOption entry
-    → Adds (verdict max (length old.left) entry i) entry i old (Ok len) new
+    → Adds (verdict max (length old.left) (Ok entry) i) entry i old (Ok len) new
 adds_whole max entry i old new len result e small below puts ok fits =
     let within = puts.whole.0 ok in
     let room : record_len entry i ≤ length old.left = omega (arith, length-record_bytes entry i) in
@@ -79,7 +78,7 @@ pub adds_cut : {E : Type 0} (max : ℕ) (entry : Option Entry) (i : Item) (old n
     (len : ℕ) (result : Result (Unit {0}) E) (error : E)
     → len ≡ record_len entry i → length i.name ≤ 2 ^ 32 - 1 → len ≤ max
     → PutsBeginning old (record_bytes entry i) result new → result ≡ Err error
-    → Adds (verdict max (length old.left) entry i) entry i old (Err None) new
+    → Adds (verdict max (length old.left) (Ok entry) i) entry i old (Err None) new
 adds_cut max entry i old new len result error e small below puts is =
     let cut : length old.left < length (record_bytes entry i) =
     lt_of_not-le (λ h. let ok = rw is at (puts.whole.1 h) in cc) in

@@ -1,13 +1,12 @@
 -- How records of a directory are put through a writer, and what is left of one that is cut short.
 use Rattle.std.specs.Prelude.{◌≡◌, ◌≤◌, ◌↔◌, ℕ, List, length, take, Option, Some, None, Result, Ok, Err, IsOk, ◌-◌, [], Bool, true, false, ◌++◌, MatchResult, sum_by}
 use Rattle.vfs_segments.specs.Written.{Written, wrote}
-use Rattle.vfs_files.specs.Items.{Item}
+use Rattle.vfs_files.specs.Values.{Item}
 use Rattle.vfs_files.specs.declared.entry.Entry.{Entry}
 use Rattle.vfs_files.specs.Calls.{Call, Lookup, Forget, Readdir, directory_answer, Handed, Plain, Failed, Found, Done}
 use Rattle.vfs_files.specs.Runs.{Happening, IsRun, events_of}
 use Rattle.vfs_files.specs.declared.entry.Context.{Context}
-use Rattle.vfs_grammar.specs.Dirents.{record_len, record_bytes, FitsOption, Verdict, Fits, Full, Fails, verdict}
-use Rattle.vfs_grammar.specs.Listing.{At, End, Stop, line_bytes, fate, Got, node_got, IsDotEntry, is_dot, judged, line_len, IsListing, IsDirectory}
+use Rattle.vfs_grammar.specs.Listing.{record_len, record_bytes, FitsOption, Verdict, Fits, Full, Fails, At, End, Stop, line_bytes, Got, node_got, IsDotEntry, is_dot, line_len, IsListing, IsDirectory, verdict}
 
 -- as much of these bytes was put as there is room for, and that is all of them exactly where the
 -- answer is Ok
@@ -38,7 +37,7 @@ cut_by _ space bytes = []
 -- of the last item, where the room was too small for it
 abbrev pub cut_short : (size space written : ℕ) → Stop → List ℕ
 cut_short size space written End = []
-cut_short size space written (At l) = cut_by (fate size space written l) (space - written) (line_bytes l)
+cut_short size space written (At l) = cut_by ((verdict (size - written) (space - written) l.got l.item)) (space - written) (line_bytes l)
 
 -- what its lookup gives an item
 abbrev pub got_of : Result Entry (Option ℕ) → Got
@@ -49,7 +48,7 @@ got_of (Err fault) = Err fault
 -- nothing was put
 abbrev pub AddsGot : (max space : ℕ) → Got → Item → Written → Result ℕ (Option ℕ) → Written → Type 0
 AddsGot max space (Ok entry) i old result new =
-    Adds (verdict max space entry i) entry i old result new
+    Adds (verdict max space (Ok entry) i) entry i old result new
 AddsGot max space (Err fault) i old result new = (result ≡ Err fault) × (new ≡ old)
 
 -- these bytes were put into the next bytes of the room
@@ -92,7 +91,7 @@ module _ {S I : Type 0} (allows : S → Call → Handed I → S → Type 0) (ctx
       pub middle : S
       pub looks_up : LooksUp plus (is_dot i.name) parent i old got middle
       pub adds : AddsGot max (length writer.left) got i writer result writer_after
-      pub gives_back : GivesBack (judged max (length writer.left) got i) got middle new
+      pub gives_back : GivesBack (verdict max (length writer.left) got i) got middle new
 
 module _ {S I : Type 0}
     (allows : S → Call → Handed I → S → Type 0) (gives : I → Option Item → I → Type 0)

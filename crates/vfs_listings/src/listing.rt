@@ -2,11 +2,9 @@
 //! up to the first that isn't written.
 
 ghost use Rattle.std.specs.Prelude.{◌≡◌, ◌≤◌, length, true, Some, Ok, IfOk};
-ghost use Rattle.vfs_files.specs.Entries.{context_of, entry_out_of};
-ghost use Rattle.vfs_files.specs.Items.{item};
-ghost use Rattle.vfs_grammar.specs.Listing.{is_dot, dot_out, judged, told};
+ghost use Rattle.vfs_files.specs.Values.{context_of, entry_out_of, item};
+ghost use Rattle.vfs_grammar.specs.Listing.{is_dot, dot_out, verdict, answer_at, Fails};
 ghost use Rattle.vfs_listings.specs.Reading.{got_of, AddsGot, AddsLine, GivesBack, GivesBackNode, ReadsItems, ReadsDirectory};
-ghost use Rattle.vfs_grammar.specs.Dirents.{verdict};
 
 use crate::record::{add_plain, add_plus};
 use std::time::Duration;
@@ -62,7 +60,7 @@ fn add_got<F: FileSystem>(
     ensures adds { AddsGot max (length w.old.left) (Ok (Some entry.now)) (item dir_entry.entry)
         w.old result w.new }
     ensures gives_back { GivesBack F.allows (context_of header.now)
-        (verdict max (length w.old.left) (Some entry.now) (item dir_entry.entry))
+        (verdict max (length w.old.left) (Ok (Some entry.now)) (item dir_entry.entry))
         (Ok (Some entry.now)) fs.old fs.new }
 {
     let added = add_plus(w, max, dir_entry, entry);
@@ -89,7 +87,7 @@ fn add_found<F: FileSystem>(
     ensures adds { AddsGot max (length w.old.left) (got_of found.now) (item dir_entry.entry)
         w.old result w.new }
     ensures gives_back { GivesBack F.allows (context_of header.now)
-        (judged max (length w.old.left) (got_of found.now) (item dir_entry.entry))
+        (verdict max (length w.old.left) (got_of found.now) (item dir_entry.entry))
         (got_of found.now) fs.old fs.new }
 {
     match found {
@@ -140,7 +138,7 @@ fn add_line<F: FileSystem>(
 
 /// What is answered where an entry fails behind this many bytes of records.
 fn tell(plus: bool, written: usize, fault: Fault) -> Result<usize, Fault>
-    ensures { result ≡ told plus written fault }
+    ensures { result ≡ answer_at plus written (Fails fault) }
 {
     if plus && written > 0 {
         Ok(written)

@@ -1,11 +1,11 @@
 //! Records of a directory's entries: a `Dirent`, the name, and zeros to a multiple of 8, with an
 //! `EntryOut` in front of them for READDIRPLUS.
 
-ghost use Rattle.std.specs.Prelude.{◌≡◌, ◌+◌, ◌-◌, ◌<◌, ◌≤◌, ◌^◌, length, Some, None};
+ghost use Rattle.std.specs.Prelude.{◌≡◌, ◌+◌, ◌-◌, ◌<◌, ◌≤◌, ◌^◌, length, Some, None, Ok};
 ghost use Rattle.std.specs.Int.{next_multiple_of};
 ghost use Rattle.vfs_files.specs.Answers.{FitsEntry};
-ghost use Rattle.vfs_files.specs.Items.{item};
-ghost use Rattle.vfs_grammar.specs.Dirents.{dirent_len, dirent_of, dirent_bytes, record_bytes, verdict};
+ghost use Rattle.vfs_files.specs.Values.{item};
+ghost use Rattle.vfs_grammar.specs.Listing.{verdict, dirent_len, dirent_of, dirent_bytes, record_bytes};
 ghost use Rattle.vfs_listings.specs.Reading.{PutsBeginning, Adds};
 
 use std::io;
@@ -72,7 +72,7 @@ fn put_direntplus(w: &mut Writer, dir_entry: DirEntry<'_>, entry: &Entry) -> io:
 
 /// Adds a record without an `EntryOut`.
 pub(crate) fn add_plain(w: &mut Writer, max: usize, dir_entry: DirEntry<'_>) -> Result<usize, Fault>
-    ensures { Adds (verdict max (length w.old.left) None (item dir_entry.entry)) None
+    ensures { Adds (verdict max (length w.old.left) (Ok None) (item dir_entry.entry)) None
         (item dir_entry.entry) w.old result w.new }
 {
     let name = dir_entry.name.to_bytes();
@@ -98,7 +98,7 @@ pub(crate) fn add_plus(
     dir_entry: DirEntry<'_>,
     entry: &Entry,
 ) -> Result<usize, Fault>
-    ensures { Adds (verdict max (length w.old.left) (Some entry.now) (item dir_entry.entry))
+    ensures { Adds (verdict max (length w.old.left) (Ok (Some entry.now)) (item dir_entry.entry))
         (Some entry.now) (item dir_entry.entry) w.old result w.new }
 {
     let name = dir_entry.name.to_bytes();
@@ -130,7 +130,7 @@ pub fn add_dirent(
     dir_entry: DirEntry<'_>,
     entry: Option<Entry>,
 ) -> Result<usize, Fault>
-    ensures { Adds (verdict max (length w.old.left) entry (item dir_entry.entry)) entry
+    ensures { Adds (verdict max (length w.old.left) (Ok entry) (item dir_entry.entry)) entry
         (item dir_entry.entry) w.old result w.new }
 {
     match entry {

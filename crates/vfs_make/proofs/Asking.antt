@@ -4,16 +4,15 @@ use Rattle.std.proofs.lemmas.Nat.{and_assoc}
 use Rattle.std.specs.Int.Bits.{and_self}
 use Rattle.std.specs.Prelude.{if◌then◌else◌, bit_and, ◌+◌, ◌*◌, ◌^◌}
 use Rattle.vfs_flags.specs.Flags.{known_fs_options, known_setattr_valid, known_setxattr_flags}
-use Rattle.vfs_flags.specs.Opcode.{opcode_of}
+use Rattle.vfs_flags.specs.Numbers.{opcode_of}
 use Rattle.vfs_flags.specs.declared.constants.TheConstants.{KERNEL_VERSION, MIN_KERNEL_MINOR_VERSION}
 use Rattle.vfs_flags.specs.declared.opcode.Opcode.{Opcode}
 use Rattle.vfs_flags.specs.declared.opcode.Opcode.TheVariants as opcode
 use Rattle.vfs_wire.specs.Fields.{value_of}
-use Rattle.vfs_wire.specs.Headers.{in_header, out_header}
-use Rattle.vfs_wire_more.specs.Files.{read_in}
+use Rattle.vfs_wire.specs.Records.{in_header, out_header, init_in_compat}
+use Rattle.vfs_wire_more.specs.Records.{read_in}
 use Rattle.std.proofs.lemmas.Bool.Decides.{nat_tests}
 use Rattle.std.proofs.Common.{◌≤◌, ◌-◌, arith}
-use Rattle.vfs_wire.specs.Init.{init_in_compat}
 use Rattle.vfs_wire.specs.declared.headers.InHeader.{InHeader}
 use Rattle.vfs_wire.specs.declared.init.InitInCompat.{InitInCompat}
 use Rattle.vfs_grammar.specs.Ask.{ask, ask_header, ask_number, form_of}

@@ -1,18 +1,16 @@
 -- From the call of a kind that was made to the call that is told.
 use Rattle.std.proofs.lemmas.Bool.Decides.{nat_tests}
 use Rattle.vfs_make.specs.Lacking.{MayLack}
-use Rattle.vfs_make.specs.Told.{read_of}
+use Rattle.vfs_make.specs.Told.{read_of, access_of, batch_forget_of, copyfilerange_of, create_of, fallocate_of, flush_of, forget_of, fsync_of, fsyncdir_of, getattr_of, getxattr_of, init_of, link_of, listxattr_of, lookup_of, lseek_of, mkdir_of, mknod_of, open_of, opendir_of, readlink_of, release_of, releasedir_of, removexattr_of, rename_of, rmdir_of, setattr_of, setxattr_of, statfs_of, symlink_of, syncfs_of, unlink_of, write_of, Parts, parts_in, call_told, call_by_kind, quiet_call, done_call, untold_call, want_call, entry_call, attr_call, open_call, create_call, statistics_call, text_call, text_or_count_call, offset_call, written_call, fault_call}
 use Rattle.std.proofs.Common.{arith, ◌≡◌, ◌∙◌, ℕ, Bool, true, false, List, length, Option, Some, None, Ok, Err, refl, ap, subst, sym, nat_lt}
 use Rattle.std.specs.Prelude.{◌==◌, ◌*◌, if◌then◌else◌}
-use Rattle.vfs_wire.specs.Entries.{forget_one}
+use Rattle.vfs_wire.specs.Records.{forget_one}
 use Rattle.vfs_files.specs.Calls.{Call, Handed, Kind, kind_of, Answer, Quiet, Told, Untold, Agreements, Entries, TimedAttributes, Openings, Creations, Capacities, Texts, TextsOrCounts, Offsets, Writes, Faults}
 use Rattle.vfs_grammar.specs.Forms.{pairs_in, pairs_of}
 use Rattle.vfs_grammar.specs.Records.{size_of}
 use Rattle.vfs_grammar.specs.declared.error.Error.TheVariants.{DecodeMessage}
 use Rattle.vfs_calls.specs.declared.call.CallData.{CallData}
-use Rattle.vfs_make.specs.Told.{access_of, batch_forget_of, copyfilerange_of, create_of, fallocate_of, flush_of, forget_of, fsync_of, fsyncdir_of, getattr_of, getxattr_of, init_of, link_of, listxattr_of, lookup_of, lseek_of, mkdir_of, mknod_of, open_of, opendir_of, readlink_of, release_of, releasedir_of, removexattr_of, rename_of, rmdir_of, setattr_of, setxattr_of, statfs_of, symlink_of, syncfs_of, unlink_of, write_of}
 use Rattle.vfs_files.specs.Calls as call
-use Rattle.vfs_make.specs.Told.{Parts, parts_in, call_told, call_by_kind, quiet_call, done_call, untold_call, want_call, entry_call, attr_call, open_call, create_call, statistics_call, text_call, text_or_count_call, offset_call, written_call, fault_call}
 use Rattle.vfs_make.specs.Made.{Says, CallsIfTold, Makes}
 use Rattle.vfs_make.specs.declared.say.Made.{Made}
 use Rattle.vfs_make.proofs.Telling.{is_data, is_directory}

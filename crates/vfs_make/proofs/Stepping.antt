@@ -1,19 +1,19 @@
 -- From what was asked and handled to the step that it is.
 use Rattle.std.specs.Prelude.{⊤}
 use Rattle.std.proofs.Common.{◌+◌, arith, ◌≡◌, ℕ, List, [], ◌∷◌, length, Option, Some, None, Result, refl, ap, sym, subst, inl, inr, append-nil, IfSome, IfNone, IsSome, rules}
-use Rattle.vfs_segments.specs.Written.{Written}
-use Rattle.vfs_files.specs.Items.{Item}
+use Rattle.vfs_segments.specs.Written.{Written, Leaves}
+use Rattle.vfs_files.specs.Values.{Item}
 use Rattle.vfs_files.specs.Calls.{Call, Forget, Handed, Answer, Done, kind_of}
 use Rattle.vfs_files.specs.Runs.{Happening, Called, Calls, IsRun, events_of}
 use Rattle.vfs_files.specs.declared.entry.Context.{Context}
 use Rattle.vfs_entries.specs.Delivery.{CallsAndGivesBack}
-use Rattle.vfs_messages.specs.Rooms.{Leaves, with_behind}
+use Rattle.vfs_messages.specs.Rooms.{with_behind}
 use Rattle.vfs_grammar.specs.Ask.{ask}
 use Rattle.vfs_grammar.specs.Forms.{Ask, Ends, Asks, Lists, WithMemory}
 use Rattle.vfs_grammar.specs.Listing.{given_back}
 use Rattle.vfs_grammar.specs.Reply.{Echo, Refusal, reply_of}
 use Rattle.vfs_grammar.specs.Room.{unseen}
-use Rattle.vfs_grammar.specs.Turn.{Follows, turn_tells, node_answered}
+use Rattle.vfs_grammar.specs.Turn.{Follows, node_answered}
 use Rattle.vfs_grammar.specs.declared.limits.Limits.{Limits}
 use Rattle.vfs_grammar.specs.declared.error.Error.{Error}
 use Rattle.vfs_grammar.specs.declared.error.Error.TheVariants.{OutOfMemory}
@@ -68,7 +68,7 @@ module _ {S I : Type 0} (allows : S → Call → Handed I → S → Type 0) (giv
     pub room_after : List ℕ
     pub is_run : IsRun allows gives None old run new
     pub leaves : Leaves writer room_after writer_after
-    pub follows : Follows (turn_tells (turn_over request writer run outcome room_after)) limits options asks after
+    pub follows : Follows (turn_over request writer run outcome room_after) limits options asks after
 
   stepped_call : (echo : Echo) (call : Call)
       → CallIsHandled allows limits options echo call old writer outcome after writer_after new
@@ -103,7 +103,7 @@ module _ {S I : Type 0} (allows : S → Call → Handed I → S → Type 0) (giv
     is_run = s.is_run;
     leaves = s.leaves;
     turn =
-        subst (λ (a : Ask). Follows (turn_tells (turn_over request writer s.run outcome s.room_after)) limits options a after)
+        subst (λ (a : Ask). Follows (turn_over request writer s.run outcome s.room_after) limits options a after)
         (sym e) s.follows;
     same_limits = refl;
   }

@@ -4,7 +4,7 @@ use Rattle.std.specs.Prelude.{◌==◌, bit_and, unwrap_or, if◌then◌else◌}
 use Rattle.vfs_files.specs.Calls.{Call}
 use Rattle.vfs_files.specs.Calls as call
 use Rattle.vfs_flags.specs.Flags.{known_setxattr_flags}
-use Rattle.vfs_files.specs.Extensions.{ExtensionValues}
+use Rattle.vfs_files.specs.Values.{ExtensionValues}
 use Rattle.vfs_grammar.specs.Ask.{if_set, has_flag}
 use Rattle.vfs_calls.specs.Shapes.{bit, bit_of, context_bit}
 use Rattle.vfs_calls.specs.declared.call.CallData.{CallData}

@@ -3,17 +3,15 @@ use Rattle.std.proofs.Common.{◌≡◌, ◌≢◌, ◌∙◌, ◌<◌, ◌⊎�
 use Rattle.std.specs.Prelude.{◌≤ℤ◌, ℤ, pos}
 use Rattle.std.specs.declared.time.Duration.{Duration}
 use Rattle.vfs_wire.specs.Fields.{Fit, bytes_of}
-use Rattle.vfs_wire.specs.Attributes.{attr, attr_out}
-use Rattle.vfs_wire.specs.Entries.{entry_out}
+use Rattle.vfs_wire.specs.Records.{attr, attr_out, entry_out}
 use Rattle.vfs_wire.specs.declared.attributes.Attr.{Attr}
 use Rattle.vfs_wire.specs.declared.attributes.AttrOut.{AttrOut}
 use Rattle.vfs_files.specs.declared.entry.Entry.{Entry}
-use Rattle.vfs_flags.specs.Errors.{eio}
+use Rattle.vfs_flags.specs.Numbers.{eio}
 use Rattle.vfs_wire.specs.declared.entries.EntryOut.{EntryOut}
-use Rattle.vfs_wire_more.specs.Files.{open_out}
-use Rattle.vfs_files.specs.Entries.{entry_out_of, whole_seconds, nanoseconds_beyond}
-use Rattle.vfs_files.specs.Calls.{Kind, Quiet, Told, Untold, Data, Agreements, Entries, TimedAttributes, Openings, Creations, Capacities, Texts, TextsOrCounts, Offsets, Writes, Iterators, Faults}
-use Rattle.vfs_files.specs.Calls.{Answer, Done, Failed, Options, Found, Attributes, Put, Opened, Created, Statistics, Text, Count, Offset, Wrote, IsAnswer}
+use Rattle.vfs_wire_more.specs.Records.{open_out}
+use Rattle.vfs_files.specs.Values.{entry_out_of, whole_seconds, nanoseconds_beyond}
+use Rattle.vfs_files.specs.Calls.{Kind, Quiet, Told, Untold, Data, Agreements, Entries, TimedAttributes, Openings, Creations, Capacities, Texts, TextsOrCounts, Offsets, Writes, Iterators, Faults, Answer, Done, Failed, Options, Found, Attributes, Put, Opened, Created, Statistics, Text, Count, Offset, Wrote, IsAnswer}
 use Rattle.vfs_grammar.specs.Reply.{Bytes, Echo, reply_of, body_reply, open_out_of}
 use Rattle.vfs_grammar.specs.Turn.{counted, node_answered}
 use Rattle.vfs_grammar.specs.declared.limits.Limits.{Limits}

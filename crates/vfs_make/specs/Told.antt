@@ -4,7 +4,7 @@ use Rattle.vfs_flags.specs.Flags.{known_fs_options, known_setattr_valid, known_s
 use Rattle.vfs_wire.specs.declared.attributes.SetattrIn.{SetattrIn}
 use Rattle.vfs_files.specs.Calls.{Call}
 use Rattle.vfs_files.specs.Calls as call
-use Rattle.vfs_files.specs.Extensions.{ExtensionValues}
+use Rattle.vfs_files.specs.Values.{ExtensionValues}
 use Rattle.vfs_files.specs.declared.entry.Context.{Context}
 use Rattle.vfs_grammar.specs.Ask.{if_set, has_flag}
 use Rattle.vfs_grammar.specs.Forms.{pairs_of}

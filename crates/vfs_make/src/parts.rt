@@ -1,8 +1,7 @@
 //! What a call is told of: its caller, and bytes of its request.
 
 ghost use Rattle.std.specs.Prelude.{◌≡◌, ◌<◌, drop, length, IfSome, MatchOption};
-ghost use Rattle.vfs_files.specs.Extensions.{context_values, extension_values_of};
-ghost use Rattle.vfs_files.specs.Names.{name_text};
+ghost use Rattle.vfs_files.specs.Values.{context_values, extension_values_of, name_text};
 ghost use Rattle.vfs_ask.specs.Asked.{bytes_in};
 ghost use Rattle.vfs_make.specs.Lacking.{LacksBytes, LacksName};
 ghost use Rattle.vfs_make.specs.Told.{caller, extensions_of, parts_in};

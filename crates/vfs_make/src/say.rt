@@ -3,9 +3,8 @@
 ghost use Rattle.std.specs.Prelude.{◌≡◌, option_map, pos, MatchResult};
 ghost use Rattle.vfs_flags.specs.Flags.{open_options_bits};
 ghost use Rattle.vfs_calls.specs.Values.{attr_of, entry_out_for, handle_of, statistics_of};
-ghost use Rattle.vfs_files.specs.Entries.{entry_out_of};
-ghost use Rattle.vfs_files.specs.Answers.{Agreements, Capacities, Creations, Done, Entries, Failed, Faults, KeepsTextShort, Offsets, Openings, Quiet, Texts, TextsOrCounts, TimedAttributes, Told, Untold, Writes};
-ghost use Rattle.vfs_files.specs.Answers.{attr_answer, created_answer, done_answer, entry_answer, getxattr_answer, init_answer, offset_answer, opened_answer, statistics_answer, text_answer, written_answer};
+ghost use Rattle.vfs_files.specs.Values.{entry_out_of};
+ghost use Rattle.vfs_files.specs.Answers.{Agreements, Capacities, Creations, Done, Entries, Failed, Faults, KeepsTextShort, Offsets, Openings, Quiet, Texts, TextsOrCounts, TimedAttributes, Told, Untold, Writes, attr_answer, created_answer, done_answer, entry_answer, getxattr_answer, init_answer, offset_answer, opened_answer, statistics_answer, text_answer, written_answer};
 ghost use Rattle.vfs_answer.specs.Said.{IsFailed};
 ghost use Rattle.vfs_make.specs.Made.{Says};
 

@@ -6,7 +6,7 @@ use Rattle.std.proofs.lemmas.List.Elements.{All-head, All-tail}
 use Rattle.std.specs.List.{All, flat_map}
 use Rattle.vfs_calls.specs.declared.data.ItemData.{ItemData}
 use Rattle.vfs_files.specs.Calls.{Call, Done, Forget, Handed}
-use Rattle.vfs_files.specs.Items.{Item}
+use Rattle.vfs_files.specs.Values.{Item}
 use Rattle.vfs_files.specs.RunLaws.{Ran, ran_call, ran_nothing, ran_on}
 use Rattle.vfs_files.specs.Runs.{Event}
 use Rattle.vfs_files.specs.declared.entry.Context.{Context}

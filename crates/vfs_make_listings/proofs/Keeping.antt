@@ -5,11 +5,10 @@ use Rattle.std.specs.List.{flat_map}
 use Rattle.std.specs.declared.alloc.Global.{Global}
 use Rattle.vfs_calls.specs.declared.data.ItemData.{ItemData}
 use Rattle.vfs_files.specs.Calls.{Call, Handed}
-use Rattle.vfs_files.specs.Items.{Item}
+use Rattle.vfs_files.specs.Values.{Item}
 use Rattle.vfs_files.specs.RunLaws.{Ran, ran_on, ran_nothing, ran_taking}
 use Rattle.vfs_files.specs.declared.entry.Context.{Context}
-use Rattle.vfs_grammar.specs.Dirents.{Fits}
-use Rattle.vfs_grammar.specs.Listing.{AreWritten, At, End, Line, judged, len_of, line_events, line_len}
+use Rattle.vfs_grammar.specs.Listing.{Fits, AreWritten, At, End, Line, len_of, line_events, line_len, verdict}
 use Rattle.vfs_grammar.proofs.Listings.{fits_within}
 use Rattle.vfs_listings.proofs.Filling.{flat_map-push, line_got, ran_line, written_more}
 use Rattle.vfs_make_listings.specs.Kept.{TellGots, TellLines, TellLinesBy, TellsBy, TellsLine}
@@ -18,8 +17,8 @@ use Rattle.vfs_make_listings.specs.Taken.{AddsData, IsKept, TakesAll, TakesItem,
 -- a line was kept, by whether its record fits
 pub kept_so : (max space : ℕ) (l : Line) (names : List (Vec ℕ Global)) (items : List ItemData)
     (names_after : List (Vec ℕ Global)) (after : List ItemData) (len : Option ℕ)
-    → MatchOption len (judged max space l.got l.item ≢ Fits) (λ n.
-    (judged max space l.got l.item ≡ Fits) × (n ≡ len_of l.got l.item) × (0 < n))
+    → MatchOption len (verdict max space l.got l.item ≢ Fits) (λ n.
+    (verdict max space l.got l.item ≡ Fits) × (n ≡ len_of l.got l.item) × (0 < n))
     → AddsData l names items names_after after → IsKept max space l names items (Ok len) names_after after
 kept_so max space l names items names_after after None fits added = (fits, added)
 kept_so max space l names items names_after after (Some n) fits added = (fits.0, fits.1, fits.2, added)

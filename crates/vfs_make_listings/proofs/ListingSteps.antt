@@ -9,7 +9,7 @@ use Rattle.vfs_calls.specs.Shapes.{shape_of}
 use Rattle.vfs_calls.specs.declared.call.CallData.{CallData}
 use Rattle.vfs_files.specs.Calls.{Call, Data, Handed, Iterator, Iterators, Kind, Readdir, kind_of, read_answer}
 use Rattle.vfs_files.specs.Calls as call
-use Rattle.vfs_files.specs.Items.{Item}
+use Rattle.vfs_files.specs.Values.{Item}
 use Rattle.vfs_files.specs.Runs.{Calls, Event, Happening, IsRun, OpenedDirectory, Opens, Takes, events_of}
 use Rattle.vfs_grammar.specs.Ask.{ask}
 use Rattle.vfs_grammar.specs.Forms.{Ask, Asks, Ends, Listing, Lists, WithMemory}

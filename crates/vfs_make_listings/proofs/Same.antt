@@ -4,14 +4,11 @@ use Rattle.std.proofs.lemmas.List.Sums.{sum_by-cons}
 use Rattle.std.specs.Prelude.{⊤}
 use Rattle.std.specs.List.{flat_map}
 use Rattle.vfs_calls.specs.declared.data.ItemData.{ItemData}
-use Rattle.vfs_files.specs.Entries.{entry_out_of}
-use Rattle.vfs_files.specs.Items.{Item}
-use Rattle.vfs_files.specs.Names.{name_of}
-use Rattle.vfs_wire.specs.Entries.{entry_out}
+use Rattle.vfs_files.specs.Values.{entry_out_of, Item, name_of}
+use Rattle.vfs_wire.specs.Records.{entry_out}
 use Rattle.vfs_wire.specs.Fields.{bytes_of}
 use Rattle.vfs_wire.specs.declared.entries.EntryOut.{EntryOut}
-use Rattle.vfs_grammar.specs.Dirents.{Fits, dirent_bytes, Verdict}
-use Rattle.vfs_grammar.specs.Listing.{AreWritten, At, End, Gets, Got, IsGot, Line, Stop, Stops, answer_at, answer_of, bytes_got, fate, is_dot, judged, len_of, line_bytes, line_len}
+use Rattle.vfs_grammar.specs.Listing.{Fits, dirent_bytes, Verdict, AreWritten, At, End, Gets, Got, IsGot, Line, Stop, Stops, answer_at, answer_of, bytes_got, is_dot, len_of, line_bytes, line_len, verdict}
 use Rattle.vfs_answer.specs.Offered.{AreOffered, IsFoundIf, IsLine, item_told}
 use Rattle.vfs_make_listings.specs.Kept.{TellLines, TellsGot, TellsLine}
 use Rattle.vfs_make_listings.specs.Taken.{lines_with}
@@ -50,10 +47,10 @@ bytes_same i (Ok None) (Err g) s = absurd s
 bytes_same i (Err f) (Ok (Some e)) s = absurd s
 bytes_same i (Err f) (Ok None) s = absurd s
 
-judged_same : (max space : ℕ) (i : Item) (g h : Got) → SameGot g h → judged max space g i ≡ judged max space h i
+judged_same : (max space : ℕ) (i : Item) (g h : Got) → SameGot g h → verdict max space g i ≡ verdict max space h i
 judged_same max space i (Ok (Some e)) (Ok (Some f)) s = refl
 judged_same max space i (Ok None) (Ok None) s = refl
-judged_same max space i (Err f) (Err g) s = ap (λ (x : Option ℕ). judged max space (Err x) i) s
+judged_same max space i (Err f) (Err g) s = ap (λ (x : Option ℕ). verdict max space (Err x) i) s
 judged_same max space i (Ok (Some e)) (Ok None) s = absurd s
 judged_same max space i (Ok (Some e)) (Err g) s = absurd s
 judged_same max space i (Ok None) (Ok (Some f)) s = absurd s
@@ -67,10 +64,10 @@ line_len_same l m s = len_same l.item l.got m.got s.got ∙ ap (λ (i : Item). l
 line_bytes_same : (l m : Line) → SameLine l m → line_bytes l ≡ line_bytes m
 line_bytes_same l m s = bytes_same l.item l.got m.got s.got ∙ ap (λ (i : Item). bytes_got m.got i) s.item
 
-fate_same : (size space written : ℕ) (l m : Line) → SameLine l m → fate size space written l ≡ fate size space written m
+fate_same : (size space written : ℕ) (l m : Line) → SameLine l m → (verdict (size - written) (space - written) l.got l.item) ≡ (verdict (size - written) (space - written) m.got m.item)
 fate_same size space written l m s =
     judged_same (size - written) (space - written) l.item l.got m.got s.got
-    ∙ ap (λ (i : Item). judged (size - written) (space - written) m.got i) s.item
+    ∙ ap (λ (i : Item). verdict (size - written) (space - written) m.got i) s.item
 
 -- ---- what an item got, as it is told
 
@@ -151,16 +148,16 @@ same_reading plus size space w (i ∷ items) [] (At l) [] (At m) told a b offere
     (tt, line_twice plus i l m told.0 b.0 offered d.0)
 same_reading plus size space w (i ∷ items) [] (At l) (m ∷ ms) t told a b offered c d =
     let same = line_twice plus i l m told.0 b.0 offered.0 c.1 in
-    let here : fate size space (w + 0) l ≢ Fits = b.1 in
+    let here : (verdict (size - (w + 0)) (space - (w + 0)) l.got l.item) ≢ Fits = b.1 in
     let at : w + 0 ≡ w = omega arith in
-    absurd (subst (λ (n : ℕ). fate size space n l ≢ Fits) at here (fate_same size space w l m same ∙ c.0))
+    absurd (subst (λ (n : ℕ). (verdict (size - n) (space - n) l.got l.item) ≢ Fits) at here (fate_same size space w l m same ∙ c.0))
 same_reading plus size space w (i ∷ items) (l ∷ ls) s [] End told a b offered c d =
     absurd (no_name i l (tell_first i items l ls s told).0 offered)
 same_reading plus size space w (i ∷ items) (l ∷ ls) s [] (At m) told a b offered c d =
     let same = line_twice plus i l m (tell_first i items l ls s told).0 a.1 offered d.0 in
-    let here : fate size space (w + 0) m ≢ Fits = d.1 in
+    let here : (verdict (size - (w + 0)) (space - (w + 0)) m.got m.item) ≢ Fits = d.1 in
     let at : w + 0 ≡ w = omega arith in
-    absurd (subst (λ (n : ℕ). fate size space n m ≢ Fits) at here (sym (fate_same size space w l m same) ∙ a.0))
+    absurd (subst (λ (n : ℕ). (verdict (size - n) (space - n) m.got m.item) ≢ Fits) at here (sym (fate_same size space w l m same) ∙ a.0))
 same_reading plus size space w (i ∷ items) (l ∷ ls) s (m ∷ ms) t told a b offered c d =
     let first = tell_first i items l ls s told in
     let same = line_twice plus i l m first.0 a.1 offered.0 c.1 in

@@ -17,13 +17,12 @@ use Rattle.vfs_calls.specs.declared.call.CallData.{CallData}
 use Rattle.vfs_calls.specs.declared.data.AnswerData.{AnswerData}
 use Rattle.vfs_calls.specs.declared.data.ItemData.{ItemData}
 use Rattle.vfs_files.specs.Calls.{Call, Data, Failed, Handed, IsAnswer, Iterator, Plain, Readdir, read_answer}
-use Rattle.vfs_files.specs.Items.{Item}
+use Rattle.vfs_files.specs.Values.{Item}
 use Rattle.vfs_files.specs.RunLaws.{Ran, ran_on}
 use Rattle.vfs_files.specs.Runs.{Calls, Event, Opens, Taken, events_of}
 use Rattle.vfs_files.specs.declared.entry.Context.{Context}
-use Rattle.vfs_grammar.specs.Dirents.{Fails, Fits, Full, Verdict}
+use Rattle.vfs_grammar.specs.Listing.{Fails, Fits, Full, Verdict, AreWritten, At, End, Got, IsGot, Line, Stop, Stops, answer_at, answer_of, given_back, len_of, line_events, line_len, node_got, stop_events, verdict}
 use Rattle.vfs_grammar.specs.Forms.{Listing}
-use Rattle.vfs_grammar.specs.Listing.{AreWritten, At, End, Got, IsGot, Line, Stop, Stops, answer_at, answer_of, fate, given_back, judged, len_of, line_events, line_len, node_got, stop_events}
 use Rattle.vfs_grammar.specs.Reply.{Echo, reply_of}
 use Rattle.vfs_grammar.specs.Turn.{IsRead}
 use Rattle.vfs_grammar.specs.declared.error.Error.{Error}
@@ -84,7 +83,7 @@ tell_drop (suc n) (i ∷ items) (l ∷ lines) t = tell_drop n items lines t.1
 
 -- ---- how many are in the reply
 
-no_len : (max space : ℕ) (got : Got) (i : Item) → judged max space got i ≡ Fits → len_of got i ≡ 0 → ⊥
+no_len : (max space : ℕ) (got : Got) (i : Item) → verdict max space got i ≡ Fits → len_of got i ≡ 0 → ⊥
 no_len max space (Ok entry) i fits none = omega (arith, none)
 no_len max space (Err fault) i fits none = cc
 
@@ -112,7 +111,7 @@ taken_at size space lines (Fails fault) a =
 taken_all : (size space : ℕ) (lines : List Line) (stop : Stop) → AreWritten true size space 0 lines
     → taken_by (answer_of true size space (sum_by line_len lines) stop) (length lines) ≡ length lines
 taken_all size space lines End a = refl
-taken_all size space lines (At l) a = taken_at size space lines (fate size space (sum_by line_len lines) l) a
+taken_all size space lines (At l) a = taken_at size space lines ((verdict (size - (sum_by line_len lines)) (space - (sum_by line_len lines)) l.got l.item)) a
 
 -- ---- what is given back
 

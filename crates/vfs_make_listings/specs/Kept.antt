@@ -4,8 +4,7 @@ use Rattle.std.specs.declared.alloc.Global.{Global}
 use Rattle.vfs_calls.specs.Values.{IsFaultOf, entry_out_for}
 use Rattle.vfs_calls.specs.declared.data.EntryData.{EntryData}
 use Rattle.vfs_calls.specs.declared.data.ItemData.{ItemData}
-use Rattle.vfs_files.specs.Entries.{entry_out_of}
-use Rattle.vfs_files.specs.Names.{name_of}
+use Rattle.vfs_files.specs.Values.{entry_out_of, name_of}
 use Rattle.vfs_grammar.specs.Listing.{Got, Line}
 use Rattle.vfs_answer.specs.Offered.{item_told}
 

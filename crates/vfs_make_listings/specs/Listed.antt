@@ -6,7 +6,7 @@ use Rattle.vfs_calls.specs.declared.call.CallData.{CallData}
 use Rattle.vfs_ask.specs.Asked.{told_of_listing}
 use Rattle.vfs_files.specs.Calls.{Call, Handed, Data, Readdir, IsAnswer, read_answer}
 use Rattle.vfs_make.specs.declared.handled.Handled.{Handled}
-use Rattle.vfs_files.specs.Items.{Item}
+use Rattle.vfs_files.specs.Values.{Item}
 use Rattle.vfs_files.specs.Runs.{Event, OpenedDirectory, Happening, IsRun, events_of}
 use Rattle.vfs_messages.specs.Rooms.{Replies}
 use Rattle.vfs_grammar.specs.Forms.{Ask, Lists, Listing, WithMemory}

@@ -4,12 +4,11 @@ use Rattle.std.specs.List.{flat_map}
 use Rattle.std.specs.declared.alloc.Global.{Global}
 use Rattle.vfs_calls.specs.declared.data.ItemData.{ItemData}
 use Rattle.vfs_files.specs.Calls.{Call, Handed}
-use Rattle.vfs_files.specs.Items.{Item}
+use Rattle.vfs_files.specs.Values.{Item}
 use Rattle.vfs_files.specs.RunLaws.{Ran}
 use Rattle.vfs_files.specs.Runs.{Event, Taken}
 use Rattle.vfs_files.specs.declared.entry.Context.{Context}
-use Rattle.vfs_grammar.specs.Dirents.{Fits}
-use Rattle.vfs_grammar.specs.Listing.{AreWritten, At, End, FitsGot, Got, IsGot, Line, Stop, Stops, is_dot, judged, len_of, line_events, line_len, node_got}
+use Rattle.vfs_grammar.specs.Listing.{Fits, AreWritten, At, End, FitsGot, Got, IsGot, Line, Stop, Stops, is_dot, len_of, line_events, line_len, node_got, verdict}
 use Rattle.vfs_listings.specs.Reading.{LooksUp}
 use Rattle.vfs_make_listings.specs.Kept.{TellGots, TellsBy}
 
@@ -25,10 +24,10 @@ AddsData l names items names_after items_after =
 abbrev pub IsKept : (max space : ℕ) → Line → (names : List (Vec ℕ Global)) → (items : List ItemData)
     → Result (Option ℕ) (Option ℕ) → (names_after : List (Vec ℕ Global)) → (items_after : List ItemData) → Type 0
 IsKept max space l names items (Ok (Some len)) names_after items_after =
-    (judged max space l.got l.item ≡ Fits) × (len ≡ len_of l.got l.item) × (0 < len)
+    (verdict max space l.got l.item ≡ Fits) × (len ≡ len_of l.got l.item) × (0 < len)
     × AddsData l names items names_after items_after
 IsKept max space l names items (Ok None) names_after items_after =
-    (judged max space l.got l.item ≢ Fits) × AddsData l names items names_after items_after
+    (verdict max space l.got l.item ≢ Fits) × AddsData l names items names_after items_after
 IsKept max space l names items (Err node) names_after items_after =
     (items_after ≡ items) × (node ≡ node_got l.got)
 

@@ -1,11 +1,8 @@
 //! An item of a directory: what its lookup got, its data, and whether its record fits.
 
 ghost use Rattle.std.specs.Prelude.{◌≡◌, ◌≢◌, ◌+◌, ◌<◌, ℕ, length, if◌then◌else◌, List, Some, MatchOption};
-ghost use Rattle.vfs_files.specs.Entries.{entry_out_of};
-ghost use Rattle.vfs_files.specs.Items.{item};
-ghost use Rattle.vfs_files.specs.Names.{name_of, name_text};
-ghost use Rattle.vfs_grammar.specs.Dirents.{Fits, dirent_len};
-ghost use Rattle.vfs_grammar.specs.Listing.{FitsGot, dot_out, is_dot, judged, len_of};
+ghost use Rattle.vfs_files.specs.Values.{entry_out_of, item, name_of, name_text};
+ghost use Rattle.vfs_grammar.specs.Listing.{Fits, dirent_len, FitsGot, dot_out, is_dot, len_of, verdict};
 ghost use Rattle.vfs_listings.specs.Reading.{LooksUp};
 ghost use Rattle.vfs_make.specs.Told.{caller};
 ghost use Rattle.vfs_make_listings.specs.Kept.{IsToldOf, TellsBy};
@@ -84,8 +81,8 @@ fn record_len(name: &[u8], plus: bool) -> usize
 /// is space for `space`.
 pub fn written_len(dir_entry: DirEntry<'_>, got: &Got, max: usize, space: usize) -> Option<usize>
     ensures { MatchOption result
-        (judged max space got.now (item dir_entry.entry) ≢ Fits)
-        (λ len. (judged max space got.now (item dir_entry.entry) ≡ Fits)
+        (verdict max space got.now (item dir_entry.entry) ≢ Fits)
+        (λ len. (verdict max space got.now (item dir_entry.entry) ≡ Fits)
         × (len ≡ len_of got.now (item dir_entry.entry)) × (0 < len)) }
 {
     let name = dir_entry.name.to_bytes();

@@ -1,7 +1,7 @@
 //! Names of items: copied while a directory is read, and lent to the items when it has been.
 
 ghost use Rattle.std.specs.Prelude.{◌≡◌, length, List, IfOk, Some};
-ghost use Rattle.vfs_files.specs.Names.{name_of, name_text};
+ghost use Rattle.vfs_files.specs.Values.{name_of, name_text};
 ghost use Rattle.vfs_grammar.specs.Listing.{Line};
 ghost use Rattle.vfs_make_listings.specs.Kept.{TellLines, TellLinesBy};
 

@@ -1,7 +1,7 @@
 //! Items of a directory are taken, and looked up for READDIRPLUS, up to the first that doesn't fit.
 
 ghost use Rattle.std.specs.Prelude.{◌≡◌, ◌≤◌, [], MatchResult};
-ghost use Rattle.vfs_files.specs.Items.{item};
+ghost use Rattle.vfs_files.specs.Values.{item};
 ghost use Rattle.vfs_make.specs.Told.{caller};
 ghost use Rattle.vfs_grammar.specs.Listing.{node_got};
 ghost use Rattle.vfs_make_listings.specs.Taken.{AddsData, TakesAll, TakesItem, TakesSome};

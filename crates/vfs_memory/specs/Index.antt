@@ -6,7 +6,7 @@ use Rattle.std.specs.Str.{bytes_eq}
 use Rattle.std.specs.Cmp.Lexicographic.{slice_cmp}
 use Rattle.std.specs.BTreeMap.{BTreeMap, get_by}
 use Rattle.std.specs.declared.alloc.Global.{Global}
-use Rattle.vfs_flags.specs.Errors.{enomem}
+use Rattle.vfs_flags.specs.Numbers.{enomem}
 use Rattle.vfs_files.specs.declared.entry.Entry.{Entry}
 use Rattle.vfs_memory.specs.MemFs.{Stored, Stock, IsEntryOf, with_file}
 

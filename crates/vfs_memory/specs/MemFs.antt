@@ -3,10 +3,10 @@ use Rattle.std.specs.Prelude.{◌≡◌, ℕ, zero, suc, ◌==◌, ◌+◌, ◌-
 use Rattle.std.specs.Str.{bytes_eq}
 use Rattle.std.specs.Duration.{as_nanos}
 use Rattle.std.specs.declared.time.Duration.{Duration}
-use Rattle.vfs_flags.specs.Errors.{enoent, enomem, eexist, enotdir, enospc}
+use Rattle.vfs_flags.specs.Numbers.{enoent, enomem, eexist, enotdir, enospc}
 use Rattle.vfs_wire.specs.declared.attributes.Attr.{Attr}
 use Rattle.vfs_files.specs.declared.entry.Entry.{Entry}
-use Rattle.vfs_files.specs.Items.{Item}
+use Rattle.vfs_files.specs.Values.{Item}
 use Rattle.vfs_files.specs.Calls.{Call, Init, Lookup, Getattr, Unlink, Read, Write, Readdir, Create, Answer, Done, Failed, Options, Found, Attributes, Put, Created, Wrote, Handed, Plain, Iterator, default_answer}
 use Rattle.vfs_files.specs.Bytes.{part_of, most_put}
 use Rattle.vfs_memory.specs.MemFile.{Writes}

@@ -2,8 +2,8 @@
 ghost use Rattle.std.specs.Prelude.{◌≡◌, ◌==◌, ◌<◌, ◌^◌, ◌-◌, position, remove, length, Some, None, IfSome, MatchResult};
 ghost use Rattle.std.specs.List.{AllPairs};
 ghost use Rattle.std.specs.Option.{option_copied};
-ghost use Rattle.vfs_flags.specs.Errors.{enoent, enomem};
-ghost use Rattle.vfs_files.specs.Names.{name_text};
+ghost use Rattle.vfs_flags.specs.Numbers.{enoent, enomem};
+ghost use Rattle.vfs_files.specs.Values.{name_text};
 ghost use Rattle.vfs_memory.specs.MemFs.{attr_of, file_attr, first_stock, IsEntryOf, file_named, file_at, node_place};
 ghost use Rattle.vfs_memory.specs.Index.{file_place, AddsWith, ComesBefore};
 

@@ -2,7 +2,7 @@
 use Rattle.std.proofs.Common.{◌≡◌, ◌+◌, ℕ, List, ◌++◌, length, take, Option, Result, Ok, Err, IfErr, refl, ap, sym, ◌∙◌, arith, append_assoc, length-append, length-take, length-drop}
 use Rattle.std.proofs.lemmas.List.{take_at}
 use Rattle.vfs_wire.specs.Fields.{bytes_of}
-use Rattle.vfs_wire.specs.Headers.{out_header}
+use Rattle.vfs_wire.specs.Records.{out_header}
 use Rattle.vfs_wire.specs.declared.headers.OutHeader.{OutHeader}
 use Rattle.vfs_segments.specs.SegmentLaws.{with_bytes_at-append}
 use Rattle.vfs_segments.specs.Written.{Written, whole, held_filled}

@@ -3,7 +3,7 @@ use Rattle.std.proofs.Common.{◌≡◌, ◌-◌, ◌<◌, ◌≤◌, ℕ, List,
 use Rattle.std.specs.Prelude.{nat_lt}
 use Rattle.std.proofs.lemmas.Bool.{le-ltb}
 use Rattle.std.proofs.lemmas.List.{take_all}
-use Rattle.vfs_files.specs.Extensions.{ExtensionValues, extension_values_of}
+use Rattle.vfs_files.specs.Values.{ExtensionValues, extension_values_of}
 use Rattle.vfs_files.specs.declared.extensions.Extensions.{Extensions}
 use Rattle.vfs_grammar.specs.Extensions.{Block, Received, block_in, cut_of, receive, received_at_end, extensions_of, extensions_in, extensions_after, reads_extensions, no_extensions, nothing_received}
 use Rattle.vfs_grammar.specs.declared.error.Error.{Error}

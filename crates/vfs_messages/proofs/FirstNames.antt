@@ -2,7 +2,8 @@
 use Rattle.std.proofs.Common.{◌≡◌, ◌==◌, ◌+◌, ◌-◌, ◌<◌, ℕ, List, length, take, position, Option, Some, None, refl, ap, sym, ◌∙◌, arith}
 use Rattle.std.proofs.lemmas.Bool.Decides.{nat_tests}
 use Rattle.std.proofs.lemmas.List.Quantifiers.{position-Some}
-use Rattle.vfs_files.specs.Names.{name_of, name_to}
+use Rattle.vfs_files.specs.Values.{name_of}
+use Rattle.vfs_files.specs.Places.{name_to}
 
 -- a place that was found lies in the list
 pub below_length : (bytes : List ℕ) (i : ℕ) → position (λ b. b == 0) bytes ≡ Some i → i < length bytes

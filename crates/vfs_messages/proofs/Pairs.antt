@@ -5,7 +5,7 @@ use Rattle.std.proofs.lemmas.List.{drop-take}
 use Rattle.std.specs.declared.vec.Vec.{Vec}
 use Rattle.std.specs.declared.alloc.Global.{Global}
 use Rattle.vfs_wire.specs.Fields.{value_of}
-use Rattle.vfs_wire.specs.Entries.{forget_one}
+use Rattle.vfs_wire.specs.Records.{forget_one}
 use Rattle.vfs_wire.specs.declared.entries.ForgetOne.{ForgetOne}
 use Rattle.vfs_wire.specs.FieldLaws.{value_of-take}
 use Rattle.vfs_grammar.specs.Forms.{pairs_in, pairs_of}

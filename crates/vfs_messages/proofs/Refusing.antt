@@ -2,7 +2,7 @@
 use Rattle.std.proofs.Common.{◌&&◌, ℕ, List, length, drop, nat_lt, Result, Ok, Err, ◌≡◌, ◌≢◌, ◌∙◌, sym, subst, inl, inr}
 use Rattle.std.specs.Prelude.{IsFalse}
 use Rattle.vfs_flags.specs.Flags.{security_ctx}
-use Rattle.vfs_files.specs.Extensions.{extension_values_of}
+use Rattle.vfs_files.specs.Values.{extension_values_of}
 use Rattle.vfs_files.specs.declared.extensions.Extensions.{Extensions}
 use Rattle.vfs_grammar.specs.Extensions.{has_option, reads_extensions, extensions_after}
 use Rattle.vfs_grammar.specs.declared.error.Error.{Error}

@@ -4,13 +4,13 @@ use Rattle.std.proofs.lemmas.List.{take_all, drop_all, nil_from_length, drop-app
 use Rattle.std.proofs.lemmas.Bool.Decides.{nat_tests}
 use Rattle.vfs_wire.specs.Fields.{Table, Fit}
 use Rattle.vfs_wire.specs.FieldLaws.{length-bytes_of}
-use Rattle.vfs_segments.specs.Written.{Written, whole, wrote}
+use Rattle.vfs_segments.specs.Written.{Written, whole, wrote, Leaves}
 use Rattle.vfs_segments.specs.WrittenLaws.{wrote_both}
 use Rattle.vfs_grammar.specs.Room.{put_outcome, put_room}
 use Rattle.vfs_grammar.specs.Reply.{Reply, Refusal, NoReply, Bytes, OpenBehind}
 use Rattle.vfs_grammar.proofs.Rooms.{put_outcome-fits, put_room-fits}
 use Rattle.vfs_grammar.specs.declared.error.Error.{Error}
-use Rattle.vfs_messages.specs.Rooms.{bytes_of_option, size_of_option, Leaves, Replies, Writes, IsShortReply, with_behind}
+use Rattle.vfs_messages.specs.Rooms.{bytes_of_option, size_of_option, Replies, Writes, IsShortReply, with_behind}
 
 -- the bytes of a writer into which as much of a reply was written as there is room for
 written_room : (old : Written) (reply : List ℕ) (fits : Bool) → nat_le (length reply) (length old.left) ≡ fits → Leaves old (put_room reply old.left) (wrote old (take (length old.left) reply))

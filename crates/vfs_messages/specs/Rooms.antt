@@ -1,9 +1,9 @@
 -- Replies as they are put through a writer.
 use Rattle.std.specs.Prelude.{⊤, ℕ, List, [], Option, Some, None, pos, ◌+◌, ◌-ℤ◌, Result, Ok, Err, ◌≡◌, ◌≤◌, ◌++◌, length}
 use Rattle.vfs_wire.specs.Fields.{Table, bytes_of}
-use Rattle.vfs_wire.specs.Headers.{out_header}
+use Rattle.vfs_wire.specs.Records.{out_header}
 use Rattle.vfs_wire.specs.declared.headers.OutHeader.{OutHeader}
-use Rattle.vfs_segments.specs.Written.{Written, Moves, held_over, whole}
+use Rattle.vfs_segments.specs.Written.{Written, Leaves, Moves, held_over}
 use Rattle.vfs_grammar.specs.Records.{size_of}
 use Rattle.vfs_grammar.specs.Reply.{fault_number, Reply, Refusal, NoReply, Bytes, OpenBehind}
 use Rattle.vfs_grammar.specs.declared.error.Error.{Error}
@@ -38,13 +38,6 @@ data_header (Err fault) unique =
 -- a writer whose room goes on behind what it has left
 abbrev pub with_behind : Written → (behind : List ℕ) → Written
 with_behind w behind = record w { left = w.left ++ behind }
-
--- A writer keeps the bytes that it had passed, and those of its room are `room_after`, as many as
--- before, in segments of the same lengths. Where it stands isn't said.
-pub record Leaves (old : Written) (room_after : List ℕ) (new : Written) : Type 0 where
-  pub kept : whole new ≡ old.passed ++ room_after
-  pub same_length : length room_after ≡ length old.left
-  pub same_segments : new.lengths ≡ old.lengths
 
 -- bytes came back through a writer; it holds nothing if it held nothing
 pub record Writes (reply : Reply) (old : Written) (outcome : Result ℕ Error) (new : Written)

@@ -4,7 +4,7 @@
 ghost use Rattle.std.specs.Prelude.{◌≡◌};
 ghost use Rattle.vfs_flags.specs.Flags.{fs_options_bits};
 ghost use Rattle.vfs_wire.specs.Fields.{bytes_of};
-ghost use Rattle.vfs_wire.specs.Init.{init_out};
+ghost use Rattle.vfs_wire.specs.Records.{init_out};
 ghost use Rattle.vfs_files.specs.Calls.{IsAnswer, Agreements, Init, init_answer};
 ghost use Rattle.vfs_grammar.specs.Forms.{second_flags};
 ghost use Rattle.vfs_grammar.specs.Limits.{AreLimits};

@@ -6,8 +6,8 @@
 
 ghost use Rattle.std.specs.Prelude.{◌≡◌, ◌≢◌, ◌≤◌, ◌<◌, ◌↔◌, ◌+◌, ◌-◌, ◌^◌, ◌%◌, ◌++◌, ◌-ℤ◌, pos, take, length, ℕ, List, [], nat_le, if◌then◌else◌, Ok, Err, IfSome, option_map, IfOk, IfErr, IsOk, OnOk, OnErr, MatchResult};
 ghost use Rattle.vfs_wire.specs.Fields.{Fit, bytes_of};
-ghost use Rattle.vfs_wire.specs.Headers.{out_header};
-ghost use Rattle.vfs_wire_more.specs.Xattrs.{getxattr_out};
+ghost use Rattle.vfs_wire.specs.Records.{out_header};
+ghost use Rattle.vfs_wire_more.specs.Records.{getxattr_out};
 ghost use Rattle.vfs_flags.specs.Flags.{open_options_bits};
 ghost use Rattle.vfs_segments.specs.declared.record.TheConstants.{LARGEST_RECORD};
 ghost use Rattle.vfs_segments.specs.Written.{Written, wrote, held_over, held_filled};

@@ -2,13 +2,14 @@
 
 ghost use Rattle.std.specs.Prelude.{◌≡◌, ◌==◌, ◌≤◌, ◌+◌, ◌-◌, ◌*◌, length, drop, take, map, option_map, bit_and, position, ◌⊎◌, OnOk, IfOk, IfErr, IsErr, IsFalse, MatchResult, Ok, Err, Some};
 ghost use Rattle.vfs_flags.specs.Flags.{fs_options_bits, setattr_valid_bits, known_setattr_valid, setxattr_flags_bits, known_setxattr_flags, setxattr_ext};
-ghost use Rattle.vfs_files.specs.Names.{name_text, name_of};
-ghost use Rattle.vfs_wire.specs.Entries.{forget_one};
+ghost use Rattle.vfs_files.specs.Values.{name_text, name_of};
+ghost use Rattle.vfs_wire.specs.Records.{forget_one};
 ghost use Rattle.vfs_segments.specs.declared.record.TheConstants.{LARGEST_RECORD};
 ghost use Rattle.vfs_segments.specs.Lengths.{lengths_from, lie_together};
 ghost use Rattle.vfs_grammar.specs.Ask.{has_flag, if_set, setxattr_layout};
 ghost use Rattle.vfs_messages.specs.Parts.{GivesValue, MayHoldContext, TailIsCut, pieces_behind, GivesTail, GivesPart, GivesPartAs, GivesExtended, extended_values, link_values, GivesPairs};
-ghost use Rattle.vfs_grammar.specs.Forms.{tail_of, name_in, pairs_in, pairs_of, second_or_refusal, names_in, sized_or_refusal, value_in, extended_in, link_or_refusal, link_in_tail, layout_record, layout_size};
+ghost use Rattle.vfs_grammar.specs.Forms.{tail_of, name_in, pairs_in, pairs_of, two_names_in, value_in, extended_in, link_in_tail, layout_record, layout_size};
+ghost use Rattle.vfs_grammar.specs.FormParts.{second_or_refusal, sized_or_refusal, link_or_refusal};
 ghost use Rattle.vfs_grammar.specs.Records.{record_of, size_of};
 
 use crate::extensions::get_extensions;
@@ -134,7 +135,7 @@ pub struct Name<'a> {
 
 impl<'a> Model for Name<'a> {
     ghost use Rattle.std.specs.Prelude.{◌≡◌, ℕ, List, Some};
-    ghost use Rattle.vfs_files.specs.Names.{name_of};
+    ghost use Rattle.vfs_files.specs.Values.{name_of};
     ghost use Rattle.vfs_messages.specs.Parts.{text_or_none};
 
     ghost Value = { List ℕ };
@@ -227,7 +228,7 @@ pub struct TwoNames<'a> {
 
 impl<'a> Model for TwoNames<'a> {
     ghost use Rattle.std.specs.Prelude.{◌≡◌, ℕ, List, Some};
-    ghost use Rattle.vfs_files.specs.Names.{name_of};
+    ghost use Rattle.vfs_files.specs.Values.{name_of};
     ghost use Rattle.vfs_messages.specs.Parts.{text_or_none};
 
     ghost Value = { List ℕ × List ℕ };
@@ -270,8 +271,8 @@ fn second_of<'a>(first: FirstName<'a>) -> Result<TwoNames<'a>>
 /// The two names that a tail is.
 fn names_of_tail<'a>(tail: Tail<'a>) -> Result<TwoNames<'a>>
     ensures { MatchResult result
-        (λ names. names_in tail.entry ≡ Ok names)
-        (λ error. names_in tail.entry ≡ Err error) }
+        (λ names. two_names_in tail.entry ≡ Ok names)
+        (λ error. two_names_in tail.entry ≡ Err error) }
 {
     let Some(nul) = first_nul(tail.as_bytes()) else {
         return Err(Error::MissingParameter);
@@ -289,7 +290,7 @@ pub fn read_names<'a>(
     reader: &mut Reader<'a>,
 ) -> Result<TwoNames<'a>>
     requires { size ≤ LARGEST_RECORD }
-    ensures { GivesPart (TailIsCut header.now size reader.old.pieces) names_in result
+    ensures { GivesPart (TailIsCut header.now size reader.old.pieces) two_names_in result
         (tail_of header.now size reader.old.left) }
 {
     let tail = read_tail(alloc, header, size, reader)?;

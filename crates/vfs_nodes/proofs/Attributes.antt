@@ -4,7 +4,7 @@ use Rattle.std.proofs.lemmas.List.Edits.{remove-append_left}
 use Rattle.std.proofs.lemmas.List.Sums.{sum_by-cons, sum_by_push, sum_by-remove, sum_by-take-le, get_or-le-sum_by}
 use Rattle.std.proofs.lemmas.Grind.{flat_map-append}
 use Rattle.std.proofs.lemmas.List.{take_more, get_or_append_left}
-use Rattle.vfs_nodes.specs.Xattrs.{Xattr, is_called, bytes_of, xattr_bytes, without_place, with_xattr, name_list}
+use Rattle.vfs_nodes.specs.Xattrs.{Xattr, is_called, attribute_bytes, xattr_bytes, without_place, with_xattr, name_list}
 
 -- the names are not longer than names and values
 pub names_fit : (xattrs : List Xattr) → length (name_list xattrs) ≤ xattr_bytes xattrs
@@ -12,7 +12,7 @@ names_fit [] = omega arith
 names_fit (x ∷ xs) =
     omega (
       arith,
-      sum_by-cons bytes_of x xs,
+      sum_by-cons attribute_bytes x xs,
       names_fit xs,
       length-append (x.name ++ 0 ∷ []) (name_list xs),
       length-append x.name (0 ∷ []),
@@ -42,7 +42,7 @@ length_more xattrs i xattr within is = (
     length-append (name_list (take i xattrs)) (xattr.name ++ 0 ∷ []),
     length-append xattr.name (0 ∷ []),
   ),
-  omega (arith, names_fit (take (i + 1) xattrs), sum_by-take-le bytes_of xattrs (i + 1)),
+  omega (arith, names_fit (take (i + 1) xattrs), sum_by-take-le attribute_bytes xattrs (i + 1)),
 )
 
 -- what was pushed stands behind the others, without the one that had its name
@@ -64,15 +64,15 @@ pushed_only xattrs name value place is none =
 
 -- the bytes of all, with the pushed one, without and with the one that goes
 pub bytes_pushed : (old : List Xattr) (made : Xattr) (pushed : List Xattr)
-    → pushed ≡ old ++ made ∷ [] → xattr_bytes pushed ≡ xattr_bytes old + bytes_of made
-bytes_pushed old made pushed is = ap xattr_bytes is ∙ sum_by_push bytes_of old made
+    → pushed ≡ old ++ made ∷ [] → xattr_bytes pushed ≡ xattr_bytes old + attribute_bytes made
+bytes_pushed old made pushed is = ap xattr_bytes is ∙ sum_by_push attribute_bytes old made
 
 pub bytes_replaced : (old : List Xattr) (made : Xattr) (pushed left : List Xattr) (i : ℕ)
     (gone : Xattr)
     → i < length old → pushed ≡ old ++ made ∷ [] → gone ≡ get_or pushed i gone
     → left ≡ remove pushed i
-    → (xattr_bytes left + bytes_of gone ≡ xattr_bytes old + bytes_of made)
-    × (bytes_of gone ≤ xattr_bytes old)
+    → (xattr_bytes left + attribute_bytes gone ≡ xattr_bytes old + attribute_bytes made)
+    × (attribute_bytes gone ≤ xattr_bytes old)
 bytes_replaced old made pushed left i gone within is read removed =
     let long : i < length pushed = omega (arith, ap length is, length-append old (made ∷ [])) in
     let here : gone ≡ get_or old i gone =
@@ -80,9 +80,9 @@ bytes_replaced old made pushed left i gone within is read removed =
       omega (
         arith,
         ap xattr_bytes removed,
-        sum_by-remove bytes_of pushed i gone long,
-        ap bytes_of read,
+        sum_by-remove attribute_bytes pushed i gone long,
+        ap attribute_bytes read,
         bytes_pushed old made pushed is,
       ),
-      omega (arith, ap bytes_of here, get_or-le-sum_by bytes_of old i gone within),
+      omega (arith, ap attribute_bytes here, get_or-le-sum_by attribute_bytes old i gone within),
     )

@@ -1,6 +1,6 @@
 -- A write into a node.
 use Rattle.std.specs.Prelude.{◌≡◌, ℕ, List, length, Option, Some, Result, Ok, Err}
-use Rattle.vfs_flags.specs.Errors.{enomem}
+use Rattle.vfs_flags.specs.Numbers.{enomem}
 use Rattle.vfs_files.specs.Bytes.{fitting, Lengthens}
 use Rattle.vfs_nodes.specs.Node.{overwritten}
 use Rattle.vfs_nodes.specs.declared.node.Node.{Node}

@@ -15,11 +15,11 @@ abbrev pub xattr_named : List Xattr → (name : List ℕ) → Option (List ℕ)
 xattr_named xattrs name = option_map (λ xattr. xattr.value) (find (is_called name) xattrs)
 
 -- how many bytes one takes: its name, its value, and 128 for its place
-abbrev pub bytes_of : Xattr → ℕ
-bytes_of xattr = length xattr.name + length xattr.value + 128
+abbrev pub attribute_bytes : Xattr → ℕ
+attribute_bytes xattr = length xattr.name + length xattr.value + 128
 
 abbrev pub xattr_bytes : List Xattr → ℕ
-xattr_bytes xattrs = sum_by bytes_of xattrs
+xattr_bytes xattrs = sum_by attribute_bytes xattrs
 
 -- without the one at this place of the list, if there is one
 abbrev pub without_place : List Xattr → Option ℕ → List Xattr

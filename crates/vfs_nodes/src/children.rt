@@ -1,10 +1,9 @@
 //! The names of a directory.
 
 ghost use Rattle.std.specs.Prelude.{◌≡◌, ◌==◌, ◌<◌, length, Some, None, OnOk, IfErr};
-ghost use Rattle.vfs_flags.specs.Errors.{enomem};
-ghost use Rattle.vfs_files.specs.Names.{name_text};
-ghost use Rattle.vfs_nodes.specs.Children.{no_children, has_place, child_named, directories_in};
-ghost use Rattle.vfs_nodes.specs.Children.{with_child, without_child, with_other_child};
+ghost use Rattle.vfs_flags.specs.Numbers.{enomem};
+ghost use Rattle.vfs_files.specs.Values.{name_text};
+ghost use Rattle.vfs_nodes.specs.Children.{no_children, has_place, child_named, directories_in, with_child, without_child, with_other_child};
 
 use crate::kind::Kind;
 use std::alloc::Global;

@@ -3,7 +3,7 @@
 ghost use Rattle.std.specs.Prelude.{◌≡◌, ◌<◌, ◌^◌, [], Some, MatchResult, OnOk, IfErr, length, ℕ, List, take};
 ghost use Rattle.vfs_files.specs.Bytes.{PutsPart, Writes};
 ghost use Rattle.vfs_nodes.specs.Bytes.{resized};
-ghost use Rattle.vfs_flags.specs.Errors.{enomem};
+ghost use Rattle.vfs_flags.specs.Numbers.{enomem};
 
 use std::alloc::Global;
 use std::marker::Model;

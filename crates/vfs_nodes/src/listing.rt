@@ -2,9 +2,8 @@
 
 ghost use Rattle.std.specs.Prelude.{◌≡◌, ◌<◌, IfOk, IfErr, Some, nat_lt, take};
 ghost use Rattle.std.specs.List.{filter};
-ghost use Rattle.vfs_flags.specs.Errors.{enomem};
-ghost use Rattle.vfs_files.specs.Items.{item};
-ghost use Rattle.vfs_files.specs.Names.{name_text};
+ghost use Rattle.vfs_flags.specs.Numbers.{enomem};
+ghost use Rattle.vfs_files.specs.Values.{item, name_text};
 ghost use Rattle.vfs_nodes.specs.Listing.{dot_items, items_behind};
 
 use crate::children::Child;

@@ -1,10 +1,9 @@
 //! A node: a directory, a file or a symbolic link.
 
 ghost use Rattle.std.specs.Prelude.{◌≡◌, ℕ, List, take, if◌then◌else◌, Some, MatchResult, OnOk, IfErr, IsTrue};
-ghost use Rattle.vfs_flags.specs.Errors.{enomem};
+ghost use Rattle.vfs_flags.specs.Numbers.{enomem};
 ghost use Rattle.vfs_flags.specs.Flags.{setattr_valid_bits};
-ghost use Rattle.vfs_nodes.specs.Node.{attr_of, nlink_of, IsEntryOf, weight, new_node, opened, set_attr};
-ghost use Rattle.vfs_nodes.specs.Node.{left_by, lengthens, truncates, without_set_ids};
+ghost use Rattle.vfs_nodes.specs.Node.{attr_of, nlink_of, IsEntryOf, weight, new_node, opened, set_attr, left_by, lengthens, truncates, without_set_ids};
 ghost use Rattle.vfs_nodes.specs.Writing.{Overwrites};
 
 use crate::children::Children;

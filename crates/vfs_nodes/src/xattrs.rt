@@ -1,9 +1,9 @@
 //! The extended attributes of a node.
 
 ghost use Rattle.std.specs.Prelude.{◌≡◌, ◌≤◌, ◌<◌, ◌++◌, ◌∷◌, [], List, ℕ, length, Some, None, MatchOption, MatchResult, OnOk, IfErr, IfSome, position};
-ghost use Rattle.vfs_flags.specs.Errors.{enomem};
-ghost use Rattle.vfs_files.specs.Names.{name_text};
-ghost use Rattle.vfs_nodes.specs.Xattrs.{bytes_of, xattr_bytes, xattr_named, is_called, with_xattr, without_xattr, name_list};
+ghost use Rattle.vfs_flags.specs.Numbers.{enomem};
+ghost use Rattle.vfs_files.specs.Values.{name_text};
+ghost use Rattle.vfs_nodes.specs.Xattrs.{attribute_bytes, xattr_bytes, xattr_named, is_called, with_xattr, without_xattr, name_list};
 
 use std::alloc::Global;
 use std::marker::Model;
@@ -182,8 +182,8 @@ impl Xattrs {
 impl Xattr {
     // How many bytes it takes.
     fn bytes(&self) -> u64
-        requires { bytes_of self.now ≤ MOST_BYTES }
-        ensures { result ≡ bytes_of self.now }
+        requires { attribute_bytes self.now ≤ MOST_BYTES }
+        ensures { result ≡ attribute_bytes self.now }
     {
         self.name.as_c_str().to_bytes().len() as u64 + self.value.len() as u64 + PLACE_BYTES
     }

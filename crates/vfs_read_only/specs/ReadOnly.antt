@@ -1,8 +1,8 @@
 -- The file system that is made of a tree which is only read: what its calls answer.
 use Rattle.std.specs.Prelude.{◌≡◌, ℕ, ◌+◌, ◌==◌, bit_and, Bool, true, false, List, [], ◌∷◌, drop, Option, Some, None, is_some, if◌then◌else◌}
-use Rattle.vfs_flags.specs.Errors.{enoent, enotdir, eisdir, erofs}
+use Rattle.vfs_flags.specs.Numbers.{enoent, enotdir, eisdir, erofs}
 use Rattle.vfs_wire.specs.declared.attributes.Attr.{Attr}
-use Rattle.vfs_files.specs.Items.{Item}
+use Rattle.vfs_files.specs.Values.{Item}
 use Rattle.vfs_files.specs.Calls.{Call, Lookup, Getattr, Setattr, Symlink, Mknod, Mkdir, Unlink, Rmdir, Rename, Link, Open, Read, Write, Setxattr, Removexattr, Readdir, Access, Create, Fallocate, Copyfilerange, Tmpfile, Answer, Done, Failed, Found, Attributes, Put, Handed, Plain, Iterator, default_opening, default_answer}
 use Rattle.vfs_files.specs.Bytes.{part_of, most_put}
 use Rattle.vfs_read_only.specs.Tables.{Named, Tables}

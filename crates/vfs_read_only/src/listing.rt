@@ -17,7 +17,7 @@ pub struct Listing<T: ReadTree> {
 
 impl<T: ReadTree> Model for Listing<T> {
     ghost use Rattle.std.specs.Prelude.{List};
-    ghost use Rattle.vfs_files.specs.Items.{Item};
+    ghost use Rattle.vfs_files.specs.Values.{Item};
     ghost use Rattle.vfs_read_only.specs.Tables.{items_of};
     ghost use Rattle.vfs_read_only.specs.ReadOnly.{items_behind};
 

@@ -2,7 +2,7 @@
 
 ghost use Rattle.std.specs.Prelude.{◌≡◌, ◌<◌, Some, IsSome, IfSome, length, position};
 ghost use Rattle.std.specs.Str.{bytes_eq};
-ghost use Rattle.vfs_files.specs.Names.{name_of, name_text};
+ghost use Rattle.vfs_files.specs.Values.{name_of, name_text};
 ghost use Rattle.vfs_read_only.specs.Makers as makers;
 
 use crate::tree::{DT_DIR, DT_REG, S_IFDIR, S_IFREG, TreeItem};

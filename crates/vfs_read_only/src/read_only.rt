@@ -1,7 +1,7 @@
 //! The calls of a tree's file system, in the trait's order.
 
 ghost use Rattle.std.specs.Prelude.{◌≡◌, ◌==◌, Some, if◌then◌else◌};
-ghost use Rattle.vfs_flags.specs.Errors.{enoent, erofs};
+ghost use Rattle.vfs_flags.specs.Numbers.{enoent, erofs};
 ghost use Rattle.vfs_files.specs.Answers.{Failed, attr_answer};
 ghost use Rattle.vfs_read_only.specs.ReadOnly.{AnswersAttr, refusal_of, lookup_refusal};
 

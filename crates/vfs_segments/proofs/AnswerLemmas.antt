@@ -3,7 +3,7 @@ use Rattle.std.proofs.Common.{◌≡◌, ℕ, ◌+◌, ◌<◌, ◌≤◌, List,
 use Rattle.std.specs.Prelude.{sum}
 use Rattle.std.proofs.lemmas.Bool.{cases_lt}
 use Rattle.vfs_segments.specs.Unread.{Unread, AreAlike, AdvancesBy, advanced}
-use Rattle.vfs_segments.specs.Answers.{Question, Available, Taken, Read, ReadExact, ReadObj, Answer, TooFew, AnswersWhole, Answers, AreAnswers, AnswerAlike, AnswerAll}
+use Rattle.vfs_segments.specs.Answers.{Question, Available, Taken, Read, ReadExact, ReadObj, ReaderAnswer, TooFew, AnswersWhole, Answers, AreAnswers, AnswerAlike, AnswerAll}
 
 -- readers that are alike stay so
 stay : (u t v w : Unread) → AreAlike u t → AreAlike u v → AreAlike t w → AreAlike v w
@@ -18,7 +18,7 @@ advance u t v w n m k e p r = record {
 }
 
 -- readers that are alike answer alike where a whole number of bytes is asked for
-whole-same : (u t : Unread) (n : ℕ) (this that a b : Answer) (v w : Unread) → AreAlike u t →
+whole-same : (u t : Unread) (n : ℕ) (this that a b : ReaderAnswer) (v w : Unread) → AreAlike u t →
     AnswersWhole u n this a v → AnswersWhole t n that b w → this ≡ that → (a ≡ b) × AreAlike v w
 whole-same u t n this that a b v w e p q f =
     let size : length u.left ≡ length t.left = ap length e.left in
@@ -34,7 +34,7 @@ whole-same u t n this that a b v w e p q f =
     (cases_lt (length u.left) n)
 
 -- readers that are alike answer a question alike, and stay so
-same : (u t : Unread) (q : Question) (a b : Answer) (v w : Unread) → AreAlike u t → Answers u q a v →
+same : (u t : Unread) (q : Question) (a b : ReaderAnswer) (v w : Unread) → AreAlike u t → Answers u q a v →
     Answers t q b w → (a ≡ b) × AreAlike v w
 same u t Available a b v w e p r = (cc (p.0, r.0, e.left, e.taken), stay u t v w e p.1 r.1)
 same u t Taken a b v w e p r = (cc (p.0, r.0, e.left, e.taken), stay u t v w e p.1 r.1)
@@ -47,7 +47,7 @@ same u t (ReadObj widths) a b v w e p r =
 
 -- and every list of questions
 all-same : (u t : Unread) → AreAlike u t →
-    (questions : List Question) (answers others : List Answer) (v w : Unread) →
+    (questions : List Question) (answers others : List ReaderAnswer) (v w : Unread) →
     AreAnswers u questions answers v → AreAnswers t questions others w → (answers ≡ others) × AreAlike v w
 all-same u t e [] [] [] v w p r = (refl, stay u t v w e p r)
 all-same u t e [] [] (b ∷ others) v w p r = absurd r
@@ -72,8 +72,8 @@ advanced-is : (u : Unread) (n : ℕ) → AdvancesBy u n (advanced u n)
 advanced-is u n = record { left = refl; taken = refl }
 
 -- there is an answer where a whole number of bytes is asked for
-whole-answer : (u : Unread) (n : ℕ) (this : Answer) →
-    (a : Answer) × ((v : Unread) × AnswersWhole u n this a v)
+whole-answer : (u : Unread) (n : ℕ) (this : ReaderAnswer) →
+    (a : ReaderAnswer) × ((v : Unread) × AnswersWhole u n this a v)
 whole-answer u n this =
     ⊎_elim
     (λ (h : length u.left < n). (
@@ -99,7 +99,7 @@ whole-answer u n this =
     (cases_lt (length u.left) n)
 
 -- there is one to each question
-answered : (u : Unread) (q : Question) → (a : Answer) × ((v : Unread) × Answers u q a v)
+answered : (u : Unread) (q : Question) → (a : ReaderAnswer) × ((v : Unread) × Answers u q a v)
 answered u Available = (_, (u, (refl, record { left = refl; taken = refl })))
 answered u Taken = (_, (u, (refl, record { left = refl; taken = refl })))
 answered u (Read buf) =

@@ -16,21 +16,21 @@ pub data Question : Type 0 where
 
 -- what a call answers: a count, how many bytes moved and what the buffer then has, a whole buffer,
 -- the fields of a record, or that too few bytes were left
-pub data Answer : Type 0 where
-  Count : ℕ → Answer
-  Moved : ℕ → List ℕ → Answer
-  Filled : List ℕ → Answer
-  Fields : List ℕ → Answer
-  TooFew : Answer
+pub data ReaderAnswer : Type 0 where
+  Count : ℕ → ReaderAnswer
+  Moved : ℕ → List ℕ → ReaderAnswer
+  Filled : List ℕ → ReaderAnswer
+  Fields : List ℕ → ReaderAnswer
+  TooFew : ReaderAnswer
 
 -- where n bytes are left they are taken, and the answer is this one; else all that are left are
 -- taken, and it is that they were too few
-pub record AnswersWhole (u : Unread) (n : ℕ) (this a : Answer) (v : Unread) : Type 0 where
+pub record AnswersWhole (u : Unread) (n : ℕ) (this a : ReaderAnswer) (v : Unread) : Type 0 where
   pub enough : n ≤ length u.left → (a ≡ this) × AdvancesBy u n v
   pub short : length u.left < n → (a ≡ TooFew) × AdvancesBy u (length u.left) v
 
 -- a reader that is asked q answers a, and is v then
-abbrev pub Answers : Unread → Question → Answer → Unread → Type 0
+abbrev pub Answers : Unread → Question → ReaderAnswer → Unread → Type 0
 Answers u Available a v = (a ≡ Count (length u.left)) × AreAlike u v
 Answers u Taken a v = (a ≡ Count u.taken) × AreAlike u v
 Answers u (Read buf) a v =
@@ -41,7 +41,7 @@ Answers u (ReadObj widths) a v =
     AnswersWhole u (sum widths) (Fields (numbers widths u.left)) a v
 
 -- the same of a list of questions, asked one after another
-abbrev pub AreAnswers : Unread → List Question → List Answer → Unread → Type 0
+abbrev pub AreAnswers : Unread → List Question → List ReaderAnswer → Unread → Type 0
 AreAnswers u [] [] v = AreAlike u v
 AreAnswers u [] (a ∷ answers) v = ⊥
 AreAnswers u (q ∷ questions) [] v = ⊥
@@ -54,7 +54,7 @@ abbrev pub AnswerAlike : Type 0
 AnswerAlike =
     (first second : List (List ℕ)) → flat_bytes first ≡ flat_bytes second →
     (u t : Unread) → IsUnread (flat_bytes first) u → IsUnread (flat_bytes second) t →
-    (questions : List Question) (answers others : List Answer) (v w : Unread) →
+    (questions : List Question) (answers others : List ReaderAnswer) (v w : Unread) →
     AreAnswers u questions answers v → AreAnswers t questions others w →
     (answers ≡ others) × AreAlike v w
 
@@ -62,4 +62,4 @@ AnswerAlike =
 abbrev pub AnswerAll : Type 0
 AnswerAll =
     (u : Unread) (questions : List Question) →
-    (answers : List Answer) × ((v : Unread) × AreAnswers u questions answers v)
+    (answers : List ReaderAnswer) × ((v : Unread) × AreAnswers u questions answers v)

@@ -71,6 +71,13 @@ held_filled w bs = record w { passed = with_bytes_at w.held_at bs w.passed; held
 abbrev pub whole : Written → List ℕ
 whole w = w.passed ++ w.left
 
+-- A writer keeps the bytes that it had passed, and those of its room are `room_after`, as many as
+-- before, in segments of the same lengths. Where it stands isn't said.
+pub record Leaves (old : Written) (room_after : List ℕ) (new : Written) : Type 0 where
+  pub kept : whole new ≡ old.passed ++ room_after
+  pub same_length : length room_after ≡ length old.left
+  pub same_segments : new.lengths ≡ old.lengths
+
 -- The bytes bs were put into the next bytes of the room, and count as written. What stands behind
 -- them there is open.
 pub record Moves (old : Written) (bs : List ℕ) (new : Written) : Type 0 where

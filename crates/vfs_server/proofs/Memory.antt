@@ -1,16 +1,16 @@
 -- Of bytes that lie in one segment no tail is cut.
-use Rattle.std.proofs.Common.{◌≡◌, ◌∙◌, ℕ, ◌+◌, ◌-◌, ◌&&◌, Bool, true, false, List, Option, Some, None, ap, arith, inl, inr}
+use Rattle.std.proofs.Common.{◌≡◌, ◌∙◌, ℕ, ◌+◌, ◌-◌, ◌&&◌, Bool, true, false, List, Option, Some, None, ap, arith, inl, inr, ◌⊎◌}
 use Rattle.std.specs.Prelude.{IsTrue, IsFalse}
 use Rattle.vfs_flags.specs.Flags.{security_ctx}
 use Rattle.vfs_flags.specs.declared.opcode.Opcode.{Opcode}
-use Rattle.vfs_wire.specs.Headers.{in_header}
+use Rattle.vfs_wire.specs.Records.{in_header}
 use Rattle.vfs_wire.specs.declared.headers.InHeader.{InHeader}
 use Rattle.vfs_segments.specs.Lengths.{lengths_from, lie_together}
 use Rattle.vfs_segments.specs.Unread.{Unread}
 use Rattle.vfs_grammar.specs.Ask.{form_of}
 use Rattle.vfs_grammar.specs.Extensions.{has_option}
-use Rattle.vfs_grammar.specs.Forms.{Layout, Without, Record, layout_size, MemoryUse, ForNothing, ForTail, ForTailAndContext, ForPairs, memory_use}
-use Rattle.vfs_messages.specs.Parts.{TailIsCut, pieces_behind}
+use Rattle.vfs_grammar.specs.Forms.{Layout, Without, Record, layout_size, Form, NoTail, NameTail, TwoNames, NameAndValue, NameAndExtensions, LinkAndExtensions, Pairs, WithRest, IntoRoom, Directories, Versions, Silent, NotServed}
+use Rattle.vfs_messages.specs.Parts.{TailIsCut, pieces_behind, MayHoldContext}
 use Rattle.vfs_grammar.specs.Records.{size_of}
 use Rattle.vfs_grammar.specs.declared.limits.Limits.{Limits}
 use Rattle.vfs_handlers.specs.Memory.{MayWantFor, MayWantBehind}
@@ -44,14 +44,28 @@ module _ (behind : (lengths : List ℕ) (k at n : ℕ) → lie_together at n (le
       let t = second _ (lie_together (size_of in_header + layout_size layout) n u.pieces) together in
       apart (lie_together 0 n (pieces_behind layout (lengths_from (size_of in_header) u.pieces))) (from_record layout n ∙ t) cut
 
-  none_by_use : (h : InHeader) (use_of : MemoryUse) → WantsNone h u use_of → MayWantFor h (lengths_from (size_of in_header) u.pieces) use_of → ⊥
-  none_by_use h ForNothing n w = w
-  none_by_use h (ForTail l) n w = whole h l n w
-  none_by_use h (ForTailAndContext l options) n (inl w) = whole h l n.0 w
-  none_by_use h (ForTailAndContext l options) n (inr w) = apart (has_option options security_ctx) w n.1
-  none_by_use h (ForPairs l above count) n w = n
+  -- of a form with a tail, and of one in whose tail a context may stand
+  with_context : {R : Type 0} (h : InHeader) (l : Layout R) (options : ℕ) → TailIsTogether h u l × IsFalse (has_option options security_ctx)
+      → TailIsCut h (layout_size l) (pieces_behind l (lengths_from (size_of in_header) u.pieces)) ⊎ MayHoldContext options → ⊥
+  with_context h l options n (inl w) = whole h l n.0 w
+  with_context h l options n (inr w) = apart (has_option options security_ctx) w n.1
+
+  none_by_form : (h : InHeader) (form : Form) → WantsNone h u form → MayWantFor h (lengths_from (size_of in_header) u.pieces) form → ⊥
+  none_by_form h (NoTail l above call) n w = w
+  none_by_form h (NameTail l above call) n w = whole h l n w
+  none_by_form h (TwoNames l call) n w = whole h l n w
+  none_by_form h (NameAndValue l size call) n w = whole h l n w
+  none_by_form h (NameAndExtensions l options call) n w = with_context h l options n w
+  none_by_form h (LinkAndExtensions l options call) n w = with_context h l options n w
+  none_by_form h (Pairs l above count call) n w = n
+  none_by_form h (WithRest l call) n w = w
+  none_by_form h (IntoRoom l space call) n w = w
+  none_by_form h (Directories l above space listing) n w = w
+  none_by_form h Versions n w = w
+  none_by_form h Silent n w = w
+  none_by_form h NotServed n w = w
 
   pub none_wanted : (limits : Limits) (options room : ℕ) (opcode : Option Opcode) (h : InHeader)
       → WantsNoneBehind limits options room opcode h u → MayWantBehind limits options room opcode h (lengths_from (size_of in_header) u.pieces) → ⊥
   none_wanted limits options room None h n w = w
-  none_wanted limits options room (Some opcode) h n w = none_by_use h (memory_use (form_of limits options room h opcode)) n w
+  none_wanted limits options room (Some opcode) h n w = none_by_form h (form_of limits options room h opcode) n w

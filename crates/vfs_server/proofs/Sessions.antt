@@ -4,7 +4,7 @@ use Rattle.std.proofs.Math.ListN.{set}
 use Rattle.std.proofs.lemmas.List.{map-append, take_more, take_more_set, drop-drop, drop-set-lt}
 use Rattle.vfs_segments.specs.Unread.{Unread}
 use Rattle.vfs_segments.specs.Written.{Written}
-use Rattle.vfs_files.specs.Items.{Item}
+use Rattle.vfs_files.specs.Values.{Item}
 use Rattle.vfs_files.specs.Calls.{Call, Handed}
 use Rattle.vfs_files.specs.Runs.{events_of, RunsJoin, EventsJoin}
 use Rattle.vfs_grammar.specs.Turn.{Turn, AreTurns}
@@ -46,7 +46,7 @@ module _ (limits : Limits) where
 module _ {S I : Type 0} (allows : S → Call → Handed I → S → Type 0) (gives : I → Option Item → I → Type 0) (join : RunsJoin allows gives) (events_join : EventsJoin S I) (keep : (limits : Limits) (options after : ℕ) (turns : List Turn) → AreTurns limits options turns after → KeepsBooks turns) (old : ServerState S) where
   -- nothing was asked yet
   pub session_none : IsSession allows gives old [] [] [] [] old
-  session_none = record { turns = []; run = []; is_run = refl; events = refl; served = refl; answered = refl; books = keep old.limits old.options old.options [] refl; same_limits = refl }
+  session_none = record { turns = []; run = []; is_run = refl; events = refl; served = refl; outcomes_are = refl; books = keep old.limits old.options old.options [] refl; same_limits = refl }
 
   -- a session goes on by one step, which wants no more memory than it may, and leaves no hold
   pub session_push : (readers : List Unread) (writers : List Written) (outcomes : List (Result ℕ Error)) (afters : List Written) (mid : ServerState S) (reader : Unread) (writer : Written) (outcome : Result ℕ Error) (after : Written) (new : ServerState S)
@@ -66,7 +66,7 @@ module _ {S I : Type 0} (allows : S → Call → Handed I → S → Type 0) (giv
         is_run = join None old.fs mid.fs new.fs s.run k.run s.is_run k.is_run;
         events = events_join s.run k.run ∙ (ap (λ es. es ++ events_of k.run) s.events ∙ sym (events_in-push s.turns t));
         served = more;
-        answered = map-append (λ (t : Turn). t.outcome) s.turns (t ∷ []) ∙ ap (λ xs. xs ++ outcome ∷ []) s.answered;
+        outcomes_are = map-append (λ (t : Turn). t.outcome) s.turns (t ∷ []) ∙ ap (λ xs. xs ++ outcome ∷ []) s.outcomes_are;
         books = keep old.limits old.options new.options (s.turns ++ t ∷ []) (turns_of_served old.limits old.options (readers ++ reader ∷ []) (writers ++ writer ∷ []) (s.turns ++ t ∷ []) (afters ++ after ∷ []) new.options more);
         same_limits = k.same_limits ∙ s.same_limits;
       }

@@ -1,10 +1,10 @@
 -- From what a handler says of one request to the step that it is.
 use Rattle.std.proofs.Common.{◌≡◌, ◌≢◌, ◌∙◌, ℕ, Bool, true, false, nat_lt, if◌then◌else◌, subst, List, [], ◌∷◌, Option, None, Some, Result, Ok, Err, length, drop, refl, ap, inl, inr, ◌++◌, append-nil}
-use Rattle.vfs_flags.specs.Opcode.{opcode_of}
-use Rattle.vfs_wire.specs.Headers.{in_header}
+use Rattle.vfs_flags.specs.Numbers.{opcode_of}
+use Rattle.vfs_wire.specs.Records.{in_header}
 use Rattle.vfs_wire.specs.declared.headers.InHeader.{InHeader}
-use Rattle.vfs_segments.specs.Written.{Written, held_over}
-use Rattle.vfs_files.specs.Items.{Item}
+use Rattle.vfs_segments.specs.Written.{Written, held_over, Leaves}
+use Rattle.vfs_files.specs.Values.{Item}
 use Rattle.vfs_files.specs.Calls.{Call, Forget, Answer, Done, Handed, Data, kind_of, read_answer}
 use Rattle.vfs_files.specs.Runs.{Happening, Called, Calls, IsRun, events_of}
 use Rattle.vfs_files.specs.declared.entry.Context.{Context}
@@ -15,9 +15,10 @@ use Rattle.vfs_grammar.specs.Ask.{ask, ask_header, header_of}
 use Rattle.vfs_grammar.specs.Directories.{StopsForACause, ComesWhole, TakesFew}
 use Rattle.vfs_grammar.specs.Reply.{Echo, Reply, Refusal, NoReply, Bytes, OpenBehind, reply_of}
 use Rattle.vfs_grammar.specs.Room.{IsReplied, unseen}
-use Rattle.vfs_messages.specs.Rooms.{Leaves, Replies}
+use Rattle.vfs_messages.specs.Rooms.{Replies}
 use Rattle.vfs_entries.specs.Delivery.{CallsAndGivesBack}
-use Rattle.vfs_grammar.specs.Turn.{Turn, Witness, Follows, IsTurn, IsTurnWithMemory, node_answered, turn_tells}
+use Rattle.vfs_grammar.specs.Turn.{Turn, IsTurn, node_answered}
+use Rattle.vfs_grammar.specs.Witnesses.{Witness, IsTurnWithMemory, turn_tells, FollowsFor, follows_plainly}
 use Rattle.vfs_grammar.specs.declared.limits.Limits.{Limits}
 use Rattle.vfs_grammar.specs.declared.error.Error.{Error}
 use Rattle.vfs_grammar.specs.declared.error.Error.TheVariants.{DecodeMessage, OutOfMemory}
@@ -58,7 +59,7 @@ turn_says no_memory t = record (turn_tells t) { no_memory = no_memory }
 
 -- what follows of it, where no memory says less
 follows_less : (limits : Limits) (options after : ℕ) (t : Turn) (P Q : Type 0) → (P → Q) → (a : Ask)
-    → Follows (turn_says P t) limits options a after → Follows (turn_says Q t) limits options a after
+    → FollowsFor (turn_says P t) limits options a after → FollowsFor (turn_says Q t) limits options a after
 unfolding turn_says
 follows_less limits options after t P Q less (Ends reply) f = f
 follows_less limits options after t P Q less (Asks echo call) f = f
@@ -87,10 +88,10 @@ module _ {S I : Type 0} (allows : S → Call → Handed I → S → Type 0) (giv
     room_after : List ℕ
     is_run : IsRun allows gives None old.fs run new.fs
     leaves : Leaves writer room_after writer_after
-    follows : Follows (turn_says ((events_of run ≡ []) × wanted) (turn_over request writer run outcome room_after)) old.limits old.options a new.options
+    follows : FollowsFor (turn_says ((events_of run ≡ []) × wanted) (turn_over request writer run outcome room_after)) old.limits old.options a new.options
     no_hold : writer.held ≡ 0 → writer_after.held ≡ 0
 
-  follow : (wanted : Type 0) (a : Ask) → Follows (server_tells allows gives wanted old writer outcome writer_after new) old.limits old.options a new.options → Followed wanted a
+  follow : (wanted : Type 0) (a : Ask) → FollowsFor (server_tells allows gives wanted old writer outcome writer_after new) old.limits old.options a new.options → Followed wanted a
   unfolding turn_says
   follow wanted (Ends reply) h =
       let c = came reply writer writer_after outcome h.1 in
@@ -116,7 +117,7 @@ module _ {S I : Type 0} (allows : S → Call → Handed I → S → Type 0) (giv
       let f = follow wanted a h.0 in
       let t = turn_over request writer f.run outcome f.room_after in
       let g = follows_less old.limits old.options new.options t ((events_of f.run ≡ []) × wanted) (events_of f.run ≡ []) (λ p. p.0) a f.follows in
-      record { run = f.run; room_after = f.room_after; is_run = f.is_run; leaves = f.leaves; turn = rw e g; same_limits = h.1 }
+      record { run = f.run; room_after = f.room_after; is_run = f.is_run; leaves = f.leaves; turn = rw e (follows_plainly t old.limits old.options a new.options g); same_limits = h.1 }
 
   -- where no memory may be wanted, the request isn't refused for want of it
   enough_of : (wanted : Type 0) (a : Ask) → ask old.limits old.options (length writer.left) request ≡ a → Handles allows gives wanted a old writer outcome writer_after new

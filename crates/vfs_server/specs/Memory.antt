@@ -2,15 +2,15 @@
 -- lie.
 use Rattle.std.specs.Prelude.{◌+◌, ◌-◌, ℕ, Option, Some, None, IsTrue, IsFalse}
 use Rattle.vfs_flags.specs.Flags.{security_ctx}
-use Rattle.vfs_flags.specs.Opcode.{opcode_of}
+use Rattle.vfs_flags.specs.Numbers.{opcode_of}
 use Rattle.vfs_flags.specs.declared.opcode.Opcode.{Opcode}
-use Rattle.vfs_wire.specs.Headers.{in_header}
+use Rattle.vfs_wire.specs.Records.{in_header}
 use Rattle.vfs_wire.specs.declared.headers.InHeader.{InHeader}
 use Rattle.vfs_segments.specs.Lengths.{lengths_from}
 use Rattle.vfs_segments.specs.Unread.{Unread, are_together}
 use Rattle.vfs_grammar.specs.Ask.{form_of, header_of}
 use Rattle.vfs_grammar.specs.Extensions.{has_option}
-use Rattle.vfs_grammar.specs.Forms.{Layout, layout_size, MemoryUse, ForNothing, ForTail, ForTailAndContext, ForPairs, memory_use}
+use Rattle.vfs_grammar.specs.Forms.{Form, Layout, layout_size, by_memory}
 use Rattle.vfs_grammar.specs.Records.{size_of}
 use Rattle.vfs_grammar.specs.declared.limits.Limits.{Limits}
 use Rattle.vfs_handlers.specs.Memory.{MayWantBehind}
@@ -22,21 +22,20 @@ TailIsTogether h u layout =
     IsTrue (are_together u (size_of in_header + layout_size layout)
     (h.len - (size_of in_header + layout_size layout)))
 
--- of a request that a reader has left, for which memory may be wanted so, none is: it has no tail and
--- no pairs; or its tail lies in one segment, and no context may stand in it
-abbrev pub WantsNone : InHeader → Unread → MemoryUse → Type 0
-WantsNone h u ForNothing = Unit {0}
-WantsNone h u (ForTail layout) = TailIsTogether h u layout
-WantsNone h u (ForTailAndContext layout options) =
-    TailIsTogether h u layout × IsFalse (has_option options security_ctx)
-WantsNone h u (ForPairs layout above count) = ⊥
+-- of a request of this form that a reader has left, no memory is wanted for it: it has no tail and no
+-- pairs; or its tail lies in one segment, and no context may stand in it
+abbrev pub WantsNone : InHeader → Unread → Form → Type 0
+WantsNone h u form =
+    by_memory (Unit {0}) (λ R layout. TailIsTogether h u layout)
+    (λ R layout options. TailIsTogether h u layout × IsFalse (has_option options security_ctx))
+    (λ R layout above count. ⊥) form
 
 -- the same by the opcode; a number that is none is answered without memory
 abbrev pub WantsNoneBehind : Limits → (options space : ℕ) → Option Opcode → InHeader → Unread
     → Type 0
 WantsNoneBehind limits options space None h u = Unit {0}
 WantsNoneBehind limits options space (Some opcode) h u =
-    WantsNone h u (memory_use (form_of limits options space h opcode))
+    WantsNone h u (form_of limits options space h opcode)
 
 -- no memory is wanted for the request that a reader has left
 abbrev pub WantsNoMemory : Limits → (options space : ℕ) → Unread → Type 0

@@ -1,11 +1,10 @@
 -- Requests in order, over one run of the file system.
 use Rattle.std.specs.Prelude.{◌≡◌, ◌≢◌, length, ℕ, List, [], ◌∷◌, Option, None, Result, Err, map}
 use Rattle.vfs_segments.specs.Unread.{Unread}
-use Rattle.vfs_segments.specs.Written.{Written}
-use Rattle.vfs_files.specs.Items.{Item}
+use Rattle.vfs_segments.specs.Written.{Written, Leaves}
+use Rattle.vfs_files.specs.Values.{Item}
 use Rattle.vfs_files.specs.Calls.{Call, Handed}
 use Rattle.vfs_files.specs.Runs.{Happening, IsRun, events_of}
-use Rattle.vfs_messages.specs.Rooms.{Leaves}
 use Rattle.vfs_grammar.specs.Turn.{Turn, IsTurn, events_in}
 use Rattle.vfs_grammar.specs.declared.limits.Limits.{Limits}
 use Rattle.vfs_grammar.specs.declared.error.Error.{Error}
@@ -49,8 +48,7 @@ pub record IsSession {S I : Type 0} (allows : S → Call → Handed I → S → 
   pub run : List (Happening I × S)
   pub is_run : IsRun allows gives None old.fs run new.fs
   pub events : events_of run ≡ events_in turns
-  pub served :
-      AreServed old.limits old.options readers writers turns writers_after new.options
-  pub answered : map (λ t. t.outcome) turns ≡ outcomes
+  pub served : AreServed old.limits old.options readers writers turns writers_after new.options
+  pub outcomes_are : map (λ t. t.outcome) turns ≡ outcomes
   pub books : KeepsBooks turns
   pub same_limits : new.limits ≡ old.limits

@@ -1,7 +1,7 @@
 -- A request that a server handled, with the state of its file system before and after.
 use Rattle.std.specs.Prelude.{◌≡◌, length, ℕ, List, Option, None, Result}
-use Rattle.vfs_segments.specs.Written.{Written}
-use Rattle.vfs_files.specs.Items.{Item}
+use Rattle.vfs_segments.specs.Written.{Written, Leaves}
+use Rattle.vfs_files.specs.Values.{Item}
 use Rattle.vfs_files.specs.Calls.{Call, Handed}
 use Rattle.vfs_files.specs.Runs.{Happening, IsRun, events_of}
 use Rattle.vfs_files.specs.Migrations.{MigrationCall, MigrationAnswer}
@@ -9,7 +9,6 @@ use Rattle.vfs_grammar.specs.Forms.{Listing, Lists}
 use Rattle.vfs_grammar.specs.Ask.{ask}
 use Rattle.vfs_grammar.specs.Directories.{StopsForACause, ComesWhole, TakesFew}
 use Rattle.vfs_grammar.specs.Reply.{Echo}
-use Rattle.vfs_messages.specs.Rooms.{Leaves}
 use Rattle.vfs_grammar.specs.Turn.{Turn, IsTurn}
 use Rattle.vfs_grammar.specs.declared.error.Error.{Error}
 pub use Rattle.vfs_handlers.specs.State.{ServerState}

@@ -71,6 +71,7 @@ pub use vfs_wire::Stat64;
 pub use vfs_wire::Statvfs64;
 pub use vfs_wire::SuppGroups;
 pub use vfs_wire::bytes_have_size;
+pub use vfs_wire::decoding_is_the_inverse;
 pub use vfs_wire::put_after_take;
 pub use vfs_wire::take_after_put;
 pub use vfs_wire_more::AccessIn;

@@ -2,7 +2,7 @@
 use Rattle.std.proofs.Common.{◌≡◌, ◌+◌, ◌==◌, ◌||◌, ◌^◌, ◌-◌, ℕ, Bool, true, false, List, ◌∷◌, [], nat_lt, nat_le, not, length, Option, Some, None, IfSome, is_some, is_none, refl, sym, ap, ◌∙◌, subst}
 use Rattle.std.proofs.lemmas.Bool.{not-false}
 use Rattle.std.proofs.lemmas.Option.{same_Some}
-use Rattle.vfs_flags.specs.Errors.{enoent, einval, eexist, eperm, eoverflow, enospc, enotdir}
+use Rattle.vfs_flags.specs.Numbers.{enoent, einval, eexist, eperm, eoverflow, enospc, enotdir}
 use Rattle.vfs_files.specs.Calls.{Found, Created, Plain}
 use Rattle.vfs_files.specs.declared.entry.Entry.{Entry}
 use Rattle.vfs_nodes.specs.Children.{with_child, is_directory}

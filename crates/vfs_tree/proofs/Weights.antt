@@ -12,7 +12,7 @@ use Rattle.vfs_nodes.specs.Node.{weight, set_attr, overwritten}
 use Rattle.vfs_nodes.specs.Writing.{Overwrites}
 use Rattle.vfs_nodes.specs.declared.node.Node.{Node}
 use Rattle.vfs_nodes.specs.declared.node.Time.{Time}
-use Rattle.vfs_nodes.specs.Xattrs.{Xattr, bytes_of, is_called, xattr_bytes, without_place, without_xattr}
+use Rattle.vfs_nodes.specs.Xattrs.{Xattr, attribute_bytes, is_called, xattr_bytes, without_place, without_xattr}
 use Rattle.vfs_tree.specs.Outcome.{or_else, refusal_of}
 use Rattle.vfs_tree.specs.State.{State, node_at, room_of}
 use Rattle.vfs_tree.specs.Tree.{setattr_refusal, size_refusal, contents_refusal, most_size}
@@ -30,7 +30,7 @@ length-resized bytes size = omega (
 drop_bytes : (xattrs : List Xattr) (place : ℕ)
     → xattr_bytes (drop (suc place) xattrs) ≤ xattr_bytes (drop place xattrs)
 drop_bytes [] place = omega arith
-drop_bytes (x ∷ xs) zero = omega (arith, sum_by-cons bytes_of x xs)
+drop_bytes (x ∷ xs) zero = omega (arith, sum_by-cons attribute_bytes x xs)
 drop_bytes (x ∷ xs) (suc place) = drop_bytes xs place
 
 place_bytes : (xattrs : List Xattr) (place : Option ℕ)
@@ -38,8 +38,8 @@ place_bytes : (xattrs : List Xattr) (place : Option ℕ)
 place_bytes xattrs None = omega arith
 place_bytes xattrs (Some place) = omega (
   arith,
-  sum_by-append bytes_of (take place xattrs) (drop (suc place) xattrs),
-  sum_by-take-drop bytes_of xattrs place,
+  sum_by-append attribute_bytes (take place xattrs) (drop (suc place) xattrs),
+  sum_by-take-drop attribute_bytes xattrs place,
   drop_bytes xattrs place,
 )
 

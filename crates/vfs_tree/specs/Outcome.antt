@@ -1,27 +1,27 @@
 -- How a call ends: what it answers, and which state it leaves.
 use Rattle.std.specs.Prelude.{◌≡◌, ℕ, Bool, List, [], ◌∷◌, IsTrue, Option, Some, None, if◌then◌else◌}
-use Rattle.vfs_flags.specs.Errors.{enoent, enomem}
-use Rattle.vfs_files.specs.Items.{Item}
+use Rattle.vfs_flags.specs.Numbers.{enoent, enomem}
+use Rattle.vfs_files.specs.Values.{Item}
 use Rattle.vfs_files.specs.Calls.{Answer, Done, Failed, Found, Created, Attributes, Handed, Plain, Iterator}
 use Rattle.vfs_nodes.specs.Node.{attr_of, IsDay, IsEntryOf}
 use Rattle.vfs_nodes.specs.declared.node.Node.{Node}
 use Rattle.vfs_tree.specs.State.{State}
 
 -- what is answered: just this, the entry or the attributes of a node, or what a directory holds
-pub data Reply : Type 0 where
-  Just : Answer → Reply
-  EntryOf : (number : ℕ) → Node → Reply
-  AttrOf : (number : ℕ) → Node → Reply
-  Listed : List Item → Reply
+pub data TreeReply : Type 0 where
+  Just : Answer → TreeReply
+  EntryOf : (number : ℕ) → Node → TreeReply
+  AttrOf : (number : ℕ) → Node → TreeReply
+  Listed : List Item → TreeReply
 
 -- how a call ends: it is refused with an error, and nothing is changed; or it is answered, and this is
 -- the state; or so it is tried, and where it needs memory that there isn't, refused with ENOMEM
 pub data Outcome : Type 0 where
   Refused : (error : ℕ) → Outcome
-  Answered : Reply → State → Outcome
-  Tried : (needs_memory : Bool) → Reply → State → Outcome
+  Answered : TreeReply → State → Outcome
+  Tried : (needs_memory : Bool) → TreeReply → State → Outcome
 
-abbrev pub Replies : Reply → Handed (List Item) → Type 0
+abbrev pub Replies : TreeReply → Handed (List Item) → Type 0
 Replies (Just answer) (Plain given) = given ≡ answer
 Replies (EntryOf n node) (Plain (Found entry)) = IsEntryOf n node entry
 Replies (EntryOf n node) (Plain (Created entry handle options)) =

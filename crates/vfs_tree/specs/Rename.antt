@@ -1,7 +1,7 @@
 -- What RENAME does, in steps, each from the state that the one before it left: so the two directories may
 -- be one.
 use Rattle.std.specs.Prelude.{ℕ, zero, suc, ◌==◌, ◌&&◌, ◌||◌, nat_lt, not, Bool, true, false, List, [], ◌∷◌, length, codes, Option, Some, None, is_some, is_none, if◌then◌else◌}
-use Rattle.vfs_flags.specs.Errors.{enoent, eexist, enotdir, eisdir, enospc, enotempty, einval}
+use Rattle.vfs_flags.specs.Numbers.{enoent, eexist, enotdir, eisdir, enospc, enotempty, einval}
 use Rattle.std.specs.List.{list_any}
 use Rattle.std.specs.Str.{bytes_eq}
 use Rattle.vfs_nodes.specs.Children.{is_directory, has_place, with_child, without_child, with_other_child}

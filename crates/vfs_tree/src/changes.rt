@@ -2,14 +2,12 @@
 
 ghost use Rattle.std.specs.Prelude.{◌≡◌, ◌+◌, length, max, IfSome, Some, None, IfOk, IfErr, OnOk};
 ghost use Rattle.vfs_flags.specs.Flags.{setattr_valid_bits};
-ghost use Rattle.vfs_files.specs.Names.{name_text};
+ghost use Rattle.vfs_files.specs.Values.{name_text};
 ghost use Rattle.vfs_files.specs.Calls.{Plain, KeepsTextShort, done_answer, getxattr_answer, listxattr_answer};
 ghost use Rattle.vfs_nodes.specs.Xattrs.{xattr_named, name_list};
 ghost use Rattle.vfs_tree.specs.Outcome.{Ends, refusal_of, unless, with_it};
 ghost use Rattle.vfs_tree.specs.State.{node_at};
-ghost use Rattle.vfs_tree.specs.Tree.{contents_refusal, size_refusal, setattr_refusal, write_refusal};
-ghost use Rattle.vfs_tree.specs.Tree.{fallocate_refusal, allocates, most_size, setxattr_refusal};
-ghost use Rattle.vfs_tree.specs.Tree.{is_bare, is_kept, namespace_refusal, sets_xattr, removes_xattr, tells};
+ghost use Rattle.vfs_tree.specs.Tree.{contents_refusal, size_refusal, setattr_refusal, write_refusal, fallocate_refusal, allocates, most_size, setxattr_refusal, is_bare, is_kept, namespace_refusal, sets_xattr, removes_xattr, tells};
 
 use crate::fs::TreeFs;
 use bitflags::Flags;

@@ -4,16 +4,15 @@ ghost use Rattle.std.specs.Prelude.{◌≡◌, ◌≤◌, ◌<◌, ◌^◌, ◌-
 ghost use Rattle.std.specs.Ordering.{nat_cmp};
 ghost use Rattle.std.specs.BTreeMap.{is_at};
 ghost use Rattle.std.specs.Map.{remove_entry};
-ghost use Rattle.vfs_flags.specs.Errors.{enomem};
-ghost use Rattle.vfs_files.specs.Names.{name_text};
+ghost use Rattle.vfs_flags.specs.Numbers.{enomem};
+ghost use Rattle.vfs_files.specs.Values.{name_text};
 ghost use Rattle.vfs_files.specs.Calls.{Plain, entry_answer};
 ghost use Rattle.vfs_nodes.specs.Node.{weight};
 ghost use Rattle.vfs_tree.specs.Outcome.{Ends};
 ghost use Rattle.vfs_tree.specs.Rename.{is_crowded};
 ghost use Rattle.vfs_nodes.specs.declared.node.Node.{Node};
 ghost use Rattle.vfs_tree.specs.State.{behind, child_at, node_at, reweighed, room_of};
-ghost use Rattle.vfs_tree.specs.Tree.{makes, make_refusal, first_state, is_full, made};
-ghost use Rattle.vfs_tree.specs.Tree.{group_in, permissions_in, forgotten, all_forgotten, released};
+ghost use Rattle.vfs_tree.specs.Tree.{makes, make_refusal, first_state, is_full, made, group_in, permissions_in, forgotten, all_forgotten, released};
 
 use crate::naming::{add_name, directory, is_improper};
 use std::alloc::Global;

@@ -2,14 +2,11 @@
 
 ghost use Rattle.std.specs.Prelude.{◌≡◌, ◌∷◌, [], false, IsSome, Some, None, IfErr, OnOk};
 ghost use Rattle.std.specs.Option.{option_copied};
-ghost use Rattle.vfs_flags.specs.Errors.{einval, enomem, enospc};
-ghost use Rattle.vfs_files.specs.Names.{name_text};
+ghost use Rattle.vfs_flags.specs.Numbers.{einval, enomem, enospc};
+ghost use Rattle.vfs_files.specs.Values.{name_text};
 ghost use Rattle.vfs_files.specs.Calls.{Plain, done_answer};
 ghost use Rattle.vfs_tree.specs.Outcome.{Ends, first_of};
-ghost use Rattle.vfs_tree.specs.Rename.{is_below, is_improper, is_own_child, parent_of, same_node};
-ghost use Rattle.vfs_tree.specs.Rename.{names_refusal, place_refusal, is_crowded, is_nameless};
-ghost use Rattle.vfs_tree.specs.Rename.{replace_refusal, renames};
-ghost use Rattle.vfs_tree.specs.Rename.{moved_to_free, moved_over, exchanged};
+ghost use Rattle.vfs_tree.specs.Rename.{is_below, is_improper, is_own_child, parent_of, same_node, names_refusal, place_refusal, is_crowded, is_nameless, replace_refusal, renames, moved_to_free, moved_over, exchanged};
 ghost use Rattle.vfs_tree.specs.State.{child_at, count_of, node_at, node_of};
 
 use crate::fs::TreeFs;

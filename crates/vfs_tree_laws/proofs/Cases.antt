@@ -2,12 +2,12 @@
 use Rattle.std.proofs.Common.{◌≡◌, ◌≤◌, ◌+◌, ◌-◌, ◌^◌, ◌==◌, ◌&&◌, ◌||◌, not, nat_lt, ℕ, zero, suc, max, ◌⊎◌, inl, inr, ⊎_elim, Bool, true, false, cond, List, [], ◌∷◌, ◌++◌, length, take, drop, replicate, Option, Some, None, is_some, is_none, refl, sym, ap, subst, ◌∙◌, arith, if◌then◌else◌, bit_and, length-append, length-take, length-drop}
 use Rattle.std.specs.List.{position_or_len}
 use Rattle.vfs_views.specs.Segments.{with_bytes_at}
-use Rattle.vfs_flags.specs.Errors.{eexist, eisdir, einval, enodata, enospc, enotdir, enotempty, eopnotsupp, eoverflow, eperm, erange}
+use Rattle.vfs_flags.specs.Numbers.{eexist, eisdir, einval, enodata, enospc, enotdir, enotempty, eopnotsupp, eoverflow, eperm, erange}
 use Rattle.vfs_files.specs.Bytes.{part_of, most_put, fitting, written, lengthened}
-use Rattle.vfs_files.specs.Items.{Item}
+use Rattle.vfs_files.specs.Values.{Item}
 use Rattle.vfs_files.specs.Calls.{Call, Lookup, Forget, BatchForget, Getattr, Setattr, Symlink, Readlink, Open, Unlink, Rmdir, Rename, Link, Mknod, Mkdir, Create, Read, Write, Fallocate, Setxattr, Getxattr, Listxattr, Removexattr, Statfs, Release, Fsync, Flush, Init, Opendir, Readdir, Releasedir, Fsyncdir, Getlk, Setlk, Setlkw, Access, Bmap, Destroy, Ioctl, Poll, NotifyReply, Lseek, Copyfilerange, Syncfs, Tmpfile, Answer, Done, Failed, Options, Found, Attributes, Created, Text, Count, Put, Wrote, Statistics, Opened, Offset, Handed, Plain, Iterator, default_answer}
 use Rattle.vfs_files.specs.declared.entry.Context.{Context}
-use Rattle.vfs_grammar.specs.Books.{node_of, answered_nodes, forgets_of}
+use Rattle.vfs_grammar.specs.Books.{entry_node, answered_nodes, forgets_of}
 use Rattle.vfs_wire.specs.declared.attributes.SetattrIn.{SetattrIn}
 use Rattle.std.proofs.lemmas.Bool.{ltb-true, ltb-false, eqb-true, not-false, or_parts}
 use Rattle.std.proofs.lemmas.List.{length-replicate}
@@ -16,13 +16,13 @@ use Rattle.vfs_tree.specs.Bytes.{resized}
 use Rattle.vfs_tree.specs.Children.{with_child, is_directory, is_file}
 use Rattle.vfs_tree.specs.Listing.{items_behind}
 use Rattle.vfs_tree.specs.Node.{weight, left_by, truncates, opened, lengthens, set_attr, overwritten, new_node}
-use Rattle.vfs_tree.specs.Outcome.{Reply, Just, EntryOf, AttrOf, Listed, Outcome, Refused, Answered, Tried, Replies, Ends, done, first_of, or_else, unless, with_it, on}
+use Rattle.vfs_tree.specs.Outcome.{TreeReply, Just, EntryOf, AttrOf, Listed, Outcome, Refused, Answered, Tried, Replies, Ends, done, first_of, or_else, unless, with_it, on}
 use Rattle.vfs_tree.specs.Rename.{directory_refusal, rename_refusal, renamed}
 use Rattle.vfs_tree.specs.State.{State, node_at, node_named, room_of, with_node, with_resized, with_names, change, child_at}
 use Rattle.vfs_tree.specs.State as tree
 use Rattle.vfs_tree_laws.specs.Laws.{IsShort}
 use Rattle.vfs_tree.specs.Tree.{opening, held_of, group_in, permissions_in, namespace_refusal, efbig, enodev, most_xattr_bytes, TreeAllows, outcome, found, at_name, made, makes, linked, all_forgotten, setattr_refusal, contents_refusal, size_refusal, writes, write_refusal, most_size, grown, fallocate_refusal, setxattr_refusal, with_xattrs, has_no_text, is_plain, make_refusal, taken_out, link_refusal, statistics_of, tells}
-use Rattle.vfs_tree.specs.Xattrs.{Xattr, is_called, bytes_of, without_place, xattr_named, xattr_bytes, with_xattr, without_xattr, name_list}
+use Rattle.vfs_tree.specs.Xattrs.{Xattr, is_called, attribute_bytes, without_place, xattr_named, xattr_bytes, with_xattr, without_xattr, name_list}
 use Rattle.vfs_nodes.specs.declared.children.Child.{Child}
 use Rattle.vfs_nodes.specs.declared.kind.Kind.{Kind}
 use Rattle.vfs_nodes.specs.declared.kind.Kind.TheVariants as kind
@@ -49,27 +49,27 @@ abbrev pub one_inode_more : State → State
 one_inode_more s = record s { inodes = s.inodes + 1 }
 
 -- the node of the entry that is answered, where one is
-abbrev pub nodes_of : Reply → List ℕ
-nodes_of (Just answer) = node_of answer
+abbrev pub nodes_of : TreeReply → List ℕ
+nodes_of (Just answer) = entry_node answer
 nodes_of (EntryOf n node) = n ∷ []
 nodes_of (AttrOf n node) = []
 nodes_of (Listed items) = []
 
 -- neither an entry is answered nor what a directory holds
-abbrev pub IsTold : Reply → Type 0
-IsTold (Just answer) = node_of answer ≡ []
+abbrev pub IsTold : TreeReply → Type 0
+IsTold (Just answer) = entry_node answer ≡ []
 IsTold (AttrOf n node) = Unit {0}
 IsTold _ = ⊥
 
 -- what a fact holds of: the state itself, and what each change leaves, with the lookups that are taken
 -- back and what is answered
-pub record Covers (old : State) (P : List (ℕ × ℕ) → Reply → State → Type 0) : Type 0 where
-  pub same : (reply : Reply) → nodes_of reply ≡ [] → P [] reply old
+pub record Covers (old : State) (P : List (ℕ × ℕ) → TreeReply → State → Type 0) : Type 0 where
+  pub same : (reply : TreeReply) → nodes_of reply ≡ [] → P [] reply old
   pub looked_up : (n : ℕ) (node : Node) → node_at old n ≡ Some node
       → P [] (EntryOf n node) (with_node old n (record node { lookups = node.lookups + 1 }))
-  pub forgot : (pairs : List (ℕ × ℕ)) (reply : Reply) → IsTold reply
+  pub forgot : (pairs : List (ℕ × ℕ)) (reply : TreeReply) → IsTold reply
       → P pairs reply (all_forgotten old pairs)
-  pub resizes : (n : ℕ) (was now : Node) (reply : Reply) → IsTold reply → node_at old n ≡ Some was
+  pub resizes : (n : ℕ) (was now : Node) (reply : TreeReply) → IsTold reply → node_at old n ≡ Some was
       → Resizes old was now → P [] reply (with_resized old n was now)
   pub makes : (uid gid : ℕ) (kind : Kind) (permissions parent : ℕ) (name contents : List ℕ)
       → make_refusal old parent name (length contents) ≡ None
@@ -316,7 +316,7 @@ less_at : (xattrs : List Xattr) (at : ℕ) (t : Bool) → nat_lt at (length xatt
     → xattr_bytes (without_place xattrs (cond t (Some at) None)) ≤ xattr_bytes xattrs
 less_at xattrs at true is =
     let none : Xattr = record { name = []; value = [] } in
-    omega (arith, sum_by-remove bytes_of xattrs at none (ltb-true at (length xattrs) is))
+    omega (arith, sum_by-remove attribute_bytes xattrs at none (ltb-true at (length xattrs) is))
 less_at xattrs at false is = omega arith
 
 less_without : (xattrs : List Xattr) (name : List ℕ)
@@ -344,12 +344,12 @@ abbrev pub Fails : State → Call → Type 0
 Fails old call = (taken_pairs old call ≡ []) × ((error : Option ℕ) → answered_nodes call (Failed error) ≡ [])
 
 -- what holds where it is refused, and of each answer and the state then
-abbrev pub Each : Type 0 → (Reply → State → Type 0) → Outcome → Type 0
+abbrev pub Each : Type 0 → (TreeReply → State → Type 0) → Outcome → Type 0
 Each F L (Refused error) = F
 Each F L (Answered reply left) = L reply left
 Each F L (Tried needs reply left) = F × L reply left
 
-module _ (F : Type 0) (L : Reply → State → Type 0) (fails : F) where
+module _ (F : Type 0) (L : TreeReply → State → Type 0) (fails : F) where
   each-unless : (refusal : Option ℕ) (o : Outcome) → (refusal ≡ None → Each F L o)
       → Each F L (unless refusal o)
   each-unless (Some error) o more = fails
@@ -388,7 +388,7 @@ module _ (F : Type 0) (L : Reply → State → Type 0) (fails : F) where
 
 -- what is answered has the entry's node
 entry_nodes : (n : ℕ) (node : Node) (answer : Answer) → Replies (EntryOf n node) (Plain answer)
-    → node_of answer ≡ n ∷ []
+    → entry_node answer ≡ n ∷ []
 entry_nodes n node (Found x) r = ap (λ k. k ∷ []) r.inode
 entry_nodes n node (Created x y z) r = ap (λ k. k ∷ []) r.0.inode
 entry_nodes n node Done r = absurd r
@@ -405,9 +405,9 @@ entry_nodes n node (Wrote x) r = absurd r
 
 -- ---- the table
 
-module _ (old : State) (P : List (ℕ × ℕ) → Reply → State → Type 0) (q : Covers old P) where
+module _ (old : State) (P : List (ℕ × ℕ) → TreeReply → State → Type 0) (q : Covers old P) where
   -- a fact of a call's answer and the state then: the answer has the entries that it is to have
-  abbrev pub Leaves : Call → Reply → State → Type 0
+  abbrev pub Leaves : Call → TreeReply → State → Type 0
   Leaves call reply left =
       ((answer : Answer) → Replies reply (Plain answer) → answered_nodes call answer ≡ nodes_of reply)
       × P (taken_pairs old call) reply left
@@ -416,7 +416,7 @@ module _ (old : State) (P : List (ℕ × ℕ) → Reply → State → Type 0) (q
   Covered call = Each (Fails old call) (Leaves call) (outcome old call)
 
   makes_covered : (call : Call)
-      → ((answer : Answer) → answered_nodes call answer ≡ node_of answer)
+      → ((answer : Answer) → answered_nodes call answer ≡ entry_node answer)
       → taken_pairs old call ≡ [] → (ctx : Context) (kind : Kind) (permissions parent : ℕ)
       (name contents : List ℕ) → (is_file kind ≡ true → contents ≡ [])
       → Each (Fails old call) (Leaves call) (makes old ctx kind permissions parent name contents)
@@ -444,7 +444,7 @@ module _ (old : State) (P : List (ℕ × ℕ) → Reply → State → Type 0) (q
   tells_covered call none gives size None = (gives, λ e. none (Failed e))
   tells_covered call none gives size (Some text) = by (size == 0)
     where
-      quiet : (reply : Reply) → nodes_of reply ≡ [] → Leaves call reply old
+      quiet : (reply : TreeReply) → nodes_of reply ≡ [] → Leaves call reply old
       quiet reply is = (
         λ answer r. none answer ∙ sym is,
         subst (λ pairs. P pairs reply old) (sym gives) (q.same reply is),
@@ -706,10 +706,10 @@ module _ (old : State) (P : List (ℕ × ℕ) → Reply → State → Type 0) (q
 -- ---- what a call leaves
 
 -- a call is refused, and nothing is changed, or this is answered and left
-pub left_so : (old new : State) (F : Type 0) (L : Reply → State → Type 0) (o : Outcome)
+pub left_so : (old new : State) (F : Type 0) (L : TreeReply → State → Type 0) (o : Outcome)
     (handed : Handed (List Item)) (C : Type 0)
     → (F → (error : Option ℕ) → handed ≡ Plain (Failed error) → new ≡ old → C)
-    → ((reply : Reply) → Replies reply handed → L reply new → C)
+    → ((reply : TreeReply) → Replies reply handed → L reply new → C)
     → Each F L o → Ends old o handed new → C
 left_so old new F L (Refused error) handed C fails leaves each h =
     fails each (Some error) h.0 h.1
@@ -719,7 +719,7 @@ left_so old new F L (Tried needs reply left) handed C fails leaves each h = by h
   where
     by : (handed : Handed (List Item))
         → (F → (error : Option ℕ) → handed ≡ Plain (Failed error) → new ≡ old → C)
-        → ((reply : Reply) → Replies reply handed → L reply new → C)
+        → ((reply : TreeReply) → Replies reply handed → L reply new → C)
         → Ends old (Tried needs reply left) handed new → C
     by (Plain (Failed x)) fails leaves h = fails each.0 x refl h.1
     by (Iterator x) fails leaves h = leaves reply h.0 (subst (L reply) (sym h.1) each.1)

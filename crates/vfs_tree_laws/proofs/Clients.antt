@@ -9,7 +9,7 @@ use Rattle.vfs_grammar.specs.Listing.{Line, Stop, End, At, Got, IsDirectory, IsU
 use Rattle.vfs_grammar.specs.Ask.{ask}
 use Rattle.vfs_grammar.specs.Reply.{Reply, reply_of}
 use Rattle.vfs_grammar.specs.Room.{unseen}
-use Rattle.vfs_grammar.specs.Turn.{Turn, Follows, turn_tells, AreTurns, events_in, node_answered}
+use Rattle.vfs_grammar.specs.Turn.{Turn, Follows, AreTurns, events_in, node_answered}
 use Rattle.vfs_grammar.specs.declared.limits.Limits.{Limits}
 use Rattle.vfs_tree.specs.State.{State}
 use Rattle.vfs_tree_laws.specs.Runs.{takes_all, since, ends_client, last_turns}
@@ -170,7 +170,7 @@ lone_call s t call answer ctx space reply is =
     (which s call answer)
 
 lone : (s : State) (limits : Limits) (options : ℕ) (t : Turn) (a : Ask) (after : ℕ)
-    → Follows (turn_tells t) limits options a after → IsLone t
+    → Follows t limits options a after → IsLone t
 lone s limits options t (Ends reply) after f = still_lone t (ap (list_any takes_all) f.0)
 lone s limits options t (Asks echo call) after f =
     lone_call s t call f.0 echo.ctx (length t.room)

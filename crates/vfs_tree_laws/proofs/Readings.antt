@@ -1,18 +1,18 @@
 -- A reading of a directory that begins changes nothing.
 use Rattle.std.proofs.Common.{◌≡◌, ℕ, List, [], refl}
-use Rattle.vfs_files.specs.Items.{Item}
+use Rattle.vfs_files.specs.Values.{Item}
 use Rattle.vfs_files.specs.Calls.{Iterator}
-use Rattle.vfs_tree.specs.Outcome.{Reply, Just, EntryOf, AttrOf, Listed, Replies}
+use Rattle.vfs_tree.specs.Outcome.{TreeReply, Just, EntryOf, AttrOf, Listed, Replies}
 use Rattle.vfs_tree.specs.State.{State, with_resized}
 use Rattle.vfs_tree.specs.Tree.{outcome, all_forgotten}
 use Rattle.vfs_tree_laws.specs.Laws.{ReadingsChangeNothing}
 use Rattle.vfs_tree_laws.proofs.Cases.{Covers, Fails, IsTold, Leaves, covered, left_so}
 
 -- what a directory holds is handed out only where all stays
-abbrev StaysRead : State → List (ℕ × ℕ) → Reply → State → Type 0
+abbrev StaysRead : State → List (ℕ × ℕ) → TreeReply → State → Type 0
 StaysRead old taken reply left = (items : List Item) → Replies reply (Iterator items) → left ≡ old
 
-told : (old left : State) (reply : Reply) → IsTold reply → StaysRead old [] reply left
+told : (old left : State) (reply : TreeReply) → IsTold reply → StaysRead old [] reply left
 told old left (Just answer) is items read = absurd read
 told old left (AttrOf n node) is items read = absurd read
 told old left (EntryOf n node) is items read = absurd is

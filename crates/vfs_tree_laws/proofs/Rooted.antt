@@ -2,7 +2,7 @@
 use Rattle.std.proofs.Common.{min, ◌≡◌, ◌≢◌, ◌<◌, ◌+◌, ◌-◌, ◌==◌, ◌&&◌, ◌||◌, ◌^◌, nat_le, nat_lt, not, ℕ, zero, suc, Bool, true, false, List, [], ◌∷◌, length, Option, Some, None, IsSome, is_some, is_none, refl, sym, ap, subst, ◌∙◌, arith, if◌then◌else◌, ◌⊎◌, inl, inr, ⊎_elim}
 use Rattle.std.proofs.lemmas.Bool.{both_ways, not-false, eqb-false, and_cases}
 use Rattle.std.proofs.lemmas.Option.{none-some, same_Some}
-use Rattle.vfs_flags.specs.Errors.{eperm, enoent, eexist, enotdir, einval, enospc, eoverflow}
+use Rattle.vfs_flags.specs.Numbers.{eperm, enoent, eexist, enotdir, einval, enospc, eoverflow}
 use Rattle.vfs_tree.specs.Children.{Children, is_directory, with_child, without_child, with_other_child, is_file}
 use Rattle.vfs_tree.specs.Node.{new_node}
 use Rattle.vfs_tree_laws.specs.Laws.{IsSound, IsLinked, IsRooted, CallsKeepTheWayUp, above}

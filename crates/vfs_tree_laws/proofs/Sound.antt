@@ -5,12 +5,12 @@ use Rattle.std.specs.Map.{lookup}
 use Rattle.std.proofs.lemmas.Bool.{cond-true, cond-false}
 use Rattle.std.proofs.lemmas.Cmp.{nat_cmp_total, tied_itself}
 use Rattle.std.proofs.lemmas.List.Sums.{sum_by-append}
-use Rattle.vfs_files.specs.Items.{Item}
+use Rattle.vfs_files.specs.Values.{Item}
 use Rattle.vfs_files.specs.Calls.{Call, Answer, Handed, Plain, Iterator}
 use Rattle.vfs_grammar.specs.Books.{times, counts, answered_nodes}
 use Rattle.vfs_tree.specs.Children.{with_child}
 use Rattle.vfs_tree.specs.Node.{new_node}
-use Rattle.vfs_tree.specs.Outcome.{Reply, Just, EntryOf, AttrOf, Listed}
+use Rattle.vfs_tree.specs.Outcome.{TreeReply, Just, EntryOf, AttrOf, Listed}
 use Rattle.vfs_tree.specs.State.{State, node_at, with_node, with_resized, with_new, with_names, changed}
 use Rattle.vfs_tree.specs.Tree.{made, linked, forgotten, all_forgotten, held_of, outcome}
 use Rattle.vfs_nodes.specs.declared.children.Child.{Child}
@@ -171,13 +171,13 @@ forgets_all s (r ∷ rs) sound =
 
 -- ---- calls
 
-told_none : (reply : Reply) → IsTold reply → nodes_of reply ≡ []
+told_none : (reply : TreeReply) → IsTold reply → nodes_of reply ≡ []
 told_none (Just answer) told = told
 told_none (AttrOf n node) told = refl
 told_none (EntryOf n node) told = absurd told
 told_none (Listed items) told = absurd told
 
-abbrev Counted : State → List (ℕ × ℕ) → Reply → State → Type 0
+abbrev Counted : State → List (ℕ × ℕ) → TreeReply → State → Type 0
 Counted old taken reply left = Counts old left taken (nodes_of reply)
 
 covers : (old : State) → IsSound old → Covers old (Counted old)

@@ -10,7 +10,7 @@ use Rattle.std.proofs.lemmas.Bool.{ltb-false, leb-false, eqb-true, eqb-false, an
 use Rattle.std.proofs.lemmas.List.Sums.{sum_by-cons}
 use Rattle.std.proofs.lemmas.Map.Entries.{sum_by-set_value, sum_by-remove_entry}
 use Rattle.std.proofs.lemmas.Option.{same_Some}
-use Rattle.vfs_flags.specs.Errors.{enoent, eexist, einval, enospc, eperm, eoverflow}
+use Rattle.vfs_flags.specs.Numbers.{enoent, eexist, einval, enospc, eperm, eoverflow}
 use Rattle.vfs_tree.specs.Children.{Children, with_child, without_child, with_other_child, is_directory, is_file}
 use Rattle.vfs_tree_laws.specs.Laws.{Ascend, IsSound, IsWithin, IsShort, AreShort, inodes_of, CallsStayWithin}
 use Rattle.vfs_tree.specs.Node.{weight, new_node}

@@ -4,7 +4,7 @@ use Rattle.std.specs.Prelude.{◌≡◌, ◌≤◌, ◌<◌, ℕ, zero, suc, ◌
 use Rattle.std.specs.List.{All, IsDistinct}
 use Rattle.std.specs.Map.{values_of}
 use Rattle.std.specs.Str.{bytes_eq}
-use Rattle.vfs_files.specs.Items.{Item}
+use Rattle.vfs_files.specs.Values.{Item}
 use Rattle.vfs_files.specs.Calls.{Call, Init, Destroy, Answer, Plain, Iterator}
 use Rattle.vfs_grammar.specs.Books.{times, counts, answered_nodes, forgets_of}
 use Rattle.vfs_tree.specs.Children.{Link, is_directory, is_file}

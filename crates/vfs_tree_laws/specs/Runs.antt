@@ -1,7 +1,7 @@
 -- A tree over runs and sessions.
 use Rattle.std.specs.Prelude.{◌≡◌, ◌≢◌, ◌<◌, ℕ, ◌+◌, Bool, true, false, List, [], ◌∷◌, Option, IsSome, sum_by, if◌then◌else◌}
 use Rattle.std.specs.List.{list_any}
-use Rattle.vfs_files.specs.Items.{Item}
+use Rattle.vfs_files.specs.Values.{Item}
 use Rattle.vfs_files.specs.Calls.{Init, Destroy}
 use Rattle.vfs_files.specs.Runs.{Event, Called, Happening, IsRun, events_of}
 use Rattle.vfs_grammar.specs.Books.{answered, sent, accepted, delivered, GivesBackWithin, NeverBelow}

@@ -1,9 +1,9 @@
 -- What the laws of a tree say of one LOOKUP, and of a session of one DESTROY.
 use Rattle.std.proofs.Common.{◌≡◌, ◌≢◌, ◌≤◌, ◌<◌, ◌+◌, ◌∙◌, ℕ, zero, suc, Bool, true, false, List, [], ◌∷◌, length, take, sum_by, nat_lt, Option, Some, None, IfSome, IsSome, Result, Ok, Err, IfOk, ◌==◌, eq-eqb, ap, arith, subst, refl}
 use Rattle.std.proofs.lemmas.Bool.Decides.{nat_tests}
-use Rattle.vfs_flags.specs.Opcode.{opcode_of}
+use Rattle.vfs_flags.specs.Numbers.{opcode_of}
 use Rattle.vfs_wire.specs.Fields.{number, value_of}
-use Rattle.vfs_wire.specs.Headers.{in_header}
+use Rattle.vfs_wire.specs.Records.{in_header}
 use Rattle.vfs_segments.specs.Unread.{Unread}
 use Rattle.vfs_segments.specs.Written.{Written}
 use Rattle.vfs_files.specs.Calls.{Destroy, Lookup, entry_answer}
@@ -14,7 +14,7 @@ use Rattle.vfs_grammar.specs.Books.{accepted, delivered, GivesBackWithin}
 use Rattle.vfs_grammar.specs.Forms.{Ask, Asks, within}
 use Rattle.vfs_grammar.specs.Limits.{max_len}
 use Rattle.vfs_grammar.specs.Reply.{echo_of}
-use Rattle.vfs_grammar.specs.Turn.{Turn, IsTurn, Follows, turn_tells}
+use Rattle.vfs_grammar.specs.Turn.{Turn, IsTurn, Follows}
 use Rattle.vfs_grammar.specs.declared.limits.Limits.{Limits}
 use Rattle.vfs_server.specs.Session.{AreServed}
 use Rattle.vfs_nodes.specs.declared.node.Node.{Node}
@@ -36,7 +36,7 @@ ask-destroy limits options room =
 turn-destroy : (limits : Limits) (options : ℕ) (t : Turn) (after : ℕ)
     → IsTurn limits options t after → t.request ≡ DESTROY → ends_client t ≡ true
 turn-destroy limits options t after s request =
-    let P : Ask → Type 0 = λ a. Follows (turn_tells t) limits options a after in
+    let P : Ask → Type 0 = λ a. Follows t limits options a after in
     let asks : ask limits options (length t.room) t.request
     ≡ Asks (echo_of (value_of in_header DESTROY)) Destroy =
     ap (λ (b : List ℕ). ask limits options (length t.room) b) request

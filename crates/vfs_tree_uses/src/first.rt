@@ -1,7 +1,7 @@
 //! The first calls of a new tree.
 
 ghost use Rattle.std.specs.Prelude.{◌≡◌, codes, true, Err, Some, IfOk, IfSome};
-ghost use Rattle.vfs_flags.specs.Errors.{enoent, eisdir};
+ghost use Rattle.vfs_flags.specs.Numbers.{enoent, eisdir};
 ghost use Rattle.vfs_files.specs.Answers.{Count, value_or_count};
 ghost use Rattle.vfs_nodes.specs.Listing.{dot_items};
 ghost use Rattle.vfs_tree_uses.specs.Trees.{small_tree};

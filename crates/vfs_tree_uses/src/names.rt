@@ -1,7 +1,7 @@
 //! Names of more than a byte, those that can't be made, and those that are moved and exchanged.
 
 ghost use Rattle.std.specs.Prelude.{◌≡◌, ◌⊎◌, ◌-◌, ◌^◌, [], ◌∷◌, codes, length, Ok, Err, Some, IfOk, IfSome, MatchResult};
-ghost use Rattle.vfs_files.specs.Names.{name_text};
+ghost use Rattle.vfs_files.specs.Values.{name_text};
 ghost use Rattle.vfs_tree.specs.Tree.{first_state};
 ghost use Rattle.vfs_tree_uses.specs.Trees.{second_7, small_tree, to_directory, to_file, tree_of_two, wide};
 

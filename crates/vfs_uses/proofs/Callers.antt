@@ -2,25 +2,23 @@
 use Rattle.std.proofs.Common.{◌≡◌, ◌≤◌, ℕ, Bool, false, true, List, [], ◌∷◌, ◌++◌, length, drop, nat_lt, Option, Some, None, Result, Ok, Err, ap, ◌∙◌, arith, subst, refl, append-nil, inl, inr}
 use Rattle.std.proofs.lemmas.Bool.Decides.{nat_tests}
 use Rattle.std.proofs.lemmas.List.{drop_all}
-use Rattle.vfs_flags.specs.Errors.{enomem, enosys}
-use Rattle.vfs_flags.specs.Opcode.{opcode_of}
+use Rattle.vfs_flags.specs.Numbers.{enomem, enosys, opcode_of}
 use Rattle.vfs_wire.specs.Fields.{little, number, value_of}
-use Rattle.vfs_wire.specs.Headers.{in_header}
+use Rattle.vfs_wire.specs.Records.{in_header}
 use Rattle.vfs_flags.specs.declared.opcode.Opcode.{Opcode}
 use Rattle.vfs_wire.specs.declared.headers.InHeader.{InHeader}
 use Rattle.vfs_segments.specs.Unread.{Unread}
 use Rattle.vfs_segments.specs.Written.{Written, whole}
-use Rattle.vfs_files.specs.Items.{Item}
+use Rattle.vfs_files.specs.Values.{Item, context_of}
 use Rattle.vfs_files.specs.Answers.{Answer, Handed, Plain, Capacities}
 use Rattle.vfs_files.specs.Calls.{Call, Statfs, default_answer}
-use Rattle.vfs_files.specs.Entries.{context_of}
 use Rattle.vfs_files.specs.Runs.{Event, Called, OpenedDirectory, Taken, Happening, Calls, Opens, Takes, IsRun, events_of}
 use Rattle.vfs_grammar.specs.Ask.{ask}
 use Rattle.vfs_grammar.specs.Forms.{Ask, Asks, within, faulted, refused}
 use Rattle.vfs_grammar.specs.Limits.{max_len}
 use Rattle.vfs_grammar.specs.Reply.{Echo, echo_of, fault_reply, reply_of}
 use Rattle.vfs_grammar.specs.Room.{IsReplied, IsPut}
-use Rattle.vfs_grammar.specs.Turn.{Turn, Follows, IsTurn, turn_tells}
+use Rattle.vfs_grammar.specs.Turn.{Turn, Follows, IsTurn}
 use Rattle.vfs_grammar.specs.Samples.{not_served_reply}
 use Rattle.vfs_grammar.specs.declared.limits.Limits.{Limits}
 use Rattle.vfs_grammar.specs.declared.error.Error.{Error}
@@ -96,7 +94,7 @@ module _ {S I : Type 0} (allows : S → Call → Handed I → S → Type 0) (giv
       → Ended (fault_reply (Some number) h.unique) old writer outcome writer_after new
   step-fault request number h old writer outcome writer_after new asks s room =
       let t : Turn = record { request = request; room = writer.left; events = events_of s.run; outcome = outcome; room_after = s.room_after } in
-      let P : Ask → Type 0 = λ a. Follows (turn_tells t) old.limits old.options a new.options in
+      let P : Ask → Type 0 = λ a. Follows t old.limits old.options a new.options in
       let f = subst P asks s.turn in
       let reply : List ℕ = fault_reply (Some number) h.unique in
       let size : length reply ≡ 16 = length-fault_reply (Some number) h.unique in
@@ -141,7 +139,7 @@ module _ {S I : Type 0} (allows : S → Call → Handed I → S → Type 0) (giv
   unfolding number
   step-read old writer outcome writer_after new s room =
       let t : Turn = record { request = READ; room = writer.left; events = events_of s.run; outcome = outcome; room_after = s.room_after } in
-      let P : Ask → Type 0 = λ a. Follows (turn_tells t) old.limits old.options a new.options in
+      let P : Ask → Type 0 = λ a. Follows t old.limits old.options a new.options in
       let asks : ask old.limits old.options (length writer.left) READ ≡ refused EncodeMessage =
       ap (λ (n : ℕ). ask old.limits old.options n READ) room ∙ ask-read old.limits old.options in
       let f = subst P asks s.turn in
@@ -164,7 +162,7 @@ unfolding little number
 turn-statfs limits options t after s request room default =
     let echo : Echo = echo_of (value_of in_header STATFS) in
     let call : Call = Statfs (context_of (value_of in_header STATFS)) 1 in
-    let P : Ask → Type 0 = λ a. Follows (turn_tells t) limits options a after in
+    let P : Ask → Type 0 = λ a. Follows t limits options a after in
     let asks : ask limits options (length t.room) t.request ≡ Asks echo call =
     ap (λ (b : List ℕ). ask limits options (length t.room) b) request ∙ ask-statfs limits options (length t.room) in
     let f = subst P asks s in

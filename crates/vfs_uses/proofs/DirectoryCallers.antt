@@ -3,11 +3,11 @@ use Rattle.std.proofs.Common.{◌≡◌, ◌≤◌, ◌⊎◌, ◌||◌, ℕ, po
 use Rattle.std.proofs.lemmas.Bool.Decides.{nat_tests}
 use Rattle.std.proofs.lemmas.List.Elements.{All-cons, All-nil}
 use Rattle.std.specs.List.{flat_map}
-use Rattle.vfs_flags.specs.Opcode.{opcode_of}
+use Rattle.vfs_flags.specs.Numbers.{opcode_of}
 use Rattle.vfs_wire.specs.Fields.{little, number, value_of}
-use Rattle.vfs_wire.specs.Headers.{in_header}
+use Rattle.vfs_wire.specs.Records.{in_header}
 use Rattle.vfs_segments.specs.Written.{Written, whole}
-use Rattle.vfs_files.specs.Items.{Item}
+use Rattle.vfs_files.specs.Values.{Item}
 use Rattle.vfs_files.specs.Calls.{Call, Failed, Handed}
 use Rattle.vfs_files.specs.Runs.{Event, Called, Taken, events_of}
 use Rattle.vfs_grammar.specs.Directories.{EndsWhole, EndsFull, GoesOn, CameWhole, listing_reply}

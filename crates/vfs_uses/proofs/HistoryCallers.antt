@@ -5,17 +5,15 @@ use Rattle.std.specs.declared.time.Duration.{Duration}
 use Rattle.std.proofs.lemmas.Bool.Decides.{nat_tests}
 use Rattle.std.proofs.lemmas.List.{take_all}
 use Rattle.std.proofs.lemmas.List.Sums.{sum_by-cons}
-use Rattle.vfs_flags.specs.Opcode.{opcode_of}
+use Rattle.vfs_flags.specs.Numbers.{opcode_of}
 use Rattle.vfs_wire.specs.Fields.{little, number, bytes_of, value_of}
-use Rattle.vfs_wire.specs.Headers.{in_header}
-use Rattle.vfs_wire.specs.Entries.{entry_out}
+use Rattle.vfs_wire.specs.Records.{in_header, entry_out}
 use Rattle.vfs_wire.specs.declared.entries.EntryOut.{EntryOut}
 use Rattle.vfs_segments.specs.Unread.{Unread}
 use Rattle.vfs_segments.specs.Written.{Written, whole}
 use Rattle.vfs_files.specs.Answers.{Answer, Done, Failed, Options, Found, Attributes, Put, Opened, Created, Statistics, Text, Count, Offset, Wrote, Handed, Plain, Entries}
 use Rattle.vfs_files.specs.Calls.{Call, Lookup, Forget}
-use Rattle.vfs_files.specs.Entries.{context_of, entry_out_of, whole_seconds, nanoseconds_beyond}
-use Rattle.vfs_files.specs.Items.{Item}
+use Rattle.vfs_files.specs.Values.{context_of, entry_out_of, whole_seconds, nanoseconds_beyond, Item}
 use Rattle.vfs_files.specs.Listing.{GivesFirst}
 use Rattle.vfs_files.specs.Runs.{Event, Called, Happening, Calls, Opens, Takes, IsRun, events_of}
 use Rattle.vfs_files.specs.declared.entry.Entry.{Entry}
@@ -27,7 +25,7 @@ use Rattle.vfs_grammar.specs.Listing.{given_back}
 use Rattle.vfs_grammar.specs.Reply.{Echo, Reply, Bytes, echo_of, body_reply, reply_of}
 use Rattle.vfs_grammar.specs.Room.{IsReplied, IsPut, unseen}
 use Rattle.vfs_grammar.specs.Samples.{lookup_of_a}
-use Rattle.vfs_grammar.specs.Turn.{Turn, Follows, turn_tells, counted, node_answered, events_in}
+use Rattle.vfs_grammar.specs.Turn.{Turn, Follows, counted, node_answered, events_in}
 use Rattle.vfs_grammar.specs.declared.limits.Limits.{Limits}
 use Rattle.vfs_grammar.specs.declared.error.Error.{Error}
 use Rattle.vfs_grammar.specs.declared.error.Error.TheVariants.{OutOfMemory}
@@ -210,7 +208,7 @@ module _ (old new : ServerState Stock) (writer after : Written) (outcome : Resul
   unfolding number
   step-lookup s is room enough =
       let t : Turn = turn_over LOOKUP writer s.run outcome s.room_after in
-      let P : Ask → Type 0 = λ a. Follows (turn_tells t) old.limits old.options a new.options in
+      let P : Ask → Type 0 = λ a. Follows t old.limits old.options a new.options in
       let asks = ask-lookup old.limits old.options (length writer.left) in
       let f = the_first (subst P asks s.turn) (λ q. enough q.1.0) in
       let reply : Answer → Reply = reply_of old.limits lookup_echo new.options Entries in
@@ -259,7 +257,7 @@ module _ (old new : ServerState Stock) (writer after : Written) (outcome : Resul
   unfolding number
   step-forget s =
       let t : Turn = turn_over FORGET writer s.run outcome s.room_after in
-      let P : Ask → Type 0 = λ a. Follows (turn_tells t) old.limits old.options a new.options in
+      let P : Ask → Type 0 = λ a. Follows t old.limits old.options a new.options in
       let f = subst P (ask-forget old.limits old.options (length writer.left)) s.turn in
       let c = first_call MemFsAllows GivesFirst old.fs new.fs s.run the_forget f.0 [] s.is_run f.1 in
       record {

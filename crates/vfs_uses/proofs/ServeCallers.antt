@@ -3,12 +3,12 @@ use Rattle.std.proofs.Common.{◌≡◌, ◌≤◌, ◌∙◌, ◌⊎◌, ℕ, t
 use Rattle.std.specs.declared.alloc.Global.{Global}
 use Rattle.std.proofs.lemmas.Bool.Decides.{nat_tests}
 use Rattle.vfs_segments.specs.Written.{Written, whole}
-use Rattle.vfs_files.specs.Items.{Item}
+use Rattle.vfs_files.specs.Values.{Item}
 use Rattle.vfs_files.specs.Answers.{Plain, Answer, Handed}
 use Rattle.vfs_files.specs.Calls.{Call, default_answer}
 use Rattle.vfs_grammar.specs.Ask.{ask}
 use Rattle.vfs_grammar.specs.Forms.{Ask, refused}
-use Rattle.vfs_grammar.specs.Turn.{Turn, Follows, turn_tells}
+use Rattle.vfs_grammar.specs.Turn.{Turn, Follows}
 use Rattle.vfs_grammar.specs.declared.error.Error.{Error}
 use Rattle.vfs_grammar.specs.declared.error.Error.TheVariants.{DecodeMessage}
 use Rattle.vfs_grammar.specs.declared.limits.Limits.{Limits}
@@ -35,7 +35,7 @@ module _ {S I : Type 0} (allows : S → Call → Handed I → S → Type 0) (giv
       → (outcome ≡ Err DecodeMessage) × (new ≡ old)
   step-few old request size outcome after new s few =
       let t : Turn = turn_over request (room_of size) s.run outcome s.room_after in
-      let P : Ask → Type 0 = λ a. Follows (turn_tells t) old.limits old.options a new.options in
+      let P : Ask → Type 0 = λ a. Follows t old.limits old.options a new.options in
       let f = subst P (ask-few old.limits old.options (length (room_of size).left) request few) s.turn in
       (f.1.0, same_server allows gives old new (IsRun-no_events allows gives old.fs new.fs s.run s.is_run f.0) f.2 s.same_limits)
 

@@ -2,27 +2,25 @@
 use Rattle.std.proofs.Common.{◌≡◌, ◌≢◌, ◌⊎◌, ℕ, Bool, false, List, [], ◌∷◌, ◌++◌, length, map, nat_lt, Option, Some, None, Result, Ok, Err, ap, sym, ◌∙◌, arith, subst, inl, inr, refl, pos}
 use Rattle.std.proofs.lemmas.Bool.Decides.{nat_tests}
 use Rattle.std.proofs.lemmas.List.Sums.{sum_by-take-le}
-use Rattle.vfs_flags.specs.Opcode.{opcode_of}
+use Rattle.vfs_flags.specs.Numbers.{opcode_of}
 use Rattle.vfs_wire.specs.Fields.{little, number, value_of}
-use Rattle.vfs_wire.specs.Headers.{in_header}
+use Rattle.vfs_wire.specs.Records.{in_header}
 use Rattle.vfs_segments.specs.Unread.{Unread}
-use Rattle.vfs_segments.specs.Written.{Written, whole}
-use Rattle.vfs_files.specs.Items.{Item}
+use Rattle.vfs_segments.specs.Written.{Written, whole, Leaves}
+use Rattle.vfs_files.specs.Values.{Item, context_of}
 use Rattle.vfs_files.specs.Answers.{Answer, Done, Failed, Options, Attributes, Put, Statistics, Text, Count, Offset, Handed, Plain, Agreements, Entries, Quiet, IsAnswer}
 use Rattle.vfs_files.specs.Answers as answers
 use Rattle.vfs_files.specs.Calls.{Call, Init, Lookup, Forget, default_answer}
-use Rattle.vfs_files.specs.Entries.{context_of}
 use Rattle.vfs_files.specs.declared.entry.Context.{Context}
 use Rattle.vfs_files.specs.Runs.{Event, Called, OpenedDirectory, Taken, events_of}
 use Rattle.vfs_grammar.specs.Books.{accepted, delivered, accepted_by, delivered_by, opcode_in, GivesBackWithin, KeepsBooks}
-use Rattle.vfs_grammar.specs.Turn.{events_in, Turn, IsTurn, Follows, turn_tells}
+use Rattle.vfs_grammar.specs.Turn.{events_in, Turn, IsTurn, Follows}
 use Rattle.vfs_grammar.specs.Ask.{ask}
 use Rattle.vfs_grammar.specs.Forms.{Ask, Asks, WithMemory, within}
 use Rattle.vfs_grammar.specs.Limits.{max_len}
 use Rattle.vfs_grammar.specs.Options.{options_after}
 use Rattle.vfs_grammar.specs.Reply.{Echo, echo_of, reply_of}
 use Rattle.vfs_grammar.specs.Room.{IsReplied}
-use Rattle.vfs_messages.specs.Rooms.{Leaves}
 use Rattle.vfs_grammar.specs.declared.limits.Limits.{Limits}
 use Rattle.vfs_grammar.specs.declared.error.Error.{Error}
 use Rattle.vfs_grammar.specs.declared.error.Error.TheVariants.{OutOfMemory}
@@ -115,7 +113,7 @@ turn-init : (t : Turn) (after : ℕ) → IsTurn limits_of_new 0 t after → t.re
 unfolding little number
 turn-init t after s request room default =
     let echo : Echo = record { unique = 7; max_readahead = 131072; ctx = nobody } in
-    let P : Ask → Type 0 = λ a. Follows (turn_tells t) limits_of_new 0 a after in
+    let P : Ask → Type 0 = λ a. Follows t limits_of_new 0 a after in
     let asks : ask limits_of_new 0 (length t.room) t.request ≡ Asks echo (Init 11) =
     ap (λ (n : ℕ). ask limits_of_new 0 n t.request) room ∙ ap (λ (b : List ℕ). ask limits_of_new 0 80 b) request ∙ ask-init in
     let f = subst P asks s in
@@ -138,7 +136,7 @@ unfolding little number
 turn-lookup t after s request room default enough =
     let echo : Echo = echo_of (value_of in_header lookup_request) in
     let call : Call = Lookup (context_of (value_of in_header lookup_request)) 1 (97 ∷ []) in
-    let P : Ask → Type 0 = λ a. Follows (turn_tells t) limits_of_new 9 a after in
+    let P : Ask → Type 0 = λ a. Follows t limits_of_new 9 a after in
     let asks : ask limits_of_new 9 (length t.room) t.request ≡ WithMemory (Asks echo call) =
     ap (λ (n : ℕ). ask limits_of_new 9 n t.request) room ∙ ap (λ (b : List ℕ). ask limits_of_new 9 16 b) request ∙ ask-lookup in
     let f = the_first (subst P asks s) (λ q. enough q.1.0) in
@@ -201,7 +199,7 @@ module _ {S I : Type 0} (allows : S → Call → Handed I → S → Type 0) (giv
       let P : Limits → ℕ → Type 0 = λ l o. AreServed l o (map in_one_segment (init_request ∷ lookup_request ∷ statfs_request ∷ [])) writers s.turns news new.options in
       let served : P limits_of_new 0 = subst (λ o. P limits_of_new o) options (subst (λ l. P l old.options) limits s.served) in
       begun writers outcomes news new.options rooms
-      (record { turns = s.turns; served = served; answered = s.answered; events = subst AreDefault s.events (run_is_default allows gives default None old.fs new.fs s.run s.is_run) })
+      (record { turns = s.turns; served = served; answered = s.outcomes_are; events = subst AreDefault s.events (run_is_default allows gives default None old.fs new.fs s.run s.is_run) })
 
 -- ---- the FORGET
 
@@ -220,7 +218,7 @@ turn-forget : (limits : Limits) (options : ℕ) (t : Turn) (after : ℕ) → IsT
 turn-forget limits options t after s request =
     let echo : Echo = echo_of (value_of in_header FORGET) in
     let call : Call = Forget (context_of (value_of in_header FORGET)) 5 3 in
-    let P : Ask → Type 0 = λ a. Follows (turn_tells t) limits options a after in
+    let P : Ask → Type 0 = λ a. Follows t limits options a after in
     let asks : ask limits options (length t.room) t.request ≡ Asks echo call =
     ap (λ (b : List ℕ). ask limits options (length t.room) b) request ∙ ask-forget limits options (length t.room) in
     let f = subst P asks s in
@@ -271,7 +269,7 @@ module _ {S I : Type 0} (allows : S → Call → Handed I → S → Type 0) (giv
       let below = books.never_below 6 (λ e. omega (arith, e)) (gives_nothing_back 6 o.t six) in
       let events : events_of s.run ≡ events_in (o.t ∷ []) = s.events ∙ ap events_in o.turns_are in
       record {
-        outcomes_are = sym s.answered ∙ (ap (λ (ts : List Turn). map (λ t. t.outcome) ts) o.turns_are ∙ ap (λ (r : Result ℕ Error). r ∷ []) outcome);
+        outcomes_are = sym s.outcomes_are ∙ (ap (λ (ts : List Turn). map (λ t. t.outcome) ts) o.turns_are ∙ ap (λ (r : Result ℕ Error). r ∷ []) outcome);
         books = record {
           run = s.run;
           is_run = s.is_run;

@@ -6,20 +6,19 @@ use Rattle.std.specs.List.{flat_map}
 use Rattle.vfs_segments.specs.Written.{Written, wrote}
 use Rattle.vfs_files.specs.Answers.{Plain, directory_answer}
 use Rattle.vfs_files.specs.Calls.{not_served, no_such_call, Call, Handed}
-use Rattle.vfs_files.specs.Items.{Item}
+use Rattle.vfs_files.specs.Values.{Item}
 use Rattle.vfs_files.specs.declared.entry.Entry.{Entry}
 use Rattle.vfs_files.specs.Runs.{Taken, events_of}
 use Rattle.vfs_files.specs.declared.entry.Context.{Context}
 use Rattle.vfs_grammar.proofs.Dirents.{length-record_bytes}
-use Rattle.vfs_grammar.specs.Dirents.{record_len, record_bytes, verdict, Verdict, Fails}
-use Rattle.vfs_grammar.specs.Listing.{Got, Line, Stop, End, At, line_events, stop_events, line_bytes, line_len, bytes_got, len_of, judged, fate, answer_at, answer_of, AreWritten, Stops}
+use Rattle.vfs_grammar.specs.Listing.{record_len, record_bytes, Verdict, Fails, Got, Line, Stop, End, At, line_events, stop_events, line_bytes, line_len, bytes_got, len_of, answer_at, answer_of, AreWritten, Stops, verdict}
 use Rattle.vfs_grammar.proofs.Listings.{fits_within}
 use Rattle.vfs_grammar.specs.Samples.{file_a}
 use Rattle.vfs_listings.specs.Reading.{Adds, cut_by, cut_short, ReadsItems}
 
 -- what fits is put
 pub put_whole : (max : ℕ) (entry : Option Entry) (i : Item) (old new : Written)
-    (result : Result ℕ (Option ℕ)) → Adds (verdict max (length old.left) entry i) entry i old result
+    (result : Result ℕ (Option ℕ)) → Adds (verdict max (length old.left) (Ok entry) i) entry i old result
     new
     → length i.name < 2 ^ 32 → record_len entry i ≤ max → record_len entry i ≤ length old.left
     → new ≡ wrote old (record_bytes entry i)
@@ -32,7 +31,7 @@ put_whole max entry i old new result h short below room =
 
 -- what is too long for the room fills it
 pub cut_fills : (max : ℕ) (entry : Option Entry) (i : Item) (old new : Written)
-    (result : Result ℕ (Option ℕ)) → Adds (verdict max (length old.left) entry i) entry i old result
+    (result : Result ℕ (Option ℕ)) → Adds (verdict max (length old.left) (Ok entry) i) entry i old result
     new
     → length i.name < 2 ^ 32 → record_len entry i ≤ max → length old.left < record_len entry i
     → new.left ≡ []
@@ -59,7 +58,7 @@ not_opened (Err fault) Reads middle new room left result h m =
     (m.0 ∙ ap Err same, m.2)
 
 -- a record of 32 bytes that may be put, and for which there are 31
-cut_verdict : (max room : ℕ) (i : Item) → length i.name ≡ 1 → 32 ≤ max → room ≡ 31 → verdict max room None i ≡ Fails None
+cut_verdict : (max room : ℕ) (i : Item) → length i.name ≡ 1 → 32 ≤ max → room ≡ 31 → verdict max room (Ok None) i ≡ Fails None
 cut_verdict max room i one below short =
     let len : record_len None i ≡ 32 = omega (arith, one) in
     let a : nat_lt (2 ^ 32 - 1) (length i.name) ≡ false = grind (arith, nat_tests) in
@@ -76,9 +75,9 @@ module _ (ctx : Context) (parent size room : ℕ) (short : room ≡ 31) (asked :
   cut_at [] (At last) w stops e =
       let item : last.item ≡ file_a = cc in
       let all : room - 0 ≡ 31 = omega (arith, short) in
-      let is : fate size room 0 last ≡ Fails None =
-      ap (λ (g : Got). judged (size - 0) (room - 0) g last.item) stops.0
-      ∙ ap (λ (i : Item). verdict (size - 0) (room - 0) None i) item
+      let is : (verdict (size - 0) (room - 0) last.got last.item) ≡ Fails None =
+      ap (λ (g : Got). verdict (size - 0) (room - 0) g last.item) stops.0
+      ∙ ap (λ (i : Item). verdict (size - 0) (room - 0) (Ok None) i) item
       ∙ cut_verdict (size - 0) (room - 0) file_a refl (omega (arith, asked)) all in
       let bytes : line_bytes last ≡ record_bytes None file_a =
       ap (λ (g : Got). bytes_got g last.item) stops.0 ∙ ap (record_bytes None) item in (

@@ -6,7 +6,7 @@ use Rattle.vfs_flags.specs.declared.opcode.Opcode.TheVariants.{Getattr, Read, Wr
 use Rattle.vfs_flags.specs.declared.opcode.Opcode.TheVariants as opcode
 use Rattle.vfs_segments.specs.Unread.{Unread}
 use Rattle.vfs_segments.specs.Written.{Written}
-use Rattle.vfs_files.specs.Items.{Item}
+use Rattle.vfs_files.specs.Values.{Item}
 use Rattle.vfs_files.specs.Calls.{Call, Readdir, Failed, Handed}
 use Rattle.vfs_files.specs.Runs.{Called, OpenedDirectory, Taken, Happening, IsRun, events_of}
 use Rattle.vfs_grammar.specs.Directories.{takings}

@@ -1,7 +1,6 @@
 //! Recorders and scripts at work.
 
-ghost use Rattle.std.specs.Prelude.{◌≡◌, ◌≤◌, ◌<◌, ◌++◌, [], ◌∷◌, true, false, length, map, vec_len};
-ghost use Rattle.std.specs.Prelude.{Some, None, Ok, Err, IfSome, IfOk, IfErr, IsOk, IsSome};
+ghost use Rattle.std.specs.Prelude.{◌≡◌, ◌≤◌, ◌<◌, ◌++◌, [], ◌∷◌, true, false, length, map, vec_len, Some, None, Ok, Err, IfSome, IfOk, IfErr, IsOk, IsSome};
 ghost use Rattle.vfs_flags.specs.declared.opcode.Opcode.{Opcode};
 ghost use Rattle.vfs_files.specs.Answers.{entry_answer};
 ghost use Rattle.vfs_files.specs.Calls.{no_such_call, not_served, out_of_memory};
@@ -275,7 +274,7 @@ fn cleared(mut recorder: Recorder<Script>) -> (usize, bool, Script)
 }
 
 /// The opcode of a note of a LOOKUP, and that of one that no recorder makes.
-#[tactic(auto, unfolding(vfs_flags::specs::Opcode::opcode_of))]
+#[tactic(auto, unfolding(vfs_flags::specs::Numbers::opcode_of))]
 fn opcodes_of_notes(lookup: &Note, none: &Note) -> (Option<Opcode>, Option<Opcode>)
     requires lookup { lookup.now.call ≡ 1 }
     requires none { none.now.call ≡ 7 }

@@ -1,11 +1,9 @@
 //! Names, copies, default answers and file systems of any kind at work.
 
-ghost use Rattle.std.specs.Prelude.{◌≡◌, ◌≤◌, ◌+◌, ◌++◌, pos, negsuc, IsTrue, IfOk, IfErr, Some};
-ghost use Rattle.std.specs.Prelude.{Err, map, option_map, ℕ, List};
-ghost use Rattle.vfs_files.specs.Extensions.{context_values};
+ghost use Rattle.std.specs.Prelude.{◌≡◌, ◌≤◌, ◌+◌, ◌++◌, pos, negsuc, IsTrue, IfOk, IfErr, Some, Err, map, option_map, ℕ, List};
+ghost use Rattle.vfs_files.specs.Values.{context_values, name_text};
 ghost use Rattle.vfs_files.specs.Calls.{Unlink, not_served};
 ghost use Rattle.vfs_files.specs.Answers.{Plain, done_answer, Counts};
-ghost use Rattle.vfs_files.specs.Names.{name_text};
 ghost use Rattle.vfs_files.specs.Runs.{ForgetsEach};
 
 use bitflags::Flags;

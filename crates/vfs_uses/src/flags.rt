@@ -1,7 +1,7 @@
 //! Numbers of the protocol by name.
 
 ghost use Rattle.std.specs.Prelude.{◌≡◌, ◌↔◌, [], ◌∷◌, pos, ◌-ℤ◌, ◌<ℤ◌, Some, None, IsTrue, map};
-ghost use Rattle.vfs_flags.specs.Errors.{eperm, enoent, eio, ebadf, enomem, eacces, eexist, exdev, enotdir, eisdir, einval, enospc, erofs, erange, enosys, enotempty, enodata, eproto, eoverflow, eopnotsupp};
+ghost use Rattle.vfs_flags.specs.Numbers.{eperm, enoent, eio, ebadf, enomem, eacces, eexist, exdev, enotdir, eisdir, einval, enospc, erofs, erange, enosys, enotempty, enodata, eproto, eoverflow, eopnotsupp};
 ghost use Rattle.vfs_flags.specs.Flags.{fs_options_bits, init_ext, setxattr_ext, security_ctx, create_supp_group, supported_fs_options};
 
 use vfs_flags::{Errno, FsOptions};

@@ -1,7 +1,7 @@
 //! A law of directories at work.
 
 ghost use Rattle.std.specs.Prelude.{◌≤◌, ◌<◌, ◌^◌, ℕ, [], ◌∷◌, false, length, List, Option, Some, None, Result};
-ghost use Rattle.vfs_files.specs.Items.{Item};
+ghost use Rattle.vfs_files.specs.Values.{Item};
 ghost use Rattle.vfs_files.specs.Runs.{Taken};
 ghost use Rattle.vfs_files.specs.declared.entry.Context.{Context};
 ghost use Rattle.vfs_grammar.specs.Directories.{IsWhole};

@@ -3,7 +3,7 @@
 ghost use Rattle.std.specs.Prelude.{◌≡◌, ◌≤◌, ℕ, length, true, false, [], ◌∷◌, Option, Some, Ok, Err, IfOk, codes, Result as Outcome, None as Nothing};
 ghost use Rattle.vfs_segments.specs.Written.{Written, wrote};
 ghost use Rattle.vfs_files.specs.Calls.{not_served};
-ghost use Rattle.vfs_files.specs.Names.{name_text};
+ghost use Rattle.vfs_files.specs.Values.{name_text};
 ghost use Rattle.vfs_files.specs.Runs.{Taken, events_of};
 ghost use Rattle.vfs_files.specs.declared.entry.Context.{Context};
 ghost use Rattle.vfs_grammar.specs.Samples.{record_of_dot, file_a};

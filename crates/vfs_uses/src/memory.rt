@@ -1,14 +1,11 @@
 //! Files in memory at work.
 
-ghost use Rattle.std.specs.Prelude.{◌≡◌, ◌++◌, [], ◌∷◌, List, codes, option_map};
-ghost use Rattle.std.specs.Prelude.{IfOk, MatchResult, IsTrue, false, Some, None, Ok, Err};
+ghost use Rattle.std.specs.Prelude.{◌≡◌, ◌++◌, [], ◌∷◌, List, codes, option_map, IfOk, MatchResult, IsTrue, false, Some, None, Ok, Err};
 ghost use Rattle.std.specs.Duration.{as_nanos};
 ghost use Rattle.vfs_flags.specs.Flags.{open_options_bits};
 ghost use Rattle.vfs_files.specs.Answers.{Plain, Iterator, Done, Options, attr_answer, init_answer};
 ghost use Rattle.vfs_files.specs.Calls.{Create, Getattr, Statfs, Write, default_statistics};
-ghost use Rattle.vfs_files.specs.Extensions.{ExtensionValues};
-ghost use Rattle.vfs_files.specs.Items.{Item, item_of};
-ghost use Rattle.vfs_files.specs.Names.{name_text};
+ghost use Rattle.vfs_files.specs.Values.{ExtensionValues, Item, item_of, name_text};
 ghost use Rattle.vfs_memory.specs.MemFs.{Stock, MemFsAllows};
 ghost use Rattle.vfs_uses.specs.Files.{one_file, two_files};
 

@@ -3,7 +3,7 @@
 ghost use Rattle.std.specs.Prelude.{◌≡◌, ◌<◌, ◌≤◌, ◌++◌, length, drop, Option, Ok, Err, Some, None, MatchResult, codes};
 ghost use Rattle.vfs_segments.specs.Segments.{with_bytes_at};
 ghost use Rattle.vfs_segments.specs.Written.{whole};
-ghost use Rattle.vfs_files.specs.Extensions.{extension_values_of};
+ghost use Rattle.vfs_files.specs.Values.{extension_values_of};
 ghost use Rattle.vfs_grammar.specs.Samples.{not_served_reply, ten_of_done_reply};
 ghost use Rattle.vfs_grammar.specs.declared.error.Error.{Error};
 

@@ -1,7 +1,7 @@
 //! Readers and writers at work.
 
 ghost use Rattle.std.specs.Prelude.{◌≡◌, ◌+◌, ◌^◌, ◌<◌, ◌≤◌, ◌++◌, List, [], ◌∷◌, None, true, false, length, take, drop, IfOk, IfErr, MatchOption, OnOk, OnErr};
-ghost use Rattle.vfs_segments.specs.Answers.{Question, Answer, AreAnswers, Available, Taken, Read, Count, Moved};
+ghost use Rattle.vfs_segments.specs.Answers.{Question, ReaderAnswer, AreAnswers, Available, Taken, Read, Count, Moved};
 ghost use Rattle.vfs_segments.specs.Segments.{contents, flat_bytes, lengths_of};
 ghost use Rattle.vfs_segments.specs.Unread.{Unread, IsUnread};
 ghost use Rattle.vfs_wire.specs.Fields.{bytes_of, lone_number, value_of};
@@ -236,7 +236,7 @@ fn three_answers(reader: &mut Reader<'_>, buf: &mut [u8]) -> io::Result<(usize, 
 /// Readers of three bytes, which are cut after the first or after the second, answer every list of
 /// calls alike, and then have the same bytes left.
 fn two_cuttings_of_three_bytes()
-    ensures { (u t v w : Unread) (questions : List Question) (answers others : List Answer) →
+    ensures { (u t v w : Unread) (questions : List Question) (answers others : List ReaderAnswer) →
         IsUnread (flat_bytes ((1 ∷ []) ∷ (2 ∷ 3 ∷ []) ∷ [])) u →
         IsUnread (flat_bytes ((1 ∷ 2 ∷ []) ∷ (3 ∷ []) ∷ [])) t →
         AreAnswers u questions answers v → AreAnswers t questions others w →
@@ -248,7 +248,7 @@ fn two_cuttings_of_three_bytes()
 /// A reader that is asked for its counts has answers.
 fn counts_have_answers()
     ensures { (u : Unread) →
-        (answers : List Answer) × ((v : Unread) × AreAnswers u (Available ∷ Taken ∷ []) answers v) }
+        (answers : List ReaderAnswer) × ((v : Unread) × AreAnswers u (Available ∷ Taken ∷ []) answers v) }
 {
     equal_bytes_answer_alike();
 }

@@ -4,7 +4,7 @@ mod serve;
 mod session;
 
 ghost use Rattle.std.specs.Prelude.{◌≡◌, ◌≢◌, ◌≤◌, ◌-◌, ◌++◌, [], true, length, take, drop, Err, Some, IfSome, OnSome};
-ghost use Rattle.vfs_flags.specs.Opcode.{opcode_of};
+ghost use Rattle.vfs_flags.specs.Numbers.{opcode_of};
 ghost use Rattle.vfs_flags.specs.declared.opcode.Opcode.{Opcode};
 ghost use Rattle.vfs_segments.specs.Segments.{contents, flat_bytes};
 ghost use Rattle.vfs_segments.specs.Unread.{are_together};

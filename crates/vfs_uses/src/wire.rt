@@ -2,8 +2,7 @@
 
 ghost use Rattle.std.specs.Prelude.{◌≡◌, ◌+◌, ◌≤◌, [], ◌∷◌, ◌++◌, replicate, pos, negsuc, length, Ok, Err, Some};
 ghost use Rattle.vfs_wire.specs.Fields.{bytes_of, value_of};
-ghost use Rattle.vfs_wire.specs.Headers.{out_header};
-ghost use Rattle.vfs_wire.specs.Stat.{attr_of};
+ghost use Rattle.vfs_wire.specs.Records.{out_header, attr_of};
 
 use vfs_flags::{Errno, Fault, GuestGid, GuestUid};
 use vfs_wire::parts::part_at;

@@ -46,7 +46,25 @@ number-lt (suc n) (x ∷ bytes) h = omega (arith, pow-suc 256 n, h 0, number-lt 
 pub AreBytes-drop : (n : ℕ) (bytes : List ℕ) → AreBytes bytes → AreBytes (drop n bytes)
 AreBytes-drop n bytes h i = rw get_or-drop (h (n + i))
 
+-- what a number is written in are bytes
+AreBytes-little : (n x : ℕ) → AreBytes (little n x)
+unfolding little
+AreBytes-little zero x i = lit< tt
+AreBytes-little (suc n) x zero = omega arith
+AreBytes-little (suc n) x (suc i) = AreBytes-little n (x / 256) i
+
+AreBytes-append : (xs ys : List ℕ) → AreBytes xs → AreBytes ys → AreBytes (xs ++ ys)
+AreBytes-append [] ys h k i = k i
+AreBytes-append (x ∷ xs) ys h k zero = h zero
+AreBytes-append (x ∷ xs) ys h k (suc i) = AreBytes-append xs ys (AreBytes-rest x xs h) k i
+
 -- ---- rows
+
+-- what numbers are written in are bytes
+pub AreBytes-row : (ws xs : List ℕ) → AreBytes (row ws xs)
+AreBytes-row [] xs i = lit< tt
+AreBytes-row (w ∷ ws) [] i = lit< tt
+AreBytes-row (w ∷ ws) (x ∷ xs) i = AreBytes-append (little w x) (row ws xs) (AreBytes-little w x) (AreBytes-row ws xs) i
 
 pub length-row : (ws xs : List ℕ) → Fit ws xs → length (row ws xs) ≡ sum ws
 length-row [] [] h = refl

@@ -87,6 +87,10 @@ pub record Table (R : Type 0) : Type 0 where
   pub fields : R → List ℕ
   pub made : List ℕ → R
 
+-- a table with these widths, fields and way to make a value
+abbrev pub table : {R : Type 0} → List ℕ → (R → List ℕ) → (List ℕ → R) → Table R
+table widths fields made = record { widths = widths; fields = fields; made = made }
+
 -- the bytes that stand for a value
 abbrev pub bytes_of : {R : Type 0} → Table R → R → List ℕ
 bytes_of t r = row t.widths (t.fields r)
@@ -97,8 +101,4 @@ value_of t bytes = t.made (numbers t.widths bytes)
 
 -- a number of this width by itself
 abbrev pub lone_number : ℕ → Table ℕ
-lone_number w = record {
-  widths = w ∷ [];
-  fields = λ x. x ∷ [];
-  made = λ xs. slice_index xs 0;
-}
+lone_number w = table (w ∷ []) (λ x. x ∷ []) (λ xs. slice_index xs 0)

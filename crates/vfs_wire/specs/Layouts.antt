@@ -1,12 +1,7 @@
 -- The records as a compiler lays them out: what the bytes 1, 2, 3, .. of each say, field by field.
 use Rattle.std.specs.Prelude.{◌≡◌, ℕ, zero, suc, pos, List, [], ◌∷◌}
 use Rattle.vfs_wire.specs.Fields.{Table, bytes_of, value_of}
-use Rattle.vfs_wire.specs.Headers.{in_header, out_header}
-use Rattle.vfs_wire.specs.Init.{init_in_compat, init_in_ext, init_out}
-use Rattle.vfs_wire.specs.Attributes.{attr, getattr_in, attr_out, setattr_in}
-use Rattle.vfs_wire.specs.Entries.{entry_out, forget_in, forget_one, batch_forget_in}
-use Rattle.vfs_wire.specs.Listings.{dirent, direntplus, kstatfs}
-use Rattle.vfs_wire.specs.Extensions.{ext_header, secctx, supp_groups}
+use Rattle.vfs_wire.specs.Records.{in_header, out_header, init_in_compat, init_in_ext, init_out, attr, getattr_in, attr_out, setattr_in, entry_out, forget_in, forget_one, batch_forget_in, dirent, direntplus, kstatfs, ext_header, secctx, supp_groups}
 
 -- n bytes that count up from i
 abbrev pub counting : ℕ → ℕ → List ℕ

@@ -1,10 +1,5 @@
-pub mod Attributes
-pub mod Entries
-pub mod Extensions
+pub mod Decoders
 pub mod FieldLaws
 pub mod Fields
-pub mod Headers
-pub mod Init
 pub mod Layouts
-pub mod Listings
-pub mod Stat
+pub mod Records

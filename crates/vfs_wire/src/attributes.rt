@@ -2,7 +2,7 @@
 
 ghost use Rattle.std.specs.Prelude.{refl};
 ghost use Rattle.std.proofs.Common.{lit≤};
-ghost use Rattle.vfs_wire.specs.Attributes.{attr, attr_out, getattr_in, setattr_in};
+ghost use Rattle.vfs_wire.specs.Records.{attr, attr_out, getattr_in, setattr_in};
 
 use crate::ByteValued;
 use crate::bytes::Field::{Eight, Four};

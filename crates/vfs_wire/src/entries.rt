@@ -2,7 +2,7 @@
 
 ghost use Rattle.std.specs.Prelude.{refl};
 ghost use Rattle.std.proofs.Common.{lit≤};
-ghost use Rattle.vfs_wire.specs.Entries.{batch_forget_in, entry_out, forget_in, forget_one};
+ghost use Rattle.vfs_wire.specs.Records.{batch_forget_in, entry_out, forget_in, forget_one};
 
 use crate::ByteValued;
 use crate::attributes::Attr;

@@ -2,7 +2,7 @@
 
 ghost use Rattle.std.specs.Prelude.{refl};
 ghost use Rattle.std.proofs.Common.{lit≤};
-ghost use Rattle.vfs_wire.specs.Extensions.{ext_header, secctx, supp_groups};
+ghost use Rattle.vfs_wire.specs.Records.{ext_header, secctx, supp_groups};
 
 use crate::ByteValued;
 use crate::bytes::Field::Four;

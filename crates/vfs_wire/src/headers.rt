@@ -6,7 +6,7 @@ ghost use Rattle.std.proofs.Common.{ap, lit≤};
 ghost use Rattle.std.proofs.lemmas.Int.{of_z-to_z, to_z-of_z};
 ghost use Rattle.vfs_wire.specs.Fields.{number};
 ghost use Rattle.vfs_wire.specs.FieldLaws.{AreBytes-drop, number-lt};
-ghost use Rattle.vfs_wire.specs.Headers.{in_header, request_header, out_header};
+ghost use Rattle.vfs_wire.specs.Records.{in_header, request_header, out_header};
 
 use crate::ByteValued;
 use crate::bytes::Field::{Eight, Four, Two};

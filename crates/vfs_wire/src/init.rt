@@ -3,7 +3,7 @@
 ghost use Rattle.std.specs.Prelude.{◌≡◌, length, refl};
 ghost use Rattle.std.proofs.Common.{ap, lit≤};
 ghost use Rattle.vfs_wire.specs.FieldLaws.{cells-is};
-ghost use Rattle.vfs_wire.specs.Init.{init_in_compat, init_in_ext, init_out};
+ghost use Rattle.vfs_wire.specs.Records.{init_in_compat, init_in_ext, init_out};
 
 use crate::ByteValued;
 use crate::bytes::Field::{Four, Two};

@@ -6,6 +6,14 @@ ghost use Rattle.vfs_wire.specs.Fields.{AreBytes, Fit, bytes_of, value_of};
 
 use crate::ByteValued;
 
+/// How a value is made of numbers follows of how it is split into them: it is the one inverse. So
+/// who believes a record's widths and fields need not read how it is decoded.
+pub fn decoding_is_the_inverse<T: ByteValued>()
+    ensures made_of_fields { (x : T) → T.in_range x → T.table.made (T.table.fields x) ≡ x }
+    ensures fields_of_made { (xs : List ℕ) → Fit T.table.widths xs →
+        T.table.fields (T.table.made xs) ≡ xs }
+{}
+
 /// What `take` reads from the bytes that `put` wrote is the value.
 pub fn take_after_put<T: ByteValued>()
     ensures { (x : T) → Fit T.table.widths (T.table.fields x) → T.in_range x →

@@ -27,13 +27,13 @@ pub use entries::{BatchForgetIn, EntryOut, ForgetIn, ForgetOne};
 pub use extensions::{ExtHeader, Secctx, SuppGroups};
 pub use headers::{InHeader, OutHeader};
 pub use init::{InitInCompat, InitInExt, InitOut};
-pub use laws::{bytes_have_size, put_after_take, take_after_put};
+pub use laws::{bytes_have_size, decoding_is_the_inverse, put_after_take, take_after_put};
 pub use listings::{Dirent, Direntplus, Kstatfs};
 pub use stat::{Stat64, Statvfs64};
 
 /// A value that a fixed number of bytes stand for: its fields in order, each little endian in its
 /// width. Values and byte lists of that length correspond one to one (`take_after_put`,
-/// `put_after_take`).
+/// `put_after_take`, `decoding_is_the_inverse`).
 pub trait ByteValued: Sized {
     /// How many bytes, at most 152.
     const SIZE: usize;

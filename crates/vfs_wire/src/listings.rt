@@ -3,7 +3,7 @@
 ghost use Rattle.std.specs.Prelude.{◌≡◌, length, refl};
 ghost use Rattle.std.proofs.Common.{ap, lit≤};
 ghost use Rattle.vfs_wire.specs.FieldLaws.{cells-is};
-ghost use Rattle.vfs_wire.specs.Listings.{dirent, direntplus, kstatfs};
+ghost use Rattle.vfs_wire.specs.Records.{dirent, direntplus, kstatfs};
 
 use crate::bytes::Field::{Eight, Four};
 use crate::bytes::{put_fields, put_from, put_front, u32_at, u64_at};

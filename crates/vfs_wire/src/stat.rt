@@ -2,7 +2,7 @@
 //! it by.
 
 ghost use Rattle.std.specs.Prelude.{◌≡◌, ◌⊎◌, ℕ, [], ◌∷◌, IfOk, IfErr};
-ghost use Rattle.vfs_wire.specs.Stat.{attr_of, bits_of, kstatfs_of, low_word};
+ghost use Rattle.vfs_wire.specs.Records.{attr_of, bits_of, kstatfs_of, low_word};
 
 use crate::{Attr, Kstatfs};
 use vfs_flags::{Fault, GuestGid, GuestUid, HostGid, HostUid};

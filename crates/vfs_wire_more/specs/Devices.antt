@@ -1,7 +1,8 @@
 -- The requests BMAP, IOCTL and POLL.
-use Rattle.std.specs.Prelude.{[], ◌∷◌, slice_index}
-use Rattle.std.specs.Int.{w32, cast_signed, cast_unsigned}
-use Rattle.vfs_wire.specs.Fields.{Table}
+use Rattle.std.specs.Int.{w32, cast_unsigned}
+use Rattle.std.specs.Prelude.{[], ◌∷◌}
+use Rattle.vfs_wire.specs.Fields.{Table, table}
+use Rattle.vfs_wire_more.specs.Decoders.{made_bmap_in, made_bmap_out, made_ioctl_in, made_ioctl_iovec, made_ioctl_out, made_poll_in, made_poll_out, made_syncfs_in}
 use Rattle.vfs_wire_more.specs.declared.devices.BmapIn.{BmapIn}
 use Rattle.vfs_wire_more.specs.declared.devices.BmapOut.{BmapOut}
 use Rattle.vfs_wire_more.specs.declared.devices.IoctlIn.{IoctlIn}
@@ -13,95 +14,34 @@ use Rattle.vfs_wire_more.specs.declared.devices.SyncfsIn.{SyncfsIn}
 
 -- BmapIn: 16 bytes
 abbrev pub bmap_in : Table BmapIn
-bmap_in = record {
-  widths = 8 ∷ 4 ∷ 4 ∷ [];
-  fields = λ r. r.block ∷ r.blocksize ∷ r.padding ∷ [];
-  made = λ xs. record {
-    block = slice_index xs 0;
-    blocksize = slice_index xs 1;
-    padding = slice_index xs 2;
-  };
-}
+bmap_in = table (8 ∷ 4 ∷ 4 ∷ []) (λ r. r.block ∷ r.blocksize ∷ r.padding ∷ []) made_bmap_in
 
 -- BmapOut: 8 bytes
 abbrev pub bmap_out : Table BmapOut
-bmap_out = record {
-  widths = 8 ∷ [];
-  fields = λ r. r.block ∷ [];
-  made = λ xs. record {
-    block = slice_index xs 0;
-  };
-}
+bmap_out = table (8 ∷ []) (λ r. r.block ∷ []) made_bmap_out
 
 -- IoctlIn: 32 bytes
 abbrev pub ioctl_in : Table IoctlIn
-ioctl_in = record {
-  widths = 8 ∷ 4 ∷ 4 ∷ 8 ∷ 4 ∷ 4 ∷ [];
-  fields = λ r. r.fh ∷ r.flags ∷ r.cmd ∷ r.arg ∷ r.in_size ∷ r.out_size ∷ [];
-  made = λ xs. record {
-    fh = slice_index xs 0;
-    flags = slice_index xs 1;
-    cmd = slice_index xs 2;
-    arg = slice_index xs 3;
-    in_size = slice_index xs 4;
-    out_size = slice_index xs 5;
-  };
-}
+ioctl_in = table (8 ∷ 4 ∷ 4 ∷ 8 ∷ 4 ∷ 4 ∷ [])
+    (λ r. r.fh ∷ r.flags ∷ r.cmd ∷ r.arg ∷ r.in_size ∷ r.out_size ∷ []) made_ioctl_in
 
 -- IoctlIovec: 16 bytes
 abbrev pub ioctl_iovec : Table IoctlIovec
-ioctl_iovec = record {
-  widths = 8 ∷ 8 ∷ [];
-  fields = λ r. r.base ∷ r.len ∷ [];
-  made = λ xs. record {
-    base = slice_index xs 0;
-    len = slice_index xs 1;
-  };
-}
+ioctl_iovec = table (8 ∷ 8 ∷ []) (λ r. r.base ∷ r.len ∷ []) made_ioctl_iovec
 
 -- IoctlOut: 16 bytes
 abbrev pub ioctl_out : Table IoctlOut
-ioctl_out = record {
-  widths = 4 ∷ 4 ∷ 4 ∷ 4 ∷ [];
-  fields = λ r. cast_unsigned w32 r.result ∷ r.flags ∷ r.in_iovs ∷ r.out_iovs ∷ [];
-  made = λ xs. record {
-    result = cast_signed w32 (slice_index xs 0);
-    flags = slice_index xs 1;
-    in_iovs = slice_index xs 2;
-    out_iovs = slice_index xs 3;
-  };
-}
+ioctl_out = table (4 ∷ 4 ∷ 4 ∷ 4 ∷ [])
+    (λ r. cast_unsigned w32 r.result ∷ r.flags ∷ r.in_iovs ∷ r.out_iovs ∷ []) made_ioctl_out
 
 -- PollIn: 24 bytes
 abbrev pub poll_in : Table PollIn
-poll_in = record {
-  widths = 8 ∷ 8 ∷ 4 ∷ 4 ∷ [];
-  fields = λ r. r.fh ∷ r.kh ∷ r.flags ∷ r.events ∷ [];
-  made = λ xs. record {
-    fh = slice_index xs 0;
-    kh = slice_index xs 1;
-    flags = slice_index xs 2;
-    events = slice_index xs 3;
-  };
-}
+poll_in = table (8 ∷ 8 ∷ 4 ∷ 4 ∷ []) (λ r. r.fh ∷ r.kh ∷ r.flags ∷ r.events ∷ []) made_poll_in
 
 -- PollOut: 8 bytes
 abbrev pub poll_out : Table PollOut
-poll_out = record {
-  widths = 4 ∷ 4 ∷ [];
-  fields = λ r. r.revents ∷ r.padding ∷ [];
-  made = λ xs. record {
-    revents = slice_index xs 0;
-    padding = slice_index xs 1;
-  };
-}
+poll_out = table (4 ∷ 4 ∷ []) (λ r. r.revents ∷ r.padding ∷ []) made_poll_out
 
 -- SyncfsIn: 8 bytes
 abbrev pub syncfs_in : Table SyncfsIn
-syncfs_in = record {
-  widths = 8 ∷ [];
-  fields = λ r. r.padding ∷ [];
-  made = λ xs. record {
-    padding = slice_index xs 0;
-  };
-}
+syncfs_in = table (8 ∷ []) (λ r. r.padding ∷ []) made_syncfs_in

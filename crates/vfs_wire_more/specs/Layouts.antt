@@ -1,10 +1,7 @@
 -- The records as a compiler lays them out: what the bytes 1, 2, 3, .. of each say, field by field.
 use Rattle.std.specs.Prelude.{pos, [], ◌∷◌}
 use Rattle.vfs_wire.specs.Layouts.{LiesAs}
-use Rattle.vfs_wire_more.specs.Files.{open_in, open_out, release_in, flush_in, read_in, write_in, write_out, fsync_in}
-use Rattle.vfs_wire_more.specs.Names.{mknod_in, mkdir_in, rename_in, rename2_in, link_in, create_in, access_in}
-use Rattle.vfs_wire_more.specs.Ranges.{lseek_in, lseek_out, copyfilerange_in, fallocate_in}
-use Rattle.vfs_wire_more.specs.Xattrs.{setxattr_in, setxattr_in_compat, getxattr_in, getxattr_out}
+use Rattle.vfs_wire_more.specs.Records.{open_in, open_out, release_in, flush_in, read_in, write_in, write_out, fsync_in, mknod_in, mkdir_in, rename_in, rename2_in, link_in, create_in, access_in, lseek_in, lseek_out, copyfilerange_in, fallocate_in, setxattr_in, setxattr_in_compat, getxattr_in, getxattr_out}
 use Rattle.vfs_wire_more.specs.Listings.{statfs_out}
 use Rattle.vfs_wire_more.specs.Extensions.{secctx_header}
 use Rattle.vfs_wire_more.specs.Locks.{file_lock, lk_in, lk_out, interrupt_in}

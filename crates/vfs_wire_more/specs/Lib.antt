@@ -1,11 +1,9 @@
+pub mod Decoders
 pub mod Devices
 pub mod Extensions
-pub mod Files
 pub mod Layouts
 pub mod Listings
 pub mod Locks
 pub mod Mappings
-pub mod Names
 pub mod Notifications
-pub mod Ranges
-pub mod Xattrs
+pub mod Records

@@ -1,14 +1,9 @@
 -- A file system as a whole.
-use Rattle.vfs_wire.specs.Fields.{Table}
-use Rattle.vfs_wire.specs.Listings.{kstatfs}
+use Rattle.vfs_wire.specs.Fields.{Table, table}
+use Rattle.vfs_wire_more.specs.Decoders.{made_statfs_out}
+use Rattle.vfs_wire.specs.Records.{kstatfs}
 use Rattle.vfs_wire_more.specs.declared.listings.StatfsOut.{StatfsOut}
 
 -- StatfsOut: 80 bytes
 abbrev pub statfs_out : Table StatfsOut
-statfs_out = record {
-  widths = kstatfs.widths;
-  fields = λ r. kstatfs.fields r.st;
-  made = λ xs. record {
-    st = kstatfs.made xs;
-  };
-}
+statfs_out = table (kstatfs.widths) (λ r. kstatfs.fields r.st) made_statfs_out

@@ -2,7 +2,7 @@
 
 ghost use Rattle.std.specs.Prelude.{refl};
 ghost use Rattle.std.proofs.Common.{lit≤};
-ghost use Rattle.vfs_wire_more.specs.Files.{flush_in, fsync_in, open_in, open_out, read_in, release_in, write_in, write_out};
+ghost use Rattle.vfs_wire_more.specs.Records.{flush_in, fsync_in, open_in, open_out, read_in, release_in, write_in, write_out};
 
 use vfs_wire::ByteValued;
 use vfs_wire::bytes::Field::{Eight, Four};

@@ -2,7 +2,7 @@
 
 ghost use Rattle.std.specs.Prelude.{refl};
 ghost use Rattle.std.proofs.Common.{lit≤};
-ghost use Rattle.vfs_wire_more.specs.Names.{access_in, create_in, link_in, mkdir_in, mknod_in, rename2_in, rename_in};
+ghost use Rattle.vfs_wire_more.specs.Records.{access_in, create_in, link_in, mkdir_in, mknod_in, rename2_in, rename_in};
 
 use vfs_wire::ByteValued;
 use vfs_wire::bytes::Field::{Eight, Four};

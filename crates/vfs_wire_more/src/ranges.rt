@@ -2,7 +2,7 @@
 
 ghost use Rattle.std.specs.Prelude.{refl};
 ghost use Rattle.std.proofs.Common.{lit≤};
-ghost use Rattle.vfs_wire_more.specs.Ranges.{copyfilerange_in, fallocate_in, lseek_in, lseek_out};
+ghost use Rattle.vfs_wire_more.specs.Records.{copyfilerange_in, fallocate_in, lseek_in, lseek_out};
 
 use vfs_wire::ByteValued;
 use vfs_wire::bytes::Field::{Eight, Four};

@@ -2,7 +2,7 @@
 
 ghost use Rattle.std.specs.Prelude.{refl};
 ghost use Rattle.std.proofs.Common.{lit≤};
-ghost use Rattle.vfs_wire_more.specs.Xattrs.{getxattr_in, getxattr_out, setxattr_in, setxattr_in_compat};
+ghost use Rattle.vfs_wire_more.specs.Records.{getxattr_in, getxattr_out, setxattr_in, setxattr_in_compat};
 
 use vfs_wire::ByteValued;
 use vfs_wire::bytes::Field::Four;

@@ -3,9 +3,7 @@
 ghost use Rattle.std.specs.Prelude.{◌≡◌, ◌≢◌, ◌≤◌, ◌+◌, ◌++◌, ℕ, List, [], ◌∷◌, Some, Ok, sum_by};
 ghost use Rattle.vfs_grammar.specs.Books.{answered, sent, delivered, accepted, opcode_in, GivesBackWithin, NeverBelow};
 ghost use Rattle.vfs_grammar.specs.Records.{size_of, in_header_size, out_header_size, entry_out_size, dirent_size, pair_size, pairs_place, namelen_place};
-ghost use Rattle.vfs_wire.specs.Entries.{batch_forget_in, entry_out, forget_one};
-ghost use Rattle.vfs_wire.specs.Headers.{in_header, out_header};
-ghost use Rattle.vfs_wire.specs.Listings.{dirent};
+ghost use Rattle.vfs_wire.specs.Records.{batch_forget_in, entry_out, forget_one, in_header, out_header, dirent};
 ghost use Rattle.vfs_grammar.specs.Turn.{AreTurns, events_in, Turn, IsTurn};
 ghost use Rattle.vfs_grammar.specs.Samples.{reply_of_node_5, batch_of_two};
 ghost use Rattle.vfs_files.specs.Calls.{Lookup, Forget, Destroy, Answer, Found, Done};

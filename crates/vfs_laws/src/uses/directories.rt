@@ -1,10 +1,9 @@
 //! Small callers of the law on directories: what comes back of a READDIR and a READDIRPLUS whose
 //! bytes are written out.
 
-ghost use Rattle.std.specs.Prelude.{◌≡◌, ◌≢◌, ℕ, List, [], ◌∷◌, length, take, Option, Some, Ok};
-ghost use Rattle.std.specs.Prelude.{None as Nothing};
+ghost use Rattle.std.specs.Prelude.{◌≡◌, ◌≢◌, ℕ, List, [], ◌∷◌, length, take, Option, Some, Ok, None as Nothing};
 ghost use Rattle.vfs_files.specs.Calls.{Readdir, Lookup, Answer, Failed};
-ghost use Rattle.vfs_files.specs.Items.{Item};
+ghost use Rattle.vfs_files.specs.Values.{Item};
 ghost use Rattle.vfs_files.specs.Runs.{Event, Called, OpenedDirectory, Taken};
 ghost use Rattle.vfs_grammar.specs.Samples.{file_a, nobody, reply_of_one_file, refused_reply, request_for_data};
 ghost use Rattle.vfs_grammar.specs.Limits.{default_limits};

@@ -7,9 +7,8 @@ ghost use Rattle.vfs_files.specs.Runs.{Event, Called, Taken};
 ghost use Rattle.vfs_files.specs.declared.entry.Context.{Context};
 ghost use Rattle.vfs_files.specs.declared.entry.Entry.{Entry};
 ghost use Rattle.vfs_grammar.specs.Directories.{takings};
-ghost use Rattle.vfs_grammar.specs.Listing.{IsListing, IsDirectory};
+ghost use Rattle.vfs_grammar.specs.Listing.{IsListing, IsDirectory, record_bytes};
 ghost use Rattle.vfs_grammar.specs.Nodes.{nodes_in};
-ghost use Rattle.vfs_grammar.specs.Dirents.{record_bytes};
 ghost use Rattle.vfs_grammar.specs.Samples.{record_of_dot, record_of_a, entry_of_dot, root_dot, file_a};
 
 use crate::listings::{directories_are_whole, nodes_are_found, takings_are_bounded};

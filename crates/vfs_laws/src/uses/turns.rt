@@ -3,14 +3,13 @@
 ghost use Rattle.std.specs.Prelude.{◌≡◌, ◌≢◌, ◌<◌, ◌≤◌, ◌+◌, ◌*◌, ◌^◌, [], ◌∷◌, ℕ, List, length, take, drop, Option, Ok, Err, Some};
 ghost use Rattle.std.specs.Int.{bit_at};
 ghost use Rattle.std.specs.declared.time.Duration.{Duration};
-ghost use Rattle.vfs_flags.specs.Opcode.{opcode_of};
+ghost use Rattle.vfs_flags.specs.Numbers.{opcode_of};
 ghost use Rattle.vfs_flags.specs.declared.opcode.Opcode.{Opcode};
-ghost use Rattle.vfs_wire.specs.Attributes.{attr_out};
-ghost use Rattle.vfs_wire.specs.Entries.{entry_out};
+ghost use Rattle.vfs_wire.specs.Records.{attr_out, entry_out};
 ghost use Rattle.vfs_wire.specs.Fields.{little, value_of};
 ghost use Rattle.vfs_wire.specs.declared.attributes.Attr.{Attr};
 ghost use Rattle.vfs_files.specs.Calls.{Call, Lookup, Getattr, Access, Init, Failed, Options, Found, Attributes};
-ghost use Rattle.vfs_files.specs.Entries.{whole_seconds};
+ghost use Rattle.vfs_files.specs.Values.{whole_seconds};
 ghost use Rattle.vfs_files.specs.Runs.{Event, Called};
 ghost use Rattle.vfs_files.specs.declared.entry.Context.{Context};
 ghost use Rattle.vfs_files.specs.declared.entry.Entry.{Entry};
@@ -20,7 +19,8 @@ ghost use Rattle.vfs_grammar.specs.Turn.{Turn, IsTurn};
 ghost use Rattle.vfs_grammar.specs.Samples.{lookup_of_a, request_for_data, node_5, node_5_reply};
 ghost use Rattle.vfs_grammar.specs.declared.error.Error.{Error};
 ghost use Rattle.vfs_grammar.specs.declared.limits.Limits.{Limits};
-ghost use Rattle.vfs_laws.specs.Turns.{unique_of, opcode_in, count_of_pairs, WantsMemory};
+ghost use Rattle.vfs_laws.specs.Turns.{unique_of, count_of_pairs, WantsMemory};
+ghost use Rattle.vfs_grammar.specs.Books.{opcode_in};
 
 use crate::turns::{
     answers_are_of_their_kind, data_are_no_more_than_asked, options_are_agreed,

@@ -1,9 +1,8 @@
 //! A reading of the root: what it holds, in order.
 
 ghost use Rattle.std.specs.Prelude.{◌≡◌, ◌+◌, ◌<◌, drop, length, slice_get, Some, MatchResult};
-ghost use Rattle.vfs_flags.specs.Errors.{enomem};
-ghost use Rattle.vfs_files.specs.Items.{item};
-ghost use Rattle.vfs_files.specs.Names.{name_text};
+ghost use Rattle.vfs_flags.specs.Numbers.{enomem};
+ghost use Rattle.vfs_files.specs.Values.{item, name_text};
 ghost use Rattle.vfs_memory.specs.MemFs.{root_item, file_item, root_items};
 
 use super::File;

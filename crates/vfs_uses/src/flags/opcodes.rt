@@ -1,7 +1,7 @@
 //! Numbers of requests and of extensions, and what they stand for.
 
 ghost use Rattle.std.specs.Prelude.{◌≡◌, [], ◌∷◌, Ok, Err};
-ghost use Rattle.vfs_flags.specs.Opcode.{number_of};
+ghost use Rattle.vfs_flags.specs.Numbers.{number_of};
 
 use vfs_flags::{ExtType, NotifyOpcode, Opcode};
 

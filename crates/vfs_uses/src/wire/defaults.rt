@@ -2,12 +2,7 @@
 
 ghost use Rattle.std.specs.Prelude.{◌≡◌, replicate};
 ghost use Rattle.vfs_wire.specs.Fields.{bytes_of};
-ghost use Rattle.vfs_wire.specs.Headers.{in_header, out_header};
-ghost use Rattle.vfs_wire.specs.Init.{init_in_compat, init_in_ext, init_out};
-ghost use Rattle.vfs_wire.specs.Attributes.{attr, getattr_in, attr_out, setattr_in};
-ghost use Rattle.vfs_wire.specs.Entries.{entry_out, forget_in, forget_one, batch_forget_in};
-ghost use Rattle.vfs_wire.specs.Listings.{dirent, direntplus, kstatfs};
-ghost use Rattle.vfs_wire.specs.Extensions.{ext_header, secctx, supp_groups};
+ghost use Rattle.vfs_wire.specs.Records.{in_header, out_header, init_in_compat, init_in_ext, init_out, attr, getattr_in, attr_out, setattr_in, entry_out, forget_in, forget_one, batch_forget_in, dirent, direntplus, kstatfs, ext_header, secctx, supp_groups};
 
 use vfs_wire::{
     Attr, AttrOut, BatchForgetIn, Dirent, Direntplus, EntryOut, ExtHeader, ForgetIn, ForgetOne,

@@ -2,10 +2,7 @@
 
 ghost use Rattle.std.specs.Prelude.{◌≡◌, replicate};
 ghost use Rattle.vfs_wire.specs.Fields.{bytes_of};
-ghost use Rattle.vfs_wire_more.specs.Names.{mknod_in, mkdir_in, rename_in, rename2_in, link_in, create_in, access_in};
-ghost use Rattle.vfs_wire_more.specs.Files.{open_in, open_out, release_in, flush_in, read_in, write_in, write_out, fsync_in};
-ghost use Rattle.vfs_wire_more.specs.Ranges.{lseek_in, lseek_out, copyfilerange_in, fallocate_in};
-ghost use Rattle.vfs_wire_more.specs.Xattrs.{setxattr_in, setxattr_in_compat, getxattr_in, getxattr_out};
+ghost use Rattle.vfs_wire_more.specs.Records.{mknod_in, mkdir_in, rename_in, rename2_in, link_in, create_in, access_in, open_in, open_out, release_in, flush_in, read_in, write_in, write_out, fsync_in, lseek_in, lseek_out, copyfilerange_in, fallocate_in, setxattr_in, setxattr_in_compat, getxattr_in, getxattr_out};
 ghost use Rattle.vfs_wire_more.specs.Listings.{statfs_out};
 ghost use Rattle.vfs_wire_more.specs.Extensions.{secctx_header};
 ghost use Rattle.vfs_wire_more.specs.Locks.{file_lock, lk_in, lk_out, interrupt_in};

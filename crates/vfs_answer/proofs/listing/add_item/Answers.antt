@@ -1,9 +1,7 @@
 -- An item is added with what it gets.
 use Rattle.std.proofs.Common.{◌≡◌, ℕ, List, Bool, true, false, Option, Some, None, Result, Ok, Err, length, refl}
 use Rattle.vfs_segments.specs.Written.{Written}
-use Rattle.vfs_files.specs.Entries.{entry_out_of}
-use Rattle.vfs_files.specs.Items.{Item}
-use Rattle.vfs_files.specs.Names.{name_of, name_text}
+use Rattle.vfs_files.specs.Values.{entry_out_of, Item, name_of, name_text}
 use Rattle.vfs_files.specs.declared.entry.Entry.{Entry}
 use Rattle.vfs_grammar.specs.Listing.{Got, Gets, IsLookedUp, is_dot, dot_out}
 use Rattle.vfs_listings.specs.Reading.{AddsGot}

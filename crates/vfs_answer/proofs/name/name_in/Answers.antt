@@ -1,6 +1,6 @@
 use Rattle.std.proofs.Common.{◌-◌, ◌<◌, arith, length, refl}
 use Rattle.std.proofs.lemmas.Bool.Decides.{nat_tests}
-use Rattle.vfs_files.specs.Names.{name_of}
+use Rattle.vfs_files.specs.Values.{name_of}
 use Rattle.vfs_answer.proofs.Names.{front_nonzero, is_name, no_name, nonzero_front, place_of_nul}
 use Rattle.vfs_answer.proofs.name.name_in.Goals as goal
 use Rattle.vfs_answer.proofs.name.name_in.Goals.{then-bytes-end-ne0-via-then-bytes-end-ne0, then-bytes-end-ne0-via-else-bytes-end-ne0+then-not-all_nonzero}

@@ -1,5 +1,5 @@
 use Rattle.std.proofs.Common.{None, ◌+◌, ap, arith, length, refl}
-use Rattle.vfs_files.specs.Names.{name_text}
+use Rattle.vfs_files.specs.Values.{name_text}
 use Rattle.vfs_listings.proofs.Putting.{adds_whole, adds_cut}
 use Rattle.vfs_answer.specs.Offered.{item_told}
 use Rattle.vfs_answer.proofs.record.add_plain.Goals as goal

@@ -1,5 +1,5 @@
 use Rattle.std.proofs.Common.{refl}
-use Rattle.vfs_files.specs.Names.{name_text}
+use Rattle.vfs_files.specs.Values.{name_text}
 use Rattle.vfs_answer.specs.Offered.{item_told}
 use Rattle.vfs_answer.proofs.Records.{puts_plain, put_whole, put_cut}
 use Rattle.vfs_answer.proofs.record.spell_dirent.Goals as goal

@@ -1,7 +1,7 @@
 use Rattle.std.proofs.Common.{◌≡◌, ◌∙◌, ℕ, List, Ok, length, ap, arith}
 use Rattle.std.proofs.lemmas.List.{take_all}
 use Rattle.vfs_wire.specs.Fields.{bytes_of}
-use Rattle.vfs_wire.specs.Headers.{out_header}
+use Rattle.vfs_wire.specs.Records.{out_header}
 use Rattle.vfs_segments.specs.Written.{wrote}
 use Rattle.vfs_messages.specs.Rooms.{data_header}
 use Rattle.vfs_grammar.proofs.Rooms.{length-header}

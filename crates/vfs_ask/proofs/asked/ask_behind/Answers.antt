@@ -1,6 +1,6 @@
 use Rattle.std.proofs.Common.{◌≡◌, ◌==◌, ◌≤◌, ◌∙◌, ℕ, true, false, nat_lt, arith, ap, refl, sym, Some}
 use Rattle.std.proofs.lemmas.Bool.Decides.{nat_tests}
-use Rattle.vfs_flags.specs.Opcode.{opcode_of}
+use Rattle.vfs_flags.specs.Numbers.{opcode_of}
 use Rattle.vfs_flags.specs.declared.opcode.Opcode.TheVariants.{Init, Interrupt, Readdir, Readdirplus}
 use Rattle.vfs_grammar.specs.Limits.{max_len}
 use Rattle.vfs_ask.proofs.asked.ask_behind.Goals as goal

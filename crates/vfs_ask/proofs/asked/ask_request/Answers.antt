@@ -1,6 +1,6 @@
 use Rattle.std.proofs.Common.{rules}
 use Rattle.vfs_flags.specs.Flags.{fs_options_bits}
-use Rattle.vfs_flags.specs.Opcode.{opcode_of}
+use Rattle.vfs_flags.specs.Numbers.{opcode_of}
 use Rattle.vfs_grammar.specs.Ask.{ask}
 use Rattle.vfs_handlers.specs.Memory.{MayWantBehind}
 use Rattle.vfs_ask.specs.Asked.{Tells, interrupted_by}

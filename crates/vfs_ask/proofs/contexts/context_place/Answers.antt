@@ -1,6 +1,6 @@
 use Rattle.std.proofs.Common.{◌≡◌, ◌∙◌, ◌≤◌, ℕ, List, drop, length, take, ◌-◌, arith, refl, ap, subst, sym, length-drop}
 use Rattle.std.proofs.lemmas.List.{drop-drop, take_all}
-use Rattle.vfs_wire.specs.Extensions.{ext_header}
+use Rattle.vfs_wire.specs.Records.{ext_header}
 use Rattle.vfs_wire.specs.Fields.{value_of}
 use Rattle.vfs_wire.specs.declared.extensions.ExtHeader.{ExtHeader}
 use Rattle.vfs_grammar.specs.Extensions.{block_size}

@@ -1,5 +1,5 @@
 use Rattle.std.proofs.Common.{◌≡◌, ◌+◌, ℕ, List, Ok, Some, drop, length}
-use Rattle.vfs_files.specs.Extensions.{ExtensionValues}
+use Rattle.vfs_files.specs.Values.{ExtensionValues}
 use Rattle.vfs_grammar.specs.Extensions.{extensions_in}
 use Rattle.vfs_ask.proofs.Blocks.{Left}
 use Rattle.vfs_ask.proofs.contexts.context_place.Given as goal

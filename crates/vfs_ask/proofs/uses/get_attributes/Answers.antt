@@ -1,4 +1,4 @@
-use Rattle.vfs_flags.specs.Opcode.{opcode_of}
+use Rattle.vfs_flags.specs.Numbers.{opcode_of}
 use Rattle.vfs_ask.proofs.uses.get_attributes.Goals as goal
 
 pub returns : goal.returns

@@ -1,5 +1,5 @@
 use Rattle.vfs_flags.specs.Flags.{fs_options_bits}
-use Rattle.vfs_flags.specs.Opcode.{opcode_of}
+use Rattle.vfs_flags.specs.Numbers.{opcode_of}
 use Rattle.vfs_wire.specs.Fields.{number}
 use Rattle.vfs_ask.proofs.Short.{usual, told_in_all}
 use Rattle.vfs_ask.proofs.uses.interrupt_seven.Goals as goal

@@ -1,6 +1,6 @@
 use Rattle.std.proofs.Common.{inl, inr}
 use Rattle.vfs_flags.specs.Flags.{fs_options_bits}
-use Rattle.vfs_flags.specs.Opcode.{opcode_of}
+use Rattle.vfs_flags.specs.Numbers.{opcode_of}
 use Rattle.vfs_wire.specs.Fields.{number}
 use Rattle.vfs_ask.specs.Memory.{LacksNoMemory}
 use Rattle.vfs_ask.proofs.Memory.{not_refused}

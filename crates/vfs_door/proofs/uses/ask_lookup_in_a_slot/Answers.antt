@@ -1,5 +1,5 @@
 use Rattle.std.proofs.Common.{◌≡◌, ◌≢◌, ◌≤◌, List, ℕ, length, ap, arith, inl, inr, rules}
-use Rattle.vfs_flags.specs.Opcode.{opcode_of}
+use Rattle.vfs_flags.specs.Numbers.{opcode_of}
 use Rattle.vfs_wire.specs.Fields.{number}
 use Rattle.vfs_grammar.specs.Samples.{lookup_of_a}
 use Rattle.vfs_segments.specs.Segments.{flat_bytes, segments_of}

@@ -1,9 +1,9 @@
 use Rattle.std.proofs.Common.{None, Ok, refl}
 use Rattle.vfs_files.specs.Calls.{Call, Handed}
-use Rattle.vfs_files.specs.Entries.{context_of}
+use Rattle.vfs_files.specs.Values.{context_of}
 use Rattle.vfs_files.specs.declared.entry.Context.{Context}
 use Rattle.vfs_listings.specs.Reading.{GivesBack}
-use Rattle.vfs_grammar.specs.Dirents.{Verdict, Fits, Full, Fails}
+use Rattle.vfs_grammar.specs.Listing.{Verdict, Fits, Full, Fails}
 use Rattle.vfs_listings.proofs.listing.add_line.Goals as goal
 
 -- an item that got no entry gives none back

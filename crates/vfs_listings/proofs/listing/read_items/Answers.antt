@@ -1,6 +1,6 @@
 use Rattle.std.proofs.Common.{Option, subst, arith}
 use Rattle.vfs_files.specs.declared.directory.DirEntry.{DirEntry}
-use Rattle.vfs_files.specs.Items.{item, item_of}
+use Rattle.vfs_files.specs.Values.{item, item_of}
 use Rattle.vfs_listings.proofs.Filling.{filling_start, filling_more, filling_end, filling_full, filling_failed}
 use Rattle.vfs_listings.proofs.listing.read_items.Goals as goal
 

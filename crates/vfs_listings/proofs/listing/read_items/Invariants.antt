@@ -1,5 +1,5 @@
 use Rattle.std.proofs.Common.{◌-◌}
-use Rattle.vfs_files.specs.Entries.{context_of}
+use Rattle.vfs_files.specs.Values.{context_of}
 use Rattle.vfs_listings.proofs.Filling.{Filling}
 use Rattle.vfs_listings.proofs.listing.read_items.Given as goal
 

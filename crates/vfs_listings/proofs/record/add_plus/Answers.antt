@@ -1,6 +1,6 @@
 use Rattle.std.proofs.Common.{◌∙◌, ◌+◌, Some, ap, arith, length, refl}
-use Rattle.vfs_files.specs.Items.{item}
-use Rattle.vfs_grammar.specs.Dirents.{dirent_len}
+use Rattle.vfs_files.specs.Values.{item}
+use Rattle.vfs_grammar.specs.Listing.{dirent_len}
 use Rattle.vfs_listings.proofs.Putting.{adds_whole, adds_cut}
 use Rattle.vfs_listings.proofs.record.add_plus.Goals as goal
 

@@ -1,6 +1,6 @@
 use Rattle.std.proofs.Common.{◌∙◌, arith, ap, length}
-use Rattle.vfs_files.specs.Items.{item}
-use Rattle.vfs_grammar.specs.Dirents.{dirent_bytes}
+use Rattle.vfs_files.specs.Values.{item}
+use Rattle.vfs_grammar.specs.Listing.{dirent_bytes}
 use Rattle.vfs_grammar.proofs.Dirents.{length-dirent_bytes}
 use Rattle.vfs_listings.proofs.Putting.{puts_by, dirent_parts}
 use Rattle.vfs_listings.proofs.record.put_dirent.Goals as goal

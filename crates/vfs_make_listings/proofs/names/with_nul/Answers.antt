@@ -1,5 +1,5 @@
 use Rattle.std.proofs.Common.{◌≡◌, ◌++◌, ◌∷◌, [], rules}
-use Rattle.vfs_files.specs.Names.{name_text}
+use Rattle.vfs_files.specs.Values.{name_text}
 use Rattle.vfs_files.proofs.Texts.{name_is_found}
 use Rattle.vfs_make_listings.proofs.names.with_nul.Goals as goal
 

@@ -1,6 +1,6 @@
 use Rattle.std.proofs.Common.{Option, subst}
 use Rattle.vfs_files.specs.declared.directory.DirEntry.{DirEntry}
-use Rattle.vfs_files.specs.Items.{item, item_of}
+use Rattle.vfs_files.specs.Values.{item, item_of}
 use Rattle.vfs_make_listings.proofs.Keeping.{keeping_start, keeping_more, keeping_end, keeping_full, keeping_short}
 use Rattle.vfs_make_listings.proofs.reading.take_items.Goals as goal
 

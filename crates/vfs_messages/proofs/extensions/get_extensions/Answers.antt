@@ -1,5 +1,5 @@
 use Rattle.std.proofs.Common.{◌≡◌, true, false, Ok, ap, sym, ◌∙◌}
-use Rattle.vfs_files.specs.Extensions.{ExtensionValues}
+use Rattle.vfs_files.specs.Values.{ExtensionValues}
 use Rattle.vfs_flags.specs.Flags.{fs_options_bits}
 use Rattle.vfs_grammar.specs.Extensions.{reads_extensions}
 use Rattle.vfs_messages.proofs.Blocks.{extensions_after-unread, gives-after}

@@ -1,6 +1,6 @@
 use Rattle.std.proofs.Common.{◌≡◌, ◌+◌, ◌%◌, ◌^◌, ◌++◌, ◌∙◌, ℕ, sym, ap, arith, take, length, pos, length-append}
 use Rattle.vfs_wire.specs.Fields.{bytes_of}
-use Rattle.vfs_wire.specs.Headers.{out_header}
+use Rattle.vfs_wire.specs.Records.{out_header}
 use Rattle.vfs_segments.specs.Written.{wrote}
 use Rattle.vfs_messages.specs.Rooms.{bytes_of_option}
 use Rattle.vfs_grammar.specs.Reply.{body_reply}

@@ -1,6 +1,6 @@
 use Rattle.std.proofs.Common.{◌≡◌, ◌∙◌, ◌+◌, ◌-◌, ◌≤◌, ℕ, ap, arith, length, length-drop, drop, refl, take}
 use Rattle.std.proofs.lemmas.List.{take_all}
-use Rattle.vfs_wire.specs.Entries.{forget_one}
+use Rattle.vfs_wire.specs.Records.{forget_one}
 use Rattle.vfs_wire.specs.FieldLaws.{value_of-take}
 use Rattle.vfs_grammar.specs.Forms.{pairs_of}
 use Rattle.vfs_messages.proofs.Pairs.{copied_none, copied_one, copied_all}

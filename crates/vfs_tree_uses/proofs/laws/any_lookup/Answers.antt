@@ -1,5 +1,5 @@
 use Rattle.vfs_files.specs.Calls.{Lookup, entry_answer}
-use Rattle.vfs_files.specs.Names.{name_text}
+use Rattle.vfs_files.specs.Values.{name_text}
 use Rattle.vfs_tree_uses.proofs.LawCallers.{one_more}
 use Rattle.vfs_tree_uses.proofs.laws.any_lookup.Goals as goal
 

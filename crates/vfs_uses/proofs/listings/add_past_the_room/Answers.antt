@@ -1,5 +1,5 @@
 use Rattle.std.proofs.Common.{None, arith}
-use Rattle.vfs_files.specs.Items.{item}
+use Rattle.vfs_files.specs.Values.{item}
 use Rattle.vfs_uses.proofs.SmallCallers.{cut_fills}
 use Rattle.vfs_uses.proofs.listings.add_past_the_room.Goals as goal
 

@@ -1,7 +1,7 @@
 use Rattle.std.proofs.Common.{◌∷◌, [], Some, None, Ok, refl}
 use Rattle.std.proofs.lemmas.Result.{MatchResult-weaker}
 use Rattle.vfs_wire.specs.Fields.{number}
-use Rattle.vfs_files.specs.Extensions.{ExtensionValues, extension_values_of}
+use Rattle.vfs_files.specs.Values.{ExtensionValues, extension_values_of}
 use Rattle.vfs_grammar.specs.Extensions.{extensions_in, cut_of}
 use Rattle.vfs_messages.proofs.Blocks.{GivesValue-at_ok}
 use Rattle.vfs_uses.proofs.messages.context_behind_a_name.Goals as goal

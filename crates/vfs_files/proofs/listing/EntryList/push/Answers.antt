@@ -1,7 +1,6 @@
 use Rattle.std.proofs.Common.{◌≡◌, ◌++◌, ◌∷◌, [], ap, ◌∙◌, arith}
 use Rattle.std.proofs.lemmas.Grind.{common_steps}
-use Rattle.vfs_files.specs.Items.{item}
-use Rattle.vfs_files.specs.Names.{name_text}
+use Rattle.vfs_files.specs.Values.{item, name_text}
 use Rattle.vfs_files.specs.declared.listing.Kept.{Kept}
 use Rattle.vfs_files.proofs.Kept.{listing_items, listing_pushed}
 use Rattle.vfs_files.proofs.Results.{ok_case}

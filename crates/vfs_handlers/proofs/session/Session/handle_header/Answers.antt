@@ -1,7 +1,7 @@
 -- A known opcode within the limit asks as its line of the table says, and wants memory so.
 use Rattle.std.proofs.Common.{◌≡◌, false, nat_lt, arith, rules, sym, Some}
 use Rattle.std.proofs.lemmas.Bool.Decides.{nat_tests}
-use Rattle.vfs_flags.specs.Opcode.{opcode_of}
+use Rattle.vfs_flags.specs.Numbers.{opcode_of}
 use Rattle.vfs_grammar.specs.Limits.{max_len}
 use Rattle.vfs_handlers.proofs.session.Session.handle_header.Goals as goal
 

@@ -1,6 +1,6 @@
 -- The reading is a run, whose records are counted and stand behind the place of the header.
 use Rattle.std.proofs.Common.{◌≡◌, false, length, ap, arith}
-use Rattle.vfs_files.specs.Entries.{context_of}
+use Rattle.vfs_files.specs.Values.{context_of}
 use Rattle.vfs_listings.specs.ReadingLaws.{directory_runs}
 use Rattle.vfs_grammar.specs.Ask.{listing_of, lists_too_much}
 use Rattle.vfs_handlers.proofs.Listings.{records_behind, directory_counts, within_limit, run_from}

@@ -1,7 +1,8 @@
 use Rattle.std.proofs.Common.{◌≡◌, ℕ, List, ap, sym, subst, arith}
-use Rattle.vfs_flags.specs.Opcode.{opcode_of}
+use Rattle.vfs_flags.specs.Numbers.{opcode_of}
 use Rattle.vfs_wire.specs.Fields.{number}
-use Rattle.vfs_laws.specs.Turns.{opcode_in, CarriesData, size_asked}
+use Rattle.vfs_grammar.specs.Books.{opcode_in}
+use Rattle.vfs_laws.specs.Turns.{CarriesData, size_asked}
 use Rattle.vfs_laws.proofs.uses.turns.lengths_of_data.Goals as goal
 
 pub returns-clause-read : goal.returns-clause-read

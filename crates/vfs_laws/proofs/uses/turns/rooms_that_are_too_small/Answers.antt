@@ -1,15 +1,17 @@
 use Rattle.std.proofs.Common.{◌≡◌, ◌<◌, ℕ, List, [], ◌∷◌, length, take, None, ap, sym, subst, ◌∙◌, inl, inr, refl, arith, pos}
-use Rattle.vfs_flags.specs.Opcode.{opcode_of}
+use Rattle.vfs_flags.specs.Numbers.{opcode_of}
 use Rattle.vfs_wire.specs.Fields.{number, little}
 use Rattle.vfs_files.specs.Calls.{Call, Lookup, Read, Answer, Entries, Found}
 use Rattle.vfs_files.specs.Runs.{Event, Called}
 use Rattle.vfs_files.specs.declared.entry.Context.{Context}
 use Rattle.vfs_grammar.specs.Ask.{ask}
 use Rattle.vfs_grammar.specs.Forms.{Ask, Asks, WithMemory, refused}
-use Rattle.vfs_laws.specs.Turns.{opcode_in, CarriesData, cut_turn_tells, CutsOff}
+use Rattle.vfs_grammar.specs.Books.{opcode_in}
+use Rattle.vfs_laws.specs.Turns.{CarriesData, cut_turn_tells, CutsOff}
 use Rattle.vfs_grammar.specs.Limits.{default_limits}
 use Rattle.vfs_grammar.specs.Reply.{Reply, Echo, Bytes, reply_to}
-use Rattle.vfs_grammar.specs.Turn.{Turn, Follows}
+use Rattle.vfs_grammar.specs.Turn.{Turn}
+use Rattle.vfs_grammar.specs.Witnesses.{FollowsFor}
 use Rattle.vfs_grammar.specs.Samples.{request_for_data, node_5, node_5_reply}
 use Rattle.vfs_grammar.specs.declared.error.Error.TheVariants.{EncodeMessage}
 use Rattle.vfs_laws.proofs.uses.turns.rooms_that_are_too_small.Goals as goal
@@ -25,7 +27,7 @@ unfolding number little
 found_so = refl
 
 looked_up : (options : ℕ) (after : ℕ) (call : Call) (back : List Event) (t : Turn) → t.events ≡ Called call (Found node_5) ∷ back
-    → Follows (cut_turn_tells t) (default_limits 4096) options (WithMemory (Asks echo (Lookup nobody 1 (0x61 ∷ [])))) after
+    → FollowsFor (cut_turn_tells t) (default_limits 4096) options (WithMemory (Asks echo (Lookup nobody 1 (0x61 ∷ [])))) after
     → (length t.room < 144) × (t.room_after ≡ take (length t.room) node_5_reply)
 looked_up options after call back t e (inl f) =
     let a = sym f.1 ∙ e in
@@ -39,19 +41,19 @@ pub returns-clause-lookup : goal.returns-clause-lookup
 unfolding number opcode_of
 returns-clause-lookup c = λ options after call back t turn is e o.
     elim (c.unfit_replies_are_cut_off.ensures (default_limits 4096) options after t turn o) as (λ x. (length t.room < 144) × (t.room_after ≡ take (length t.room) node_5_reply)) [
-      | inl f ↦ looked_up options after call back t e (subst (λ (r : List ℕ). Follows (cut_turn_tells t) (default_limits 4096) options (ask (default_limits 4096) options (length t.room) r) after) is f)
+      | inl f ↦ looked_up options after call back t e (subst (λ (r : List ℕ). FollowsFor (cut_turn_tells t) (default_limits 4096) options (ask (default_limits 4096) options (length t.room) r) after) is f)
       | inr lacks ↦ absurd (subst (λ (r : List ℕ). CarriesData (opcode_in r)) is lacks.carries)
     ]
 
 -- what a READ of three bytes asks, where there is this room
 asked : (options room : ℕ) (a : Ask) → ask (default_limits 4096) options room (request_for_data 15 3) ≡ a
     → (after : ℕ) (t : Turn) → t.request ≡ request_for_data 15 3 → length t.room ≡ room
-    → Follows (cut_turn_tells t) (default_limits 4096) options (ask (default_limits 4096) options (length t.room) t.request) after
-    → Follows (cut_turn_tells t) (default_limits 4096) options a after
+    → FollowsFor (cut_turn_tells t) (default_limits 4096) options (ask (default_limits 4096) options (length t.room) t.request) after
+    → FollowsFor (cut_turn_tells t) (default_limits 4096) options a after
 asked options room a so after t is size f =
     let same : ask (default_limits 4096) options (length t.room) t.request ≡ a =
     ap (λ (n : ℕ). ask (default_limits 4096) options n t.request) size ∙ ap (ask (default_limits 4096) options room) is ∙ so in
-    subst (λ (x : Ask). Follows (cut_turn_tells t) (default_limits 4096) options x after) same f
+    subst (λ (x : Ask). FollowsFor (cut_turn_tells t) (default_limits 4096) options x after) same f
 
 pub returns-clause-read : goal.returns-clause-read
 unfolding number opcode_of

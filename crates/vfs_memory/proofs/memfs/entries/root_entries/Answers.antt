@@ -1,5 +1,5 @@
 use Rattle.std.proofs.Common.{◌++◌, take, ap, ◌∙◌}
-use Rattle.vfs_files.specs.Items.{item}
+use Rattle.vfs_files.specs.Values.{item}
 use Rattle.vfs_memory.specs.MemFs.{root_items}
 use Rattle.vfs_memory.proofs.RootItems.{items_more, items_whole}
 use Rattle.vfs_memory.proofs.memfs.entries.root_entries.Goals as goal

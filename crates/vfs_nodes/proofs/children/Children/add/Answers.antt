@@ -3,7 +3,7 @@ use Rattle.std.specs.Int.{from_bool}
 use Rattle.std.specs.Cmp.Lexicographic.{slice_cmp}
 use Rattle.std.specs.Ordering.{nat_cmp}
 use Rattle.std.specs.BTreeMap.{UpdatesBy, insert_entry}
-use Rattle.vfs_files.specs.Names.{name_text}
+use Rattle.vfs_files.specs.Values.{name_text}
 use Rattle.vfs_nodes.specs.Children.{Children, Link, child_named, with_child, is_named}
 use Rattle.vfs_nodes.specs.Index.{AreIndexed}
 use Rattle.vfs_nodes.proofs.Index.{one_for}

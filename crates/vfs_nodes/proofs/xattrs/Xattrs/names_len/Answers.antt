@@ -1,7 +1,7 @@
 use Rattle.std.proofs.Common.{◌≡◌, length, take, ap, ◌∙◌, arith}
 use Rattle.std.proofs.lemmas.Grind.{common_steps}
 use Rattle.std.proofs.lemmas.List.Sums.{sum_by-take-le}
-use Rattle.vfs_nodes.specs.Xattrs.{Xattr, bytes_of, xattr_bytes}
+use Rattle.vfs_nodes.specs.Xattrs.{Xattr, attribute_bytes, xattr_bytes}
 use Rattle.vfs_nodes.proofs.Attributes.{names_fit, length_more}
 use Rattle.vfs_nodes.proofs.xattrs.Xattrs.names_len.Goals as goal
 
@@ -25,7 +25,7 @@ returns-clause-most c =
     omega (
       arith,
       names_fit so_far,
-      sum_by-take-le bytes_of all c.loop-xattr.xattr-index,
+      sum_by-take-le attribute_bytes all c.loop-xattr.xattr-index,
       bytes,
       counted.0,
       counted.1,

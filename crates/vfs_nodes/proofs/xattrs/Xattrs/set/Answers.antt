@@ -1,7 +1,7 @@
 use Rattle.std.proofs.Common.{◌≡◌, ◌+◌, ◌-◌, ◌<◌, ◌++◌, ◌∷◌, [], length, position, remove, sym, ap, ◌∙◌, arith}
 use Rattle.std.proofs.lemmas.Grind.{common_steps}
-use Rattle.vfs_files.specs.Names.{name_text}
-use Rattle.vfs_nodes.specs.Xattrs.{Xattr, is_called, bytes_of, xattr_bytes, with_xattr}
+use Rattle.vfs_files.specs.Values.{name_text}
+use Rattle.vfs_nodes.specs.Xattrs.{Xattr, is_called, attribute_bytes, xattr_bytes, with_xattr}
 use Rattle.vfs_nodes.specs.declared.xattrs.Xattrs.TheInside.{Inside}
 use Rattle.vfs_nodes.proofs.Attributes.{pushed_first, pushed_only, bytes_replaced, bytes_pushed}
 use Rattle.vfs_nodes.proofs.xattrs.Xattrs.set.Goals as goal
@@ -52,7 +52,7 @@ counted c =
     let made : Xattr =
     record { name = c.in_ok-new.field-0; value = c.in_ok-copy_of.field-0.items } in
     let pushed : c.push.new.self.items ≡ old ++ made ∷ [] = c.in-Ok.ensures.items in
-    let added : c.bytes-added.result ≡ bytes_of made = c.bytes-added.ensures in
+    let added : c.bytes-added.result ≡ attribute_bytes made = c.bytes-added.ensures in
     let before : c.self.inside.bytes ≡ xattr_bytes old = c.self.invariant.0 in
     elim c.match-place.branch [
       | in-Some w ↦

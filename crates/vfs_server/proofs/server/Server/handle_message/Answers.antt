@@ -1,5 +1,5 @@
 use Rattle.std.proofs.Common.{length}
-use Rattle.vfs_flags.specs.Opcode.{opcode_of}
+use Rattle.vfs_flags.specs.Numbers.{opcode_of}
 use Rattle.vfs_grammar.specs.Ask.{header_of}
 use Rattle.vfs_server.proofs.Memory.{none_wanted}
 use Rattle.vfs_server.proofs.Steps.{step_of_hold, read_by_step}
