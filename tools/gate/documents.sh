@@ -18,7 +18,7 @@
 #   commands            a path that begins an indented line is a file that can be run
 #   crates below one    `five crates below` it, or below a crate that is named, are as many as crates.txt has
 #   the reading order   of PROMISE.md: no file of the grammar, items 2 to 7, names a word of an earlier item; its
-#                       counts are those of tools/statement.sh, of which each file is there
+#                       counts are those of tools/measure/statement.sh, of which each file is there
 #   the gate's time     stands in TESTING.md alone
 #   counts              of opcodes, calls of a file system, records, stored requests and hostile forms are those
 #                       of the sources; others that several pages say are the same on each
@@ -276,7 +276,7 @@ for said in re.findall(r"^\| (?!Words )(\w[^|`]*) \|", read("docs/PROMISE.md"), 
 items = [(int(number), re.findall(r"(\w+\.(?:antt|rt))`", files))
          for number, files in re.findall(r"^([2-7])\. (.*)", read("docs/PROMISE.md"), re.M)]
 check_order(lambda text: faults.append(f"docs/PROMISE.md: {text}"), items)
-*reached, counted, decoded = subprocess.run(["tools/statement.sh", "--files"], capture_output=True, text=True,
+*reached, counted, decoded = subprocess.run(["tools/measure/statement.sh", "--files"], capture_output=True, text=True,
                                             check=True).stdout.splitlines()
 order = read("docs/PROMISE.md").split("## Reading order")[1].split("\n## ")[0]
 for path in (line.split(":")[0] for line in reached):
@@ -287,7 +287,7 @@ COUNT = r"(\d+) definitions of ([\d,]+) lines(?: in (\d+) files, and (\d+) types
 for page in ("README.md", "docs/PROMISE.md"):
     said = [it.replace(",", "") for it in re.search(COUNT, read(page)).groups() if it]
     if said != re.findall(r"\d+(?= (?:definitions|lines|files|types))", counted)[:len(said)]:
-        faults.append(f"{page}: tools/statement.sh counts otherwise: {counted}")
+        faults.append(f"{page}: tools/measure/statement.sh counts otherwise: {counted}")
 families = re.findall(r"^\| ([a-z][^|]*) \| ([^|]*) \|$",
                       read("docs/ARCHITECTURE.md").split("| Family |")[1].split("\n\n")[0], re.M)
 for family, crates in families:
