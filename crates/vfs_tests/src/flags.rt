@@ -1,10 +1,9 @@
-//! Numbers and bits, each written out.
+//! Errors, as they are shown.
 
 use crate::support::{has_text, holds, none_is_wrong};
-use bitflags::Flags;
 use std::alloc::{AllocError, Global};
 use std::test::Fail;
-use vfs_flags::*;
+use vfs_flags::Errno;
 
 /// The numbers of the errors that have a name, and how they are shown.
 static ERRORS: [(i32, &str); 20] = [
@@ -97,115 +96,4 @@ fn errors_have_their_numbers_and_texts(rt: HostRuntime) -> Result<(), Fail> {
     assert!(rt; are_bounded());
     holds(is_shown_by_number(rt.alloc()))?;
     none_is_wrong(wrong_error(rt.alloc()))
-}
-
-/// An id of each kind that is made of a number, as a number again.
-fn ids_of(n: u32) -> [u32; 4] {
-    [
-        GuestUid::from(n).into_inner(),
-        GuestGid::from(n).into_inner(),
-        HostUid::from(n).into_inner(),
-        HostGid::from(n).into_inner(),
-    ]
-}
-
-#[test]
-fn ids_come_back_unchanged(rt: HostRuntime) {
-    assert!(rt; ids_of(u32::MAX) == [u32::MAX; 4]);
-}
-
-/// The number of the opcode that has this number, where there is one.
-fn known(n: u32) -> Option<u32> {
-    match Opcode::try_from(n) {
-        Ok(opcode) => Some(opcode as u32),
-        Err(()) => None,
-    }
-}
-
-#[test]
-fn opcodes_have_their_numbers(rt: HostRuntime) {
-    for n in 0..60 {
-        let want = if 1 <= n && n <= 51 && n != 7 && n != 19 {
-            Some(n)
-        } else {
-            None
-        };
-        assert!(rt; known(n) == want);
-    }
-}
-
-/// The constants, and their values.
-static CONSTANTS: [(u32, u32); 27] = [
-    (KERNEL_VERSION, 7),
-    (KERNEL_MINOR_VERSION, 38),
-    (MIN_KERNEL_MINOR_VERSION, 27),
-    (FATTR_FH, 64),
-    (FATTR_LOCKOWNER, 512),
-    (RELEASE_FLUSH, 1),
-    (RELEASE_FLOCK_UNLOCK, 2),
-    (GETATTR_FH, 1),
-    (LK_FLOCK, 1),
-    (WRITE_CACHE, 1),
-    (WRITE_LOCKOWNER, 2),
-    (WRITE_KILL_PRIV, 4),
-    (READ_LOCKOWNER, 2),
-    (POLL_SCHEDULE_NOTIFY, 1),
-    (FUSE_MIN_READ_BUFFER, 8192),
-    (FUSE_COMPAT_ENTRY_OUT_SIZE, 120),
-    (FUSE_COMPAT_ATTR_OUT_SIZE, 96),
-    (FUSE_COMPAT_MKNOD_IN_SIZE, 8),
-    (FUSE_COMPAT_WRITE_IN_SIZE, 24),
-    (FUSE_COMPAT_STATFS_SIZE, 48),
-    (FUSE_COMPAT_INIT_OUT_SIZE, 8),
-    (FUSE_COMPAT_22_INIT_OUT_SIZE, 24),
-    (FUSE_COMPAT_SETXATTR_IN_SIZE, 8),
-    (FSYNC_FDATASYNC, 1),
-    (ATTR_SUBMOUNT, 1),
-    (ATTR_DAX, 2),
-    (OPEN_KILL_SUIDGID, 1),
-];
-
-/// The first value that a constant hasn't.
-fn wrong_constant() -> Option<u32> {
-    for (constant, want) in &CONSTANTS {
-        if constant != want {
-            return Some(*want);
-        }
-    }
-    None
-}
-
-#[test]
-fn constants_have_their_values(rt: HostRuntime) {
-    assert!(rt; ROOT_ID == 1);
-    assert!(rt; wrong_constant().is_none());
-}
-
-/// The bits of each set whose members are all there.
-fn all_bits() -> [u64; 8] {
-    [
-        FsOptions::from_bits_truncate(u64::MAX).bits(),
-        FsOptions::SUPPORTED.bits(),
-        u64::from(SetattrValid::from_bits_truncate(u32::MAX).bits()),
-        u64::from(OpenOptions::from_bits_truncate(u32::MAX).bits()),
-        u64::from(IoctlFlags::from_bits_truncate(u32::MAX).bits()),
-        u64::from(SetxattrFlags::from_bits_truncate(u32::MAX).bits()),
-        u64::from(NotifyInvalEntryOutFlags::from_bits_truncate(u32::MAX).bits()),
-        SetupmappingFlags::from_bits_truncate(u64::MAX).bits(),
-    ]
-}
-
-#[test]
-fn sets_know_their_bits(rt: HostRuntime) {
-    let bits = [
-        0x117_fbff_ffff,
-        0x104_4844_9829,
-        0xdbf,
-        0x7f,
-        0x13f,
-        1,
-        1,
-        3,
-    ];
-    assert!(rt; all_bits() == bits);
 }

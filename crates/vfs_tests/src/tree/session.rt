@@ -21,7 +21,6 @@ pub struct Step {
 
 /// A directory, and a file in it that is written and read.
 static FIRST: [Step; 15] = [
-    // A new root.
     Step {
         why: "a new root",
         message: (3, 1, b"\0\0\0\0\0\0\0\0\0\0\0\0\0\0\0\0"),
@@ -34,7 +33,6 @@ static FIRST: [Step; 15] = [
             (96, b"\x02\0\0\0"),
         ],
     },
-    // A directory, which the client keeps for a day.
     Step {
         why: "a directory, which the client keeps for a day",
         message: (9, 1, b"\xed\x01\0\0\0\0\0\0d\0"),
@@ -50,7 +48,6 @@ static FIRST: [Step; 15] = [
             (120, b"\x02\0\0\0"),
         ],
     },
-    // The root has one link more.
     Step {
         why: "the root has one link more",
         message: (3, 1, b"\0\0\0\0\0\0\0\0\0\0\0\0\0\0\0\0"),
@@ -58,7 +55,6 @@ static FIRST: [Step; 15] = [
         length: 120,
         says: &[(96, b"\x03\0\0\0")],
     },
-    // Its name is taken.
     Step {
         why: "its name is taken",
         message: (9, 1, b"\xed\x01\0\0\0\0\0\0d\0"),
@@ -66,7 +62,6 @@ static FIRST: [Step; 15] = [
         length: 16,
         says: &[],
     },
-    // A file in it.
     Step {
         why: "a file in it",
         message: (35, 2, b"\0\0\0\0\xa4\x01\0\0\0\0\0\0\0\0\0\0f\0"),
@@ -80,7 +75,6 @@ static FIRST: [Step; 15] = [
             (120, b"\x01\0\0\0"),
         ],
     },
-    // A directory that holds a name stays.
     Step {
         why: "a directory that holds a name stays",
         message: (11, 1, b"d\0"),
@@ -88,7 +82,6 @@ static FIRST: [Step; 15] = [
         length: 16,
         says: &[],
     },
-    // A directory is no file.
     Step {
         why: "a directory is no file",
         message: (10, 1, b"d\0"),
@@ -96,7 +89,6 @@ static FIRST: [Step; 15] = [
         length: 16,
         says: &[],
     },
-    // A file is no directory.
     Step {
         why: "a file is no directory",
         message: (11, 2, b"f\0"),
@@ -104,7 +96,6 @@ static FIRST: [Step; 15] = [
         length: 16,
         says: &[],
     },
-    // Nothing is below a file.
     Step {
         why: "nothing is below a file",
         message: (1, 3, b"x\0"),
@@ -112,7 +103,6 @@ static FIRST: [Step; 15] = [
         length: 16,
         says: &[],
     },
-    // Nothing of that name.
     Step {
         why: "nothing of that name",
         message: (1, 2, b"x\0"),
@@ -120,7 +110,6 @@ static FIRST: [Step; 15] = [
         length: 16,
         says: &[],
     },
-    // A name of 256 bytes.
     Step {
         why: "a name of 256 bytes",
         message: (
@@ -132,7 +121,6 @@ static FIRST: [Step; 15] = [
         length: 16,
         says: &[],
     },
-    // Bytes are written.
     Step {
         why: "bytes are written",
         message: (
@@ -144,7 +132,6 @@ static FIRST: [Step; 15] = [
         length: 24,
         says: &[(16, b"\x05\0\0\0")],
     },
-    // And read.
     Step {
         why: "and read",
         message: (
@@ -156,7 +143,6 @@ static FIRST: [Step; 15] = [
         length: 20,
         says: &[(16, b"ello")],
     },
-    // Bytes behind the end.
     Step {
         why: "bytes behind the end",
         message: (
@@ -168,7 +154,6 @@ static FIRST: [Step; 15] = [
         length: 24,
         says: &[(16, b"\x01\0\0\0")],
     },
-    // Leave zeros before them.
     Step {
         why: "leave zeros before them",
         message: (
@@ -184,7 +169,6 @@ static FIRST: [Step; 15] = [
 
 /// Its length, permissions and times.
 static SECOND: [Step; 15] = [
-    // Its length and blocks.
     Step {
         why: "its length and blocks",
         message: (3, 3, b"\0\0\0\0\0\0\0\0\0\0\0\0\0\0\0\0"),
@@ -192,7 +176,6 @@ static SECOND: [Step; 15] = [
         length: 120,
         says: &[(40, b"\x09\0\0\0\0\0\0\0"), (48, b"\x01\0\0\0\0\0\0\0")],
     },
-    // A shorter file.
     Step {
         why: "a shorter file",
         message: (
@@ -204,7 +187,6 @@ static SECOND: [Step; 15] = [
         length: 120,
         says: &[(40, b"\x02\0\0\0\0\0\0\0")],
     },
-    // Made longer again.
     Step {
         why: "made longer again",
         message: (
@@ -216,7 +198,6 @@ static SECOND: [Step; 15] = [
         length: 120,
         says: &[(40, b"\x04\0\0\0\0\0\0\0")],
     },
-    // Has zeros.
     Step {
         why: "has zeros",
         message: (
@@ -228,7 +209,6 @@ static SECOND: [Step; 15] = [
         length: 20,
         says: &[(16, b"he\0\0")],
     },
-    // Permissions and owner.
     Step {
         why: "permissions and owner",
         message: (
@@ -240,7 +220,6 @@ static SECOND: [Step; 15] = [
         length: 120,
         says: &[(92, b"\x80\x81\0\0"), (100, b"\x05\0\0\0")],
     },
-    // A time.
     Step {
         why: "a time",
         message: (
@@ -252,7 +231,6 @@ static SECOND: [Step; 15] = [
         length: 120,
         says: &[(64, b"\x03\0\0\0\0\0\0\0")],
     },
-    // The present time.
     Step {
         why: "the present time",
         message: (
@@ -264,7 +242,6 @@ static SECOND: [Step; 15] = [
         length: 120,
         says: &[(64, b"\x07\0\0\0\0\0\0\0")],
     },
-    // A length of a directory.
     Step {
         why: "a length of a directory",
         message: (
@@ -276,7 +253,6 @@ static SECOND: [Step; 15] = [
         length: 16,
         says: &[],
     },
-    // A file longer than one may be.
     Step {
         why: "a file longer than one may be",
         message: (
@@ -288,7 +264,6 @@ static SECOND: [Step; 15] = [
         length: 16,
         says: &[],
     },
-    // Opened with O_TRUNC.
     Step {
         why: "opened with O_TRUNC",
         message: (14, 3, b"\x01\x02\0\0\0\0\0\0"),
@@ -296,7 +271,6 @@ static SECOND: [Step; 15] = [
         length: 32,
         says: &[(24, b"\0\0\0\0")],
     },
-    // It is empty.
     Step {
         why: "it is empty",
         message: (3, 3, b"\0\0\0\0\0\0\0\0\0\0\0\0\0\0\0\0"),
@@ -304,7 +278,6 @@ static SECOND: [Step; 15] = [
         length: 120,
         says: &[(40, b"\0\0\0\0\0\0\0\0")],
     },
-    // Place for 64 bytes.
     Step {
         why: "place for 64 bytes",
         message: (
@@ -316,7 +289,6 @@ static SECOND: [Step; 15] = [
         length: 16,
         says: &[],
     },
-    // Is there.
     Step {
         why: "is there",
         message: (3, 3, b"\0\0\0\0\0\0\0\0\0\0\0\0\0\0\0\0"),
@@ -324,7 +296,6 @@ static SECOND: [Step; 15] = [
         length: 120,
         says: &[(40, b"@\0\0\0\0\0\0\0"), (48, b"\x01\0\0\0\0\0\0\0")],
     },
-    // Another way of it is not served.
     Step {
         why: "another way of it is not served",
         message: (
@@ -336,7 +307,6 @@ static SECOND: [Step; 15] = [
         length: 16,
         says: &[],
     },
-    // Place in a directory.
     Step {
         why: "place in a directory",
         message: (
@@ -352,7 +322,6 @@ static SECOND: [Step; 15] = [
 
 /// A link, a second name, other nodes; readings; names that move.
 static THIRD: [Step; 15] = [
-    // A symbolic link.
     Step {
         why: "a symbolic link",
         message: (6, 1, b"l\0d/f\0"),
@@ -366,7 +335,6 @@ static THIRD: [Step; 15] = [
             (120, b"\x01\0\0\0"),
         ],
     },
-    // Its text.
     Step {
         why: "its text",
         message: (5, 4, b""),
@@ -374,7 +342,6 @@ static THIRD: [Step; 15] = [
         length: 19,
         says: &[(16, b"d/f")],
     },
-    // A file has no text.
     Step {
         why: "a file has no text",
         message: (5, 3, b""),
@@ -382,7 +349,6 @@ static THIRD: [Step; 15] = [
         length: 16,
         says: &[],
     },
-    // A second name.
     Step {
         why: "a second name",
         message: (13, 1, b"\x03\0\0\0\0\0\0\0g\0"),
@@ -394,7 +360,6 @@ static THIRD: [Step; 15] = [
             (120, b"\x02\0\0\0"),
         ],
     },
-    // A directory has one.
     Step {
         why: "a directory has one",
         message: (13, 1, b"\x02\0\0\0\0\0\0\0h\0"),
@@ -402,7 +367,6 @@ static THIRD: [Step; 15] = [
         length: 16,
         says: &[],
     },
-    // A file by MKNOD.
     Step {
         why: "a file by MKNOD",
         message: (8, 1, b"\xa0\x81\0\0\0\0\0\0\0\0\0\0\0\0\0\0m\0"),
@@ -415,7 +379,6 @@ static THIRD: [Step; 15] = [
             (120, b"\x01\0\0\0"),
         ],
     },
-    // A pipe is not made.
     Step {
         why: "a pipe is not made",
         message: (8, 1, b"\xa0\x11\0\0\0\0\0\0\0\0\0\0\0\0\0\0p\0"),
@@ -423,7 +386,6 @@ static THIRD: [Step; 15] = [
         length: 16,
         says: &[],
     },
-    // The root's names.
     Step {
         why: "the root's names",
         message: (
@@ -438,7 +400,6 @@ static THIRD: [Step; 15] = [
             b"\x01\0\0\0\0\0\0\0\x01\0\0\0\0\0\0\0\x01\0\0\0\x04\0\0\0.\0\0\0\0\0\0\0\x01\0\0\0\0\0\0\0\x02\0\0\0\0\0\0\0\x02\0\0\0\x04\0\0\0..\0\0\0\0\0\0\x05\0\0\0\0\0\0\0\xfc\xff\xff\xff\xff\xff\xff\x7f\x01\0\0\0\x08\0\0\0m\0\0\0\0\0\0\0\x03\0\0\0\0\0\0\0\xfd\xff\xff\xff\xff\xff\xff\x7f\x01\0\0\0\x08\0\0\0g\0\0\0\0\0\0\0\x04\0\0\0\0\0\0\0\xfe\xff\xff\xff\xff\xff\xff\x7f\x01\0\0\0\x0a\0\0\0l\0\0\0\0\0\0\0\x02\0\0\0\0\0\0\0\xff\xff\xff\xff\xff\xff\xff\x7f\x01\0\0\0\x04\0\0\0d\0\0\0\0\0\0\0",
         )],
     },
-    // A name goes.
     Step {
         why: "a name goes",
         message: (10, 1, b"l\0"),
@@ -446,7 +407,6 @@ static THIRD: [Step; 15] = [
         length: 16,
         says: &[],
     },
-    // A reading goes on from a place, without it.
     Step {
         why: "a reading goes on from a place, without it",
         message: (
@@ -461,7 +421,6 @@ static THIRD: [Step; 15] = [
             b"\x03\0\0\0\0\0\0\0\xfd\xff\xff\xff\xff\xff\xff\x7f\x01\0\0\0\x08\0\0\0g\0\0\0\0\0\0\0\x02\0\0\0\0\0\0\0\xff\xff\xff\xff\xff\xff\xff\x7f\x01\0\0\0\x04\0\0\0d\0\0\0\0\0\0\0",
         )],
     },
-    // A name in another directory.
     Step {
         why: "a name in another directory",
         message: (12, 1, b"\x02\0\0\0\0\0\0\0g\0k\0"),
@@ -469,7 +428,6 @@ static THIRD: [Step; 15] = [
         length: 16,
         says: &[],
     },
-    // It has left.
     Step {
         why: "it has left",
         message: (1, 1, b"g\0"),
@@ -477,7 +435,6 @@ static THIRD: [Step; 15] = [
         length: 16,
         says: &[],
     },
-    // Over another name of the same file.
     Step {
         why: "over another name of the same file",
         message: (12, 2, b"\x02\0\0\0\0\0\0\0k\0f\0"),
@@ -485,7 +442,6 @@ static THIRD: [Step; 15] = [
         length: 16,
         says: &[],
     },
-    // Both names stay.
     Step {
         why: "both names stay",
         message: (3, 3, b"\0\0\0\0\0\0\0\0\0\0\0\0\0\0\0\0"),
@@ -493,7 +449,6 @@ static THIRD: [Step; 15] = [
         length: 120,
         says: &[(96, b"\x02\0\0\0")],
     },
-    // Over one that is there.
     Step {
         why: "over one that is there",
         message: (45, 1, b"\x02\0\0\0\0\0\0\0\x01\0\0\0\0\0\0\0m\0f\0"),

@@ -4,7 +4,6 @@ use crate::tree::session::Step;
 
 /// Room of a file from its first byte on, and an attribute without a value.
 static STEPS: [Step; 10] = [
-    // A file.
     Step {
         why: "a file",
         message: (35, 1, b"\0\0\0\0\xa4\x01\0\0\0\0\0\0\0\0\0\0f\0"),
@@ -12,7 +11,6 @@ static STEPS: [Step; 10] = [
         length: 160,
         says: &[(16, b"\x02\0\0\0\0\0\0\0")],
     },
-    // Grows to 16 bytes from its first one on.
     Step {
         why: "grows to 16 bytes from its first one on",
         message: (
@@ -24,7 +22,6 @@ static STEPS: [Step; 10] = [
         length: 16,
         says: &[],
     },
-    // It has them.
     Step {
         why: "it has them",
         message: (3, 2, b"\0\0\0\0\0\0\0\0\0\0\0\0\0\0\0\0"),
@@ -32,7 +29,6 @@ static STEPS: [Step; 10] = [
         length: 120,
         says: &[(40, b"\x10\0\0\0\0\0\0\0")],
     },
-    // Has place for as many.
     Step {
         why: "has place for as many",
         message: (
@@ -44,7 +40,6 @@ static STEPS: [Step; 10] = [
         length: 16,
         says: &[],
     },
-    // And for fewer.
     Step {
         why: "and for fewer",
         message: (
@@ -56,7 +51,6 @@ static STEPS: [Step; 10] = [
         length: 16,
         says: &[],
     },
-    // They are zeros, and no fewer.
     Step {
         why: "they are zeros, and no fewer",
         message: (
@@ -68,7 +62,6 @@ static STEPS: [Step; 10] = [
         length: 32,
         says: &[(16, b"\0\0\0\0\0\0\0\0\0\0\0\0\0\0\0\0")],
     },
-    // An attribute without a value.
     Step {
         why: "an attribute without a value",
         message: (21, 2, b"\0\0\0\0\0\0\0\0user.a\0"),
@@ -76,7 +69,6 @@ static STEPS: [Step; 10] = [
         length: 16,
         says: &[],
     },
-    // Has no byte.
     Step {
         why: "has no byte",
         message: (22, 2, b"\0\0\0\0\0\0\0\0user.a\0"),
@@ -84,7 +76,6 @@ static STEPS: [Step; 10] = [
         length: 24,
         says: &[(16, b"\0\0\0\0")],
     },
-    // Whatever room there is.
     Step {
         why: "whatever room there is",
         message: (22, 2, b"\x03\0\0\0\0\0\0\0user.a\0"),
@@ -92,7 +83,6 @@ static STEPS: [Step; 10] = [
         length: 16,
         says: &[],
     },
-    // And is there.
     Step {
         why: "and is there",
         message: (23, 2, b"d\0\0\0\0\0\0\0"),

@@ -4,7 +4,6 @@ use crate::tree::session::Step;
 
 /// Names that are exchanged, and directories that move.
 static FOURTH: [Step; 15] = [
-    // In exchange.
     Step {
         why: "in exchange",
         message: (45, 1, b"\x02\0\0\0\0\0\0\0\x02\0\0\0\0\0\0\0m\0f\0"),
@@ -12,7 +11,6 @@ static FOURTH: [Step; 15] = [
         length: 16,
         says: &[],
     },
-    // Each leads where the other did.
     Step {
         why: "each leads where the other did",
         message: (1, 2, b"f\0"),
@@ -20,7 +18,6 @@ static FOURTH: [Step; 15] = [
         length: 144,
         says: &[(16, b"\x05\0\0\0\0\0\0\0"), (56, b"\x05\0\0\0\0\0\0\0")],
     },
-    // And back.
     Step {
         why: "and back",
         message: (45, 1, b"\x02\0\0\0\0\0\0\0\x02\0\0\0\0\0\0\0m\0f\0"),
@@ -28,7 +25,6 @@ static FOURTH: [Step; 15] = [
         length: 16,
         says: &[],
     },
-    // A directory into itself.
     Step {
         why: "a directory into itself",
         message: (12, 1, b"\x02\0\0\0\0\0\0\0d\0e\0"),
@@ -36,7 +32,6 @@ static FOURTH: [Step; 15] = [
         length: 16,
         says: &[],
     },
-    // A directory in a directory.
     Step {
         why: "a directory in a directory",
         message: (9, 2, b"\xed\x01\0\0\0\0\0\0e\0"),
@@ -48,7 +43,6 @@ static FOURTH: [Step; 15] = [
             (120, b"\x02\0\0\0"),
         ],
     },
-    // And below itself.
     Step {
         why: "and below itself",
         message: (12, 1, b"\x06\0\0\0\0\0\0\0d\0x\0"),
@@ -56,7 +50,6 @@ static FOURTH: [Step; 15] = [
         length: 16,
         says: &[],
     },
-    // A file over a directory.
     Step {
         why: "a file over a directory",
         message: (12, 1, b"\x01\0\0\0\0\0\0\0m\0d\0"),
@@ -64,7 +57,6 @@ static FOURTH: [Step; 15] = [
         length: 16,
         says: &[],
     },
-    // A directory over a file.
     Step {
         why: "a directory over a file",
         message: (12, 2, b"\x02\0\0\0\0\0\0\0e\0f\0"),
@@ -72,7 +64,6 @@ static FOURTH: [Step; 15] = [
         length: 16,
         says: &[],
     },
-    // A directory over a full one.
     Step {
         why: "a directory over a full one",
         message: (12, 2, b"\x01\0\0\0\0\0\0\0e\0d\0"),
@@ -80,7 +71,6 @@ static FOURTH: [Step; 15] = [
         length: 16,
         says: &[],
     },
-    // A directory moves up.
     Step {
         why: "a directory moves up",
         message: (12, 2, b"\x01\0\0\0\0\0\0\0e\0e\0"),
@@ -88,7 +78,6 @@ static FOURTH: [Step; 15] = [
         length: 16,
         says: &[],
     },
-    // Its directory has a link less.
     Step {
         why: "its directory has a link less",
         message: (3, 2, b"\0\0\0\0\0\0\0\0\0\0\0\0\0\0\0\0"),
@@ -96,7 +85,6 @@ static FOURTH: [Step; 15] = [
         length: 120,
         says: &[(96, b"\x02\0\0\0")],
     },
-    // And the root one more.
     Step {
         why: "and the root one more",
         message: (3, 1, b"\0\0\0\0\0\0\0\0\0\0\0\0\0\0\0\0"),
@@ -104,7 +92,6 @@ static FOURTH: [Step; 15] = [
         length: 120,
         says: &[(96, b"\x04\0\0\0")],
     },
-    // It lies in the root.
     Step {
         why: "it lies in the root",
         message: (
@@ -119,7 +106,6 @@ static FOURTH: [Step; 15] = [
             b"\x01\0\0\0\0\0\0\0\x02\0\0\0\0\0\0\0\x02\0\0\0\x04\0\0\0..\0\0\0\0\0\0",
         )],
     },
-    // An extended attribute.
     Step {
         why: "an extended attribute",
         message: (21, 3, b"\x03\0\0\0\0\0\0\0user.a\0one"),
@@ -127,7 +113,6 @@ static FOURTH: [Step; 15] = [
         length: 16,
         says: &[],
     },
-    // Which is there.
     Step {
         why: "which is there",
         message: (21, 3, b"\x03\0\0\0\x01\0\0\0user.a\0two"),
@@ -139,7 +124,6 @@ static FOURTH: [Step; 15] = [
 
 /// Extended attributes; names that go.
 static FIFTH: [Step; 15] = [
-    // Another is not.
     Step {
         why: "another is not",
         message: (21, 3, b"\x03\0\0\0\x02\0\0\0user.b\0two"),
@@ -147,7 +131,6 @@ static FIFTH: [Step; 15] = [
         length: 16,
         says: &[],
     },
-    // Its length.
     Step {
         why: "its length",
         message: (22, 3, b"\0\0\0\0\0\0\0\0user.a\0"),
@@ -155,7 +138,6 @@ static FIFTH: [Step; 15] = [
         length: 24,
         says: &[(16, b"\x03\0\0\0")],
     },
-    // Its value.
     Step {
         why: "its value",
         message: (22, 3, b"\x03\0\0\0\0\0\0\0user.a\0"),
@@ -163,7 +145,6 @@ static FIFTH: [Step; 15] = [
         length: 19,
         says: &[(16, b"one")],
     },
-    // In too small a room.
     Step {
         why: "in too small a room",
         message: (22, 3, b"\x02\0\0\0\0\0\0\0user.a\0"),
@@ -171,7 +152,6 @@ static FIFTH: [Step; 15] = [
         length: 16,
         says: &[],
     },
-    // The names.
     Step {
         why: "the names",
         message: (23, 3, b"d\0\0\0\0\0\0\0"),
@@ -179,7 +159,6 @@ static FIFTH: [Step; 15] = [
         length: 23,
         says: &[(16, b"user.a\0")],
     },
-    // Their length.
     Step {
         why: "their length",
         message: (23, 3, b"\0\0\0\0\0\0\0\0"),
@@ -187,7 +166,6 @@ static FIFTH: [Step; 15] = [
         length: 24,
         says: &[(16, b"\x07\0\0\0")],
     },
-    // It goes.
     Step {
         why: "it goes",
         message: (24, 3, b"user.a\0"),
@@ -195,7 +173,6 @@ static FIFTH: [Step; 15] = [
         length: 16,
         says: &[],
     },
-    // And is gone.
     Step {
         why: "and is gone",
         message: (22, 3, b"\x03\0\0\0\0\0\0\0user.a\0"),
@@ -203,7 +180,6 @@ static FIFTH: [Step; 15] = [
         length: 16,
         says: &[],
     },
-    // The second name goes.
     Step {
         why: "the second name goes",
         message: (10, 2, b"k\0"),
@@ -211,7 +187,6 @@ static FIFTH: [Step; 15] = [
         length: 16,
         says: &[],
     },
-    // The last name goes.
     Step {
         why: "the last name goes",
         message: (10, 2, b"f\0"),
@@ -219,7 +194,6 @@ static FIFTH: [Step; 15] = [
         length: 16,
         says: &[],
     },
-    // The file is there while it is held.
     Step {
         why: "the file is there while it is held",
         message: (3, 3, b"\0\0\0\0\0\0\0\0\0\0\0\0\0\0\0\0"),
@@ -227,7 +201,6 @@ static FIFTH: [Step; 15] = [
         length: 120,
         says: &[(40, b"@\0\0\0\0\0\0\0"), (96, b"\0\0\0\0")],
     },
-    // It gets no name again.
     Step {
         why: "it gets no name again",
         message: (13, 1, b"\x03\0\0\0\0\0\0\0z\0"),
@@ -235,7 +208,6 @@ static FIFTH: [Step; 15] = [
         length: 16,
         says: &[],
     },
-    // What is in use and free.
     Step {
         why: "what is in use and free",
         message: (17, 1, b""),
@@ -251,7 +223,6 @@ static FIFTH: [Step; 15] = [
             (60, b"\xff\0\0\0"),
         ],
     },
-    // Its two lookups are given back.
     Step {
         why: "its two lookups are given back",
         message: (2, 3, b"\x02\0\0\0\0\0\0\0"),
@@ -259,7 +230,6 @@ static FIFTH: [Step; 15] = [
         length: 0,
         says: &[],
     },
-    // It is gone.
     Step {
         why: "it is gone",
         message: (3, 3, b"\0\0\0\0\0\0\0\0\0\0\0\0\0\0\0\0"),
@@ -271,7 +241,6 @@ static FIFTH: [Step; 15] = [
 
 /// What is full, and what is gone.
 static SIXTH: [Step; 13] = [
-    // As much as a file has at most.
     Step {
         why: "as much as a file has at most",
         message: (
@@ -283,7 +252,6 @@ static SIXTH: [Step; 13] = [
         length: 24,
         says: &[(16, b"@\0\0\0")],
     },
-    // An attribute of it takes 137 bytes.
     Step {
         why: "an attribute of it takes 137 bytes",
         message: (21, 5, b"\x03\0\0\0\0\0\0\0user.a\0one"),
@@ -291,7 +259,6 @@ static SIXTH: [Step; 13] = [
         length: 16,
         says: &[],
     },
-    // Nothing behind it.
     Step {
         why: "nothing behind it",
         message: (
@@ -303,7 +270,6 @@ static SIXTH: [Step; 13] = [
         length: 16,
         says: &[],
     },
-    // Another file.
     Step {
         why: "another file",
         message: (35, 1, b"\0\0\0\0\xa4\x01\0\0\0\0\0\0\0\0\0\0n\0"),
@@ -311,7 +277,6 @@ static SIXTH: [Step; 13] = [
         length: 160,
         says: &[(16, b"\x07\0\0\0\0\0\0\0"), (56, b"\x07\0\0\0\0\0\0\0")],
     },
-    // As much as there is place for.
     Step {
         why: "as much as there is place for",
         message: (
@@ -323,7 +288,6 @@ static SIXTH: [Step; 13] = [
         length: 24,
         says: &[(16, b"#\0\0\0")],
     },
-    // No place is left.
     Step {
         why: "no place is left",
         message: (
@@ -335,7 +299,6 @@ static SIXTH: [Step; 13] = [
         length: 16,
         says: &[],
     },
-    // A third file.
     Step {
         why: "a third file",
         message: (35, 1, b"\0\0\0\0\xa4\x01\0\0\0\0\0\0\0\0\0\0o\0"),
@@ -343,7 +306,6 @@ static SIXTH: [Step; 13] = [
         length: 160,
         says: &[(16, b"\x08\0\0\0\0\0\0\0"), (56, b"\x08\0\0\0\0\0\0\0")],
     },
-    // Has no place.
     Step {
         why: "has no place",
         message: (
@@ -355,7 +317,6 @@ static SIXTH: [Step; 13] = [
         length: 16,
         says: &[],
     },
-    // The directory is empty.
     Step {
         why: "the directory is empty",
         message: (11, 1, b"d\0"),
@@ -363,7 +324,6 @@ static SIXTH: [Step; 13] = [
         length: 16,
         says: &[],
     },
-    // Nothing is made in it.
     Step {
         why: "nothing is made in it",
         message: (35, 2, b"\0\0\0\0\xa4\x01\0\0\0\0\0\0\0\0\0\0x\0"),
@@ -371,7 +331,6 @@ static SIXTH: [Step; 13] = [
         length: 16,
         says: &[],
     },
-    // It is there while it is held.
     Step {
         why: "it is there while it is held",
         message: (3, 2, b"\0\0\0\0\0\0\0\0\0\0\0\0\0\0\0\0"),
@@ -379,7 +338,6 @@ static SIXTH: [Step; 13] = [
         length: 120,
         says: &[(96, b"\0\0\0\0")],
     },
-    // Its lookup is given back.
     Step {
         why: "its lookup is given back",
         message: (2, 2, b"\x01\0\0\0\0\0\0\0"),
@@ -387,7 +345,6 @@ static SIXTH: [Step; 13] = [
         length: 0,
         says: &[],
     },
-    // It is gone too.
     Step {
         why: "it is gone too",
         message: (3, 2, b"\0\0\0\0\0\0\0\0\0\0\0\0\0\0\0\0"),
