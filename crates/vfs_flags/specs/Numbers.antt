@@ -156,6 +156,10 @@ erofs = 30
 abbrev pub erange : ℕ
 erange = 34
 
+-- a name is longer than the file system takes
+abbrev pub enametoolong : ℕ
+enametoolong = 36
+
 -- the request is not served
 abbrev pub enosys : ℕ
 enosys = 38

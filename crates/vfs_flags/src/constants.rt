@@ -61,8 +61,16 @@ pub const WRITE_KILL_PRIV: u32 = 1 << 2;
 /// attributes.
 pub const FSYNC_FDATASYNC: u32 = 1 << 0;
 
-/// In `flags` of `struct fuse_rename2_in`: the flags that are passed on, not to replace, to exchange,
-/// and to leave a whiteout.
+/// In `flags` of `struct fuse_rename2_in`: a node that has the new name is not replaced.
+pub const RENAME_NOREPLACE: u32 = 1 << 0;
+
+/// In `flags` of `struct fuse_rename2_in`: the two names are exchanged.
+pub const RENAME_EXCHANGE: u32 = 1 << 1;
+
+/// In `flags` of `struct fuse_rename2_in`: a whiteout takes the place of the old name.
+pub const RENAME_WHITEOUT: u32 = 1 << 2;
+
+/// In `flags` of `struct fuse_rename2_in`: the flags that are passed on, which are these three.
 pub const RENAME_FLAGS: u32 = 7;
 
 /// In `lk_flags` of `struct fuse_lk_in`: the lock is one of `flock`, of the whole file.

@@ -69,6 +69,9 @@ impl Errno {
     /// The value is longer than the size that the request left for it, as of an extended attribute.
     pub const ERANGE: Errno = Errno(34);
 
+    /// A name is longer than the file system takes.
+    pub const ENAMETOOLONG: Errno = Errno(36);
+
     /// The request is not served.
     pub const ENOSYS: Errno = Errno(38);
 
@@ -133,6 +136,7 @@ fn name_of(number: i32) -> Option<&'static str> {
         28 => "ENOSPC",
         30 => "EROFS",
         34 => "ERANGE",
+        36 => "ENAMETOOLONG",
         38 => "ENOSYS",
         39 => "ENOTEMPTY",
         61 => "ENODATA",

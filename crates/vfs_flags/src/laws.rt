@@ -58,6 +58,10 @@ pub fn single_flags_have_their_bits()
     ensures write_lockowner { WRITE_LOCKOWNER ≡ 2 }
     ensures write_kill_priv { WRITE_KILL_PRIV ≡ 4 }
     ensures fsync_fdatasync { FSYNC_FDATASYNC ≡ 1 }
+    ensures rename_noreplace { RENAME_NOREPLACE ≡ 1 }
+    ensures rename_exchange { RENAME_EXCHANGE ≡ 2 }
+    ensures rename_whiteout { RENAME_WHITEOUT ≡ 4 }
+    ensures rename_flags { RENAME_FLAGS ≡ 7 }
     ensures lk_flock { LK_FLOCK ≡ 1 }
     ensures poll_schedule_notify { POLL_SCHEDULE_NOTIFY ≡ 1 }
 {}
@@ -73,6 +77,21 @@ pub fn sizes_have_their_numbers()
     ensures init_out { FUSE_COMPAT_INIT_OUT_SIZE ≡ 8 }
     ensures init_out_22 { FUSE_COMPAT_22_INIT_OUT_SIZE ≡ 24 }
     ensures setxattr_in { FUSE_COMPAT_SETXATTR_IN_SIZE ≡ 8 }
+{}
+
+/// The kinds of nodes in a mode, and in an item of a directory.
+pub fn kinds_have_their_bits()
+    ensures all { S_IFMT ≡ 0o170000 }
+    ensures pipe { S_IFIFO ≡ 0o010000 }
+    ensures character_device { S_IFCHR ≡ 0o020000 }
+    ensures directory { S_IFDIR ≡ 0o040000 }
+    ensures block_device { S_IFBLK ≡ 0o060000 }
+    ensures file { S_IFREG ≡ 0o100000 }
+    ensures link { S_IFLNK ≡ 0o120000 }
+    ensures socket { S_IFSOCK ≡ 0o140000 }
+    ensures directory_item { DT_DIR ≡ 4 }
+    ensures file_item { DT_REG ≡ 8 }
+    ensures link_item { DT_LNK ≡ 10 }
 {}
 
 /// The limits that a server can be made for.

@@ -9,6 +9,7 @@ mod fs_options;
 mod ids;
 mod ioctl_flags;
 pub mod laws;
+mod modes;
 mod notify_inval_entry_out_flags;
 mod notify_opcode;
 mod opcode;
@@ -24,14 +25,17 @@ pub use constants::{
     FUSE_COMPAT_STATFS_SIZE, FUSE_COMPAT_WRITE_IN_SIZE, FUSE_MIN_READ_BUFFER, GETATTR_FH,
     GREATEST_MAX_BUFFER, KERNEL_MINOR_VERSION, KERNEL_VERSION, LEAST_MAX_BUFFER, LK_FLOCK,
     MAX_REPLY_DATA, MIN_KERNEL_MINOR_VERSION, OPEN_KILL_SUIDGID, POLL_SCHEDULE_NOTIFY,
-    READ_LOCKOWNER, RELEASE_FLOCK_UNLOCK, RELEASE_FLUSH, RENAME_FLAGS, ROOT_ID, WRITE_CACHE,
-    WRITE_KILL_PRIV, WRITE_LOCKOWNER,
+    READ_LOCKOWNER, RELEASE_FLOCK_UNLOCK, RELEASE_FLUSH, RENAME_EXCHANGE, RENAME_FLAGS,
+    RENAME_NOREPLACE, RENAME_WHITEOUT, ROOT_ID, WRITE_CACHE, WRITE_KILL_PRIV, WRITE_LOCKOWNER,
 };
 pub use errno::{Errno, Fault};
 pub use ext_type::ExtType;
 pub use fs_options::FsOptions;
 pub use ids::{GuestGid, GuestUid, HostGid, HostUid};
 pub use ioctl_flags::IoctlFlags;
+pub use modes::{
+    DT_DIR, DT_LNK, DT_REG, S_IFBLK, S_IFCHR, S_IFDIR, S_IFIFO, S_IFLNK, S_IFMT, S_IFREG, S_IFSOCK,
+};
 pub use notify_inval_entry_out_flags::NotifyInvalEntryOutFlags;
 pub use notify_opcode::NotifyOpcode;
 pub use opcode::Opcode;

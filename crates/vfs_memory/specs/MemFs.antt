@@ -1,14 +1,14 @@
 -- The file system in memory: its files in order of creation, and what its calls answer of them.
 use Rattle.std.specs.Prelude.{◌≡◌, ℕ, zero, suc, ◌==◌, ◌+◌, ◌-◌, ◌^◌, ◌||◌, nat_le, not, List, [], ◌∷◌, ◌++◌, length, map, take, drop, slice_index_or, find, position, remove, codes, Option, Some, None, is_some, Result, Ok, Err, if◌then◌else◌}
 use Rattle.std.specs.Str.{bytes_eq}
-use Rattle.std.specs.Duration.{as_nanos}
-use Rattle.std.specs.declared.time.Duration.{Duration}
 use Rattle.vfs_flags.specs.Numbers.{enoent, enomem, eexist, enotdir, enospc}
 use Rattle.vfs_wire.specs.declared.attributes.Attr.{Attr}
 use Rattle.vfs_files.specs.declared.entry.Entry.{Entry}
 use Rattle.vfs_files.specs.Values.{Item}
 use Rattle.vfs_files.specs.Calls.{Call, Init, Lookup, Getattr, Unlink, Read, Write, Readdir, Create, Answer, Done, Failed, Options, Found, Attributes, Put, Created, Wrote, Handed, Plain, Iterator, default_answer}
 use Rattle.vfs_files.specs.Bytes.{part_of, most_put}
+use Rattle.vfs_read_only.specs.Makers.{attr_of, IsSecond}
+use Rattle.vfs_read_only.specs.Makers as makers
 use Rattle.vfs_memory.specs.MemFile.{Writes}
 
 -- a file: its node, its name and its contents
@@ -28,28 +28,6 @@ first_stock = record {
   files = record { node = 2; name = codes "a"; contents = codes "hello" } ∷ [];
   next = 3;
 }
-
--- the attributes of a node of this kind and permissions, with so many names and bytes
-abbrev pub attr_of : (node mode nlink size : ℕ) → Attr
-attr_of node mode nlink size =
-    record {
-      ino = node;
-      size = size;
-      blocks = 0;
-      atime = 0;
-      mtime = 0;
-      ctime = 0;
-      atimensec = 0;
-      mtimensec = 0;
-      ctimensec = 0;
-      mode = mode;
-      nlink = nlink;
-      uid = 0;
-      gid = 0;
-      rdev = 0;
-      blksize = 4096;
-      flags = 0;
-    }
 
 -- the attributes of the root: a directory that all may read and search, and its owner write
 abbrev pub root_attr : Attr
@@ -81,17 +59,9 @@ attr_option (Some file) = Some (file_attr file)
 abbrev pub attr_at : Stock → (node : ℕ) → Option Attr
 attr_at stock node = if node == 1 then Some root_attr else attr_option (file_at stock node)
 
--- one second
-abbrev pub IsSecond : Duration → Type 0
-IsSecond time = as_nanos time ≡ 1000000000
-
 -- the entry of a file
-pub record IsEntryOf (file : Stored) (entry : Entry) : Type 0 where
-  pub inode : entry.inode ≡ file.node
-  pub generation : entry.generation ≡ 0
-  pub attr : entry.attr ≡ file_attr file
-  pub attr_timeout : IsSecond entry.attr_timeout
-  pub entry_timeout : IsSecond entry.entry_timeout
+abbrev pub IsEntryOf : Stored → Entry → Type 0
+IsEntryOf file entry = makers.IsEntryOf file.node (file_attr file) entry
 
 -- a file's entry is answered, or that there is no such file
 abbrev pub AnswersEntry : Option Stored → Answer → Type 0

@@ -4,29 +4,26 @@ ghost use Rattle.std.specs.List.{AllPairs};
 ghost use Rattle.std.specs.Option.{option_copied};
 ghost use Rattle.vfs_flags.specs.Numbers.{enoent, enomem};
 ghost use Rattle.vfs_files.specs.Values.{name_text};
-ghost use Rattle.vfs_memory.specs.MemFs.{attr_of, file_attr, first_stock, IsEntryOf, file_named, file_at, node_place};
+ghost use Rattle.vfs_memory.specs.MemFs.{file_attr, first_stock, IsEntryOf, file_named, file_at, node_place};
 ghost use Rattle.vfs_memory.specs.Index.{file_place, AddsWith, ComesBefore};
 
 use crate::memfile::MemFile;
 use std::alloc::Global;
 use std::collections::BTreeMap;
 use std::marker::Model;
-use std::time::Duration;
 use vfs_files::{CStr, CString, Entry, copy_of};
-use vfs_flags::{Errno, Fault, GuestGid, GuestUid, ROOT_ID};
+use vfs_flags::{Errno, Fault, ROOT_ID, S_IFDIR, S_IFREG};
+use vfs_read_only::{node_attr, node_entry};
 use vfs_wire::Attr;
 
 /// How long a client may rely on an answer.
 const TIMEOUT_SECONDS: u64 = 1;
 
 /// The kind and permissions of the root.
-const ROOT_MODE: u32 = 0o40755;
+const ROOT_MODE: u32 = S_IFDIR | 0o755;
 
 /// The kind and permissions of a file.
-const FILE_MODE: u32 = 0o100644;
-
-/// The preferred size of reads and writes in bytes.
-const BLOCK_SIZE: u32 = 4096;
+const FILE_MODE: u32 = S_IFREG | 0o644;
 
 /// The most files that there can be.
 const MOST_FILES: usize = 1000;
@@ -199,47 +196,16 @@ fn not_found() -> Fault
     Some(Errno::ENOENT)
 }
 
-// The attributes of a node of this kind and permissions, with so many names and bytes.
-fn make_attr(node: u64, mode: u32, nlink: u32, size: u64) -> Attr
-    ensures { result ≡ attr_of node mode nlink size }
-{
-    // Each field is written once: zeros that others are written over cost a wait.
-    Attr {
-        ino: node,
-        size,
-        blocks: 0,
-        atime: 0,
-        mtime: 0,
-        ctime: 0,
-        atimensec: 0,
-        mtimensec: 0,
-        ctimensec: 0,
-        mode,
-        nlink,
-        uid: GuestUid::from(0),
-        gid: GuestGid::from(0),
-        rdev: 0,
-        blksize: BLOCK_SIZE,
-        flags: 0,
-    }
-}
-
 // The attributes of a file.
 fn attr(file: &File) -> Attr
     ensures { result ≡ file_attr file.now }
 {
-    make_attr(file.node, FILE_MODE, 1, file.contents.len() as u64)
+    node_attr(file.node, FILE_MODE, 1, file.contents.len() as u64)
 }
 
 // The entry of a file.
 fn entry(file: &File) -> Entry
     ensures { IsEntryOf file.now result }
 {
-    Entry {
-        inode: file.node,
-        generation: 0,
-        attr: attr(file),
-        attr_timeout: Duration::from_secs(TIMEOUT_SECONDS),
-        entry_timeout: Duration::from_secs(TIMEOUT_SECONDS),
-    }
+    node_entry(file.node, attr(file))
 }

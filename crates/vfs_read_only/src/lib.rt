@@ -13,4 +13,4 @@ pub use makers::{
     node_entry,
 };
 pub use read_only::ReadOnly;
-pub use tree::{DT_DIR, DT_REG, ReadTree, S_IFDIR, S_IFREG, TreeItem};
+pub use tree::{ReadTree, TreeItem};

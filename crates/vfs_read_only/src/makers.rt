@@ -5,10 +5,10 @@ ghost use Rattle.std.specs.Str.{bytes_eq};
 ghost use Rattle.vfs_files.specs.Values.{name_of, name_text};
 ghost use Rattle.vfs_read_only.specs.Makers as makers;
 
-use crate::tree::{DT_DIR, DT_REG, S_IFDIR, S_IFREG, TreeItem};
+use crate::tree::TreeItem;
 use std::time::Duration;
 use vfs_files::{CStr, Entry};
-use vfs_flags::{GuestGid, GuestUid};
+use vfs_flags::{DT_DIR, DT_REG, GuestGid, GuestUid, S_IFDIR, S_IFREG};
 use vfs_wire::Attr;
 
 /// How long a client may rely on an answer.
@@ -78,9 +78,11 @@ pub fn file_attr(node: u64, size: u64) -> Attr
 
 /// The attributes of a node of this kind and permissions, with so many names and bytes. It belongs
 /// to user and group 0, and all its times are 0.
+#[inline(always)]
 pub fn node_attr(node: u64, mode: u32, nlink: u32, size: u64) -> Attr
     ensures { result ≡ makers.attr_of node mode nlink size }
 {
+    // Each field is written once: zeros that others are written over cost a wait.
     Attr {
         ino: node,
         size,
@@ -102,6 +104,7 @@ pub fn node_attr(node: u64, mode: u32, nlink: u32, size: u64) -> Attr
 }
 
 /// The entry of a node with these attributes, which a client may rely on for a second.
+#[inline(always)]
 pub fn node_entry(node: u64, attr: Attr) -> Entry
     ensures { makers.IsEntryOf node attr result }
 {

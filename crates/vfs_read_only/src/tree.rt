@@ -7,24 +7,13 @@ ghost use Rattle.vfs_read_only.specs.Tables.{Tables, items_of, found_item};
 use vfs_files::CStr;
 use vfs_wire::Attr;
 
-/// In `mode` of attributes: the node is a directory.
-pub const S_IFDIR: u32 = 0o040000;
-
-/// In `mode` of attributes: the node is a file with contents.
-pub const S_IFREG: u32 = 0o100000;
-
-/// What `readdir(3)` calls a directory.
-pub const DT_DIR: u32 = 4;
-
-/// What `readdir(3)` calls a file with contents.
-pub const DT_REG: u32 = 8;
-
 /// What a directory has: `.`, `..`, a directory or a file in it.
 #[derive(Clone, Copy)]
 pub struct TreeItem<'a> {
     /// The number of the node.
     pub node: u64,
-    /// The kind of node, as `d_type` of `readdir(3)`: [`DT_DIR`] or [`DT_REG`].
+    /// The kind of node, as `d_type` of `readdir(3)`: [`DT_DIR`](vfs_flags::DT_DIR) or
+    /// [`DT_REG`](vfs_flags::DT_REG).
     pub kind: u32,
     /// The name in the directory.
     pub name: CStr<'a>,

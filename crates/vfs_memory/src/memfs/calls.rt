@@ -6,7 +6,7 @@ ghost use Rattle.vfs_files.specs.Calls.{attr_answer, no_such_call};
 ghost use Rattle.vfs_memory.specs.MemFs.{MemFsAllows, AnswersAttr, attr_at};
 
 use super::entries::root_entries;
-use super::{MOST_FILES, MemFs, ROOT_MODE, TIMEOUT_SECONDS, attr, entry, make_attr, not_found};
+use super::{MOST_FILES, MemFs, ROOT_MODE, TIMEOUT_SECONDS, attr, entry, not_found};
 use crate::memfile::MemFile;
 use bitflags::Flags;
 use std::time::Duration;
@@ -15,6 +15,7 @@ use vfs_files::{
     ZeroCopyReader, ZeroCopyWriter, defaults, read_bytes,
 };
 use vfs_flags::{Errno, Fault, FsOptions, OpenOptions, ROOT_ID, SetattrValid, SetxattrFlags};
+use vfs_read_only::node_attr;
 use vfs_wire::{Attr, SetattrIn, Statvfs64};
 
 impl FileSystem for MemFs {
@@ -53,7 +54,7 @@ impl FileSystem for MemFs {
     {
         let timeout = Duration::from_secs(TIMEOUT_SECONDS);
         if inode == ROOT_ID {
-            return Ok((make_attr(ROOT_ID, ROOT_MODE, 2, 0), timeout));
+            return Ok((node_attr(ROOT_ID, ROOT_MODE, 2, 0), timeout));
         }
         match self.find_node(inode) {
             Some(file) => Ok((attr(file), timeout)),
