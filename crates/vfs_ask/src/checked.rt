@@ -54,16 +54,6 @@ impl Checked {
     }
 }
 
-// A writer without a segment. It takes no memory.
-fn no_room(alloc: Global) -> Writer
-    ensures { length result.left ≡ 0 }
-{
-    match Writer::new(alloc, Vec::new(alloc)) {
-        Ok(writer) => writer,
-        Err(_) => unreachable!(),
-    }
-}
-
 /// What the request is that `r` has left, with the options that are agreed on and `room` bytes of room for a
 /// reply. A call that it asks for is told in `call`, as by [`ask`](crate::ask); else that is none.
 ///
@@ -80,7 +70,7 @@ pub fn check(
     requires { AreLimits limits }
     ensures { IsChecked limits (fs_options_bits options) r.entry room result call.new }
 {
-    let mut nowhere = no_room(alloc);
+    let mut nowhere = Writer::empty(alloc);
     let asked = ask_request(alloc, limits, options, r, room, &mut nowhere, call);
     Checked::of(&asked, room)
 }

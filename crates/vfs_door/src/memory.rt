@@ -18,21 +18,13 @@ pub struct Memory {
     pub shown: usize,
 }
 
-// A writer without a segment. It takes no memory.
-fn no_room(alloc: Global) -> Writer {
-    match Writer::new(alloc, Vec::new(alloc)) {
-        Ok(writer) => writer,
-        Err(_) => unreachable!(),
-    }
-}
-
 impl Memory {
     /// None yet.
     pub fn new(alloc: Global) -> Memory
         ensures { result.shown ≡ 0 }
     {
         Memory {
-            writer: no_room(alloc),
+            writer: Writer::empty(alloc),
             start: 0,
             shown: 0,
         }

@@ -20,23 +20,11 @@ use vfs_segments::{Reader, Writer};
 use vfs_transfers::{ZcReader, ZcWriter};
 use vfs_wire_more::{ReadIn, WriteIn};
 
-/// A writer without room. It takes no memory.
-fn no_room(alloc: Global) -> Writer {
-    match Writer::new(alloc, Vec::new(alloc)) {
-        Ok(writer) => writer,
-        Err(_) => unreachable!(),
-    }
-}
-
 /// A reader of all that this one has left, which has nothing left then. It takes no memory.
 fn take_rest<'a>(alloc: Global, r: &mut Reader<'a>) -> Reader<'a>
     ensures { result.left ≡ r.old.left }
 {
-    let nothing = match Reader::new(alloc, &[]) {
-        Ok(reader) => reader,
-        Err(_) => unreachable!(),
-    };
-    mem::replace(r, nothing)
+    mem::replace(r, Reader::empty(alloc))
 }
 
 impl<F: FileSystem> Session<F> {
@@ -67,7 +55,7 @@ impl<F: FileSystem> Session<F> {
             read_in.now.flags)
             read_in.now.size self.old w.old result w.new self.new }
     {
-        let mut lent = ZcWriter(mem::replace(w, no_room(q.alloc)));
+        let mut lent = ZcWriter(mem::replace(w, Writer::empty(q.alloc)));
         let answer = self.fs.read(
             q.context(),
             q.node(),

@@ -23,14 +23,6 @@ use vfs_segments::Writer;
 use vfs_transfers::ZcWriter;
 use vfs_wire::{ByteValued, OutHeader};
 
-// A writer without room. It takes no memory.
-fn no_room(alloc: Global) -> Writer {
-    match Writer::new(alloc, Vec::new(alloc)) {
-        Ok(writer) => writer,
-        Err(_) => unreachable!(),
-    }
-}
-
 // Lends the writer to the file system, which puts the data into it.
 fn read_into<F: FileSystem>(
     alloc: Global,
@@ -41,7 +33,7 @@ fn read_into<F: FileSystem>(
     requires { length w.old.left ≡ call.now.count }
     ensures { ReadsInto F.allows (read_of call.now) call.now.size fs.old w.old result w.new fs.new }
 {
-    let mut lent = ZcWriter(mem::replace(w, no_room(alloc)));
+    let mut lent = ZcWriter(mem::replace(w, Writer::empty(alloc)));
     let owner = number_if(call.has, has::OWNER, call.lock_owner);
     let answer = fs.read(
         context(call),

@@ -79,6 +79,20 @@ impl<'a> Reader<'a> {
         })
     }
 
+    /// A reader without a segment, which has no byte. It takes no memory.
+    pub fn empty(alloc: Global) -> Reader<'a>
+        ensures bytes { IsUnread [] result }
+        ensures pieces { result.pieces ≡ [] }
+    {
+        Reader {
+            segments: Segments::none(alloc, &[]),
+            start: 0,
+            at: 0,
+            end: 0,
+            near: 0,
+        }
+    }
+
     /// How many bytes are left.
     pub fn available_bytes(&self) -> usize
         ensures left { result ≡ length self.now.left }

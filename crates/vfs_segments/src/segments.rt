@@ -224,6 +224,17 @@ impl<L: SegmentList + Drop> Segments<L> {
         );
         Ok(Segments { list, totals })
     }
+
+    // No segments. They take no memory.
+    pub(crate) fn none(alloc: Global, list: L) -> Segments<L>
+        requires { L.bytes list ≡ [] }
+        ensures { result ≡ [] }
+    {
+        Segments {
+            list,
+            totals: Running::new(0, 0, 0, 0, 0, Vec::new(alloc)),
+        }
+    }
 }
 
 impl<L: SegmentList> Segments<L> {

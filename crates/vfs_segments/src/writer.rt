@@ -84,6 +84,20 @@ impl Writer {
         })
     }
 
+    /// A writer without a segment, and so without room. It takes no memory.
+    pub fn empty(alloc: Global) -> Writer
+        ensures { result ≡ unwritten [] }
+    {
+        Writer {
+            segments: Segments::none(alloc, Vec::new(alloc)),
+            at: 0,
+            end: 0,
+            held_at: 0,
+            held: 0,
+            near: 0,
+        }
+    }
+
     /// How many bytes of the room are left.
     pub fn available_bytes(&self) -> usize
         ensures { result ≡ length self.now.left }
