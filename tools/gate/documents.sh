@@ -78,11 +78,16 @@ words = {word for text in [*paths, *sources.values()] for word in re.findall(r"\
 definitions = {path: set(DEFINITION.findall(text)) for path, text in sources.items()}
 clauses = {path: set(CLAUSE.findall(text)) for path, text in sources.items()}
 edits = {(path.split("/")[1], path.split("/")[3][:-5]) for path in paths if path.endswith(".edit")}
-# The crates of this repository that each stands on. Lower ones come first.
-below = {}
-for name, uses in re.findall(r"^(\w+).*: (.*)", read("crates.txt"), re.M):
-    own = CRATE_NAMES.intersection(uses.split())
-    below[name] = own.union(*(below[it] for it in own))
+# The crates of this repository that each names in crates.txt, and all that it stands on.
+named = {name: CRATE_NAMES.intersection(uses.split())
+         for name, uses in re.findall(r"^(\w+).*: (.*)", read("crates.txt"), re.M)}
+
+
+def below_of(name):
+    return named[name].union(*(below_of(it) for it in named[name]))
+
+
+below = {name: below_of(name) for name in named}
 faults = []
 
 

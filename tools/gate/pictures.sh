@@ -99,7 +99,17 @@ def dependencies():
     """Each crate with the crates that it stands on, lower ones first."""
     lines = [line for line in read("crates.txt").splitlines() if line and line[0] != "#"]
     listed = {line.split(":")[0].split()[0]: line.split(":")[1].split() for line in lines}
-    return {crate: [name for name in names if name in listed] for crate, names in listed.items()}
+    found = {}
+
+    def add(crate):
+        for name in listed[crate]:
+            if name in listed and name not in found:
+                add(name)
+        found[crate] = [name for name in listed[crate] if name in listed]
+
+    for crate in listed:
+        add(crate)
+    return found
 
 
 def all_below(stands_on):
