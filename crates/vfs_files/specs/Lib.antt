@@ -1,4 +1,5 @@
 pub mod Answers
+pub mod Asked
 pub mod Bytes
 pub mod BytesMut
 pub mod Calls

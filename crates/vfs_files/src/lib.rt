@@ -6,6 +6,8 @@
 //! of a READ and a WRITE.
 #![tactic(auto)]
 
+mod answer;
+mod asked;
 mod bytes;
 mod bytes_mut;
 pub mod defaults;
@@ -19,10 +21,12 @@ mod memory;
 mod migration;
 mod name;
 mod number;
+mod partial;
 mod transfer;
 mod uses;
 mod xattr;
 
+pub use asked::{Asked, Given};
 pub use bytes::{Bytes, read_bytes};
 pub use bytes_mut::{BytesMut, lengthen, write_bytes};
 pub use directory::{DirEntry, DirectoryIterator};
@@ -34,5 +38,6 @@ pub use memory::copy_of;
 pub use migration::{MigrateError, SerializableFileSystem};
 pub use name::{CStr, CString, first_nul};
 pub use number::Number;
+pub use partial::{PartialFileSystem, unserved};
 pub use transfer::{ZeroCopyReader, ZeroCopyWriter};
 pub use xattr::{GetxattrReply, ListxattrReply};
