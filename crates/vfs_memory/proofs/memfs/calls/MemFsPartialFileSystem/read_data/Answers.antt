@@ -2,7 +2,7 @@ use Rattle.std.proofs.Common.{◌≡◌, ◌<◌, List, [], length, get_or, Some
 use Rattle.vfs_files.specs.Calls.{Failed}
 use Rattle.vfs_memory.specs.MemFs.{Stored, Stock, node_place}
 use Rattle.vfs_memory.proofs.FilesAt.{answers_read}
-use Rattle.vfs_memory.proofs.memfs.calls.MemFsFileSystem.read.Goals as goal
+use Rattle.vfs_memory.proofs.memfs.calls.MemFsPartialFileSystem.read_data.Goals as goal
 
 pub returns-in_default : goal.returns-in_default
 returns-in_default g c =

@@ -3,7 +3,7 @@ use Rattle.vfs_files.specs.Calls.{Failed}
 use Rattle.vfs_memory.specs.MemFs.{Stored, Stock, node_place}
 use Rattle.vfs_memory.proofs.FilesAt.{writes_into}
 use Rattle.vfs_memory.proofs.Indexed.{indexed_written}
-use Rattle.vfs_memory.proofs.memfs.calls.MemFsFileSystem.write.Goals as goal
+use Rattle.vfs_memory.proofs.memfs.calls.MemFsPartialFileSystem.write_data.Goals as goal
 
 pub returns-in_default : goal.returns-in_default
 returns-in_default g c =
