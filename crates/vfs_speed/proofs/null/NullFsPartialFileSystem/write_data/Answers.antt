@@ -1,6 +1,6 @@
 use Rattle.std.proofs.Common.{arith}
 use Rattle.vfs_files.specs.TransferLaws.{transfer_tells}
-use Rattle.vfs_speed.proofs.null.NullFsFileSystem.write.Goals as goal
+use Rattle.vfs_speed.proofs.null.NullFsPartialFileSystem.write_data.Goals as goal
 
 pub overflow_cast-result : goal.overflow_cast-result
 overflow_cast-result g c =

@@ -1,6 +1,6 @@
 use Rattle.std.proofs.Common.{arith}
 use Rattle.vfs_files.specs.TransferLaws.{transfer_counts}
-use Rattle.vfs_speed.proofs.null.NullFsFileSystem.read.Goals as goal
+use Rattle.vfs_speed.proofs.null.NullFsPartialFileSystem.read_data.Goals as goal
 
 pub returns : goal.returns
 returns g c =
