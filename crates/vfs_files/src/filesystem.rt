@@ -526,8 +526,8 @@ pub trait FileSystem {
 
     /// The kernel takes back lookups of many nodes (BATCH_FORGET): of each pair's node as many as
     /// its count says, as by `forget` for each, in order. There is no reply. A file system that has
-    /// nothing shorter to do calls its own `forget` in a loop, as `Unserved` of `vfs_unserved`;
-    /// what a loop like that allows, the relation `ForgetsEach` says.
+    /// nothing shorter to do calls its own `forget` in a loop; what a loop like that allows, the
+    /// relation `ForgetsEach` says.
     ///
     /// An implementation repeats this clause, as that of `getattr`.
     fn batch_forget(&mut self, ctx: Context, requests: Vec<(Self::Inode, u64)>)
