@@ -4,6 +4,8 @@ ghost use Rattle.std.specs.Prelude.{◌≡◌};
 ghost use Rattle.vfs_nodes.specs.Children.{is_directory, is_file, is_link};
 ghost use Rattle.vfs_nodes.specs.Node.{kind_bits, type_of};
 
+use vfs_flags::{S_IFDIR, S_IFLNK, S_IFREG};
+
 /// What a node is.
 #[derive(Clone, Copy)]
 pub enum Kind {
@@ -21,9 +23,9 @@ impl Kind {
         ensures { result ≡ kind_bits self }
     {
         match self {
-            Kind::Directory => 0o40000,
-            Kind::File => 0o100000,
-            Kind::Link => 0o120000,
+            Kind::Directory => S_IFDIR,
+            Kind::File => S_IFREG,
+            Kind::Link => S_IFLNK,
         }
     }
 

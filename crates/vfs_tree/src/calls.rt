@@ -17,7 +17,9 @@ use vfs_files::{
     CStr, Context, Entry, EntryList, Extensions, FileSystem, GetxattrReply, ListxattrReply,
     ZeroCopyReader, ZeroCopyWriter, defaults,
 };
-use vfs_flags::{Errno, Fault, FsOptions, OpenOptions, SetattrValid, SetxattrFlags};
+use vfs_flags::{
+    Errno, Fault, FsOptions, OpenOptions, S_IFMT, S_IFREG, SetattrValid, SetxattrFlags,
+};
 use vfs_nodes::{Kind, TIMEOUT_SECONDS, entries_behind};
 use vfs_wire::{Attr, SetattrIn, Statvfs64};
 
@@ -26,12 +28,6 @@ const MOST_TEXT: u64 = 0xffff_ffef;
 
 /// In how many bytes the file system counts.
 const BLOCK: u64 = 4096;
-
-/// The bits of a mode that say what a node is.
-const KIND_BITS: u32 = 0o170000;
-
-/// Those of a file with contents.
-const PLAIN_FILE: u32 = 0o100000;
 
 impl FileSystem for TreeFs {
     ghost use Rattle.vfs_tree.specs.Tree.{TreeAllows};
@@ -136,7 +132,7 @@ impl FileSystem for TreeFs {
         _umask: u32,
         _ext: Extensions,
     ) -> Result<Entry, Fault> {
-        if mode & KIND_BITS != 0 && mode & KIND_BITS != PLAIN_FILE {
+        if mode & S_IFMT != 0 && mode & S_IFMT != S_IFREG {
             return Err(Some(Errno::EPERM));
         }
         self.make(ctx, Kind::File, mode, parent, name, &[])

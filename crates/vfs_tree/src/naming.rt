@@ -45,19 +45,9 @@ pub(crate) fn directory<'a>(
         return Err(Errno::ENOTDIR);
     }
     if name.len() > MOST_NAME {
-        return Err(name_too_long());
+        return Err(Errno::ENAMETOOLONG);
     }
     Ok(node)
-}
-
-// The error ENAMETOOLONG.
-fn name_too_long() -> Errno
-    ensures { result ≡ 36 }
-{
-    match Errno::new(36) {
-        Some(errno) => errno,
-        None => unreachable!(),
-    }
 }
 
 /// Whether a name can't be made: it is empty, `.`, `..`, or has a '/'. A kernel asks for none of these.

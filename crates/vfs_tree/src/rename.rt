@@ -12,14 +12,8 @@ ghost use Rattle.vfs_tree.specs.State.{child_at, count_of, node_at, node_of};
 use crate::fs::TreeFs;
 use crate::naming::{directory, is_improper};
 use vfs_files::CStr;
-use vfs_flags::{Errno, Fault, ROOT_ID};
+use vfs_flags::{Errno, Fault, RENAME_EXCHANGE, RENAME_NOREPLACE, ROOT_ID};
 use vfs_nodes::{Child, Node};
-
-/// The flag by which a name that is there is not replaced.
-const RENAME_NOREPLACE: u32 = 1;
-
-/// The flag by which two names are exchanged.
-const RENAME_EXCHANGE: u32 = 2;
 
 impl TreeFs {
     /// Lets `newname` lead to the node of `oldname`, which leads nowhere any more, or by
