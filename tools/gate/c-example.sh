@@ -79,7 +79,7 @@ run_all() {
 }
 
 # Those that kernels were recorded to ask.
-sed -n '/^# What kernels asked/,/^# The corpus/p' "$here/crates/vfs_script/stdin" > "$folder/recorded"
+sed -n '/^# What kernels asked/,/^# The corpus/p' "$here/crates/vfs_sessions/stdin" > "$folder/recorded"
 
 run_all -O2
 if command -v c++ > /dev/null; then

@@ -104,9 +104,9 @@ OPCODES, HANDLED = (count(pattern, "crates/vfs_grammar/specs/Ask.antt")
 CALLS = count(r"^    fn ", "crates/vfs_files/src/filesystem.rt")
 RECORDS, MORE_RECORDS = (count(r"impl ByteValued for [A-Z]", f"crates/{crate}/src/")
                          for crate in ("vfs_wire", "vfs_wire_more"))
-REQUESTS = read("crates/vfs_script/stdin").split("\n# The generated requests.\n")[1].split("\n# What kernels")[0]
+REQUESTS = read("crates/vfs_sessions/stdin").split("\n# The generated requests.\n")[1].split("\n# What kernels")[0]
 # How many forms each hostile message has.
-FORMS = re.findall(r"^.*: (\d+) forms, ", read("crates/vfs_script/stdout"), re.M)
+FORMS = re.findall(r"^.*: (\d+) forms, ", read("crates/vfs_sessions/stdout"), re.M)
 # What a line counts, by the words around the number, and how many there are.
 COUNTS = [
     (rf"{NUMBER} (?:numbers are )?opcodes", OPCODES),

@@ -1,8 +1,8 @@
 #!/usr/bin/env bash
-# Refuses each request for memory of the built programs vfs_script and vfs_demo, one a run, and
+# Refuses each request for memory of the built programs vfs_sessions and vfs_demo, one a run, and
 # looks at how that run ends: until one meets no refusal.
 #
-# Behind its line `refusals` vfs_script makes calls one after another, each in a part of its own
+# Behind its line `refusals` vfs_sessions makes calls one after another, each in a part of its own
 # (crates/vfs_corpus/src/refusals.rt has their form). Of the allocations of a part one is refused.
 # That part is right where it ends in one of these ways, and all others where they are those of a
 # run that is refused nothing:
@@ -90,7 +90,7 @@ def refused(program, stdin, part, clean):
 
 
 def parts_of(output):
-    """The parts of what vfs_script wrote behind its line `refusals`."""
+    """The parts of what vfs_sessions wrote behind its line `refusals`."""
     parts = []
     for text in output.split("request ")[1:]:
         head, answered, *lines = text.splitlines()
@@ -145,7 +145,7 @@ def wrong(what, it):
 
 
 class Refusals:
-    """The runs of vfs_script on some lines behind the line `refusals`."""
+    """The runs of vfs_sessions on some lines behind the line `refusals`."""
 
     def __init__(self, program, lines):
         self.program, self.lines = program, lines
@@ -154,7 +154,7 @@ class Refusals:
         self.first_line = len(self.parts) - len(lines)
         self.counts = self.clean.counts[1:]
         if self.clean.status or len(self.counts) != len(self.parts):
-            raise ValueError("vfs_script, refused nothing, does not end well")
+            raise ValueError("vfs_sessions, refused nothing, does not end well")
 
     def stdin(self, but=None):
         return b"".join([b"refusals\n", *(line for at, line in enumerate(self.lines) if at != but)])
@@ -174,7 +174,7 @@ class Refusals:
         for it in refused(self.program, self.stdin(), at + 1, self.clean):
             endings.append(self.ending(at, behind, it))
             if endings[-1] is None:
-                wrong(f"vfs_script, allocation {len(endings)} of {self.parts[at].name}", it)
+                wrong(f"vfs_sessions, allocation {len(endings)} of {self.parts[at].name}", it)
         return endings
 
     def ending(self, at, behind, it):
@@ -231,7 +231,7 @@ def tell(what, endings):
     print(f"{what}: {len(endings)} allocations refused in turn; answered by {told}", flush=True)
 
 
-script, demo = built("vfs_script"), built("vfs_demo")
+script, demo = built("vfs_sessions"), built("vfs_demo")
 with open("crates/vfs_demo/stdin", "rb") as file:
     lines = file.readlines()
 with open("crates/vfs_demo/stdout") as file:
@@ -246,8 +246,8 @@ if endings[-2:] != [[], ["the server"]]:
     faults.append("LOOKUP of a")
     print(f"LOOKUP of a, cut behind its header and in its name: {endings[-2:]}", file=sys.stderr)
 wanting = sum(len(it) > 0 for it in endings)
-print(f"vfs_script: {len(endings)} calls, of which {wanting} want memory")
-tell("vfs_script", sum(endings, []))
+print(f"vfs_sessions: {len(endings)} calls, of which {wanting} want memory")
+tell("vfs_sessions", sum(endings, []))
 tell("vfs_demo", try_demo(demo, lines, stored))
 sys.exit(1 if faults else 0)
 PYTHON

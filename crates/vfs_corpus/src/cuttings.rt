@@ -6,10 +6,10 @@ use crate::table::Message;
 use std::alloc::{AllocError, Global};
 use std::cell::RefCell;
 use std::collections::VecDeque;
-use vfs_answers::{PAGE_SIZE, answer_to};
 use vfs_flags::FsOptions;
 use vfs_lines::{RunError, lines_of, parse_line};
-use vfs_scripted::{Notes, ScriptFs};
+use vfs_run::{PAGE_SIZE, answer_to};
+use vfs_seeded::{Notes, SeededFs};
 use vfs_segments::{Reader, Writer};
 use vfs_server::server::Server;
 
@@ -73,7 +73,7 @@ pub struct Served {
     /// The options that are agreed afterwards.
     pub options: FsOptions,
 
-    /// The calls of all cuttings in order, with their answers: lines as `vfs_script` writes them.
+    /// The calls of all cuttings in order, with their answers: lines as `vfs_sessions` writes them.
     pub calls: String,
 }
 
@@ -109,7 +109,7 @@ pub fn rooms(alloc: Global, length: usize, cut: Cut) -> Result<Vec<Vec<u8>>, All
 /// Agrees on what a message needs: hands the server the lines before it.
 pub fn agree(
     alloc: Global,
-    server: &mut Server<ScriptFs<'_>>,
+    server: &mut Server<SeededFs<'_>>,
     message: &Message,
 ) -> Result<(), RunError> {
     for line in &lines_of(alloc, message.before.as_bytes())? {
@@ -133,7 +133,7 @@ pub fn serve<W: Watch>(
     watch: &mut W,
 ) -> Result<Served, RunError> {
     let told = RefCell::new(VecDeque::new(alloc));
-    let mut server = Server::new(ScriptFs::with_room(alloc, &told, NOTES)?, PAGE_SIZE);
+    let mut server = Server::new(SeededFs::with_room(alloc, &told, NOTES)?, PAGE_SIZE);
     agree(alloc, &mut server, message)?;
     let noted = server.fs().notes().text().len();
     let (outcomes, rooms) = hand_over(alloc, &mut server, bytes, room, cuttings, way, watch)?;
@@ -149,7 +149,7 @@ pub fn serve<W: Watch>(
 // rooms afterwards.
 fn hand_over<W: Watch>(
     alloc: Global,
-    server: &mut Server<ScriptFs<'_>>,
+    server: &mut Server<SeededFs<'_>>,
     bytes: &[u8],
     room: usize,
     cuttings: &[Cutting],
@@ -175,7 +175,7 @@ fn hand_over<W: Watch>(
 // Handles requests in order, and says so right before and right behind that.
 fn handle_all<W: Watch>(
     alloc: Global,
-    server: &mut Server<ScriptFs<'_>>,
+    server: &mut Server<SeededFs<'_>>,
     readers: Vec<Reader<'_>>,
     writers: &mut [Writer],
     outcomes: &mut [vfs_server::Result<usize>],
@@ -196,7 +196,7 @@ fn handle_all<W: Watch>(
 // Handles requests in order, each as a message.
 fn handle_each(
     alloc: Global,
-    server: &mut Server<ScriptFs<'_>>,
+    server: &mut Server<SeededFs<'_>>,
     readers: Vec<Reader<'_>>,
     writers: &mut [Writer],
     outcomes: &mut [vfs_server::Result<usize>],

@@ -4,8 +4,8 @@
 use crate::cuttings::{Cut, Cutting, Served, Way, serve};
 use crate::table::Message;
 use std::alloc::{AllocError, Global};
-use vfs_answers::answer_line;
 use vfs_lines::RunError;
+use vfs_run::answer_line;
 
 /// A form of a message.
 #[derive(Clone, Copy, Debug)]
@@ -36,7 +36,7 @@ pub struct Tally {
     pub first_wrong: Option<Form>,
 
     /// The FNV-1a checksum, of 64 bits, of what the uncut forms came to: of each its answer as
-    /// `vfs_script` writes it, with the calls behind it.
+    /// `vfs_sessions` writes it, with the calls behind it.
     pub digest: u64,
 }
 

@@ -28,9 +28,10 @@
 #![tactic(auto)]
 
 use std::process::ExitCode;
-use vfs_answers::read_all;
 use vfs_lines::exit_status;
-use vfs_run::{Program, USAGE_STATUS, greet_terminal, refuses_arguments, report_session, run_text};
+use vfs_run::{
+    Program, USAGE_STATUS, greet_terminal, read_all, refuses_arguments, report_session, run_text,
+};
 
 /// What the program's usage says of it.
 const PROGRAM: Program = Program {

@@ -3,9 +3,9 @@ ghost use Rattle.std.specs.Prelude.{◌≡◌, IfErr, IfSome};
 ghost use Rattle.vfs_lines.specs.Lines.{lines_in, EndsSession};
 ghost use Rattle.vfs_run.specs.Output.{Wrote};
 
+use crate::{answers_to, read_all, server_for, write_all};
 use std::alloc::Global;
 use std::io;
-use vfs_answers::{answers_to, read_all, server_for, write_all};
 use vfs_lines::{Line, RunError, end_session, lines_of, read_session};
 use vfs_memory::MemFs;
 
@@ -24,10 +24,10 @@ pub fn run<R: io::Read, W: io::Write>(
 }
 
 /// Answers the lines of `text` before the first bad one, and then writes the answers to `output`, a
-/// line each, as [`vfs_answers::answers_to`] gives them.
+/// line each, as [`crate::answers_to`] gives them.
 ///
 /// The lines are one session of a server over a new [`MemFs`], with no options agreed and of the
-/// limit that [`vfs_answers::server_for`] gives it by the first line. A line that sets the limit has no answer.
+/// limit that [`crate::server_for`] gives it by the first line. A line that sets the limit has no answer.
 /// For a bad line `bad line N` is written after the answers of those before it, where N counts all
 /// lines, and [`RunError::BadLine`] answered. A text without a byte has no line. How much was
 /// written before another error is open.

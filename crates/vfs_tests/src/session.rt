@@ -5,11 +5,10 @@ use std::alloc::{AllocError, Global};
 use std::io;
 use std::io::{ErrorKind, Read};
 use std::test::Fail;
-use vfs_answers::answers_to;
 use vfs_bench::{Note, NoteKind, Recorder};
 use vfs_lines::{Line, RunError, exit_status, parse_line};
 use vfs_memory::MemFs;
-use vfs_run::run;
+use vfs_run::{answers_to, run};
 use vfs_server::server::Server;
 
 /// A FORGET of node 2.

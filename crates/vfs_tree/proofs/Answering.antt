@@ -2,7 +2,7 @@
 use Rattle.std.proofs.Common.{◌≡◌, ◌+◌, ◌==◌, ◌||◌, ◌^◌, ◌-◌, ℕ, Bool, true, false, List, ◌∷◌, [], nat_lt, nat_le, not, length, Option, Some, None, IfSome, is_some, is_none, refl, sym, ap, ◌∙◌, subst}
 use Rattle.std.proofs.lemmas.Bool.{not-false}
 use Rattle.std.proofs.lemmas.Option.{same_Some}
-use Rattle.vfs_flags.specs.Numbers.{enoent, einval, eexist, eperm, eoverflow, enospc, enotdir}
+use Rattle.vfs_flags.specs.Numbers.{enoent, einval, eexist, eperm, eoverflow, enospc, enotdir, enametoolong}
 use Rattle.vfs_files.specs.Calls.{Found, Created, Plain}
 use Rattle.vfs_files.specs.declared.entry.Entry.{Entry}
 use Rattle.vfs_nodes.specs.Children.{with_child, is_directory}
@@ -10,7 +10,7 @@ use Rattle.vfs_nodes.specs.Node.{IsEntryOf}
 use Rattle.vfs_nodes.specs.declared.children.Child.{Child}
 use Rattle.vfs_nodes.specs.declared.node.Node.{Node}
 use Rattle.vfs_tree.specs.Outcome.{EntryOf, Outcome, Tried, Ends, first_of, or_else, unless, refusal_of, on}
-use Rattle.vfs_tree.specs.Rename.{directory_refusal, is_directory_at, is_improper, is_nameless, is_crowded, enametoolong}
+use Rattle.vfs_tree.specs.Rename.{directory_refusal, is_directory_at, is_improper, is_nameless, is_crowded}
 use Rattle.vfs_tree.specs.State.{State, node_at, child_at, with_node, with_names, changed, change}
 use Rattle.vfs_tree.specs.Tree.{emlink, most_links, link_refusal, linked, links}
 use Rattle.vfs_tree.proofs.Nodes.{kinds_apart}

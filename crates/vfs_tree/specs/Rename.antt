@@ -1,7 +1,7 @@
 -- What RENAME does, in steps, each from the state that the one before it left: so the two directories may
 -- be one.
 use Rattle.std.specs.Prelude.{ℕ, zero, suc, ◌==◌, ◌&&◌, ◌||◌, nat_lt, not, Bool, true, false, List, [], ◌∷◌, length, codes, Option, Some, None, is_some, is_none, if◌then◌else◌}
-use Rattle.vfs_flags.specs.Numbers.{enoent, eexist, enotdir, eisdir, enospc, enotempty, einval}
+use Rattle.vfs_flags.specs.Numbers.{enoent, eexist, enotdir, eisdir, enospc, enotempty, einval, enametoolong}
 use Rattle.std.specs.List.{list_any}
 use Rattle.std.specs.Str.{bytes_eq}
 use Rattle.vfs_nodes.specs.Children.{is_directory, has_place, with_child, without_child, with_other_child}
@@ -10,10 +10,6 @@ use Rattle.vfs_nodes.specs.declared.children.Child.{Child}
 use Rattle.vfs_nodes.specs.declared.node.Node.{Node}
 use Rattle.vfs_tree.specs.Outcome.{Just, Outcome, Tried, first_of, or_else, unless}
 use Rattle.vfs_tree.specs.State.{State, node_at, count_of, change, with_names, unnamed, child_at, node_of}
-
--- names have at most 255 bytes
-abbrev pub enametoolong : ℕ
-enametoolong = 36
 
 abbrev pub is_directory_at : Option Node → Bool
 is_directory_at None = false

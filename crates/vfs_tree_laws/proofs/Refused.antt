@@ -3,10 +3,10 @@ use Rattle.std.proofs.Common.{◌≡◌, ◌^◌, ◌-◌, ◌==◌, ◌&&◌, �
 use Rattle.std.specs.List.{AllByRecursion}
 use Rattle.std.proofs.lemmas.Bool.{not-false, false≢true, eqb-true, eqb-false}
 use Rattle.std.proofs.lemmas.Option.{none-some}
-use Rattle.vfs_flags.specs.Numbers.{eperm, enoent, eexist, enotdir, eisdir, enospc, enotempty, einval, eoverflow}
+use Rattle.vfs_flags.specs.Numbers.{eperm, enoent, eexist, enotdir, eisdir, enospc, enotempty, einval, eoverflow, enametoolong}
 use Rattle.vfs_tree.specs.Children.{is_directory, child_named}
 use Rattle.vfs_tree.specs.Outcome.{first_of, or_else}
-use Rattle.vfs_tree.specs.Rename.{enametoolong, is_improper, is_directory_at, directory_refusal, is_nameless, is_crowded, is_own_child, replace_refusal, names_refusal, place_refusal, rename_refusal}
+use Rattle.vfs_tree.specs.Rename.{is_improper, is_directory_at, directory_refusal, is_nameless, is_crowded, is_own_child, replace_refusal, names_refusal, place_refusal, rename_refusal}
 use Rattle.vfs_tree.specs.State.{State, node_at, room_of, child_at, child_of, node_of}
 use Rattle.vfs_tree.specs.Tree.{make_refusal, link_refusal, most_links, emlink}
 use Rattle.vfs_nodes.specs.declared.children.Child.{Child}

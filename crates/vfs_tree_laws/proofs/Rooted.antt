@@ -2,12 +2,12 @@
 use Rattle.std.proofs.Common.{min, ◌≡◌, ◌≢◌, ◌<◌, ◌+◌, ◌-◌, ◌==◌, ◌&&◌, ◌||◌, ◌^◌, nat_le, nat_lt, not, ℕ, zero, suc, Bool, true, false, List, [], ◌∷◌, length, Option, Some, None, IsSome, is_some, is_none, refl, sym, ap, subst, ◌∙◌, arith, if◌then◌else◌, ◌⊎◌, inl, inr, ⊎_elim}
 use Rattle.std.proofs.lemmas.Bool.{both_ways, not-false, eqb-false, and_cases}
 use Rattle.std.proofs.lemmas.Option.{none-some, same_Some}
-use Rattle.vfs_flags.specs.Numbers.{eperm, enoent, eexist, enotdir, einval, enospc, eoverflow}
+use Rattle.vfs_flags.specs.Numbers.{eperm, enoent, eexist, enotdir, einval, enospc, eoverflow, enametoolong}
 use Rattle.vfs_tree.specs.Children.{Children, is_directory, with_child, without_child, with_other_child, is_file}
 use Rattle.vfs_tree.specs.Node.{new_node}
 use Rattle.vfs_tree_laws.specs.Laws.{IsSound, IsLinked, IsRooted, CallsKeepTheWayUp, above}
 use Rattle.vfs_tree.specs.Outcome.{first_of, or_else}
-use Rattle.vfs_tree.specs.Rename.{enametoolong, is_improper, directory_refusal, is_directory_at, is_nameless, is_crowded, is_below, is_own_child, names_refusal, place_refusal, parent_of, rename_refusal, moved_into, moved_over, exchanged, renamed_to}
+use Rattle.vfs_tree.specs.Rename.{is_improper, directory_refusal, is_directory_at, is_nameless, is_crowded, is_below, is_own_child, names_refusal, place_refusal, parent_of, rename_refusal, moved_into, moved_over, exchanged, renamed_to}
 use Rattle.vfs_tree.specs.State.{State, node_at, node_of, count_of, room_of, with_node, with_resized, with_new, without_node, settled, changed, change, with_names, unnamed, child_at}
 use Rattle.vfs_tree.specs.Tree.{emlink, most_links, made, linked, forgotten, all_forgotten, taken_out, make_refusal, link_refusal}
 use Rattle.vfs_nodes.specs.declared.children.Child.{Child}

@@ -4,8 +4,8 @@
 Usage: compare.py SEED COUNT JOBS ORACLE PROGRAM ..
 Each session goes to a program as it is cut, and with each request in one segment and one room:
 
-    script sessions   to vfs_script: answers and calls
-    memory sessions   to vfs_demo: answers; and, where they are of a form that it reads, to vfs_script behind
+    script sessions   to vfs_sessions: answers and calls
+    memory sessions   to vfs_demo: answers; and, where they are of a form that it reads, to vfs_sessions behind
                       its line `refusals`: outcomes, whole rooms and the options that are agreed behind each
                       request
 
@@ -24,8 +24,8 @@ import sessions
 
 TOP = pathlib.Path(__file__).resolve().parents[3]
 # For each way of asking: the program, the sessions that it gets, and how the oracle is asked.
-WAYS = {"vfs_script": ("vfs_script", "script", "script"), "vfs_demo": ("vfs_demo", "memory", "memory"),
-        "refusals": ("vfs_script", "memory", "rooms")}
+WAYS = {"vfs_sessions": ("vfs_sessions", "script", "script"), "vfs_demo": ("vfs_demo", "memory", "memory"),
+        "refusals": ("vfs_sessions", "memory", "rooms")}
 # Kinds with lines that are not read behind the line `refusals`, or more calls than are noted there.
 NO_ROOMS = ("badline", "limits", "full")
 # How many sessions a task has, at most.

@@ -4,9 +4,9 @@ use crate::cuttings::{Served, Watch};
 use bitflags::Flags;
 use std::alloc::Global;
 use std::io;
-use vfs_answers::write_all;
 use vfs_flags::FsOptions;
 use vfs_lines::RunError;
+use vfs_run::write_all;
 
 /// The output, and the name of the part that comes next.
 #[derive(Drop)]

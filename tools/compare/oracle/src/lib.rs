@@ -89,4 +89,4 @@ pub mod memfs;
 pub mod noted;
 pub mod nullfs;
 pub mod request;
-pub mod scriptfs;
+pub mod seededfs;

@@ -1,4 +1,4 @@
-//! Notes each call of a file system, with its arguments and what it was answered, as `vfs_script`
+//! Notes each call of a file system, with its arguments and what it was answered, as `vfs_sessions`
 //! does: two spaces before each line are put by who prints it.
 use crate::filesystem::*;
 use crate::fuse::{Attr, SetattrIn};

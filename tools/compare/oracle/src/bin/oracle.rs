@@ -1,9 +1,9 @@
 //! oracle script|memory|rooms [IN OUT]: answers the lines of sessions as virtiofsd's own code does.
 //!
-//! - `script` answers as `vfs_script` does, with the calls of the scripted file system below each answer;
+//! - `script` answers as `vfs_sessions` does, with the calls of the scripted file system below each answer;
 //! - `memory` answers as `vfs_demo` does, over files in memory;
 //! - `rooms` the same files, but for each request its outcome, its whole room and the options that are
-//!   agreed behind it, as `vfs_script` does behind its line `refusals`.
+//!   agreed behind it, as `vfs_sessions` does behind its line `refusals`.
 //!
 //! By itself it answers standard input. With two folders it answers each file of IN, by a server of its
 //! own, into a file of the same name in OUT. A bad line ends a session, with status 2 of the first form.
@@ -11,7 +11,7 @@ use oracle::filesystem::FileSystem;
 use oracle::memfs::MemFs;
 use oracle::noted::{Noted, Notes};
 use oracle::request::{parse_line, serve};
-use oracle::scriptfs::ScriptFs;
+use oracle::seededfs::SeededFs;
 use oracle::server::Server;
 use std::fmt::Write as _;
 use std::io::{self, Read, Write as _};
@@ -53,7 +53,7 @@ fn main() {
 fn session(way: Way, input: &[u8]) -> (String, i32) {
     let notes = Notes::default();
     if way == Way::Script {
-        answer_all(Noted { inner: ScriptFs::new(notes.clone()), notes: notes.clone() }, notes, way, input)
+        answer_all(Noted { inner: SeededFs::new(notes.clone()), notes: notes.clone() }, notes, way, input)
     } else {
         answer_all(MemFs::default(), notes, way, input)
     }

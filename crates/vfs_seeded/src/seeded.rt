@@ -1,0 +1,385 @@
+//! A file system whose answers are a function of a word, the process of the caller, and which notes
+//! each call and what it answered.
+//!
+//! The word is 0 at first. Each call with a caller sets it to the caller's process, and is answered
+//! by it; a call without one is answered by the word as it stands. Where the word's rest by 8 is 7
+//! the answer is a fault. Everything else goes by the word divided by 8, the *seed*; the module
+//! `rules` has the numbers:
+//!
+//! - `init`: by the seed's rest by 6 no option, all, or some that are known.
+//! - `lookup`: ENOENT for a name that begins with `x`, a fault without a number for one that begins
+//!   with `y`, whatever the word is, else the name's entry.
+//! - `symlink`, `mknod`, `mkdir`, `link`: the name's entry.
+//! - `create`: the name's entry, and what `open` answers.
+//! - `open`, `opendir`: a handle or none, and how to use it.
+//! - `getattr`: attributes; their t is the seed, the node's rest by 1000 and the handle's by 7.
+//! - `setattr`: the attributes that the record sets, 77 names where there is a handle and 1 else,
+//!   and the bits of `valid` as flags. All others are by the seed.
+//! - `readlink`: as many bytes as the seed's rest by 300.
+//! - `getxattr`, `listxattr`: the seed as a length where it is a multiple of 3, else as many bytes
+//!   as the rest by 500 of its third.
+//! - `statfs`: numbers by the seed.
+//! - `lseek`: the offset where the seed is even, else the seed.
+//! - `copyfilerange`: the length, at most the seed.
+//! - `read`, `write`: bytes of the file of the module `contents`, and into it.
+//! - `readdir`: the directory of the module `listing`, from the offset on.
+//! - `tmpfile`: ENOSYS.
+//! - All others: that it is done.
+//!
+//! An answer that the input tells goes before all this.
+
+ghost use Rattle.std.specs.Prelude.{◌≤◌, ℕ, List, IfOk, IfSome, vec_len};
+ghost use Rattle.vfs_files.specs.Answers.{Counts};
+
+use crate::contents::Contents;
+use crate::listing::{Listing, Seeded};
+use crate::notes::{Arg, Notes};
+use crate::rules::{attr, bytes, fault_of, time, wanted_bits};
+use crate::told::{Source, Told};
+use bitflags::Flags;
+use std::alloc::{AllocError, Global};
+use std::cell::RefCell;
+use std::collections::VecDeque;
+use std::mem;
+use std::time::Duration;
+use vfs_files::{CStr, Context, Entry, ZeroCopyReader, ZeroCopyWriter};
+use vfs_flags::{Errno, Fault, FsOptions, OpenOptions};
+use vfs_wire::{Attr, SetattrIn};
+
+mod calls;
+
+/// The file system.
+#[derive(Drop)]
+pub struct SeededFs<'a> {
+    alloc: Global,
+    word: u32,
+    told: &'a RefCell<VecDeque<Told>>,
+    notes: Notes,
+}
+
+impl<'a> SeededFs<'a> {
+    /// A file system with the word 0 and no notes, which takes the answers that it is told from
+    /// `told`.
+    pub fn new(alloc: Global, told: &'a RefCell<VecDeque<Told>>) -> SeededFs<'a> {
+        SeededFs {
+            alloc,
+            word: 0,
+            told,
+            notes: Notes::new(alloc),
+        }
+    }
+
+    /// The same with room for so many bytes of notes, so that noting these takes no memory.
+    pub fn with_room(
+        alloc: Global,
+        told: &'a RefCell<VecDeque<Told>>,
+        bytes: usize,
+    ) -> Result<SeededFs<'a>, AllocError> {
+        Ok(SeededFs {
+            alloc,
+            word: 0,
+            told,
+            notes: Notes::with_room(alloc, bytes)?,
+        })
+    }
+
+    /// The notes of all calls so far.
+    pub fn notes(&self) -> &Notes {
+        &self.notes
+    }
+
+    // Begins the note of a call, and takes its word.
+    fn begin(&mut self, call: &str, ctx: &Context) {
+        self.notes.call_by(call, ctx);
+        self.word = ctx.pid.cast_unsigned();
+    }
+
+    // Notes a call, and takes its word.
+    fn called(&mut self, call: &str, ctx: &Context, args: &[Arg<'_>]) {
+        self.begin(call, ctx);
+        self.notes.args(args);
+        self.notes.end();
+    }
+
+    // The answer that is told for this call, if one is.
+    fn next_told(&self) -> Option<Told> {
+        match self.told.try_borrow_mut() {
+            Ok(mut told) => told.pop_front(),
+            Err(_) => None,
+        }
+    }
+
+    // The seed, or the fault that is the answer.
+    fn seed(&self) -> Result<Source, Fault> {
+        let seed = self.word / 8;
+        if self.word % 8 == 7 {
+            Err(fault_of(seed % 160))
+        } else {
+            Ok(Source::Seed(seed))
+        }
+    }
+
+    // What the answer hangs on, or the fault that is the answer.
+    fn source(&self) -> Result<Source, Fault> {
+        match self.next_told() {
+            Some(told) => told.source(),
+            None => self.seed(),
+        }
+    }
+
+    // The seed, or what the input tells in its place.
+    fn seed_or_told(&self) -> Result<u32, Fault> {
+        match self.source() {
+            Ok(source) => Ok(source.as_seed()),
+            Err(fault) => Err(fault),
+        }
+    }
+
+    // The options that are wanted.
+    fn wanted(&self) -> Result<FsOptions, Fault> {
+        let bits = match self.source()? {
+            Source::Told(bits) => bits,
+            Source::Seed(seed) => wanted_bits(seed),
+        };
+        Ok(FsOptions::from_bits_truncate(bits))
+    }
+
+    // What LOOKUP finds.
+    fn found(&mut self, ctx: &Context, name: CStr<'_>) -> Result<Entry, Fault> {
+        let source = match self.next_told() {
+            Some(told) => told.source(),
+            None => match name.to_bytes().first() {
+                Some(b'x') => Err(Some(Errno::ENOENT)),
+                Some(b'y') => Err(None),
+                _ => self.seed(),
+            },
+        };
+        self.entry_of(source, ctx, name)
+    }
+
+    // The entry of a node that is made or gets a name.
+    fn made(&mut self, ctx: &Context, name: CStr<'_>) -> Result<Entry, Fault> {
+        let source = self.source();
+        self.entry_of(source, ctx, name)
+    }
+
+    // The entry by what it hangs on, which is noted.
+    fn entry_of(
+        &mut self,
+        source: Result<Source, Fault>,
+        ctx: &Context,
+        name: CStr<'_>,
+    ) -> Result<Entry, Fault> {
+        let answer = match source {
+            Ok(source) => Ok(source.entry(ctx, name.to_bytes())),
+            Err(fault) => Err(fault),
+        };
+        self.notes.answer(&answer);
+        if let Ok(entry) = &answer {
+            self.notes.number("node", entry.inode);
+        }
+        self.notes.end();
+        answer
+    }
+
+    // What is opened.
+    fn opened(&mut self) -> Result<(Option<u64>, OpenOptions), Fault> {
+        let answer = match self.source() {
+            Ok(source) => Ok(source.opening()),
+            Err(fault) => Err(fault),
+        };
+        self.notes.answer(&answer);
+        if let Ok((handle, options)) = &answer {
+            self.note_opening(*handle, *options);
+        }
+        self.notes.end();
+        answer
+    }
+
+    // The node that is made, and what is opened of it.
+    fn created(
+        &mut self,
+        ctx: &Context,
+        name: CStr<'_>,
+    ) -> Result<(Entry, Option<u64>, OpenOptions), Fault> {
+        let answer = match self.source() {
+            Ok(source) => Ok(source.creation(ctx, name.to_bytes())),
+            Err(fault) => Err(fault),
+        };
+        self.notes.answer(&answer);
+        if let Ok((entry, handle, options)) = &answer {
+            self.notes.number("node", entry.inode);
+            self.note_opening(*handle, *options);
+        }
+        self.notes.end();
+        answer
+    }
+
+    // A reading of a directory from this place on.
+    fn listing(&self, place: u64) -> Result<Listing, Fault> {
+        let source = match self.next_told() {
+            Some(Told::Directory(directory)) => return Ok(Listing::Told(directory.entries()?)),
+            Some(told) => told.source()?,
+            None => self.seed()?,
+        };
+        Ok(Listing::Seeded(Seeded::new(source.as_seed(), place)))
+    }
+
+    // The attributes of a node. The answer is noted.
+    fn attributes(
+        &mut self,
+        ctx: &Context,
+        inode: u64,
+        handle: Option<u64>,
+    ) -> Result<(Attr, Duration), Fault> {
+        let t = u64::from(self.seed_noted()?) + inode % 1000 + handle.unwrap_or(0) % 7;
+        Ok((attr(t, inode, ctx), time(t)))
+    }
+
+    // The attributes of a node, where those of the record are set. The answer is noted.
+    fn changed(
+        &mut self,
+        ctx: &Context,
+        inode: u64,
+        set: &SetattrIn,
+        nlink: u32,
+        flags: u32,
+    ) -> Result<(Attr, Duration), Fault> {
+        let t = u64::from(self.seed_noted()?);
+        let attr = Attr {
+            size: set.size,
+            atime: set.atime,
+            mtime: set.mtime,
+            ctime: set.ctime,
+            atimensec: set.atimensec,
+            mtimensec: set.mtimensec,
+            ctimensec: set.ctimensec,
+            mode: set.mode,
+            uid: set.uid,
+            gid: set.gid,
+            nlink,
+            flags,
+            ..attr(t, inode, ctx)
+        };
+        Ok((attr, time(t)))
+    }
+
+    // Puts bytes of a file into `w`.
+    fn read_file<W: ZeroCopyWriter>(
+        &mut self,
+        w: &mut W,
+        size: u32,
+        offset: u64,
+    ) -> Result<usize, Fault>
+        ensures { (bytes : List ℕ) × W.puts w.old bytes w.new × Counts result bytes size }
+    {
+        let seed = self.seed_or_told()?;
+        let mut file = self.lend_notes(seed);
+        let answer = file.read_into(w, size, offset);
+        self.notes = file.into_notes();
+        answer
+    }
+
+    // Takes bytes from `r` for a file.
+    fn write_file<R: ZeroCopyReader>(
+        &mut self,
+        r: &mut R,
+        size: u32,
+        offset: u64,
+    ) -> Result<u32, Fault>
+        ensures { (bytes : List ℕ) × R.takes r.old bytes r.new }
+    {
+        let seed = self.seed_or_told()?;
+        let mut file = self.lend_notes(seed);
+        let answer = file.write_from(r, size, offset);
+        self.notes = file.into_notes();
+        match answer {
+            Ok(count) => Ok(count as u32),
+            Err(fault) => Err(fault),
+        }
+    }
+
+    // A file that has the notes, to add to them.
+    fn lend_notes(&mut self, seed: u32) -> Contents {
+        let notes = mem::replace(&mut self.notes, Notes::new(self.alloc));
+        Contents::new(seed, notes)
+    }
+
+    // The text of a link.
+    fn text(&self) -> Result<Vec<u8>, Fault>
+        ensures { IfOk result (λ text. vec_len text ≤ 500) }
+    {
+        let seed = self.seed_or_told()?;
+        bytes(self.alloc, seed, seed % 300)
+    }
+
+    // The bytes of extended attributes, or their length where there is to be no more.
+    fn attribute(&self) -> Result<(Option<Vec<u8>>, u32), Fault>
+        ensures { IfOk result (λ found. IfSome found.0 (λ text. vec_len text ≤ 500)) }
+    {
+        let seed = self.seed_or_told()?;
+        if seed % 3 == 0 {
+            Ok((None, seed))
+        } else {
+            Ok((Some(bytes(self.alloc, seed, seed / 3 % 500)?), seed))
+        }
+    }
+
+    // Notes a call that answers only whether it is done, and its answer.
+    fn done(&mut self, call: &str, ctx: &Context, args: &[Arg<'_>]) -> Result<(), Fault> {
+        self.called(call, ctx, args);
+        self.done_noted()
+    }
+
+    // The same of a call that is told nothing.
+    fn done_untold(&mut self, call: &str) -> Result<(), Fault> {
+        self.notes.call(call);
+        self.notes.end();
+        self.done_noted()
+    }
+
+    // That a call is done, which is noted.
+    fn done_noted(&mut self) -> Result<(), Fault> {
+        match self.seed_noted() {
+            Ok(_) => Ok(()),
+            Err(fault) => Err(fault),
+        }
+    }
+
+    // The seed, or what the input tells in its place, noted as an answer of which nothing is shown.
+    fn seed_noted(&mut self) -> Result<u32, Fault> {
+        let answer = self.seed_or_told();
+        self.note_plain(&answer);
+        answer
+    }
+
+    // Notes a handle and how to use it.
+    fn note_opening(&mut self, handle: Option<u64>, options: OpenOptions) {
+        self.notes.option("handle", handle);
+        self.notes.number("opts", u64::from(options.bits()));
+    }
+
+    // Notes an answer of which nothing is shown.
+    fn note_plain<T>(&mut self, answer: &Result<T, Fault>) {
+        self.notes.answer(answer);
+        self.notes.end();
+    }
+
+    // Notes an answer that says how many bytes were moved.
+    fn note_moved(&mut self, answer: &Result<usize, Fault>) {
+        self.notes.answer(answer);
+        if let Ok(count) = answer {
+            self.notes.number("count", *count as u64);
+        }
+        self.notes.end();
+    }
+
+    // Notes an answer that is a number.
+    fn note_number<N: Copy + Into<u64>>(&mut self, name: &str, answer: &Result<N, Fault>) {
+        self.notes.answer(answer);
+        if let Ok(number) = answer {
+            self.notes.number(name, (*number).into());
+        }
+        self.notes.end();
+    }
+}
