@@ -26,7 +26,7 @@ pub struct ScriptItem {
 
 /// What a directory and its readings share.
 #[derive(Drop)]
-struct Listing {
+struct SharedItems {
     items: Vec<ScriptItem>,
     endless: bool,
     takings: Cell<u64>,
@@ -38,7 +38,7 @@ struct Listing {
 /// copies none of them. Contracts see a directory as a reading that begins.
 #[derive(Drop)]
 pub struct ScriptDirectory {
-    listing: Rc<Listing>,
+    listing: Rc<SharedItems>,
 }
 
 impl Model for ScriptDirectory {
@@ -87,7 +87,7 @@ impl ScriptDirectory {
         }) }
         ensures memory { IfErr result (λ fault. fault ≡ out_of_memory) }
     {
-        let listing = Listing {
+        let listing = SharedItems {
             items,
             endless,
             takings: Cell::new(0),
@@ -119,7 +119,7 @@ impl ScriptDirectory {
 /// A reading of a [`ScriptDirectory`].
 #[derive(Drop)]
 pub struct ScriptEntries {
-    listing: Rc<Listing>,
+    listing: Rc<SharedItems>,
     place: usize,
 }
 

@@ -7,7 +7,7 @@ mod makers;
 mod read_only;
 mod tree;
 
-pub use listing::Listing;
+pub use listing::TreeEntries;
 pub use makers::{
     directory_attr, directory_item, file_attr, file_item, name_in, name_position, node_attr,
     node_entry,

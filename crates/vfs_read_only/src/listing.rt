@@ -9,13 +9,13 @@ use vfs_files::{DirEntry, DirectoryIterator};
 /// The items of a directory of a tree from an offset on. The offset of each is its place, counted
 /// from 1.
 #[derive(Drop)]
-pub struct Listing<T: ReadTree> {
+pub struct TreeEntries<T: ReadTree> {
     pub(crate) tree: T,
     pub(crate) node: u64,
     pub(crate) next: u64,
 }
 
-impl<T: ReadTree> Model for Listing<T> {
+impl<T: ReadTree> Model for TreeEntries<T> {
     ghost use Rattle.std.specs.Prelude.{List};
     ghost use Rattle.vfs_files.specs.Values.{Item};
     ghost use Rattle.vfs_read_only.specs.Tables.{items_of};
@@ -26,7 +26,7 @@ impl<T: ReadTree> Model for Listing<T> {
     ghost view = { λ it. items_behind (items_of (T.tables it.tree) it.node) it.next };
 }
 
-impl<T: ReadTree> DirectoryIterator for Listing<T> {
+impl<T: ReadTree> DirectoryIterator for TreeEntries<T> {
     ghost gives = { GivesFirst };
 
     fn next(&mut self) -> Option<DirEntry<'_>> {

@@ -5,7 +5,7 @@ ghost use Rattle.vfs_flags.specs.Numbers.{enoent, erofs};
 ghost use Rattle.vfs_files.specs.Answers.{Failed, attr_answer};
 ghost use Rattle.vfs_read_only.specs.ReadOnly.{AnswersAttr, refusal_of, lookup_refusal};
 
-use crate::listing::Listing;
+use crate::listing::TreeEntries;
 use crate::makers::{TIMEOUT_SECONDS, node_entry};
 use crate::tree::ReadTree;
 use std::time::Duration;
@@ -64,7 +64,7 @@ impl<T: ReadTree> FileSystem for ReadOnly<T> {
 
     type Handle = u64;
 
-    type DirIter = Listing<T>;
+    type DirIter = TreeEntries<T>;
 
     ghost allows = { λ old call handed new.
         TreeHands (T.tables old.tree) call handed × (new ≡ old) };
@@ -320,11 +320,11 @@ impl<T: ReadTree> FileSystem for ReadOnly<T> {
         _handle: u64,
         _size: u32,
         offset: u64,
-    ) -> Result<Listing<T>, Fault> {
+    ) -> Result<TreeEntries<T>, Fault> {
         if !self.tree.is_directory(inode) {
             return Err(self.refusal(inode, Errno::ENOTDIR));
         }
-        Ok(Listing {
+        Ok(TreeEntries {
             tree: self.tree,
             node: inode,
             next: offset,

@@ -8,7 +8,7 @@ mod rules;
 mod seeded;
 mod told;
 
-pub use listing::{Listing, Seeded};
+pub use listing::{DirectoryItems, Seeded};
 pub use notes::Notes;
 pub use seeded::SeededFs;
 pub use told::{Told, parse_told};

@@ -23,22 +23,22 @@ const NAME_ROOM: usize = 301;
 
 /// A reading of a directory.
 #[derive(Drop)]
-pub enum Listing {
+pub enum DirectoryItems {
     /// Of the directory by the seed.
     Seeded(Seeded),
     /// Of one that is told.
     Told(ScriptEntries),
 }
 
-impl DirectoryIterator for Listing {
+impl DirectoryIterator for DirectoryItems {
     ghost use Rattle.std.specs.Prelude.{⊤};
 
     ghost gives = { λ old item new. ⊤ };
 
     fn next(&mut self) -> Option<DirEntry<'_>> {
         match self {
-            Listing::Seeded(items) => items.next(),
-            Listing::Told(items) => items.next(),
+            DirectoryItems::Seeded(items) => items.next(),
+            DirectoryItems::Told(items) => items.next(),
         }
     }
 }

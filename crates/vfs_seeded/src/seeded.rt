@@ -32,7 +32,7 @@ ghost use Rattle.std.specs.Prelude.{◌≤◌, ℕ, List, IfOk, IfSome, vec_len}
 ghost use Rattle.vfs_files.specs.Answers.{Counts};
 
 use crate::contents::Contents;
-use crate::listing::{Listing, Seeded};
+use crate::listing::{DirectoryItems, Seeded};
 use crate::notes::{Arg, Notes};
 use crate::rules::{attr, bytes, fault_of, time, wanted_bits};
 use crate::told::{Source, Told};
@@ -216,13 +216,15 @@ impl<'a> SeededFs<'a> {
     }
 
     // A reading of a directory from this place on.
-    fn listing(&self, place: u64) -> Result<Listing, Fault> {
+    fn listing(&self, place: u64) -> Result<DirectoryItems, Fault> {
         let source = match self.next_told() {
-            Some(Told::Directory(directory)) => return Ok(Listing::Told(directory.entries()?)),
+            Some(Told::Directory(directory)) => return Ok(DirectoryItems::Told(
+                directory.entries()?,
+            )),
             Some(told) => told.source()?,
             None => self.seed()?,
         };
-        Ok(Listing::Seeded(Seeded::new(source.as_seed(), place)))
+        Ok(DirectoryItems::Seeded(Seeded::new(source.as_seed(), place)))
     }
 
     // The attributes of a node. The answer is noted.

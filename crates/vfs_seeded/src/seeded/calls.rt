@@ -1,7 +1,7 @@
 //! The calls of the scripted file system, in the trait's order.
 
 use super::SeededFs;
-use crate::listing::Listing;
+use crate::listing::DirectoryItems;
 use crate::notes::Arg;
 use crate::rules::statistics;
 use bitflags::Flags;
@@ -23,7 +23,7 @@ impl FileSystem for SeededFs<'_> {
 
     type Handle = u64;
 
-    type DirIter = Listing;
+    type DirIter = DirectoryItems;
 
     ghost allows = { λ old call handed new. ⊤ };
 
@@ -464,7 +464,7 @@ impl FileSystem for SeededFs<'_> {
         handle: u64,
         size: u32,
         offset: u64,
-    ) -> Result<Listing, Fault> {
+    ) -> Result<DirectoryItems, Fault> {
         self.called(
             "readdir",
             &ctx,

@@ -1,7 +1,7 @@
 use Rattle.std.proofs.Common.{refl, sym, ◌∙◌, arith}
 use Rattle.vfs_read_only.specs.Tables.{items_of}
 use Rattle.vfs_read_only.proofs.Items.{first_read, none_read}
-use Rattle.vfs_read_only.proofs.listing.ListingDirectoryIterator.next.Goals as goal
+use Rattle.vfs_read_only.proofs.listing.TreeEntriesDirectoryIterator.next.Goals as goal
 
 pub overflow_add-self : goal.overflow_add-self
 overflow_add-self g c = omega (arith, c.in-Some.ensures.few)
