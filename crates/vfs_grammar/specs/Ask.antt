@@ -5,7 +5,7 @@ use Rattle.vfs_flags.specs.Flags.{known_setattr_valid, known_setxattr_flags, set
 use Rattle.vfs_flags.specs.declared.constants.TheConstants.{FATTR_FH, GETATTR_FH, FSYNC_FDATASYNC, OPEN_KILL_SUIDGID, READ_LOCKOWNER, RELEASE_FLUSH, RELEASE_FLOCK_UNLOCK, WRITE_CACHE, WRITE_KILL_PRIV, WRITE_LOCKOWNER, RENAME_FLAGS}
 use Rattle.vfs_flags.specs.declared.opcode.Opcode.{Opcode}
 use Rattle.vfs_flags.specs.declared.opcode.Opcode.TheVariants.{Lookup, Forget, Getattr, Setattr, Readlink, Symlink, Mknod, Mkdir, Unlink, Rmdir, Rename, Link, Open, Read, Write, Statfs, Release, Fsync, Setxattr, Getxattr, Listxattr, Removexattr, Flush, Init, Opendir, Readdir, Releasedir, Fsyncdir, Getlk, Setlk, Setlkw, Access, Create, Interrupt, Bmap, Destroy, Ioctl, Poll, NotifyReply, BatchForget, Fallocate, Readdirplus, Rename2, Lseek, CopyFileRange, SetupMapping, RemoveMapping, Syncfs, TmpFile}
-use Rattle.vfs_wire.specs.Fields.{Table, table, value_of}
+use Rattle.vfs_wire.specs.Fields.{table, value_of}
 use Rattle.vfs_wire.specs.Records.{in_header, getattr_in, setattr_in, forget_in, forget_one, batch_forget_in}
 use Rattle.vfs_wire_more.specs.Records.{open_in, release_in, flush_in, fsync_in, read_in, write_in, access_in, create_in, link_in, mkdir_in, mknod_in, rename_in, rename2_in, lseek_in, copyfilerange_in, fallocate_in, getxattr_in, setxattr_in}
 use Rattle.vfs_wire_more.specs.declared.files.ReadIn.{ReadIn}
@@ -27,8 +27,8 @@ has_flag flags flag = not (bit_and flags flag == 0)
 abbrev pub if_set : (flags flag n : ℕ) → Option ℕ
 if_set flags flag n = if bit_and flags flag == 0 then None else Some n
 
--- SETXATTR's record by the agreed options: where SETXATTR_EXT isn't among them, 8 bytes without further
--- flags
+-- SETXATTR's record by the agreed options: where SETXATTR_EXT isn't among them, 8 bytes without
+-- further flags
 abbrev pub setxattr_layout : (options : ℕ) → Layout SetxattrIn
 setxattr_layout options =
     if bit_and options setxattr_ext == 0
@@ -61,8 +61,9 @@ module _ (limits : Limits) (options space : ℕ) (h : InHeader) where
   abbrev pub caller : Context
   caller = context_of h
 
-  -- The table of the protocol: a line for each opcode, by the limits, the agreed options, the space for
-  -- the reply, and the header. The calls that name a caller and a node name those of the header.
+  -- The table of the protocol: a line for each opcode, by the limits, the agreed options, the space
+  -- for the reply, and the header. The calls that name a caller and a node name those of the
+  -- header.
   abbrev pub form_of : Opcode → Form
   form_of Lookup = NameTail no_record never (λ r name. call.Lookup caller h.nodeid name)
   form_of Forget = NoTail (Record forget_in) never (λ r. call.Forget caller h.nodeid r.nlookup)
@@ -164,8 +165,8 @@ module _ (limits : Limits) (options space : ℕ) where
   ask_header h rest =
       within (nat_lt (max_len limits) h.len) h (ask_number (opcode_of h.opcode) h rest)
 
-  -- what these bytes ask, under these limits and agreed options, and where there is so much space for
-  -- the reply
+  -- what these bytes ask, under these limits and agreed options, and where there is so much space
+  -- for the reply
   abbrev pub ask : (bytes : List ℕ) → Ask
   ask bytes =
       refused_or (record_of in_header bytes) (λ h. ask_header h (drop (size_of in_header) bytes))

@@ -1,5 +1,5 @@
 -- The forms of requests: what stands behind the header, and in which order it is refused.
-use Rattle.std.specs.Prelude.{ℕ, zero, suc, ◌+◌, ◌*◌, ◌-◌, ◌==◌, bit_and, [], ◌∷◌, Bool, true, false, List, length, take, drop, nat_lt, if◌then◌else◌, Option, Some, None, Result, Ok, Err, ok_or, option_map, unwrap_or}
+use Rattle.std.specs.Prelude.{ℕ, zero, suc, ◌+◌, ◌*◌, ◌-◌, ◌==◌, bit_and, [], ◌∷◌, Bool, false, List, length, take, drop, nat_lt, if◌then◌else◌, Some, Result, Ok, Err, ok_or, option_map, unwrap_or}
 use Rattle.vfs_flags.specs.Numbers.{enomem, enosys, eproto}
 use Rattle.vfs_flags.specs.Flags.{init_ext}
 use Rattle.vfs_flags.specs.declared.constants.TheConstants.{KERNEL_VERSION, MIN_KERNEL_MINOR_VERSION}
@@ -8,7 +8,7 @@ use Rattle.vfs_wire.specs.Records.{in_header, out_header, init_in_compat, init_i
 use Rattle.vfs_wire.specs.declared.init.InitInCompat.{InitInCompat}
 use Rattle.vfs_wire.specs.declared.headers.InHeader.{InHeader}
 use Rattle.vfs_files.specs.Calls.{Call}
-use Rattle.vfs_files.specs.Values.{context_of, ExtensionValues, name_of, first_name}
+use Rattle.vfs_files.specs.Values.{ExtensionValues, name_of, first_name}
 use Rattle.vfs_files.specs.declared.entry.Context.{Context}
 use Rattle.vfs_grammar.specs.Extensions.{error_or, extensions_in}
 use Rattle.vfs_grammar.specs.Options.{options_offered}
@@ -194,8 +194,8 @@ pub data Form : Type 1 where
   NotServed : Form
 
 -- What is said of a request by what it may want memory for, which is the one table of this: for
--- nothing; for its tail; for its tail, and for a context among the extensions that these options have
--- read; or for its pairs.
+-- nothing; for its tail; for its tail, and for a context among the extensions that these options
+-- have read; or for its pairs.
 module _ (nothing : Type 0) (tail : (R : Type 0) → Layout R → Type 0)
     (context : (R : Type 0) → Layout R → (options : ℕ) → Type 0)
     (pairs : (R : Type 0) → Layout R → (R → Bool) → (R → ℕ) → Type 0) where
@@ -209,7 +209,7 @@ module _ (nothing : Type 0) (tail : (R : Type 0) → Layout R → Type 0)
   by_memory _ = nothing
 
 module _ (h : InHeader) (rest : List ℕ) where
-  -- what a request asks whose tail follows its record, and who may want memory for the tail
+  -- what a request asks whose tail follows its record, which may want memory for the tail
   abbrev pub with_tail : {R : Type 0} → Layout R → (next : R → (tail : List ℕ) → Ask) → Ask
   with_tail layout next =
       refused_or (layout_record layout rest) (λ r.

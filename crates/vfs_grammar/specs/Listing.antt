@@ -90,8 +90,8 @@ pub data Stop : Type 0 where
 abbrev pub is_dot : List ℕ → Bool
 is_dot name = bytes_eq name (codes ".") || bytes_eq name (codes "..")
 
--- The `EntryOut` of `.` and `..`: zeros, but for the item's number and its type as a mode, whose twelve low
--- bits are permissions.
+-- The `EntryOut` of `.` and `..`: zeros, but for the item's number and its type as a mode, whose
+-- twelve low bits are permissions.
 abbrev pub dot_out : Item → EntryOut
 dot_out i = record (entry_out.made (replicate 22 0)) {
   attr = record (attr.made (replicate 16 0)) {
@@ -175,9 +175,9 @@ abbrev pub line_bytes : Line → List ℕ
 line_bytes l = bytes_got l.got l.item
 
 -- What becomes of an item that got this, where `max` bytes may still be put and there is space for
--- `space`, by the first of these that applies: one whose lookup failed fails with that fault; a name of
--- 2 ^ 32 bytes or more is EOVERFLOW; a record longer than `max` is too long; one longer than the space
--- is a fault of writing, which has no number.
+-- `space`, by the first of these that applies: one whose lookup failed fails with that fault; a
+-- name of 2 ^ 32 bytes or more is EOVERFLOW; a record longer than `max` is too long; one longer
+-- than the space is a fault of writing, which has no number.
 abbrev pub verdict : (max space : ℕ) → Got → Item → Verdict
 verdict max space (Err fault) i = Fails fault
 verdict max space (Ok entry) i =
@@ -202,7 +202,8 @@ Stops plus size space written (At l) =
     IsGot plus l × (verdict (size - written) (space - written) l.got l.item ≢ Fits)
 
 -- What is answered behind so many bytes of records, by what became of the last item: how many they
--- are. But where it failed, READDIR answers the fault, and READDIRPLUS too where nothing was written.
+-- are. But where it failed, READDIR answers the fault, and READDIRPLUS too where nothing was
+-- written.
 abbrev pub answer_at : (plus : Bool) (written : ℕ) → Verdict → Result ℕ (Option ℕ)
 answer_at plus written (Fails fault) =
     if plus && nat_lt 0 written then Ok written else Err fault

@@ -1,5 +1,5 @@
 -- What comes back to the client, and the bytes of replies.
-use Rattle.std.specs.Prelude.{ℕ, pos, ◌+◌, ◌-ℤ◌, ◌/◌, ◌%◌, ◌^◌, List, [], ◌∷◌, ◌++◌, length, Bool, true, false, Option, Some, None, unwrap_or, replicate}
+use Rattle.std.specs.Prelude.{ℕ, pos, ◌+◌, ◌-ℤ◌, ◌/◌, ◌%◌, ◌^◌, List, [], ◌++◌, length, Option, unwrap_or, replicate}
 use Rattle.std.specs.declared.time.Duration.{Duration}
 use Rattle.vfs_flags.specs.Numbers.{eio}
 use Rattle.vfs_flags.specs.declared.constants.TheConstants.{KERNEL_VERSION, KERNEL_MINOR_VERSION}
@@ -13,7 +13,7 @@ use Rattle.vfs_wire.specs.declared.attributes.AttrOut.{AttrOut}
 use Rattle.vfs_wire_more.specs.declared.files.OpenOut.{OpenOut}
 use Rattle.vfs_wire_more.specs.declared.files.WriteOut.{WriteOut}
 use Rattle.vfs_wire_more.specs.declared.xattrs.GetxattrOut.{GetxattrOut}
-use Rattle.vfs_files.specs.Answers.{Kind, Quiet, Told, Untold, Data, Agreements, Entries, TimedAttributes, Openings, Creations, Capacities, Texts, TextsOrCounts, Offsets, Writes, Iterators, Faults, Answer, Done, Failed, Options, Found, Put, Attributes, Opened, Created, Statistics, Text, Count, Offset, Wrote}
+use Rattle.vfs_files.specs.Answers.{Kind, Quiet, Untold, Data, Agreements, Answer, Done, Failed, Found, Put, Attributes, Opened, Created, Statistics, Text, Count, Offset, Wrote}
 use Rattle.vfs_files.specs.Values.{context_of, entry_out_of, whole_seconds, nanoseconds_beyond}
 use Rattle.vfs_files.specs.declared.entry.Context.{Context}
 use Rattle.vfs_grammar.specs.Limits.{max_pages}
@@ -81,16 +81,17 @@ getxattr_out_of length = record { size = length; padding = 0 }
 abbrev pub write_out_of : (count : ℕ) → WriteOut
 write_out_of count = record { size = count; padding = 0 }
 
--- what INIT replies to a client of a newer major version: the version that the server speaks, and zeros
+-- what INIT replies to a client of a newer major version: the version that the server speaks, and
+-- zeros
 abbrev pub version_out : InitOut
 version_out = record (init_out.made (replicate 18 0)) {
   major = KERNEL_VERSION;
   minor = KERNEL_MINOR_VERSION;
 }
 
--- What INIT replies, of the version, the limits, the client's read-ahead and the agreed options. Requests in the
--- background are bounded by what the field holds, and the threshold is three quarters of that, each
--- quarter without its rest; times are kept by the nanosecond.
+-- What INIT replies, of the version, the limits, the client's read-ahead and the agreed options.
+-- Requests in the background are bounded by what the field holds, and the threshold is three
+-- quarters of that, each quarter without its rest; times are kept by the nanosecond.
 abbrev pub init_out_of : Limits → (max_readahead options : ℕ) → InitOut
 init_out_of limits max_readahead options = record version_out {
   max_readahead = max_readahead;

@@ -1,13 +1,12 @@
 -- What follows from a request: the calls, what comes back, and the options afterwards.
 use Rattle.std.specs.Prelude.{◌≡◌, ◌⊎◌, ◌==◌, if◌then◌else◌, length, ℕ, List, [], ◌∷◌, Option, Some, None, Result, ◌++◌}
-use Rattle.vfs_files.specs.Calls.{Call, Answer, Found, Created, Kind, Entries, Creations, Data, kind_of, read_answer, IsAnswer}
+use Rattle.vfs_files.specs.Calls.{Answer, Found, Created, Kind, Entries, Creations, Data, kind_of, read_answer, IsAnswer}
 use Rattle.vfs_files.specs.Runs.{Event, Called}
-use Rattle.vfs_files.specs.declared.entry.Context.{Context}
 use Rattle.vfs_grammar.specs.Listing.{IsDirectory, given_back}
 use Rattle.vfs_grammar.specs.Forms.{Listing, Ask, Ends, Asks, Lists, WithMemory}
 use Rattle.vfs_grammar.specs.Ask.{ask}
 use Rattle.vfs_grammar.specs.Options.{options_after}
-use Rattle.vfs_grammar.specs.Reply.{Reply, Refusal, reply_of}
+use Rattle.vfs_grammar.specs.Reply.{Refusal, reply_of}
 use Rattle.vfs_grammar.specs.Room.{IsReplied, unseen}
 use Rattle.vfs_grammar.specs.declared.limits.Limits.{Limits}
 use Rattle.vfs_grammar.specs.declared.error.Error.{Error}
@@ -37,10 +36,10 @@ pub record Turn : Type 0 where
   pub outcome : Result ℕ Error
   pub room_after : List ℕ
 
--- What follows in a turn from a request that asks this, with the options before and after it. One that
--- is ended has no call. One that asks a call has this, with an answer of its kind; an entry in it whose
--- reply doesn't fit is given back. A directory's records are replied as the data of a READ are. One
--- that wants memory follows with it, or is refused for want of it, and has no call.
+-- What follows in a turn from a request that asks this, with the options before and after it. One
+-- that is ended has no call. One that asks a call has this, with an answer of its kind; an entry in
+-- it whose reply doesn't fit is given back. A directory's records are replied as the data of a READ
+-- are. One that wants memory follows with it, or is refused for want of it, and has no call.
 abbrev pub Follows : Turn → Limits → (options : ℕ) → Ask → (after : ℕ) → Type 0
 Follows t limits options (Ends reply) after =
     (t.events ≡ []) × IsReplied reply t.room t.outcome t.room_after × (after ≡ options)
