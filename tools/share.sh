@@ -201,6 +201,43 @@ PYTHON
     echo "A user shares a folder in a sandbox."
 }
 
+# By the capability for it attributes of trusted.* are served, and not without. What a server lacks it can't do.
+try_capabilities() {
+    local words wanted
+    mkdir -p "$work/folder" "$work/mount"
+    for words in "--xattr:user" "--xattr --modcaps=+SYS_ADMIN:-mknod:user trusted" \
+        "--xattr --modcaps=-chown:-sys_admin:user no-chown"; do
+        wanted=${words##*:}
+        # shellcheck disable=SC2086
+        "$share" --log-level=error ${words%:*} "$work/folder" "$work/mount" &
+        server=$!
+        await_mount
+        timeout 20 python3 - "$work/mount/file" "$wanted" << 'PYTHON' || wrong "the capabilities of $words"
+import os, sys
+path, wanted = sys.argv[1:]
+came = []
+open(path, "w").close()
+for name, what in (("user.a", "user"), ("trusted.a", "trusted")):
+    try:
+        os.setxattr(path, name, b"1")
+        assert os.getxattr(path, name) == b"1" and name in os.listxattr(path)
+        came.append(what)
+    except PermissionError:
+        pass
+try:
+    os.chown(path, 5, 5)
+except PermissionError:
+    came.append("no-chown")
+os.remove(path)
+assert " ".join(came) == wanted, (came, wanted)
+PYTHON
+        umount "$work/mount"
+        wait "$server" || wrong "the server ended with $? with $words"
+        server=
+    done
+    echo "It has the capabilities that --modcaps says."
+}
+
 # Words that can't be, what is printed, and who is told that it serves.
 try_words() {
     local came words
@@ -209,7 +246,8 @@ try_words() {
         "$work/folder $work/folder/below" "$work/none $work/mount" "--fd=77 $work/folder" \
         "--socket-path=$work/socket $work/folder too-many" "--sandbox=some $work/folder $work/mount" \
         "--thread-pool-size=65 $work/folder $work/mount" "-o no-such-option $work/folder $work/mount" \
-        "-o attr_timeout=0x1 $work/folder $work/mount" "--inode-file-handles=always $work/folder $work/mount"; do
+        "-o attr_timeout=0x1 $work/folder $work/mount" "--inode-file-handles=always $work/folder $work/mount" \
+        "--modcaps=sys_admin $work/folder $work/mount" "--modcaps=+some $work/folder $work/mount"; do
         came=0
         # shellcheck disable=SC2086
         timeout 10 "$share" $words > "$work/said" 2>&1 || came=$?
@@ -248,6 +286,7 @@ PYTHON
 }
 
 try_words
+try_capabilities
 try_mount --thread-pool-size=1
 try_mount --thread-pool-size=4
 try_mount --thread-pool-size=4 --writeback

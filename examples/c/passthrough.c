@@ -65,6 +65,17 @@ static ssize_t find_room(struct worker *w, const nizwarf_call *asked, const nizw
 
 /* ---- requests */
 
+/* How many times it is tried for want of memory, where to give up would lose something. */
+enum { TRIES = 10000 };
+
+/* Lets a millisecond pass. */
+static void let_pass(void)
+{
+	const struct timespec pause = { 0, 1000000 };
+
+	nanosleep(&pause, NULL);
+}
+
 /* Makes the call, and gives back what the client doesn't get. */
 static int32_t answer_call(struct call *call, const nizwarf_session *session,
 			   const nizwarf_room *room, size_t rooms, ssize_t pieces, nizwarf_told *told)
@@ -78,6 +89,11 @@ static int32_t answer_call(struct call *call, const nizwarf_session *session,
 	call->pieces = pieces < 0 ? 0 : (size_t)pieces;
 	answer->error = pieces < 0 ? ENOMEM : make_call(call);
 	code = nizwarf_reply(&call->worker->slot, session, asked, answer, room, rooms, told);
+	/* (it was made, and stays so: the reply waits for memory) */
+	for (int tries = 1; code == NIZWARF_OUT_OF_MEMORY && tries < TRIES; tries++) {
+		let_pass();
+		code = nizwarf_reply(&call->worker->slot, session, asked, answer, room, rooms, told);
+	}
 	if (asked->call == NIZWARF_INIT || asked->call == NIZWARF_DESTROY)
 		atomic_store(&all->agreed, told->options);
 	if (told->give_back)
@@ -109,14 +125,13 @@ static int32_t ask(struct worker *w, const nizwarf_session *session, const nizwa
 		   size_t segments, const nizwarf_room *room, size_t rooms, nizwarf_call *asked,
 		   nizwarf_told *told)
 {
-	const struct timespec pause = { 0, 1000000 };
 	int32_t code = NIZWARF_OUT_OF_MEMORY;
 
-	for (int tries = 0; code == NIZWARF_OUT_OF_MEMORY && tries < 10000; tries++) {
+	for (int tries = 0; code == NIZWARF_OUT_OF_MEMORY && tries < TRIES; tries++) {
 		if (tries && !gives_back(request))
 			break;
 		if (tries)
-			nanosleep(&pause, NULL);
+			let_pass();
 		code = nizwarf_ask(&w->slot, session, request, segments, room, rooms, asked, told);
 	}
 	return code;

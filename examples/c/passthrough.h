@@ -43,6 +43,8 @@ struct passthrough_options {
 	bool announce_submounts;
 	/* When files are held by handles where they can be, and not by descriptors. */
 	enum file_handles file_handles;
+	/* The capabilities that root's workers have besides, and those that they lack, by bits. */
+	uint64_t more_capabilities, fewer_capabilities;
 	unsigned workers;
 };
 
@@ -55,7 +57,7 @@ struct passthrough *passthrough_new(int root, int proc, const struct passthrough
 void passthrough_end(struct passthrough *all);
 
 /* Leaves the calling thread, if it is root, the capabilities alone that a worker has. 0, or -1 with
- * errno. */
+ * errno: EPERM, if it hasn't one that it is to have besides. */
 int passthrough_limit(const struct passthrough_options *options);
 
 /* The functions of a transport, whose `user` is the passthrough. */

@@ -181,6 +181,37 @@ static int read_link(const struct call *call)
 
 /* ---- names */
 
+/* Takes back a name that a call made and can't answer, as there is no memory or no descriptor. It is
+ * left if it leads to another file by now. Of what was made the inode may not be known. */
+static void unmake(int directory, const char *name, const struct statx *made)
+{
+	struct statx seen;
+
+	if (!statx(directory, name, AT_SYMLINK_NOFOLLOW | AT_NO_AUTOMOUNT, WANTED, &seen) &&
+	    !((seen.stx_mode ^ made->stx_mode) & S_IFMT) &&
+	    (!made->stx_ino || (seen.stx_ino == made->stx_ino && seen.stx_mnt_id == made->stx_mnt_id)))
+		unlinkat(directory, name, S_ISDIR(seen.stx_mode) ? AT_REMOVEDIR : 0);
+}
+
+/* The same, of a file that there is a descriptor of. */
+static void unmake_of(int directory, const char *name, int fd)
+{
+	struct statx made;
+
+	if (!statx(fd, "", AT_EMPTY_PATH | AT_SYMLINK_NOFOLLOW, WANTED, &made))
+		unmake(directory, name, &made);
+}
+
+/* What is known of what a call made. */
+static struct statx type_of(const nizwarf_call *asked)
+{
+	const unsigned type = asked->mode & S_IFMT;
+
+	return (struct statx) { .stx_mode = (uint16_t)(asked->call == NIZWARF_MKDIR ? S_IFDIR :
+						       asked->call == NIZWARF_SYMLINK ? S_IFLNK :
+						       type ? type : S_IFREG) };
+}
+
 /* SYMLINK, MKNOD and MKDIR. */
 static int make_node(const struct call *call)
 {
@@ -198,18 +229,30 @@ static int make_node(const struct call *call)
 	else
 		error = failed(symlinkat(name_of(call, asked->other_name), directory, name));
 	become_root(call);
-	return error ? error : look_up(call, directory, name, &call->answer->entry);
+	if (error)
+		return error;
+	error = look_up_new(call, directory, name, &call->answer->entry);
+	if (error) {
+		const struct statx made = type_of(asked);
+
+		unmake(directory, name, &made);
+	}
+	return error;
 }
 
 static int link_node(const struct call *call)
 {
 	const char *name = name_of(call, call->asked->name);
+	int error;
 
 	/* (that leads to the node itself, also where it is a symbolic link) */
 	if (linkat(call->all->nodes.proc, name_fd(call->node.fd).bytes, call->other.fd, name,
 		   AT_SYMLINK_FOLLOW))
 		return errno;
-	return look_up(call, call->other.fd, name, &call->answer->entry);
+	error = look_up(call, call->other.fd, name, &call->answer->entry);
+	if (error)
+		unmake_of(call->other.fd, name, call->node.fd);
+	return error;
 }
 
 /* ---- open files */
@@ -235,14 +278,11 @@ static int flags_of(const struct call *call)
 	return made;
 }
 
-/* Answers an open file. */
-static int tell_file(const struct call *call, int fd, bool is_directory)
+/* Answers an open file, whose handle is told. */
+static void tell_open(const struct call *call, bool is_directory)
 {
 	nizwarf_answer *answer = call->answer;
 
-	answer->handle = file_add(&call->all->nodes, fd, is_directory);
-	if (!answer->handle)
-		return ENOMEM;
 	answer->has_handle = 1;
 	switch (call->all->options.cache) {
 	case CACHE_NEVER:
@@ -260,7 +300,6 @@ static int tell_file(const struct call *call, int fd, bool is_directory)
 	/* (what was only read has nothing to flush) */
 	if (!is_directory && (call->asked->flags & O_ACCMODE) == O_RDONLY)
 		answer->open_flags |= FOPEN_NOFLUSH;
-	return 0;
 }
 
 static int open_file(const struct call *call)
@@ -271,7 +310,15 @@ static int open_file(const struct call *call)
 	lose_fsetid(call);
 	fd = open_node(call, is_directory ? O_RDONLY | O_DIRECTORY : flags_of(call));
 	regain_fsetid(call);
-	return fd < 0 ? errno : tell_file(call, fd, is_directory);
+	if (fd < 0)
+		return errno;
+	call->answer->handle = file_add(&call->all->nodes, fd, is_directory);
+	if (!call->answer->handle) {
+		close(fd);
+		return ENOMEM;
+	}
+	tell_open(call, is_directory);
+	return 0;
 }
 
 /* CREATE of a name that is there. */
@@ -295,7 +342,8 @@ static int create_file(struct call *call)
 {
 	const nizwarf_call *asked = call->asked;
 	const char *name = name_of(call, asked->name);
-	nizwarf_entry *entry = &call->answer->entry;
+	nizwarf_answer *answer = call->answer;
+	nizwarf_entry *entry = &answer->entry;
 	int fd = -1, path, error = become(call);
 
 	if (!error) {
@@ -312,14 +360,19 @@ static int create_file(struct call *call)
 	/* The name may be another file's by now. */
 	path = open_again(&call->all->nodes, fd, O_PATH);
 	error = path < 0 ? errno : enter(call, call->node.fd, path, entry);
+	if (!error) {
+		answer->handle = file_add(&call->all->nodes, fd, false);
+		error = answer->handle ? 0 : ENOMEM;
+		if (error)
+			node_forget(&call->all->nodes, entry->node, 1);
+	}
 	if (error) {
+		unmake_of(call->node.fd, name, fd);
 		close(fd);
 		return error;
 	}
-	error = tell_file(call, fd, false);
-	if (error)
-		node_forget(&call->all->nodes, entry->node, 1);
-	return error;
+	tell_open(call, false);
+	return 0;
 }
 
 /* Leaves out of the pieces what was moved. */

@@ -15,9 +15,9 @@ enum { WANTED = STATX_BASIC_STATS | STATX_MNT_ID };
 /* What a worker uses again from one call to the next. */
 struct worker {
 	nizwarf_slot slot;
-	/* Whether it is root, with which capabilities. */
+	/* Whether it is root, with which capabilities, by bits. */
 	bool is_root;
-	struct __user_cap_data_struct capabilities[2];
+	uint64_t capabilities;
 	/* A text, as that of a symbolic link. */
 	char text[LONGEST_VALUE + 1];
 	nizwarf_item *items;

@@ -537,10 +537,8 @@ uint64_t file_add(struct nodes *all, int fd, bool is_directory)
 			number = file->counted.number;
 		pthread_rwlock_unlock(&all->files.lock);
 	}
-	if (!number) {
+	if (!number)
 		free(file);
-		close(fd);
-	}
 	return number;
 }
 

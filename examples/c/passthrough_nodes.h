@@ -132,7 +132,7 @@ void nodes_forget_all(struct nodes *all);
 int open_again(const struct nodes *all, int fd, int flags);
 
 /* The number of a new open file, which has the descriptor from then on; 0: there is no memory, and
- * it is closed. */
+ * the descriptor stays the caller's. */
 uint64_t file_add(struct nodes *all, int fd, bool is_directory);
 /* Takes an open file in hand, or NULL. */
 struct open_file *file_get(struct nodes *all, uint64_t number);

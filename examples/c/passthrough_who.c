@@ -7,14 +7,15 @@
 #include <unistd.h>
 #include "passthrough_call.h"
 
-static void set_capabilities(const struct worker *w, uint32_t effective)
+static int set_capabilities(uint64_t permitted, uint64_t effective)
 {
 	struct __user_cap_header_struct header = { _LINUX_CAPABILITY_VERSION_3, 0 };
-	struct __user_cap_data_struct data[2] = { w->capabilities[0], w->capabilities[1] };
+	const struct __user_cap_data_struct data[2] = {
+		{ (uint32_t)effective, (uint32_t)permitted, 0 },
+		{ (uint32_t)(effective >> 32), (uint32_t)(permitted >> 32), 0 },
+	};
 
-	data[0].effective = effective;
-	data[1].effective = 0;
-	syscall(SYS_capset, &header, data);
+	return (int)syscall(SYS_capset, &header, data);
 }
 
 /* Its kernel has looked at permissions, so the host's don't count; but it is no one who may keep a
@@ -35,7 +36,7 @@ int become(const struct call *call)
 	    syscall(SYS_setresgid, -1, asked->gid, -1) || syscall(SYS_setresuid, -1, asked->uid, -1))
 		return errno;
 	if (asked->uid)
-		set_capabilities(w, w->capabilities[0].permitted & 1u << CAP_DAC_OVERRIDE);
+		set_capabilities(w->capabilities, w->capabilities & UINT64_C(1) << CAP_DAC_OVERRIDE);
 	return 0;
 }
 
@@ -50,7 +51,7 @@ void become_root(const struct call *call)
 	syscall(SYS_setresgid, -1, 0, -1);
 	if (asked->has & NIZWARF_HAS_GROUP)
 		syscall(SYS_setgroups, 0, NULL);
-	set_capabilities(w, w->capabilities[0].permitted);
+	set_capabilities(w->capabilities, w->capabilities);
 }
 
 /* Whether the host is to take set-user-ID and set-group-ID bits away, as it does for who lacks
@@ -68,49 +69,52 @@ static bool kills(const struct call *call)
 
 void lose_fsetid(const struct call *call)
 {
+	const uint64_t all = call->worker->capabilities;
+
 	if (kills(call))
-		set_capabilities(call->worker, call->worker->capabilities[0].permitted &
-					       ~(1u << CAP_FSETID));
+		set_capabilities(all, all & ~(UINT64_C(1) << CAP_FSETID));
 }
 
 void regain_fsetid(const struct call *call)
 {
 	if (kills(call))
-		set_capabilities(call->worker, call->worker->capabilities[0].permitted);
+		set_capabilities(call->worker->capabilities, call->worker->capabilities);
 }
 
 /* What files are made, changed, owned and read with, whoever asks. */
 static const int kept[] = { CAP_CHOWN, CAP_DAC_OVERRIDE, CAP_FOWNER, CAP_FSETID, CAP_MKNOD, CAP_SETFCAP,
 			    CAP_SETGID, CAP_SETUID };
 
-/* Leaves the calling thread these, and tells which of them it had: -1 with errno. */
-static int limit(struct __user_cap_data_struct left[2], const struct passthrough_options *options)
+/* Leaves the calling thread these, as far as it had them, and tells which: -1 with errno. */
+static int limit(uint64_t *left, const struct passthrough_options *options)
 {
 	struct __user_cap_header_struct header = { _LINUX_CAPABILITY_VERSION_3, 0 };
+	struct __user_cap_data_struct had[2];
 	/* (by this one handles are opened, of any file) */
-	uint32_t mask = options->file_handles == HANDLES_NEVER ? 0 : 1u << CAP_DAC_READ_SEARCH;
+	uint64_t mask = options->file_handles == HANDLES_NEVER ? 0 : UINT64_C(1) << CAP_DAC_READ_SEARCH;
 
 	for (size_t i = 0; i < sizeof(kept) / sizeof(*kept); i++)
-		mask |= 1u << kept[i];
-	if (syscall(SYS_capget, &header, left))
+		mask |= UINT64_C(1) << kept[i];
+	mask = (mask | options->more_capabilities) & ~options->fewer_capabilities;
+	if (syscall(SYS_capget, &header, had))
 		return -1;
-	/* (all of these are of the first 32) */
-	left[0].permitted &= mask;
-	left[0].effective = left[0].permitted;
-	left[0].inheritable = 0;
-	memset(&left[1], 0, sizeof(left[1]));
-	return (int)syscall(SYS_capset, &header, left);
+	*left = mask & (had[0].permitted | (uint64_t)had[1].permitted << 32);
+	if (options->more_capabilities & mask & ~*left) {
+		errno = EPERM;
+		return -1;
+	}
+	return set_capabilities(*left, *left);
 }
 
 int passthrough_limit(const struct passthrough_options *options)
 {
-	struct __user_cap_data_struct left[2];
+	uint64_t left;
 
-	return geteuid() == 0 ? limit(left, options) : 0;
+	return geteuid() == 0 ? limit(&left, options) : 0;
 }
 
 int begin_as_root(struct worker *w, const struct passthrough_options *options)
 {
 	w->is_root = geteuid() == 0;
-	return w->is_root && (limit(w->capabilities, options) || syscall(SYS_setgroups, 0, NULL)) ? -1 : 0;
+	return w->is_root && (limit(&w->capabilities, options) || syscall(SYS_setgroups, 0, NULL)) ? -1 : 0;
 }

@@ -15,6 +15,7 @@
 #include <stdio.h>
 #include <stdlib.h>
 #include <string.h>
+#include <strings.h>
 #include <sys/mount.h>
 #include <sys/prctl.h>
 #include <sys/resource.h>
@@ -54,6 +55,8 @@ static const char usage[] =
 	"  --inode-file-handles=HOW  when files are held by handles, and not by descriptors: never,\n"
 	"                            prefer: where they can be, mandatory: what has none is an error,\n"
 	"                            auto (the default): only if descriptors are scarce\n"
+	"  --modcaps=LIST            capabilities that root's server has besides, or lacks, as\n"
+	"                            +sys_admin:-mknod; by +sys_admin attributes of trusted.* are served\n"
 	"  --thread-pool-size=N      how many requests are served at once, 1 to 64 (4)\n"
 	"  --rlimit-nofile=N         the most open files; 0: as it is (1000000, or what may be)\n"
 	"  --sandbox=HOW             namespace (the default), chroot or none: what else than the\n"
@@ -193,7 +196,7 @@ static void take_options(char *rest)
 
 enum word {
 	SHARED_DIR = 256, SOCKET_PATH, FD, SOCKET_GROUP, CACHE, WRITEBACK, XATTR, READONLY,
-	NO_READDIRPLUS, ANNOUNCE, NO_ANNOUNCE, FILE_HANDLES, POOL, NOFILE, SANDBOX, SECCOMP, LOG,
+	NO_READDIRPLUS, ANNOUNCE, NO_ANNOUNCE, FILE_HANDLES, MODCAPS, POOL, NOFILE, SANDBOX, SECCOMP, LOG,
 	TRACE, DAEMONIZE, PRINT, VERSION, HELP
 };
 
@@ -210,6 +213,7 @@ static const struct option known_words[] = {
 	{ "announce-submounts", no_argument, NULL, ANNOUNCE },
 	{ "no-announce-submounts", no_argument, NULL, NO_ANNOUNCE },
 	{ "inode-file-handles", required_argument, NULL, FILE_HANDLES },
+	{ "modcaps", required_argument, NULL, MODCAPS },
 	{ "thread-pool-size", required_argument, NULL, POOL },
 	{ "rlimit-nofile", required_argument, NULL, NOFILE },
 	{ "sandbox", required_argument, NULL, SANDBOX },
@@ -246,6 +250,44 @@ static void take_log_level(const char *value)
 	words.traces = level >= 4;
 }
 
+/* The number of a capability. */
+static int capability_of(const char *name)
+{
+	/* Those of linux/capability.h, from 0 on. */
+	static const char *const known[] = {
+		"chown", "dac_override", "dac_read_search", "fowner", "fsetid", "kill", "setgid", "setuid",
+		"setpcap", "linux_immutable", "net_bind_service", "net_broadcast", "net_admin", "net_raw",
+		"ipc_lock", "ipc_owner", "sys_module", "sys_rawio", "sys_chroot", "sys_ptrace", "sys_pacct",
+		"sys_admin", "sys_boot", "sys_nice", "sys_resource", "sys_time", "sys_tty_config", "mknod",
+		"lease", "audit_write", "audit_control", "setfcap", "mac_override", "mac_admin", "syslog",
+		"wake_alarm", "block_suspend", "audit_read", "perfmon", "bpf", "checkpoint_restore",
+	};
+
+	for (int i = 0; i < (int)(sizeof(known) / sizeof(*known)); i++)
+		if (!strcasecmp(name, known[i]))
+			return i;
+	refuse("--modcaps: there is no capability ", name);
+}
+
+/* Names with + or - before each, and colons between them. */
+static void take_capabilities(char *rest)
+{
+	char *one;
+
+	while ((one = strsep(&rest, ":"))) {
+		uint64_t bit;
+
+		if (!*one)
+			continue;
+		if (*one != '+' && *one != '-')
+			refuse("--modcaps: + or - is wanted before ", one);
+		bit = UINT64_C(1) << capability_of(one + 1);
+		words.files.more_capabilities &= ~bit;
+		words.files.fewer_capabilities &= ~bit;
+		*(*one == '+' ? &words.files.more_capabilities : &words.files.fewer_capabilities) |= bit;
+	}
+}
+
 static void take_word(int word)
 {
 	static const char *const caches[] = { "never", "auto", "always", "metadata", NULL };
@@ -272,6 +314,7 @@ static void take_word(int word)
 		words.files.file_handles =
 			(enum file_handles)one_of("--inode-file-handles", optarg, handles);
 		break;
+	case MODCAPS: take_capabilities(optarg); break;
 	case POOL:
 		words.files.workers = (unsigned)number("--thread-pool-size", optarg, 0,
 						       TRANSPORT_MOST_WORKERS);
@@ -315,6 +358,8 @@ static void hold_together(void)
 		refuse("only root may mount: run it as root", "");
 	if (words.sandbox == SANDBOX_CHROOT && geteuid() != 0)
 		refuse("root alone has --sandbox=chroot", "");
+	if ((words.files.more_capabilities || words.files.fewer_capabilities) && geteuid() != 0)
+		refuse("root alone has --modcaps", "");
 	if (words.filter > FILTER_NONE && !has_filter)
 		refuse("--seccomp: it was built without libseccomp", "");
 }

@@ -501,13 +501,15 @@ class Steps:
     def __init__(self, one):
         self.one, self.came = one, []
 
-    def ask(self, text, *others):
-        """The body of the reply. Errors besides may come, since a name may be made before memory is wanted."""
+    def ask(self, text, *others, makes=None):
+        """The body of the reply. Errors besides may come. What makes a name, in a node, leaves none if it is refused."""
         for _ in range(3):
             error, body = self.one.ask(text)
             if error not in (errno.ENOMEM, None):
                 break
             count("requests refused for want of memory")
+            if makes and self.one.ask(line("16+128", request(1, makes[1], node=makes[0])))[0] != errno.ENOENT:
+                wrong(f"{makes[1]} was made, and refused")
         self.came.append(0 if error in others else error)
         return body
 
@@ -515,7 +517,8 @@ class Steps:
         self.came.append(0 if fact else -1)
 
     def write_and_read(self):
-        made = self.ask(line("16+144", request(35, struct.pack("<IIII", 0o102, 0o644, 0, 0) + b"file\0")))
+        made = self.ask(line("16+144", request(35, struct.pack("<IIII", 0o102, 0o644, 0, 0) + b"file\0")),
+                        makes=(1, b"file\0"))
         node, handle = number(made), number(made, 128)
         data = b"x" * 70000
         self.ask(line("16+8", transfer(16, 70000, data, 0, node, handle), range(40, 70120, 4096)))
@@ -527,11 +530,12 @@ class Steps:
         return node
 
     def name_and_list(self, node):
-        self.ask(line("16+128", request(9, struct.pack("<II", 0o755, 0) + b"folder\0")), errno.EEXIST)
+        self.ask(line("16+128", request(9, struct.pack("<II", 0o755, 0) + b"folder\0")), makes=(1, b"folder\0"))
         folder = number(self.ask(line("16+128", request(1, b"folder\0"))))
         for i in range(3):
-            self.ask(line("16+128", request(6, b"link%d\0text\0" % i, node=folder)), errno.EEXIST)
-        self.ask(line("16+128", request(13, struct.pack("<Q", node) + b"second\0", node=folder)), errno.EEXIST)
+            self.ask(line("16+128", request(6, b"link%d\0text\0" % i, node=folder)), makes=(folder, b"link%d\0" % i))
+        self.ask(line("16+128", request(13, struct.pack("<Q", node) + b"second\0", node=folder)),
+                 makes=(folder, b"second\0"))
         handle = number(self.ask(line("16+16", request(27, bytes(8), node=folder))))
         listed = self.ask(line("16+65536", transfer(44, 65536, b"", 0, folder, handle)))
         self.hold(all(name in listed for name in (b"link0", b"link1", b"link2", b"second")))

@@ -40,7 +40,7 @@ get_others() {
     use_suite "$suite" "$folder"
     sed 's/^Types: deb$/Types: deb-src/' "$folder/sources/debian.sources" > "$folder/sources/source.sources"
     apt-get "${apt[@]}" update
-    unpack_packages "$folder" libfuse3-3 libfuse3-dev bindfs
+    unpack_packages "$folder" libfuse2 libfuse3-3 libfuse3-dev bindfs
     (cd "$folder" && apt-get "${apt[@]}" --download-only source fuse3 && tar -xf fuse3_*.orig.tar.?z)
     cc -O2 -w -D_FILE_OFFSET_BITS=64 -pthread -I "$folder/usr/include/fuse3" -o "$folder/passthrough_ll" \
         "$folder"/fuse-*/example/passthrough_ll.c "$folder"/lib/*/libfuse3.so.3
