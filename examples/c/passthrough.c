@@ -2,9 +2,12 @@
 #define _GNU_SOURCE
 #include <errno.h>
 #include <linux/fuse.h>
+#include <linux/magic.h>
 #include <stdio.h>
 #include <stdlib.h>
 #include <string.h>
+#include <sys/stat.h>
+#include <sys/vfs.h>
 #include <time.h>
 #include <unistd.h>
 #include "passthrough_call.h"
@@ -193,6 +196,20 @@ void passthrough_parted(void *user)
 	atomic_store(&all->agreed, 0);
 }
 
+/* Whether the file system of the folder is one of those to which it means nothing that a descriptor of a
+ * file is closed: its client needs no FLUSH. */
+static void look_at_folder(struct passthrough *all, int root)
+{
+	struct statfs told;
+	struct stat seen;
+
+	if (fstatfs(root, &told) || fstat(root, &seen))
+		return;
+	all->is_quiet = told.f_type == EXT4_SUPER_MAGIC || told.f_type == XFS_SUPER_MAGIC ||
+			told.f_type == BTRFS_SUPER_MAGIC || told.f_type == TMPFS_MAGIC;
+	all->quiet = seen.st_dev;
+}
+
 struct passthrough *passthrough_new(int root, int proc, const struct passthrough_options *options)
 {
 	struct passthrough *all = calloc(1, sizeof(*all));
@@ -215,6 +232,7 @@ struct passthrough *passthrough_new(int root, int proc, const struct passthrough
 			return NULL;
 		}
 	}
+	look_at_folder(all, root);
 	if (nodes_begin(&all->nodes, root, proc, options->file_handles)) {
 		passthrough_end(all);
 		return NULL;

@@ -278,8 +278,8 @@ static int flags_of(const struct call *call)
 	return made;
 }
 
-/* Answers an open file, whose handle is told. */
-static void tell_open(const struct call *call, bool is_directory)
+/* Answers an open file of this device, whose handle is told. */
+static void tell_open(const struct call *call, bool is_directory, uint64_t device)
 {
 	nizwarf_answer *answer = call->answer;
 
@@ -297,8 +297,9 @@ static void tell_open(const struct call *call, bool is_directory)
 	case CACHE_AUTO:
 		break;
 	}
-	/* (what was only read has nothing to flush) */
-	if (!is_directory && (call->asked->flags & O_ACCMODE) == O_RDONLY)
+	/* (what was only read has nothing to flush, and a client that writes later flushes all the same) */
+	if (!is_directory && ((call->asked->flags & O_ACCMODE) == O_RDONLY ||
+			      (call->all->is_quiet && device == call->all->quiet)))
 		answer->open_flags |= FOPEN_NOFLUSH;
 }
 
@@ -317,7 +318,7 @@ static int open_file(const struct call *call)
 		close(fd);
 		return ENOMEM;
 	}
-	tell_open(call, is_directory);
+	tell_open(call, is_directory, call->node.node->device);
 	return 0;
 }
 
@@ -371,7 +372,8 @@ static int create_file(struct call *call)
 		close(fd);
 		return error;
 	}
-	tell_open(call, false);
+	/* (it is on that of its directory) */
+	tell_open(call, false, call->node.node->device);
 	return 0;
 }
 

@@ -18,6 +18,8 @@ struct worker {
 	/* Whether it is root, with which capabilities, by bits. */
 	bool is_root;
 	uint64_t capabilities;
+	/* The last name that was looked up is of a file that wasn't known. */
+	bool expects_new;
 	/* A text, as that of a symbolic link. */
 	char text[LONGEST_VALUE + 1];
 	nizwarf_item *items;
@@ -35,6 +37,9 @@ struct passthrough {
 	atomic_ullong agreed;
 	/* For how many milliseconds it may remember names and attributes. */
 	uint64_t entry_time, attr_time;
+	/* The device of the folder, if its kind of file system does nothing when a file is closed. */
+	bool is_quiet;
+	uint64_t quiet;
 	struct worker *worker[TRANSPORT_MOST_WORKERS];
 };
 

@@ -58,41 +58,67 @@ static void tell_entry(const struct call *call, uint64_t number, const struct st
 		entry->attr.flags = FUSE_ATTR_SUBMOUNT;
 }
 
-int enter(const struct call *call, int directory, int fd, nizwarf_entry *entry)
+/* enter(), which says too whether the file wasn't known. */
+static int enter_and_tell(const struct call *call, int directory, int fd, nizwarf_entry *entry,
+			  bool *is_new)
 {
 	struct statx seen;
 	uint64_t number;
 	int error;
+
+	*is_new = false;
 
 	if (statx(fd, "", AT_EMPTY_PATH | AT_SYMLINK_NOFOLLOW, WANTED, &seen)) {
 		error = errno;
 		close(fd);
 		return error;
 	}
-	error = node_enter(&call->all->nodes, directory, fd, &seen, &number);
+	error = node_enter(&call->all->nodes, directory, fd, &seen, &number, is_new);
 	if (!error)
 		tell_entry(call, number, &seen, entry);
 	return error;
 }
 
-int look_up_new(const struct call *call, int directory, const char *name, nizwarf_entry *entry)
+int enter(const struct call *call, int directory, int fd, nizwarf_entry *entry)
+{
+	bool is_new;
+
+	return enter_and_tell(call, directory, fd, entry, &is_new);
+}
+
+/* Opens the file of a name, and enters it. */
+static int open_and_enter(const struct call *call, int directory, const char *name,
+			  nizwarf_entry *entry, bool *is_new)
 {
 	const int fd = openat(directory, name, O_PATH | O_NOFOLLOW | O_CLOEXEC);
 
-	return fd < 0 ? errno : enter(call, directory, fd, entry);
+	*is_new = false;
+	return fd < 0 ? errno : enter_and_tell(call, directory, fd, entry, is_new);
+}
+
+int look_up_new(const struct call *call, int directory, const char *name, nizwarf_entry *entry)
+{
+	bool is_new;
+
+	return open_and_enter(call, directory, name, entry, &is_new);
 }
 
 int look_up(const struct call *call, int directory, const char *name, nizwarf_entry *entry)
 {
+	bool *expects_new = &call->worker->expects_new;
 	struct statx seen;
 	uint64_t number;
 
-	/* What is known is not opened again. */
-	if (statx(directory, name, AT_SYMLINK_NOFOLLOW | AT_NO_AUTOMOUNT, WANTED, &seen))
-		return errno;
-	number = node_find(&call->all->nodes, &seen);
-	if (!number)
-		return look_up_new(call, directory, name, entry);
-	tell_entry(call, number, &seen, entry);
-	return 0;
+	/* What is known is not opened again, and of what is missing this costs less. But a name mostly comes
+	 * to what the last one came to: so a new file is opened at once. */
+	if (!*expects_new) {
+		if (statx(directory, name, AT_SYMLINK_NOFOLLOW | AT_NO_AUTOMOUNT, WANTED, &seen))
+			return errno;
+		number = node_find(&call->all->nodes, &seen);
+		if (number) {
+			tell_entry(call, number, &seen, entry);
+			return 0;
+		}
+	}
+	return open_and_enter(call, directory, name, entry, expects_new);
 }

@@ -16,9 +16,12 @@ enum { ENTRIES = 32768 };
 /* Reads on from an offset, if that isn't where the last reading ended. */
 static int move_to(struct open_file *file, uint64_t offset)
 {
-	if (!file->buffer && !(file->buffer = malloc(ENTRIES)))
+	const bool is_first = !file->buffer;
+
+	if (is_first && !(file->buffer = malloc(ENTRIES)))
 		return ENOMEM;
-	if (offset && offset == file->offset)
+	/* (at 0 a directory is read anew, but for the first time) */
+	if (offset == file->offset && (offset || is_first))
 		return 0;
 	if (offset > INT64_MAX)
 		return EINVAL;

@@ -380,13 +380,15 @@ static uint64_t add_lookup(struct nodes *all, const struct statx *seen,
 	return number;
 }
 
-int node_enter(struct nodes *all, int directory, int fd, const struct statx *seen, uint64_t *number)
+int node_enter(struct nodes *all, int directory, int fd, const struct statx *seen, uint64_t *number,
+	       bool *is_new)
 {
 	const bool by_handle = fd >= all->handles_from || some_handle(all, seen);
 	struct node *made = calloc(1, sizeof(*made));
 	struct file_handle *handle = NULL;
 	int error = made ? 0 : ENOMEM;
 
+	*is_new = false;
 	if (!error && by_handle)
 		error = handle_by(fd, &handle);
 	*number = !error && handle ? add_lookup(all, seen, handle, NULL) : 0;
@@ -407,6 +409,7 @@ int node_enter(struct nodes *all, int directory, int fd, const struct statx *see
 		*number = add_lookup(all, seen, made->handle, &made);
 		error = *number ? 0 : ENOMEM;
 	}
+	*is_new = !made;
 	free_node(made);
 	return error;
 }
@@ -482,6 +485,7 @@ int nodes_begin(struct nodes *all, int root, int proc, enum file_handles handles
 	struct rlimit limit = { 0, 0 };
 	struct statx seen;
 	uint64_t number;
+	bool is_new;
 
 	memset(all, 0, sizeof(*all));
 	table_begin(&all->nodes);
@@ -494,7 +498,7 @@ int nodes_begin(struct nodes *all, int root, int proc, enum file_handles handles
 		return -1;
 	/* The root stays open, whatever the others are. */
 	all->handles_from = INT_MAX;
-	if (node_enter(all, -1, root, &seen, &number))
+	if (node_enter(all, -1, root, &seen, &number, &is_new))
 		return -1;
 	all->handles_alone = handles == HANDLES_ALONE;
 	if (handles == HANDLES_PREFERRED || handles == HANDLES_ALONE)

@@ -119,8 +119,10 @@ bool node_may_be_known(struct nodes *all, const struct node *directory, uint64_t
 uint64_t node_find(struct nodes *all, const struct statx *seen);
 
 /* Gives the number of a file, with a lookup more, which was opened with O_PATH: `fd` is the node's
- * from then on, or closed. `directory` is one that it was found in. 0, or an error. */
-int node_enter(struct nodes *all, int directory, int fd, const struct statx *seen, uint64_t *number);
+ * from then on, or closed. `directory` is one that it was found in. `*is_new`: it wasn't known. 0, or
+ * an error. */
+int node_enter(struct nodes *all, int directory, int fd, const struct statx *seen, uint64_t *number,
+	       bool *is_new);
 
 /* Gives lookups back. With the last one the node goes. */
 void node_forget(struct nodes *all, uint64_t number, uint64_t count);

@@ -248,14 +248,24 @@ def keep(keeper, until, size):
                 keeper.remove(name)
 
 
+def hold_failure(said):
+    """A stressor says what failed: that may be a full disk, or a want of descriptors, which all clients share: `chdir`
+    holds 8,192 folders open."""
+    if any(f"errno={it} " in said for it in (errno.ENOSPC, errno.EMFILE, errno.ENFILE)):
+        count("stressors that met a full disk or a want of descriptors")
+    else:
+        wrong("stress-ng: " + said.strip())
+
+
 def stress(place, chance, seconds):
     """Programs that stress a mount, of which some are killed."""
     names = chance.sample(STRESSORS, 6)
     words = [word for name in names for word in (f"--{name}", "1")]
     os.makedirs(place + "/stress", exist_ok=True)
-    running = subprocess.Popen(["stress-ng", "--temp-path", place + "/stress", "--timeout", str(seconds), "--quiet",
+    log = tempfile.TemporaryFile("w+", dir=work)
+    running = subprocess.Popen(["stress-ng", "--temp-path", place + "/stress", "--timeout", str(seconds), "--verify",
                                 "--hdd-bytes", "8m", "--iomix-bytes", "8m", "--fallocate-bytes", "8m", *words],
-                               stdout=subprocess.DEVNULL, stderr=subprocess.DEVNULL, start_new_session=True)
+                               stdout=log, stderr=log, start_new_session=True)
     began = time.monotonic()
     until = began + seconds
     while running.poll() is None and time.monotonic() < until + 60:
@@ -276,9 +286,13 @@ def stress(place, chance, seconds):
     except ProcessLookupError:
         pass
     running.wait()
-    # (1: its words can't be; 2: a stressor failed, as it does where the disk is full or it was killed)
+    # (1: its words can't be; 2: a stressor failed, as it does if it is killed)
     if running.returncode == 1 and time.monotonic() < began + seconds / 2:
         wrong(f"stress-ng ended at once: {names}")
+    log.seek(0)
+    for said in log:
+        if "fail:" in said:
+            hold_failure(said)
     count("runs of stress-ng, of six of its stressors")
 
 
