@@ -479,11 +479,28 @@ static inline int nizwarf_make_call(const nizwarf_ops *ops, const nizwarf_req *r
 	}
 }
 
+/* Releases what was opened, where the client does not get its handle: by `release` or `releasedir`,
+ * with the flags that it was opened with. */
+static inline void nizwarf_release_unfit(const nizwarf_ops *ops, const nizwarf_req *req,
+					 const nizwarf_answer *answer)
+{
+	const nizwarf_call *c = req->call;
+	nizwarf_file_info fi = nizwarf_file_of(c);
+
+	if (answer->error || !answer->has_handle)
+		return;
+	fi.fh = answer->handle;
+	if (c->call == NIZWARF_OPENDIR && ops->releasedir)
+		ops->releasedir(req, c->node, &fi);
+	else if (c->call != NIZWARF_OPENDIR && ops->release)
+		ops->release(req, c->call == NIZWARF_CREATE ? answer->entry.node : c->node, &fi);
+}
+
 /* Serves one request, of `len` bytes in one piece, with one room. The answer is as that of
  * nizwarf_message: NIZWARF_OK, and the first `*reply_len` bytes of the room are the reply; any
  * other code, and there is none. `session->options` change with INIT and DESTROY. What the client
- * does not get is given back by `forget`. `items` are room for the items of a directory: of those
- * that don't fit there the client asks again. */
+ * does not get is given back by `forget`, and what was opened for it is released first. `items` are
+ * room for the items of a directory: of those that don't fit there the client asks again. */
 static inline int32_t nizwarf_serve_ops(const nizwarf_ops *ops, void *user, nizwarf_slot *slot,
 					nizwarf_session *session, const void *request, size_t len,
 					void *room, size_t room_len, nizwarf_item *items,
@@ -519,6 +536,8 @@ static inline int32_t nizwarf_serve_ops(const nizwarf_ops *ops, void *user, nizw
 	*reply_len = (size_t)told.len;
 	if (call.call == NIZWARF_INIT || call.call == NIZWARF_DESTROY)
 		session->options = told.options;
+	if (code != NIZWARF_OK)
+		nizwarf_release_unfit(ops, &req, &answer);
 	nizwarf_give_back(&dir, told.give_back);
 	for (i = (size_t)told.taken; i < dir.len; i++)
 		nizwarf_give_back(&dir, items[i].entry.node);

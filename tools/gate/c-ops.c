@@ -3,6 +3,7 @@
  * back; an empty table answers as the header says.
  *
  * tools/gate/c-example.sh links it with the library. Status 0: all is as it should be. */
+#include <fcntl.h>
 #include <stdarg.h>
 #include "nizwarf_ops.h"
 #include "c-door.h"
@@ -458,6 +459,47 @@ static void entries_that_do_not_fit(void)
 	space = 8192;
 }
 
+/* A request for which there is no room: what was called is these words. */
+static void expect_unfit(const char *words, size_t least)
+{
+	size_t len;
+
+	for (space = 0; space < least; space++) {
+		said[0] = 0;
+		CHECK(nizwarf_serve_ops(table, said, &slot, &session, request, request_len, ours,
+					space, NULL, 0, &len) == NIZWARF_ENCODE_MESSAGE);
+		if (strcmp(said, words))
+			fprintf(stderr, "%s\n", said);
+		CHECK(!len && !strcmp(said, words));
+	}
+	space = 8192;
+}
+
+/* What was opened is released if its reply doesn't fit, and is not where there is a fault. */
+static void handles_that_do_not_fit(void)
+{
+	const struct fuse_open_in opened = { .flags = O_RDWR };
+	const struct fuse_create_in created = { .flags = O_RDWR, .mode = 0644 };
+
+	begin_with(NIZWARF_OPEN, 2, &opened, sizeof(opened));
+	expect_unfit("open 2 2release 2 11 2", 32);
+	failure = ENOENT;
+	space = 16;
+	expect("open 2 2", 16);
+	expect_unfit("open 2 2", 16);
+	failure = 0;
+	begin_with(NIZWARF_OPENDIR, 2, &opened, sizeof(opened));
+	expect_unfit("opendir 2releasedir 2 12", 32);
+	begin_with(NIZWARF_CREATE, 2, &created, sizeof(created));
+	add_name("a");
+	expect_unfit("create 2 a 644 2release 5 14 2 forget 5 1", 160);
+	expect("create 2 a 644 2", 160);
+	table = &no_ops;
+	begin_with(NIZWARF_OPEN, 2, &opened, sizeof(opened));
+	expect_unfit("", 32);
+	table = &ops;
+}
+
 /* INIT and DESTROY, by which options are agreed on and left. READDIRPLUS is wanted where it is
  * there. */
 static void sessions(const char *begins, const char *ends, uint32_t wanted)
@@ -522,6 +564,7 @@ int main(void)
 	data();
 	directories();
 	entries_that_do_not_fit();
+	handles_that_do_not_fit();
 	sessions("init 1 6000", "destroy 1",
 		 FUSE_DO_READDIRPLUS | FUSE_READDIRPLUS_AUTO | FUSE_WRITEBACK_CACHE);
 	empty_table();

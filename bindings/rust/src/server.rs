@@ -31,7 +31,8 @@ pub struct Served {
 }
 
 /// Serves one client from a file system. Each request becomes a call of the file system. If the client does
-/// not get an entry, its lookup is given back by [`FileSystem::forget`].
+/// not get an entry, its lookup is given back by [`FileSystem::forget`]. If it does not get a handle, that is
+/// released before, by [`FileSystem::release`] or [`FileSystem::releasedir`].
 ///
 /// Any number of threads can share a server, each with its own [`Slot`], if the file system is [`Sync`].
 ///
@@ -280,27 +281,35 @@ impl<F: FileSystem> Server<F> {
                 slot,
                 self.ask(|files| files.link(ctx, node.into(), new_parent.into(), &new_name)),
             ),
-            Call::Open { node, kill_priv, flags, to } => to.answer(
-                slot,
-                self.ask(|files| files.open(ctx, node.into(), kill_priv, flags).map(opened)),
-            ),
-            Call::Create { parent, name, mode, kill_priv, flags, umask, extensions, to } => to
-                .answer(
-                    slot,
-                    self.ask(|files| {
-                        let (entry, handle, options) = files.create(
-                            ctx,
-                            parent.into(),
-                            &name,
-                            mode,
-                            kill_priv,
-                            flags,
-                            umask,
-                            extensions,
-                        )?;
-                        Ok((entry, handle.map(Into::into), options))
-                    }),
-                ),
+            Call::Open { node, kill_priv, flags, to } => {
+                let result =
+                    self.ask(|files| files.open(ctx, node.into(), kill_priv, flags).map(opened));
+                let handle = result.as_ref().ok().and_then(|(handle, _)| *handle);
+                let told = to.answer(slot, result);
+                self.release_unfit(&told, ctx, node, handle, flags);
+                told
+            }
+            Call::Create { parent, name, mode, kill_priv, flags, umask, extensions, to } => {
+                let result = self.ask(|files| {
+                    let (entry, handle, options) = files.create(
+                        ctx,
+                        parent.into(),
+                        &name,
+                        mode,
+                        kill_priv,
+                        flags,
+                        umask,
+                        extensions,
+                    )?;
+                    Ok((entry, handle.map(Into::into), options))
+                });
+                let made = result.as_ref().ok().map(|(entry, handle, _)| (entry.inode, *handle));
+                let told = to.answer(slot, result);
+                if let Some((node, handle)) = made {
+                    self.release_unfit(&told, ctx, node, handle, flags);
+                }
+                told
+            }
             Call::Read { node, handle, size, offset, lock_owner, flags, to } => {
                 let mut writer = Writer::new(room, HEADER, to.most());
                 let read = self.ask(|files| {
@@ -378,8 +387,17 @@ impl<F: FileSystem> Server<F> {
             Call::Init { capable, to, .. } => {
                 to.answer(slot, self.ask(|files| files.init(capable)))
             }
-            Call::Opendir { node, flags, to } => to
-                .answer(slot, self.ask(|files| files.opendir(ctx, node.into(), flags).map(opened))),
+            Call::Opendir { node, flags, to } => {
+                let result = self.ask(|files| files.opendir(ctx, node.into(), flags).map(opened));
+                let handle = result.as_ref().ok().and_then(|(handle, _)| *handle);
+                let told = to.answer(slot, result);
+                if let (Err(_), Some(handle)) = (told.outcome, handle) {
+                    // Nobody can be told of an error.
+                    let _ =
+                        self.ask(|files| files.releasedir(ctx, node.into(), flags, handle.into()));
+                }
+                told
+            }
             Call::Readdir { node, handle, size, offset, plus, to } => {
                 let place = Place { ctx, node, handle, size, offset, plus };
                 self.read_directory(slot, &place, to)
@@ -447,6 +465,23 @@ impl<F: FileSystem> Server<F> {
             Call::NotifyReply { to } => self.untold(slot, to, F::notify_reply),
             Call::Tmpfile { to } => self.make_tmpfile(slot, ctx, to),
             Call::Unknown { to, .. } => to.fail(slot, &io::Error::from_raw_os_error(38)),
+        }
+    }
+
+    /// Releases the handle of a file whose reply does not fit: the client does not know it.
+    fn release_unfit(
+        &self,
+        told: &Told<'_>,
+        ctx: Context,
+        node: u64,
+        handle: Option<u64>,
+        flags: u32,
+    ) {
+        if let (Err(_), Some(handle)) = (told.outcome, handle) {
+            // Nobody can be told of an error.
+            let _ = self.ask(|files| {
+                files.release(ctx, node.into(), flags, handle.into(), false, false, None)
+            });
         }
     }
 

@@ -644,6 +644,43 @@ fn what_the_client_does_not_get_is_given_back() {
     assert_eq!(server.file_system().take(), ["tmpfile", "forget 50 1"]);
 }
 
+#[test]
+fn a_handle_that_the_client_does_not_get_is_released() {
+    let server = Server::new(Diary::default());
+    let entry_and_open = 128 + 16;
+    for (request, len, lines) in [
+        (
+            Request::new(14, 5).u32(2).u32(0),
+            16,
+            vec!["open 5 false 2", "release 5 2 70 false false None"],
+        ),
+        (Request::new(27, 5).u32(2).u32(0), 16, vec!["opendir 5 2", "releasedir 5 2 72"]),
+        (
+            Request::new(35, 5).bytes(&words(&[2, 0o600, 0o22, 0])).name("f"),
+            entry_and_open,
+            vec!["create 77 5 f 600 false 2 22", "release 50 2 71 false false None", "forget 50 1"],
+        ),
+    ] {
+        let request = request.done();
+        for room in [0, 15, 16, 16 + len - 1] {
+            let (done, _) = serve_in(&server, &request, room, 20);
+            assert_eq!((done.outcome, done.len), (Err(Refusal::EncodeMessage), 0));
+            assert_eq!(server.file_system().take(), lines);
+        }
+        let (done, _) = serve_in(&server, &request, 16 + len, 20);
+        assert_eq!((done.outcome, done.len), (Ok(()), 16 + len));
+        assert_eq!(server.file_system().take(), lines[..1]);
+    }
+}
+
+#[test]
+fn what_is_not_opened_is_not_released() {
+    let server = Server::new(Nothing);
+    let open = Request::new(14, 5).u32(2).u32(0).done();
+    let (done, _) = serve_in(&server, &open, 20, 20);
+    assert_eq!((done.outcome, done.len), (Err(Refusal::EncodeMessage), 0));
+}
+
 /// `fuse_dirent` of 24 bytes, and the name up to a multiple of 8.
 fn record(ino: u32, offset: u32, name: &str) -> Vec<u8> {
     let len = u32::try_from(name.len()).unwrap();
