@@ -7,9 +7,9 @@
  *
  * The kernel wakes those that read in turn, so one client would be served by one cold worker after
  * another. So a worker that finds another one reading, and no request that waits, rests. While
- * requests come the calling thread looks each millisecond whether no one reads. It calls one that
- * rests if none was taken since it looked last, as one takes long, or if some wait time after time;
- * and that one calls the next if there was a request for it at once. */
+ * requests come the calling thread looks each millisecond whether some wait and no one reads. It
+ * calls one that rests if none was taken since it looked last, as one takes long, or if some wait
+ * time after time; and that one calls the next if there was a request for it at once. */
 #define _GNU_SOURCE
 #include <errno.h>
 #include <fcntl.h>
@@ -323,7 +323,7 @@ static void look(struct device *d, struct seen *seen, unsigned long taken)
 		return;
 	}
 	seen->waited = is_waited_for(&d->worker[0]) ? seen->waited + 1 : 0;
-	if (taken != seen->taken && seen->waited < WAITED_TICKS)
+	if (!seen->waited || (taken != seen->taken && seen->waited < WAITED_TICKS))
 		return;
 	seen->waited = 0;
 	call_one(d);

@@ -603,6 +603,8 @@ static int make_of_node(struct call *call)
 
 	switch (asked->call) {
 	case NIZWARF_LOOKUP:
+		if (atomic_load_explicit(&call->node.node->lists_names, memory_order_relaxed))
+			atomic_store(&call->node.node->lists_names, false);
 		return look_up(call, node, name, &call->answer->entry);
 	case NIZWARF_GETATTR:
 		return get_attr(call);

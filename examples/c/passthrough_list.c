@@ -73,8 +73,20 @@ static void find_entry(const struct call *call, const struct dirent64 *found, ni
 		memset(entry, 0, sizeof(*entry));
 }
 
+/* Whether entries are told. A kernel asks for them at the beginning of each listing, and goes on to ask if
+ * they are used. Where it didn't, a directory is listed by names alone until one of them is looked up. */
+static bool tells_entries(const struct call *call)
+{
+	const bool plus = call->asked->has & NIZWARF_PLUS;
+
+	if (!plus && call->asked->offset)
+		atomic_store(&call->node.node->lists_names, true);
+	return plus && (call->asked->offset || !atomic_load(&call->node.node->lists_names));
+}
+
 /* Puts an item of a directory into the worker's. False: it doesn't fit, or there is no memory. */
-static bool put_item(const struct call *call, const struct dirent64 *found, struct space *space)
+static bool put_item(const struct call *call, const struct dirent64 *found, bool entries,
+		     struct space *space)
 {
 	const bool plus = call->asked->has & NIZWARF_PLUS;
 	const size_t len = strlen(found->d_name) + 1, size = nizwarf_record_size(len, plus);
@@ -92,7 +104,7 @@ static bool put_item(const struct call *call, const struct dirent64 *found, stru
 	item->type = found->d_type;
 	item->name = memcpy(w->names + space->names, found->d_name, len);
 	item->name_size = len;
-	if (plus && is_plain(found->d_name))
+	if (entries && is_plain(found->d_name))
 		find_entry(call, found, &item->entry);
 	/* What is above the folder is not told. */
 	if (call->node.node->counted.number == ROOT_NODE && !strcmp(found->d_name, ".."))
@@ -111,11 +123,15 @@ static int list(const struct call *call)
 	struct space space = { .room = call->asked->size };
 	const struct dirent64 *next = NULL;
 	int error = move_to(file, call->asked->offset);
+	bool entries;
 
 	/* Names are copied, since the buffer changes; of each the record is longer than the name. */
 	if (!error && !grow(&w->names, &w->names_size, space.room))
 		error = ENOMEM;
-	while (!error && (next = next_item(file)) && put_item(call, next, &space)) {
+	/* (an end that is read tells nothing of what is used) */
+	next = error ? NULL : next_item(file);
+	entries = next && tells_entries(call);
+	for (; next && put_item(call, next, entries, &space); next = next_item(file)) {
 		file->offset = (uint64_t)next->d_off;
 		file->at += next->d_reclen;
 	}

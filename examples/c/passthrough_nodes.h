@@ -65,6 +65,8 @@ struct node {
 	uint64_t device, inode, mount;
 	/* S_IFREG .., which a file keeps. */
 	mode_t type;
+	/* A directory whose names are read, and nothing else of its files. */
+	atomic_bool lists_names;
 	struct file_handle *handle;
 	struct host_mount *handle_of;
 	/* The next one in its chain. */
