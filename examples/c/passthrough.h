@@ -29,8 +29,8 @@ enum passthrough_cache {
 
 struct passthrough_options {
 	enum passthrough_cache cache;
-	/* For how many milliseconds names and attributes are remembered. */
-	uint64_t entry_time, attr_time;
+	/* For how many milliseconds names and attributes are remembered, and that there is no such name. */
+	uint64_t entry_time, attr_time, negative_time;
 	/* The client may write later what it was given to write. */
 	bool writeback;
 	/* Extended attributes are served. */

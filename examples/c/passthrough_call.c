@@ -21,7 +21,7 @@ enum { COPIED = 1 << 30 };
 
 /* ---- helpers: each that answers a number gives 0 or an error */
 
-static int failed(int result)
+int failed(int result)
 {
 	return result < 0 ? errno : 0;
 }
@@ -48,14 +48,6 @@ const char *name_of(const struct call *call, nizwarf_range range)
 bool is_plain(const char *name)
 {
 	return *name && strcmp(name, ".") != 0 && strcmp(name, "..") != 0 && !strchr(name, '/');
-}
-
-struct fd_name name_fd(int fd)
-{
-	struct fd_name name;
-
-	snprintf(name.bytes, sizeof(name.bytes), "%d", fd);
-	return name;
 }
 
 /* Opens a file or a directory, and nothing else. */
@@ -179,82 +171,6 @@ static int read_link(const struct call *call)
 	return 0;
 }
 
-/* ---- names */
-
-/* Takes back a name that a call made and can't answer, as there is no memory or no descriptor. It is
- * left if it leads to another file by now. Of what was made the inode may not be known. */
-static void unmake(int directory, const char *name, const struct statx *made)
-{
-	struct statx seen;
-
-	if (!statx(directory, name, AT_SYMLINK_NOFOLLOW | AT_NO_AUTOMOUNT, WANTED, &seen) &&
-	    !((seen.stx_mode ^ made->stx_mode) & S_IFMT) &&
-	    (!made->stx_ino || (seen.stx_ino == made->stx_ino && seen.stx_mnt_id == made->stx_mnt_id)))
-		unlinkat(directory, name, S_ISDIR(seen.stx_mode) ? AT_REMOVEDIR : 0);
-}
-
-/* The same, of a file that there is a descriptor of. */
-static void unmake_of(int directory, const char *name, int fd)
-{
-	struct statx made;
-
-	if (!statx(fd, "", AT_EMPTY_PATH | AT_SYMLINK_NOFOLLOW, WANTED, &made))
-		unmake(directory, name, &made);
-}
-
-/* What is known of what a call made. */
-static struct statx type_of(const nizwarf_call *asked)
-{
-	const unsigned type = asked->mode & S_IFMT;
-
-	return (struct statx) { .stx_mode = (uint16_t)(asked->call == NIZWARF_MKDIR ? S_IFDIR :
-						       asked->call == NIZWARF_SYMLINK ? S_IFLNK :
-						       type ? type : S_IFREG) };
-}
-
-/* SYMLINK, MKNOD and MKDIR. */
-static int make_node(const struct call *call)
-{
-	const nizwarf_call *asked = call->asked;
-	const char *name = name_of(call, asked->name);
-	const int directory = call->node.fd;
-	int error = become(call);
-
-	if (error)
-		;
-	else if (asked->call == NIZWARF_MKDIR)
-		error = failed(mkdirat(directory, name, asked->mode & 07777));
-	else if (asked->call == NIZWARF_MKNOD)
-		error = failed(mknodat(directory, name, asked->mode, asked->rdev));
-	else
-		error = failed(symlinkat(name_of(call, asked->other_name), directory, name));
-	become_root(call);
-	if (error)
-		return error;
-	error = look_up_new(call, directory, name, &call->answer->entry);
-	if (error) {
-		const struct statx made = type_of(asked);
-
-		unmake(directory, name, &made);
-	}
-	return error;
-}
-
-static int link_node(const struct call *call)
-{
-	const char *name = name_of(call, call->asked->name);
-	int error;
-
-	/* (that leads to the node itself, also where it is a symbolic link) */
-	if (linkat(call->all->nodes.proc, name_fd(call->node.fd).bytes, call->other.fd, name,
-		   AT_SYMLINK_FOLLOW))
-		return errno;
-	error = look_up(call, call->other.fd, name, &call->answer->entry);
-	if (error)
-		unmake_of(call->other.fd, name, call->node.fd);
-	return error;
-}
-
 /* ---- open files */
 
 /* Whether the client writes later. */
@@ -339,6 +255,21 @@ static int open_name(struct call *call, const char *name)
 	return error;
 }
 
+/* Opens what was just made of a name with O_PATH: by the name, which costs less, or if that leads to another
+ * file by now, by its descriptor. */
+static int open_made(const struct call *call, const char *name, int fd)
+{
+	const int path = openat(call->node.fd, name, O_PATH | O_NOFOLLOW | O_CLOEXEC);
+	struct stat made, seen;
+
+	if (path >= 0 && !fstat(fd, &made) && !fstat(path, &seen) && made.st_ino == seen.st_ino &&
+	    made.st_dev == seen.st_dev)
+		return path;
+	if (path >= 0)
+		close(path);
+	return open_again(&call->all->nodes, fd, O_PATH);
+}
+
 static int create_file(struct call *call)
 {
 	const nizwarf_call *asked = call->asked;
@@ -358,8 +289,7 @@ static int create_file(struct call *call)
 		return open_name(call, name);
 	if (error)
 		return error;
-	/* The name may be another file's by now. */
-	path = open_again(&call->all->nodes, fd, O_PATH);
+	path = open_made(call, name, fd);
 	error = path < 0 ? errno : enter(call, call->node.fd, path, entry);
 	if (!error) {
 		answer->handle = file_add(&call->all->nodes, fd, false);
@@ -603,9 +533,7 @@ static int make_of_node(struct call *call)
 
 	switch (asked->call) {
 	case NIZWARF_LOOKUP:
-		if (atomic_load_explicit(&call->node.node->lists_names, memory_order_relaxed))
-			atomic_store(&call->node.node->lists_names, false);
-		return look_up(call, node, name, &call->answer->entry);
+		return find_name(call, name);
 	case NIZWARF_GETATTR:
 		return get_attr(call);
 	case NIZWARF_SETATTR:

@@ -57,14 +57,11 @@ struct call {
 	nizwarf_answer *answer;
 };
 
-/* The name of a descriptor in /proc/self/fd. */
-struct fd_name {
-	char bytes[16];
-};
-
 /* Makes a call: 0, or an error. */
 int make_call(struct call *call);
 
+/* 0 for what isn't below 0, or else the error of errno. */
+int failed(int result);
 /* A buffer of at least so many bytes: `buffer` is where a pointer to it is. False: there is no
  * memory. */
 bool grow(void *buffer, size_t *size, size_t wanted);
@@ -72,7 +69,6 @@ bool grow(void *buffer, size_t *size, size_t wanted);
 const char *name_of(const struct call *call, nizwarf_range range);
 /* Whether a name is that of something in a directory. */
 bool is_plain(const char *name);
-struct fd_name name_fd(int fd);
 /* Tells attributes, and how long they hold. */
 void tell_attr(const struct call *call, const struct statx *seen, nizwarf_entry *entry);
 /* The entry of a file in a directory, which was opened with O_PATH; the descriptor is the node's, or
@@ -82,6 +78,13 @@ int enter(const struct call *call, int directory, int fd, nizwarf_entry *entry);
 int look_up(const struct call *call, int directory, const char *name, nizwarf_entry *entry);
 /* The same, quicker if it isn't known. */
 int look_up_new(const struct call *call, int directory, const char *name, nizwarf_entry *entry);
+
+/* LOOKUP, where that there is no such name may be remembered; SYMLINK, MKNOD and MKDIR; LINK. */
+int find_name(const struct call *call, const char *name);
+int make_node(const struct call *call);
+int link_node(const struct call *call);
+/* Takes back a name that was made of a file, unless it leads to another one by now. */
+void unmake_of(int directory, const char *name, int fd);
 
 /* Leaves the thread of a worker the capabilities that it needs, if it is root: 0, or -1 with
  * errno. */

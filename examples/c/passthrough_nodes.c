@@ -123,12 +123,17 @@ static void free_node(struct node *node)
 	free(node);
 }
 
+struct fd_name name_fd(int fd)
+{
+	struct fd_name name;
+
+	snprintf(name.bytes, sizeof(name.bytes), "%d", fd);
+	return name;
+}
+
 int open_again(const struct nodes *all, int fd, int flags)
 {
-	char name[16];
-
-	snprintf(name, sizeof(name), "%d", fd);
-	return openat(all->proc, name, (flags & ~O_NOFOLLOW) | O_CLOEXEC);
+	return openat(all->proc, name_fd(fd).bytes, (flags & ~O_NOFOLLOW) | O_CLOEXEC);
 }
 
 int node_hold(struct nodes *all, uint64_t number, struct grip *grip)

@@ -132,6 +132,13 @@ void node_forget(struct nodes *all, uint64_t number, uint64_t count);
 /* Lets go of all nodes but the root, and of all open files. */
 void nodes_forget_all(struct nodes *all);
 
+/* The name of a descriptor in /proc/self/fd. */
+struct fd_name {
+	char bytes[16];
+};
+
+struct fd_name name_fd(int fd);
+
 /* Opens what a descriptor is of anew, with these flags; the descriptor, or -1 with errno. */
 int open_again(const struct nodes *all, int fd, int flags);
 

@@ -39,7 +39,8 @@ static const char usage[] =
 	"                            fsname=NAME, exec, noexec, suid, nosuid, dev, nodev, sync,\n"
 	"                            async, dirsync, atime, noatime, nodiratime, relatime, and\n"
 	"                            entry_timeout=SECONDS, attr_timeout=SECONDS: how long names\n"
-	"                            and attributes are remembered; xattr, writeback\n"
+	"                            and attributes are remembered; negative_timeout=SECONDS: how\n"
+	"                            long, that there is no such name (0); xattr, writeback\n"
 	"  --shared-dir=FOLDER       the folder, in place of the word\n"
 	"  --socket-path=SOCKET      listens on a new socket of this path\n"
 	"  --fd=N                    listens on the socket of this descriptor\n"
@@ -178,6 +179,8 @@ static void take_option(const char *key, char *value)
 		words.files.entry_time = milliseconds(key, value);
 	else if (!strcmp(key, "attr_timeout"))
 		words.files.attr_time = milliseconds(key, value);
+	else if (!strcmp(key, "negative_timeout"))
+		words.files.negative_time = milliseconds(key, value);
 	else
 		refuse("there is no such option: ", key);
 }
