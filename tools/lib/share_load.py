@@ -11,6 +11,7 @@ import errno
 import hashlib
 import os
 import random
+import re
 import signal
 import struct
 import subprocess
@@ -248,10 +249,12 @@ def keep(keeper, until, size):
                 keeper.remove(name)
 
 
-def hold_failure(said):
+def hold_failure(said, killed):
     """A stressor says what failed: that may be a full disk, or a want of descriptors, which all clients share: `chdir`
-    holds 8,192 folders open. Of one that was killed the counters are wrong."""
-    if "bogo-ops counter" in said or "metrics-check" in said:
+    holds 8,192 folders open. Of one that was killed the counters are wrong, and its folder is removed while children
+    of its go on."""
+    name = re.search(r"fail:\s+\[\d+\] ([\w-]+)", said)
+    if not name or name[1] == "metrics-check" or name[1] in killed:
         return
     if any(f"errno={it} " in said for it in (errno.ENOSPC, errno.EMFILE, errno.ENFILE)):
         count("stressors that met a full disk or a want of descriptors")
@@ -259,12 +262,24 @@ def hold_failure(said):
         wrong("stress-ng: " + said.strip())
 
 
+def kill_one(pids, killed, chance):
+    """Kills a process of stress-ng, and remembers which stressor it was."""
+    pid = int(chance.choice(pids))
+    try:
+        with open(f"/proc/{pid}/cmdline") as words:
+            killed.add(words.read().split()[0].replace("stress-ng-", "", 1))
+        os.kill(pid, signal.SIGKILL)
+        count("processes on a mount killed by SIGKILL")
+    except (ProcessLookupError, FileNotFoundError, IndexError):
+        pass
+
+
 def stress(place, chance, seconds):
     """Programs that stress a mount, of which some are killed."""
     names = chance.sample(STRESSORS, 6)
     words = [word for name in names for word in (f"--{name}", "1")]
     os.makedirs(place + "/stress", exist_ok=True)
-    log = tempfile.TemporaryFile("w+", dir=work)
+    log, killed = tempfile.TemporaryFile("w+", dir=work), set()
     running = subprocess.Popen(["stress-ng", "--temp-path", place + "/stress", "--timeout", str(seconds), "--verify",
                                 "--hdd-bytes", "8m", "--iomix-bytes", "8m", "--fallocate-bytes", "8m", *words],
                                stdout=log, stderr=log, start_new_session=True)
@@ -275,11 +290,7 @@ def stress(place, chance, seconds):
         workers = subprocess.run(["pgrep", "-P", str(running.pid)], capture_output=True, text=True, check=False)
         workers = workers.stdout.split()
         if workers and chance.random() < 0.3:
-            try:
-                os.kill(int(chance.choice(workers)), signal.SIGKILL)
-                count("processes on a mount killed by SIGKILL")
-            except ProcessLookupError:
-                pass
+            kill_one(workers, killed, chance)
     if running.poll() is None:
         wrong(f"stress-ng does not end: {names}")
     # (those that were killed leave children)
@@ -293,8 +304,7 @@ def stress(place, chance, seconds):
         wrong(f"stress-ng ended at once: {names}")
     log.seek(0)
     for said in log:
-        if "fail:" in said:
-            hold_failure(said)
+        hold_failure(said, killed)
     count("runs of stress-ng, of six of its stressors")
 
 
