@@ -233,7 +233,7 @@ struct passthrough *passthrough_new(int root, int proc, const struct passthrough
 		}
 	}
 	look_at_folder(all, root);
-	if (nodes_begin(&all->nodes, root, proc, options->file_handles)) {
+	if (nodes_begin(&all->nodes, root, proc, options->file_handles, options->no_devices)) {
 		passthrough_end(all);
 		return NULL;
 	}

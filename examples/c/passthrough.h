@@ -3,7 +3,8 @@
  *
  * No path is walked: each name is looked up in a directory that is open, and no symbolic link is
  * followed. Whatever a client asks stays below the folder, and what it makes up is an error. Only
- * files and directories are opened, so that no pipe or device is, which waits or does something.
+ * files and directories are opened, so that no pipe or device is, which waits or does something; a
+ * pipe that takes the name of a file meanwhile may be opened for a moment, without waiting.
  * Where root serves, files are made with the ids of who asks. */
 #ifndef PASSTHROUGH_H
 #define PASSTHROUGH_H
@@ -43,6 +44,9 @@ struct passthrough_options {
 	bool announce_submounts;
 	/* When files are held by handles where they can be, and not by descriptors. */
 	enum file_handles file_handles;
+	/* No device can be opened in the file system of the folder: a file may be opened by its name, which
+	 * takes less, and is looked at then. */
+	bool no_devices;
 	/* The capabilities that root's workers have besides, and those that they lack, by bits. */
 	uint64_t more_capabilities, fewer_capabilities;
 	unsigned workers;

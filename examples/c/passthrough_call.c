@@ -54,12 +54,14 @@ bool is_plain(const char *name)
 static int open_node(const struct call *call, int flags)
 {
 	const mode_t type = call->node.node->type;
+	int fd;
 
 	if (type != S_IFREG && type != S_IFDIR) {
 		errno = type == S_IFLNK ? ELOOP : ENXIO;
 		return -1;
 	}
-	return open_again(&call->all->nodes, call->node.fd, flags);
+	fd = open_by_name(&call->all->nodes, call->node.node, flags);
+	return fd >= 0 ? fd : open_again(&call->all->nodes, call->node.fd, flags);
 }
 
 /* ---- attributes */
@@ -241,8 +243,9 @@ static int open_file(const struct call *call)
 /* CREATE of a name that is there. */
 static int open_name(struct call *call, const char *name)
 {
+	const struct found found = found_in(&call->node, name);
 	nizwarf_entry *entry = &call->answer->entry;
-	int error = look_up(call, call->node.fd, name, entry);
+	int error = look_up(call, &found, entry);
 
 	if (error)
 		return error;
@@ -274,6 +277,7 @@ static int create_file(struct call *call)
 {
 	const nizwarf_call *asked = call->asked;
 	const char *name = name_of(call, asked->name);
+	const struct found found = found_in(&call->node, name);
 	nizwarf_answer *answer = call->answer;
 	nizwarf_entry *entry = &answer->entry;
 	int fd = -1, path, error = become(call);
@@ -290,7 +294,7 @@ static int create_file(struct call *call)
 	if (error)
 		return error;
 	path = open_made(call, name, fd);
-	error = path < 0 ? errno : enter(call, call->node.fd, path, entry);
+	error = path < 0 ? errno : enter(call, &found, path, entry);
 	if (!error) {
 		answer->handle = file_add(&call->all->nodes, fd, false);
 		error = answer->handle ? 0 : ENOMEM;

@@ -71,13 +71,15 @@ const char *name_of(const struct call *call, nizwarf_range range);
 bool is_plain(const char *name);
 /* Tells attributes, and how long they hold. */
 void tell_attr(const struct call *call, const struct statx *seen, nizwarf_entry *entry);
-/* The entry of a file in a directory, which was opened with O_PATH; the descriptor is the node's, or
+/* The entry of a file that was found so, and opened with O_PATH; the descriptor is the node's, or
  * closed. 0, or an error. */
-int enter(const struct call *call, int directory, int fd, nizwarf_entry *entry);
-/* The entry of a name in a directory: 0, or an error. */
-int look_up(const struct call *call, int directory, const char *name, nizwarf_entry *entry);
+int enter(const struct call *call, const struct found *found, int fd, nizwarf_entry *entry);
+/* The entry of a name: 0, or an error. */
+int look_up(const struct call *call, const struct found *found, nizwarf_entry *entry);
 /* The same, quicker if it isn't known. */
-int look_up_new(const struct call *call, int directory, const char *name, nizwarf_entry *entry);
+int look_up_new(const struct call *call, const struct found *found, nizwarf_entry *entry);
+/* A name in a node that is in hand. */
+struct found found_in(const struct grip *directory, const char *name);
 
 /* LOOKUP, where that there is no such name may be remembered; SYMLINK, MKNOD and MKDIR; LINK. */
 int find_name(const struct call *call, const char *name);

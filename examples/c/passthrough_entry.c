@@ -59,8 +59,8 @@ static void tell_entry(const struct call *call, uint64_t number, const struct st
 }
 
 /* enter(), which says too whether the file wasn't known. */
-static int enter_and_tell(const struct call *call, int directory, int fd, nizwarf_entry *entry,
-			  bool *is_new)
+static int enter_and_tell(const struct call *call, const struct found *found, int fd,
+			  nizwarf_entry *entry, bool *is_new)
 {
 	struct statx seen;
 	uint64_t number;
@@ -73,37 +73,42 @@ static int enter_and_tell(const struct call *call, int directory, int fd, nizwar
 		close(fd);
 		return error;
 	}
-	error = node_enter(&call->all->nodes, directory, fd, &seen, &number, is_new);
+	error = node_enter(&call->all->nodes, found, fd, &seen, &number, is_new);
 	if (!error)
 		tell_entry(call, number, &seen, entry);
 	return error;
 }
 
-int enter(const struct call *call, int directory, int fd, nizwarf_entry *entry)
+struct found found_in(const struct grip *directory, const char *name)
+{
+	return (struct found) { directory->fd, directory->node->counted.number, name };
+}
+
+int enter(const struct call *call, const struct found *found, int fd, nizwarf_entry *entry)
 {
 	bool is_new;
 
-	return enter_and_tell(call, directory, fd, entry, &is_new);
+	return enter_and_tell(call, found, fd, entry, &is_new);
 }
 
 /* Opens the file of a name, and enters it. */
-static int open_and_enter(const struct call *call, int directory, const char *name,
-			  nizwarf_entry *entry, bool *is_new)
+static int open_and_enter(const struct call *call, const struct found *found, nizwarf_entry *entry,
+			  bool *is_new)
 {
-	const int fd = openat(directory, name, O_PATH | O_NOFOLLOW | O_CLOEXEC);
+	const int fd = openat(found->directory, found->name, O_PATH | O_NOFOLLOW | O_CLOEXEC);
 
 	*is_new = false;
-	return fd < 0 ? errno : enter_and_tell(call, directory, fd, entry, is_new);
+	return fd < 0 ? errno : enter_and_tell(call, found, fd, entry, is_new);
 }
 
-int look_up_new(const struct call *call, int directory, const char *name, nizwarf_entry *entry)
+int look_up_new(const struct call *call, const struct found *found, nizwarf_entry *entry)
 {
 	bool is_new;
 
-	return open_and_enter(call, directory, name, entry, &is_new);
+	return open_and_enter(call, found, entry, &is_new);
 }
 
-int look_up(const struct call *call, int directory, const char *name, nizwarf_entry *entry)
+int look_up(const struct call *call, const struct found *found, nizwarf_entry *entry)
 {
 	bool *expects_new = &call->worker->expects_new;
 	struct statx seen;
@@ -112,7 +117,8 @@ int look_up(const struct call *call, int directory, const char *name, nizwarf_en
 	/* What is known is not opened again, and of what is missing this costs less. But a name mostly comes
 	 * to what the last one came to: so a new file is opened at once. */
 	if (!*expects_new) {
-		if (statx(directory, name, AT_SYMLINK_NOFOLLOW | AT_NO_AUTOMOUNT, WANTED, &seen))
+		if (statx(found->directory, found->name, AT_SYMLINK_NOFOLLOW | AT_NO_AUTOMOUNT, WANTED,
+			  &seen))
 			return errno;
 		number = node_find(&call->all->nodes, &seen);
 		if (number) {
@@ -120,5 +126,5 @@ int look_up(const struct call *call, int directory, const char *name, nizwarf_en
 			return 0;
 		}
 	}
-	return open_and_enter(call, directory, name, entry, expects_new);
+	return open_and_enter(call, found, entry, expects_new);
 }

@@ -66,10 +66,10 @@ static nizwarf_item *add_item(struct worker *w, size_t count)
 /* The entry of an item. Of one that can't be looked up, or went, there is the name alone. */
 static void find_entry(const struct call *call, const struct dirent64 *found, nizwarf_entry *entry)
 {
-	const bool may_be_known = node_may_be_known(&call->all->nodes, call->node.node, found->d_ino);
+	const struct found at = found_in(&call->node, found->d_name);
 
-	if (may_be_known ? look_up(call, call->node.fd, found->d_name, entry) :
-			   look_up_new(call, call->node.fd, found->d_name, entry))
+	if (node_may_be_known(&call->all->nodes, call->node.node, found->d_ino) ?
+		    look_up(call, &at, entry) : look_up_new(call, &at, entry))
 		memset(entry, 0, sizeof(*entry));
 }
 

@@ -41,7 +41,8 @@ int find_name(const struct call *call, const char *name)
 {
 	const uint64_t time = call->all->options.negative_time;
 	atomic_bool *lists_names = &call->node.node->lists_names;
-	const int error = look_up(call, call->node.fd, name, &call->answer->entry);
+	const struct found found = found_in(&call->node, name);
+	const int error = look_up(call, &found, &call->answer->entry);
 
 	if (atomic_load_explicit(lists_names, memory_order_relaxed))
 		atomic_store(lists_names, false);
@@ -58,6 +59,7 @@ int make_node(const struct call *call)
 {
 	const nizwarf_call *asked = call->asked;
 	const char *name = name_of(call, asked->name);
+	const struct found found = found_in(&call->node, name);
 	const int directory = call->node.fd;
 	int error = become(call);
 
@@ -72,7 +74,7 @@ int make_node(const struct call *call)
 	become_root(call);
 	if (error)
 		return error;
-	error = look_up_new(call, directory, name, &call->answer->entry);
+	error = look_up_new(call, &found, &call->answer->entry);
 	if (error) {
 		const struct statx made = type_of(asked);
 
@@ -84,13 +86,14 @@ int make_node(const struct call *call)
 int link_node(const struct call *call)
 {
 	const char *name = name_of(call, call->asked->name);
+	const struct found found = found_in(&call->other, name);
 	int error;
 
 	/* (that leads to the node itself, also where it is a symbolic link) */
 	if (linkat(call->all->nodes.proc, name_fd(call->node.fd).bytes, call->other.fd, name,
 		   AT_SYMLINK_FOLLOW))
 		return errno;
-	error = look_up(call, call->other.fd, name, &call->answer->entry);
+	error = look_up(call, &found, &call->answer->entry);
 	if (error)
 		unmake_of(call->other.fd, name, call->node.fd);
 	return error;

@@ -3,10 +3,12 @@
 #include <errno.h>
 #include <fcntl.h>
 #include <limits.h>
+#include <linux/openat2.h>
 #include <stdio.h>
 #include <stdlib.h>
 #include <string.h>
 #include <sys/resource.h>
+#include <sys/syscall.h>
 #include <sys/sysmacros.h>
 #include <unistd.h>
 #include "passthrough_nodes.h"
@@ -120,6 +122,7 @@ static void free_node(struct node *node)
 		close(node->counted.fd);
 	mount_put(node->handle_of);
 	free(node->handle);
+	free(node->place);
 	free(node);
 }
 
@@ -385,8 +388,47 @@ static uint64_t add_lookup(struct nodes *all, const struct statx *seen,
 	return number;
 }
 
-int node_enter(struct nodes *all, int directory, int fd, const struct statx *seen, uint64_t *number,
-	       bool *is_new)
+/* Remembers where a file was found, if it may be opened by that. */
+static void keep_place(const struct nodes *all, struct node *node, const struct found *found)
+{
+	const size_t size = found->name ? strlen(found->name) + 1 : 0;
+
+	if (!size || !found->number || !all->named_mount || node->mount != all->named_mount ||
+	    (node->type != S_IFREG && node->type != S_IFDIR))
+		return;
+	node->place = malloc(sizeof(*node->place) + size);
+	if (!node->place)
+		return;
+	node->place->directory = found->number;
+	memcpy(node->place->name, found->name, size);
+}
+
+int open_by_name(struct nodes *all, struct node *node, int flags)
+{
+	/* (no pipe waits, no device is opened, and nothing on which another one is mounted) */
+	struct open_how how = { .flags = (uint64_t)(flags | O_NOFOLLOW | O_NONBLOCK | O_NOCTTY | O_CLOEXEC),
+				.resolve = RESOLVE_NO_XDEV | RESOLVE_NO_SYMLINKS };
+	struct grip directory;
+	struct stat seen;
+	int fd = -1;
+
+	/* (what is truncated is looked at before) */
+	if (!node->place || flags & O_TRUNC || atomic_load(&node->is_elsewhere) ||
+	    node_hold(all, node->place->directory, &directory))
+		return -1;
+	if (directory.fd >= 0)
+		fd = (int)syscall(SYS_openat2, directory.fd, node->place->name, &how, sizeof(how));
+	node_put(&directory);
+	if (fd >= 0 && !fstat(fd, &seen) && seen.st_ino == node->inode && seen.st_dev == node->device)
+		return fd;
+	if (fd >= 0)
+		close(fd);
+	atomic_store(&node->is_elsewhere, true);
+	return -1;
+}
+
+int node_enter(struct nodes *all, const struct found *found, int fd, const struct statx *seen,
+	       uint64_t *number, bool *is_new)
 {
 	const bool by_handle = fd >= all->handles_from || some_handle(all, seen);
 	struct node *made = calloc(1, sizeof(*made));
@@ -409,8 +451,9 @@ int node_enter(struct nodes *all, int directory, int fd, const struct statx *see
 	made->inode = seen->stx_ino;
 	made->mount = mount_of(seen);
 	made->type = seen->stx_mode & S_IFMT;
-	error = hold(all, made, directory, fd, seen, handle);
+	error = hold(all, made, found->directory, fd, seen, handle);
 	if (!error) {
+		keep_place(all, made, found);
 		*number = add_lookup(all, seen, made->handle, &made);
 		error = *number ? 0 : ENOMEM;
 	}
@@ -485,8 +528,9 @@ void nodes_forget_all(struct nodes *all)
 	}
 }
 
-int nodes_begin(struct nodes *all, int root, int proc, enum file_handles handles)
+int nodes_begin(struct nodes *all, int root, int proc, enum file_handles handles, bool no_devices)
 {
+	const struct found nowhere = { -1, 0, NULL };
 	struct rlimit limit = { 0, 0 };
 	struct statx seen;
 	uint64_t number;
@@ -503,8 +547,9 @@ int nodes_begin(struct nodes *all, int root, int proc, enum file_handles handles
 		return -1;
 	/* The root stays open, whatever the others are. */
 	all->handles_from = INT_MAX;
-	if (node_enter(all, -1, root, &seen, &number, &is_new))
+	if (node_enter(all, &nowhere, root, &seen, &number, &is_new))
 		return -1;
+	all->named_mount = no_devices ? mount_of(&seen) : 0;
 	all->handles_alone = handles == HANDLES_ALONE;
 	if (handles == HANDLES_PREFERRED || handles == HANDLES_ALONE)
 		all->handles_from = 0;

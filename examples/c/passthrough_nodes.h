@@ -58,6 +58,12 @@ struct host_mount {
 	struct host_mount *next;
 };
 
+/* Where a file was found first: a directory, and the name there. */
+struct place {
+	uint64_t directory;
+	char name[];
+};
+
 struct node {
 	/* `fd` is -1 where there is a handle. */
 	struct counted counted;
@@ -67,6 +73,9 @@ struct node {
 	mode_t type;
 	/* A directory whose names are read, and nothing else of its files. */
 	atomic_bool lists_names;
+	/* NULL: it is not known. What was no longer there once is not looked for again. */
+	struct place *place;
+	atomic_bool is_elsewhere;
 	struct file_handle *handle;
 	struct host_mount *handle_of;
 	/* The next one in its chain. */
@@ -93,8 +102,17 @@ struct nodes {
 	/* A new node whose descriptor is this one or a later one gets a handle. */
 	int handles_from;
 	bool handles_alone;
+	/* The mount whose files may be opened by their names; 0: none. */
+	uint64_t named_mount;
 	pthread_mutex_t mounts_lock;
 	struct host_mount *mounts;
+};
+
+/* A directory in which a file is found, with its number if that is known, and the name. */
+struct found {
+	int directory;
+	uint64_t number;
+	const char *name;
 };
 
 /* A node in hand, with a descriptor of it. `own` is to be closed. */
@@ -103,8 +121,9 @@ struct grip {
 	int fd, own;
 };
 
-/* -1: there is no memory. `root` is the node ROOT_NODE from then on, and is closed with it. */
-int nodes_begin(struct nodes *all, int root, int proc, enum file_handles handles);
+/* -1: there is no memory. `root` is the node ROOT_NODE from then on, and is closed with it. With
+ * `no_devices` none can be opened in its mount. */
+int nodes_begin(struct nodes *all, int root, int proc, enum file_handles handles, bool no_devices);
 void nodes_end(struct nodes *all);
 
 /* Takes a node in hand. 0, or an error: ESTALE where there is none. */
@@ -121,10 +140,9 @@ bool node_may_be_known(struct nodes *all, const struct node *directory, uint64_t
 uint64_t node_find(struct nodes *all, const struct statx *seen);
 
 /* Gives the number of a file, with a lookup more, which was opened with O_PATH: `fd` is the node's
- * from then on, or closed. `directory` is one that it was found in. `*is_new`: it wasn't known. 0, or
- * an error. */
-int node_enter(struct nodes *all, int directory, int fd, const struct statx *seen, uint64_t *number,
-	       bool *is_new);
+ * from then on, or closed. `*is_new`: it wasn't known. 0, or an error. */
+int node_enter(struct nodes *all, const struct found *found, int fd, const struct statx *seen,
+	       uint64_t *number, bool *is_new);
 
 /* Gives lookups back. With the last one the node goes. */
 void node_forget(struct nodes *all, uint64_t number, uint64_t count);
@@ -139,6 +157,9 @@ struct fd_name {
 
 struct fd_name name_fd(int fd);
 
+/* Opens a file or directory that is in hand by the name by which it was found. -1: it is not there, or may
+ * not be opened so. */
+int open_by_name(struct nodes *all, struct node *node, int flags);
 /* Opens what a descriptor is of anew, with these flags; the descriptor, or -1 with errno. */
 int open_again(const struct nodes *all, int fd, int flags);
 

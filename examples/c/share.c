@@ -608,7 +608,8 @@ static int serve(int listener)
 	struct passthrough *all;
 	int root, proc, status = 1;
 
-	if (sandbox_enter((enum sandbox)words.sandbox, words.folder, &root, &proc))
+	if (sandbox_enter((enum sandbox)words.sandbox, words.folder, &root, &proc,
+			  &words.files.no_devices))
 		return 1;
 	umask(0);
 	grow_table(root);

@@ -187,8 +187,21 @@ static int drop_capabilities(void)
 	return syscall(SYS_capset, &header, none) ? failed("capabilities") : 0;
 }
 
-int sandbox_enter(enum sandbox sandbox, const char *folder, int *root, int *proc)
+/* Whether no device can be opened in the mount of the root from now on. */
+static bool refuse_devices(void)
 {
+#ifdef MOUNT_ATTR_NODEV
+	struct mount_attr attributes = { .attr_set = MOUNT_ATTR_NODEV };
+
+	return !mount_setattr(AT_FDCWD, "/", 0, &attributes, sizeof(attributes));
+#else
+	return false;
+#endif
+}
+
+int sandbox_enter(enum sandbox sandbox, const char *folder, int *root, int *proc, bool *no_devices)
+{
+	*no_devices = false;
 	/* (as this descriptor leads there, also where /proc isn't to be seen) */
 	*proc = open("/proc/self/fd", O_PATH | O_DIRECTORY | O_CLOEXEC);
 	if (*proc < 0)
@@ -196,6 +209,7 @@ int sandbox_enter(enum sandbox sandbox, const char *folder, int *root, int *proc
 	if (sandbox == SANDBOX_NAMESPACE) {
 		if (pivot(folder))
 			return -1;
+		*no_devices = refuse_devices();
 		folder = "/";
 	} else if (sandbox == SANDBOX_CHROOT) {
 		if (chdir(folder) || chroot(".") || chdir("/"))
@@ -222,7 +236,7 @@ static const char *const calls[] = {
 	"futex", "getdents64", "geteuid", "getpid", "getrandom", "gettid", "getxattr", "ioctl",
 	"linkat", "listxattr", "lseek", "lstat", "madvise", "mkdirat", "mknodat", "mmap", "mprotect",
 	"mremap", "munmap", "name_to_handle_at", "nanosleep", "newfstatat", "open_by_handle_at",
-	"openat", "poll", "ppoll", "prctl", "pread64", "preadv", "prlimit64", "pwrite64", "pwritev",
+	"openat", "openat2", "poll", "ppoll", "prctl", "pread64", "preadv", "prlimit64", "pwrite64", "pwritev",
 	"read", "readlinkat", "recvfrom", "recvmsg", "removexattr", "renameat", "renameat2",
 	"restart_syscall", "rseq", "rt_sigaction", "rt_sigprocmask", "rt_sigreturn",
 	"sched_getaffinity", "sched_yield", "sendmsg", "sendto", "set_robust_list", "setgroups",

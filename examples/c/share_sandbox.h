@@ -41,9 +41,9 @@ int sandbox_mount(void);
 /* Tells what stands by that the server is ready. */
 void sandbox_ready(void);
 
-/* Gives descriptors of the folder and of /proc/self/fd, in the sandbox from then on. -1: it failed,
- * and said why. */
-int sandbox_enter(enum sandbox sandbox, const char *folder, int *root, int *proc);
+/* Gives descriptors of the folder and of /proc/self/fd, in the sandbox from then on; and whether no device
+ * can be opened in the mount of the folder. -1: it failed, and said why. */
+int sandbox_enter(enum sandbox sandbox, const char *folder, int *root, int *proc, bool *no_devices);
 
 /* Ends the process, or does what else is said, at a system call that serving doesn't make. With
  * `mounts` it may unmount. -1: it failed, and said why. */
