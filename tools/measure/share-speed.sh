@@ -1,12 +1,14 @@
 #!/usr/bin/env bash
 # Times nizwarf-share beside libfuse's passthrough_ll and bindfs: what programs do with files over a mount of
-# each, in turns, by one job and by four. It prints a table: a row has the medians of ratios, nizwarf-share's time by
-# that of another; below 1 it is the quicker one.
+# each, in turns, by one job and by four. It prints the page docs/generated/share.md: a row has the medians of
+# ratios, nizwarf-share's time by that of another, and the same of the servers' processor time; below 1 it is the
+# quicker one. Behind them stand the system calls of each, if strace is installed.
 #
 # Usage: tools/measure/share-speed.sh [ROUNDS [CLASS..]]
 # Without a word 9 rounds of all classes, which take some ten minutes. Each has the options that it begins with,
 # but passthrough_ll `cache=auto`, which is that of nizwarf-share, and `default_permissions`, which the beside have.
-# The folders are in memory.
+# The folders are in memory. CLASS is stat, stat-missing, open-close, create-unlink, readdir, ls-l, write-1m,
+# read-1m, write-4k, read-4k, 'git status' or untar.
 #
 # It wants root, /dev/fuse, git, python3 and a C compiler, and gets passthrough_ll, from libfuse's sources, and
 # bindfs from Debian's packages, by apt-get, into an ignored folder; nothing is installed.
@@ -68,8 +70,11 @@ tidy() {
     rm -rf "$work"
 }
 trap 'tidy 2> /dev/null || true' EXIT
-echo "libfuse and bindfs $(tr '\n' ' ' < "$beside/versions")here $(git -C "$here" describe --always --dirty), Linux" \
-    "$(uname -r), $(nproc) processors, load $(cut -d ' ' -f 1-3 /proc/loadavg), $rounds rounds"
+built="built without a proof"
+[[ ${library[0]} == */out/unproved/* ]] || built="the proved one"
+facts="Begun on $(LC_ALL=C date '+%-d %B %Y'), commit $(git -C "$here" describe --always --dirty), the library $built;
+Linux $(uname -r), $(nproc) processors, load $(cut -d ' ' -f 1-3 /proc/loadavg); libfuse and bindfs \
+$(paste -sd ' ' "$beside/versions"), folders in memory."
 python3 -B "$here/tools/measure/share_speed.py" "$here/out/c/share_speed" "$transport" "$beside/passthrough_ll" \
-    "$beside/usr/bin/bindfs" "$here" "$work" "$rounds" "${@:2}"
-echo "load $(cut -d ' ' -f 1-3 /proc/loadavg)"
+    "$beside/usr/bin/bindfs" "$here" "$work" "$rounds" "$facts" "${@:2}"
+echo "load $(cut -d ' ' -f 1-3 /proc/loadavg) at the end" >&2
