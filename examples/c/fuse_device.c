@@ -165,13 +165,37 @@ static ssize_t read_request(const struct worker *w)
 	return got;
 }
 
+/* How much room a reply may want: data, names and attributes have as much as is asked for, others less than
+ * a page. (What stands behind may keep as much memory as the longest room.) */
+static size_t room_for(const struct worker *w, const struct fuse_in_header *asked, size_t got)
+{
+	struct fuse_read_in read;
+
+	switch (asked->opcode) {
+	case FUSE_READ:
+	case FUSE_READDIR:
+	case FUSE_READDIRPLUS:
+		if (got < sizeof(*asked) + sizeof(read))
+			return LONGEST;
+		memcpy(&read, w->request + sizeof(*asked), sizeof(read));
+		return read.size < TRANSPORT_PAYLOAD ? sizeof(struct fuse_out_header) + read.size : LONGEST;
+	case FUSE_GETXATTR:
+	case FUSE_LISTXATTR:
+	case FUSE_READLINK:
+	case FUSE_IOCTL:
+		return LONGEST;
+	default:
+		return PAGE;
+	}
+}
+
 /* Takes a request and answers it. `*opcode` is what was asked, 0 if nothing was. One that was called
  * calls the next. */
 static enum outcome serve_one(const struct worker *w, uint32_t *opcode, int was_called)
 {
 	const ssize_t got = read_request(w);
 	const nizwarf_segment segment = { w->request, (size_t)got };
-	const nizwarf_room room = { w->room, LONGEST };
+	nizwarf_room room = { w->room, LONGEST };
 	const transport *by = w->of->by;
 	struct fuse_in_header asked;
 	size_t len = 0;
@@ -191,6 +215,7 @@ static enum outcome serve_one(const struct worker *w, uint32_t *opcode, int was_
 	}
 	memcpy(&asked, w->request, sizeof(asked));
 	*opcode = asked.opcode;
+	room.len = room_for(w, &asked, (size_t)got);
 	code = by->serve(by->user, w->number, &segment, 1, &room, 1, &len);
 	if (code != NIZWARF_OK)
 		len = refuse(w, &asked, code);
