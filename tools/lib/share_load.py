@@ -254,7 +254,7 @@ def hold_failure(said, killed):
     holds 8,192 folders open. Of one that was killed the counters are wrong, and its folder is removed while children
     of its go on."""
     name = re.search(r"fail:\s+\[\d+\] ([\w-]+)", said)
-    if not name or name[1] == "metrics-check" or name[1] in killed:
+    if not name or name[1] == "metrics-check" or name[1].replace("_", "-") in killed:
         return
     if any(f"errno={it} " in said for it in (errno.ENOSPC, errno.EMFILE, errno.ENFILE)):
         count("stressors that met a full disk or a want of descriptors")
