@@ -196,8 +196,8 @@ void passthrough_parted(void *user)
 	atomic_store(&all->agreed, 0);
 }
 
-/* Whether the file system of the folder is one of those to which it means nothing that a descriptor of a
- * file is closed: its client needs no FLUSH. */
+/* Looks whether the folder is on a local file system. To such a one it means nothing that a descriptor is
+ * closed, and a file that is read ends where bytes of a page are missing. */
 static void look_at_folder(struct passthrough *all, int root)
 {
 	struct statfs told;
@@ -205,9 +205,9 @@ static void look_at_folder(struct passthrough *all, int root)
 
 	if (fstatfs(root, &told) || fstat(root, &seen))
 		return;
-	all->is_quiet = told.f_type == EXT4_SUPER_MAGIC || told.f_type == XFS_SUPER_MAGIC ||
+	all->is_local = told.f_type == EXT4_SUPER_MAGIC || told.f_type == XFS_SUPER_MAGIC ||
 			told.f_type == BTRFS_SUPER_MAGIC || told.f_type == TMPFS_MAGIC;
-	all->quiet = seen.st_dev;
+	all->local_device = seen.st_dev;
 }
 
 struct passthrough *passthrough_new(int root, int proc, const struct passthrough_options *options)

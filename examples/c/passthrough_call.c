@@ -17,7 +17,7 @@
 #define CREATE_SUPP_GROUP (UINT64_C(1) << 34)
 
 /* The most that is copied at once. */
-enum { COPIED = 1 << 30 };
+enum { COPIED = 1 << 30, PAGE = 4096 };
 
 /* ---- helpers: each that answers a number gives 0 or an error */
 
@@ -196,8 +196,14 @@ static int flags_of(const struct call *call)
 	return made;
 }
 
-/* Answers an open file of this device, whose handle is told. */
-static void tell_open(const struct call *call, bool is_directory, uint64_t device)
+/* (a new file is on the device of its directory) */
+bool is_local(const struct call *call)
+{
+	return call->all->is_local && call->node.node->device == call->all->local_device;
+}
+
+/* Answers an open file, whose handle is told. */
+static void tell_open(const struct call *call, bool is_directory)
 {
 	nizwarf_answer *answer = call->answer;
 
@@ -216,8 +222,7 @@ static void tell_open(const struct call *call, bool is_directory, uint64_t devic
 		break;
 	}
 	/* (what was only read has nothing to flush, and a client that writes later flushes all the same) */
-	if (!is_directory && ((call->asked->flags & O_ACCMODE) == O_RDONLY ||
-			      (call->all->is_quiet && device == call->all->quiet)))
+	if (!is_directory && ((call->asked->flags & O_ACCMODE) == O_RDONLY || is_local(call)))
 		answer->open_flags |= FOPEN_NOFLUSH;
 }
 
@@ -236,7 +241,7 @@ static int open_file(const struct call *call)
 		close(fd);
 		return ENOMEM;
 	}
-	tell_open(call, is_directory, call->node.node->device);
+	tell_open(call, is_directory);
 	return 0;
 }
 
@@ -306,8 +311,7 @@ static int create_file(struct call *call)
 		close(fd);
 		return error;
 	}
-	/* (it is on that of its directory) */
-	tell_open(call, false, call->node.node->device);
+	tell_open(call, false);
 	return 0;
 }
 
@@ -350,6 +354,9 @@ static int transfer(const struct call *call)
 			break;
 		done += (size_t)moved;
 		move_on(&data, &pieces, (size_t)moved);
+		/* (what ends within a page ends with the file, and isn't what an error cut) */
+		if (is_read && pieces && (asked->offset + done) % PAGE && is_local(call))
+			break;
 	}
 	call->answer->count = done;
 	return 0;

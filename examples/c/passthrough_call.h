@@ -37,9 +37,9 @@ struct passthrough {
 	atomic_ullong agreed;
 	/* For how many milliseconds it may remember names and attributes. */
 	uint64_t entry_time, attr_time;
-	/* The device of the folder, if its kind of file system does nothing when a file is closed. */
-	bool is_quiet;
-	uint64_t quiet;
+	/* The device of the folder, if its file system is a local one: ext4, xfs, btrfs or tmpfs. */
+	bool is_local;
+	uint64_t local_device;
 	struct worker *worker[TRANSPORT_MOST_WORKERS];
 };
 
@@ -65,6 +65,8 @@ int failed(int result);
 /* A buffer of at least so many bytes: `buffer` is where a pointer to it is. False: there is no
  * memory. */
 bool grow(void *buffer, size_t *size, size_t wanted);
+/* Whether a node is on the local file system of the folder. */
+bool is_local(const struct call *call);
 /* A name of the request, behind which a byte 0 is. */
 const char *name_of(const struct call *call, nizwarf_range range);
 /* Whether a name is that of something in a directory. */

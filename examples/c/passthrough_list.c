@@ -29,6 +29,7 @@ static int move_to(struct open_file *file, uint64_t offset)
 		return errno;
 	file->at = file->end = 0;
 	file->offset = offset;
+	file->is_at_end = false;
 	return 0;
 }
 
@@ -39,6 +40,7 @@ static const struct dirent64 *next_item(struct open_file *file)
 		const ssize_t got = getdents64(file->counted.fd, file->buffer, ENTRIES);
 
 		errno = got < 0 ? errno : 0;
+		file->is_at_end = !got;
 		if (got <= 0)
 			return NULL;
 		file->at = 0;
@@ -128,7 +130,11 @@ static int list(const struct call *call)
 	/* Names are copied, since the buffer changes; of each the record is longer than the name. */
 	if (!error && !grow(&w->names, &w->names_size, space.room))
 		error = ENOMEM;
-	/* (an end that is read tells nothing of what is used) */
+	/* The end that a listing met is told once to who reads on. It says nothing of what is used. */
+	if (!error && file->is_at_end) {
+		file->is_at_end = false;
+		return 0;
+	}
 	next = error ? NULL : next_item(file);
 	entries = next && tells_entries(call);
 	for (; next && put_item(call, next, entries, &space); next = next_item(file)) {
@@ -138,6 +144,8 @@ static int list(const struct call *call)
 	if (!error && !next && !space.count)
 		error = errno;
 	/* (a listing of no item says that the directory ends) */
+	if (!space.count)
+		file->is_at_end = false;
 	if (!error && next && !space.count && space.lacks_memory)
 		error = ENOMEM;
 	call->answer->items = w->items;

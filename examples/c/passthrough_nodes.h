@@ -90,6 +90,8 @@ struct open_file {
 	char *buffer;
 	size_t at, end;
 	uint64_t offset;
+	/* The end was met behind what was told last. */
+	bool is_at_end;
 };
 
 struct nodes {

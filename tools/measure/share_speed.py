@@ -159,12 +159,12 @@ def main():
     for what in classes:
         print(row(servers, what), flush=True)
     print(WHY, end="")
-    if shutil.which("strace"):
+    counted = [what for what in classes if what in TIMES]
+    if counted and shutil.which("strace"):
         print(CALLS)
-        for what in classes:
-            if what in TIMES:
-                cells = [calls_of(servers[name], what) for name in list(servers)[:3]]
-                print(f"| {SAID[what]}, a {TIMES[what][1]} | " + " | ".join(cells) + " |", flush=True)
+        for what in counted:
+            cells = [calls_of(servers[name], what) for name in list(servers)[:3]]
+            print(f"| {SAID[what]}, a {TIMES[what][1]} | " + " | ".join(cells) + " |", flush=True)
 
 
 if __name__ == "__main__":
