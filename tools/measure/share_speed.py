@@ -31,7 +31,7 @@ HEAD = """# A share beside libfuse's passthrough and bindfs
 
 What a program waits for files over a mount of `nizwarf-share`: its time by the clock, by that over a mount of the
 other; in brackets the same of the servers' processor time. Below 1 the share is quicker. The last two columns are
-those of the other that is the quicker one. Medians of {rounds} rounds in turns: `tools/share-speed.sh {rounds}`.
+those of the other that is the quicker one. Medians of {rounds} rounds in turns: `tools/measure/share-speed.sh {rounds}`.
 {facts}
 
 Each has its defaults and remembers names and attributes for a second. The share has its sandbox and 4 workers,
