@@ -238,6 +238,36 @@ PYTHON
     echo "It has the capabilities that --modcaps says."
 }
 
+# A file that a client knows is opened, whatever takes its name meanwhile; and it is remembered that there is none.
+try_names() {
+    local came
+    rm -rf "$work/folder"
+    mkdir -p "$work/folder" "$work/mount"
+    echo this > "$work/folder/file"
+    "$share" --log-level=error --cache=always -o negative_timeout=2 "$@" "$work/folder" "$work/mount" &
+    server=$!
+    await_mount
+    [ "$(cat "$work/mount/file")" = this ] || wrong "a file that is read, with $*"
+    mv "$work/folder/file" "$work/folder/moved"
+    mkfifo "$work/folder/file"
+    came=$(timeout 20 cat "$work/mount/file") || came="status $?"
+    [ "$came" = this ] || wrong "a pipe took the name of a file, and reading it came to $came, with $*"
+    rm "$work/folder/file"
+    echo other > "$work/folder/file"
+    timeout 20 sh -c "echo more >> '$work/mount/file'" || wrong "a file that lost its name isn't written, with $*"
+    [ "$(cat "$work/folder/moved" "$work/folder/file" | tr '\n' ' ')" = "this more other " ] ||
+        wrong "another file took a name, and was written, with $*"
+    [ ! -e "$work/mount/none" ] || wrong "a name that is none"
+    touch "$work/folder/none"
+    [ ! -e "$work/mount/none" ] || wrong "it is not remembered that there is no such name, with $*"
+    sleep 2.1
+    [ -e "$work/mount/none" ] || wrong "it is remembered for too long that there is no such name, with $*"
+    umount "$work/mount"
+    wait "$server" || wrong "the server ended with $? with $*"
+    server=
+    echo "Files are the ones that were looked up, with $*"
+}
+
 # Words that can't be, what is printed, and who is told that it serves.
 try_words() {
     local came words
@@ -298,6 +328,8 @@ try_mount --rlimit-nofile=100
 try_signals --sandbox=namespace
 try_signals --sandbox=none
 try_kill
+try_names --sandbox=namespace
+try_names --sandbox=none
 try_user
 
 # Asks a server over vhost-user: what it is, its words.
