@@ -120,7 +120,8 @@ def hold_descriptors(server, before, what):
         with open("/proc/sys/vm/drop_caches", "w") as drop:
             drop.write("2")
         return server.descriptors() <= before
-    if not wait_for(are_back):
+    # (what was killed may take its time on a machine with other work)
+    if not wait_for(are_back, 300):
         wrong(f"{what}: {server.descriptors()} descriptors, and {before} before it")
     resident, most = server.memory()
     counts["most memory of a server, KiB"] = max(counts.get("most memory of a server, KiB", 0), most)
