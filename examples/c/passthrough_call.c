@@ -342,6 +342,7 @@ static int transfer(const struct call *call)
 		return is_read ? EINVAL : EFBIG;
 	while (pieces) {
 		const int most = pieces < IOV_MAX ? (int)pieces : IOV_MAX;
+		const size_t others = pieces - (size_t)most;
 		const off_t at = (off_t)(asked->offset + done);
 		const ssize_t moved = is_read ? preadv(fd, data, most, at) : pwritev(fd, data, most, at);
 
@@ -355,7 +356,7 @@ static int transfer(const struct call *call)
 		done += (size_t)moved;
 		move_on(&data, &pieces, (size_t)moved);
 		/* (what ends within a page ends with the file, and isn't what an error cut) */
-		if (is_read && pieces && (asked->offset + done) % PAGE && is_local(call))
+		if (is_read && pieces > others && (asked->offset + done) % PAGE && is_local(call))
 			break;
 	}
 	call->answer->count = done;
