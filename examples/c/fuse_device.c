@@ -31,7 +31,7 @@
 
 /* The longest request and reply: a header and its record take less than a page. Before the data of
  * a WRITE stand 80 bytes, and before those of a READ's reply 16. */
-enum { TICK = 1, QUIET_TICKS = 50, WAITED_TICKS = 4 };
+enum { TICK = 1, QUIET_TICKS = 50, STUCK_TICKS = 2, WAITED_TICKS = 4 };
 enum { PAGE = 4096, LONGEST = TRANSPORT_PAYLOAD + PAGE, BEFORE_WRITE = 80, BEFORE_READ = 16 };
 
 enum outcome { SERVED, ENDED, FAILED };
@@ -348,7 +348,7 @@ static void look(struct device *d, struct seen *seen, unsigned long taken)
 		return;
 	}
 	seen->waited = is_waited_for(&d->worker[0]) ? seen->waited + 1 : 0;
-	if (!seen->waited || (taken != seen->taken && seen->waited < WAITED_TICKS))
+	if (seen->waited < (taken == seen->taken ? STUCK_TICKS : WAITED_TICKS))
 		return;
 	seen->waited = 0;
 	call_one(d);
