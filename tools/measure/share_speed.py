@@ -24,7 +24,7 @@ SAID = {"stat": "statx of 2,000 files, asked anew", "stat-missing": "stat of 2,0
         "git status": "git status of this repository", "untar": "untar of this repository"}
 # What is done so many times in a class, and what a system call is counted for.
 TIMES = {"stat": (2000, "file"), "stat-missing": (2000, "name"), "open-close": (2000, "file"),
-         "create-unlink": (2000, "file"), "readdir": (50000, "name"), "ls-l": (10000, "name"), "write-1m": (48, "MiB"),
+         "create-unlink": (2000, "file"), "readdir": (5, "listing"), "ls-l": (10000, "name"), "write-1m": (48, "MiB"),
          "read-1m": (48, "MiB"), "write-4k": (3000, "block"), "read-4k": (3000, "block")}
 
 HEAD = """# A share beside libfuse's passthrough and bindfs
@@ -41,7 +41,7 @@ many is meant.
 CALLS = """
 ## System calls
 
-Of the server, for each file, name, MiB or block, by `strace -c`, under which a class takes longer than a second, so
+Of the server, for each file, name, listing, MiB or block, by `strace -c`, under which a class takes longer than a second, so
 that names are looked up again. Those of less than one in twenty are left out, and what waits: `poll` and `futex`.
 
 | Class | nizwarf-share | passthrough_ll | bindfs |
