@@ -481,7 +481,7 @@ static inline int nizwarf_make_call(const nizwarf_ops *ops, const nizwarf_req *r
 
 /* Releases what was opened, where the client does not get its handle: by `release` or `releasedir`,
  * with the flags that it was opened with. */
-static inline void nizwarf_release_unfit(const nizwarf_ops *ops, const nizwarf_req *req,
+static inline void nizwarf_do_release(const nizwarf_ops *ops, const nizwarf_req *req,
 					 const nizwarf_answer *answer)
 {
 	const nizwarf_call *c = req->call;
@@ -537,7 +537,7 @@ static inline int32_t nizwarf_serve_ops(const nizwarf_ops *ops, void *user, nizw
 	if (call.call == NIZWARF_INIT || call.call == NIZWARF_DESTROY)
 		session->options = told.options;
 	if (code != NIZWARF_OK)
-		nizwarf_release_unfit(ops, &req, &answer);
+		nizwarf_do_release(ops, &req, &answer);
 	nizwarf_give_back(&dir, told.give_back);
 	for (i = (size_t)told.taken; i < dir.len; i++)
 		nizwarf_give_back(&dir, items[i].entry.node);
