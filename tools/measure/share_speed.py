@@ -49,8 +49,9 @@ that names are looked up again. Those of less than one in twenty are left out, a
 WHY = """
 What the share alone does: each file that is looked up is opened with O_PATH, and closed when it is forgotten, so that
 a request goes to the file that was looked up, whatever is renamed meanwhile, and no path is walked or link followed.
-bindfs holds no file and walks the path of each request from the folder on, so it may reach another file. A new file
-has two descriptors then, and `fstat` that they are of one file. Each system call passes a filter.
+bindfs holds no file and walks the path of each request from the folder on, so it may reach another file. What the
+share opens by a name is compared with that file by `fstat`; and each system call passes a filter, to which the others
+have none.
 """
 
 
