@@ -3,7 +3,7 @@
 
 use crate::attr::{Attr, Statvfs};
 use crate::door::{Refusal, Reply};
-use crate::ffi::{Item, Pending, RawAnswer, RawEntry, Slot};
+use crate::ffi::{number_of, Item, Pending, RawAnswer, RawEntry, Slot};
 use crate::file_system::{Entry, GetxattrReply, ListxattrReply};
 use crate::flags::{FsOptions, OpenOptions};
 use std::fmt;
@@ -179,57 +179,65 @@ impl<K> To<K> {
     }
 
     /// Answers with an error. One without a number becomes EIO. Calls that have no reply get none.
-    pub fn fail<'s>(self, slot: &'s mut Slot, error: &io::Error) -> Told<'s> {
-        self.tell(slot, &RawAnswer::fault(error), &[], &[])
+    pub fn fail<'s>(mut self, slot: &'s mut Slot, error: &io::Error) -> Told<'s> {
+        self.pending.answer.error = number_of(error);
+        tell(self.pending, slot, &[], &[])
     }
 
-    fn tell<'s>(
-        self,
-        slot: &'s mut Slot,
-        answer: &RawAnswer,
-        text: &[u8],
-        items: &[Item<'_>],
-    ) -> Told<'s> {
-        const INIT: u32 = 26;
-        const DESTROY: u32 = 38;
-        const READDIRPLUS: (u32, u32) = (28, 1 << 9);
-        let call = &self.pending.call;
-        let (code, told) = slot.answer_raw(&self.pending, answer, text, items);
-        let taken = usize::try_from(told.taken).unwrap_or(usize::MAX);
-        let mut held = Vec::new();
-        if told.give_back != 0 {
-            held.push(told.give_back);
-        }
-        if (call.call, call.has & READDIRPLUS.1) == READDIRPLUS {
-            held.extend(items.iter().skip(taken).filter_map(Item::held));
-        }
-        let options = matches!(call.call, INIT | DESTROY)
-            .then(|| FsOptions::from_bits_truncate(told.options));
-        slot.keep(self.pending);
-        Told {
-            outcome: Refusal::of(code),
-            options,
-            taken,
-            held,
-            reply: Reply::new(slot, told.len, told.put),
-        }
+    /// Answers with success.
+    fn succeed<'s>(mut self, slot: &'s mut Slot, text: &[u8], items: &[Item<'_>]) -> Told<'s> {
+        self.pending.answer.error = 0;
+        tell(self.pending, slot, text, items)
     }
 
-    /// Answers with an error, or with an answer whose fields `change` sets.
+    /// Answers with an error, or with an answer of which `change` sets the fields that its kind has.
+    #[inline]
     fn say<T>(
-        self,
+        mut self,
         slot: &mut Slot,
         result: io::Result<T>,
         change: impl FnOnce(&mut RawAnswer, T),
     ) -> Told<'_> {
         match result {
             Ok(value) => {
-                let mut answer = RawAnswer::DONE;
-                change(&mut answer, value);
-                self.tell(slot, &answer, &[], &[])
+                change(&mut self.pending.answer, value);
+                self.succeed(slot, &[], &[])
             }
             Err(error) => self.fail(slot, &error),
         }
+    }
+}
+
+/// Tells the library the answer to a call.
+#[inline(never)]
+fn tell<'s>(
+    pending: Box<Pending>,
+    slot: &'s mut Slot,
+    text: &[u8],
+    items: &[Item<'_>],
+) -> Told<'s> {
+    const INIT: u32 = 26;
+    const DESTROY: u32 = 38;
+    const READDIRPLUS: (u32, u32) = (28, 1 << 9);
+    let call = &pending.call;
+    let (code, told) = slot.answer_raw(&pending, text, items);
+    let taken = usize::try_from(told.taken).unwrap_or(usize::MAX);
+    let mut held = Vec::new();
+    if told.give_back != 0 {
+        held.push(told.give_back);
+    }
+    if (call.call, call.has & READDIRPLUS.1) == READDIRPLUS {
+        held.extend(items.iter().skip(taken).filter_map(Item::held));
+    }
+    let options =
+        matches!(call.call, INIT | DESTROY).then(|| FsOptions::from_bits_truncate(told.options));
+    slot.keep(pending);
+    Told {
+        outcome: Refusal::of(code),
+        options,
+        taken,
+        held,
+        reply: Reply::new(slot, told.len, told.put),
     }
 }
 
@@ -242,19 +250,20 @@ fn opened(answer: &mut RawAnswer, handle: Option<u64>, options: OpenOptions) {
 impl To<Quiet> {
     /// Reports that the call was made.
     pub fn done(self, slot: &mut Slot) -> Told<'_> {
-        self.tell(slot, &RawAnswer::DONE, &[], &[])
+        self.succeed(slot, &[], &[])
     }
 }
 
 impl To<Destroyed> {
     /// Reports that the call was made.
     pub fn done(self, slot: &mut Slot) -> Told<'_> {
-        self.tell(slot, &RawAnswer::DONE, &[], &[])
+        self.succeed(slot, &[], &[])
     }
 }
 
 impl To<Done> {
     /// Answers with success or an error.
+    #[inline]
     pub fn answer(self, slot: &mut Slot, result: io::Result<()>) -> Told<'_> {
         self.say(slot, result, |_, ()| ())
     }
@@ -262,6 +271,7 @@ impl To<Done> {
 
 impl To<FaultOrSilence> {
     /// Answers with an error; success has no reply.
+    #[inline]
     pub fn answer(self, slot: &mut Slot, result: io::Result<()>) -> Told<'_> {
         self.say(slot, result, |_, ()| ())
     }
@@ -277,6 +287,7 @@ impl To<Data> {
 
     /// Answers with the number of bytes that the caller put into the buffer, after its first 16 bytes. The
     /// reply puts these 16. A number above [`most`](Self::most) is answered EIO.
+    #[inline]
     pub fn answer(self, slot: &mut Slot, result: io::Result<usize>) -> Told<'_> {
         self.say(slot, result, |answer, count| answer.count = count as u64)
     }
@@ -284,6 +295,7 @@ impl To<Data> {
 
 impl To<Want> {
     /// Answers with the options that the file system wants. Those that were not offered are ignored.
+    #[inline]
     pub fn answer(self, slot: &mut Slot, result: io::Result<FsOptions>) -> Told<'_> {
         self.say(slot, result, |answer, options| answer.count = options.bits())
     }
@@ -291,6 +303,7 @@ impl To<Want> {
 
 impl To<EntryOf> {
     /// Answers with an entry. The client then holds one more lookup of its node, if that is not 0.
+    #[inline]
     pub fn answer(self, slot: &mut Slot, result: io::Result<Entry>) -> Told<'_> {
         self.say(slot, result, |answer, entry| answer.entry = RawEntry::from(&entry))
     }
@@ -298,6 +311,7 @@ impl To<EntryOf> {
 
 impl To<Attributes> {
     /// Answers with attributes, and how long they are valid.
+    #[inline]
     pub fn answer(self, slot: &mut Slot, result: io::Result<(Attr, Duration)>) -> Told<'_> {
         self.say(slot, result, |answer, (attr, timeout)| {
             answer.entry.attr = attr;
@@ -309,6 +323,7 @@ impl To<Attributes> {
 
 impl To<Opened> {
     /// Answers with a handle, which is sent as 0 if there is none, and options of the open file.
+    #[inline]
     pub fn answer(
         self,
         slot: &mut Slot,
@@ -320,6 +335,7 @@ impl To<Opened> {
 
 impl To<Created> {
     /// Answers with an entry, as a LOOKUP, and an open file, as an OPEN.
+    #[inline]
     pub fn answer(
         self,
         slot: &mut Slot,
@@ -334,6 +350,7 @@ impl To<Created> {
 
 impl To<Statistics> {
     /// Answers with statistics.
+    #[inline]
     pub fn answer(self, slot: &mut Slot, result: io::Result<Statvfs>) -> Told<'_> {
         self.say(slot, result, |answer, statfs| answer.statfs = statfs)
     }
@@ -341,9 +358,10 @@ impl To<Statistics> {
 
 impl To<Text> {
     /// Answers with a text, which follows the header of the reply.
+    #[inline]
     pub fn answer<'s>(self, slot: &'s mut Slot, result: io::Result<&[u8]>) -> Told<'s> {
         match result {
-            Ok(text) => self.tell(slot, &RawAnswer::DONE, text, &[]),
+            Ok(text) => self.succeed(slot, text, &[]),
             Err(error) => self.fail(slot, &error),
         }
     }
@@ -351,13 +369,17 @@ impl To<Text> {
 
 impl To<TextOrCount> {
     /// Answers with a text, or with its length if the `size` of the call is 0.
+    #[inline]
     pub fn answer<T: Into<GetxattrReply>>(
-        self,
+        mut self,
         slot: &mut Slot,
         result: io::Result<T>,
     ) -> Told<'_> {
         match result.map(Into::into) {
-            Ok(GetxattrReply::Value(text)) => self.tell(slot, &RawAnswer::DONE, &text, &[]),
+            Ok(GetxattrReply::Value(text)) => {
+                self.pending.answer.has_count = 0;
+                self.succeed(slot, &text, &[])
+            }
             Ok(GetxattrReply::Count(count)) => self.say(slot, Ok(count), |answer, count| {
                 answer.has_count = 1;
                 answer.count = count.into();
@@ -378,6 +400,7 @@ impl From<ListxattrReply> for GetxattrReply {
 
 impl To<Offset> {
     /// Answers with an offset.
+    #[inline]
     pub fn answer(self, slot: &mut Slot, result: io::Result<u64>) -> Told<'_> {
         self.say(slot, result, |answer, offset| answer.count = offset)
     }
@@ -385,6 +408,7 @@ impl To<Offset> {
 
 impl To<Written> {
     /// Answers with the number of bytes that were written.
+    #[inline]
     pub fn answer(self, slot: &mut Slot, result: io::Result<usize>) -> Told<'_> {
         self.say(slot, result, |answer, count| answer.count = count as u64)
     }
@@ -393,9 +417,10 @@ impl To<Written> {
 impl To<Directory> {
     /// Answers with items. The reply contains them up to the first that does not fit. With `plus` it also
     /// ends before an item whose lookup failed; if that is the first item, its error is the reply.
+    #[inline]
     pub fn answer<'s>(self, slot: &'s mut Slot, result: io::Result<&[Item<'_>]>) -> Told<'s> {
         match result {
-            Ok(items) => self.tell(slot, &RawAnswer::DONE, &[], items),
+            Ok(items) => self.succeed(slot, &[], items),
             Err(error) => self.fail(slot, &error),
         }
     }

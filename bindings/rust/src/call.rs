@@ -366,7 +366,7 @@ impl<'r> Decoder<'_, 'r> {
 /// takes longer.)
 #[allow(clippy::too_many_lines)] // a table
 #[inline(never)]
-fn call_of(pending: Box<Pending>, request: Request<'_>) -> Call<'_> {
+pub(crate) fn call_of(pending: Box<Pending>, request: Request<'_>) -> Call<'_> {
     let asked = Decoder { raw: &pending.call, request };
     let raw = asked.raw;
     match raw.call {
@@ -570,10 +570,8 @@ fn call_of(pending: Box<Pending>, request: Request<'_>) -> Call<'_> {
     }
 }
 
-impl<'r> PendingCall<'r> {
-    pub(crate) fn new(pending: Box<Pending>, request: Request<'r>) -> Self {
-        let RawCall { uid, gid, pid, unique, .. } = pending.call;
-        let context = Context { uid, gid, pid, unique };
-        PendingCall { context, call: call_of(pending, request) }
-    }
+/// The caller of a call of the library.
+pub(crate) fn context_of(call: &RawCall) -> Context {
+    let RawCall { uid, gid, pid, unique, .. } = *call;
+    Context { uid, gid, pid, unique }
 }

@@ -1,8 +1,9 @@
 //! Sessions, requests and replies.
 #![forbid(unsafe_code)]
 
-use crate::call::PendingCall;
+use crate::call::{call_of, context_of, Call, PendingCall};
 use crate::ffi::{RawSession, Slot, ASKED};
+use crate::file_system::Context;
 use crate::flags::FsOptions;
 use std::error::Error;
 use std::fmt;
@@ -259,13 +260,52 @@ impl Slot {
         request: &'r [IoSlice<'r>],
         room: usize,
     ) -> Asked<'s, 'r> {
+        let call = |_: &'s mut Slot, context, call| PendingCall { context, call };
+        match self.ask_with(session, request, room, call) {
+            Ok(pending) => Asked::Call(pending),
+            Err(finished) => Asked::Finished(finished),
+        }
+    }
+
+    /// Decodes a request as [`ask`](Self::ask) does, and lets a function make its call. This is quicker, since
+    /// the call is not moved.
+    ///
+    /// ```
+    /// use nizwarf::{Call, Session, Slot};
+    /// use std::io::IoSlice;
+    ///
+    /// // A SYNCFS.
+    /// let mut request = [0; 40];
+    /// (request[0], request[4], request[16]) = (40, 50, 1);
+    /// let mut slot = Slot::new();
+    /// let told = slot.ask_with(&Session::default(), &[IoSlice::new(&request)], 64, |slot, _, call| {
+    ///     match call {
+    ///         Call::Syncfs { to, .. } => to.answer(slot, Ok(())),
+    ///         other => panic!("{other:?}"),
+    ///     }
+    /// });
+    /// assert_eq!(told.unwrap().reply().len(), 16);
+    /// ```
+    ///
+    /// # Errors
+    /// If the request needs no call.
+    #[inline]
+    pub fn ask_with<'s, 'r, T>(
+        &'s mut self,
+        session: &Session,
+        request: &'r [IoSlice<'r>],
+        room: usize,
+        make: impl FnOnce(&'s mut Slot, Context, Call<'r>) -> T,
+    ) -> Result<T, Finished<'s>> {
         let mut pending = self.take(session.0);
         let (code, told) = self.ask_raw(&mut pending, request, room);
         if code == ASKED {
-            return Asked::Call(PendingCall::new(pending, request));
+            let context = context_of(&pending.call);
+            let call = call_of(pending, request);
+            return Ok(make(self, context, call));
         }
         self.keep(pending);
-        Asked::Finished(Finished {
+        Err(Finished {
             outcome: Refusal::of(code),
             interrupts: Some(told.interrupts).filter(|number| *number != 0),
             reply: Reply::new(self, told.len, told.put),

@@ -261,6 +261,8 @@ pub(crate) fn reply_line(request: &[u8], reply: &[u8]) -> Vec<u8> {
 pub(crate) struct Pending {
     pub call: RawCall,
     pub session: RawSession,
+    /// The answer, in which the fields that its kind does not have are left as they were.
+    pub answer: RawAnswer,
 }
 
 /// The code of a request that asks for a call.
@@ -342,14 +344,11 @@ impl RawAnswer {
         entry: RawEntry::NONE,
         statfs: Statvfs::NONE,
     };
+}
 
-    /// An error. One without a number becomes EIO, for which the library takes -1.
-    pub fn fault(error: &io::Error) -> Self {
-        Self {
-            error: error.raw_os_error().filter(|number| *number > 0).unwrap_or(-1),
-            ..Self::DONE
-        }
-    }
+/// The number of an error. One without a number becomes EIO, for which the library takes -1.
+pub(crate) fn number_of(error: &io::Error) -> i32 {
+    error.raw_os_error().filter(|number| *number > 0).unwrap_or(-1)
 }
 
 impl<'a> Item<'a> {
@@ -379,7 +378,7 @@ impl<'a> Item<'a> {
     pub fn looked_up(self, result: &io::Result<Entry>) -> Self {
         match result {
             Ok(entry) => Item { entry: entry.into(), ..self },
-            Err(error) => Item { error: RawAnswer::fault(error).error, ..self },
+            Err(error) => Item { error: number_of(error), ..self },
         }
     }
 
@@ -471,7 +470,7 @@ impl Slot {
                 pending.session = session;
                 pending
             }
-            None => Box::new(Pending { call: RawCall::NONE, session }),
+            None => Box::new(Pending { call: RawCall::NONE, session, answer: RawAnswer::DONE }),
         }
     }
 
@@ -487,7 +486,7 @@ impl Slot {
         request: &[IoSlice<'_>],
         room: usize,
     ) -> (i32, RawTold) {
-        let Pending { call, session } = pending;
+        let Pending { call, session, .. } = pending;
         call.call = 0;
         let mut told = RawTold { options: session.options, ..RawTold::default() };
         // SAFETY: all pointers are valid for this call and none is null. The slices are initialised bytes
@@ -510,11 +509,10 @@ impl Slot {
     pub(crate) fn answer_raw(
         &mut self,
         pending: &Pending,
-        answer: &RawAnswer,
         text: &[u8],
         items: &[Item<'_>],
     ) -> (i32, RawTold) {
-        let Pending { call, session } = pending;
+        let Pending { call, session, answer } = pending;
         let mut told = RawTold { options: call.options, ..RawTold::default() };
         // SAFETY: all pointers are valid for this call and none is null, not even those of length 0. The
         // library reads no more of the answer than there is. The names of items outlive the items.
