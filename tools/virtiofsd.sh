@@ -7,9 +7,9 @@
 # takes virtiofsd's options, which its own --help lists. It is built again if a source is newer.
 #
 # The sources of virtiofsd and of the crates below it are packages of Debian 13, which apt-get downloads by
-# lists of its own and which are unpacked into the folder, and never installed: 50 MB. virtiofsd's
-# src/server.rs is replaced by bindings/virtiofsd/server.rs, which stands on the crate of bindings/rust; no
-# other source changes. The first run takes a minute for the download, and three for one processor.
+# lists of its own and which are unpacked into the folder, and never installed: 50 MB. Of virtiofsd's sources
+# src/server.rs and src/descriptor_utils.rs are replaced by those of bindings/virtiofsd, which stand on the crate
+# of bindings/rust; no other changes. The first run takes a minute for the download, and three for one processor.
 #
 # With --unmodified it builds virtiofsd as it is, by the same compiler, and leaves it as virtiofsd in the folder:
 # tools/measure/virtiofsd-speed.sh measures the two side by side.
@@ -138,7 +138,9 @@ cp "$from/Cargo.toml" "$folder/Cargo.toml"
 needed=("$tree/src" "$tree/Cargo.toml" "$here/tools/virtiofsd.sh")
 if [ -z "$unmodified" ]; then
     printf '\n[dependencies.nizwarf]\npath = "%s"\n' "$here/bindings/rust" >> "$folder/Cargo.toml"
-    renew "$here/bindings/virtiofsd/server.rs" "$tree/src/server.rs"
+    for file in "$here"/bindings/virtiofsd/*.rs; do
+        renew "$file" "$tree/src/${file##*/}"
+    done
     for file in "${library[@]}"; do
         renew "$file" "$folder/lib/${file##*/}"
     done

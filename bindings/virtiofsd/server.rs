@@ -3,33 +3,29 @@
 
 //! The protocol layer of virtiofsd 1.13.2, over the crate `nizwarf`.
 //!
-//! It takes the place of virtiofsd's `src/server.rs`, and no other source of it changes. The library decodes a
-//! request into a call, virtiofsd's file system makes the call, and the library encodes the answer as the
-//! reply. The data of a READ and of a WRITE go between guest memory and the file directly.
+//! It takes the place of virtiofsd's `src/server.rs`. The library decodes a request into a call, virtiofsd's file
+//! system makes the call, and the library encodes the answer as the reply. The data of a READ and of a WRITE go
+//! between guest memory and the file directly.
 //!
 //! Nothing here ends the worker of a queue. A request that the library refuses is completed with no bytes, and
 //! a panic of the file system is answered EIO.
 
-use crate::descriptor_utils::{Reader, Writer};
-use crate::file_traits::FileReadWriteAtVolatile;
+use crate::descriptor_utils::{Data, Pieces, Reader, Writer};
 use crate::filesystem::{
     Context, DirectoryIterator, Entry, Extensions, FileSystem, GetxattrReply, ListxattrReply,
-    SecContext, SerializableFileSystem, ZeroCopyReader, ZeroCopyWriter,
+    SecContext, SerializableFileSystem,
 };
 use crate::fuse::{Attr, FsOptions, OpenOptions, SetattrIn, SetattrValid, SetxattrFlags};
-use crate::oslib::WritevFlags;
 use crate::soft_idmap::Id;
-use nizwarf::{Asked, Call, Item, Reply, Session, Slot, Told};
+use nizwarf::{Call, Item, Refusal, Reply, Session, Slot, Told};
 use std::cell::RefCell;
 use std::ffi::CStr;
 use std::fs::File;
-use std::io::{self, IoSlice, Read};
+use std::io::{self, IoSlice};
 use std::panic::{catch_unwind, AssertUnwindSafe};
 use std::sync::atomic::{AtomicBool, AtomicU64, Ordering};
 use std::sync::Arc;
 use std::time::Duration;
-use vhost_user_backend::bitmap::BitmapMmapRegion;
-use vm_memory::VolatileSlice;
 
 /// The number of WRITE, and the length of its header and record, which precede the data.
 const WRITE: [u8; 4] = 16_u32.to_le_bytes();
@@ -67,13 +63,18 @@ impl<F: FileSystem + Sync> Server<F> {
     ///
     /// # Errors
     /// None: an error would end the worker of the queue.
+    #[allow(clippy::needless_pass_by_value)] // as it is called
     pub fn handle_message<T>(
         &self,
-        mut r: Reader,
-        mut w: Writer,
+        r: Reader,
+        w: Writer,
         _vu_req: Option<&mut T>,
     ) -> crate::Result<usize> {
-        Ok(LOCAL.with(|local| self.serve(&mut local.borrow_mut(), &mut r, &mut w)))
+        let (Some(request), Some(room)) = (r.pieces(), w.pieces()) else {
+            debug!("A descriptor is not in the memory of the guest");
+            return Ok(0);
+        };
+        Ok(LOCAL.with(|local| self.serve(&mut local.borrow_mut(), request, room)))
     }
 
     /// Ends the session, as a reset of the device does.
@@ -83,124 +84,52 @@ impl<F: FileSystem + Sync> Server<F> {
         0
     }
 
-    fn serve(&self, local: &mut Local, r: &mut Reader, w: &mut Writer) -> usize {
-        let Local { slot, request } = local;
+    fn serve(&self, local: &mut Local, request: Pieces, room: Pieces) -> usize {
+        let Local { slot, request: buffer } = local;
         let mut session = Session::default();
         let options = self.options.load(Ordering::Relaxed);
         session.set_options(nizwarf::FsOptions::from_bits_truncate(options));
-        if request.is_empty() {
-            *request = vec![0; session.longest_message()];
+        if buffer.is_empty() {
+            *buffer = vec![0; session.longest_message()];
         }
-        let request = match take_request(request, r) {
-            Ok(request) => [IoSlice::new(request)],
-            Err(_) => return 0,
-        };
-        let (outcome, mut reply) = match slot.ask(&session, &request, w.available_bytes()) {
-            Asked::Finished(done) => (done.outcome, done.reply),
-            Asked::Call(pending) => {
-                debug!("It asks for {pending:?}");
-                let asker = Asker::new(&self.fs, pending.context);
-                let told = asker.make(slot, pending.call, r, w);
-                if let Some(options) = told.options {
-                    self.options.store(options.bits(), Ordering::Relaxed);
-                }
-                (told.outcome, told.give_back(|node| asker.give_back(node)))
+        let bytes = take_request(buffer, request);
+        debug!("{}", nizwarf::print_request(bytes, session.options()));
+        let bytes = [IoSlice::new(bytes)];
+        let told = slot.ask_with(&session, &bytes, room.len(), |slot, caller, call| {
+            let asker = Asker::new(&self.fs, caller);
+            let told = asker.make(slot, call, request, room);
+            if let Some(options) = told.options {
+                self.options.store(options.bits(), Ordering::Relaxed);
             }
-        };
-        if let Err(refusal) = outcome {
-            debug!("A request is refused: {refusal}");
-            return 0;
-        }
-        debug!("The reply has {} bytes", reply.len());
-        put_reply(&mut reply, w)
+            (told.outcome, told.give_back(|node| asker.give_back(node)))
+        });
+        let (outcome, reply) = told.unwrap_or_else(|done| (done.outcome, done.reply));
+        put_reply(outcome, reply, room)
     }
 }
 
-/// Copies a request, so that the guest cannot change it any more, and returns it. The data of a WRITE stay in
-/// the reader. In the request there are other bytes in their place: the library looks at their length alone.
-fn take_request<'b>(buffer: &'b mut [u8], r: &mut Reader) -> io::Result<&'b [u8]> {
-    let (head, tail) = buffer.split_at_mut(WRITE_HEAD);
-    let mut len = 0;
-    let lent = Lent::new(|pieces| {
-        let mut left = &mut head[..];
-        for piece in pieces {
-            let copied = piece.copy_to(left);
-            left = &mut left[copied..];
-            len += piece.len();
-        }
-        // Where nothing more is read, it is quicker to leave the pieces in the reader.
-        if len > WRITE_HEAD {
-            Ok(WRITE_HEAD)
-        } else {
-            Err(LEFT.into())
-        }
-    });
-    // The length of the first pieces tells whether there is a byte behind the head.
-    let _ = r.write_to_file_at(lent, WRITE_HEAD + 1, 0, None);
-    if len > WRITE_HEAD {
-        len = WRITE_HEAD
-            + if head[4..8] == WRITE { r.available_bytes().min(tail.len()) } else { r.read(tail)? };
+/// Copies a request, so that the guest cannot change it any more, and returns it. Of a WRITE the data are not
+/// copied: there are other bytes in their place, since the library looks at their length alone.
+fn take_request<'b>(buffer: &'b mut [u8], request: Pieces) -> &'b [u8] {
+    let head = request.copy_to(&mut buffer[..WRITE_HEAD]);
+    if head < request.len() && buffer[4..8] != WRITE {
+        request.copy_to(buffer);
     }
-    Ok(&buffer[..len])
+    &buffer[..request.len().min(buffer.len())]
 }
 
-/// Puts a reply into the writer, and returns the length with which the request is completed.
-fn put_reply(reply: &mut Reply, w: &mut Writer) -> usize {
+/// Puts a reply into the room, and returns the length with which the request is completed.
+fn put_reply(outcome: Result<(), Refusal>, mut reply: Reply, room: Pieces) -> usize {
+    if let Err(refusal) = outcome {
+        debug!("The request is refused: {refusal}");
+        return 0;
+    }
     let len = reply.len();
-    let mut left = reply.bytes();
-    if left.is_empty() {
-        return len;
-    }
-    let count = left.len();
-    let lent = Lent::new(|pieces| {
-        for piece in pieces {
-            piece.copy_from(left);
-            left = &left[left.len().min(piece.len())..];
-        }
-        Err(LEFT.into())
-    });
-    let _ = w.read_from_file_at(lent, count, 0);
-    if left.is_empty() {
+    debug!("The reply has {len} bytes");
+    if room.copy_from(reply.bytes()) {
         len
     } else {
         0
-    }
-}
-
-/// The error with which a [`Lent`] leaves its pieces where they are.
-const LEFT: io::ErrorKind = io::ErrorKind::Other;
-
-/// In place of a file, a function that is lent the pieces of guest memory which the file would get.
-struct Lent<T>(RefCell<T>);
-
-impl<T> Lent<T>
-where
-    T: FnMut(&[&VolatileSlice<BitmapMmapRegion>]) -> io::Result<usize>,
-{
-    fn new(function: T) -> Self {
-        Lent(RefCell::new(function))
-    }
-}
-
-impl<T> FileReadWriteAtVolatile<BitmapMmapRegion> for Lent<T>
-where
-    T: FnMut(&[&VolatileSlice<BitmapMmapRegion>]) -> io::Result<usize>,
-{
-    fn read_vectored_at_volatile(
-        &self,
-        pieces: &[&VolatileSlice<BitmapMmapRegion>],
-        _offset: u64,
-    ) -> io::Result<usize> {
-        self.0.borrow_mut()(pieces)
-    }
-
-    fn write_vectored_at_volatile(
-        &self,
-        pieces: &[&VolatileSlice<BitmapMmapRegion>],
-        _offset: u64,
-        _flags: Option<WritevFlags>,
-    ) -> io::Result<usize> {
-        self.0.borrow_mut()(pieces)
     }
 }
 
@@ -242,7 +171,7 @@ impl<'f, F: FileSystem> Asker<'f, F> {
     }
 
     /// Makes the call that a request asks for, and answers it.
-    fn make<'s>(&self, slot: &'s mut Slot, call: Call, r: &mut Reader, w: &mut Writer) -> Told<'s> {
+    fn make<'s>(&self, slot: &'s mut Slot, call: Call, request: Pieces, room: Pieces) -> Told<'s> {
         match call {
             Call::Lookup { .. }
             | Call::Symlink { .. }
@@ -257,7 +186,7 @@ impl<'f, F: FileSystem> Asker<'f, F> {
             | Call::Getxattr { .. }
             | Call::Listxattr { .. }
             | Call::Removexattr { .. } => self.use_xattr(slot, call),
-            Call::Read { .. } | Call::Write { .. } => self.transfer(slot, call, r, w),
+            Call::Read { .. } | Call::Write { .. } => self.transfer(slot, call, request, room),
             Call::Open { .. }
             | Call::Release { .. }
             | Call::Fsync { .. }
@@ -379,24 +308,19 @@ impl<'f, F: FileSystem> Asker<'f, F> {
         }
     }
 
-    /// READ and WRITE. The first 16 bytes of the writer stay free for the header of the reply.
+    /// READ and WRITE.
     fn transfer<'s>(
         &self,
         slot: &'s mut Slot,
         call: Call,
-        r: &mut Reader,
-        w: &mut Writer,
+        request: Pieces,
+        room: Pieces,
     ) -> Told<'s> {
         match call {
             Call::Read { node, handle, size, offset, lock_owner, flags, to } => {
-                let most = to.most();
-                let is_longer = most < to.room().saturating_sub(REPLY_HEADER);
+                let data = Data::new(room, REPLY_HEADER, to.most());
                 let result = self.ask(|fs, ctx| {
-                    let mut data = w.split_at(REPLY_HEADER).map_err(io::Error::other)?;
-                    if is_longer {
-                        data.split_at(most).map_err(io::Error::other)?;
-                    }
-                    let (node, handle, data) = (node.into(), handle.into(), Room(data));
+                    let (node, handle) = (node.into(), handle.into());
                     fs.read(ctx, node, handle, data, size, offset, lock_owner, flags)
                 });
                 to.answer(slot, result)
@@ -413,13 +337,10 @@ impl<'f, F: FileSystem> Asker<'f, F> {
                 to,
                 ..
             } => {
-                let most = size as usize;
-                let is_longer = most < r.available_bytes();
+                let most = request.len().saturating_sub(WRITE_HEAD).min(size as usize);
+                let data = Data::new(request, WRITE_HEAD, most);
                 let result = self.ask(|fs, ctx| {
-                    if is_longer {
-                        r.split_at(most).map_err(io::Error::other)?;
-                    }
-                    let (node, handle, data) = (node.into(), handle.into(), Data(r));
+                    let (node, handle) = (node.into(), handle.into());
                     fs.write(
                         ctx, node, handle, data, size, offset, lock_owner, delayed, kill_priv,
                         flags,
@@ -520,9 +441,10 @@ impl<'f, F: FileSystem> Asker<'f, F> {
                         let mut listing = listing.borrow_mut();
                         let most = (size as usize).min(to.room().saturating_sub(REPLY_HEADER));
                         self.list(&mut listing, items, most, plus);
-                        let items = match plus {
-                            true => self.look_up(listing.items(), node),
-                            false => listing.items().collect(),
+                        let items = if plus {
+                            self.look_up(listing.items(), node)
+                        } else {
+                            listing.items().collect()
                         };
                         to.answer(slot, Ok(&items))
                     }),
@@ -712,46 +634,7 @@ fn name_in(names: &[u8], at: usize) -> &CStr {
     CStr::from_bytes_until_nul(&names[at..]).unwrap_or_default()
 }
 
-/// The room for the data of a READ.
-struct Room<'w>(Writer<'w>);
-
-impl ZeroCopyWriter for Room<'_> {
-    fn read_from_file_at(&mut self, file: &File, count: usize, at: u64) -> io::Result<usize> {
-        transfer(count, at, |left, at| self.0.read_from_file_at(file, left, at))
-    }
-}
-
-/// The data of a WRITE.
-struct Data<'a, 'r>(&'a mut Reader<'r>);
-
-impl ZeroCopyReader for Data<'_, '_> {
-    fn write_to_file_at(
-        &mut self,
-        file: &File,
-        count: usize,
-        at: u64,
-        flags: Option<WritevFlags>,
-    ) -> io::Result<usize> {
-        transfer(count, at, |left, at| self.0.write_to_file_at(file, left, at, flags))
-    }
-}
-
-/// Moves bytes until a step moves none, or fails.
-fn transfer(
-    count: usize,
-    at: u64,
-    mut step: impl FnMut(usize, u64) -> io::Result<usize>,
-) -> io::Result<usize> {
-    let mut done = 0;
-    while done < count {
-        match step(count - done, at.saturating_add(done as u64))? {
-            0 => break,
-            moved => done += moved,
-        }
-    }
-    Ok(done)
-}
-
+#[allow(clippy::needless_pass_by_value)] // as a result is mapped
 fn entry_of(entry: Entry) -> nizwarf::Entry {
     let Entry { inode, generation, attr, attr_timeout, entry_timeout } = entry;
     nizwarf::Entry { inode, generation, attr: attr_of(&attr), attr_timeout, entry_timeout }
