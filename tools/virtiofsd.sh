@@ -11,13 +11,14 @@
 # src/server.rs and src/descriptor_utils.rs are replaced by those of bindings/virtiofsd, which stand on the crate
 # of bindings/rust; no other changes. The first run takes a minute for the download, and three for one processor.
 #
-# With --unmodified it builds virtiofsd as it is, by the same compiler, and leaves it as virtiofsd in the folder:
-# tools/measure/virtiofsd-speed.sh measures the two side by side.
+# With --unmodified it builds virtiofsd as it is, and leaves it as virtiofsd in the folder:
+# tools/measure/virtiofsd-speed.sh measures the two side by side. Both are built by the same compiler and profile:
+# virtiofsd's own for a release, which optimises when it links, with one codegen unit.
 #
 # With --check it builds it, and asks it and Debian's own program of virtiofsd 1.13.2 the same over equal
-# folders, by vhost-user: the hostile requests of tools/compare/beside, and N well-formed ones by a seed (20000,
-# and 1). It then asks the one with the layer here as many that are mostly broken. It prints how many came to
-# the same, what differs and why, and what was survived. It takes three minutes, and wants root and Python 3.
+# folders, by vhost-user: the hostile requests of tools/compare/beside, and N well-formed ones by a seed (20000, and
+# 1). It then asks the one with the layer here as many that are mostly broken. It prints how many came to the
+# same, what differs and why, and what was survived. It takes three minutes, and wants root and Python 3.
 #
 # It wants apt-get, a C compiler, cargo 1.85 or later, libcap-ng, libseccomp, and the Rattle toolchain. It
 # links the proved library if that is built and no source is newer; otherwise tools/lib/unproved.sh builds it
@@ -28,6 +29,7 @@ set -euo pipefail
 . "$(dirname "$0")/lib/usage.sh"
 . "$(dirname "$0")/lib/transport.sh"
 . "$(dirname "$0")/lib/debian.sh"
+. "$(dirname "$0")/lib/front.sh"
 
 refuse() {
     echo "$1" >&2
@@ -46,11 +48,7 @@ while [ $# -gt 0 ]; do
             if [ "$1" = --seed ]; then seed=$2; else count=$2; fi
             shift
             ;;
-        -* | '') refuse "There is no option '$1'." ;;
-        *)
-            [ -z "$folder" ] || refuse "There is more than one folder."
-            folder=$1
-            ;;
+        *) take_folder "$1" ;;
     esac
     shift
 done
@@ -70,13 +68,11 @@ if [ "${version:-0}" -lt 85 ]; then
     exit 2
 fi
 if [ -n "$check" ]; then
-    need python3 "Install it: apt-get install python3."
+    need_front --check
     need prlimit "Install util-linux."
-    [ "$(id -u)" = 0 ] || refuse "virtiofsd is started as root: run --check as root."
 fi
-folder=${folder:-$here/out/virtiofsd}
-mkdir -p "$folder/link" "$folder/lib" "$folder/home" || refuse "$folder can't be made."
-folder=$(cd "$folder" && pwd)
+make_folder
+mkdir -p "$folder/link" "$folder/lib" "$folder/home"
 
 # Lets the linker find a library that is installed without its package for development.
 link_library() {
@@ -202,7 +198,7 @@ if [[ $version != *1.13.2* ]]; then
     echo "This is $version and not virtiofsd 1.13.2." >&2
     exit 2
 fi
-cc -std=c11 -O2 -Wall -Wextra -Werror -o "$folder/ask" "$here/tools/compare/beside/ask.c"
+build_front ask
 work=$(mktemp -d)
 trap 'rm -rf "$work"' EXIT
 python3 -B "$here/tools/compare/beside/replaced.py" "$folder/ask" "$work" "$seed" "$count" "$daemon" \

@@ -3,15 +3,18 @@
 # unmodified virtiofsd: processor time and time by the clock of a request, as ratios.
 #
 # Usage: tools/measure/virtiofsd-speed.sh [--rounds N] [--ms N] [--pools LIST] [--depths LIST] [--classes LIST]
-#                                 [--instructions] [FOLDER]
+#                                 [--instructions] [--page] [FOLDER]
 # Each daemon shares the same folder, in /dev/shm if that is there, and serves one front end over vhost-user,
-# tools/compare/beside/pace.c: a request's header, record and data lie in descriptors as those of a guest of
-# Linux. For each class of requests, number in flight (1,4,16) and size of the thread pool (0,2,4) the daemons
-# are asked in turns, N rounds (61) of N ms (4) each, on the same processors: the front end has one, and without
-# a pool a daemon one. It prints a page, docs/generated/end-to-end.md is one: of all rounds' ratios to the
-# unmodified virtiofsd the median, and between what half of them lie. Those of each setting are in speed.tsv in
-# the folder, which is out/virtiofsd if none is given; docs/speed/end-to-end.tsv are such.
-# tools/gate/pictures.sh draws the page. tools/compare/beside/pace.c has the classes.
+# tools/compare/beside/pace.c: a request's header, record and data lie in descriptors as those of a guest of Linux. For
+# each class of requests, number in flight (1,4,16) and size of the thread pool (0,2,4) the daemons are asked in
+# turns, N rounds (60) of N ms (4) each, on the same processors: the front end has one, and without a pool a
+# daemon one. In every other round the turns are in the other order, and none follows itself, so that each finds
+# the caches as the others do. It prints a page, docs/generated/end-to-end.md is one: of all rounds' ratios to the
+# unmodified virtiofsd the median, and between what half of them lie. Those of each setting are in speed.tsv in the
+# folder, which is out/virtiofsd if none is given. tools/compare/beside/pace.c has the classes.
+#
+# With --page it counts instructions too, writes docs/generated/end-to-end.md and docs/speed/end-to-end.tsv, and
+# has tools/gate/pictures.sh draw the page: with no other option it is all that docs/SPEED.md stands on.
 #
 # Processor time is that of the daemon's threads, the kernel's part too, as /proc/PID/task/*/schedstat has it.
 # With --instructions the table has also those of the daemons' own code for a request, which do not move with
@@ -24,20 +27,22 @@
 set -euo pipefail
 . "$(dirname "$0")/../lib/usage.sh"
 . "$(dirname "$0")/../lib/transport.sh"
+. "$(dirname "$0")/../lib/front.sh"
 
 refuse() {
     echo "$1" >&2
     echo "Usage: tools/measure/virtiofsd-speed.sh [--rounds N] [--ms N] [--pools LIST] [--depths LIST] [--classes LIST]" >&2
-    echo "                                [--instructions] [FOLDER]" >&2
+    echo "                                [--instructions] [--page] [FOLDER]" >&2
     exit 2
 }
 
-words=() folder=''
+words=() folder='' page=''
 while [ $# -gt 0 ]; do
     case $1 in
-        --instructions)
-            need valgrind "Install it: apt-get install valgrind."
-            words+=("$1")
+        --instructions) words+=("$1") ;;
+        --page)
+            page=1
+            words+=(--instructions)
             ;;
         --rounds | --ms)
             [[ ${2:-} =~ ^[1-9][0-9]{0,4}$ ]] || refuse "$1 wants a number from 1 on."
@@ -54,24 +59,37 @@ while [ $# -gt 0 ]; do
             words+=("$1" "$2")
             shift
             ;;
-        -* | '') refuse "There is no option '$1'." ;;
-        *)
-            [ -z "$folder" ] || refuse "There is more than one folder."
-            folder=$1
-            ;;
+        *) take_folder "$1" ;;
     esac
     shift
 done
-need python3 "Install it: apt-get install python3."
-[ "$(id -u)" = 0 ] || refuse "virtiofsd is started as root: run it as root."
-folder=${folder:-$here/out/virtiofsd}
+need_front it
+case " ${words[*]} " in
+    *" --instructions "*) need valgrind "Install it: apt-get install valgrind." ;;
+esac
+make_folder
 "$here/tools/virtiofsd.sh" "$folder" > /dev/null
 "$here/tools/virtiofsd.sh" --unmodified "$folder" > /dev/null
 build_transport share vfs_door
-cc -std=c11 -O2 -Wall -Wextra -Werror -o "$folder/pace" "$here/tools/compare/beside/pace.c"
+of=$(git -C "$here" describe --always --dirty --exclude '*' 2> /dev/null || echo "no commit")
+case ${library[0]} in
+    */unproved/*) of="a library of $of without a proof" ;;
+    *) of="the proved library of $of" ;;
+esac
+build_front pace
 memory=/dev/shm
 [ -w "$memory" ] || memory=${TMPDIR:-/tmp}
 work=$(mktemp -d "$memory/nizwarf-XXXXXX")
 trap 'rm -rf "$work"' EXIT
-python3 -B "$here/tools/compare/beside/pace.py" "${words[@]}" "$folder/pace" "$work" "$folder/speed.tsv" \
-    "$folder/virtiofsd" "$folder/nizwarf-virtiofsd" "$transport"
+measure() {
+    python3 -B "$here/tools/compare/beside/pace.py" "${words[@]}" --of "$of" "$folder/pace" "$work" "$folder/speed.tsv" \
+        "$folder/virtiofsd" "$folder/nizwarf-virtiofsd" "$transport"
+}
+if [ -z "$page" ]; then
+    measure
+    exit
+fi
+measure > "$folder/page.md"
+cp "$folder/page.md" "$here/docs/generated/end-to-end.md"
+cp "$folder/speed.tsv" "$here/docs/speed/end-to-end.tsv"
+"$here/tools/gate/pictures.sh"

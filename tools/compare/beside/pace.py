@@ -1,9 +1,9 @@
 """Measures vhost-user daemons of virtio-fs in turns. tools/measure/virtiofsd-speed.sh starts it and says what it does.
 
 Usage: pace.py [--rounds N] [--ms N] [--pools LIST] [--depths LIST] [--classes LIST] [--instructions]
-               PACE WORK DATA THEIRS REPLACED SHARE
+               [--of TEXT] PACE WORK DATA THEIRS REPLACED SHARE
 PACE is the built pace.c, WORK a folder for what is shared, and DATA the file of all figures. The others are
-the daemons: virtiofsd as it is, with the layer here, and nizwarf-share.
+the daemons: virtiofsd as it is, with the layer here, and nizwarf-share. TEXT says what the last two stand on.
 """
 import argparse
 import os
@@ -22,12 +22,13 @@ CLASSES = {
 
 def options():
     parser = argparse.ArgumentParser(add_help=False)
-    parser.add_argument("--rounds", type=int, default=61)
+    parser.add_argument("--rounds", type=int, default=60)
     parser.add_argument("--ms", type=int, default=4)
     parser.add_argument("--pools", type=numbers, default=[0, 2, 4])
     parser.add_argument("--depths", type=numbers, default=[1, 4, 16])
     parser.add_argument("--classes", type=lambda text: text.split(","), default=list(CLASSES))
     parser.add_argument("--instructions", action="store_true")
+    parser.add_argument("--of", default="a library that has no name")
     for name in ("pace", "work", "data", "theirs", "replaced", "share"):
         parser.add_argument(name)
     given = parser.parse_args()
@@ -122,7 +123,9 @@ def compare(daemons, kind, depth, given):
     count = max(depth, count * given.ms * 1_000_000 // wall)
     rounds = []
     for number in range(given.rounds):
-        order = daemons if number % 2 else daemons[::-1]
+        # So each follows each other equally often, and none itself, whose data would be in the caches.
+        first, *rest = daemons
+        order = [first, *(rest[::-1] if number % 2 else rest)]
         asked = {daemon: daemon.ask(kind, depth, count) for daemon in order}
         answers = [asked[daemon] for daemon in daemons]
         same_bytes(daemons, kind, answers)
@@ -173,7 +176,7 @@ def show(ratios, given, load, counts):
     print("# Requests to a daemon, by virtiofsd's time\n")
     print(f"Of {given.rounds} rounds of {given.ms} ms in each of {len(given.pools) * len(given.depths)} settings (thread "
           f"pools {given.pools}, in flight {given.depths}) the median of the ratios, and between what half of them "
-          f"lie. The load of the machine was {load}. `tools/measure/virtiofsd-speed.sh` made this page.\n")
+          f"lie, with {given.of}. The load of the machine was {load}. `tools/measure/virtiofsd-speed.sh` made this page.\n")
     heads = [f"{name}: {what}" for name in NAMES[1:]
              for what in ("processor", "clock", *(["instructions"] if counts else []))]
     print("| Request | " + " | ".join(heads) + " |")
