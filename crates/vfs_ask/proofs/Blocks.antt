@@ -17,7 +17,7 @@ use Rattle.vfs_grammar.specs.Records.{record_of}
 use Rattle.vfs_grammar.specs.declared.error.Error.{Error}
 use Rattle.vfs_grammar.specs.declared.error.Error.TheVariants.{DecodeMessage, InvalidHeaderLength}
 use Rattle.vfs_ask.specs.Contexts.{ContextAt}
-use Rattle.vfs_ask.proofs.Cutting.{is_nul, stands_in, dropped, else_ok, or_ok, same_ok, Both, both}
+use Rattle.vfs_ask.proofs.Cutting.{is_nul, stands_in, dropped, first_nul_in, else_ok, or_ok, same_ok, Both, both}
 
 -- ---- a context in a body
 
@@ -32,6 +32,7 @@ both_within q at n tail c is some b =
       name = record {
         within = omega (arith, b.within, all);
         bytes_are = sym (stands_in (length c.0) n c.0 (drop at q) (b.first_is ∙ ap (take (length c.0)) is));
+        ended = first_nul_in n (drop at q) (length c.0) (ap (position is_nul) (sym is) ∙ b.ended);
       };
       value = record {
         within = omega (arith, b.within, all, ap length b.second_is, length-take b.n (drop d tail), length-drop d tail);

@@ -1,7 +1,10 @@
 -- Names and values stand in the tail that they are read from.
 use Rattle.std.proofs.Common.{◌≡◌, ◌∙◌, ◌+◌, ◌-◌, ◌==◌, ◌<◌, ℕ, zero, suc, Bool, true, false, if◌then◌else◌, nat_lt, List, [], ◌∷◌, length, take, drop, position, Option, None, Some, Result, Ok, Err, refl, ap, sym, arith, length-take, length-drop}
-use Rattle.std.proofs.lemmas.List.{take_min, take_all}
+use Rattle.std.proofs.lemmas.Grind.{common_steps}
+use Rattle.std.proofs.lemmas.List.{get_or-take, take_min, take_all}
 use Rattle.std.proofs.lemmas.List.Quantifiers.{position-Some}
+use Rattle.std.proofs.lemmas.List.Sums.{position_or_len_is}
+use Rattle.std.specs.List.{position_or_len}
 use Rattle.vfs_wire.specs.Records.{in_header}
 use Rattle.vfs_wire.specs.declared.headers.InHeader.{InHeader}
 use Rattle.vfs_files.specs.Values.{name_of, first_name, ExtensionValues}
@@ -36,6 +39,18 @@ dropped (suc d) zero ys = (0, refl)
 dropped (suc d) (suc n) [] = (0, refl)
 dropped (suc d) (suc n) (y ∷ ys) = dropped d n ys
 
+-- the first 0 of a beginning is the first one of all
+pub first_nul_in : (n : ℕ) (ys : List ℕ) (i : ℕ) → position is_nul (take n ys) ≡ Some i → position is_nul ys ≡ Some i
+first_nul_in n ys i e =
+    let p = position-Some is_nul (take n ys) i 0 e in
+    let low : i < n = omega (arith, p.0, length-take n ys) in
+    let within : i < length ys = omega (arith, p.0, length-take n ys) in
+    let at : position_or_len is_nul ys ≡ i =
+    position_or_len_is is_nul ys i 0 (omega (arith, within))
+    (λ k h. ap is_nul (sym (get_or-take n ys k 0 (omega (arith, h, low)))) ∙ p.2 k h)
+    (λ h. ap is_nul (sym (get_or-take n ys i 0 low)) ∙ p.1) in
+    grind (arith, common_steps)
+
 -- ---- results
 
 pub else_ok : {A : Type 0} (b : Bool) (e : Error) (next : Result A Error) (x : A) → (if b then Err e else next) ≡ Ok x → next ≡ Ok x
@@ -65,48 +80,79 @@ tail_stands h size behind tail e =
     (h.len - (size_of in_header + size), sym (same_ok _ tail b))
 
 -- a name of bytes, whose first 0 stands at this place
-name_at : (bytes : List ℕ) (p : Option ℕ) (name : List ℕ) → name_to bytes p ≡ Some name → (j : ℕ) × (name ≡ take j bytes)
+name_at : (bytes : List ℕ) (p : Option ℕ) (name : List ℕ) → name_to bytes p ≡ Some name → (j : ℕ) × (name ≡ take j bytes) × (p ≡ Some j)
 name_at bytes None name e = absurd (let a = e in cc)
 name_at bytes (Some i) name e = pick (i + 1 == length bytes) e
   where
-    pick : (b : Bool) → (if b then Some (take i bytes) else None) ≡ Some name → (j : ℕ) × (name ≡ take j bytes)
-    pick true h = (i, let a = h in cc)
+    pick : (b : Bool) → (if b then Some (take i bytes) else None) ≡ Some name → (j : ℕ) × (name ≡ take j bytes) × (Some i ≡ Some j)
+    pick true h = (i, let a = h in cc, refl)
     pick false h = absurd (let a = h in cc)
 
 refused_name : (o : Option (List ℕ)) (name : List ℕ) → name_or_refusal o ≡ Ok name → o ≡ Some name
 refused_name None name e = absurd (let a = e in cc)
 refused_name (Some x) name e = let a = e in cc
 
-pub name_stands : (tail name : List ℕ) → name_in tail ≡ Ok name → (i : ℕ) × (name ≡ take i tail)
-name_stands tail name e = name_at tail (position is_nul tail) name (refused_name _ name e)
+long : (tail : List ℕ) (i : ℕ) → position is_nul tail ≡ Some i → length (take i tail) ≡ i
+long tail i e = let p = (position-Some is_nul tail i 0 e).0 in length-take i tail ∙ omega (arith, p)
 
--- two parts of a tail: the first ends at a place within it, and the second is behind it
+-- what stands before the first 0 is as long as that is far
+ends_at : (bytes name : List ℕ) (i : ℕ) → position is_nul bytes ≡ Some i → name ≡ take i bytes → position is_nul bytes ≡ Some (length name)
+ends_at bytes name i at is = at ∙ ap Some (sym (ap length is ∙ long bytes i at))
+
+-- a name, which ends at the first 0
+pub record Named (bytes name : List ℕ) : Type 0 where
+  pub i : ℕ
+  pub name_is : name ≡ take i bytes
+  pub ended : position is_nul bytes ≡ Some (length name)
+
+named : (bytes name : List ℕ) → name_of bytes ≡ Some name → Named bytes name
+named bytes name e =
+    let n = name_at bytes (position is_nul bytes) name e in
+    record { i = n.0; name_is = n.1; ended = ends_at bytes name n.0 n.2 n.1 }
+
+pub name_stands : (tail name : List ℕ) → name_in tail ≡ Ok name → Named tail name
+name_stands tail name e = named tail name (refused_name _ name e)
+
+-- two parts of a tail: the first ends at its first 0, and the second is behind it
 pub record Both (tail first second : List ℕ) : Type 0 where
   pub n : ℕ
   pub within : length first < length tail
   pub first_is : first ≡ take (length first) tail
+  pub ended : position is_nul tail ≡ Some (length first)
   pub second_is : second ≡ take n (drop (length first + 1) tail)
 
-pub long : (tail : List ℕ) (i : ℕ) → position is_nul tail ≡ Some i → length (take i tail) ≡ i
-long tail i e = let p = (position-Some is_nul tail i 0 e).0 in length-take i tail ∙ omega (arith, p)
+-- two names, of which the second ends at the first 0 behind the first
+pub record BothNames (tail first second : List ℕ) : Type 0 where
+  pub parts : Both tail first second
+  pub ended : position is_nul (drop (length first + 1) tail) ≡ Some (length second)
 
 pub both : (tail first second : List ℕ) (i n : ℕ) → position is_nul tail ≡ Some i → first ≡ take i tail → second ≡ take n (drop (i + 1) tail) → Both tail first second
 both tail first second i n e f s =
     let l : length first ≡ i = ap length f ∙ long tail i e in
-    record { n = n; within = omega (arith, l, (position-Some is_nul tail i 0 e).0); first_is = f ∙ ap (λ k. take k tail) (sym l); second_is = s ∙ ap (λ k. take n (drop (k + 1) tail)) (sym l) }
+    record {
+      n = n;
+      within = omega (arith, l, (position-Some is_nul tail i 0 e).0);
+      first_is = f ∙ ap (λ k. take k tail) (sym l);
+      ended = ends_at tail first i e f;
+      second_is = s ∙ ap (λ k. take n (drop (k + 1) tail)) (sym l);
+    }
 
 second_stands : (first d : List ℕ) (o : Option (List ℕ)) (x : List ℕ × List ℕ) → second_or_refusal first o ≡ Ok x → (x.0 ≡ first) × (o ≡ Some x.1)
 second_stands first d None x e = absurd (let a = e in cc)
 second_stands first d (Some y) x e = let same : (first, y) ≡ x = same_ok _ x e in (sym (ap (λ (p : List ℕ × List ℕ). p.0) same), ap (λ (p : List ℕ × List ℕ). Some p.1) same)
 
-names_at : (tail : List ℕ) (p : Option ℕ) → position is_nul tail ≡ p → (x : List ℕ × List ℕ) → both_or_refusal (cut_at tail p) ≡ Ok x → Both tail x.0 x.1
+names_at : (tail : List ℕ) (p : Option ℕ) → position is_nul tail ≡ p → (x : List ℕ × List ℕ) → both_or_refusal (cut_at tail p) ≡ Ok x → BothNames tail x.0 x.1
 names_at tail None at x e = absurd (let a = e in cc)
 names_at tail (Some i) at x e =
     let s = second_stands (take i tail) (drop (i + 1) tail) (name_of (drop (i + 1) tail)) x e in
-    let n = name_at (drop (i + 1) tail) (position is_nul (drop (i + 1) tail)) x.1 s.1 in
-    both tail x.0 x.1 i n.0 at s.0 n.1
+    let n = named (drop (i + 1) tail) x.1 s.1 in
+    let l : length x.0 ≡ i = ap length s.0 ∙ long tail i at in
+    record {
+      parts = both tail x.0 x.1 i n.i at s.0 n.name_is;
+      ended = ap (λ k. position is_nul (drop (k + 1) tail)) l ∙ n.ended;
+    }
 
-pub names_stand : (tail : List ℕ) (x : List ℕ × List ℕ) → two_names_in tail ≡ Ok x → Both tail x.0 x.1
+pub names_stand : (tail : List ℕ) (x : List ℕ × List ℕ) → two_names_in tail ≡ Ok x → BothNames tail x.0 x.1
 names_stand tail x e = names_at tail (position is_nul tail) refl x e
 
 value_at : (size : ℕ) (tail : List ℕ) (p : Option ℕ) → position is_nul tail ≡ p → (x : List ℕ × List ℕ) → sized_or_refusal size (cut_at tail p) ≡ Ok x → Both tail x.0 x.1
@@ -124,6 +170,7 @@ pub record Extended (options : ℕ) (bytes name : List ℕ) (ext : ExtensionValu
   pub i : ℕ
   pub within : length name < length bytes
   pub name_is : name ≡ take i bytes
+  pub ended : position is_nul bytes ≡ Some (length name)
   pub says : extensions_in options (drop (length name + 1) bytes) ≡ Ok ext
 
 extended_at : (options : ℕ) (bytes : List ℕ) (p : Option ℕ) → position is_nul bytes ≡ p → (ext : ExtensionValues) (x : List ℕ × ExtensionValues)
@@ -137,6 +184,7 @@ extended_at options bytes (Some i) at ext x says e =
       i = i;
       within = omega (arith, l, (position-Some is_nul bytes i 0 at).0);
       name_is = name;
+      ended = ends_at bytes x.0 i at name;
       says = ap (λ k. extensions_in options (drop (k + 1) bytes)) l ∙ says ∙ ap (λ (p : List ℕ × ExtensionValues). Ok p.1) same;
     }
 
@@ -148,7 +196,7 @@ extended_stands options (b ∷ bytes) x e =
 
 -- a link's name and its text, and the extensions behind them
 pub record Linked (options : ℕ) (tail name text : List ℕ) (ext : ExtensionValues) : Type 0 where
-  pub parts : Both tail name text
+  pub parts : BothNames tail name text
   pub within : length text < length (drop (length name + 1) tail)
   pub says : extensions_in options (drop (length text + 1) (drop (length name + 1) tail)) ≡ Ok ext
 
@@ -162,7 +210,10 @@ link_at options tail (Some i) at x e =
     let text : x.1 ≡ o.0.0 = sym (ap (λ (p : List ℕ × List ℕ × ExtensionValues). p.1) same) in
     let l : length x.0 ≡ i = ap length name ∙ long tail i at in
     record {
-      parts = both tail x.0 x.1 i t.i at name (text ∙ t.name_is);
+      parts = record {
+        parts = both tail x.0 x.1 i t.i at name (text ∙ t.name_is);
+        ended = ap (λ k. position is_nul (drop (k + 1) tail)) l ∙ t.ended ∙ ap (λ (xs : List ℕ). Some (length xs)) (sym text);
+      };
       within = omega (arith, t.within, ap length text, l, length-drop (i + 1) tail, length-drop (length x.0 + 1) tail);
       says = ap (λ k. extensions_in options (drop (length x.1 + 1) (drop (k + 1) tail))) l
           ∙ ap (λ (xs : List ℕ). extensions_in options (drop (length xs + 1) (drop (i + 1) tail))) text

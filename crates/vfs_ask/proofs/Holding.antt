@@ -1,5 +1,5 @@
 -- A call with a context is told with the places of its name and its value.
-use Rattle.std.proofs.Common.{◌≡◌, ◌∙◌, ◌+◌, ◌-◌, ◌^◌, ◌<◌, ◌≤◌, ◌==◌, ℕ, true, false, List, length, take, drop, Option, None, Some, Result, Ok, Err, refl, ap, sym, subst, inl, inr, arith, length-drop, length-take}
+use Rattle.std.proofs.Common.{◌≡◌, ◌∙◌, ◌+◌, ◌-◌, ◌^◌, ◌<◌, ◌≤◌, ◌==◌, ℕ, true, false, List, length, position, take, drop, Option, None, Some, Result, Ok, Err, refl, ap, sym, subst, inl, inr, arith, length-drop, length-take}
 use Rattle.std.proofs.lemmas.Bool.Decides.{nat_tests}
 use Rattle.std.proofs.lemmas.List.{drop-drop}
 use Rattle.vfs_flags.specs.declared.constants.TheConstants.{OPEN_KILL_SUIDGID}
@@ -25,14 +25,14 @@ use Rattle.vfs_grammar.specs.declared.limits.Limits.{Limits}
 use Rattle.vfs_calls.specs.Shapes.{nothing, shape_of, unplaced}
 use Rattle.vfs_calls.specs.declared.call.CallData.{CallData}
 use Rattle.vfs_handlers.specs.Memory.{MayWantBehind}
-use Rattle.vfs_ask.specs.Asked.{IsTold, Stand, Tells}
+use Rattle.vfs_ask.specs.Asked.{IsNameIn, IsTold, Stand, Tells}
 use Rattle.vfs_ask.specs.Contexts.{ContextAt, GivesTailOf, PlacesContext, StandsInBlocks, blocks_of, blocks_place, may_have_context, sum_or_most, tail_behind, with_context_at}
 use Rattle.vfs_ask.specs.Noting.{IsNoted, NotedAndTold}
 use Rattle.vfs_ask.specs.Parts.{place_behind, told_with}
 use Rattle.vfs_ask.specs.declared.asked.Asked.{Asked}
 use Rattle.vfs_ask.specs.declared.asked.Asked.TheVariants as asked
-use Rattle.vfs_ask.proofs.Cutting.{dropped, or_ok, same_ok, stands_in, tail_stands}
-use Rattle.vfs_ask.proofs.Placing.{OfCall, StandBoth, Stands, form_shown}
+use Rattle.vfs_ask.proofs.Cutting.{dropped, first_nul_in, is_nul, or_ok, same_ok, stands_in, tail_stands}
+use Rattle.vfs_ask.proofs.Placing.{NamesStand, NameStands, OfCall, form_shown}
 use Rattle.vfs_ask.proofs.Telling.{finished_where_none, none_is_nothing}
 
 -- one of the four opcodes whose requests may have a context
@@ -161,9 +161,24 @@ module _ (q : List ℕ) (h : InHeader) (head : size_of in_header ≤ length q) (
         bytes_are = sym (stands_in (length xs) d.0 xs (drop place (drop at q)) e ∙ ap (take (length xs)) (drop-drop place at q));
       }
 
+  -- a name too
+  name_behind : (at : ℕ) (blocks : List ℕ) (k place : ℕ) (xs : List ℕ) → blocks ≡ take k (drop at q)
+      → IsNameIn blocks (record { at = place; len = length xs }) xs → IsNameIn q (record { at = at + place; len = length xs }) xs
+  name_behind at blocks k place xs is s =
+      let all : length blocks ≤ length q - at = omega (arith, ap length is, length-take k (drop at q), length-drop at q) in
+      let d = dropped place k (drop at q) in
+      let stands = stand_behind at blocks k place xs is (omega (arith, s.within))
+      (record { within = omega (arith, s.within); bytes_are = s.bytes_are }) in
+      record {
+        within = omega (arith, s.within, all);
+        bytes_are = stands.bytes_are;
+        ended = ap (position is_nul) (sym (drop-drop place at q))
+            ∙ first_nul_in d.0 (drop place (drop at q)) (length xs) (ap (position is_nul) (sym (ap (drop place) is ∙ d.1)) ∙ s.ended);
+      }
+
   context_placed : (at : ℕ) (name tail : List ℕ) (n : ℕ) → tail ≡ take n (drop at q) → length name < length tail → (place : ℕ) (c : List ℕ × List ℕ)
       → ContextAt (drop (length name + 1) tail) place c
-      → Stand q (record { at = sum_or_most (place_behind at (unplaced name)) place; len = length c.0 }) c.0
+      → IsNameIn q (record { at = sum_or_most (place_behind at (unplaced name)) place; len = length c.0 }) c.0
       × Stand q (record { at = place_behind (sum_or_most (place_behind at (unplaced name)) place) (unplaced c.0); len = length c.1 }) c.1
   context_placed at name tail n is within place c there =
       let d = length name + 1 in
@@ -176,7 +191,7 @@ module _ (q : List ℕ) (h : InHeader) (head : size_of in_header ≤ length q) (
       let second : place_behind (at + d + place) (unplaced c.0) ≡ at + d + (place + (length c.0 + 1)) =
       omega (arith, there.value.within, there.some, long_blocks, some, long, small) in
       rw (first, second) (
-        stand_behind (at + d) (drop d tail) k.0 place c.0 blocks some there.name,
+        name_behind (at + d) (drop d tail) k.0 place c.0 blocks there.name,
         stand_behind (at + d) (drop d tail) k.0 (place + (length c.0 + 1)) c.1 blocks some there.value,
       )
 
@@ -191,7 +206,7 @@ module _ (q : List ℕ) (h : InHeader) (head : size_of in_header ≤ length q) (
       call.Create (context_of h) h.nodeid name r.mode (has_flag r.open_flags OPEN_KILL_SUIDGID) r.flags r.umask ext
 
   mknod_held : (r : MknodIn) (name : List ℕ) (context : Option (List ℕ × List ℕ)) (group : Option ℕ) (tail : List ℕ) (n : ℕ) → tail ≡ take n (drop 56 q)
-      → Stands q 56 name → length name < length tail → extensions_in options (drop (length name + 1) tail) ≡ Ok (record { context = context; group = group })
+      → NameStands q 56 name → length name < length tail → extensions_in options (drop (length name + 1) tail) ≡ Ok (record { context = context; group = group })
       → CallHas opcode.Mknod tail (echo_of h) (mknod_of r name (record { context = context; group = group }))
   mknod_held r name None group tail n is s within says place stands = record { numbers = refl; places = (s, tt {0}) }
   mknod_held r name (Some c) group tail n is s within says place stands =
@@ -202,7 +217,7 @@ module _ (q : List ℕ) (h : InHeader) (head : size_of in_header ≤ length q) (
       rw (some_length (length c.1) there.some) (record { numbers = refl; places = (s, placed) })
 
   mkdir_held : (r : MkdirIn) (name : List ℕ) (context : Option (List ℕ × List ℕ)) (group : Option ℕ) (tail : List ℕ) (n : ℕ) → tail ≡ take n (drop 48 q)
-      → Stands q 48 name → length name < length tail → extensions_in options (drop (length name + 1) tail) ≡ Ok (record { context = context; group = group })
+      → NameStands q 48 name → length name < length tail → extensions_in options (drop (length name + 1) tail) ≡ Ok (record { context = context; group = group })
       → CallHas opcode.Mkdir tail (echo_of h) (mkdir_of r name (record { context = context; group = group }))
   mkdir_held r name None group tail n is s within says place stands = record { numbers = refl; places = (s, tt {0}) }
   mkdir_held r name (Some c) group tail n is s within says place stands =
@@ -213,7 +228,7 @@ module _ (q : List ℕ) (h : InHeader) (head : size_of in_header ≤ length q) (
       rw (some_length (length c.1) there.some) (record { numbers = refl; places = (s, placed) })
 
   create_held : (r : CreateIn) (name : List ℕ) (context : Option (List ℕ × List ℕ)) (group : Option ℕ) (tail : List ℕ) (n : ℕ) → tail ≡ take n (drop 56 q)
-      → Stands q 56 name → length name < length tail → extensions_in options (drop (length name + 1) tail) ≡ Ok (record { context = context; group = group })
+      → NameStands q 56 name → length name < length tail → extensions_in options (drop (length name + 1) tail) ≡ Ok (record { context = context; group = group })
       → CallHas opcode.Create tail (echo_of h) (create_of r name (record { context = context; group = group }))
   create_held r name None group tail n is s within says place stands = record { numbers = refl; places = (s, tt {0}) }
   create_held r name (Some c) group tail n is s within says place stands =
@@ -227,7 +242,7 @@ module _ (q : List ℕ) (h : InHeader) (head : size_of in_header ≤ length q) (
   symlink_of name text ext = call.Symlink (context_of h) text h.nodeid name ext
 
   symlink_held : (name text : List ℕ) (context : Option (List ℕ × List ℕ)) (group : Option ℕ) (tail : List ℕ) (n : ℕ) → tail ≡ take n (drop 40 q)
-      → StandBoth q 40 name text → length text < length (drop (length name + 1) tail)
+      → NamesStand q 40 name text → length text < length (drop (length name + 1) tail)
       → extensions_in options (drop (length text + 1) (drop (length name + 1) tail)) ≡ Ok (record { context = context; group = group })
       → CallHas opcode.Symlink tail (echo_of h) (symlink_of name text (record { context = context; group = group }))
   symlink_held name text None group tail n is s within says place stands =

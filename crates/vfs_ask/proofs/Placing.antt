@@ -1,8 +1,9 @@
 -- The call that a request asks for is the one that is told.
 use Rattle.std.specs.Prelude.{⊤}
-use Rattle.std.proofs.Common.{◌≡◌, ◌≢◌, ◌∙◌, ◌+◌, ◌-◌, ◌*◌, ◌^◌, ◌<◌, ◌≤◌, ℕ, zero, suc, Bool, true, false, if◌then◌else◌, nat_lt, List, ◌∷◌, length, take, drop, min, Option, None, Some, Result, Ok, Err, refl, ap, sym, arith, length-drop, length-take}
+use Rattle.std.proofs.Common.{◌≡◌, ◌≢◌, ◌∙◌, ◌+◌, ◌-◌, ◌*◌, ◌^◌, ◌<◌, ◌≤◌, ℕ, zero, suc, Bool, true, false, if◌then◌else◌, nat_lt, List, ◌∷◌, length, position, take, drop, min, Option, None, Some, Result, Ok, Err, refl, ap, sym, arith, length-drop, length-take}
 use Rattle.std.proofs.lemmas.Bool.Decides.{nat_tests}
 use Rattle.std.proofs.lemmas.List.{drop-drop, drop-take, take_all}
+use Rattle.std.proofs.lemmas.List.Quantifiers.{position-Some}
 use Rattle.vfs_flags.specs.declared.constants.TheConstants.{OPEN_KILL_SUIDGID, WRITE_CACHE, WRITE_KILL_PRIV, WRITE_LOCKOWNER}
 use Rattle.vfs_flags.specs.declared.opcode.Opcode.{Opcode}
 use Rattle.vfs_flags.specs.declared.opcode.Opcode.TheVariants as opcode
@@ -28,20 +29,29 @@ use Rattle.vfs_grammar.specs.declared.error.Error.{Error}
 use Rattle.vfs_grammar.specs.declared.error.Error.TheVariants.{DecodeMessage, EncodeMessage}
 use Rattle.vfs_calls.specs.Shapes.{context_name_of, context_value_of, shape_of, unplaced}
 use Rattle.vfs_calls.specs.declared.call.CallData.{CallData}
-use Rattle.vfs_ask.specs.Asked.{IsContextPlaced, IsTold, Stand, long_range, told_of, told_of_listing, without_places}
+use Rattle.vfs_ask.specs.Asked.{IsContextPlaced, IsNameIn, IsTold, Stand, long_range, told_of, told_of_listing, without_places}
 use Rattle.vfs_ask.specs.Contexts.{may_have_context}
 use Rattle.vfs_ask.specs.Parts.{parts_of, with_parts, place_behind}
 use Rattle.vfs_ask.proofs.Blocks.{no_contexts}
-use Rattle.vfs_ask.proofs.Cutting.{stands_in, dropped, tail_stands, name_stands, Both, names_stand, value_stands, extended_stands, link_stands}
+use Rattle.vfs_ask.proofs.Cutting.{is_nul, stands_in, dropped, first_nul_in, tail_stands, name_stands, Both, BothNames, names_stand, value_stands, extended_stands, link_stands}
 
 -- these bytes stand at this place
 abbrev pub Stands : (request : List ℕ) → (at : ℕ) → (bytes : List ℕ) → Type 0
 Stands q at bytes = Stand q (record { at = at; len = length bytes }) bytes
 
--- one behind the other, with a byte between them, which is there
+-- this name stands at this place
+abbrev pub NameStands : (request : List ℕ) → (at : ℕ) → (name : List ℕ) → Type 0
+NameStands q at name = IsNameIn q (record { at = at; len = length name }) name
+
+-- a name, and bytes behind its 0
 pub record StandBoth (q : List ℕ) (at : ℕ) (first second : List ℕ) : Type 0 where
-  pub front : Stands q at first
+  pub front : NameStands q at first
   pub back : Stands q (at + (length first + 1)) second
+
+-- two names, one behind the other
+pub record NamesStand (q : List ℕ) (at : ℕ) (first second : List ℕ) : Type 0 where
+  pub front : NameStands q at first
+  pub back : NameStands q (at + (length first + 1)) second
 
 -- these pairs are spelled at this place, whole
 pub record SpelledAt (q : List ℕ) (at count : ℕ) (pairs : List (ℕ × ℕ)) : Type 0 where
@@ -90,17 +100,17 @@ module _ (q : List ℕ) (h : InHeader) (head : size_of in_header ≤ length q) (
   abbrev pub Shown : Form → Type 0
   Shown (NoTail {R} layout above call) = (r : R) → P (echo_of h) (call r)
   Shown (NameTail {R} layout above call) =
-      (r : R) (name : List ℕ) → Stands q (behind_record layout) name → P (echo_of h) (call r name)
+      (r : R) (name : List ℕ) → NameStands q (behind_record layout) name → P (echo_of h) (call r name)
   Shown (TwoNames {R} layout call) =
-      (r : R) (first second : List ℕ) → StandBoth q (behind_record layout) first second → P (echo_of h) (call r first second)
+      (r : R) (first second : List ℕ) → NamesStand q (behind_record layout) first second → P (echo_of h) (call r first second)
   Shown (NameAndValue {R} layout size call) =
       (r : R) (name value : List ℕ) → StandBoth q (behind_record layout) name value → P (echo_of h) (call r name value)
   Shown (NameAndExtensions {R} layout options call) =
       (r : R) (name : List ℕ) (ext : ExtensionValues) (tail : List ℕ) → tail_of h (layout_size layout) (behind layout (drop (size_of in_header) q)) ≡ Ok tail
-      → Stands q (behind_record layout) name → length name < length tail → extensions_in options (drop (length name + 1) tail) ≡ Ok ext → P (echo_of h) (call r name ext)
+      → NameStands q (behind_record layout) name → length name < length tail → extensions_in options (drop (length name + 1) tail) ≡ Ok ext → P (echo_of h) (call r name ext)
   Shown (LinkAndExtensions {R} layout options call) =
       (r : R) (name text : List ℕ) (ext : ExtensionValues) (tail : List ℕ) → tail_of h (layout_size layout) (behind layout (drop (size_of in_header) q)) ≡ Ok tail
-      → StandBoth q (behind_record layout) name text → length text < length (drop (length name + 1) tail)
+      → NamesStand q (behind_record layout) name text → length text < length (drop (length name + 1) tail)
       → extensions_in options (drop (length text + 1) (drop (length name + 1) tail)) ≡ Ok ext → P (echo_of h) (call r name text ext)
   Shown (Pairs {R} layout above count call) =
       (r : R) (pairs : List (ℕ × ℕ)) → SpelledAt q (behind_record layout) (count r) pairs → P (echo_of h) (call r pairs)
@@ -148,14 +158,17 @@ module _ (q : List ℕ) (h : InHeader) (head : size_of in_header ≤ length q) (
       let t = tail_stands h (layout_size layout) (behind layout rest) tail whole in
       omega (arith, end, ap length t.1, length-take t.0 (behind layout rest), ap length (place layout), length-drop (behind_record layout) q)
 
-  -- a beginning of the tail stands behind the record
+  -- the first name of the tail stands behind the record
   first_stands : {R : Type 0} (layout : Layout R) (tail x : List ℕ) (a : ℕ) → behind_record layout ≤ length q
-      → tail_of h (layout_size layout) (behind layout rest) ≡ Ok tail → x ≡ take a tail → Stands q (behind_record layout) x
-  first_stands layout tail x a end whole e =
+      → tail_of h (layout_size layout) (behind layout rest) ≡ Ok tail → x ≡ take a tail → position is_nul tail ≡ Some (length x)
+      → NameStands q (behind_record layout) x
+  first_stands layout tail x a end whole e ends =
       let t = tail_stands h (layout_size layout) (behind layout rest) tail whole in
       record {
-        within = omega (arith, tail_ends layout tail end whole, ap length e, length-take a tail);
+        within = omega (arith, tail_ends layout tail end whole, (position-Some is_nul tail (length x) 0 ends).0);
         bytes_are = sym (stands_in a t.0 x (behind layout rest) (e ∙ ap (take a) t.1) ∙ ap (take (length x)) (place layout));
+        ended = ap (position is_nul) (sym (place layout))
+            ∙ first_nul_in t.0 (behind layout rest) (length x) (ap (position is_nul) (sym t.1) ∙ ends);
       }
 
   both_stand : {R : Type 0} (layout : Layout R) (tail first second : List ℕ) → behind_record layout ≤ length q
@@ -171,10 +184,32 @@ module _ (q : List ℕ) (h : InHeader) (head : size_of in_header ≤ length q) (
       ap (drop d) (place layout) ∙ drop-drop d (behind_record layout) q in
       let long = tail_ends layout tail end whole in
       record {
-        front = first_stands layout tail first (length first) end whole b.first_is;
+        front = first_stands layout tail first (length first) end whole b.first_is b.ended;
         back = record {
           within = omega (arith, b.within, long, ap length b.second_is, length-take b.n (drop d tail), length-drop d tail);
           bytes_are = sym (s ∙ ap (take (length second)) at);
+        };
+      }
+
+  names_stand_in : {R : Type 0} (layout : Layout R) (tail first second : List ℕ) → behind_record layout ≤ length q
+      → tail_of h (layout_size layout) (behind layout rest) ≡ Ok tail
+      → BothNames tail first second → NamesStand q (behind_record layout) first second
+  names_stand_in layout tail first second end whole b =
+      let t = tail_stands h (layout_size layout) (behind layout rest) tail whole in
+      let d = length first + 1 in
+      let k = dropped d t.0 (behind layout rest) in
+      let at : drop d (behind layout rest) ≡ drop (behind_record layout + d) q =
+      ap (drop d) (place layout) ∙ drop-drop d (behind_record layout) q in
+      let cut : take k.0 (drop d (behind layout rest)) ≡ drop d tail = sym (ap (drop d) t.1 ∙ k.1) in
+      let s = both_stand layout tail first second end whole b.parts in
+      let last = (position-Some is_nul (drop d tail) (length second) 0 b.ended).0 in
+      record {
+        front = s.front;
+        back = record {
+          within = omega (arith, b.parts.within, tail_ends layout tail end whole, last, length-drop d tail);
+          bytes_are = s.back.bytes_are;
+          ended = ap (position is_nul) (sym at)
+              ∙ first_nul_in k.0 (drop d (behind layout rest)) (length second) (ap (position is_nul) cut ∙ b.ended);
         };
       }
 
@@ -203,19 +238,19 @@ module _ (q : List ℕ) (h : InHeader) (head : size_of in_header ≤ length q) (
       part (layout_record layout rest) _ (λ r is. limit (above r) _ (s r))
   form_shown (NameTail layout above call) s =
       part (layout_record layout rest) _ (λ r is. part (tail_of h (layout_size layout) (behind layout rest)) _ (λ tail whole.
-      limit (above r) _ (part (name_in tail) _ (λ name found. let n = name_stands tail name found in s r name (first_stands layout tail name n.0 (ends layout r is) whole n.1)))))
+      limit (above r) _ (part (name_in tail) _ (λ name found. let n = name_stands tail name found in s r name (first_stands layout tail name n.i (ends layout r is) whole n.name_is n.ended)))))
   form_shown (TwoNames layout call) s =
       part (layout_record layout rest) _ (λ r is. part (tail_of h (layout_size layout) (behind layout rest)) _ (λ tail whole.
-      part (two_names_in tail) _ (λ x found. s r x.0 x.1 (both_stand layout tail x.0 x.1 (ends layout r is) whole (names_stand tail x found)))))
+      part (two_names_in tail) _ (λ x found. s r x.0 x.1 (names_stand_in layout tail x.0 x.1 (ends layout r is) whole (names_stand tail x found)))))
   form_shown (NameAndValue layout size call) s =
       part (layout_record layout rest) _ (λ r is. part (tail_of h (layout_size layout) (behind layout rest)) _ (λ tail whole.
       part (value_in (size r) tail) _ (λ x found. s r x.0 x.1 (both_stand layout tail x.0 x.1 (ends layout r is) whole (value_stands (size r) tail x found)))))
   form_shown (NameAndExtensions layout options call) s =
       part (layout_record layout rest) _ (λ r is. part (tail_of h (layout_size layout) (behind layout rest)) _ (λ tail whole.
-      part (extended_in options tail) _ (λ x found. let n = extended_stands options tail x found in s r x.0 x.1 tail whole (first_stands layout tail x.0 n.i (ends layout r is) whole n.name_is) n.within n.says)))
+      part (extended_in options tail) _ (λ x found. let n = extended_stands options tail x found in s r x.0 x.1 tail whole (first_stands layout tail x.0 n.i (ends layout r is) whole n.name_is n.ended) n.within n.says)))
   form_shown (LinkAndExtensions layout options call) s =
       part (layout_record layout rest) _ (λ r is. part (tail_of h (layout_size layout) (behind layout rest)) _ (λ tail whole.
-      part (link_in_tail options tail) _ (λ x found. let n = link_stands options tail x found in s r x.0 x.1 x.2 tail whole (both_stand layout tail x.0 x.1 (ends layout r is) whole n.parts) n.within n.says)))
+      part (link_in_tail options tail) _ (λ x found. let n = link_stands options tail x found in s r x.0 x.1 x.2 tail whole (names_stand_in layout tail x.0 x.1 (ends layout r is) whole n.parts) n.within n.says)))
   form_shown (Pairs layout above count call) s =
       part (layout_record layout rest) _ (λ r is. limit (above r) _ (part (pairs_in (count r) (behind layout rest)) _ (λ pairs whole. s r pairs (pairs_spell layout (count r) pairs (ends layout r is) whole))))
   form_shown (WithRest layout call) s =
@@ -250,11 +285,14 @@ module _ (q : List ℕ) (h : InHeader) (head : size_of in_header ≤ length q) (
   ListingIs = ListingIsTold q h options space len
 
   -- the place of the second part
-  second_place : (at : ℕ) (first second : List ℕ) → StandBoth q at first second → place_behind at (unplaced first) ≡ at + (length first + 1)
-  second_place at first second b = omega (arith, b.back.within, long, small)
+  second_place : (at n : ℕ) (first : List ℕ) → at + (length first + 1) + n ≤ length q → place_behind at (unplaced first) ≡ at + (length first + 1)
+  second_place at n first within = omega (arith, within, long, small)
 
   second : (at : ℕ) (one other : List ℕ) → StandBoth q at one other → Stands q (place_behind at (unplaced one)) other
-  second at one other b = rw (second_place at one other b) b.back
+  second at one other b = rw (second_place at (length other) one b.back.within) b.back
+
+  second_name : (at : ℕ) (one other : List ℕ) → NamesStand q at one other → NameStands q (place_behind at (unplaced one)) other
+  second_name at one other b = rw (second_place at (length other) one (omega (arith, b.back.within))) b.back
 
   rest_is : (at : ℕ) → length (drop at q) ≡ len - at
   rest_is at = omega (arith, length-drop at q, long)
@@ -342,7 +380,7 @@ module _ (q : List ℕ) (h : InHeader) (head : size_of in_header ≤ length q) (
   table opcode.Readlink not_init not_readdir not_plus lacks = λ r. record { numbers = refl; places = tt {0} }
   table opcode.Symlink not_init not_readdir not_plus lacks = λ r name text ext tail whole s within says. record {
     numbers = extended_numbers (symlink_of name text ext) ext refl refl;
-    places = (s.front, second 40 name text s, none_placed ext.context _ (no_contexts options _ ext lacks says));
+    places = (s.front, second_name 40 name text s, none_placed ext.context _ (no_contexts options _ ext lacks says));
   }
   table opcode.Mknod not_init not_readdir not_plus lacks = λ r name ext tail whole s within says. record {
     numbers = extended_numbers (mknod_of r name ext) ext refl refl;
@@ -354,7 +392,7 @@ module _ (q : List ℕ) (h : InHeader) (head : size_of in_header ≤ length q) (
   }
   table opcode.Unlink not_init not_readdir not_plus lacks = λ r name s. record { numbers = refl; places = s }
   table opcode.Rmdir not_init not_readdir not_plus lacks = λ r name s. record { numbers = refl; places = s }
-  table opcode.Rename not_init not_readdir not_plus lacks = λ r old new s. record { numbers = refl; places = (s.front, second _ old new s) }
+  table opcode.Rename not_init not_readdir not_plus lacks = λ r old new s. record { numbers = refl; places = (s.front, second_name _ old new s) }
   table opcode.Link not_init not_readdir not_plus lacks = λ r name s. record { numbers = refl; places = s }
   table opcode.Open not_init not_readdir not_plus lacks = λ r. record { numbers = refl; places = tt {0} }
   table opcode.Read not_init not_readdir not_plus lacks = λ r. record { numbers = refl; places = tt {0} }
@@ -389,7 +427,7 @@ module _ (q : List ℕ) (h : InHeader) (head : size_of in_header ≤ length q) (
   table opcode.BatchForget not_init not_readdir not_plus lacks = λ r pairs s. pairs_told r.count pairs s
   table opcode.Fallocate not_init not_readdir not_plus lacks = λ r. record { numbers = refl; places = tt {0} }
   table opcode.Readdirplus not_init not_readdir not_plus lacks = absurd (not_plus refl)
-  table opcode.Rename2 not_init not_readdir not_plus lacks = λ r old new s. record { numbers = refl; places = (s.front, second _ old new s) }
+  table opcode.Rename2 not_init not_readdir not_plus lacks = λ r old new s. record { numbers = refl; places = (s.front, second_name _ old new s) }
   table opcode.Lseek not_init not_readdir not_plus lacks = λ r. record { numbers = refl; places = tt {0} }
   table opcode.CopyFileRange not_init not_readdir not_plus lacks = λ r. record { numbers = refl; places = tt {0} }
   table opcode.SetupMapping not_init not_readdir not_plus lacks = tt {0}

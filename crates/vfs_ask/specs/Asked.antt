@@ -1,5 +1,5 @@
 -- What is told of a request: its call as data, or that it is finished.
-use Rattle.std.specs.Prelude.{◌≡◌, ◌≤◌, ◌⊎◌, ⊤, ◌==◌, ◌+◌, ◌*◌, ℕ, List, length, take, drop, nat_lt, if◌then◌else◌, Option, None, Some, Result, Ok, Err, IfOk}
+use Rattle.std.specs.Prelude.{◌≡◌, ◌≤◌, ◌<◌, ◌⊎◌, ⊤, ◌==◌, ◌+◌, ◌*◌, ℕ, List, length, take, drop, position, nat_lt, if◌then◌else◌, Option, None, Some, Result, Ok, Err, IfOk}
 use Rattle.vfs_segments.specs.Written.{Written}
 use Rattle.vfs_wire.specs.Records.{in_header, out_header, init_out}
 use Rattle.vfs_wire.specs.declared.headers.InHeader.{InHeader}
@@ -79,41 +79,47 @@ pub record Stand (request : List ℕ) (range : Range) (bytes : List ℕ) : Type 
   pub within : range.at + range.len ≤ length request
   pub bytes_are : bytes_in request range ≡ bytes
 
+-- This range lies within the request, and has this name there: the first 0 from there on is the byte behind the
+-- range. So a name that lies in one piece is a string of C where it lies.
+pub record IsNameIn (request : List ℕ) (range : Range) (name : List ℕ) : Type 0 where
+  pub within : range.at + range.len < length request
+  pub bytes_are : bytes_in request range ≡ name
+  pub ended : position (λ b. b == 0) (drop range.at request) ≡ Some range.len
+
 -- this range lies within the request, and its bytes spell these pairs of a node and a count
 pub record Spell (request : List ℕ) (range : Range) (pairs : List (ℕ × ℕ)) : Type 0 where
   pub within : range.at + range.len ≤ length request
   pub pairs_are : pairs_of (length pairs) (bytes_in request range) ≡ pairs
 
--- the name and the value of a context, where there is one, are the bytes of the request in the ranges that
--- are told
+-- the name and the value of a context, where there is one, stand in the ranges of the request that are told
 abbrev pub IsContextPlaced : (request : List ℕ) → Option (List ℕ × List ℕ) → CallData → Type 0
 IsContextPlaced q None told = ⊤
 IsContextPlaced q (Some context) told =
-    Stand q told.context_name context.0 × Stand q told.context context.1
+    IsNameIn q told.context_name context.0 × Stand q told.context context.1
 
--- The names and the value of a call are the bytes of the request in the ranges that are told, and the pairs
--- of a BATCH_FORGET are those that these bytes spell.
+-- The names and the value of a call stand in the ranges of the request that are told, each name, and the text
+-- of a SYMLINK, with a 0 behind it; and the pairs of a BATCH_FORGET are those that these bytes spell.
 abbrev pub ArePlaced : (request : List ℕ) → Call → CallData → Type 0
-ArePlaced q (Lookup ctx parent name) told = Stand q told.name name
+ArePlaced q (Lookup ctx parent name) told = IsNameIn q told.name name
 ArePlaced q (Symlink ctx text parent name ext) told =
-    Stand q told.name name × Stand q told.other_name text × IsContextPlaced q ext.context told
+    IsNameIn q told.name name × IsNameIn q told.other_name text × IsContextPlaced q ext.context told
 ArePlaced q (Mknod ctx inode name mode rdev umask ext) told =
-    Stand q told.name name × IsContextPlaced q ext.context told
+    IsNameIn q told.name name × IsContextPlaced q ext.context told
 ArePlaced q (Mkdir ctx parent name mode umask ext) told =
-    Stand q told.name name × IsContextPlaced q ext.context told
-ArePlaced q (Unlink ctx parent name) told = Stand q told.name name
-ArePlaced q (Rmdir ctx parent name) told = Stand q told.name name
+    IsNameIn q told.name name × IsContextPlaced q ext.context told
+ArePlaced q (Unlink ctx parent name) told = IsNameIn q told.name name
+ArePlaced q (Rmdir ctx parent name) told = IsNameIn q told.name name
 ArePlaced q (Rename ctx olddir oldname newdir newname flags) told =
-    Stand q told.name oldname × Stand q told.other_name newname
-ArePlaced q (Link ctx inode newparent newname) told = Stand q told.name newname
+    IsNameIn q told.name oldname × IsNameIn q told.other_name newname
+ArePlaced q (Link ctx inode newparent newname) told = IsNameIn q told.name newname
 ArePlaced q (Write ctx inode handle bytes size offset lock_owner delayed kill_priv flags) told =
     Stand q told.value bytes
 ArePlaced q (Setxattr ctx inode name value flags extra) told =
-    Stand q told.name name × Stand q told.value value
-ArePlaced q (Getxattr ctx inode name size) told = Stand q told.name name
-ArePlaced q (Removexattr ctx inode name) told = Stand q told.name name
+    IsNameIn q told.name name × Stand q told.value value
+ArePlaced q (Getxattr ctx inode name size) told = IsNameIn q told.name name
+ArePlaced q (Removexattr ctx inode name) told = IsNameIn q told.name name
 ArePlaced q (Create ctx parent name mode kill_priv flags umask ext) told =
-    Stand q told.name name × IsContextPlaced q ext.context told
+    IsNameIn q told.name name × IsContextPlaced q ext.context told
 ArePlaced q (BatchForget ctx pairs) told = Spell q told.value pairs
 ArePlaced q call told = ⊤
 

@@ -14,11 +14,11 @@ use Rattle.vfs_grammar.specs.declared.error.Error.TheVariants.{OutOfMemory}
 use Rattle.vfs_calls.specs.declared.call.CallData.{CallData}
 use Rattle.vfs_calls.specs.declared.call.Range.{Range}
 use Rattle.vfs_ask.specs.Parts.{place_behind, placed_at}
-use Rattle.vfs_ask.specs.Asked.{Stand}
+use Rattle.vfs_ask.specs.Asked.{IsNameIn, Stand}
 
 -- a context stands here: its name, and its value behind the name and a byte, which isn't empty
 pub record ContextAt (bytes : List ℕ) (at : ℕ) (context : List ℕ × List ℕ) : Type 0 where
-  pub name : Stand bytes (record { at = at; len = length context.0 }) context.0
+  pub name : IsNameIn bytes (record { at = at; len = length context.0 }) context.0
   pub value : Stand bytes (record { at = at + (length context.0 + 1); len = length context.1 }) context.1
   pub some : 0 < length context.1
 

@@ -3,7 +3,7 @@ use Rattle.std.specs.Prelude.{◌≡◌, ◌++◌, ℕ, List, [], ◌∷◌}
 use Rattle.vfs_grammar.specs.Samples.{eight, four, header_9, lookup_of_a, zeros}
 use Rattle.vfs_calls.specs.Shapes.{nothing}
 use Rattle.vfs_calls.specs.declared.call.CallData.{CallData}
-use Rattle.vfs_ask.specs.Asked.{bytes_in, without_places}
+use Rattle.vfs_ask.specs.Asked.{IsNameIn, bytes_in, without_places}
 use Rattle.vfs_ask.specs.declared.asked.Asked.{Asked}
 use Rattle.vfs_ask.specs.declared.asked.Asked.TheVariants.{Call}
 
@@ -19,7 +19,7 @@ pub record LooksUpA (options room : ℕ) (asked : Asked) (told : CallData) : Typ
     call = 1;
     answer = 5;
   }
-  pub name : bytes_in lookup_of_a told.name ≡ 0x61 ∷ []
+  pub name : IsNameIn lookup_of_a told.name (0x61 ∷ [])
 
 -- request 9: a RENAME of `a` in node 1 to `b` in node 2
 abbrev pub rename_of_a_to_b : List ℕ
@@ -38,8 +38,8 @@ pub record RenamesAToB (options room : ℕ) (asked : Asked) (told : CallData) : 
     call = 12;
     answer = 1;
   }
-  pub old_name : bytes_in rename_of_a_to_b told.name ≡ 0x61 ∷ []
-  pub new_name : bytes_in rename_of_a_to_b told.other_name ≡ 0x62 ∷ []
+  pub old_name : IsNameIn rename_of_a_to_b told.name (0x61 ∷ [])
+  pub new_name : IsNameIn rename_of_a_to_b told.other_name (0x62 ∷ [])
 
 -- a READ of three bytes with a room of twenty, which has room for four of data
 pub record ReadsThree (options room : ℕ) (asked : Asked) (told : CallData) : Type 0 where
@@ -63,6 +63,6 @@ mkdir_with_context =
 
 pub record HasContext (asked : Asked) (told : CallData) : Type 0 where
   pub is_call : asked ≡ Call
-  pub name : bytes_in mkdir_with_context told.name ≡ 0x64 ∷ []
-  pub context_name : bytes_in mkdir_with_context told.context_name ≡ 0x73 ∷ []
+  pub name : IsNameIn mkdir_with_context told.name (0x64 ∷ [])
+  pub context_name : IsNameIn mkdir_with_context told.context_name (0x73 ∷ [])
   pub context : bytes_in mkdir_with_context told.context ≡ 0x76 ∷ []

@@ -7,7 +7,7 @@ use Rattle.vfs_calls.specs.declared.call.CallData.{CallData}
 use Rattle.vfs_calls.specs.declared.data.AnswerData.{AnswerData}
 use Rattle.vfs_calls.specs.declared.data.ItemData.{ItemData}
 use Rattle.vfs_grammar.specs.declared.limits.Limits.{Limits}
-use Rattle.vfs_ask.specs.Asked.{Stand}
+use Rattle.vfs_ask.specs.Asked.{IsNameIn}
 use Rattle.vfs_answer.specs.declared.answered.Answered.{Answered}
 use Rattle.vfs_in_flight.specs.OneTurn.{IsAnsweredTurn}
 
@@ -22,7 +22,7 @@ pub record IsLookupOfA (call : CallData) : Type 0 where
   pub kind : call.answer ≡ 5
   pub size : call.size ≡ 0
   pub node : call.node ≡ 1
-  pub name : Stand lookup_of_a call.name (0x61 ∷ [])
+  pub name : IsNameIn lookup_of_a call.name (0x61 ∷ [])
 
 -- the reply to request 9 that says ENOENT: 16 bytes, and the error number 2 negated
 abbrev pub no_such_name : List ℕ

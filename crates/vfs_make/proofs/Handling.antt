@@ -1,5 +1,5 @@
 -- From the call that was made, and what came of its answer, to the call that was handled.
-use Rattle.std.proofs.Common.{◌≡◌, ◌≢◌, ◌∙◌, ◌+◌, ◌<◌, ◌≤◌, ℕ, Bool, true, false, List, [], length, Option, Some, None, MatchOption, refl, ap, sym, subst, append-nil, arith}
+use Rattle.std.proofs.Common.{◌≡◌, ◌≢◌, ◌∙◌, ◌+◌, ◌<◌, ◌≤◌, ℕ, Bool, true, false, List, [], length, Option, Some, None, MatchOption, refl, ap, sym, subst, append-nil, inl, inr, arith}
 use Rattle.std.specs.Prelude.{◌==◌, if◌then◌else◌, unwrap_or}
 use Rattle.vfs_segments.specs.Written.{Written}
 use Rattle.vfs_files.specs.Calls.{Call, Handed, Plain, Done, Answer, Kind, Agreements, Iterators, Entries, Creations, Found, Created, IsAnswer, kind_of}
@@ -247,18 +247,21 @@ module _ {S I : Type 0} (allows : S → Call → Handed I → S → Type 0) wher
 -- a call that lacks nothing, as it was told
 pub lacks_nothing : (request : List ℕ) (options space : ℕ) (echo : Echo) (c : Call) (told : CallData)
     → IsTold request options space echo c told → LacksNothing c → MayLack request told c → ⊥
-lacks_nothing request options space echo (call.Lookup ctx parent name) told is none lacks = none
+lacks_nothing request options space echo (call.Lookup ctx parent name) told is none lacks = lacks is.places.ended
 lacks_nothing request options space echo (call.Symlink ctx text parent name ext) told is none lacks = none
 lacks_nothing request options space echo (call.Mknod ctx inode name mode rdev umask ext) told is none lacks = none
 lacks_nothing request options space echo (call.Mkdir ctx parent name mode umask ext) told is none lacks = none
-lacks_nothing request options space echo (call.Unlink ctx parent name) told is none lacks = none
-lacks_nothing request options space echo (call.Rmdir ctx parent name) told is none lacks = none
-lacks_nothing request options space echo (call.Rename ctx olddir oldname newdir newname flags) told is none lacks = none
-lacks_nothing request options space echo (call.Link ctx inode newparent newname) told is none lacks = none
+lacks_nothing request options space echo (call.Unlink ctx parent name) told is none lacks = lacks is.places.ended
+lacks_nothing request options space echo (call.Rmdir ctx parent name) told is none lacks = lacks is.places.ended
+lacks_nothing request options space echo (call.Rename ctx olddir oldname newdir newname flags) told is none (inl lacks) = lacks is.places.0.ended
+lacks_nothing request options space echo (call.Rename ctx olddir oldname newdir newname flags) told is none (inr lacks) = lacks is.places.1.ended
+lacks_nothing request options space echo (call.Link ctx inode newparent newname) told is none lacks = lacks is.places.ended
 lacks_nothing request options space echo (call.Read ctx inode handle room size offset owner flags) told is none lacks = none
-lacks_nothing request options space echo (call.Setxattr ctx inode name value flags extra) told is none lacks = none
-lacks_nothing request options space echo (call.Getxattr ctx inode name size) told is none lacks = none
-lacks_nothing request options space echo (call.Removexattr ctx inode name) told is none lacks = none
+lacks_nothing request options space echo (call.Setxattr ctx inode name value flags extra) told is none (inl lacks) = lacks is.places.0.ended
+lacks_nothing request options space echo (call.Setxattr ctx inode name value flags extra) told is none (inr lacks) =
+    let within : told.value.at + told.value.len ≤ length request = is.places.1.within in omega arith
+lacks_nothing request options space echo (call.Getxattr ctx inode name size) told is none lacks = lacks is.places.ended
+lacks_nothing request options space echo (call.Removexattr ctx inode name) told is none lacks = lacks is.places.ended
 lacks_nothing request options space echo (call.Create ctx parent name mode kill flags umask ext) told is none lacks = none
 lacks_nothing request options space echo (call.BatchForget ctx pairs) told is none lacks = none
 lacks_nothing request options space echo (call.Readdir ctx inode handle size offset) told is none lacks = none

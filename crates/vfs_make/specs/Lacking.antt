@@ -36,20 +36,12 @@ MayLack request told (BatchForget ctx pairs) = ⊤
 MayLack request told (Readdir ctx inode handle size offset) = ⊤
 MayLack request told call = ⊥
 
--- a call that lacks nothing, as it is told: it has no name, no extensions and no pairs, and is no READ
+-- a call that lacks nothing, as it is told: it has no extensions and no pairs, and is no READ
 abbrev pub LacksNothing : Call → Type 0
-LacksNothing (Lookup ctx parent name) = ⊥
 LacksNothing (Symlink ctx linkname parent name ext) = ⊥
 LacksNothing (Mknod ctx inode name mode rdev umask ext) = ⊥
 LacksNothing (Mkdir ctx parent name mode umask ext) = ⊥
-LacksNothing (Unlink ctx parent name) = ⊥
-LacksNothing (Rmdir ctx parent name) = ⊥
-LacksNothing (Rename ctx olddir oldname newdir newname flags) = ⊥
-LacksNothing (Link ctx inode newparent newname) = ⊥
 LacksNothing (Read ctx inode handle room size offset lock_owner flags) = ⊥
-LacksNothing (Setxattr ctx inode name value flags extra) = ⊥
-LacksNothing (Getxattr ctx inode name size) = ⊥
-LacksNothing (Removexattr ctx inode name) = ⊥
 LacksNothing (Create ctx parent name mode kill_priv flags umask ext) = ⊥
 LacksNothing (BatchForget ctx pairs) = ⊥
 LacksNothing (Readdir ctx inode handle size offset) = ⊥

@@ -11,6 +11,6 @@ returns c =
     let told = told_in_all usual (fs_options_bits c.args.options) c.available_bytes-room.result c.args.r.left c.args.w.now c.ask.new.w c.ask.new.call c.ask.result
     c.ask.ensures.asked c.available_bytes-room.ensures in
     elim (rw (c.requires) at told) [
-      | inl t ↦ inl (record { is_call = t.0; numbers = t.1.numbers; name = t.1.places.bytes_are })
+      | inl t ↦ inl (record { is_call = t.0; numbers = t.1.numbers; name = t.1.places })
       | inr t ↦ inr t.1
     ]

@@ -14,6 +14,6 @@ returns c =
     c.ask.ensures.asked c.available_bytes-room.ensures in
     let has : LacksNoMemory c.ask.result = (rw (c.requires.request, c.requires.together) at c.ask.ensures.memory) (λ cut. let a = cut in cc) in
     elim (rw (c.requires.request) at told) [
-      | inl t ↦ record { is_call = t.0; numbers = t.1.numbers; name = t.1.places.bytes_are }
+      | inl t ↦ record { is_call = t.0; numbers = t.1.numbers; name = t.1.places }
       | inr t ↦ absurd (not_refused 0 c.args.w.now c.ask.new.w c.ask.new.call c.ask.result has t.1)
     ]

@@ -14,8 +14,8 @@ returns c =
     elim (rw (c.requires.request, c.requires.options) at told) [
       | inl t ↦ inl (record {
         is_call = t.0;
-        name = t.1.places.0.bytes_are;
-        context_name = t.1.places.1.0.bytes_are;
+        name = t.1.places.0;
+        context_name = t.1.places.1.0;
         context = t.1.places.1.1.bytes_are;
       })
       | inr t ↦ inr t.1

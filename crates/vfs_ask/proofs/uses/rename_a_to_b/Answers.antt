@@ -14,8 +14,8 @@ returns c =
       | inl t ↦ inl (record {
         is_call = t.0;
         numbers = t.1.numbers;
-        old_name = t.1.places.0.bytes_are;
-        new_name = t.1.places.1.bytes_are;
+        old_name = t.1.places.0;
+        new_name = t.1.places.1;
       })
       | inr t ↦ inr t.1
     ]
