@@ -52,7 +52,8 @@ pub fn why_bad(line: &[u8]) -> &'static str {
     };
     match &line[..space] {
         b"limit" => return "a limit is 4096 to 134217728 in 4 to 9 digits, in the first line alone",
-        b"answer" => return "an answer is of the forms in the usage of vfs_sessions, which takes it",
+        b"answer" =>
+            return "an answer is of the forms in the usage of vfs_sessions, which takes it",
         _ => {}
     }
     let mut rooms = line[..space].split(|b| *b == b'+');
