@@ -28,6 +28,7 @@ impl DirectoryIterator for NoEntries {
 pub struct Unserved {}
 
 impl PartialFileSystem for Unserved {
+    ghost use Rattle.std.specs.Prelude.{◌≡◌};
     ghost use Rattle.vfs_files.specs.Calls.{Plain, default_answer};
 
     type Entries = NoEntries;
@@ -81,6 +82,7 @@ impl PartialFileSystem for Unserved {
 }
 
 impl SerializableFileSystem for Unserved {
+    ghost use Rattle.std.specs.Prelude.{◌≡◌};
     ghost use Rattle.vfs_files.specs.Migrations.{default_migration};
 
     ghost migrates = { λ old call answer new.
