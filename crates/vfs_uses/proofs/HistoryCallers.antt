@@ -34,7 +34,8 @@ use Rattle.vfs_server.specs.Memory.{WantsNoMemory}
 use Rattle.vfs_server.specs.Step.{ServerState, IsStep, turn_over}
 use Rattle.vfs_history.specs.Calls.{IsSeen}
 use Rattle.vfs_history.specs.History.{Handled, turn_of, IsHistory, GoesOn, HistoriesKeepBooks}
-use Rattle.vfs_memory.specs.MemFs.{Stored, Stock, MemFsAllows, AnswersEntry, IsEntryOf, IsSecond, file_attr}
+use Rattle.vfs_memory.specs.MemFs.{Stored, Stock, MemFsAllows, AnswersEntry, IsEntryOf, file_attr}
+use Rattle.vfs_read_only.specs.Makers.{IsSecond}
 use Rattle.vfs_uses.proofs.Callers.{IsRun-no_events}
 use Rattle.vfs_uses.proofs.SessionCallers.{the_first}
 use Rattle.vfs_uses.specs.Files.{one_file}
@@ -166,7 +167,7 @@ out_is entry i =
     let attr_valid = seconds entry.attr_timeout i.attr_timeout in
     let entry_nsec = nanoseconds entry.entry_timeout i.entry_timeout in
     let attr_nsec = nanoseconds entry.attr_timeout i.attr_timeout in
-    cc (entry_valid, attr_valid, entry_nsec, attr_nsec, i.inode, i.generation, i.attr)
+    cc (entry_valid, attr_valid, entry_nsec, attr_nsec, i.inode, i.generation, i.attr_is)
 
 abbrev reply_with : EntryOut → List ℕ
 reply_with record_of_it = body_reply (bytes_of entry_out record_of_it) 9
