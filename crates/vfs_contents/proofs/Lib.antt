@@ -1,0 +1,4 @@
+pub mod Fills
+pub mod Held
+pub mod Moves
+pub mod Shown

@@ -1,0 +1,36 @@
+use Rattle.std.proofs.Common.{◌≡◌, ◌<◌, ◌≤◌, ◌+◌, ℕ, false, nat_cmp, sym, ap, ◌∙◌, arith}
+use Rattle.std.specs.Map.{keys_of}
+use Rattle.std.specs.BTreeMap.{is_at}
+use Rattle.std.proofs.lemmas.Bool.{false_from_ne_true, both_ways}
+use Rattle.vfs_contents.specs.Pages.{holds}
+use Rattle.vfs_contents.proofs.Held.{held_more, page_new, grown_by, missing_some}
+use Rattle.vfs_contents.proofs.pages.Pages.hold.Goals as goal
+
+pub hold-preserved : goal.hold-preserved
+hold-preserved c =
+    let now = keys_of c.hold.self in
+    let n = c.hold.n in
+    let free : holds now n ≡ false = sym c.holds.ensures ∙ c.if-holds.false in
+    let new = c.in_default.ensures.keys in
+    record {
+      undo = c.add_noted.ensures.noted ∙ c.hold.invariant.undo;
+      held = held_more now (keys_of c.add_noted.new.self) n _ (omega arith) (new ∙ page_new now n free)
+          ∙ c.hold.invariant.held;
+      same = λ place. c.add_noted.ensures.same place ∙ c.hold.invariant.same place;
+      grown = λ q there.
+          ap (λ ks. holds ks q) new
+          ∙ grown_by (is_at (nat_cmp q)) now n (c.hold.invariant.grown q there);
+    }
+
+pub returns-in-Err-clause-err : goal.returns-in-Err-clause-err
+returns-in-Err-clause-err c =
+    let old = keys_of c.args.self.now in
+    let now = keys_of c.hold.self in
+    let n = c.hold.n in
+    let free : holds now n ≡ false = sym c.holds.ensures ∙ c.if-holds.false in
+    let was : holds old n ≡ false =
+    false_from_ne_true (holds old n) (λ there. both_ways (holds now n) free (c.hold.invariant.grown n there)) in (
+      c.in-Err.ensures.err,
+      c.take_out.ensures ∙ c.add_noted.ensures.noted ∙ c.hold.invariant.undo,
+      missing_some old c.args.page c.args.count n (omega arith) (omega arith) was,
+    )

@@ -1,0 +1,64 @@
+-- The bytes of a file, and which of its pages are held.
+use Rattle.std.specs.Prelude.{◌≡◌, ◌≤◌, ◌<◌, ◌+◌, ◌-◌, ◌/◌, ℕ, nat_lt, List, [], ◌∷◌, ◌++◌, length, take, replicate, map, Option, Some, Result, Ok, Err, if◌then◌else◌}
+use Rattle.std.specs.List.{filter, range_with_len}
+use Rattle.std.specs.Int.{div_ceil}
+use Rattle.std.specs.Map.{keys_of}
+use Rattle.vfs_flags.specs.Numbers.{enomem}
+use Rattle.vfs_files.specs.Bytes.{fitting}
+use Rattle.vfs_files.specs.Bytes as flat
+use Rattle.vfs_contents.specs.Pages.{Pages, byte_at, with_pages, missing}
+
+-- the bytes, whatever holds them, and the numbers of the pages that are held, in order. A page has 4096
+-- bytes; it may lie behind the end
+pub record Contents : Type 0 where
+  pub bytes : List ℕ
+  pub held : List ℕ
+
+abbrev pub no_contents : Contents
+no_contents = record { bytes = []; held = [] }
+
+-- cut off behind so many bytes, or zeros up to so many, which take no page
+abbrev pub resized : Contents → (size : ℕ) → Contents
+resized c size = record {
+  bytes = take size c.bytes ++ replicate (size - length c.bytes) 0;
+  held = if nat_lt (length c.bytes) size then c.held
+      else filter (λ n. nat_lt n (div_ceil size 4096)) c.held;
+}
+
+-- how many pages so many bytes from off on lie in
+abbrev pub pages_over : (off len : ℕ) → ℕ
+pages_over off len = div_ceil (off + len) 4096 - off / 4096
+
+-- how many of these are not held
+abbrev pub lacking : Contents → (off len : ℕ) → ℕ
+lacking c off len = missing c.held (off / 4096) (pages_over off len)
+
+-- these bytes written from off on, in pages that are held then
+abbrev pub written : Contents → (off : ℕ) → List ℕ → Contents
+written c off [] = c
+written c off (b ∷ bs) = record {
+  bytes = flat.written c.bytes off (b ∷ bs);
+  held = with_pages c.held (off / 4096) (pages_over off (length (b ∷ bs)));
+}
+
+-- a write of these bytes, up to a limit: of those that fit all are written; or one of their pages is not
+-- held, there is no memory for it, and all stays
+abbrev pub Writes :
+    (most : ℕ) (old : Contents) (bytes : List ℕ) (off : ℕ) → Result ℕ (Option ℕ) → (new : Contents)
+    → Type 0
+Writes most old bytes off (Ok count) new =
+    (count ≡ length (fitting most off bytes)) × (new ≡ written old off (fitting most off bytes))
+Writes most old bytes off (Err fault) new =
+    (fault ≡ Some enomem) × (0 < lacking old off (length (fitting most off bytes))) × (new ≡ old)
+
+-- ---- how they are kept
+
+abbrev pub bytes_of : Pages → (size : ℕ) → List ℕ
+bytes_of pages size = map (byte_at pages) (range_with_len 0 size)
+
+abbrev pub contents_of : Pages → (size : ℕ) → Contents
+contents_of pages size = record { bytes = bytes_of pages size; held = keys_of pages }
+
+-- zeros stand behind the end
+abbrev pub AreZeroBehind : Pages → (size : ℕ) → Type 0
+AreZeroBehind pages size = (place : ℕ) → size ≤ place → byte_at pages place ≡ 0

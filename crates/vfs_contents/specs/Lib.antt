@@ -1,0 +1,4 @@
+pub mod Contents
+pub mod Filling
+pub mod Pages
+pub mod Reading

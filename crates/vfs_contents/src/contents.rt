@@ -1,0 +1,161 @@
+//! The bytes of a file.
+
+ghost use Rattle.std.specs.Prelude.{◌≡◌, ◌<◌, ◌^◌, ◌≤◌, ◌+◌, ◌-◌, ◌*◌, ◌/◌, ℕ, List, [], length, take};
+ghost use Rattle.std.specs.Int.{div_ceil};
+ghost use Rattle.vfs_files.specs.Bytes.{PutsPart};
+ghost use Rattle.vfs_contents.specs.Contents.{no_contents, resized, lacking, pages_over, Writes};
+ghost use Rattle.vfs_contents.specs.Pages.{reach};
+
+use crate::pages::{PAGE, Pages};
+use crate::transfer::{Reading, count_left, fill};
+use std::alloc::Global;
+use std::marker::Model;
+use vfs_files::{ZeroCopyReader, ZeroCopyWriter};
+use vfs_flags::{Fault, MAX_REPLY_DATA};
+
+/// The bytes of a file.
+#[derive(Drop)]
+pub struct Contents {
+    pages: Pages,
+    size: u64,
+}
+
+impl Model for Contents {
+    ghost use Rattle.vfs_contents.specs.Contents.{Contents, contents_of, AreZeroBehind};
+
+    ghost Value = { Contents };
+
+    ghost view = { λ contents. contents_of contents.pages contents.size };
+
+    ghost invariant = { λ contents. AreZeroBehind contents.pages contents.size };
+}
+
+impl Contents {
+    /// No bytes.
+    pub fn new(alloc: Global) -> Contents
+        ensures { result ≡ no_contents }
+    {
+        Contents {
+            pages: Pages::new(alloc),
+            size: 0,
+        }
+    }
+
+    /// How many bytes there are.
+    pub fn len(&self) -> u64
+        ensures { result ≡ length self.now.bytes }
+    {
+        self.size
+    }
+
+    /// How many pages are held.
+    pub fn held(&self) -> u64
+        ensures held { result ≡ length self.now.held }
+        ensures few { result ≤ 2 ^ 50 }
+    {
+        self.pages.count() as u64
+    }
+
+    /// How many of the pages that so many bytes from `offset` on lie in are not held.
+    pub fn lacking(&self, offset: u64, length: u64) -> u64
+        requires { offset + length < 2 ^ 64 }
+        ensures { result ≡ lacking self.now offset length }
+    {
+        let (first, end) = span(offset, length);
+        let mut missing = 0;
+        'count: for page in first..end {
+            if !self.pages.holds(page) {
+                missing += 1;
+            }
+        }
+        missing
+    }
+
+    /// Up to which place bytes from `offset` on can be written, at most `length`, where so many
+    /// pages more can be held.
+    pub fn reach(&self, offset: u64, length: u64, free: u64) -> u64
+        requires { offset + length < 2 ^ 64 - 4096 }
+        ensures { result ≡ 4096 * reach self.now.held free (offset / 4096) (pages_over offset length) }
+    {
+        let (first, end) = span(offset, length);
+        let mut left = free;
+        'go: for page in first..end {
+            if self.pages.holds(page) {
+                continue;
+            }
+            if left == 0 {
+                return page * PAGE as u64;
+            }
+            left -= 1;
+        }
+        end * PAGE as u64
+    }
+
+    /// Cuts off what is behind so many bytes, and lets its pages go, or adds zeros, which take none.
+    pub fn resize(&mut self, size: u64)
+        ensures { self.new ≡ resized self.old size }
+    {
+        if size > self.size {
+            self.size = size;
+            return;
+        }
+        self.pages.cut(size.div_ceil(PAGE as u64));
+        self.pages.zero_from(size);
+        self.size = size;
+    }
+
+    /// Puts bytes from `offset` on into `w`, at most `size`, and answers how many.
+    pub fn read_into<W: ZeroCopyWriter>(
+        &self,
+        w: &mut W,
+        size: u32,
+        offset: u64,
+    ) -> Result<usize, Fault>
+        ensures { (moved : List ℕ) × W.puts w.old moved w.new
+            × PutsPart self.now.bytes (W.room w.old) size offset result moved }
+    {
+        let rest = self.len().saturating_sub(offset);
+        let count = rest.min(size.min(MAX_REPLY_DATA) as u64);
+        let mut file = Reading { pages: &self.pages };
+        w.read_from_file_at(&mut file, count as usize, offset)
+    }
+
+    /// Writes up to `size` bytes of `r` from `offset` on, as far as they end within `most`, and
+    /// answers how many. ENOMEM where a page is not held and there is no memory for it, and all
+    /// stays.
+    pub fn write_from<R: ZeroCopyReader>(
+        &mut self,
+        alloc: Global,
+        r: &mut R,
+        size: u32,
+        offset: u64,
+        most: u64,
+    ) -> Result<u32, Fault>
+        ensures { (taken : List ℕ) × R.takes r.old taken r.new
+            × Writes most self.old (take size (R.left r.old)) offset result self.new }
+    {
+        let left = count_left(r, size as usize) as u64;
+        let count = left.min(most.saturating_sub(offset));
+        if count == 0 {
+            return Ok(0);
+        }
+        let end = offset + count;
+        let (first, last) = span(offset, count);
+        self.pages.hold(alloc, first, last - first)?;
+        fill(&mut self.pages, r, count as usize, offset);
+        self.size = self.size.max(end);
+        Ok(count as u32)
+    }
+}
+
+// The first page that so many bytes from `offset` on lie in, and the one behind the last.
+fn span(offset: u64, length: u64) -> (u64, u64)
+    requires { offset + length < 2 ^ 64 }
+    ensures first { result.0 ≡ offset / 4096 }
+    ensures end { result.1 ≡ div_ceil (offset + length) 4096 }
+{
+    (
+        offset / PAGE as u64,
+        (offset + length).div_ceil(PAGE as u64),
+    )
+}

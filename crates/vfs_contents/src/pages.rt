@@ -1,0 +1,208 @@
+//! Pages of bytes, by their numbers.
+
+ghost use Rattle.std.specs.Prelude.{◌≡◌, ◌≤◌, ◌<◌, ◌+◌, ◌-◌, ◌/◌, ◌%◌, ◌^◌, min, ℕ, [], true, false, nat_lt, length, take, slice_index, replicate, Some, IfErr, OnOk, if◌then◌else◌};
+ghost use Rattle.std.specs.List.{filter};
+ghost use Rattle.std.specs.Ordering.{nat_cmp};
+ghost use Rattle.std.specs.Map.{keys_of, remove_entry};
+ghost use Rattle.std.specs.BTreeMap.{is_at};
+ghost use Rattle.std.specs.BTreeSet.{insert_key};
+ghost use Rattle.vfs_flags.specs.Numbers.{enomem};
+ghost use Rattle.vfs_contents.specs.Pages.{byte_at, byte_over, holds, with_pages, missing, undone};
+
+use std::alloc::Global;
+use std::collections::BTreeMap;
+use std::marker::Model;
+use vfs_files::copy_of;
+use vfs_flags::{Errno, Fault};
+
+/// How many bytes a page has.
+pub(crate) const PAGE: usize = 4096;
+
+/// How many pages are held at most: as many as no memory has room for.
+const MOST_PAGES: usize = 1 << 50;
+
+/// The bytes of a page that is not held.
+static ZEROS: [u8; PAGE] = [0; PAGE];
+
+/// Pages by their numbers.
+#[derive(Drop)]
+pub(crate) struct Pages {
+    pages: BTreeMap<u64, Vec<u8>>,
+}
+
+impl Model for Pages {
+    ghost use Rattle.vfs_contents.specs.Pages.{Pages, AreSound};
+
+    ghost Value = { Pages };
+
+    ghost view = { λ pages. pages.pages.entries };
+
+    ghost invariant = { λ pages. AreSound pages.pages.entries };
+}
+
+impl Pages {
+    /// No pages.
+    pub(crate) fn new(alloc: Global) -> Pages
+        ensures { result ≡ [] }
+    {
+        Pages {
+            pages: BTreeMap::new(alloc),
+        }
+    }
+
+    /// How many pages are held.
+    pub(crate) fn count(&self) -> usize
+        ensures count { result ≡ length self.now }
+        ensures few { result ≤ 2 ^ 50 }
+    {
+        self.pages.len()
+    }
+
+    /// Whether a page is held.
+    pub(crate) fn holds(&self, page: u64) -> bool
+        ensures { result ≡ holds (keys_of self.now) page }
+    {
+        self.pages.contains_key(&page)
+    }
+
+    /// Holds so many pages from one on, those that were not held with zeros. ENOMEM where there is no
+    /// memory for these, and all stays.
+    pub(crate) fn hold(&mut self, alloc: Global, page: u64, count: u64) -> Result<(), Fault>
+        requires { page + count < 2 ^ 64 }
+        ensures held { OnOk result
+            (keys_of self.new ≡ with_pages (keys_of self.old) page count) }
+        ensures same { (place : ℕ) → byte_at self.new place ≡ byte_at self.old place }
+        ensures err { IfErr result (λ fault. (fault ≡ Some enomem) × (self.new ≡ self.old)
+            × (0 < missing (keys_of self.old) page count)) }
+    {
+        let mut added = Vec::new(alloc);
+        'hold: for n in page..page + count {
+            if self.holds(n) {
+                continue;
+            }
+            if let Err(fault) = self.add_noted(alloc, n, &mut added) {
+                self.take_out(added);
+                return Err(fault);
+            }
+        }
+        Ok(())
+    }
+
+    // Adds a page of zeros that is not held, and notes its number. ENOMEM where there is no memory
+    // for that, and all stays.
+    fn add_noted(&mut self, alloc: Global, page: u64, added: &mut Vec<u64>) -> Result<(), Fault>
+        requires { holds (keys_of self.old) page ≡ false }
+        ensures keys { OnOk result (keys_of self.new ≡ insert_key nat_cmp (keys_of self.old) page) }
+        ensures same { (place : ℕ) → byte_at self.new place ≡ byte_at self.old place }
+        ensures noted { undone added.new.items self.new ≡ undone added.old.items self.old }
+        ensures err { IfErr result (λ fault. fault ≡ Some enomem) }
+    {
+        match added.push(page) {
+            Ok(()) => {}
+            Err(_) => return Err(Some(Errno::ENOMEM)),
+        }
+        match self.add(alloc, page) {
+            Ok(()) => Ok(()),
+            Err(fault) => {
+                let _ = added.pop();
+                Err(fault)
+            }
+        }
+    }
+
+    // Takes pages out again, the last first.
+    fn take_out(&mut self, mut added: Vec<u64>)
+        ensures { self.new ≡ undone added.items self.old }
+    {
+        'out: while let Some(page) = added.pop() {
+            self.pages.remove(&page);
+        }
+    }
+
+    // Adds a page of zeros that is not held. ENOMEM where there is no memory for it, and all stays.
+    fn add(&mut self, alloc: Global, page: u64) -> Result<(), Fault>
+        requires { holds (keys_of self.old) page ≡ false }
+        ensures keys { OnOk result (keys_of self.new ≡ insert_key nat_cmp (keys_of self.old) page) }
+        ensures same { (place : ℕ) → byte_at self.new place ≡ byte_at self.old place }
+        ensures undone { OnOk result
+            (remove_entry (is_at (nat_cmp page)) self.new ≡ self.old) }
+        ensures err { IfErr result (λ fault. (fault ≡ Some enomem) × (self.new ≡ self.old)) }
+    {
+        if self.pages.len() >= MOST_PAGES {
+            return Err(Some(Errno::ENOMEM));
+        }
+        let bytes = copy_of(alloc, zeros(PAGE))?;
+        match self.pages.insert(page, bytes) {
+            Ok(_) => Ok(()),
+            Err(_) => Err(Some(Errno::ENOMEM)),
+        }
+    }
+
+    /// The bytes from a place on, as many as its page has and at most so many.
+    pub(crate) fn part(&self, at: u64, most: usize) -> &[u8]
+        ensures some { 0 < most → 0 < length result.now }
+        ensures within { length result.now ≤ most }
+        ensures bytes { (i : ℕ) → i < length result.now
+            → slice_index result.now i ≡ byte_at self.now (at + i) }
+    {
+        let from = (at % PAGE as u64) as usize;
+        let count = most.min(PAGE - from);
+        match self.pages.get(&(at / PAGE as u64)) {
+            Some(page) => &page[from..from + count],
+            None => zeros(count),
+        }
+    }
+
+    /// Writes the front of these bytes over those from a place on, as many as its page has, and
+    /// answers how many. The page is held.
+    pub(crate) fn put(&mut self, at: u64, bytes: &[u8]) -> usize
+        requires { holds (keys_of self.old) (at / 4096) ≡ true }
+        ensures count { result ≡ min (length bytes.now) (4096 - at % 4096) }
+        ensures keys { keys_of self.new ≡ keys_of self.old }
+        ensures bytes { (place : ℕ) → byte_at self.new place
+            ≡ byte_over at (take result bytes.now) (byte_at self.old) place }
+    {
+        let from = (at % PAGE as u64) as usize;
+        let count = bytes.len().min(PAGE - from);
+        let Some(page) = self.pages.get_mut(&(at / PAGE as u64)) else {
+            unreachable!()
+        };
+        page.slice_mut(from..from + count)
+            .copy_from_slice(&bytes[..count]);
+        count
+    }
+
+    /// Writes zeros from a place to the end of its page.
+    pub(crate) fn zero_from(&mut self, at: u64)
+        ensures keys { keys_of self.new ≡ keys_of self.old }
+        ensures bytes { (place : ℕ) → byte_at self.new place
+            ≡ byte_over at (replicate (4096 - at % 4096) 0) (byte_at self.old) place }
+    {
+        if self.holds(at / PAGE as u64) {
+            self.put(at, zeros(PAGE - (at % PAGE as u64) as usize));
+        }
+    }
+
+    /// Lets the pages from one on go.
+    pub(crate) fn cut(&mut self, page: u64)
+        ensures keys { keys_of self.new ≡ filter (λ n. nat_lt n page) (keys_of self.old) }
+        ensures bytes { (place : ℕ) → byte_at self.new place
+            ≡ (if nat_lt (place / 4096) page then byte_at self.old place else 0) }
+    {
+        'cut: while let Some((last, _)) = self.pages.last_key_value() {
+            let last = *last;
+            if last < page {
+                break;
+            }
+            self.pages.remove(&last);
+        }
+    }
+}
+
+// So many zeros.
+fn zeros(count: usize) -> &'static [u8]
+    requires { count ≤ 4096 }
+    ensures { result.now ≡ replicate count 0 }
+{
+    &ZEROS[..count]
+}
