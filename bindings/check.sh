@@ -9,6 +9,7 @@
 # it is linked from the proved library, or from that which tools/lib/unproved.sh builds in a minute.
 # It needs a C compiler and the Rattle toolchain; and python3, go with cgo, and cargo for their languages.
 # Status 0: all checks passed; 1: one failed; 2: it could not start.
+
 # shellcheck source-path=SCRIPTDIR/../tools
 set -euo pipefail
 tools=$(cd "$(dirname "$0")/../tools" && pwd)

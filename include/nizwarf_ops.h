@@ -24,7 +24,10 @@ extern "C" {
 #endif
 
 /* What is asked. `user` is yours, `call` has the caller: uid, gid, pid, umask, and what is said of
- * a new node by its extensions. `request` has the bytes that ranges are of. */
+ * a new node by its extensions. `request` has the bytes that ranges are of.
+ *
+ * uid and gid are 2^32 - 1 where the kernel does not say them: from 6.12 on Linux says them only in
+ * calls that make a node. Mount with default_permissions, which has the kernel check permissions. */
 typedef struct {
 	void *user;
 	const nizwarf_call *call;

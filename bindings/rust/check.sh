@@ -13,6 +13,7 @@
 # It needs cargo, a C compiler, and the Rattle toolchain for the library; it uses rustfmt and clippy if they
 # are installed. If NIZWARF_LIB_DIR is set, the library is that in this folder: see build.rs.
 # Status 0: all checks passed; 1: one failed; 2: it could not start.
+
 # shellcheck source-path=SCRIPTDIR/../../tools
 set -euo pipefail
 tools=$(cd "$(dirname "$0")/../../tools" && pwd)
