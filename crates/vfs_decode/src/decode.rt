@@ -25,7 +25,7 @@ pub fn decode_text(alloc: Global, text: &[u8], decoded: &mut String) -> Result<(
 /// Decodes lines: one that sets the limit, if it is the first, and then requests and answers in turn.
 fn decode_lines(alloc: Global, lines: &[&[u8]], decoded: &mut String) -> Result<(), RunError> {
     let before = lines_before_requests(lines);
-    let mut session = Session {
+    let mut decoder = Decoder {
         options: FsOptions::empty(),
         asked: None,
     };
@@ -35,7 +35,7 @@ fn decode_lines(alloc: Global, lines: &[&[u8]], decoded: &mut String) -> Result<
         };
         if i < before {
             push_line(decoded, text)?;
-        } else if !session.decode(alloc, text, decoded)? {
+        } else if !decoder.decode(alloc, text, decoded)? {
             return Err(RunError::BadLine(i + 1));
         }
     }
@@ -44,7 +44,7 @@ fn decode_lines(alloc: Global, lines: &[&[u8]], decoded: &mut String) -> Result<
 
 /// What is known of a session between two of its lines.
 #[derive(Drop)]
-struct Session {
+struct Decoder {
     /// The options that are agreed on.
     options: FsOptions,
 
@@ -52,7 +52,7 @@ struct Session {
     asked: Option<Vec<u8>>,
 }
 
-impl Session {
+impl Decoder {
     /// Appends the next line with what it says, if it is of its form; whether it is.
     fn decode(
         &mut self,
