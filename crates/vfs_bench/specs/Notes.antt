@@ -30,8 +30,8 @@ asked call node answer = record {
 }
 
 -- the note of a call of this number that has no answer, about this node, with a count
-abbrev pub told : ℕ → ℕ → ℕ → Note
-told call node count = record {
+abbrev pub unanswered : ℕ → ℕ → ℕ → Note
+unanswered call node count = record {
   call = call;
   node = node;
   count = count;
@@ -42,7 +42,7 @@ told call node count = record {
 -- the note of each call with its answer: the number of its opcode, and its first node
 abbrev pub note_of : Call → Answer → Note
 note_of (Lookup ctx parent name) = asked 1 parent
-note_of (Forget ctx inode count) = λ _. told 2 inode count
+note_of (Forget ctx inode count) = λ _. unanswered 2 inode count
 note_of (Getattr ctx inode handle) = asked 3 inode
 note_of (Setattr ctx inode attr handle valid) = asked 4 inode
 note_of (Readlink ctx inode) = asked 5 inode
@@ -76,11 +76,11 @@ note_of Setlkw = asked 33 0
 note_of (Access ctx inode mask) = asked 34 inode
 note_of (Create ctx parent name mode kill_priv flags umask ext) = asked 35 parent
 note_of Bmap = asked 37 0
-note_of Destroy = λ _. told 38 0 0
+note_of Destroy = λ _. unanswered 38 0 0
 note_of Ioctl = asked 39 0
 note_of Poll = asked 40 0
 note_of NotifyReply = asked 41 0
-note_of (BatchForget ctx requests) = λ _. told 42 0 (length requests)
+note_of (BatchForget ctx requests) = λ _. unanswered 42 0 (length requests)
 note_of (Fallocate ctx inode handle mode offset length) = asked 43 inode
 note_of (Lseek ctx inode handle offset whence) = asked 46 inode
 note_of (Copyfilerange ctx inode_in handle_in offset_in inode_out handle_out offset_out len flags) = asked 47 inode_in

@@ -5,7 +5,7 @@ ghost use Rattle.vfs_flags.specs.Flags.{setattr_valid_bits};
 ghost use Rattle.vfs_flags.specs.Numbers.{number_of};
 ghost use Rattle.vfs_files.specs.Calls.{Getattr, Setattr, BatchForget, out_of_memory};
 ghost use Rattle.vfs_files.specs.Answers.{Plain, Done, attr_answer, entry_answer};
-ghost use Rattle.vfs_bench.specs.Notes.{asked, told};
+ghost use Rattle.vfs_bench.specs.Notes.{asked, unanswered};
 ghost use Rattle.vfs_bench.specs.Outcomes.{plain_outcome};
 ghost use Rattle.vfs_bench.specs.Recorded.{IsNoted, recorded};
 
@@ -135,7 +135,7 @@ impl<F> Recorder<F> {
     /// Notes a call that has no answer.
     fn note_told(&mut self, opcode: Opcode, node: u64, count: u64)
         ensures inner { self.new.inner ≡ self.old.inner }
-        ensures noted { IsNoted self.old (told (number_of opcode) node count) self.new }
+        ensures noted { IsNoted self.old (unanswered (number_of opcode) node count) self.new }
     {
         self.note_call(opcode, node, count, Outcome::NOTHING);
     }

@@ -3,7 +3,7 @@ use Rattle.std.proofs.Common.{◌≡◌, ◌≤◌, ◌^◌, ◌⊎◌, length, 
 use Rattle.vfs_server.specs.Step.{ServerState}
 use Rattle.vfs_history.specs.History.{Moment, Handled, Changed, IsHistory, HistoriesKeepBooks}
 use Rattle.vfs_rooms.specs.Codes.{ok, no_memory, too_long}
-use Rattle.vfs_c.specs.Files.{State, Allows, Gives, told}
+use Rattle.vfs_c.specs.Files.{State, Allows, Gives, at_time}
 use Rattle.vfs_c.specs.History.{Turned, Answered, Told, HandlesTwo}
 
 -- a message that was answered was a turn
@@ -24,8 +24,8 @@ both : HistoriesKeepBooks Allows Gives → (first s1 s2 s3 s4 : ServerState Stat
     → Told first 1 0 s1 → Turned s1 q1 4096 n1 l1 r1 k1 s2 → Told s2 2 0 s3
     → Turned s3 q2 4096 n2 l2 r2 k2 s4 → HandlesTwo first q1 q2 s4
 both keep first s1 s2 s3 s4 q1 q2 n1 n2 l1 l2 r1 r2 k1 k2 one x two y =
-    let told_first : Moment State = Changed first.fs (told first.fs 1 0) in
-    let told_then : Moment State = Changed s2.fs (told s2.fs 2 0) in
+    let told_first : Moment State = Changed first.fs (at_time first.fs 1 0) in
+    let told_then : Moment State = Changed s2.fs (at_time s2.fs 2 0) in
     let h1 : IsHistory Allows Gives first (told_first ∷ []) s1 = one first [] refl in
     let h2 : IsHistory Allows Gives first (told_first ∷ Handled x.t ∷ []) s2 =
     x.extends first (told_first ∷ []) h1 in

@@ -18,7 +18,7 @@ use Rattle.vfs_grammar.specs.declared.limits.Limits.{Limits}
 use Rattle.vfs_server.specs.Step.{ServerState}
 use Rattle.vfs_history.specs.History.{Handled, IsHistory, IsHandled}
 use Rattle.vfs_rooms.specs.Codes.{ok, number_of, shown_of}
-use Rattle.vfs_c.specs.Files.{State, Iterator, Allows, Gives, new_state, told}
+use Rattle.vfs_c.specs.Files.{State, Iterator, Allows, Gives, new_state, at_time}
 use Rattle.vfs_c.specs.History.{Turned, Answered, HandlesTwo}
 use Rattle.vfs_rooms.specs.Parts.{part_from}
 use Rattle.vfs_c.specs.Served.{new_server, told_time}
@@ -41,7 +41,7 @@ asks space = refl
 
 -- a new tree has no such name
 refused : (settings : Settings) (answer : Answer) (new : State)
-    → Allows (told (new_state settings) 1 0) lookup (Plain answer) new → answer ≡ Failed (Some 2)
+    → Allows (at_time (new_state settings) 1 0) lookup (Plain answer) new → answer ≡ Failed (Some 2)
 unfolding number little
 refused settings answer new allowed = cc (allowed.0)
 
@@ -71,12 +71,12 @@ reply_is after room outcome room_after long is =
 
 turn_is : (settings : Settings) (t : Turn) (after : ℕ) (new : State)
     (run : List (Happening Iterator × State))
-    → IsRun Allows Gives None (told (new_state settings) 1 0) run new → events_of run ≡ t.events
+    → IsRun Allows Gives None (at_time (new_state settings) 1 0) run new → events_of run ≡ t.events
     → length t.room ≡ 4096 → number_of t.outcome ≡ ok
     → Follows t limits 0 (WithMemory (Asks echo lookup)) after
     → (t.outcome ≡ Ok 16) × (take 16 t.room_after ≡ no_such_name)
 turn_is settings t after new run is events long answered (inl f) =
-    let call = first_call (told (new_state settings) 1 0) new run lookup f.0 _ is (events ∙ f.1) in
+    let call = first_call (at_time (new_state settings) 1 0) new run lookup f.0 _ is (events ∙ f.1) in
     let failed = refused settings f.0 call.0 call.1 in
     reply_is after t.room t.outcome t.room_after long
     (subst (λ (a : Answer). IsReplied (reply_of limits echo after Entries a) t.room t.outcome t.room_after)
@@ -87,12 +87,12 @@ turn_is settings t after new run is events long answered (inr f) =
 -- a message that was answered
 looked_up : (settings : Settings) (old new : ServerState State) (code : ℤ) (len : ℕ)
     (room : List ℕ) (shown : ℕ)
-    → old ≡ record { options = 0; limits = limits; fs = told (new_state settings) 1 0 }
+    → old ≡ record { options = 0; limits = limits; fs = at_time (new_state settings) 1 0 }
     → Turned old lookup_of_a 4096 code len room shown new → code ≡ ok
     → (shown ≡ 16) × (take 16 room ≡ no_such_name)
 looked_up settings old new code len room shown is t answered =
     let first : ServerState State =
-    record { options = 0; limits = limits; fs = told (new_state settings) 1 0 } in
+    record { options = 0; limits = limits; fs = at_time (new_state settings) 1 0 } in
     let h : IsHistory Allows Gives old (Handled t.t ∷ []) new = t.extends old [] refl in
     let handled : IsHandled Allows Gives first t.t h.0 =
     subst (λ (s : ServerState State). IsHandled Allows Gives s t.t h.0) is h.1 in

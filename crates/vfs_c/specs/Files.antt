@@ -33,6 +33,6 @@ abbrev pub Gives : Iterator → Option Item → Iterator → Type 0
 Gives = GivesFirst
 
 -- one that was told the time
-abbrev pub told : State → (seconds nanoseconds : ℕ) → State
-told files seconds nanoseconds =
+abbrev pub at_time : State → (seconds nanoseconds : ℕ) → State
+at_time files seconds nanoseconds =
     record files { now = record { seconds = seconds; nanoseconds = nanoseconds } }

@@ -5,7 +5,7 @@ use Rattle.vfs_grammar.specs.Turn.{Turn}
 use Rattle.vfs_server.specs.Step.{ServerState}
 use Rattle.vfs_history.specs.History.{Moment, Handled, Changed, IsHistory}
 use Rattle.vfs_rooms.specs.Codes.{number_of, length_of, shown_of}
-use Rattle.vfs_c.specs.Files.{State, Allows, Gives, told}
+use Rattle.vfs_c.specs.Files.{State, Allows, Gives, at_time}
 use Rattle.vfs_c.specs.Served.{Refused}
 
 -- whatever history the server had, it has these moments more
@@ -40,7 +40,7 @@ Answered old request total number len room shown new =
 abbrev pub Told : (old : ServerState State) → (seconds nanoseconds : ℕ)
     → (new : ServerState State) → Type 0
 Told old seconds nanoseconds new =
-    Extends old (Changed old.fs (told old.fs seconds nanoseconds) ∷ []) new
+    Extends old (Changed old.fs (at_time old.fs seconds nanoseconds) ∷ []) new
 
 -- A server was told the time, handled a request, was told the time again, and handled another one: these
 -- are its history, and the books of both turns are kept.
@@ -52,9 +52,9 @@ pub record HandlesTwo (first : ServerState State) (one two : List ℕ) (now : Se
   pub asked_first : a.request ≡ one
   pub asked_then : b.request ≡ two
   pub history : IsHistory Allows Gives first
-      (Changed first.fs (told first.fs 1 0)
+      (Changed first.fs (at_time first.fs 1 0)
       ∷ Handled a
-      ∷ Changed between (told between 2 0)
+      ∷ Changed between (at_time between 2 0)
       ∷ Handled b
       ∷ [])
       now

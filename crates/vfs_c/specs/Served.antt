@@ -3,7 +3,7 @@ use Rattle.std.specs.Prelude.{◌≡◌, ◌≤◌, ◌^◌, ◌⊎◌, ℕ, ℤ
 use Rattle.vfs_segments.specs.Written.{Written, whole}
 use Rattle.vfs_grammar.specs.declared.error.Error.{Error}
 use Rattle.vfs_server.specs.Step.{ServerState, IsStep, ReadsDirectories}
-use Rattle.vfs_c.specs.Files.{State, new_state, told, Allows, Gives}
+use Rattle.vfs_c.specs.Files.{State, new_state, at_time, Allows, Gives}
 use Rattle.vfs_c.specs.declared.files.Settings.{Settings}
 use Rattle.vfs_rooms.specs.Codes.{no_memory, too_long, number_of, length_of, shown_of}
 
@@ -18,7 +18,7 @@ new_server page_size max_buffer settings = record {
 -- a server over a file system that was told the time
 abbrev pub told_time : ServerState State → (seconds nanoseconds : ℕ) → ServerState State
 told_time server seconds nanoseconds =
-    record server { fs = told server.fs seconds nanoseconds }
+    record server { fs = at_time server.fs seconds nanoseconds }
 
 -- The server made a step, as the grammar says, with a writer that had so many bytes left; if a
 -- directory was read, it was read so. `room` has the bytes that the step left in their place, of

@@ -2,7 +2,7 @@
 //! this, and other values in `specs/Files.antt`.
 
 ghost use Rattle.std.specs.Prelude.{◌≡◌, IfSome};
-ghost use Rattle.vfs_c.specs.Files.{new_state, told};
+ghost use Rattle.vfs_c.specs.Files.{new_state, at_time};
 
 use std::alloc::Global;
 use vfs_flags::{GuestGid, GuestUid};
@@ -57,7 +57,7 @@ pub fn new_files(alloc: Global, settings: &Settings) -> Option<Files>
 
 /// Tells it the time.
 pub fn tell_time(files: &mut Files, seconds: u64, nanoseconds: u32)
-    ensures { files.new ≡ told files.old seconds nanoseconds }
+    ensures { files.new ≡ at_time files.old seconds nanoseconds }
 {
     files.set_time(Time {
         seconds,

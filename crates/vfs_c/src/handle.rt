@@ -4,10 +4,10 @@ ghost use Rattle.std.specs.Prelude.{◌≡◌};
 ghost use Rattle.std.specs.declared.option.Option.{Option};
 ghost use Rattle.std.specs.declared.option.Option.TheVariants.{None, Some};
 ghost use Rattle.std.specs.Option.{MatchOption};
-ghost use Rattle.vfs_c.specs.declared.session.Session.{Session};
+ghost use Rattle.vfs_c.specs.declared.instance.Instance.{Instance};
 ghost use Rattle.vfs_c.specs.Handle.{owned, coded};
 
-use crate::session::Session;
+use crate::instance::Instance;
 use raw_box::Slot;
 use std::alloc::Global;
 use std::marker::Model;
@@ -19,7 +19,7 @@ use std::mem;
 pub struct Handle {
     at: *mut u8,
     alloc: Global,
-    pub ghost value: { Option Session } by { coded },
+    pub ghost value: { Option Instance } by { coded },
 }
 
 impl Model for Handle {
@@ -27,7 +27,7 @@ impl Model for Handle {
 }
 
 impl Handle {
-    fn of_slot(slot: Slot<Session>) -> Handle
+    fn of_slot(slot: Slot<Instance>) -> Handle
         ensures { result.value ≡ slot.value }
     {
         let Slot { ptr, alloc } = slot;
@@ -37,18 +37,18 @@ impl Handle {
         }
     }
 
-    fn into_slot(self) -> Slot<Session>
+    fn into_slot(self) -> Slot<Instance>
         ensures { result.value ≡ self.value }
     {
         let Handle { at, alloc } = self;
         Slot {
-            ptr: at.cast::<Session>(),
+            ptr: at.cast::<Instance>(),
             alloc,
         }
     }
 
     /// Takes out the box, if there is one, and leaves null.
-    pub fn take(&mut self, alloc: Global) -> Option<Box<Session>>
+    pub fn take(&mut self, alloc: Global) -> Option<Box<Instance>>
         ensures left { self.new.value ≡ None }
         ensures taken { MatchOption result (self.old.value ≡ None) (λ b.
             self.old.value ≡ Some b.value) }
@@ -59,7 +59,7 @@ impl Handle {
     }
 
     /// Puts in a box. One that is there is dropped.
-    pub fn put(&mut self, b: Box<Session>)
+    pub fn put(&mut self, b: Box<Instance>)
         ensures { self.new.value ≡ Some b.value }
     {
         let old = mem::replace(self, Handle::of_slot(Slot::with(b)));

@@ -12,8 +12,8 @@
 
 mod files;
 mod handle;
+mod instance;
 mod laws;
-mod session;
 mod uses;
 
 ghost use Rattle.std.specs.Prelude.{◌≡◌, ◌≢◌, ◌≤◌, ◌<◌, ◌⊎◌, ◌++◌, length, take, drop, min, IfSome, MatchOption};
@@ -27,7 +27,7 @@ ghost use Rattle.vfs_rooms.specs.Parts.{part_from};
 
 use crate::files::{Files, Settings};
 use crate::handle::Handle;
-use crate::session::Session;
+use crate::instance::Instance;
 use bitflags::Flags;
 use std::alloc::Global;
 use vfs_flags::{GREATEST_MAX_BUFFER, LEAST_MAX_BUFFER};
@@ -58,10 +58,10 @@ pub extern "C" fn nizwarf_new_at(
     if page_size < 4096 || max_buffer < LEAST_MAX_BUFFER || max_buffer > GREATEST_MAX_BUFFER {
         return WRONG_SIZE;
     }
-    let Some(session) = Session::new(alloc, page_size, max_buffer, settings) else {
+    let Some(instance) = Instance::new(alloc, page_size, max_buffer, settings) else {
         return OUT_OF_MEMORY;
     };
-    let Ok(made) = Box::new(alloc, session) else {
+    let Ok(made) = Box::new(alloc, instance) else {
         return OUT_OF_MEMORY;
     };
     let _ = nizwarf_end_at(alloc, handle);
@@ -85,11 +85,11 @@ pub extern "C" fn nizwarf_tell_time_at(
         Told s.server seconds nanoseconds t.server)) }
 {
     history_goes_on::<Files>();
-    let Some(mut session) = handle.take(alloc) else {
+    let Some(mut instance) = handle.take(alloc) else {
         return NO_SERVER;
     };
-    session.tell_time(seconds, nanoseconds);
-    handle.put(session);
+    instance.tell_time(seconds, nanoseconds);
+    handle.put(instance);
     OK
 }
 
@@ -124,12 +124,12 @@ pub extern "C" fn nizwarf_message_at(
 {
     history_goes_on::<Files>();
     *len = 0;
-    let Some(mut session) = handle.take(alloc) else {
+    let Some(mut instance) = handle.take(alloc) else {
         return NO_SERVER;
     };
-    let (code, count) = session.answer(alloc, request, room);
+    let (code, count) = instance.answer(alloc, request, room);
     *len = count;
-    handle.put(session);
+    handle.put(instance);
     code
 }
 
@@ -153,11 +153,11 @@ pub extern "C" fn nizwarf_copy_at(
         take result (part_from at (drop s.start s.room.items) s.shown)
         ++ drop result piece.old) }
 {
-    let Some(session) = handle.take(alloc) else {
+    let Some(instance) = handle.take(alloc) else {
         return 0;
     };
-    let count = session.copy_out(at, piece);
-    handle.put(session);
+    let count = instance.copy_out(at, piece);
+    handle.put(instance);
     count
 }
 
@@ -169,11 +169,11 @@ pub extern "C" fn nizwarf_options_at(alloc: Global, handle: &mut Handle) -> u64
     ensures options { MatchOption handle.old.value (result ≡ 0) (λ s.
         result ≡ s.server.options) }
 {
-    let Some(session) = handle.take(alloc) else {
+    let Some(instance) = handle.take(alloc) else {
         return 0;
     };
-    let options = session.server.options();
-    handle.put(session);
+    let options = instance.server.options();
+    handle.put(instance);
     options.bits()
 }
 
@@ -184,11 +184,11 @@ pub extern "C" fn nizwarf_max_buffer_at(alloc: Global, handle: &mut Handle) -> u
     ensures largest { MatchOption handle.old.value (result ≡ 0) (λ s.
         result ≡ s.server.limits.max_buffer) }
 {
-    let Some(session) = handle.take(alloc) else {
+    let Some(instance) = handle.take(alloc) else {
         return 0;
     };
-    let largest = session.server.max_buffer();
-    handle.put(session);
+    let largest = instance.server.max_buffer();
+    handle.put(instance);
     largest
 }
 
@@ -199,10 +199,10 @@ pub extern "C" fn nizwarf_end_at(alloc: Global, handle: &mut Handle) -> i32
     ensures ended { handle.new.value ≡ None }
     ensures code { MatchOption handle.old.value (result ≡ no_server) (λ _. result ≡ ok) }
 {
-    let Some(mut session) = handle.take(alloc) else {
+    let Some(mut instance) = handle.take(alloc) else {
         return NO_SERVER;
     };
-    let _ = session.server.destroy();
-    drop(session);
+    let _ = instance.server.destroy();
+    drop(instance);
     OK
 }

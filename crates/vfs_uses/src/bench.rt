@@ -5,7 +5,7 @@ ghost use Rattle.vfs_flags.specs.declared.opcode.Opcode.{Opcode};
 ghost use Rattle.vfs_files.specs.Answers.{entry_answer};
 ghost use Rattle.vfs_files.specs.Calls.{no_such_call, not_served, out_of_memory};
 ghost use Rattle.vfs_bench.specs.Directories.{GivesNext, Reading};
-ghost use Rattle.vfs_bench.specs.Notes.{told};
+ghost use Rattle.vfs_bench.specs.Notes.{unanswered};
 ghost use Rattle.vfs_bench.specs.declared.note.NoteKind.TheVariants.{Nothing, Fault as Failed};
 
 use crate::files::forget_each;
@@ -88,7 +88,7 @@ fn first_of_two(alloc: Global) -> Result<Recorder<Unserved>, Fault>
 /// order.
 fn forgets_are_noted(recorder: &mut Recorder<Unserved>, ctx: &Context, requests: Vec<(u64, u64)>)
     ensures { recorder.new.missed ≡ false →
-        recorder.new.notes ≡ recorder.old.notes ++ map (λ p. told 2 p.0 p.1) requests.items }
+        recorder.new.notes ≡ recorder.old.notes ++ map (λ p. unanswered 2 p.0 p.1) requests.items }
 {
     notes_are_the_calls::<Unserved>();
     forget_each(recorder, ctx, requests);

@@ -5,6 +5,6 @@ use Rattle.vfs_c.proofs.nizwarf_tell_time_at.Goals as goal
 pub returns-clause-history : goal.returns-clause-history
 returns-clause-history c =
     let told =
-    is_told c.history_goes_on.ensures.changed c.in-Some.session.value.server c.args.seconds
+    is_told c.history_goes_on.ensures.changed c.in-Some.instance.value.server c.args.seconds
     c.args.nanoseconds in
     search rules

@@ -2,16 +2,16 @@ use Rattle.std.proofs.Common.{◌≡◌, ℕ, List, [], ◌∷◌, ◌++◌, map
 use Rattle.vfs_files.specs.Calls.{Forget, Done}
 use Rattle.vfs_files.specs.Runs.{Called}
 use Rattle.vfs_files.specs.declared.entry.Context.{Context}
-use Rattle.vfs_bench.specs.Notes.{notes_of, told}
+use Rattle.vfs_bench.specs.Notes.{notes_of, unanswered}
 use Rattle.vfs_uses.proofs.bench.forgets_are_noted.Goals as goal
 
 -- the notes of these calls of `forget`
 notes_of-forgets :
     (ctx : Context) (xs : List (ℕ × ℕ))
     → notes_of (map (λ (p : ℕ × ℕ). Called (Forget ctx p.0 p.1) Done) (map (λ (p : ℕ × ℕ). (p.0, p.1)) xs))
-    ≡ map (λ (p : ℕ × ℕ). told 2 p.0 p.1) xs
+    ≡ map (λ (p : ℕ × ℕ). unanswered 2 p.0 p.1) xs
 notes_of-forgets ctx [] = refl
-notes_of-forgets ctx (x ∷ xs) = ap (λ notes. told 2 x.0 x.1 ∷ notes) (notes_of-forgets ctx xs)
+notes_of-forgets ctx (x ∷ xs) = ap (λ notes. unanswered 2 x.0 x.1 ∷ notes) (notes_of-forgets ctx xs)
 
 pub returns : goal.returns
 returns c = λ unset.

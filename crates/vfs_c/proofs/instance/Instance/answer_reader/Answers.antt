@@ -1,7 +1,7 @@
 use Rattle.std.proofs.Common.{sym, ap, refl, rules}
 use Rattle.vfs_rooms.specs.Codes.{number_of, length_of}
 use Rattle.vfs_c.proofs.Steps.{stepped}
-use Rattle.vfs_c.proofs.session.Session.answer_reader.Goals as goal
+use Rattle.vfs_c.proofs.instance.Instance.answer_reader.Goals as goal
 
 pub returns-in-Ok : goal.returns-in-Ok
 returns-in-Ok c =

@@ -16,7 +16,7 @@ use vfs_server::server::Server;
 
 /// A server, and the memory in which its replies are put together.
 #[derive(Drop)]
-pub struct Session {
+pub struct Instance {
     pub server: Server<Files>,
     /// It never gets shorter, so that a room as long as an earlier one costs nothing: the last
     /// room is its end.
@@ -29,21 +29,21 @@ pub struct Session {
     list: Vec<Vec<u8>>,
 }
 
-impl Session {
-    /// A session with a new server over a new file system. `None` where there is no memory.
+impl Instance {
+    /// An instance with a new server over a new file system. `None` where there is no memory.
     pub fn new(
         alloc: Global,
         page_size: u32,
         max_buffer: u32,
         settings: &Settings,
-    ) -> Option<Session>
+    ) -> Option<Instance>
         requires page { 4096 ≤ page_size }
         requires least { LEAST_MAX_BUFFER ≤ max_buffer }
         requires greatest { max_buffer ≤ GREATEST_MAX_BUFFER }
         ensures server { IfSome result (λ s. s.server ≡ new_server page_size max_buffer settings.now) }
         ensures shown { IfSome result (λ s. s.shown ≡ 0) }
     {
-        Some(Session {
+        Some(Instance {
             server: Server::with_limit(new_files(alloc, settings)?, page_size, max_buffer),
             room: Vec::new(alloc),
             start: 0,
