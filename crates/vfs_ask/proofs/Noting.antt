@@ -1,10 +1,10 @@
 -- A file system that notes its call is asked for what the grammar says.
-use Rattle.std.proofs.Common.{◌≡◌, ◌∙◌, ℕ, List, [], ◌∷◌, Option, None, Some, Result, length, refl, ap, inl, inr}
+use Rattle.std.proofs.Common.{◌≡◌, ◌∙◌, ℕ, List, [], ◌∷◌, Option, None, Some, Result, length, refl, ap, subst, inl, inr}
 use Rattle.vfs_segments.specs.Written.{Written}
 use Rattle.vfs_files.specs.Values.{Item}
 use Rattle.vfs_files.specs.Calls.{Call, Readdir, Answer, Failed, Handed, Plain, kind_of}
 use Rattle.vfs_files.specs.Answers.{Kind, Quiet, Told, Untold, Data, Agreements, Entries, TimedAttributes, Openings, Creations, Capacities, Texts, TextsOrCounts, Offsets, Writes, Iterators, Faults}
-use Rattle.vfs_files.specs.Runs.{Happening, Calls, Opens, Takes, IsRun, events_of, Event, Called, OpenedDirectory}
+use Rattle.vfs_files.specs.Runs.{Event, Called, OpenedDirectory, IsRun}
 use Rattle.vfs_files.specs.declared.entry.Context.{Context}
 use Rattle.vfs_grammar.specs.Forms.{Ask, Ends, Asks, Lists, WithMemory, Listing}
 use Rattle.vfs_grammar.specs.Reply.{Reply, reply_of}
@@ -74,35 +74,31 @@ seen_none space reply None e = refl
 seen_none space reply (Some node) e = absurd (let a = e in cc)
 
 -- of a run whose events are one call with its answer, that call is noted
-one_call : (call : Call) (fault : Option ℕ) (old new : Asking) (run : List (Happening NoEntries × Asking))
-    → old.call.now ≡ nothing → IsRun Notes GivesNone None old run new → events_of run ≡ Called call (Failed fault) ∷ []
+one_call : (call : Call) (fault : Option ℕ) (old new : Asking)
+    → old.call.now ≡ nothing → IsRun Notes GivesNone None old (Called call (Failed fault) ∷ []) new
     → Has old new (shape_of call)
-one_call call fault old new [] start r e = absurd (let a = e in cc)
-one_call call fault old new ((Calls c answer, s) ∷ []) start r e =
-    let same : c ≡ call = let a = e in cc in
-    let l = leaves c (Plain answer) old s start r.0 in
+one_call call fault old new start r =
+    let l = leaves call (Plain (Failed fault)) old r.0 start r.1 in
     record {
-      noted = ap (λ (s : Asking). s.call.now) r.1 ∙ l.noted ∙ ap shape_of same;
-      same_record = ap (λ (s : Asking). s.call.ghost_name) r.1 ∙ l.same_record;
+      noted = ap (λ (s : Asking). s.call.now) r.2 ∙ l.noted;
+      same_record = ap (λ (s : Asking). s.call.ghost_name) r.2 ∙ l.same_record;
     }
-one_call call fault old new ((Opens c it, s) ∷ rest) start r e = absurd (let a = e in cc)
-one_call call fault old new ((Takes b i a, s) ∷ rest) start r e = absurd (let x = e in cc)
-one_call call fault old new ((Calls c answer, s) ∷ x ∷ rest) start r e = absurd (let a = e in cc)
 
 -- no run opens a directory
-none_opened : (call : Call) (takings : List Event) (old new : Asking) (run : List (Happening NoEntries × Asking))
-    → IsRun Notes GivesNone None old run new → events_of run ≡ OpenedDirectory call ∷ takings → ⊥
-none_opened call takings old new [] r e = let a = e in cc
-none_opened call takings old new ((Calls c answer, s) ∷ rest) r e = let a = e in cc
-none_opened call takings old new ((Opens c it, s) ∷ rest) r e = let a = r.0.1 in cc
-none_opened call takings old new ((Takes b i a, s) ∷ rest) r e = let x = e in cc
+none_opened : (call : Call) (takings : List Event) (old new : Asking)
+    → IsRun Notes GivesNone None old (OpenedDirectory call ∷ takings) new → ⊥
+none_opened call takings old new r = let a = r.2.1 in cc
 
 -- a directory that is read was asked for, and not opened
-listed : (l : Listing) (records : List ℕ) (answer : Result ℕ (Option ℕ)) (old new : Asking) (run : List (Happening NoEntries × Asking))
-    → old.call.now ≡ nothing → IsRun Notes GivesNone None old run new → IsRead l (events_of run) records answer
+listed : (l : Listing) (records : List ℕ) (answer : Result ℕ (Option ℕ)) (old new : Asking) (events : List Event)
+    → old.call.now ≡ nothing → IsRun Notes GivesNone None old events new → IsRead l events records answer
     → Has old new (shape_of (Readdir l.ctx l.parent l.handle l.size l.offset))
-listed l records answer old new run start r (inl u) = one_call _ u.fault old new run start r u.events_are
-listed l records answer old new run start r (inr o) = absurd (none_opened _ o.takings old new run r o.events_are)
+listed l records answer old new events start r (inl u) =
+    one_call (Readdir l.ctx l.parent l.handle l.size l.offset) u.fault old new start
+    (subst (λ (es : List Event). IsRun Notes GivesNone None old es new) u.events_are r)
+listed l records answer old new events start r (inr o) =
+    absurd (none_opened (Readdir l.ctx l.parent l.handle l.size l.offset) o.takings old new
+    (subst (λ (es : List Event). IsRun Notes GivesNone None old es new) o.events_are r))
 
 -- what is noted, and that the record is the caller's still
 pub record Noted (wanted : Type 0) (a : Ask) (old new : Asking) (writer : Written) (outcome : Result ℕ Error) (writer_after : Written) : Type 0 where
@@ -128,7 +124,7 @@ asking_notes wanted limits options after (Asks echo c) old new writer writer_aft
     (ap (node_answered (kind_of c)) e ∙ no_node (kind_of c))) start f.1 in
     record { is_noted = n.noted; same_record = n.same_record }
 asking_notes wanted limits options after (Lists echo l) old new writer writer_after outcome start f =
-    let n = listed l f.0 f.1 old.fs new.fs f.2.run start f.2.is_run f.2.is_read in
+    let n = listed l f.0 f.1 old.fs new.fs f.2.events start f.2.is_run f.2.is_read in
     record { is_noted = n.noted; same_record = n.same_record }
 asking_notes wanted limits options after (WithMemory rest) old new writer writer_after outcome start (inl f) =
     let n = asking_notes wanted limits options after rest old new writer writer_after outcome start f in

@@ -2,7 +2,7 @@
 use Rattle.std.proofs.Common.{◌≡◌, Bool, true, false, cond, List, [], ◌∷◌, ◌++◌, Option, Some, length, nat_lt, ap, sym, ◌∙◌, append-nil, append_assoc}
 use Rattle.vfs_files.specs.Values.{Item}
 use Rattle.vfs_files.specs.Calls.{Call, Handed, Plain, Iterator}
-use Rattle.vfs_files.specs.Runs.{Happening, Calls, Opens, Takes, IsRun, events_of}
+use Rattle.vfs_files.specs.Runs.{Event, Called, OpenedDirectory, Taken, IsRun}
 use Rattle.vfs_bench.specs.declared.note.Note.{Note}
 use Rattle.vfs_bench.specs.Notes.{note_of_handed, notes_of}
 use Rattle.vfs_bench.specs.Recorded.{Recorded, IsNoted, recorded}
@@ -24,17 +24,15 @@ noted s m t note rest h unset e =
 
 module _ {S I : Type 0} (allows : S → Call → Handed I → S → Type 0) (gives : I → Option Item → I → Type 0) where
   -- the new notes over a run are those of its calls
-  pub notes-run : (it : Option I) (s : Recorded S) (run : List (Happening I × Recorded S)) (t : Recorded S)
-      → IsRun (recorded allows) gives it s run t → t.missed ≡ false
-      → (s.missed ≡ false) × (t.notes ≡ s.notes ++ notes_of (events_of run))
+  pub notes-run : (it : Option I) (s : Recorded S) (events : List Event) (t : Recorded S)
+      → IsRun (recorded allows) gives it s events t → t.missed ≡ false
+      → (s.missed ≡ false) × (t.notes ≡ s.notes ++ notes_of events)
   notes-run it s [] t h unset =
       (ap (λ r. r.missed) (sym h) ∙ unset, ap (λ r. r.notes) h ∙ sym (append-nil s.notes))
-  notes-run it s ((Calls call answer, m) ∷ hs) t h unset =
-      let r = notes-run it m hs t h.1 unset in
-      noted s m t (note_of_handed {I = I} call (Plain answer)) (notes_of (events_of hs)) h.0.1 r.0 r.1
-  notes-run it s ((Opens call i, m) ∷ hs) t h unset =
-      let r = notes-run (Some i) m hs t h.1 unset in
-      noted s m t (note_of_handed call (Iterator i)) (notes_of (events_of hs)) h.0.1 r.0 r.1
-  notes-run it s ((Takes i o j, m) ∷ hs) t h unset =
-      let r = notes-run (Some j) m hs t h.1 unset in
-      (ap (λ x. x.missed) (sym h.0.1) ∙ r.0, r.1 ∙ ap (λ x. x.notes ++ notes_of (events_of hs)) h.0.1)
+  notes-run it s (Called call answer ∷ es) t h unset =
+      let r = notes-run it h.0 es t h.2 unset in
+      noted s h.0 t (note_of_handed {I = I} call (Plain answer)) (notes_of es) h.1.1 r.0 r.1
+  notes-run it s (OpenedDirectory call ∷ es) t h unset =
+      let r = notes-run (Some h.1) h.0 es t h.3 unset in
+      noted s h.0 t (note_of_handed call (Iterator h.1)) (notes_of es) h.2.1 r.0 r.1
+  notes-run it s (Taken item ∷ es) t h unset = notes-run (Some h.1) s es t h.4 unset

@@ -2,7 +2,7 @@
 use Rattle.std.specs.Prelude.{◌≡◌, ℕ, Bool, true, false, List, [], ◌∷◌, ◌++◌, Option, length, nat_lt, if◌then◌else◌}
 use Rattle.vfs_files.specs.Values.{Item}
 use Rattle.vfs_files.specs.Calls.{Call, Handed}
-use Rattle.vfs_files.specs.Runs.{IsRun, events_of}
+use Rattle.vfs_files.specs.Runs.{IsRun}
 use Rattle.vfs_bench.specs.declared.note.Note.{Note}
 use Rattle.vfs_bench.specs.Notes.{note_of_handed, notes_of}
 
@@ -35,7 +35,7 @@ recorded allows old call handed new =
 abbrev pub NotesTheCalls :
     {S I : Type 0} → (S → Call → Handed I → S → Type 0) → (I → Option Item → I → Type 0) → Type 0
 NotesTheCalls allows gives =
-    (it : _) (old : _) (run : _) (new : _)
-    → IsRun (recorded allows) gives it old run new
+    (it : _) (old : _) (events : _) (new : _)
+    → IsRun (recorded allows) gives it old events new
     → new.missed ≡ false
-    → new.notes ≡ old.notes ++ notes_of (events_of run)
+    → new.notes ≡ old.notes ++ notes_of events

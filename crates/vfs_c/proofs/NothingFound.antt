@@ -6,7 +6,7 @@ use Rattle.vfs_wire.specs.Fields.{little, number, value_of}
 use Rattle.vfs_wire.specs.Records.{in_header}
 use Rattle.vfs_files.specs.Calls.{Call, Lookup, Answer, Failed, Entries, Plain}
 use Rattle.vfs_files.specs.Values.{context_of}
-use Rattle.vfs_files.specs.Runs.{Event, Called, Happening, Calls, Opens, Takes, IsRun, events_of}
+use Rattle.vfs_files.specs.Runs.{Event, IsRun}
 use Rattle.vfs_grammar.specs.Ask.{ask}
 use Rattle.vfs_grammar.specs.Forms.{Asks, WithMemory}
 use Rattle.vfs_grammar.specs.Reply.{Echo, echo_of, reply_of}
@@ -18,7 +18,7 @@ use Rattle.vfs_grammar.specs.declared.limits.Limits.{Limits}
 use Rattle.vfs_server.specs.Step.{ServerState}
 use Rattle.vfs_history.specs.History.{Handled, IsHistory, IsHandled}
 use Rattle.vfs_rooms.specs.Codes.{ok, number_of, shown_of}
-use Rattle.vfs_c.specs.Files.{State, Iterator, Allows, Gives, new_state, at_time}
+use Rattle.vfs_c.specs.Files.{State, Allows, Gives, new_state, at_time}
 use Rattle.vfs_c.specs.History.{Turned, Answered, HandlesTwo}
 use Rattle.vfs_rooms.specs.Parts.{part_from}
 use Rattle.vfs_c.specs.Served.{new_server, told_time}
@@ -45,21 +45,6 @@ refused : (settings : Settings) (answer : Answer) (new : State)
 unfolding number little
 refused settings answer new allowed = cc (allowed.0)
 
--- the first call of a run
-first_call : (old new : State) (run : List (Happening Iterator × State)) (call : Call) (answer : Answer)
-    (rest : List Event) → IsRun Allows Gives None old run new → events_of run ≡ Called call answer ∷ rest
-    → (mid : State) × Allows old call (Plain answer) mid
-first_call old new [] call answer rest is e = absurd cc
-first_call old new ((Calls c a, s) ∷ hs) call answer rest is e =
-    let same_call : c ≡ call = cc (e) in
-    let same_answer : a ≡ answer = cc (e) in (
-      s,
-      subst (λ (c : Call). Allows old c (Plain answer) s) same_call
-          (subst (λ (a : Answer). Allows old c (Plain a) s) same_answer is.0),
-    )
-first_call old new ((Opens c it, s) ∷ hs) call answer rest is e = absurd cc
-first_call old new ((Takes x i y, s) ∷ hs) call answer rest is e = absurd cc
-
 -- the bytes of the reply
 reply_is : (after : ℕ) (room : List ℕ) (outcome : Result ℕ Error) (room_after : List ℕ)
     → length room ≡ 4096
@@ -70,18 +55,17 @@ reply_is after room outcome room_after long is =
     (is.says ∙ rw long refl, ap (take 16) is.leaves ∙ rw long refl)
 
 turn_is : (settings : Settings) (t : Turn) (after : ℕ) (new : State)
-    (run : List (Happening Iterator × State))
-    → IsRun Allows Gives None (at_time (new_state settings) 1 0) run new → events_of run ≡ t.events
+    → IsRun Allows Gives None (at_time (new_state settings) 1 0) t.events new
     → length t.room ≡ 4096 → number_of t.outcome ≡ ok
     → Follows t limits 0 (WithMemory (Asks echo lookup)) after
     → (t.outcome ≡ Ok 16) × (take 16 t.room_after ≡ no_such_name)
-turn_is settings t after new run is events long answered (inl f) =
-    let call = first_call (at_time (new_state settings) 1 0) new run lookup f.0 _ is (events ∙ f.1) in
-    let failed = refused settings f.0 call.0 call.1 in
+turn_is settings t after new is long answered (inl f) =
+    let run = subst (λ (es : List Event). IsRun Allows Gives None (at_time (new_state settings) 1 0) es new) f.1 is in
+    let failed = refused settings f.0 run.0 run.1 in
     reply_is after t.room t.outcome t.room_after long
     (subst (λ (a : Answer). IsReplied (reply_of limits echo after Entries a) t.room t.outcome t.room_after)
     failed f.3)
-turn_is settings t after new run is events long answered (inr f) =
+turn_is settings t after new is long answered (inr f) =
     absurd (let no : number_of t.outcome ≡ pos 10 = ap number_of f.1.0 in cc)
 
 -- a message that was answered
@@ -99,7 +83,7 @@ looked_up settings old new code len room shown is t answered =
     let asked : Follows t.t limits 0 (WithMemory (Asks echo lookup)) h.0.options =
     subst (λ a. Follows t.t limits 0 a h.0.options)
     (ap (λ (q : List ℕ). ask limits 0 (length t.t.room) q) t.asked ∙ asks (length t.t.room)) handled.turn in
-    let r = turn_is settings t.t h.0.options h.0.fs handled.run handled.is_run handled.events t.space
+    let r = turn_is settings t.t h.0.options h.0.fs handled.is_run t.space
     (sym t.numbered ∙ answered) asked in (
       t.copied ∙ ap (λ (o : Result ℕ Error). shown_of o 4096) r.0,
       ap (take 16) t.left ∙ r.1,

@@ -1,11 +1,11 @@
 -- Runs of `forget`.
-use Rattle.std.proofs.Common.{ℕ, List, [], ◌∷◌, ◌++◌, map, Option, None, refl, ap, sym, ◌∙◌}
+use Rattle.std.proofs.Common.{ℕ, List, [], ◌∷◌, ◌++◌, map, Option, None, refl, ap, sym, subst, ◌∙◌}
 use Rattle.std.proofs.lemmas.List.{map-append}
 use Rattle.vfs_files.specs.Values.{Item}
 use Rattle.vfs_files.specs.Calls.{Call, Forget, Done, Handed, Plain}
-use Rattle.vfs_files.specs.Runs.{Event, Called, Happening, Calls, ForgetsEach, events_of}
+use Rattle.vfs_files.specs.Runs.{Event, Called, IsRun, ForgetsEach}
 use Rattle.vfs_files.specs.declared.entry.Context.{Context}
-use Rattle.vfs_files.specs.RunLaws.{run-join, events_of-append}
+use Rattle.vfs_files.specs.RunLaws.{run-join}
 
 module _ {S I N : Type 0}
     (allows : S → Call → Handed I → S → Type 0) (gives : I → Option Item → I → Type 0) (value : N → ℕ) where
@@ -21,11 +21,8 @@ module _ {S I N : Type 0}
   forgets_more ctx xs inode count old middle new forgot step =
       let event : ℕ × ℕ → Event = λ p. Called (Forget ctx p.0 p.1) Done in
       let pair : N × ℕ → ℕ × ℕ = λ p. (value p.0, p.1) in
-      let last : List (Happening I × S) = (Calls (Forget ctx (value inode) count) Done, new) ∷ [] in
-      let told = ap (λ es. es ++ events_of last) forgot.2 in
       let pushed = ap (map event) (map-append pair xs ((inode, count) ∷ [])) in
-      let split = map-append event (pairs_of xs) (pair (inode, count) ∷ []) in (
-        forgot.0 ++ last,
-        run-join allows gives None old middle new forgot.0 last forgot.1 (step, refl),
-        events_of-append forgot.0 last ∙ told ∙ sym (pushed ∙ split),
-      )
+      let split = map-append event (pairs_of xs) (pair (inode, count) ∷ []) in
+      subst (λ (es : List Event). IsRun allows gives None old es new) (sym (pushed ∙ split))
+      (run-join allows gives None old middle new (map event (pairs_of xs))
+      (event (pair (inode, count)) ∷ []) forgot (new, step, refl))

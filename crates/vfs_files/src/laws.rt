@@ -4,18 +4,17 @@ ghost use Rattle.std.specs.Prelude.{◌≡◌, ℕ, List, [], ◌∷◌, Option,
 ghost use Rattle.vfs_files.specs.Values.{IsName, name_of, Item};
 ghost use Rattle.vfs_files.specs.Answers.{IsAnswer};
 ghost use Rattle.vfs_files.specs.Calls.{Call, Answer, Plain, Iterator, kind_of, default_answer};
-ghost use Rattle.vfs_files.specs.Runs.{IsRun, Calls, Opens, Takes, RunsJoin, EventsJoin};
+ghost use Rattle.vfs_files.specs.Runs.{IsRun, Called, OpenedDirectory, Taken, RunsJoin};
 
 use crate::filesystem::FileSystem;
 
 /// Runs are joined by putting one list behind the other.
 ///
 /// Where a run leads from one state to a second, and another, which begins with no iterator at
-/// hand, from there to a third, both in a row are a run from the first state to the third, and its
-/// events are those of the first and then those of the second.
+/// hand, from there to a third, the events of the first and then those of the second are those of a
+/// run from the first state to the third.
 pub fn runs_join<F: FileSystem>()
-    ensures runs { RunsJoin F.allows F.DirIter.gives }
-    ensures events { EventsJoin F F.DirIter }
+    ensures { RunsJoin F.allows F.DirIter.gives }
 {}
 
 /// A run goes on from state to state, and its takings from iterator to iterator.
@@ -24,13 +23,11 @@ pub fn runs_join<F: FileSystem>()
 /// before it left, the first taking is one of the iterator that was opened, the second one of what
 /// the first left, and neither changes the state.
 pub fn runs_go_on<F: FileSystem>()
-    ensures { (old opened first called second new : F) (opening call : Call) (answer : Answer)
-        (it a b c d : F.DirIter) (item next : Option Item) →
+    ensures { (old new : F) (opening call : Call) (answer : Answer) (item next : Option Item) →
         IsRun F.allows F.DirIter.gives None old
-        ((Opens opening it, opened) ∷ (Takes a item b, first) ∷ (Calls call answer, called)
-        ∷ (Takes c next d, second) ∷ [])
-        new →
-        F.allows old opening (Iterator it) opened × F.DirIter.gives it item b
+        (OpenedDirectory opening ∷ Taken item ∷ Called call answer ∷ Taken next ∷ []) new →
+        (opened called : F) × (it b d : F.DirIter)
+        × F.allows old opening (Iterator it) opened × F.DirIter.gives it item b
         × F.allows opened call (Plain answer) called × F.DirIter.gives b next d
         × (new ≡ called) }
 {}

@@ -7,7 +7,7 @@ use Rattle.vfs_wire_more.specs.declared.files.ReadIn.{ReadIn}
 use Rattle.vfs_files.specs.Answers.{Handed, Counts}
 use Rattle.vfs_files.specs.Calls.{Call}
 use Rattle.vfs_files.specs.Values.{Item}
-use Rattle.vfs_files.specs.Runs.{Event, Happening, IsRun}
+use Rattle.vfs_files.specs.Runs.{Event, IsRun}
 use Rattle.vfs_listings.specs.Reading.{Puts}
 use Rattle.vfs_listings.proofs.Filling.{moves_of, counts_of_listing}
 use Rattle.vfs_grammar.specs.Ask.{lists_too_much}
@@ -45,6 +45,6 @@ pub within_limit : (limits : Limits) (room : ℕ) (r : ReadIn) → lists_too_muc
 within_limit limits room r e = grind (arith, nat_tests)
 
 -- a run from an equal state
-pub run_from : {S I : Type 0} (allows : S → Call → Handed I → S → Type 0) (gives : I → Option Item → I → Type 0) (old same new : S) (run : List (Happening I × S))
-    → old ≡ same → IsRun allows gives None old run new → IsRun allows gives None same run new
-run_from allows gives old same new run e is = subst (λ s. IsRun allows gives None s run new) e is
+pub run_from : {S I : Type 0} (allows : S → Call → Handed I → S → Type 0) (gives : I → Option Item → I → Type 0) (old same new : S) (events : List Event)
+    → old ≡ same → IsRun allows gives None old events new → IsRun allows gives None same events new
+run_from allows gives old same new events e is = subst (λ s. IsRun allows gives None s events new) e is

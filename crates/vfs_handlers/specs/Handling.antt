@@ -4,7 +4,7 @@ use Rattle.vfs_flags.specs.declared.opcode.Opcode.{Opcode}
 use Rattle.vfs_segments.specs.Written.{Written, Moves}
 use Rattle.vfs_files.specs.Values.{Item}
 use Rattle.vfs_files.specs.Calls.{Call, Handed, Plain, Counts, read_answer}
-use Rattle.vfs_files.specs.Runs.{Happening, IsRun, events_of}
+use Rattle.vfs_files.specs.Runs.{Event, IsRun}
 use Rattle.vfs_grammar.specs.Forms.{Listing, Ask}
 use Rattle.vfs_grammar.specs.Ask.{ask_opcode, form_of}
 use Rattle.vfs_messages.specs.Rooms.{Replies}
@@ -21,9 +21,9 @@ module _ {S I : Type 0} (allows : S → Call → Handed I → S → Type 0)
   -- a directory was read: a run leads from one state to the other, in whose events it was
   pub record Reads (listing : Listing) (old : S) (records : List ℕ) (answer : Result ℕ (Option ℕ))
       (new : S) : Type 0 where
-    pub run : List (Happening I × S)
-    pub is_run : IsRun allows gives None old run new
-    pub is_read : IsRead listing (events_of run) records answer
+    pub events : List Event
+    pub is_run : IsRun allows gives None old events new
+    pub is_read : IsRead listing events records answer
 
   -- what a server and a writer, both seen before and after, tell of a request: by the states of
   -- the file system, and for a directory that was read by a run between them; and where there was

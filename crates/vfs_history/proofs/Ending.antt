@@ -1,12 +1,11 @@
 -- A server that is ended without a request: a turn of a DESTROY.
-use Rattle.std.proofs.Common.{◌≡◌, ℕ, Bool, false, nat_lt, [], ◌∷◌, Option, refl, ap, sym, subst, arith}
+use Rattle.std.proofs.Common.{◌≡◌, ℕ, Bool, false, nat_lt, Option, refl, ap, sym, subst, arith}
 use Rattle.std.proofs.lemmas.Bool.Decides.{nat_tests}
 use Rattle.vfs_flags.specs.Numbers.{opcode_of}
 use Rattle.vfs_wire.specs.Fields.{number, value_of}
 use Rattle.vfs_wire.specs.Records.{in_header}
 use Rattle.vfs_files.specs.Values.{Item}
 use Rattle.vfs_files.specs.Calls.{Call, Destroy, Done, Handed, Plain}
-use Rattle.vfs_files.specs.Runs.{Calls}
 use Rattle.vfs_grammar.specs.Ask.{ask}
 use Rattle.vfs_grammar.specs.Forms.{Ask, Asks, within}
 use Rattle.vfs_grammar.specs.Limits.{max_len}
@@ -37,9 +36,7 @@ pub is_end : {S I : Type 0} (allows : S → Call → Handed I → S → Type 0)
     → allows old.fs Destroy (Plain Done) new.fs → new.options ≡ 0 → new.limits ≡ old.limits
     → IsHandled allows gives old turn_of_end new
 is_end allows gives old new called none same = record {
-  run = (Calls Destroy Done, new.fs) ∷ [];
-  is_run = (called, refl);
-  events = refl;
+  is_run = (new.fs, called, refl);
   turn = turn-end old.limits old.options new.options none;
   same_limits = same;
 }

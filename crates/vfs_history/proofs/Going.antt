@@ -1,10 +1,9 @@
 -- A history, moment by moment.
-use Rattle.std.proofs.Common.{◌≡◌, ℕ, List, [], ◌∷◌, ◌++◌, map, Option, None, Result, refl, ap, ◌∙◌, subst}
+use Rattle.std.proofs.Common.{◌≡◌, ℕ, List, [], ◌∷◌, map, Option, None, Result, refl, ap, ◌∙◌, subst}
 use Rattle.vfs_segments.specs.Written.{Written}
 use Rattle.vfs_files.specs.Values.{Item}
 use Rattle.vfs_files.specs.Calls.{Call, Handed}
-use Rattle.vfs_files.specs.Runs.{Event, events_of}
-use Rattle.vfs_files.specs.RunLaws.{run-join, events_of-append}
+use Rattle.vfs_files.specs.RunLaws.{run-join}
 use Rattle.vfs_grammar.specs.Turn.{Turn, AreTurns, events_in}
 use Rattle.vfs_grammar.specs.Books.{KeepsBooks}
 use Rattle.vfs_grammar.specs.declared.limits.Limits.{Limits}
@@ -28,11 +27,9 @@ module _ {S I : Type 0} (allows : S → Call → Handed I → S → Type 0)
   is_handled : (old : ServerState S) (request : List ℕ) (writer : Written)
       (outcome : Result ℕ Error) (after : Written) (new : ServerState S)
       → (step : IsStep allows gives old request writer outcome after new)
-      → IsHandled allows gives old (turn_over request writer step.run outcome step.room_after) new
+      → IsHandled allows gives old (turn_over request writer step.events outcome step.room_after) new
   is_handled old request writer outcome after new step = record {
-    run = step.run;
     is_run = step.is_run;
-    events = refl;
     turn = step.turn;
     same_limits = step.same_limits;
   }
@@ -48,7 +45,7 @@ module _ {S I : Type 0} (allows : S → Call → Handed I → S → Type 0)
   pub goes_on : GoesOn allows gives
   goes_on first old new ms request writer outcome after h step =
       join first old new ms
-      (Handled (turn_over request writer step.run outcome step.room_after) ∷ []) h
+      (Handled (turn_over request writer step.events outcome step.room_after) ∷ []) h
       (new, is_handled old request writer outcome after new step, refl)
 
   -- a server whose file system alone is another
@@ -88,18 +85,10 @@ module _ {S I : Type 0} (allows : S → Call → Handed I → S → Type 0)
 
   pub has_one_run : HasOneRun allows gives
   has_one_run old new [] h untouched =
-      record { run = []; is_run = ap (λ (s : ServerState S). s.fs) h; events = refl }
+      ap (λ (s : ServerState S). s.fs) h
   has_one_run old new (Handled t ∷ ms) h untouched =
-      let r = has_one_run h.0 new ms h.2 untouched in
-      let v = h.1 in
-      record {
-        run = v.run ++ r.run;
-        is_run = run-join allows gives None old.fs h.0.fs new.fs v.run r.run v.is_run r.is_run;
-        events =
-            events_of-append v.run r.run
-            ∙ (ap (λ (es : List Event). events_of v.run ++ es) r.events
-            ∙ ap (λ (es : List Event). es ++ events_in (turns_in ms)) v.events);
-      }
+      run-join allows gives None old.fs h.0.fs new.fs t.events (events_in (turns_in ms))
+      h.1.is_run (has_one_run h.0 new ms h.2 untouched)
   has_one_run old new (Changed a b ∷ ms) h untouched = absurd untouched
 
   pub keeps_books : ((limits : Limits) (options after : ℕ) (turns : List Turn)

@@ -1,10 +1,10 @@
 -- A session is a history: its run is cut where each turn ends.
-use Rattle.std.proofs.Common.{◌≡◌, inl, inr, ℕ, List, [], ◌∷◌, ◌++◌, map, Option, Some, None, Result, refl, ap, sym, subst, ◌∙◌}
+use Rattle.std.proofs.Common.{inl, inr, ℕ, List, [], ◌∷◌, ◌++◌, map, Option, Some, None, Result, refl, ap, sym, subst, ◌∙◌}
 use Rattle.vfs_segments.specs.Unread.{Unread}
 use Rattle.vfs_segments.specs.Written.{Written}
 use Rattle.vfs_files.specs.Values.{Item}
 use Rattle.vfs_files.specs.Calls.{Call, Handed}
-use Rattle.vfs_files.specs.Runs.{Event, Called, OpenedDirectory, Taken, Happening, Calls, Opens, Takes, IsRun, at_hand, events_of}
+use Rattle.vfs_files.specs.Runs.{Event, Called, OpenedDirectory, Taken, IsRun}
 use Rattle.vfs_files.specs.declared.entry.Context.{Context}
 use Rattle.vfs_grammar.specs.Forms.{Listing, Ask, Ends, Asks, Lists, WithMemory}
 use Rattle.vfs_grammar.specs.Ask.{ask}
@@ -62,68 +62,45 @@ fresh_turns limits options [] after are = tt
 fresh_turns limits options (t ∷ ts) after are =
     fresh_both t.events (events_in ts) (fresh_turn limits options are.0 t (ask limits options _ t.request) are.1) (fresh_turns limits are.0 ts after are.2)
 
-tail_of : {X : Type 0} (x y : X) (xs ys : List X) → x ∷ xs ≡ y ∷ ys → xs ≡ ys
-tail_of x y xs ys e = cc
-
 module _ {S I : Type 0} (allows : S → Call → Handed I → S → Type 0) (gives : I → Option Item → I → Type 0) where
   -- such a run needs no iterator at hand
-  from_none : (it : Option I) (old : S) (run : List (Happening I × S)) (new : S) → IsRun allows gives it old run new → IsFresh (events_of run) → IsRun allows gives None old run new
+  from_none : (it : Option I) (old : S) (es : List Event) (new : S) → IsRun allows gives it old es new → IsFresh es → IsRun allows gives None old es new
   from_none it old [] new r f = r
-  from_none it old ((Calls call answer, s) ∷ hs) new r f = (r.0, from_none it s hs new r.1 f)
-  from_none it old ((Opens call opened, s) ∷ hs) new r f = r
-  from_none it old ((Takes before item after, s) ∷ hs) new r f = absurd f
+  from_none it old (Called call answer ∷ es) new r f = (r.0, r.1, from_none it r.0 es new r.2 f)
+  from_none it old (OpenedDirectory call ∷ es) new r f = r
+  from_none it old (Taken item ∷ es) new r f = absurd f
 
-  record Cut (it : Option I) (old : S) (es fs : List Event) (new : S) : Type 0 where
-    mid : S
-    front : List (Happening I × S)
-    back : List (Happening I × S)
-    is_front : IsRun allows gives it old front mid
-    front_events : events_of front ≡ es
-    is_back : IsRun allows gives None mid back new
-    back_events : events_of back ≡ fs
+  -- a run is two, with a state between them
+  abbrev Cut : Option I → S → (es fs : List Event) → S → Type 0
+  Cut it old es fs new = (mid : S) × IsRun allows gives it old es mid × IsRun allows gives None mid fs new
 
-  cut : (it : Option I) (old : S) (run : List (Happening I × S)) (es fs : List Event) (new : S) → IsRun allows gives it old run new → events_of run ≡ es ++ fs → IsFresh fs → Cut it old es fs new
-  cut it old run [] fs new r e f = record {
-    mid = old;
-    front = [];
-    back = run;
-    is_front = refl;
-    front_events = refl;
-    is_back = from_none it old run new r (subst IsFresh (sym e) f);
-    back_events = e;
-  }
-  cut it old [] (x ∷ es) fs new r e f = absurd (let a = e in cc)
-  cut it old (h ∷ hs) (x ∷ es) fs new r e f =
-      let c = cut (at_hand it h.0) h.1 hs es fs new r.1 (tail_of _ x (events_of hs) (es ++ fs) e) f in
-      record {
-        mid = c.mid;
-        front = h ∷ c.front;
-        back = c.back;
-        is_front = (r.0, c.is_front);
-        front_events = first _ x (events_of hs) (events_of c.front) es fs e c.front_events;
-        is_back = c.is_back;
-        back_events = c.back_events;
-      }
-    where
-      first : (y x : Event) (hs front es fs : List Event) → y ∷ hs ≡ x ∷ (es ++ fs) → front ≡ es → y ∷ front ≡ x ∷ es
-      first y x hs front es fs e k = cc
+  cut : (it : Option I) (old : S) (es fs : List Event) (new : S) → IsRun allows gives it old (es ++ fs) new → IsFresh fs → Cut it old es fs new
+  cut it old [] fs new r f = (old, refl, from_none it old fs new r f)
+  cut it old (Called call answer ∷ es) fs new r f =
+      let c = cut it r.0 es fs new r.2 f in
+      (c.0, (r.0, r.1, c.1), c.2)
+  cut it old (OpenedDirectory call ∷ es) fs new r f =
+      let c = cut (Some r.1) r.0 es fs new r.3 f in
+      (c.0, (r.0, r.1, r.2, c.1), c.2)
+  cut it old (Taken item ∷ es) fs new r f =
+      let c = cut (Some r.1) old es fs new r.4 f in
+      (c.0, (r.0, r.1, r.2, r.3, c.1), c.2)
 
-  of_turns : (limits : Limits) (options : ℕ) (fs : S) (ts : List Turn) (run : List (Happening I × S)) (after : ℕ) (new : S)
-      → AreTurns limits options ts after → IsRun allows gives None fs run new → events_of run ≡ events_in ts
+  of_turns : (limits : Limits) (options : ℕ) (fs : S) (ts : List Turn) (after : ℕ) (new : S)
+      → AreTurns limits options ts after → IsRun allows gives None fs (events_in ts) new
       → IsHistory allows gives (record { options = options; limits = limits; fs = fs }) (map Handled ts) (record { options = after; limits = limits; fs = new })
-  of_turns limits options fs [] [] after new are r e =
+  of_turns limits options fs [] after new are r =
       ap (λ (o : ℕ). record { options = o; limits = limits; fs = new }) are ∙ ap (λ (s : S). record { options = options; limits = limits; fs = s }) r
-  of_turns limits options fs [] (h ∷ hs) after new are r e = absurd (let a = e in cc)
-  of_turns limits options fs (t ∷ ts) run after new are r e =
-      let c = cut None fs run t.events (events_in ts) new r e (fresh_turns limits are.0 ts after are.2) in
-      let mid : ServerState S = record { options = are.0; limits = limits; fs = c.mid } in (
+  of_turns limits options fs (t ∷ ts) after new are r =
+      let c = cut None fs t.events (events_in ts) new r (fresh_turns limits are.0 ts after are.2) in
+      let mid : ServerState S = record { options = are.0; limits = limits; fs = c.0 } in (
         mid,
-        record { run = c.front; is_run = c.is_front; events = c.front_events; turn = are.1; same_limits = refl },
-        of_turns limits are.0 c.mid ts c.back after new are.2 c.is_back c.back_events,
+        record { is_run = c.1; turn = are.1; same_limits = refl },
+        of_turns limits are.0 c.0 ts after new are.2 c.2,
       )
 
   pub of_session : SessionsAreHistories allows gives
   of_session old new readers writers outcomes afters s =
       subst (λ (l : Limits). IsHistory allows gives old (map Handled s.turns) (record { options = new.options; limits = l; fs = new.fs })) (sym s.same_limits)
-      (of_turns old.limits old.options old.fs s.turns s.run new.options new.fs
-      (turns_of_served old.limits old.options readers writers s.turns afters new.options s.served) s.is_run s.events)
+      (of_turns old.limits old.options old.fs s.turns new.options new.fs
+      (turns_of_served old.limits old.options readers writers s.turns afters new.options s.served) s.is_run)

@@ -1,8 +1,9 @@
 -- What small callers say of a server that they call message by message.
-use Rattle.std.specs.Prelude.{◌≡◌, ℕ, List, [], ◌∷◌, ◌++◌, map, replicate, take, Option, Result, Ok, Err}
+use Rattle.std.specs.Prelude.{◌≡◌, ℕ, List, [], ◌∷◌, ◌++◌, map, replicate, take, Option, None, Result, Ok, Err}
 use Rattle.vfs_segments.specs.Written.{Written, Leaves}
 use Rattle.vfs_files.specs.Values.{Item}
 use Rattle.vfs_files.specs.Calls.{Call, Handed}
+use Rattle.vfs_files.specs.Runs.{IsRun}
 use Rattle.vfs_grammar.specs.Turn.{Turn, events_in}
 use Rattle.vfs_grammar.specs.Books.{KeepsBooks, NeverBelow}
 use Rattle.vfs_grammar.specs.declared.error.Error.{Error}
@@ -10,7 +11,7 @@ use Rattle.vfs_grammar.specs.Samples.{four, eight, reply_of_node_5}
 use Rattle.vfs_server.specs.Step.{ServerState}
 use Rattle.vfs_server.specs.declared.transport.error.ServeError.{ServeError}
 use Rattle.vfs_server.specs.declared.transport.error.ServeError.TheVariants.{OutOfMemory, Segments, Server, FileSystem}
-use Rattle.vfs_history.specs.History.{Moment, Handled, turns_in, IsHistory, IsOneRun}
+use Rattle.vfs_history.specs.History.{Moment, Handled, turns_in, IsHistory}
 
 -- The turn of a request as its transport sees it: the bytes that came, the room that there was, the
 -- outcome, and the room as the writer was left.
@@ -72,7 +73,7 @@ forget_of_5 = four 48 ++ (four 2 ++ (eight 9 ++ (eight 5 ++ (replicate 16 0 ++ e
 pub record GivesBack {S I : Type 0} (allows : S → Call → Handed I → S → Type 0)
     (gives : I → Option Item → I → Type 0) (old : ServerState S) (lookup forget : Turn)
     (new : ServerState S) : Type 0 where
-  pub run : IsOneRun allows gives old.fs (lookup ∷ forget ∷ []) new.fs
+  pub run : IsRun allows gives None old.fs (events_in (lookup ∷ forget ∷ [])) new.fs
   pub never_below :
       (behind : List ℕ) → lookup.outcome ≡ Ok 144
       → lookup.room_after ≡ reply_of_node_5 ++ behind

@@ -4,7 +4,7 @@ use Rattle.std.specs.Prelude.{◌≡◌, ◌≢◌, ◌≤◌, ◌+◌, ℕ, Lis
 use Rattle.vfs_segments.specs.Written.{Written}
 use Rattle.vfs_files.specs.Values.{Item}
 use Rattle.vfs_files.specs.Calls.{Call, Destroy, Done, Handed, Plain}
-use Rattle.vfs_files.specs.Runs.{Event, Called, Happening, IsRun, events_of}
+use Rattle.vfs_files.specs.Runs.{Event, Called, IsRun}
 use Rattle.vfs_grammar.specs.Turn.{Turn, IsTurn, AreTurns, events_in}
 use Rattle.vfs_grammar.specs.Books.{answered, sent, delivered, accepted, KeepsBooks}
 use Rattle.vfs_grammar.specs.declared.error.Error.{Error}
@@ -33,18 +33,9 @@ IsUntouched (Changed before after ∷ moments) = ⊥
 pub record IsHandled {S I : Type 0} (allows : S → Call → Handed I → S → Type 0)
     (gives : I → Option Item → I → Type 0) (old : ServerState S) (t : Turn) (new : ServerState S)
     : Type 0 where
-  pub run : List (Happening I × S)
-  pub is_run : IsRun allows gives None old.fs run new.fs
-  pub events : events_of run ≡ t.events
+  pub is_run : IsRun allows gives None old.fs t.events new.fs
   pub turn : IsTurn old.limits old.options t new.options
   pub same_limits : new.limits ≡ old.limits
-
--- one run of a file system, with the events of these turns in order
-pub record IsOneRun {S I : Type 0} (allows : S → Call → Handed I → S → Type 0)
-    (gives : I → Option Item → I → Type 0) (old : S) (turns : List Turn) (new : S) : Type 0 where
-  pub run : List (Happening I × S)
-  pub is_run : IsRun allows gives None old run new
-  pub events : events_of run ≡ events_in turns
 
 -- a DESTROY of no number: a header alone, of 40 bytes
 abbrev pub destroy_request : List ℕ
@@ -92,7 +83,7 @@ module _ {S I : Type 0}
       (outcome : Result ℕ Error) (writer_after : Written) (new : ServerState S)
       → IsStep allows gives old request writer outcome writer_after new → Turn
   turn_of old request writer outcome writer_after new step =
-      turn_over request writer step.run outcome step.room_after
+      turn_over request writer step.events outcome step.room_after
 
   -- a history goes on by each step, with its turn
   abbrev pub GoesOn : Type 0
@@ -140,11 +131,12 @@ module _ {S I : Type 0}
       → AreTurns old.limits old.options (turns_in moments) new.options
       × (new.limits ≡ old.limits)
 
-  -- if nobody else changed the file system, a history is one run of it
+  -- if nobody else changed the file system, a history is one run of it, with the events of its turns
   abbrev pub HasOneRun : Type 0
   HasOneRun =
       (old new : ServerState S) (moments : List (Moment S)) → IsHistory old moments new
-      → IsUntouched moments → IsOneRun allows gives old.fs (turns_in moments) new.fs
+      → IsUntouched moments
+      → IsRun allows gives None old.fs (events_in (turns_in moments)) new.fs
 
   -- the books are kept over any history
   abbrev pub HistoriesKeepBooks : Type 0

@@ -7,8 +7,8 @@ use Rattle.std.specs.List.{flat_map}
 use Rattle.vfs_segments.specs.Written.{Written, Moves, wrote}
 use Rattle.vfs_files.specs.Calls.{Call, Lookup, Forget, Handed, Found, Failed, Done, Counts}
 use Rattle.vfs_files.specs.Values.{Item}
-use Rattle.vfs_files.specs.Runs.{Event}
-use Rattle.vfs_files.specs.RunLaws.{Ran, ran_on, ran_nothing, ran_taking, ran_call}
+use Rattle.vfs_files.specs.Runs.{Event, Taken}
+use Rattle.vfs_files.specs.RunLaws.{Ran, ran_is_run, ran_on, ran_nothing, ran_taking, ran_call}
 use Rattle.vfs_files.specs.declared.entry.Context.{Context}
 use Rattle.vfs_files.specs.declared.entry.Entry.{Entry}
 use Rattle.vfs_grammar.specs.Listing.{Verdict, Fits, Full, Fails, record_bytes, record_len, FitsOption, Got, Line, End, At, Gets, IsListing, IsGot, FitsGot, is_dot, lookup_of, lookups, line_events, given_back, node_got, line_len, line_bytes, len_of, bytes_got, AreWritten, answer_at, verdict}
@@ -32,7 +32,8 @@ module _ {S I : Type 0} (allows : S → Call → Handed I → S → Type 0)
 
   -- no call
   ran_still : (it : Option I) (old new : S) → new ≡ old → Ran allows gives it old [] new it
-  ran_still it old new e = record { run = []; is_run = e; events_are = refl; leaves = refl }
+  ran_still it old new e = subst (λ (s : S). Ran allows gives it old [] s it) (sym e)
+      (ran_nothing allows gives it old)
 
   ran_lookups : (plus dot : Bool) (parent : ℕ) (i : Item) (it : Option I) (old : S) (got : Got)
       (new : S) → LooksUp allows ctx plus dot parent i old got new
@@ -298,15 +299,15 @@ module _ {S I : Type 0} (allows : S → Call → Handed I → S → Type 0)
   filling_end {written} {it} {next} {s} {now} f h =
       let ran = ran_on allows gives f.ran (ran_taking allows gives it None next s h) in
       record {
-        run = ran.run;
+        events = flat_map (line_events ctx parent plus) f.lines ++ Taken None ∷ [];
         body = flat_map line_bytes f.lines;
-        is_run = ran.is_run;
+        is_run = ran_is_run allows gives ran;
         listing = record {
           lines = f.lines;
           stop = End;
           written = f.lines_written;
           stops = tt;
-          events_are = ran.events_are;
+          events_are = refl;
           body_is = refl;
           answer_is = ap Ok f.count;
         };
@@ -338,9 +339,10 @@ module _ {S I : Type 0} (allows : S → Call → Handed I → S → Type 0)
       (ran_line allows gives ctx plus parent it i next s a.got a.middle h a.looks_up)
       (ran_back allows gives ctx v a.got (Some next) a.middle new back wrong)) in
       record {
-        run = ran.run;
+        events = flat_map (line_events ctx parent plus) f.lines
+            ++ (line_events ctx parent plus l ++ given_back ctx (node_got a.got));
         body = flat_map line_bytes f.lines;
-        is_run = ran.is_run;
+        is_run = ran_is_run allows gives ran;
         listing = record {
           lines = f.lines;
           stop = At l;
@@ -350,7 +352,7 @@ module _ {S I : Type 0} (allows : S → Call → Handed I → S → Type 0)
             λ e. wrong
                 (sym here ∙ e),
           );
-          events_are = ran.events_are;
+          events_are = refl;
           body_is = refl;
           answer_is = ap (λ n. answer_at plus n v) f.count
               ∙ ap (λ z. answer_at plus (sum_by line_len f.lines) z) (sym here);

@@ -4,7 +4,7 @@ use Rattle.vfs_segments.specs.Written.{Written, wrote}
 use Rattle.vfs_files.specs.Values.{Item}
 use Rattle.vfs_files.specs.declared.entry.Entry.{Entry}
 use Rattle.vfs_files.specs.Calls.{Call, Lookup, Forget, Readdir, directory_answer, Handed, Plain, Failed, Found, Done}
-use Rattle.vfs_files.specs.Runs.{Happening, IsRun, events_of}
+use Rattle.vfs_files.specs.Runs.{Event, IsRun}
 use Rattle.vfs_files.specs.declared.entry.Context.{Context}
 use Rattle.vfs_grammar.specs.Listing.{record_len, record_bytes, FitsOption, Verdict, Fits, Full, Fails, At, End, Stop, line_bytes, Got, node_got, IsDotEntry, is_dot, line_len, IsListing, IsDirectory, verdict}
 
@@ -103,10 +103,10 @@ module _ {S I : Type 0}
       (plus : Bool) (parent size : ℕ) (it : I)
       (old : S) (writer : Written) (result : Result ℕ (Option ℕ)) (new : S) (writer_after : Written) : Type 0
     where
-      pub run : List (Happening I × S)
+      pub events : List Event
       pub body : List ℕ
-      pub is_run : IsRun allows gives (Some it) old run new
-      pub listing : IsListing plus ctx parent size (length writer.left) (events_of run) body result
+      pub is_run : IsRun allows gives (Some it) old events new
+      pub listing : IsListing plus ctx parent size (length writer.left) events body result
       pub puts :
           Puts writer
           (body ++ cut_short size (length writer.left) (sum_by line_len listing.lines) listing.stop)
@@ -133,11 +133,11 @@ module _ {S I : Type 0}
       (plus : Bool) (parent handle size offset : ℕ)
       (old : S) (writer : Written) (result : Result ℕ (Option ℕ)) (new : S) (writer_after : Written) : Type 0
     where
-      pub run : List (Happening I × S)
+      pub events : List Event
       pub body : List ℕ
       pub beyond : List ℕ
-      pub is_run : IsRun allows gives None old run new
+      pub is_run : IsRun allows gives None old events new
       pub directory :
-          IsDirectory plus ctx parent handle size offset (length writer.left) (events_of run) body
+          IsDirectory plus ctx parent handle size offset (length writer.left) events body
           result
       pub puts : Puts writer (body ++ beyond) writer_after

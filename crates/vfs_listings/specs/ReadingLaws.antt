@@ -3,7 +3,7 @@ use Rattle.std.proofs.Common.{◌≡◌, ℕ, Bool, List, [], ◌∷◌, Option,
 use Rattle.vfs_segments.specs.Written.{Written}
 use Rattle.vfs_files.specs.Calls.{Call, Readdir, Handed, Failed, directory_answer}
 use Rattle.vfs_files.specs.Values.{Item}
-use Rattle.vfs_files.specs.Runs.{Calls, Opens, events_of}
+use Rattle.vfs_files.specs.Runs.{Called, OpenedDirectory}
 use Rattle.vfs_files.specs.declared.entry.Context.{Context}
 use Rattle.vfs_grammar.specs.Listing.{line_len}
 use Rattle.vfs_listings.specs.Reading.{cut_short, Puts, ReadsItems, ReadsDirectory, RunsDirectory}
@@ -26,12 +26,12 @@ module _ {S I : Type 0} (allows : S → Call → Handed I → S → Type 0)
       new writer_after) (λ fault. (result ≡ Err fault) × (new ≡ middle) × (writer_after ≡ writer))
       → RunsDirectory allows gives ctx plus parent handle size offset old writer result new writer_after
   run_by (Ok it) middle opens reads = record {
-    run = (Opens (Readdir ctx parent handle size offset) it, middle) ∷ reads.run;
+    events = OpenedDirectory (Readdir ctx parent handle size offset) ∷ reads.events;
     body = reads.body;
     beyond = cut_short size _ (sum_by line_len reads.listing.lines) reads.listing.stop;
-    is_run = (opens, reads.is_run);
+    is_run = (middle, it, opens, reads.is_run);
     directory = inr (record {
-      takings = events_of reads.run;
+      takings = reads.events;
       events_are = refl;
       listing =
           reads.listing;
@@ -39,10 +39,10 @@ module _ {S I : Type 0} (allows : S → Call → Handed I → S → Type 0)
     puts = reads.puts;
   }
   run_by (Err fault) middle opens fails = record {
-    run = (Calls (Readdir ctx parent handle size offset) (Failed fault), middle) ∷ [];
+    events = Called (Readdir ctx parent handle size offset) (Failed fault) ∷ [];
     body = [];
     beyond = [];
-    is_run = (opens, fails.1);
+    is_run = (middle, opens, fails.1);
     directory = inl (record {
       fault = fault;
       events_are = refl;

@@ -3,8 +3,8 @@ use Rattle.std.specs.Prelude.{⊤}
 use Rattle.std.proofs.Common.{◌+◌, arith, ◌≡◌, ℕ, List, [], ◌∷◌, length, Option, Some, None, Result, refl, ap, sym, subst, inl, inr, append-nil, IfSome, IfNone, IsSome, rules}
 use Rattle.vfs_segments.specs.Written.{Written, Leaves}
 use Rattle.vfs_files.specs.Values.{Item}
-use Rattle.vfs_files.specs.Calls.{Call, Forget, Handed, Answer, Done, kind_of}
-use Rattle.vfs_files.specs.Runs.{Happening, Called, Calls, IsRun, events_of}
+use Rattle.vfs_files.specs.Calls.{Call, Handed, Answer, kind_of}
+use Rattle.vfs_files.specs.Runs.{Event, Called, IsRun}
 use Rattle.vfs_files.specs.declared.entry.Context.{Context}
 use Rattle.vfs_entries.specs.Delivery.{CallsAndGivesBack}
 use Rattle.vfs_messages.specs.Rooms.{with_behind}
@@ -47,28 +47,20 @@ asked_whole limits options request writer result writer_after told is =
 module _ {S I : Type 0} (allows : S → Call → Handed I → S → Type 0) (gives : I → Option Item → I → Type 0)
     (limits : Limits) (options : ℕ) (request : List ℕ) (old : S) (writer : Written) (outcome : Result ℕ Error)
     (after : ℕ) (writer_after : Written) (new : S) where
-  -- a call, and what was given back behind it, as a run
-  record Ran (call : Call) (answer : Answer) (ctx : Context) (back : Option ℕ) : Type 0 where
-    run : List (Happening I × S)
-    is_run : IsRun allows gives None old run new
-    events : events_of run ≡ Called call answer ∷ given_back ctx back
-
+  -- a call, and what was given back behind it, are a run
   ran : (call : Call) (answer : Answer) (ctx : Context) (back : Option ℕ)
-      → CallsAndGivesBack allows call answer ctx back old new → Ran call answer ctx back
-  ran call answer ctx None h = record { run = (Calls call answer, new) ∷ []; is_run = (h, refl); events = refl }
-  ran call answer ctx (Some node) h = record {
-    run = (Calls call answer, h.0) ∷ (Calls (Forget ctx node 1) Done, new) ∷ [];
-    is_run = (h.1, (h.2, refl));
-    events = refl;
-  }
+      → CallsAndGivesBack allows call answer ctx back old new
+      → IsRun allows gives None old (Called call answer ∷ given_back ctx back) new
+  ran call answer ctx None h = (new, h, refl)
+  ran call answer ctx (Some node) h = (h.0, h.1, (new, h.2, refl))
 
   -- a request that asks this was handled so
   pub record Stepped (asks : Ask) : Type 0 where
-    pub run : List (Happening I × S)
+    pub events : List Event
     pub room_after : List ℕ
-    pub is_run : IsRun allows gives None old run new
+    pub is_run : IsRun allows gives None old events new
     pub leaves : Leaves writer room_after writer_after
-    pub follows : Follows (turn_over request writer run outcome room_after) limits options asks after
+    pub follows : Follows (turn_over request writer events outcome room_after) limits options asks after
 
   stepped_call : (echo : Echo) (call : Call)
       → CallIsHandled allows limits options echo call old writer outcome after writer_after new
@@ -76,18 +68,18 @@ module _ {S I : Type 0} (allows : S → Call → Handed I → S → Type 0) (giv
   stepped_call echo call h =
       let reply = reply_of limits echo after (kind_of call) h.answer in
       let c = came reply writer writer_after outcome h.replied in
-      let r = ran call h.answer echo.ctx (unseen (length writer.left) reply (node_answered (kind_of call) h.answer)) h.called in
+      let back = unseen (length writer.left) reply (node_answered (kind_of call) h.answer) in
       record {
-        run = r.run;
+        events = Called call h.answer ∷ given_back echo.ctx back;
         room_after = c.room_after;
-        is_run = r.is_run;
+        is_run = ran call h.answer echo.ctx back h.called;
         leaves = c.leaves;
-        follows = (h.answer, r.events, h.fits, c.says, h.options_are);
+        follows = (h.answer, refl, h.fits, c.says, h.options_are);
       }
 
   pub with_memory : (rest : Ask) → Stepped rest → Stepped (WithMemory rest)
   with_memory rest s = record {
-    run = s.run;
+    events = s.events;
     room_after = s.room_after;
     is_run = s.is_run;
     leaves = s.leaves;
@@ -98,12 +90,12 @@ module _ {S I : Type 0} (allows : S → Call → Handed I → S → Type 0) (giv
       → IsStep allows gives (record { options = options; limits = limits; fs = old }) request writer outcome writer_after
       (record { options = after; limits = limits; fs = new })
   step_of asks e s = record {
-    run = s.run;
+    events = s.events;
     room_after = s.room_after;
     is_run = s.is_run;
     leaves = s.leaves;
     turn =
-        subst (λ (a : Ask). Follows (turn_over request writer s.run outcome s.room_after) limits options a after)
+        subst (λ (a : Ask). Follows (turn_over request writer s.events outcome s.room_after) limits options a after)
         (sym e) s.follows;
     same_limits = refl;
   }
@@ -116,13 +108,13 @@ module _ {S I : Type 0} (allows : S → Call → Handed I → S → Type 0) (giv
         → Stepped asks
     finished (Ends reply) t =
         let c = came reply writer writer_after outcome t.0 in
-        record { run = []; room_after = c.room_after; is_run = same; leaves = c.leaves; follows = (refl, c.says, kept) }
+        record { events = []; room_after = c.room_after; is_run = same; leaves = c.leaves; follows = (refl, c.says, kept) }
     finished (Asks echo call) t = absurd (let e = t.0 in cc)
     finished (Lists echo l) t = absurd (let e = t.0 in cc)
     finished (WithMemory rest) (inl t) = with_memory rest (finished rest t)
     finished (WithMemory rest) (inr t) =
         let c = came (Refusal OutOfMemory) writer writer_after outcome t.1.0 in
-        record { run = []; room_after = c.room_after; is_run = same; leaves = c.leaves; follows = inr (refl, c.says, kept) }
+        record { events = []; room_after = c.room_after; is_run = same; leaves = c.leaves; follows = inr (refl, c.says, kept) }
 
   pub step_of_finished : (interrupted : ℕ) (told : CallData) → new ≡ old → after ≡ options
       → IsAsked limits options request writer (asked.Finished outcome interrupted) writer_after told

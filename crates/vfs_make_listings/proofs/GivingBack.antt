@@ -46,7 +46,8 @@ module _ {S I : Type 0} (allows : S → Call → Handed I → S → Type 0) (giv
 
   pub ran_node : (node : Option ℕ) (at : Option I) (old new : S) → GivesBackNode allows ctx node old new
       → Ran allows gives at old (given_back ctx node) new at
-  ran_node None at old new h = record { run = []; is_run = h; events_are = refl; leaves = refl }
+  ran_node None at old new h =
+      subst (λ (s : S). Ran allows gives at old [] s at) (sym h) (ran_nothing allows gives at old)
   ran_node (Some node) at old new h = ran_call allows gives at old (Forget ctx node 1) Done new h
 
   -- an item more, of lines that are left

@@ -1,6 +1,6 @@
 -- From a directory that was asked for and handled to the step that it is.
 use Rattle.std.specs.Prelude.{⊤, ◌⊎◌}
-use Rattle.std.proofs.Common.{◌≡◌, ◌≢◌, ◌≤◌, ℕ, List, [], ◌∷◌, length, Option, Some, None, Result, refl, ap, sym, subst, inl, inr, arith, IfNone, IfSome, IsSome, ◌∙◌, rules}
+use Rattle.std.proofs.Common.{◌≡◌, ◌≢◌, ◌≤◌, ℕ, List, length, Option, Some, None, Result, refl, ap, sym, subst, inl, inr, arith, IfNone, IfSome, IsSome, ◌∙◌, rules}
 use Rattle.vfs_segments.specs.Written.{Written}
 use Rattle.vfs_answer.specs.Kinds.{kind_told}
 use Rattle.vfs_ask.specs.Asked.{IsAsked, Tells, interrupted_by, told_of_listing}
@@ -10,7 +10,6 @@ use Rattle.vfs_calls.specs.declared.call.CallData.{CallData}
 use Rattle.vfs_files.specs.Calls.{Call, Data, Handed, Iterator, Iterators, Kind, Readdir, kind_of, read_answer}
 use Rattle.vfs_files.specs.Calls as call
 use Rattle.vfs_files.specs.Values.{Item}
-use Rattle.vfs_files.specs.Runs.{Calls, Event, Happening, IsRun, OpenedDirectory, Opens, Takes, events_of}
 use Rattle.vfs_grammar.specs.Ask.{ask}
 use Rattle.vfs_grammar.specs.Forms.{Ask, Asks, Ends, Listing, Lists, WithMemory}
 use Rattle.vfs_grammar.specs.Limits.{AreLimits}
@@ -88,7 +87,7 @@ module _ {S I : Type 0} (allows : S → Call → Handed I → S → Type 0) (giv
   stepped_listing outcome after echo l h =
       let c = came (reply_of limits echo after (Data l.size) (read_answer h.answer h.records)) writer writer_after outcome h.replied in
       record {
-        run = h.run;
+        events = h.events;
         room_after = c.room_after;
         is_run = h.is_run;
         leaves = c.leaves;
@@ -212,22 +211,11 @@ no_call_of_listing limits options request writer asked_after told is asks echo c
     let listable = subst (λ (a : Ask). IsListable limits (length writer.left) a) e (is_listable limits options (length writer.left) request) in
     no_iterator c listable (sym (ap (λ (d : CallData). d.answer) t.1.numbers) ∙ is)
 
--- a directory that was given up was opened
-pub was_opened : {S I : Type 0} (allows : S → Call → Handed I → S → Type 0) (gives : I → Option Item → I → Type 0)
-    (old new : S) (opening : Call) (takings : List Event) (run : List (Happening I × S))
-    → events_of run ≡ OpenedDirectory opening ∷ takings → IsRun allows gives None old run new
-    → (c : Call) × (it : I) × (middle : S) × allows old c (Iterator it) middle
-was_opened allows gives old new opening takings [] e r = absurd (let f = e in cc)
-was_opened allows gives old new opening takings ((Calls c a, m) ∷ hs) e r = absurd (let f = e in cc)
-was_opened allows gives old new opening takings ((Opens c it, m) ∷ hs) e r = (c, it, m, r.0)
-was_opened allows gives old new opening takings ((Takes b i a, m) ∷ hs) e r = absurd (let f = e in cc)
-
 -- where none is opened, none is given up
 pub none_given_up : {S I : Type 0} (allows : S → Call → Handed I → S → Type 0) (gives : I → Option Item → I → Type 0)
     (l : Listing) (old new : S) (result : Option Handled)
     → ((a b : S) (c : Call) (it : I) → allows a c (Iterator it) b → ⊥)
     → IfNone result (GivesUp allows gives l old new) → IsSome result
 none_given_up allows gives l old new None none g =
-    let o = was_opened allows gives old new (Readdir l.ctx l.parent l.handle l.size l.offset) g.takings g.run g.events_are g.is_run in
-    absurd (none old o.2 o.0 o.1 o.3)
+    absurd (none old g.is_run.0 (Readdir l.ctx l.parent l.handle l.size l.offset) g.is_run.1 g.is_run.2)
 none_given_up allows gives l old new (Some h) none g = search rules

@@ -18,8 +18,8 @@ use Rattle.vfs_calls.specs.declared.data.AnswerData.{AnswerData}
 use Rattle.vfs_calls.specs.declared.data.ItemData.{ItemData}
 use Rattle.vfs_files.specs.Calls.{Call, Data, Failed, Handed, IsAnswer, Iterator, Plain, Readdir, read_answer}
 use Rattle.vfs_files.specs.Values.{Item}
-use Rattle.vfs_files.specs.RunLaws.{Ran, ran_on}
-use Rattle.vfs_files.specs.Runs.{Calls, Event, Opens, Taken, events_of}
+use Rattle.vfs_files.specs.RunLaws.{Ran, ran_is_run, ran_on}
+use Rattle.vfs_files.specs.Runs.{Called, Event, OpenedDirectory, Taken}
 use Rattle.vfs_files.specs.declared.entry.Context.{Context}
 use Rattle.vfs_grammar.specs.Listing.{Fails, Fits, Full, Verdict, AreWritten, At, End, Got, IsGot, Line, Stop, Stops, answer_at, answer_of, given_back, len_of, line_events, line_len, node_got, stop_events, verdict}
 use Rattle.vfs_grammar.specs.Forms.{Listing}
@@ -156,15 +156,15 @@ module _ (l : Listing) where
         (subst (λ (n : Option ℕ). GivesBackNode allows l.ctx n between new) t.node_is last) in
         let ran = ran_on allows gives t.ran (ran_on allows gives first one) in
         record {
-          run = ran.run;
-          is_run = ran.is_run;
+          events = (flat_map (line_events l.ctx l.parent l.plus) t.lines ++ line_events l.ctx l.parent l.plus t.last)
+              ++ (flat_map (back_of l) t.lines ++ back_of l t.last);
+          is_run = ran_is_run allows gives ran;
           given_up = record {
             lines = t.lines;
             last = t.last;
             written = t.written;
             got = t.got;
-            events_are = ran.events_are
-                ∙ ap (λ (x : List Event). x ++ (flat_map (back_of l) t.lines ++ back_of l t.last))
+            events_are = ap (λ (x : List Event). x ++ (flat_map (back_of l) t.lines ++ back_of l t.last))
                 (sym (flat_map-push (line_events l.ctx l.parent l.plus) t.lines t.last))
                 ∙ ap (λ (x : List Event). flat_map (line_events l.ctx l.parent l.plus) (t.lines ++ t.last ∷ []) ++ x)
                 (sym (flat_map-push (back_of l) t.lines t.last));
@@ -212,17 +212,16 @@ module _ (l : Listing) where
           let ran = ran_on allows gives t.ran given in
           let lines = flat_map (line_events l.ctx l.parent l.plus) t.lines in
           record {
-            run = ran.run;
+            events = (lines ++ last_events l.ctx l.parent l.plus t.stop) ++ flat_map (back_of l) rest;
             records = c.records;
             answer = c.answer;
-            is_run = ran.is_run;
+            is_run = ran_is_run allows gives ran;
             listing = record {
               lines = t.lines;
               stop = t.stop;
               written = t.written;
               stops = t.stops;
-              events_are = ran.events_are
-                  ∙ append_assoc lines (last_events l.ctx l.parent l.plus t.stop) (flat_map (back_of l) rest)
+              events_are = append_assoc lines (last_events l.ctx l.parent l.plus t.stop) (flat_map (back_of l) rest)
                   ∙ ap (λ (x : List Event). lines ++ (last_events l.ctx l.parent l.plus t.stop ++ x))
                   (rest_back l.plus came.taken t.lines t.stop all tail taken)
                   ∙ ap (λ (x : List Event). lines ++ x) (stop_is t.stop);
@@ -248,11 +247,11 @@ module _ (l : Listing) where
         → ReadsOn allows gives limits options echo l it mid writer outcome after writer_after new
         → ListingIsHandled allows gives limits options echo l old writer outcome after writer_after new
     read_opened outcome after opens r = record {
-      run = (Opens (Readdir l.ctx l.parent l.handle l.size l.offset) it, mid) ∷ r.run;
+      events = OpenedDirectory (Readdir l.ctx l.parent l.handle l.size l.offset) ∷ r.events;
       records = r.records;
       answer = r.answer;
-      is_run = (opens, r.is_run);
-      read = inr (record { takings = events_of r.run; events_are = refl; listing = r.listing });
+      is_run = (mid, it, opens, r.is_run);
+      read = inr (record { takings = r.events; events_are = refl; listing = r.listing });
       fits = r.fits;
       replied = r.replied;
       same_options = r.same_options;
@@ -262,10 +261,8 @@ module _ (l : Listing) where
     pub gave_up_opened : allows old (Readdir l.ctx l.parent l.handle l.size l.offset) (Iterator it) mid
         → GivesUpOn allows gives l it mid new → GivesUp allows gives l old new
     gave_up_opened opens r = record {
-      run = (Opens (Readdir l.ctx l.parent l.handle l.size l.offset) it, mid) ∷ r.run;
-      takings = events_of r.run;
-      is_run = (opens, r.is_run);
-      events_are = refl;
+      takings = r.events;
+      is_run = (mid, it, opens, r.is_run);
       given_up = r.given_up;
     }
 
@@ -277,10 +274,10 @@ module _ (l : Listing) where
         → IsUnopenedSo limits options echo l fault writer (Some handled) writer_after
         → ListingIsHandled allows gives limits options echo l old writer handled.outcome handled.options writer_after new
     not_opened fault handled opens h = record {
-      run = (Calls (Readdir l.ctx l.parent l.handle l.size l.offset) (Failed fault), new) ∷ [];
+      events = Called (Readdir l.ctx l.parent l.handle l.size l.offset) (Failed fault) ∷ [];
       records = [];
       answer = Err fault;
-      is_run = (opens, refl);
+      is_run = (new, opens, refl);
       read = inl (record { fault = fault; events_are = refl; body_is = refl; answer_is = refl });
       fits = h.0;
       replied = h.1;

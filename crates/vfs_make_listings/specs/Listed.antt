@@ -7,7 +7,7 @@ use Rattle.vfs_ask.specs.Asked.{told_of_listing}
 use Rattle.vfs_files.specs.Calls.{Call, Handed, Data, Readdir, IsAnswer, read_answer}
 use Rattle.vfs_make.specs.declared.handled.Handled.{Handled}
 use Rattle.vfs_files.specs.Values.{Item}
-use Rattle.vfs_files.specs.Runs.{Event, OpenedDirectory, Happening, IsRun, events_of}
+use Rattle.vfs_files.specs.Runs.{Event, OpenedDirectory, IsRun}
 use Rattle.vfs_messages.specs.Rooms.{Replies}
 use Rattle.vfs_grammar.specs.Forms.{Ask, Lists, Listing, WithMemory}
 use Rattle.vfs_grammar.specs.Listing.{AreWritten, IsGot, IsListing, Line, given_back, line_events, node_got}
@@ -65,12 +65,12 @@ module _ {S I : Type 0} (allows : S → Call → Handed I → S → Type 0) (giv
     pub record ReadsOn (limits : Limits) (options : ℕ) (echo : Echo) (l : Listing) (it : I) (old : S)
         (writer : Written) (outcome : Result ℕ Error) (after : ℕ) (writer_after : Written) (new : S) : Type 0
       where
-        pub run : List (Happening I × S)
+        pub events : List Event
         pub records : List ℕ
         pub answer : Result ℕ (Option ℕ)
-        pub is_run : IsRun allows gives (Some it) old run new
+        pub is_run : IsRun allows gives (Some it) old events new
         pub listing :
-            IsListing l.plus l.ctx l.parent l.size l.space (events_of run) records answer
+            IsListing l.plus l.ctx l.parent l.size l.space events records answer
         pub fits : IsAnswer (Data l.size) (read_answer answer records)
         pub replied :
             Replies (reply_of limits echo after (Data l.size) (read_answer answer records)) writer outcome
@@ -79,19 +79,19 @@ module _ {S I : Type 0} (allows : S → Call → Handed I → S → Type 0) (giv
 
     -- its reading was given up
     pub record GivesUpOn (l : Listing) (it : I) (old new : S) : Type 0 where
-      pub run : List (Happening I × S)
-      pub is_run : IsRun allows gives (Some it) old run new
-      pub given_up : IsGivenUp l (events_of run)
+      pub events : List Event
+      pub is_run : IsRun allows gives (Some it) old events new
+      pub given_up : IsGivenUp l events
 
     -- A directory was read and answered: the events are those of the grammar, and its records the reply.
     pub record ListingIsHandled (limits : Limits) (options : ℕ) (echo : Echo) (l : Listing) (old : S)
         (writer : Written) (outcome : Result ℕ Error) (after : ℕ) (writer_after : Written) (new : S) : Type 0
       where
-        pub run : List (Happening I × S)
+        pub events : List Event
         pub records : List ℕ
         pub answer : Result ℕ (Option ℕ)
-        pub is_run : IsRun allows gives None old run new
-        pub read : IsRead l (events_of run) records answer
+        pub is_run : IsRun allows gives None old events new
+        pub read : IsRead l events records answer
         pub fits : IsAnswer (Data l.size) (read_answer answer records)
         pub replied :
             Replies (reply_of limits echo after (Data l.size) (read_answer answer records)) writer outcome
@@ -100,9 +100,8 @@ module _ {S I : Type 0} (allows : S → Call → Handed I → S → Type 0) (giv
 
     -- a directory was opened, and its reading given up
     pub record GivesUp (l : Listing) (old new : S) : Type 0 where
-      pub run : List (Happening I × S)
       pub takings : List Event
-      pub is_run : IsRun allows gives None old run new
-      pub events_are :
-          events_of run ≡ OpenedDirectory (Readdir l.ctx l.parent l.handle l.size l.offset) ∷ takings
+      pub is_run :
+          IsRun allows gives None old
+          (OpenedDirectory (Readdir l.ctx l.parent l.handle l.size l.offset) ∷ takings) new
       pub given_up : IsGivenUp l takings

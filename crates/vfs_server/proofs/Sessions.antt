@@ -6,8 +6,8 @@ use Rattle.vfs_segments.specs.Unread.{Unread}
 use Rattle.vfs_segments.specs.Written.{Written}
 use Rattle.vfs_files.specs.Values.{Item}
 use Rattle.vfs_files.specs.Calls.{Call, Handed}
-use Rattle.vfs_files.specs.Runs.{events_of, RunsJoin, EventsJoin}
-use Rattle.vfs_grammar.specs.Turn.{Turn, AreTurns}
+use Rattle.vfs_files.specs.Runs.{Event, IsRun, RunsJoin}
+use Rattle.vfs_grammar.specs.Turn.{Turn, AreTurns, events_in}
 use Rattle.vfs_grammar.specs.declared.limits.Limits.{Limits}
 use Rattle.vfs_grammar.specs.declared.error.Error.{Error}
 use Rattle.vfs_grammar.specs.declared.error.Error.TheVariants.{OutOfMemory}
@@ -43,10 +43,10 @@ module _ (limits : Limits) where
   turns_of_served options (a ∷ rs) (b ∷ ws) [] ns after are = absurd are
   turns_of_served options (a ∷ rs) (b ∷ ws) (c ∷ ts) [] after are = absurd are
 
-module _ {S I : Type 0} (allows : S → Call → Handed I → S → Type 0) (gives : I → Option Item → I → Type 0) (join : RunsJoin allows gives) (events_join : EventsJoin S I) (keep : (limits : Limits) (options after : ℕ) (turns : List Turn) → AreTurns limits options turns after → KeepsBooks turns) (old : ServerState S) where
+module _ {S I : Type 0} (allows : S → Call → Handed I → S → Type 0) (gives : I → Option Item → I → Type 0) (join : RunsJoin allows gives) (keep : (limits : Limits) (options after : ℕ) (turns : List Turn) → AreTurns limits options turns after → KeepsBooks turns) (old : ServerState S) where
   -- nothing was asked yet
   pub session_none : IsSession allows gives old [] [] [] [] old
-  session_none = record { turns = []; run = []; is_run = refl; events = refl; served = refl; outcomes_are = refl; books = keep old.limits old.options old.options [] refl; same_limits = refl }
+  session_none = record { turns = []; is_run = refl; served = refl; outcomes_are = refl; books = keep old.limits old.options old.options [] refl; same_limits = refl }
 
   -- a session goes on by one step, which wants no more memory than it may, and leaves no hold
   pub session_push : (readers : List Unread) (writers : List Written) (outcomes : List (Result ℕ Error)) (afters : List Written) (mid : ServerState S) (reader : Unread) (writer : Written) (outcome : Result ℕ Error) (after : Written) (new : ServerState S)
@@ -55,16 +55,15 @@ module _ {S I : Type 0} (allows : S → Call → Handed I → S → Type 0) (giv
       → (WantsNoMemory mid.limits mid.options (length writer.left) reader → outcome ≢ Err OutOfMemory) → after.held ≡ 0
       → IsSession allows gives old (readers ++ reader ∷ []) (writers ++ writer ∷ []) (outcomes ++ outcome ∷ []) (afters ++ after ∷ []) new
   session_push readers writers outcomes afters mid reader writer outcome after new s k memory held =
-      let t : Turn = turn_over reader.left writer k.run outcome k.room_after in
+      let t : Turn = turn_over reader.left writer k.events outcome k.room_after in
       let one : IsServed mid.limits mid.options reader writer t after new.options =
       record { request = refl; room = refl; turn = k.turn; memory = memory; leaves = k.leaves; hold_given_up = held } in
       let more = served_push old.limits old.options readers writers s.turns afters mid.options reader writer t after new.options s.served
       (subst (λ (p : Limits). IsServed p mid.options reader writer t after new.options) s.same_limits one) in
       record {
         turns = s.turns ++ t ∷ [];
-        run = s.run ++ k.run;
-        is_run = join None old.fs mid.fs new.fs s.run k.run s.is_run k.is_run;
-        events = events_join s.run k.run ∙ (ap (λ es. es ++ events_of k.run) s.events ∙ sym (events_in-push s.turns t));
+        is_run = subst (λ (es : List Event). IsRun allows gives None old.fs es new.fs) (sym (events_in-push s.turns t))
+            (join None old.fs mid.fs new.fs (events_in s.turns) k.events s.is_run k.is_run);
         served = more;
         outcomes_are = map-append (λ (t : Turn). t.outcome) s.turns (t ∷ []) ∙ ap (λ xs. xs ++ outcome ∷ []) s.outcomes_are;
         books = keep old.limits old.options new.options (s.turns ++ t ∷ []) (turns_of_served old.limits old.options (readers ++ reader ∷ []) (writers ++ writer ∷ []) (s.turns ++ t ∷ []) (afters ++ after ∷ []) new.options more);
@@ -82,7 +81,7 @@ same_after xs ys i x e =
     let lt : i < i + 1 = omega arith in
     drop-set-lt (i + 1) xs i x lt ∙ (sym (drop-drop 1 i xs) ∙ (ap (λ zs. drop 1 zs) e ∙ drop-drop 1 i ys))
 
-module _ {S I : Type 0} (allows : S → Call → Handed I → S → Type 0) (gives : I → Option Item → I → Type 0) (join : RunsJoin allows gives) (events_join : EventsJoin S I) (keep : (limits : Limits) (options after : ℕ) (turns : List Turn) → AreTurns limits options turns after → KeepsBooks turns) (old : ServerState S) where
+module _ {S I : Type 0} (allows : S → Call → Handed I → S → Type 0) (gives : I → Option Item → I → Type 0) (join : RunsJoin allows gives) (keep : (limits : Limits) (options after : ℕ) (turns : List Turn) → AreTurns limits options turns after → KeepsBooks turns) (old : ServerState S) where
   -- a session goes on by the step at the next place of the lists
   pub session_more : (readers : List Unread) (reader : Unread) (writers before : List Written) (outcomes : List (Result ℕ Error)) (i : ℕ) (mid : ServerState S) (d : Written) (outcome : Result ℕ Error) (after : Written) (new : ServerState S)
       → i < length writers → i < length before → i < length outcomes → drop i writers ≡ drop i before
@@ -93,7 +92,7 @@ module _ {S I : Type 0} (allows : S → Call → Handed I → S → Type 0) (giv
   session_more readers reader writers before outcomes i mid d outcome after new a b c e s k memory held =
       let same : get_or before i d ≡ get_or writers i d = sym (same_at writers before i d e) in
       rw (take_more before i d b, take_more_set outcomes i outcome c, take_more_set writers i after a, same)
-      (session_push allows gives join events_join keep old readers (take i before) (take i outcomes) (take i writers) mid reader (get_or writers i d) outcome after new s k memory held)
+      (session_push allows gives join keep old readers (take i before) (take i outcomes) (take i writers) mid reader (get_or writers i d) outcome after new s k memory held)
 
 -- an item goes from the front of what is left to the end of what was taken
 pub passed_on : {X : Type 0} (xs ys zs all : List X) (x : X) → ys ≡ x ∷ zs → xs ++ ys ≡ all → (xs ++ x ∷ []) ++ zs ≡ all

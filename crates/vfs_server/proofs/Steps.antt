@@ -5,8 +5,8 @@ use Rattle.vfs_wire.specs.Records.{in_header}
 use Rattle.vfs_wire.specs.declared.headers.InHeader.{InHeader}
 use Rattle.vfs_segments.specs.Written.{Written, held_over, Leaves}
 use Rattle.vfs_files.specs.Values.{Item}
-use Rattle.vfs_files.specs.Calls.{Call, Forget, Answer, Done, Handed, Data, kind_of, read_answer}
-use Rattle.vfs_files.specs.Runs.{Happening, Called, Calls, IsRun, events_of}
+use Rattle.vfs_files.specs.Calls.{Call, Answer, Handed, Data, kind_of, read_answer}
+use Rattle.vfs_files.specs.Runs.{Event, Called, IsRun}
 use Rattle.vfs_files.specs.declared.entry.Context.{Context}
 use Rattle.vfs_grammar.specs.Listing.{given_back}
 use Rattle.vfs_grammar.specs.Records.{record_of, size_of}
@@ -68,56 +68,48 @@ follows_less limits options after t P Q less (WithMemory rest) (inl f) = inl (fo
 follows_less limits options after t P Q less (WithMemory rest) (inr f) = inr (less f.0, f.1, f.2)
 
 module _ {S I : Type 0} (allows : S → Call → Handed I → S → Type 0) (gives : I → Option Item → I → Type 0) (old : ServerState S) (request : List ℕ) (writer : Written) (outcome : Result ℕ Error) (writer_after : Written) (new : ServerState S) where
-  -- a call, and what was given back behind it, as a run
-  record Ran (call : Call) (answer : Answer) (ctx : Context) (back : Option ℕ) : Type 0 where
-    run : List (Happening I × S)
-    is_run : IsRun allows gives None old.fs run new.fs
-    events : events_of run ≡ Called call answer ∷ given_back ctx back
-
-  ran : (call : Call) (answer : Answer) (ctx : Context) (back : Option ℕ) → CallsAndGivesBack allows call answer ctx back old.fs new.fs → Ran call answer ctx back
-  ran call answer ctx None h = record { run = (Calls call answer, new.fs) ∷ []; is_run = (h, refl); events = refl }
-  ran call answer ctx (Some node) h = record {
-    run = (Calls call answer, h.0) ∷ (Calls (Forget ctx node 1) Done, new.fs) ∷ [];
-    is_run = (h.1, (h.2, refl));
-    events = refl;
-  }
+  -- a call, and what was given back behind it, are a run
+  ran : (call : Call) (answer : Answer) (ctx : Context) (back : Option ℕ) → CallsAndGivesBack allows call answer ctx back old.fs new.fs
+      → IsRun allows gives None old.fs (Called call answer ∷ given_back ctx back) new.fs
+  ran call answer ctx None h = (new.fs, h, refl)
+  ran call answer ctx (Some node) h = (h.0, h.1, (new.fs, h.2, refl))
 
   -- what was handled without a list of events is a run with the events that the table gives
   record Followed (wanted : Type 0) (a : Ask) : Type 0 where
-    run : List (Happening I × S)
+    events : List Event
     room_after : List ℕ
-    is_run : IsRun allows gives None old.fs run new.fs
+    is_run : IsRun allows gives None old.fs events new.fs
     leaves : Leaves writer room_after writer_after
-    follows : FollowsFor (turn_says ((events_of run ≡ []) × wanted) (turn_over request writer run outcome room_after)) old.limits old.options a new.options
+    follows : FollowsFor (turn_says ((events ≡ []) × wanted) (turn_over request writer events outcome room_after)) old.limits old.options a new.options
     no_hold : writer.held ≡ 0 → writer_after.held ≡ 0
 
   follow : (wanted : Type 0) (a : Ask) → FollowsFor (server_tells allows gives wanted old writer outcome writer_after new) old.limits old.options a new.options → Followed wanted a
   unfolding turn_says
   follow wanted (Ends reply) h =
       let c = came reply writer writer_after outcome h.1 in
-      record { run = []; room_after = c.room_after; is_run = h.0; leaves = c.leaves; follows = (refl, c.says, h.2); no_hold = c.no_hold }
+      record { events = []; room_after = c.room_after; is_run = h.0; leaves = c.leaves; follows = (refl, c.says, h.2); no_hold = c.no_hold }
   follow wanted (Asks echo call) h =
       let reply = reply_of old.limits echo new.options (kind_of call) h.0 in
       let c = came reply writer writer_after outcome h.3 in
-      let r = ran call h.0 echo.ctx (unseen (length writer.left) reply (node_answered (kind_of call) h.0)) h.1 in
-      record { run = r.run; room_after = c.room_after; is_run = r.is_run; leaves = c.leaves; follows = (h.0, r.events, h.2, c.says, h.4); no_hold = c.no_hold }
+      let back = unseen (length writer.left) reply (node_answered (kind_of call) h.0) in
+      record { events = Called call h.0 ∷ given_back echo.ctx back; room_after = c.room_after; is_run = ran call h.0 echo.ctx back h.1; leaves = c.leaves; follows = (h.0, refl, h.2, c.says, h.4); no_hold = c.no_hold }
   follow wanted (Lists echo l) h =
       let c = came (reply_of old.limits echo new.options (Data l.size) (read_answer h.1 h.0)) writer writer_after outcome h.4 in
-      record { run = h.2.run; room_after = c.room_after; is_run = h.2.is_run; leaves = c.leaves; follows = (h.0, h.1, h.2.is_read, h.3, c.says, h.5); no_hold = c.no_hold }
+      record { events = h.2.events; room_after = c.room_after; is_run = h.2.is_run; leaves = c.leaves; follows = (h.0, h.1, h.2.is_read, h.3, c.says, h.5); no_hold = c.no_hold }
   follow wanted (WithMemory rest) (inl h) =
       let f = follow wanted rest h in
-      record { run = f.run; room_after = f.room_after; is_run = f.is_run; leaves = f.leaves; follows = inl f.follows; no_hold = f.no_hold }
+      record { events = f.events; room_after = f.room_after; is_run = f.is_run; leaves = f.leaves; follows = inl f.follows; no_hold = f.no_hold }
   follow wanted (WithMemory rest) (inr h) =
       let c = came (Refusal OutOfMemory) writer writer_after outcome h.1 in
-      record { run = []; room_after = c.room_after; is_run = h.0.0; leaves = c.leaves; follows = inr ((refl, h.0.1), c.says, h.2); no_hold = c.no_hold }
+      record { events = []; room_after = c.room_after; is_run = h.0.0; leaves = c.leaves; follows = inr ((refl, h.0.1), c.says, h.2); no_hold = c.no_hold }
 
   step_of : (wanted : Type 0) (a : Ask) → ask old.limits old.options (length writer.left) request ≡ a → Handles allows gives wanted a old writer outcome writer_after new → IsStep allows gives old request writer outcome writer_after new
   unfolding turn_says
   step_of wanted a e h =
       let f = follow wanted a h.0 in
-      let t = turn_over request writer f.run outcome f.room_after in
-      let g = follows_less old.limits old.options new.options t ((events_of f.run ≡ []) × wanted) (events_of f.run ≡ []) (λ p. p.0) a f.follows in
-      record { run = f.run; room_after = f.room_after; is_run = f.is_run; leaves = f.leaves; turn = rw e (follows_plainly t old.limits old.options a new.options g); same_limits = h.1 }
+      let t = turn_over request writer f.events outcome f.room_after in
+      let g = follows_less old.limits old.options new.options t ((f.events ≡ []) × wanted) (f.events ≡ []) (λ p. p.0) a f.follows in
+      record { events = f.events; room_after = f.room_after; is_run = f.is_run; leaves = f.leaves; turn = rw e (follows_plainly t old.limits old.options a new.options g); same_limits = h.1 }
 
   -- where no memory may be wanted, the request isn't refused for want of it
   enough_of : (wanted : Type 0) (a : Ask) → ask old.limits old.options (length writer.left) request ≡ a → Handles allows gives wanted a old writer outcome writer_after new
@@ -125,8 +117,8 @@ module _ {S I : Type 0} (allows : S → Call → Handed I → S → Type 0) (giv
   unfolding turn_says
   enough_of wanted a e h enough none =
       let f = follow wanted a h.0 in
-      let t = turn_over request writer f.run outcome f.room_after in
-      let g = follows_less old.limits old.options new.options t ((events_of f.run ≡ []) × wanted) ⊥ (λ p. none p.1) a f.follows in
+      let t = turn_over request writer f.events outcome f.room_after in
+      let g = follows_less old.limits old.options new.options t ((f.events ≡ []) × wanted) ⊥ (λ p. none p.1) a f.follows in
       enough old.limits old.options new.options t (rw e g)
 
   -- a request without a whole header
@@ -163,9 +155,9 @@ module _ {S I : Type 0} (allows : S → Call → Handed I → S → Type 0) (giv
       → ((limits : Limits) (options after : ℕ) (t : Turn) (echo : Echo) (l : Listing) → IsTurn limits options t after → ask limits options (length t.room) t.request ≡ Lists echo l → TakesFew l t)
       → IsStep allows gives old request writer outcome writer_after new → ReadsDirectories allows gives old request writer outcome writer_after new
   read_by_step stops whole few s echo l asks =
-      let t = turn_over request writer s.run outcome s.room_after in
+      let t = turn_over request writer s.events outcome s.room_after in
       record {
-        run = s.run;
+        events = s.events;
         room_after = s.room_after;
         is_run = s.is_run;
         leaves = s.leaves;
@@ -177,7 +169,7 @@ module _ {S I : Type 0} (allows : S → Call → Handed I → S → Type 0) (giv
   -- a hold that was given up changes no byte
   pub step_of_hold : IsStep allows gives old request (held_over writer 0) outcome writer_after new → IsStep allows gives old request writer outcome writer_after new
   step_of_hold s = record {
-    run = s.run;
+    events = s.events;
     room_after = s.room_after;
     is_run = s.is_run;
     leaves = record { kept = s.leaves.kept ∙ ap (λ (p : List ℕ). p ++ s.room_after) (append-nil writer.passed); same_length = s.leaves.same_length; same_segments = s.leaves.same_segments };

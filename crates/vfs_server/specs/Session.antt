@@ -4,7 +4,7 @@ use Rattle.vfs_segments.specs.Unread.{Unread}
 use Rattle.vfs_segments.specs.Written.{Written, Leaves}
 use Rattle.vfs_files.specs.Values.{Item}
 use Rattle.vfs_files.specs.Calls.{Call, Handed}
-use Rattle.vfs_files.specs.Runs.{Happening, IsRun, events_of}
+use Rattle.vfs_files.specs.Runs.{IsRun}
 use Rattle.vfs_grammar.specs.Turn.{Turn, IsTurn, events_in}
 use Rattle.vfs_grammar.specs.declared.limits.Limits.{Limits}
 use Rattle.vfs_grammar.specs.declared.error.Error.{Error}
@@ -45,9 +45,7 @@ pub record IsSession {S I : Type 0} (allows : S → Call → Handed I → S → 
     (writers : List Written) (outcomes : List (Result ℕ Error)) (writers_after : List Written)
     (new : ServerState S) : Type 0 where
   pub turns : List Turn
-  pub run : List (Happening I × S)
-  pub is_run : IsRun allows gives None old.fs run new.fs
-  pub events : events_of run ≡ events_in turns
+  pub is_run : IsRun allows gives None old.fs (events_in turns) new.fs
   pub served : AreServed old.limits old.options readers writers turns writers_after new.options
   pub outcomes_are : map (λ t. t.outcome) turns ≡ outcomes
   pub books : KeepsBooks turns

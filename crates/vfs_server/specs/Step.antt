@@ -3,7 +3,7 @@ use Rattle.std.specs.Prelude.{◌≡◌, length, ℕ, List, Option, None, Result
 use Rattle.vfs_segments.specs.Written.{Written, Leaves}
 use Rattle.vfs_files.specs.Values.{Item}
 use Rattle.vfs_files.specs.Calls.{Call, Handed}
-use Rattle.vfs_files.specs.Runs.{Happening, IsRun, events_of}
+use Rattle.vfs_files.specs.Runs.{Event, IsRun}
 use Rattle.vfs_files.specs.Migrations.{MigrationCall, MigrationAnswer}
 use Rattle.vfs_grammar.specs.Forms.{Listing, Lists}
 use Rattle.vfs_grammar.specs.Ask.{ask}
@@ -13,14 +13,14 @@ use Rattle.vfs_grammar.specs.Turn.{Turn, IsTurn}
 use Rattle.vfs_grammar.specs.declared.error.Error.{Error}
 pub use Rattle.vfs_handlers.specs.State.{ServerState}
 
--- a turn of this request, over a run: what a writer had as its room, and what it has there now
-abbrev pub turn_over : {S I : Type 0} → (request : List ℕ) → (writer : Written)
-    → (run : List (Happening I × S)) → Result ℕ Error → (room_after : List ℕ) → Turn
-turn_over request writer run outcome room_after =
+-- a turn of this request, with these events: what a writer had as its room, and what it has there now
+abbrev pub turn_over : (request : List ℕ) → (writer : Written) → (events : List Event)
+    → Result ℕ Error → (room_after : List ℕ) → Turn
+turn_over request writer events outcome room_after =
     record {
       request = request;
       room = writer.left;
-      events = events_of run;
+      events = events;
       outcome = outcome;
       room_after = room_after;
     }
@@ -31,12 +31,12 @@ turn_over request writer run outcome room_after =
 pub record IsStep {S I : Type 0} (allows : S → Call → Handed I → S → Type 0)
     (gives : I → Option Item → I → Type 0) (old : ServerState S) (request : List ℕ)
     (writer : Written) (outcome : Result ℕ Error) (writer_after : Written) (new : ServerState S) : Type 0 where
-  pub run : List (Happening I × S)
+  pub events : List Event
   pub room_after : List ℕ
-  pub is_run : IsRun allows gives None old.fs run new.fs
+  pub is_run : IsRun allows gives None old.fs events new.fs
   pub leaves : Leaves writer room_after writer_after
   pub turn :
-      IsTurn old.limits old.options (turn_over request writer run outcome room_after) new.options
+      IsTurn old.limits old.options (turn_over request writer events outcome room_after) new.options
   pub same_limits : new.limits ≡ old.limits
 
 -- A directory was read, for this request: a run of the file system, in which it stopped for a
@@ -45,14 +45,14 @@ pub record ReadsListing {S I : Type 0} (allows : S → Call → Handed I → S �
     (gives : I → Option Item → I → Type 0) (listing : Listing) (unique : ℕ) (old : ServerState S)
     (request : List ℕ) (writer : Written) (outcome : Result ℕ Error) (writer_after : Written)
     (new : ServerState S) : Type 0 where
-  pub run : List (Happening I × S)
+  pub events : List Event
   pub room_after : List ℕ
-  pub is_run : IsRun allows gives None old.fs run new.fs
+  pub is_run : IsRun allows gives None old.fs events new.fs
   pub leaves : Leaves writer room_after writer_after
   pub stops :
-      StopsForACause listing unique (turn_over request writer run outcome room_after)
-  pub whole : ComesWhole listing unique (turn_over request writer run outcome room_after)
-  pub few : TakesFew listing (turn_over request writer run outcome room_after)
+      StopsForACause listing unique (turn_over request writer events outcome room_after)
+  pub whole : ComesWhole listing unique (turn_over request writer events outcome room_after)
+  pub few : TakesFew listing (turn_over request writer events outcome room_after)
 
 -- where the request asks for a directory, it was read so
 abbrev pub ReadsDirectories : {S I : Type 0} → (S → Call → Handed I → S → Type 0)

@@ -3,7 +3,7 @@ use Rattle.std.proofs.Common.{◌≡◌, ◌≤◌, ◌<◌, ◌+◌, ◌||◌, 
 use Rattle.std.specs.List.{list_any}
 use Rattle.vfs_files.specs.Values.{Item}
 use Rattle.vfs_files.specs.Calls.{Call, Lookup, Forget, BatchForget, Getattr, Setattr, Symlink, Readlink, Open, Unlink, Rmdir, Rename, Link, Mknod, Mkdir, Create, Read, Write, Fallocate, Setxattr, Getxattr, Listxattr, Removexattr, Statfs, Release, Fsync, Flush, Init, Opendir, Readdir, Releasedir, Fsyncdir, Getlk, Setlk, Setlkw, Access, Bmap, Destroy, Ioctl, Poll, NotifyReply, Lseek, Copyfilerange, Syncfs, Tmpfile, Answer, Plain}
-use Rattle.vfs_files.specs.Runs.{Event, Called, OpenedDirectory, Taken, Happening, Calls, Opens, Takes, IsRun, events_of}
+use Rattle.vfs_files.specs.Runs.{Event, Called, OpenedDirectory, Taken, IsRun}
 use Rattle.vfs_grammar.specs.Books.{answered, sent, answered_by, sent_by, answered_nodes, forgets_of, times, counts, KeepsBooks}
 use Rattle.vfs_grammar.specs.Turn.{Turn, events_in}
 use Rattle.vfs_history.specs.History.{NeverBelowHeld}
@@ -171,30 +171,28 @@ module _ (law : CallsKeepTrees) (readings : ReadingsChangeNothing) where
     ends = λ is. cc (calm, is);
   }
 
-  pub counted : (it : Option (List Item)) (old new : State)
-      (run : List (Happening (List Item) × State)) → IsTree old
-      → IsRun TreeAllows GivesFirst it old run new → Counted old new (events_of run)
+  pub counted : (it : Option (List Item)) (old new : State) (events : List Event) → IsTree old
+      → IsRun TreeAllows GivesFirst it old events new → Counted old new events
   counted it old new [] tree ran =
       subst (λ s. Counted old s []) (sym ran)
       (record { tree = tree; lookups = λ n enough. refl })
-  counted it old new ((Calls call answer, mid) ∷ hs) tree ran =
-      counted_more old mid new (Called call answer) (events_of hs)
-      (call_counts old mid call answer tree ran.0)
-      (counted it mid new hs (law old mid call answer tree ran.0).0 ran.1)
-  counted it old new ((Opens call opened, mid) ∷ hs) tree ran =
-      let same = readings old mid call opened ran.0 in
-      counted_more old mid new (OpenedDirectory call) (events_of hs)
-      (still_counts old mid (OpenedDirectory call) refl same (λ n. (refl, refl)))
-      (counted (Some opened) mid new hs (subst IsTree (sym same) tree) ran.1)
-  counted it old new ((Takes before item after, mid) ∷ hs) tree ran =
-      let same = ran.0.1 in
-      counted_more old mid new (Taken item) (events_of hs)
-      (still_counts old mid (Taken item) refl same (λ n. (refl, refl)))
-      (counted (Some after) mid new hs (subst IsTree (sym same) tree) ran.1)
+  counted it old new (Called call answer ∷ es) tree ran =
+      counted_more old ran.0 new (Called call answer) es
+      (call_counts old ran.0 call answer tree ran.1)
+      (counted it ran.0 new es (law old ran.0 call answer tree ran.1).0 ran.2)
+  counted it old new (OpenedDirectory call ∷ es) tree ran =
+      let same = readings old ran.0 call ran.1 ran.2 in
+      counted_more old ran.0 new (OpenedDirectory call) es
+      (still_counts old ran.0 (OpenedDirectory call) refl same (λ n. (refl, refl)))
+      (counted (Some ran.1) ran.0 new es (subst IsTree (sym same) tree) ran.3)
+  counted it old new (Taken item ∷ es) tree ran =
+      counted_more old old new (Taken item) es
+      (still_counts old old (Taken item) refl refl (λ n. (refl, refl)))
+      (counted (Some ran.1) old new es tree ran.4)
 
   pub runs_keep_trees : RunsKeepTrees
-  runs_keep_trees it old new run tree ran =
-      let c = counted it old new run tree ran in
+  runs_keep_trees it old new events tree ran =
+      let c = counted it old new events tree ran in
       (c.tree, λ n never. c.lookups n (λ k. omega (arith, never k)))
 
 -- ---- turns

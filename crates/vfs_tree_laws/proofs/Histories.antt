@@ -115,8 +115,7 @@ module _ (law : CallsKeepTrees) (readings : ReadingsChangeNothing) where
       subst (λ (s : ServerState State). Counted old.fs s.fs []) (sym h)
       (record { tree = tree; lookups = λ n enough. refl })
   history_counts old new (Handled t ∷ ms) h owner tree =
-      let first = subst (λ (es : List Event). Counted old.fs h.0.fs es) h.1.events
-      (counted law readings None old.fs h.0.fs h.1.run tree h.1.is_run) in
+      let first = counted law readings None old.fs h.0.fs t.events tree h.1.is_run in
       counted_both old.fs h.0.fs new.fs t.events (events_in (turns_in ms)) first
       (history_counts h.0 new ms h.2 owner first.tree)
   history_counts old new (Changed a b ∷ ms) h owner tree =

@@ -3,7 +3,7 @@ use Rattle.std.specs.Prelude.{◌≡◌, ◌≢◌, ◌<◌, ℕ, ◌+◌, Bool,
 use Rattle.std.specs.List.{list_any}
 use Rattle.vfs_files.specs.Values.{Item}
 use Rattle.vfs_files.specs.Calls.{Init, Destroy}
-use Rattle.vfs_files.specs.Runs.{Event, Called, Happening, IsRun, events_of}
+use Rattle.vfs_files.specs.Runs.{Event, Called, IsRun}
 use Rattle.vfs_grammar.specs.Books.{answered, sent, accepted, delivered, GivesBackWithin, NeverBelow}
 use Rattle.vfs_grammar.specs.Turn.{Turn}
 use Rattle.vfs_tree_laws.specs.Laws.{IsTree, lookups_of, names_of}
@@ -32,10 +32,9 @@ held_before ended old n = if ended then 0 else lookups_of old n
 -- answered since and without those that were sent back.
 abbrev pub RunsKeepTrees : Type 0
 RunsKeepTrees =
-    (it : Option (List Item)) (old new : State) (run : List (Happening (List Item) × State))
-    → IsTree old → IsRun TreeAllows GivesFirst it old run new
-    → let events = events_of run in
-    let last = since takes_all events in
+    (it : Option (List Item)) (old new : State) (events : List Event)
+    → IsTree old → IsRun TreeAllows GivesFirst it old events new
+    → let last = since takes_all events in
     IsTree new
     × ((n : ℕ) → NeverBelow n last
     → lookups_of new n + sent n last

@@ -12,7 +12,7 @@ use Rattle.vfs_segments.specs.Written.{Written, whole}
 use Rattle.vfs_files.specs.Values.{Item, context_of}
 use Rattle.vfs_files.specs.Answers.{Answer, Handed, Plain, Capacities}
 use Rattle.vfs_files.specs.Calls.{Call, Statfs, default_answer}
-use Rattle.vfs_files.specs.Runs.{Event, Called, OpenedDirectory, Taken, Happening, Calls, Opens, Takes, IsRun, events_of}
+use Rattle.vfs_files.specs.Runs.{Event, Called, OpenedDirectory, Taken, IsRun}
 use Rattle.vfs_grammar.specs.Ask.{ask}
 use Rattle.vfs_grammar.specs.Forms.{Ask, Asks, within, faulted, refused}
 use Rattle.vfs_grammar.specs.Limits.{max_len}
@@ -71,9 +71,8 @@ ask-long limits options room small =
 
 module _ {S I : Type 0} (allows : S → Call → Handed I → S → Type 0) (gives : I → Option Item → I → Type 0) where
   -- a run without events leaves the state as it was
-  pub IsRun-no_events : (old new : S) (run : List (Happening I × S)) → IsRun allows gives None old run new → events_of run ≡ [] → new ≡ old
-  IsRun-no_events old new [] r e = r
-  IsRun-no_events old new (h ∷ hs) r e = absurd cc
+  pub IsRun-no_events : (old new : S) (events : List Event) → IsRun allows gives None old events new → events ≡ [] → new ≡ old
+  IsRun-no_events old new events r e = subst (λ (es : List Event). IsRun allows gives None old es new) e r
 
   -- a server is as it was, where each of its three parts is
   pub same_server : (old new : ServerState S) → new.fs ≡ old.fs → new.options ≡ old.options → new.limits ≡ old.limits → new ≡ old
@@ -93,7 +92,7 @@ module _ {S I : Type 0} (allows : S → Call → Handed I → S → Type 0) (giv
       → ask old.limits old.options (length writer.left) request ≡ faulted number h → IsStep allows gives old request writer outcome writer_after new → 16 ≤ length writer.left
       → Ended (fault_reply (Some number) h.unique) old writer outcome writer_after new
   step-fault request number h old writer outcome writer_after new asks s room =
-      let t : Turn = record { request = request; room = writer.left; events = events_of s.run; outcome = outcome; room_after = s.room_after } in
+      let t : Turn = record { request = request; room = writer.left; events = s.events; outcome = outcome; room_after = s.room_after } in
       let P : Ask → Type 0 = λ a. Follows t old.limits old.options a new.options in
       let f = subst P asks s.turn in
       let reply : List ℕ = fault_reply (Some number) h.unique in
@@ -105,7 +104,7 @@ module _ {S I : Type 0} (allows : S → Call → Handed I → S → Type 0) (giv
         bytes =
             s.leaves.kept
             ∙ ap (λ (l : List ℕ). writer.passed ++ l) (f.1.leaves ∙ put_room-fits reply writer.left fits ∙ ap (λ (l : List ℕ). reply ++ l) behind);
-        state = same_server old new (IsRun-no_events old.fs new.fs s.run s.is_run f.0) f.2 s.same_limits;
+        state = same_server old new (IsRun-no_events old.fs new.fs s.events s.is_run f.0) f.2 s.same_limits;
       }
 
   pub step-unknown : (old : ServerState S) (writer : Written) (outcome : Result ℕ Error) (writer_after : Written) (new : ServerState S) → IsStep allows gives old UNKNOWN writer outcome writer_after new → 16 ≤ length writer.left
@@ -138,7 +137,7 @@ module _ {S I : Type 0} (allows : S → Call → Handed I → S → Type 0) (giv
       → Refused old writer outcome writer_after new
   unfolding number
   step-read old writer outcome writer_after new s room =
-      let t : Turn = record { request = READ; room = writer.left; events = events_of s.run; outcome = outcome; room_after = s.room_after } in
+      let t : Turn = record { request = READ; room = writer.left; events = s.events; outcome = outcome; room_after = s.room_after } in
       let P : Ask → Type 0 = λ a. Follows t old.limits old.options a new.options in
       let asks : ask old.limits old.options (length writer.left) READ ≡ refused EncodeMessage =
       ap (λ (n : ℕ). ask old.limits old.options n READ) room ∙ ask-read old.limits old.options in
@@ -146,7 +145,7 @@ module _ {S I : Type 0} (allows : S → Call → Handed I → S → Type 0) (giv
       record {
         outcome_is = f.1.0;
         bytes = s.leaves.kept ∙ ap (λ (l : List ℕ). writer.passed ++ l) f.1.1;
-        state = IsRun-no_events allows gives old.fs new.fs s.run s.is_run f.0;
+        state = IsRun-no_events allows gives old.fs new.fs s.events s.is_run f.0;
       }
 
 -- what the request asks
@@ -172,18 +171,18 @@ turn-statfs limits options t after s request room default =
 
 module _ {S I : Type 0} (allows : S → Call → Handed I → S → Type 0) (gives : I → Option Item → I → Type 0) (default : (s t : S) (c : Call) (a : Answer) → allows s c (Plain a) t → a ≡ default_answer c) where
   -- each call of a run has its default answer
-  pub run_is_default : (it : Option I) (old new : S) (run : List (Happening I × S)) → IsRun allows gives it old run new → AreDefault (events_of run)
+  pub run_is_default : (it : Option I) (old new : S) (events : List Event) → IsRun allows gives it old events new → AreDefault events
   run_is_default it old new [] r = tt
-  run_is_default it old new ((Calls c a, t) ∷ hs) r = (default old t c a r.0, run_is_default it t new hs r.1)
-  run_is_default it old new ((Opens c i, t) ∷ hs) r = run_is_default (Some i) t new hs r.1
-  run_is_default it old new ((Takes i o j, t) ∷ hs) r = run_is_default (Some j) t new hs r.1
+  run_is_default it old new (Called c a ∷ es) r = (default old r.0 c a r.1, run_is_default it r.0 new es r.2)
+  run_is_default it old new (OpenedDirectory c ∷ es) r = run_is_default (Some r.1) r.0 new es r.3
+  run_is_default it old new (Taken item ∷ es) r = run_is_default (Some r.1) old new es r.4
 
   -- what is seen of STATFS, of a file system whose answers are the defaults, in a room of 96 bytes
   pub step-statfs : (old : ServerState S) (writer : Written) (outcome : Result ℕ Error) (writer_after : Written) (new : ServerState S) → IsStep allows gives old STATFS writer outcome writer_after new → writer.passed ≡ [] → length writer.left ≡ 96
       → whole writer_after ≡ statfs_reply
   step-statfs old writer outcome writer_after new s passed room =
-      let t : Turn = turn_over STATFS writer s.run outcome s.room_after in
-      let seen = turn-statfs old.limits old.options t new.options s.turn refl room (run_is_default None old.fs new.fs s.run s.is_run) in
+      let t : Turn = turn_over STATFS writer s.events outcome s.room_after in
+      let seen = turn-statfs old.limits old.options t new.options s.turn refl room (run_is_default None old.fs new.fs s.events s.is_run) in
       s.leaves.kept ∙ (ap (λ (l : List ℕ). l ++ s.room_after) passed ∙ seen.room_is)
 
 -- a request without a tail and without pairs wants no memory

@@ -9,7 +9,7 @@ use Rattle.vfs_wire.specs.Records.{in_header}
 use Rattle.vfs_segments.specs.Written.{Written, whole}
 use Rattle.vfs_files.specs.Values.{Item}
 use Rattle.vfs_files.specs.Calls.{Call, Failed, Handed}
-use Rattle.vfs_files.specs.Runs.{Event, Called, Taken, events_of}
+use Rattle.vfs_files.specs.Runs.{Event, Called, Taken}
 use Rattle.vfs_grammar.specs.Directories.{EndsWhole, EndsFull, GoesOn, CameWhole, listing_reply}
 use Rattle.vfs_grammar.specs.Listing.{Line, line_bytes}
 use Rattle.vfs_grammar.specs.Ask.{ask}
@@ -79,12 +79,12 @@ module _ {S I : Type 0} (allows : S → Call → Handed I → S → Type 0) (giv
       let asks : ask old.limits old.options (length writer.left) READDIR ≡ Lists echo small_listing =
       ap (λ (n : ℕ). ask old.limits old.options n READDIR) room ∙ ask-readdir old.limits old.options limit in
       let r = reads echo small_listing asks in
-      let t = turn_over READDIR writer r.run outcome r.room_after in
+      let t = turn_over READDIR writer r.events outcome r.room_after in
       let kept : whole writer_after ≡ r.room_after = r.leaves.kept ∙ ap (λ (p : List ℕ). p ++ r.room_after) passed in
       record {
-        run = r.run;
+        events = r.events;
         is_run = r.is_run;
         few = r.few;
-        failed = λ e. rw kept (failed_reply (events_of r.run) r.stops.records r.stops.answer writer.left outcome r.room_after e r.stops.stops r.stops.replied);
+        failed = λ e. rw kept (failed_reply r.events r.stops.records r.stops.answer writer.left outcome r.room_after e r.stops.stops r.stops.replied);
         empty = λ e. rw kept (empty_reply t (r.whole (Taken None ∷ []) e (omega arith) (All-cons GoesOn (Taken None) [] tt (All-nil GoesOn))));
       }

@@ -11,11 +11,11 @@ use Rattle.vfs_wire.specs.Records.{in_header, entry_out}
 use Rattle.vfs_wire.specs.declared.entries.EntryOut.{EntryOut}
 use Rattle.vfs_segments.specs.Unread.{Unread}
 use Rattle.vfs_segments.specs.Written.{Written, whole}
-use Rattle.vfs_files.specs.Answers.{Answer, Done, Failed, Options, Found, Attributes, Put, Opened, Created, Statistics, Text, Count, Offset, Wrote, Handed, Plain, Entries}
+use Rattle.vfs_files.specs.Answers.{Answer, Done, Failed, Options, Found, Attributes, Put, Opened, Created, Statistics, Text, Count, Offset, Wrote, Plain, Entries}
 use Rattle.vfs_files.specs.Calls.{Call, Lookup, Forget}
-use Rattle.vfs_files.specs.Values.{context_of, entry_out_of, whole_seconds, nanoseconds_beyond, Item}
+use Rattle.vfs_files.specs.Values.{context_of, entry_out_of, whole_seconds, nanoseconds_beyond}
 use Rattle.vfs_files.specs.Listing.{GivesFirst}
-use Rattle.vfs_files.specs.Runs.{Event, Called, Happening, Calls, Opens, Takes, IsRun, events_of}
+use Rattle.vfs_files.specs.Runs.{Event, Called, IsRun}
 use Rattle.vfs_files.specs.declared.entry.Entry.{Entry}
 use Rattle.vfs_grammar.specs.Ask.{ask}
 use Rattle.vfs_grammar.specs.Books.{opcode_in, answered, sent, accepted, accepted_by, counts, delivered, delivered_by, times, GivesBackWithin, KeepsBooks}
@@ -89,35 +89,6 @@ lookup_wants_none limits options room u left pieces =
     subst (λ (u : Unread). WantsNoMemory limits options room u) (sym is) none
 
 -- ---- what the files answer
-
--- the first call of a run, and the run behind it
-record First {S I : Type 0} (allows : S → Call → Handed I → S → Type 0)
-    (gives : I → Option Item → I → Type 0) (old : S) (call : Call) (answer : Answer)
-    (rest : List Event) (new : S) : Type 0 where
-  mid : S
-  run : List (Happening I × S)
-  allowed : allows old call (Plain answer) mid
-  is_run : IsRun allows gives None mid run new
-  events : events_of run ≡ rest
-
-first_call : {S I : Type 0} (allows : S → Call → Handed I → S → Type 0)
-    (gives : I → Option Item → I → Type 0) (old new : S) (run : List (Happening I × S)) (call : Call)
-    (answer : Answer) (rest : List Event)
-    → IsRun allows gives None old run new → events_of run ≡ Called call answer ∷ rest
-    → First allows gives old call answer rest new
-first_call allows gives old new [] call answer rest r e = absurd cc
-first_call allows gives old new ((Calls c a, t) ∷ hs) call answer rest r e =
-    let same_call : c ≡ call = cc in
-    let same_answer : a ≡ answer = cc in
-    record {
-      mid = t;
-      run = hs;
-      allowed = rw (sym same_call, sym same_answer) r.0;
-      is_run = r.1;
-      events = cc;
-    }
-first_call allows gives old new ((Opens c i, t) ∷ hs) call answer rest r e = absurd cc
-first_call allows gives old new ((Takes i o j, t) ∷ hs) call answer rest r e = absurd cc
 
 abbrev file : Stored
 file = record { node = 2; name = codes "a"; contents = codes "hello" }
@@ -205,19 +176,19 @@ module _ (old new : ServerState Stock) (writer after : Written) (outcome : Resul
 
   step-lookup : (s : IsFileStep old LOOKUP writer outcome after new)
       → old.fs ≡ files → 144 ≤ length writer.left → outcome ≢ Err OutOfMemory
-      → LookedUp (turn_over LOOKUP writer s.run outcome s.room_after)
+      → LookedUp (turn_over LOOKUP writer s.events outcome s.room_after)
   unfolding number
   step-lookup s is room enough =
-      let t : Turn = turn_over LOOKUP writer s.run outcome s.room_after in
+      let t : Turn = turn_over LOOKUP writer s.events outcome s.room_after in
       let P : Ask → Type 0 = λ a. Follows t old.limits old.options a new.options in
       let asks = ask-lookup old.limits old.options (length writer.left) in
       let f = the_first (subst P asks s.turn) (λ q. enough q.1.0) in
       let reply : Answer → Reply = reply_of old.limits lookup_echo new.options Entries in
       let back : Answer → List Event = λ a.
       given_back lookup_echo.ctx (unseen (length writer.left) (reply a) (node_answered Entries a)) in
-      let c =
-      first_call MemFsAllows GivesFirst old.fs new.fs s.run the_lookup f.0 (back f.0) s.is_run f.1 in
-      let at = subst (λ (fs : Stock). MemFsAllows fs the_lookup (Plain f.0) c.mid) is c.allowed in
+      let run : IsRun MemFsAllows GivesFirst None old.fs (Called the_lookup f.0 ∷ back f.0) new.fs =
+      subst (λ (es : List Event). IsRun MemFsAllows GivesFirst None old.fs es new.fs) f.1 s.is_run in
+      let at = subst (λ (fs : Stock). MemFsAllows fs the_lookup (Plain f.0) run.0) is run.1 in
       let e = found f.0 at.0 in
       let bytes : List ℕ = reply_with (entry_out_of e.entry) in
       let bytes_are : bytes ≡ file_reply = ap reply_with (out_is e.entry e.of_file) ∙ reply_is in
@@ -241,7 +212,7 @@ module _ (old new : ServerState Stock) (writer after : Written) (outcome : Resul
             ∙ (ap (λ (a : Answer). Called the_lookup a ∷ back f.0) e.answer_is
             ∙ ap (λ (l : List Event). Called the_lookup (Found e.entry) ∷ l) none);
         same =
-            IsRun-no_events MemFsAllows GivesFirst c.mid new.fs c.run c.is_run (c.events ∙ none)
+            IsRun-no_events MemFsAllows GivesFirst run.0 new.fs (back f.0) run.2 none
             ∙ (at.1 ∙ sym is);
       }
 
@@ -254,21 +225,20 @@ module _ (old new : ServerState Stock) (writer after : Written) (outcome : Resul
     same : new.fs ≡ old.fs
 
   step-forget : (s : IsFileStep old FORGET writer outcome after new)
-      → Forgotten (turn_over FORGET writer s.run outcome s.room_after)
+      → Forgotten (turn_over FORGET writer s.events outcome s.room_after)
   unfolding number
   step-forget s =
-      let t : Turn = turn_over FORGET writer s.run outcome s.room_after in
+      let t : Turn = turn_over FORGET writer s.events outcome s.room_after in
       let P : Ask → Type 0 = λ a. Follows t old.limits old.options a new.options in
       let f = subst P (ask-forget old.limits old.options (length writer.left)) s.turn in
-      let c = first_call MemFsAllows GivesFirst old.fs new.fs s.run the_forget f.0 [] s.is_run f.1 in
+      let run : IsRun MemFsAllows GivesFirst None old.fs (Called the_forget f.0 ∷ []) new.fs =
+      subst (λ (es : List Event). IsRun MemFsAllows GivesFirst None old.fs es new.fs) f.1 s.is_run in
       record {
         answer = f.0;
         outcome_is = f.3.0;
         bytes = s.leaves.kept ∙ ap (λ (l : List ℕ). writer.passed ++ l) f.3.1;
         events_are = f.1;
-        same =
-            IsRun-no_events MemFsAllows GivesFirst c.mid new.fs c.run c.is_run c.events
-            ∙ c.allowed.1;
+        same = run.2 ∙ run.1.1;
       }
 
 -- ---- the books of both

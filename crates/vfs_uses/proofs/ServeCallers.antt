@@ -34,10 +34,10 @@ module _ {S I : Type 0} (allows : S → Call → Handed I → S → Type 0) (giv
       → IsStep allows gives old request (room_of size) outcome after new → length request ≡ 39
       → (outcome ≡ Err DecodeMessage) × (new ≡ old)
   step-few old request size outcome after new s few =
-      let t : Turn = turn_over request (room_of size) s.run outcome s.room_after in
+      let t : Turn = turn_over request (room_of size) s.events outcome s.room_after in
       let P : Ask → Type 0 = λ a. Follows t old.limits old.options a new.options in
       let f = subst P (ask-few old.limits old.options (length (room_of size).left) request few) s.turn in
-      (f.1.0, same_server allows gives old new (IsRun-no_events allows gives old.fs new.fs s.run s.is_run f.0) f.2 s.same_limits)
+      (f.1.0, same_server allows gives old new (IsRun-no_events allows gives old.fs new.fs s.events s.is_run f.0) f.2 s.same_limits)
 
   pub served-few : (old : ServerState S) (request : List ℕ) (size : ℕ) (result : Result (Vec ℕ Global) ServeError) (new : ServerState S)
       → Served allows gives old request size result new → length request ≡ 39
@@ -57,8 +57,8 @@ module _ {S I : Type 0} (allows : S → Call → Handed I → S → Type 0) (giv
       → IsStep allows gives old STATFS (room_of 96) outcome after new
       → (outcome ≡ Ok 96) × (whole after ≡ statfs_reply)
   step-statfs old outcome after new s =
-      let t : Turn = turn_over STATFS (room_of 96) s.run outcome s.room_after in
-      let seen = turn-statfs old.limits old.options t new.options s.turn refl refl (run_is_default allows gives default None old.fs new.fs s.run s.is_run) in
+      let t : Turn = turn_over STATFS (room_of 96) s.events outcome s.room_after in
+      let seen = turn-statfs old.limits old.options t new.options s.turn refl refl (run_is_default allows gives default None old.fs new.fs s.events s.is_run) in
       (seen.outcome_is, s.leaves.kept ∙ seen.room_is)
 
   pub served-statfs : (old : ServerState S) (result : Result (Vec ℕ Global) ServeError) (new : ServerState S)

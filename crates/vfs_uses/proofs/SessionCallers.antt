@@ -12,7 +12,7 @@ use Rattle.vfs_files.specs.Answers.{Answer, Done, Failed, Options, Attributes, P
 use Rattle.vfs_files.specs.Answers as answers
 use Rattle.vfs_files.specs.Calls.{Call, Init, Lookup, Forget, default_answer}
 use Rattle.vfs_files.specs.declared.entry.Context.{Context}
-use Rattle.vfs_files.specs.Runs.{Event, Called, OpenedDirectory, Taken, events_of}
+use Rattle.vfs_files.specs.Runs.{Event, Called, OpenedDirectory, Taken, IsRun}
 use Rattle.vfs_grammar.specs.Books.{accepted, delivered, accepted_by, delivered_by, opcode_in, GivesBackWithin, KeepsBooks}
 use Rattle.vfs_grammar.specs.Turn.{events_in, Turn, IsTurn, Follows}
 use Rattle.vfs_grammar.specs.Ask.{ask}
@@ -199,7 +199,7 @@ module _ {S I : Type 0} (allows : S → Call → Handed I → S → Type 0) (giv
       let P : Limits → ℕ → Type 0 = λ l o. AreServed l o (map in_one_segment (init_request ∷ lookup_request ∷ statfs_request ∷ [])) writers s.turns news new.options in
       let served : P limits_of_new 0 = subst (λ o. P limits_of_new o) options (subst (λ l. P l old.options) limits s.served) in
       begun writers outcomes news new.options rooms
-      (record { turns = s.turns; served = served; answered = s.outcomes_are; events = subst AreDefault s.events (run_is_default allows gives default None old.fs new.fs s.run s.is_run) })
+      (record { turns = s.turns; served = served; answered = s.outcomes_are; events = run_is_default allows gives default None old.fs new.fs (events_in s.turns) s.is_run })
 
 -- ---- the FORGET
 
@@ -267,13 +267,12 @@ module _ {S I : Type 0} (allows : S → Call → Handed I → S → Type 0) (giv
       let books = subst KeepsBooks o.turns_are s.books in
       let balanced = books.balanced 5 (λ e. omega (arith, e)) in
       let below = books.never_below 6 (λ e. omega (arith, e)) (gives_nothing_back 6 o.t six) in
-      let events : events_of s.run ≡ events_in (o.t ∷ []) = s.events ∙ ap events_in o.turns_are in
       record {
         outcomes_are = sym s.outcomes_are ∙ (ap (λ (ts : List Turn). map (λ t. t.outcome) ts) o.turns_are ∙ ap (λ (r : Result ℕ Error). r ∷ []) outcome);
         books = record {
-          run = s.run;
-          is_run = s.is_run;
-          three_more = rw events (omega (arith, balanced, five, none));
-          never_below = rw events below;
+          events = events_in (o.t ∷ []);
+          is_run = subst (λ (ts : List Turn). IsRun allows gives None old.fs (events_in ts) new.fs) o.turns_are s.is_run;
+          three_more = omega (arith, balanced, five, none);
+          never_below = below;
         };
       }

@@ -8,7 +8,7 @@ use Rattle.vfs_files.specs.Answers.{Plain, directory_answer}
 use Rattle.vfs_files.specs.Calls.{not_served, no_such_call, Call, Handed}
 use Rattle.vfs_files.specs.Values.{Item}
 use Rattle.vfs_files.specs.declared.entry.Entry.{Entry}
-use Rattle.vfs_files.specs.Runs.{Taken, events_of}
+use Rattle.vfs_files.specs.Runs.{Taken}
 use Rattle.vfs_files.specs.declared.entry.Context.{Context}
 use Rattle.vfs_grammar.proofs.Dirents.{length-record_bytes}
 use Rattle.vfs_grammar.specs.Listing.{record_len, record_bytes, Verdict, Fails, Got, Line, Stop, End, At, line_events, stop_events, line_bytes, line_len, bytes_got, len_of, answer_at, answer_of, AreWritten, Stops, verdict}
@@ -95,7 +95,7 @@ module _ (ctx : Context) (parent size room : ℕ) (short : room ≡ 31) (asked :
 pub room_is_filled : {S I : Type 0} (allows : S → Call → Handed I → S → Type 0) (gives : I → Option Item → I → Type 0)
     (ctx : Context) (parent size : ℕ) (it : I) (old new : S) (room left : Written) (result : Result ℕ (Option ℕ))
     → (h : ReadsItems allows gives ctx false parent size it old room result new left)
-    → events_of h.run ≡ Taken (Some file_a) ∷ [] → length room.left ≡ 31 → 32 ≤ size
+    → h.events ≡ Taken (Some file_a) ∷ [] → length room.left ≡ 31 → 32 ≤ size
     → (result ≡ Err None) × (left.left ≡ [])
 room_is_filled allows gives ctx parent size it old new room left result h are short asked =
     let l = h.listing in

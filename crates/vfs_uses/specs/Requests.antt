@@ -8,7 +8,7 @@ use Rattle.vfs_segments.specs.Unread.{Unread}
 use Rattle.vfs_segments.specs.Written.{Written}
 use Rattle.vfs_files.specs.Values.{Item}
 use Rattle.vfs_files.specs.Calls.{Call, Readdir, Failed, Handed}
-use Rattle.vfs_files.specs.Runs.{Called, OpenedDirectory, Taken, Happening, IsRun, events_of}
+use Rattle.vfs_files.specs.Runs.{Event, Called, OpenedDirectory, Taken, IsRun}
 use Rattle.vfs_grammar.specs.Directories.{takings}
 use Rattle.vfs_grammar.specs.Books.{answered, sent, NeverBelow}
 use Rattle.vfs_grammar.specs.declared.error.Error.{Error}
@@ -76,10 +76,10 @@ AreRooms _ _ = ⊥
 -- never more than that, at no time.
 pub record SendsThreeBack {S I : Type 0} (allows : S → Call → Handed I → S → Type 0)
     (gives : I → Option Item → I → Type 0) (old new : S) : Type 0 where
-  pub run : List (Happening I × S)
-  pub is_run : IsRun allows gives None old run new
-  pub three_more : answered 5 (events_of run) + 3 ≡ sent 5 (events_of run)
-  pub never_below : NeverBelow 6 (events_of run)
+  pub events : List Event
+  pub is_run : IsRun allows gives None old events new
+  pub three_more : answered 5 events + 3 ≡ sent 5 events
+  pub never_below : NeverBelow 6 events
 
 -- of an unknown opcode, or of one whose requests have no tail and no pairs, one for each such form
 abbrev pub IsWithoutTail : Option Opcode → Type 0
@@ -111,12 +111,12 @@ no_records_reply = 0x10 ∷ 0 ∷ 0 ∷ 0 ∷ 0 ∷ 0 ∷ 0 ∷ 0 ∷ 9 ∷ 0 �
 pub record ReadsOneRecord {S I : Type 0} (allows : S → Call → Handed I → S → Type 0)
     (gives : I → Option Item → I → Type 0) (old : S) (outcome : Result ℕ Error)
     (room_after : List ℕ) (new : S) : Type 0 where
-  pub run : List (Happening I × S)
-  pub is_run : IsRun allows gives None old run new
-  pub few : length (takings (events_of run)) ≤ 2
+  pub events : List Event
+  pub is_run : IsRun allows gives None old events new
+  pub few : length (takings events) ≤ 2
   pub failed :
-      events_of run ≡ Called small_readdir (Failed (Some 20)) ∷ []
+      events ≡ Called small_readdir (Failed (Some 20)) ∷ []
       → (outcome ≡ Ok 16) × (take 16 room_after ≡ no_directory_reply)
   pub empty :
-      events_of run ≡ OpenedDirectory small_readdir ∷ Taken None ∷ []
+      events ≡ OpenedDirectory small_readdir ∷ Taken None ∷ []
       → (outcome ≡ Ok 16) × (take 16 room_after ≡ no_records_reply)

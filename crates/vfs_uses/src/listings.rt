@@ -4,7 +4,7 @@ ghost use Rattle.std.specs.Prelude.{◌≡◌, ◌≤◌, ℕ, length, true, fal
 ghost use Rattle.vfs_segments.specs.Written.{Written, wrote};
 ghost use Rattle.vfs_files.specs.Calls.{not_served};
 ghost use Rattle.vfs_files.specs.Values.{name_text};
-ghost use Rattle.vfs_files.specs.Runs.{Taken, events_of};
+ghost use Rattle.vfs_files.specs.Runs.{Taken};
 ghost use Rattle.vfs_files.specs.declared.entry.Context.{Context};
 ghost use Rattle.vfs_grammar.specs.Samples.{record_of_dot, file_a};
 ghost use Rattle.vfs_listings.specs.Reading.{ReadsItems};
@@ -89,6 +89,6 @@ fn a_room_that_is_too_small<F: FileSystem>()
         (writer writer_after : Written) (result : Outcome ℕ (Option ℕ)) →
         (h : ReadsItems F.allows F.DirIter.gives ctx false parent size it old writer result new
         writer_after) →
-        events_of h.run ≡ Taken (Some file_a) ∷ [] → length writer.left ≡ 31 → 32 ≤ size →
+        h.events ≡ Taken (Some file_a) ∷ [] → length writer.left ≡ 31 → 32 ≤ size →
         (result ≡ Err Nothing) × (writer_after.left ≡ []) }
 {}

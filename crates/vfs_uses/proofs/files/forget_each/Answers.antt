@@ -12,7 +12,7 @@ pub loop-inode-init : goal.loop-inode-init
 loop-inode-init g c = record {
   rest = c.into_iter-inode-iterator.ensures.into_iter_gives.0;
   left = search rules;
-  forgot = ([], refl, refl);
+  forgot = refl;
 }
 
 pub loop-inode-preserved : goal.loop-inode-preserved

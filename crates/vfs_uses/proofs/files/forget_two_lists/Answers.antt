@@ -1,30 +1,18 @@
-use Rattle.std.proofs.Common.{◌≡◌, ℕ, List, ◌++◌, map, ap, sym, ◌∙◌}
+use Rattle.std.proofs.Common.{ℕ, List, None, map, sym, subst}
 use Rattle.std.proofs.lemmas.List.{map-append}
 use Rattle.vfs_files.specs.Calls.{Forget, Done}
-use Rattle.vfs_files.specs.Runs.{Event, Called}
+use Rattle.vfs_files.specs.Runs.{Event, Called, IsRun}
 use Rattle.vfs_files.proofs.Forgetting.{pairs_of}
 use Rattle.vfs_uses.proofs.files.forget_two_lists.Goals as goal
 
--- the events of both are those of the pairs of both
-joined :
-    (event : ℕ × ℕ → Event) (xs ys : List (ℕ × ℕ)) (both one other : List Event)
-    → both ≡ one ++ other → one ≡ map event xs → other ≡ map event ys
-    → both ≡ map event (xs ++ ys)
-joined event xs ys both one other e p q =
-    e ∙ ap (λ es. es ++ other) p ∙ ap (λ es. map event xs ++ es) q ∙ sym (map-append event xs ys)
-
 pub returns : goal.returns
 returns g c =
-    let one = c.forget_each.ensures in
-    let other = c.forget_each-2.ensures in
-    let join = c.runs_join.ensures in
-    let pairs = pairs_of g.F.FileSystem.allows g.F.DirIter.DirectoryIterator.gives g.F.Inode.Number.value in (
-      one.0 ++ other.0,
-      join.runs _ _ _ _ one.0 other.0 one.1 other.1,
-      joined (λ p. Called (Forget c.args.ctx.now p.0 p.1) Done)
-          (pairs c.args.first.items)
-          (pairs c.args.second.items) _ _ _
-          (join.events one.0 other.0)
-          one.2
-          other.2,
-    )
+    let allows = g.F.FileSystem.allows in
+    let gives = g.F.DirIter.DirectoryIterator.gives in
+    let pairs = pairs_of allows gives g.F.Inode.Number.value in
+    let event : ℕ × ℕ → Event = λ p. Called (Forget c.args.ctx.now p.0 p.1) Done in
+    let one = map event (pairs c.args.first.items) in
+    let other = map event (pairs c.args.second.items) in
+    subst (λ (es : List Event). IsRun allows gives None c.args.fs.now es c.forget_each-2.new.fs)
+    (sym (map-append event (pairs c.args.first.items) (pairs c.args.second.items)))
+    (c.runs_join.ensures None c.args.fs.now c.forget_each.new.fs c.forget_each-2.new.fs one other c.forget_each.ensures c.forget_each-2.ensures)

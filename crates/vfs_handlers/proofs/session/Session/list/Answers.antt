@@ -25,7 +25,7 @@ returns g c =
       (
         run.body,
         answer,
-        record { run = run.run; is_run = run_from g.F.FileSystem.allows g.F.DirIter.DirectoryIterator.gives _ _ _ run.run (ap (λ (s : ServerState g.row.F.Denot). s.fs) same) run.is_run; is_read = run.directory },
+        record { events = run.events; is_run = run_from g.F.FileSystem.allows g.F.DirIter.DirectoryIterator.gives _ _ _ run.events (ap (λ (s : ServerState g.row.F.Denot). s.fs) same) run.is_run; is_read = run.directory },
         c.reply_data.ensures.kind run.body r.size counts,
         c.reply_data.ensures.replied w run.body r.size behind counts,
         ap (λ (s : ServerState g.row.F.Denot). s.options) same,
