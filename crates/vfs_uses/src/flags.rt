@@ -3,7 +3,9 @@
 ghost use Rattle.std.specs.Prelude.{◌≡◌, ◌↔◌, [], ◌∷◌, pos, ◌-ℤ◌, ◌<ℤ◌, Some, None, IsTrue, map};
 ghost use Rattle.vfs_flags.specs.Numbers.{eperm, enoent, eio, ebadf, enomem, eacces, eexist, exdev, enotdir, eisdir, einval, enospc, erofs, erange, enosys, enotempty, enodata, eproto, eoverflow, eopnotsupp};
 ghost use Rattle.vfs_flags.specs.Flags.{fs_options_bits, init_ext, setxattr_ext, security_ctx, create_supp_group, supported_fs_options};
+ghost use Rattle.vfs_flags.specs.FlagTables.{bits_of_table, ioctl_flags_table, setupmapping_flags_table};
 
+use vfs_flags::laws::{masks_are_of_their_names, masks_have_their_bits};
 use vfs_flags::{Errno, FsOptions};
 
 mod ids;
@@ -55,6 +57,16 @@ fn named_options() -> [FsOptions; 5]
         FsOptions::CREATE_SUPP_GROUP,
         FsOptions::SUPPORTED,
     ]
+}
+
+/// The names of the flags of IOCTL are those of the bits 0 to 5 and 8, and of SETUPMAPPING's those of
+/// the bits 0 and 1.
+fn named_bits()
+    ensures ioctl { bits_of_table ioctl_flags_table ≡ 0x13f }
+    ensures setupmapping { bits_of_table setupmapping_flags_table ≡ 3 }
+{
+    masks_have_their_bits();
+    masks_are_of_their_names();
 }
 
 /// The error of the number that `open` of the system gives for a name that is not there; 0 is none.

@@ -1,14 +1,14 @@
 //! Records as bytes, and attributes from a `stat`.
 
-ghost use Rattle.std.specs.Prelude.{◌≡◌, ◌+◌, ◌≤◌, [], ◌∷◌, ◌++◌, replicate, pos, negsuc, length, Ok, Err, Some};
+ghost use Rattle.std.specs.Prelude.{ℕ, ◌≡◌, ◌+◌, ◌≤◌, ◌<◌, ◌^◌, [], ◌∷◌, ◌++◌, replicate, pos, negsuc, length, Ok, Err, Some};
 ghost use Rattle.vfs_wire.specs.Fields.{bytes_of, value_of};
-ghost use Rattle.vfs_wire.specs.Records.{out_header, attr_of};
+ghost use Rattle.vfs_wire.specs.Records.{out_header, attr_of, forget_one};
 
 use vfs_flags::{Errno, Fault, GuestGid, GuestUid};
 use vfs_wire::parts::part_at;
 use vfs_wire::{
-    Attr, ByteValued, ForgetIn, InHeader, Kstatfs, OutHeader, Stat64, Statvfs64, bytes_have_size,
-    put_after_take, take_after_put,
+    Attr, ByteValued, ForgetIn, ForgetOne, InHeader, Kstatfs, OutHeader, Stat64, Statvfs64,
+    bytes_have_size, decoding_is_the_inverse, put_after_take, take_after_put,
 };
 
 mod defaults;
@@ -63,6 +63,16 @@ fn bytes_again(bytes: &[u8], again: &mut [u8])
 {
     put_after_take::<InHeader>();
     InHeader::take(bytes).put(again);
+}
+
+/// A pair of a BATCH_FORGET that is made of two numbers has the first as its node and the second as
+/// its count: they are its fields again.
+fn pair_of_two_numbers()
+    ensures { (node count : ℕ) → node < 2 ^ 64 → count < 2 ^ 64 →
+        ((forget_one.made (node ∷ count ∷ [])).nodeid ≡ node)
+        × ((forget_one.made (node ∷ count ∷ [])).nlookup ≡ count) }
+{
+    decoding_is_the_inverse::<ForgetOne>();
 }
 
 /// The header of a reply that stands among other bytes: it has sixteen bytes, which are read as it

@@ -13,9 +13,10 @@ ghost use Rattle.vfs_files.specs.Values.{whole_seconds};
 ghost use Rattle.vfs_files.specs.Runs.{Event, Called};
 ghost use Rattle.vfs_files.specs.declared.entry.Context.{Context};
 ghost use Rattle.vfs_files.specs.declared.entry.Entry.{Entry};
-ghost use Rattle.vfs_grammar.specs.Ask.{header_of};
+ghost use Rattle.vfs_grammar.specs.Ask.{ask, header_of};
 ghost use Rattle.vfs_grammar.specs.Limits.{default_limits, max_len};
 ghost use Rattle.vfs_grammar.specs.Turn.{Turn, IsTurn};
+ghost use Rattle.vfs_grammar.specs.Witnesses.{FollowsFor, turn_tells};
 ghost use Rattle.vfs_grammar.specs.Samples.{lookup_of_a, request_for_data, node_5, node_5_reply};
 ghost use Rattle.vfs_grammar.specs.declared.error.Error.{Error};
 ghost use Rattle.vfs_grammar.specs.declared.limits.Limits.{Limits};
@@ -24,7 +25,8 @@ ghost use Rattle.vfs_grammar.specs.Books.{opcode_in};
 
 use crate::turns::{
     answers_are_of_their_kind, data_are_no_more_than_asked, options_are_agreed,
-    replies_begin_with_their_header, replies_say_what_was_answered, unfit_replies_are_cut_off,
+    replies_begin_with_their_header, replies_say_what_was_answered, turns_are_told_by_witnesses,
+    unfit_replies_are_cut_off,
 };
 
 /// Memory is never wanted for a GETATTR, whatever its bytes and its room: it has no tail.
@@ -155,4 +157,15 @@ fn lengths_fit_their_field()
         t.outcome ≡ Ok n → 0 < n → n < 2 ^ 32 }
 {
     replies_begin_with_their_header();
+}
+
+/// A turn of a request follows by what it tells, and what follows so is a turn.
+fn turns_by_what_they_tell()
+    ensures told { (limits : Limits) (options after : ℕ) (t : Turn) → IsTurn limits options t after →
+        FollowsFor (turn_tells t) limits options (ask limits options (length t.room) t.request) after }
+    ensures is_turn { (limits : Limits) (options after : ℕ) (t : Turn) →
+        FollowsFor (turn_tells t) limits options (ask limits options (length t.room) t.request) after →
+        IsTurn limits options t after }
+{
+    turns_are_told_by_witnesses();
 }
