@@ -15,8 +15,7 @@ use vfs_flags::{
     GETATTR_FH, Opcode, READ_LOCKOWNER, WRITE_CACHE, WRITE_KILL_PRIV, WRITE_LOCKOWNER,
 };
 use vfs_grammar::{Error, Result};
-use vfs_handlers::Request;
-use vfs_messages::{handle_if, is_set, number_if, read_name, read_record};
+use vfs_messages::{Request, handle_if, is_set, number_if};
 use vfs_wire::{ByteValued, GetattrIn, OutHeader};
 use vfs_wire_more::{ReadIn, WriteIn};
 
@@ -28,27 +27,27 @@ fn bit_if(holds: bool, value: u32) -> u32
 }
 
 /// Notes the LOOKUP that a request asks for, or says why it asks for none.
-pub fn note_lookup(q: Request<'_, '_>, call: &mut CallData) -> Result<usize>
+pub fn note_lookup(mut q: Request<'_, '_>, call: &mut CallData) -> Result<usize>
     requires { call.old ≡ nothing }
     ensures { (limits : AnyLimits) (options room : ℕ) (w : Written) →
         IsNoted (TailIsCut q.entry.header.now 0 q.entry.r.now.pieces)
         (ask_opcode limits options room Opcode.Lookup q.entry.header.now q.entry.r.now.left)
         w result w call.new }
 {
-    let name = read_name(q.alloc, q.header, 0, q.r)?;
+    let name = q.name(0)?;
     let _held_back = Asking { call }.lookup(q.context(), q.node(), name.as_c_str());
     Ok(0)
 }
 
 /// Notes the GETATTR that a request asks for, or says why it asks for none.
-pub fn note_getattr(q: Request<'_, '_>, call: &mut CallData) -> Result<usize>
+pub fn note_getattr(mut q: Request<'_, '_>, call: &mut CallData) -> Result<usize>
     requires { call.old ≡ nothing }
     ensures { (limits : AnyLimits) (options room : ℕ) (w : Written) →
         IsNoted ⊥
         (ask_opcode limits options room Opcode.Getattr q.entry.header.now q.entry.r.now.left)
         w result w call.new }
 {
-    let getattr_in = read_record::<GetattrIn>(q.r)?;
+    let getattr_in = q.record::<GetattrIn>()?;
     let handle = handle_if::<u64>(getattr_in.flags, GETATTR_FH, getattr_in.fh);
     let _held_back = Asking { call }.getattr(q.context(), q.node(), handle);
     Ok(0)
@@ -56,14 +55,14 @@ pub fn note_getattr(q: Request<'_, '_>, call: &mut CallData) -> Result<usize>
 
 /// Notes the READ that a request asks for, with so much room for its reply, or says why it asks for
 /// none.
-pub fn note_read(room: usize, q: Request<'_, '_>, call: &mut CallData) -> Result<usize>
+pub fn note_read(room: usize, mut q: Request<'_, '_>, call: &mut CallData) -> Result<usize>
     requires { call.old ≡ nothing }
     ensures { (limits : AnyLimits) (options : ℕ) (w : Written) →
         IsNoted ⊥
         (ask_opcode limits options room Opcode.Read q.entry.header.now q.entry.r.now.left)
         w result w call.new }
 {
-    let read_in = read_record::<ReadIn>(q.r)?;
+    let read_in = q.record::<ReadIn>()?;
     if room < OutHeader::SIZE {
         return Err(Error::EncodeMessage);
     }
@@ -85,14 +84,14 @@ pub fn note_read(room: usize, q: Request<'_, '_>, call: &mut CallData) -> Result
 }
 
 /// Notes the WRITE that a request asks for, or says why it asks for none.
-pub fn note_write(q: Request<'_, '_>, call: &mut CallData) -> Result<usize>
+pub fn note_write(mut q: Request<'_, '_>, call: &mut CallData) -> Result<usize>
     requires { call.old ≡ nothing }
     ensures { (limits : AnyLimits) (options room : ℕ) (w : Written) →
         IsNoted ⊥
         (ask_opcode limits options room Opcode.Write q.entry.header.now q.entry.r.now.left)
         w result w call.new }
 {
-    let write_in = read_record::<WriteIn>(q.r)?;
+    let write_in = q.record::<WriteIn>()?;
     let flags = write_in.write_flags;
     let owner = number_if(flags, WRITE_LOCKOWNER, write_in.lock_owner);
     let ctx = q.context();

@@ -13,8 +13,7 @@ use bitflags::Flags;
 use vfs_calls::{CallData, has, kind, number};
 use vfs_flags::{Errno, FsOptions};
 use vfs_grammar::{Error, Limits};
-use vfs_handlers::Request;
-use vfs_messages::{read_record, reply_failed};
+use vfs_messages::{Request, reply_failed};
 use vfs_segments::Writer;
 use vfs_wire::{ByteValued, OutHeader};
 use vfs_wire_more::ReadIn;
@@ -24,7 +23,7 @@ pub fn ask_listing(
     plus: bool,
     limits: Limits,
     options: FsOptions,
-    q: Request<'_, '_>,
+    mut q: Request<'_, '_>,
     room: usize,
     w: &mut Writer,
     call: &mut CallData,
@@ -36,7 +35,7 @@ pub fn ask_listing(
         (listing_of plus q.entry.header.now)))
         w.old result w.new call.new }
 {
-    let read_in = match read_record::<ReadIn>(q.r) {
+    let read_in = match q.record::<ReadIn>() {
         Ok(read_in) => read_in,
         Err(error) => return Asked::finished(Err(error)),
     };

@@ -12,7 +12,8 @@ ghost use Rattle.vfs_ask.specs.Noting.{IsNoted};
 use vfs_calls::{Asking, CallData};
 use vfs_flags::FsOptions;
 use vfs_grammar::{Limits, Result};
-use vfs_handlers::{Request, Session};
+use vfs_handlers::Session;
+use vfs_messages::Request;
 use vfs_segments::Writer;
 
 // Has a request handled over a file system that notes its call.

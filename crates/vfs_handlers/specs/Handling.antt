@@ -8,13 +8,13 @@ use Rattle.vfs_files.specs.Runs.{Event, IsRun}
 use Rattle.vfs_grammar.specs.Forms.{Listing, Ask}
 use Rattle.vfs_grammar.specs.Ask.{ask_opcode, form_of}
 use Rattle.vfs_messages.specs.Rooms.{Replies}
+use Rattle.vfs_messages.specs.declared.parts.Request.{Request}
 use Rattle.vfs_entries.specs.Delivery.{CallsAndGivesBack}
 use Rattle.vfs_grammar.specs.Witnesses.{Witness, FollowsFor}
 use Rattle.vfs_grammar.specs.Turn.{IsRead}
 use Rattle.vfs_grammar.specs.declared.error.Error.{Error}
 use Rattle.vfs_handlers.specs.Memory.{MayWantFor}
 use Rattle.vfs_handlers.specs.State.{ServerState}
-use Rattle.vfs_handlers.specs.declared.request.Request.{Request}
 
 module _ {S I : Type 0} (allows : S → Call → Handed I → S → Type 0)
     (gives : I → Option Item → I → Type 0) where

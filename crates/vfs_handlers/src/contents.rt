@@ -8,14 +8,13 @@ ghost use Rattle.vfs_flags.specs.declared.constants.TheConstants.{READ_LOCKOWNER
 ghost use Rattle.vfs_grammar.specs.Ask.{if_set};
 ghost use Rattle.vfs_handlers.specs.Handling.{Serves, ReadsInto};
 
-use crate::request::Request;
 use crate::session::Session;
 use std::alloc::Global;
 use std::mem;
 use vfs_files::{FileSystem, Number};
 use vfs_flags::{Fault, Opcode, READ_LOCKOWNER, WRITE_CACHE, WRITE_KILL_PRIV, WRITE_LOCKOWNER};
 use vfs_grammar::Result;
-use vfs_messages::{hold_header, is_set, number_if, read_record, reply_data, reply_written};
+use vfs_messages::{Request, hold_header, is_set, number_if, reply_data, reply_written};
 use vfs_segments::{Reader, Writer};
 use vfs_transfers::{ZcReader, ZcWriter};
 use vfs_wire_more::{ReadIn, WriteIn};
@@ -30,11 +29,11 @@ fn take_rest<'a>(alloc: Global, r: &mut Reader<'a>) -> Reader<'a>
 impl<F: FileSystem> Session<F> {
     /// READ (`struct fuse_read_in`): the data go straight into the room, behind the place of their
     /// header, which is filled in last.
-    pub(super) fn read(&mut self, q: Request<'_, '_>, w: &mut Writer) -> Result<usize>
+    pub(super) fn read(&mut self, mut q: Request<'_, '_>, w: &mut Writer) -> Result<usize>
         ensures { Serves F.allows F.DirIter.gives Opcode.Read q.entry
             self.old w.old result w.new self.new }
     {
-        let read_in = read_record::<ReadIn>(q.r)?;
+        let read_in = q.record::<ReadIn>()?;
         hold_header(w)?;
         let answer = self.read_into(&q, &read_in, w);
         reply_data(answer, q.header.unique, w)
@@ -72,11 +71,11 @@ impl<F: FileSystem> Session<F> {
     }
 
     /// WRITE (`struct fuse_write_in`): all bytes behind the record are passed on, as they stand.
-    pub(super) fn write(&mut self, q: Request<'_, '_>, w: &mut Writer) -> Result<usize>
+    pub(super) fn write(&mut self, mut q: Request<'_, '_>, w: &mut Writer) -> Result<usize>
         ensures { Serves F.allows F.DirIter.gives Opcode.Write q.entry
             self.old w.old result w.new self.new }
     {
-        let write_in = read_record::<WriteIn>(q.r)?;
+        let write_in = q.record::<WriteIn>()?;
         let flags = write_in.write_flags;
         let mut rest = ZcReader(take_rest(q.alloc, q.r));
         let answer = self.fs.write(

@@ -6,25 +6,24 @@ ghost use Rattle.vfs_grammar.specs.Ask.{listing_of, lists_too_much};
 ghost use Rattle.vfs_grammar.specs.Forms.{Directories, Record, ask_form};
 ghost use Rattle.vfs_handlers.specs.Handling.{Handles, Serves};
 
-use crate::request::Request;
 use crate::session::Session;
 use vfs_files::{FileSystem, Number};
 use vfs_flags::{Errno, FSYNC_FDATASYNC, Opcode};
 use vfs_grammar::Result;
 use vfs_listings::read_directory;
 use vfs_messages::{
-    hold_header, is_set, read_record, reply_data, reply_done, reply_failed, reply_opened,
+    Request, hold_header, is_set, reply_data, reply_done, reply_failed, reply_opened,
 };
 use vfs_segments::Writer;
 use vfs_wire_more::{FsyncIn, OpenIn, ReadIn, ReleaseIn};
 
 impl<F: FileSystem> Session<F> {
     /// OPENDIR (`struct fuse_open_in`): opens a directory.
-    pub(super) fn opendir(&mut self, q: Request<'_, '_>, w: &mut Writer) -> Result<usize>
+    pub(super) fn opendir(&mut self, mut q: Request<'_, '_>, w: &mut Writer) -> Result<usize>
         ensures { Serves F.allows F.DirIter.gives Opcode.Opendir q.entry
             self.old w.old result w.new self.new }
     {
-        let open_in = read_record::<OpenIn>(q.r)?;
+        let open_in = q.record::<OpenIn>()?;
         let answer = self.fs.opendir(q.context(), q.node(), open_in.flags);
         reply_opened::<F::Handle>(answer, q.header.unique, w)
     }
@@ -40,7 +39,12 @@ impl<F: FileSystem> Session<F> {
     /// READDIR and READDIRPLUS (`struct fuse_read_in`): the records of a directory's entries, with
     /// `plus` each with what a LOOKUP of it answers. They are put into the room behind the place of
     /// the reply's header, which is filled in last.
-    pub(super) fn list(&mut self, q: Request<'_, '_>, plus: bool, w: &mut Writer) -> Result<usize>
+    pub(super) fn list(
+        &mut self,
+        mut q: Request<'_, '_>,
+        plus: bool,
+        w: &mut Writer,
+    ) -> Result<usize>
         ensures { let header = q.entry.header.now in
             Handles F.allows F.DirIter.gives ⊥
             (ask_form header q.entry.r.now.left
@@ -48,7 +52,7 @@ impl<F: FileSystem> Session<F> {
             (length w.old.left) (listing_of plus header)))
             self.old w.old result w.new self.new }
     {
-        let read_in = read_record::<ReadIn>(q.r)?;
+        let read_in = q.record::<ReadIn>()?;
         if self.is_too_much(&read_in, w) {
             return reply_failed(Some(Errno::ENOMEM), q.header.unique, w);
         }
@@ -58,11 +62,11 @@ impl<F: FileSystem> Session<F> {
     }
 
     /// RELEASEDIR (`struct fuse_release_in`): a directory is closed.
-    pub(super) fn releasedir(&mut self, q: Request<'_, '_>, w: &mut Writer) -> Result<usize>
+    pub(super) fn releasedir(&mut self, mut q: Request<'_, '_>, w: &mut Writer) -> Result<usize>
         ensures { Serves F.allows F.DirIter.gives Opcode.Releasedir q.entry
             self.old w.old result w.new self.new }
     {
-        let release_in = read_record::<ReleaseIn>(q.r)?;
+        let release_in = q.record::<ReleaseIn>()?;
         let handle = F::Handle::from_number(release_in.fh);
         let answer = self
             .fs
@@ -71,11 +75,11 @@ impl<F: FileSystem> Session<F> {
     }
 
     /// FSYNCDIR (`struct fuse_fsync_in`): what was changed in a directory is to be kept for good.
-    pub(super) fn fsyncdir(&mut self, q: Request<'_, '_>, w: &mut Writer) -> Result<usize>
+    pub(super) fn fsyncdir(&mut self, mut q: Request<'_, '_>, w: &mut Writer) -> Result<usize>
         ensures { Serves F.allows F.DirIter.gives Opcode.Fsyncdir q.entry
             self.old w.old result w.new self.new }
     {
-        let fsync_in = read_record::<FsyncIn>(q.r)?;
+        let fsync_in = q.record::<FsyncIn>()?;
         let datasync = is_set(fsync_in.fsync_flags, FSYNC_FDATASYNC);
         let handle = F::Handle::from_number(fsync_in.fh);
         let answer = self.fs.fsyncdir(q.context(), q.node(), datasync, handle);

@@ -2,15 +2,14 @@
 
 ghost use Rattle.vfs_handlers.specs.Handling.{Serves};
 
-use crate::request::Request;
 use crate::session::Session;
 use vfs_entries::deliver_created;
 use vfs_files::{FileSystem, Number};
 use vfs_flags::{FSYNC_FDATASYNC, OPEN_KILL_SUIDGID, Opcode, RELEASE_FLOCK_UNLOCK, RELEASE_FLUSH};
 use vfs_grammar::Result;
 use vfs_messages::{
-    is_set, number_if, read_extended, read_record, reply_done, reply_fault_alone, reply_offset,
-    reply_opened, reply_written,
+    Request, is_set, number_if, reply_done, reply_fault_alone, reply_offset, reply_opened,
+    reply_written,
 };
 use vfs_segments::Writer;
 use vfs_wire::ByteValued;
@@ -20,11 +19,11 @@ use vfs_wire_more::{
 
 impl<F: FileSystem> Session<F> {
     /// OPEN (`struct fuse_open_in`): opens a file.
-    pub(super) fn open(&mut self, q: Request<'_, '_>, w: &mut Writer) -> Result<usize>
+    pub(super) fn open(&mut self, mut q: Request<'_, '_>, w: &mut Writer) -> Result<usize>
         ensures { Serves F.allows F.DirIter.gives Opcode.Open q.entry
             self.old w.old result w.new self.new }
     {
-        let open_in = read_record::<OpenIn>(q.r)?;
+        let open_in = q.record::<OpenIn>()?;
         let kill_priv = is_set(open_in.open_flags, OPEN_KILL_SUIDGID);
         let answer = self
             .fs
@@ -33,18 +32,12 @@ impl<F: FileSystem> Session<F> {
     }
 
     /// CREATE (`struct fuse_create_in`): makes a file and opens it.
-    pub(super) fn create(&mut self, q: Request<'_, '_>, w: &mut Writer) -> Result<usize>
+    pub(super) fn create(&mut self, mut q: Request<'_, '_>, w: &mut Writer) -> Result<usize>
         ensures { Serves F.allows F.DirIter.gives Opcode.Create q.entry
             self.old w.old result w.new self.new }
     {
-        let create_in = read_record::<CreateIn>(q.r)?;
-        let (name, extensions) = read_extended(
-            q.alloc,
-            self.options,
-            q.header,
-            CreateIn::SIZE,
-            q.r,
-        )?;
+        let create_in = q.record::<CreateIn>()?;
+        let (name, extensions) = q.extended(self.options, CreateIn::SIZE)?;
         let answer = self.fs.create(
             q.context(),
             q.node(),
@@ -60,11 +53,11 @@ impl<F: FileSystem> Session<F> {
 
     /// RELEASE (`struct fuse_release_in`): a file is closed. The owner of locks is passed where
     /// they are to be given up.
-    pub(super) fn release(&mut self, q: Request<'_, '_>, w: &mut Writer) -> Result<usize>
+    pub(super) fn release(&mut self, mut q: Request<'_, '_>, w: &mut Writer) -> Result<usize>
         ensures { Serves F.allows F.DirIter.gives Opcode.Release q.entry
             self.old w.old result w.new self.new }
     {
-        let release_in = read_record::<ReleaseIn>(q.r)?;
+        let release_in = q.record::<ReleaseIn>()?;
         let flags = release_in.release_flags;
         let owner = number_if(
             flags,
@@ -85,11 +78,11 @@ impl<F: FileSystem> Session<F> {
     }
 
     /// FSYNC (`struct fuse_fsync_in`): what was written to a file is to be kept for good.
-    pub(super) fn fsync(&mut self, q: Request<'_, '_>, w: &mut Writer) -> Result<usize>
+    pub(super) fn fsync(&mut self, mut q: Request<'_, '_>, w: &mut Writer) -> Result<usize>
         ensures { Serves F.allows F.DirIter.gives Opcode.Fsync q.entry
             self.old w.old result w.new self.new }
     {
-        let fsync_in = read_record::<FsyncIn>(q.r)?;
+        let fsync_in = q.record::<FsyncIn>()?;
         let datasync = is_set(fsync_in.fsync_flags, FSYNC_FDATASYNC);
         let handle = F::Handle::from_number(fsync_in.fh);
         let answer = self.fs.fsync(q.context(), q.node(), datasync, handle);
@@ -97,11 +90,11 @@ impl<F: FileSystem> Session<F> {
     }
 
     /// FLUSH (`struct fuse_flush_in`): one of the descriptors of an open file is closed.
-    pub(super) fn flush(&mut self, q: Request<'_, '_>, w: &mut Writer) -> Result<usize>
+    pub(super) fn flush(&mut self, mut q: Request<'_, '_>, w: &mut Writer) -> Result<usize>
         ensures { Serves F.allows F.DirIter.gives Opcode.Flush q.entry
             self.old w.old result w.new self.new }
     {
-        let flush_in = read_record::<FlushIn>(q.r)?;
+        let flush_in = q.record::<FlushIn>()?;
         let handle = F::Handle::from_number(flush_in.fh);
         let answer = self
             .fs
@@ -110,11 +103,11 @@ impl<F: FileSystem> Session<F> {
     }
 
     /// FALLOCATE (`struct fuse_fallocate_in`): room in a file is made or given up.
-    pub(super) fn fallocate(&mut self, q: Request<'_, '_>, w: &mut Writer) -> Result<usize>
+    pub(super) fn fallocate(&mut self, mut q: Request<'_, '_>, w: &mut Writer) -> Result<usize>
         ensures { Serves F.allows F.DirIter.gives Opcode.Fallocate q.entry
             self.old w.old result w.new self.new }
     {
-        let fallocate_in = read_record::<FallocateIn>(q.r)?;
+        let fallocate_in = q.record::<FallocateIn>()?;
         let handle = F::Handle::from_number(fallocate_in.fh);
         let answer = self.fs.fallocate(
             q.context(),
@@ -128,11 +121,11 @@ impl<F: FileSystem> Session<F> {
     }
 
     /// LSEEK (`struct fuse_lseek_in`): the next data or hole of a file.
-    pub(super) fn lseek(&mut self, q: Request<'_, '_>, w: &mut Writer) -> Result<usize>
+    pub(super) fn lseek(&mut self, mut q: Request<'_, '_>, w: &mut Writer) -> Result<usize>
         ensures { Serves F.allows F.DirIter.gives Opcode.Lseek q.entry
             self.old w.old result w.new self.new }
     {
-        let lseek_in = read_record::<LseekIn>(q.r)?;
+        let lseek_in = q.record::<LseekIn>()?;
         let handle = F::Handle::from_number(lseek_in.fh);
         let answer = self.fs.lseek(
             q.context(),
@@ -145,11 +138,11 @@ impl<F: FileSystem> Session<F> {
     }
 
     /// COPY_FILE_RANGE (`struct fuse_copy_file_range_in`): copies bytes from one file to another.
-    pub(super) fn copyfilerange(&mut self, q: Request<'_, '_>, w: &mut Writer) -> Result<usize>
+    pub(super) fn copyfilerange(&mut self, mut q: Request<'_, '_>, w: &mut Writer) -> Result<usize>
         ensures { Serves F.allows F.DirIter.gives Opcode.CopyFileRange q.entry
             self.old w.old result w.new self.new }
     {
-        let range = read_record::<CopyfilerangeIn>(q.r)?;
+        let range = q.record::<CopyfilerangeIn>()?;
         let answer = self.fs.copyfilerange(
             q.context(),
             q.node(),

@@ -3,13 +3,12 @@
 ghost use Rattle.vfs_handlers.specs.Handling.{Serves, Handles};
 ghost use Rattle.vfs_grammar.specs.Forms.{ask_version};
 
-use crate::request::Request;
 use crate::session::Session;
 use vfs_files::FileSystem;
 use vfs_flags::{Errno, KERNEL_VERSION, MIN_KERNEL_MINOR_VERSION, Opcode};
 use vfs_grammar::Result;
 use vfs_messages::{
-    agreed_options, offered_options, read_record, read_second_flags, reply_done, reply_failed,
+    Request, agreed_options, offered_options, read_second_flags, reply_done, reply_failed,
     reply_init, reply_version,
 };
 use vfs_segments::Writer;
@@ -17,11 +16,11 @@ use vfs_wire::{InHeader, InitInCompat};
 
 impl<F: FileSystem> Session<F> {
     /// INIT (`struct fuse_init_in`): reads its one or two records.
-    pub(super) fn init(&mut self, q: Request<'_, '_>, w: &mut Writer) -> Result<usize>
+    pub(super) fn init(&mut self, mut q: Request<'_, '_>, w: &mut Writer) -> Result<usize>
         ensures { Serves F.allows F.DirIter.gives Opcode.Init q.entry
             self.old w.old result w.new self.new }
     {
-        let init_in = read_record::<InitInCompat>(q.r)?;
+        let init_in = q.record::<InitInCompat>()?;
         let flags2 = read_second_flags(init_in.flags, q.r)?;
         self.init_version(q.header, &init_in, flags2, w)
     }

@@ -12,9 +12,7 @@ mod files;
 mod init;
 mod locks;
 mod names;
-mod request;
 mod session;
 mod xattrs;
 
-pub use request::Request;
 pub use session::Session;

@@ -2,12 +2,11 @@
 
 ghost use Rattle.vfs_handlers.specs.Handling.{Serves};
 
-use crate::request::Request;
 use crate::session::Session;
 use vfs_files::FileSystem;
 use vfs_flags::Opcode;
 use vfs_grammar::Result;
-use vfs_messages::reply_fault;
+use vfs_messages::{Request, reply_fault};
 use vfs_segments::Writer;
 
 impl<F: FileSystem> Session<F> {

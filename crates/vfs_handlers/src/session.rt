@@ -8,13 +8,12 @@ ghost use Rattle.vfs_grammar.specs.Ask.{ask_header};
 ghost use Rattle.vfs_handlers.specs.Handling.{Handles, Serves};
 ghost use Rattle.vfs_handlers.specs.Memory.{MayWantBehind};
 
-use crate::request::Request;
 use bitflags::Flags;
 use std::marker::Model;
 use vfs_files::FileSystem;
 use vfs_flags::{Errno, FsOptions, Opcode};
 use vfs_grammar::{Limits, Result};
-use vfs_messages::{reply_failed, reply_fault};
+use vfs_messages::{Request, reply_failed, reply_fault};
 use vfs_segments::Writer;
 
 /// A client's session with a file system: what a server is between two requests.

@@ -2,14 +2,13 @@
 
 ghost use Rattle.vfs_handlers.specs.Handling.{Serves};
 
-use crate::request::Request;
 use crate::session::Session;
 use vfs_files::FileSystem;
 use vfs_flags::{Errno, Opcode};
 use vfs_grammar::Result;
 use vfs_messages::{
-    further_flags, name_of_tail, read_name, read_record, read_setxattr, read_tail, read_value,
-    reply_done, reply_failed, reply_names, reply_value, setxattr_size,
+    Request, further_flags, name_of_tail, reply_done, reply_failed, reply_names, reply_value,
+    setxattr_size,
 };
 use vfs_segments::Writer;
 use vfs_wire::ByteValued;
@@ -18,11 +17,11 @@ use vfs_wire_more::GetxattrIn;
 impl<F: FileSystem> Session<F> {
     /// LISTXATTR (`struct fuse_getxattr_in`): the names of a node's extended attributes, or how
     /// many bytes they have.
-    pub(super) fn listxattr(&mut self, q: Request<'_, '_>, w: &mut Writer) -> Result<usize>
+    pub(super) fn listxattr(&mut self, mut q: Request<'_, '_>, w: &mut Writer) -> Result<usize>
         ensures { Serves F.allows F.DirIter.gives Opcode.Listxattr q.entry
             self.old w.old result w.new self.new }
     {
-        let getxattr_in = read_record::<GetxattrIn>(q.r)?;
+        let getxattr_in = q.record::<GetxattrIn>()?;
         if getxattr_in.size > self.limits.max_buffer {
             return reply_failed(Some(Errno::ENOMEM), q.header.unique, w);
         }
@@ -32,13 +31,13 @@ impl<F: FileSystem> Session<F> {
 
     /// SETXATTR (`struct fuse_setxattr_in`): sets an extended attribute. Its record has further
     /// flags where SETXATTR_EXT is agreed.
-    pub(super) fn setxattr(&mut self, q: Request<'_, '_>, w: &mut Writer) -> Result<usize>
+    pub(super) fn setxattr(&mut self, mut q: Request<'_, '_>, w: &mut Writer) -> Result<usize>
         ensures { Serves F.allows F.DirIter.gives Opcode.Setxattr q.entry
             self.old w.old result w.new self.new }
     {
-        let setxattr_in = read_setxattr(self.options, q.r)?;
+        let setxattr_in = q.setxattr_record(self.options)?;
         let size = setxattr_size(self.options);
-        let part = read_value(q.alloc, q.header, size, setxattr_in.size, q.r)?;
+        let part = q.name_and_value(size, setxattr_in.size)?;
         let answer = self.fs.setxattr(
             q.context(),
             q.node(),
@@ -52,12 +51,12 @@ impl<F: FileSystem> Session<F> {
 
     /// GETXATTR (`struct fuse_getxattr_in`): the value of an extended attribute, or how many
     /// bytes it has. The limit of its size is judged when the tail was read, before its name is.
-    pub(super) fn getxattr(&mut self, q: Request<'_, '_>, w: &mut Writer) -> Result<usize>
+    pub(super) fn getxattr(&mut self, mut q: Request<'_, '_>, w: &mut Writer) -> Result<usize>
         ensures { Serves F.allows F.DirIter.gives Opcode.Getxattr q.entry
             self.old w.old result w.new self.new }
     {
-        let getxattr_in = read_record::<GetxattrIn>(q.r)?;
-        let tail = read_tail(q.alloc, q.header, GetxattrIn::SIZE, q.r)?;
+        let getxattr_in = q.record::<GetxattrIn>()?;
+        let tail = q.tail(GetxattrIn::SIZE)?;
         if getxattr_in.size > self.limits.max_buffer {
             return reply_failed(Some(Errno::ENOMEM), q.header.unique, w);
         }
@@ -69,11 +68,11 @@ impl<F: FileSystem> Session<F> {
     }
 
     /// REMOVEXATTR: takes an extended attribute away.
-    pub(super) fn removexattr(&mut self, q: Request<'_, '_>, w: &mut Writer) -> Result<usize>
+    pub(super) fn removexattr(&mut self, mut q: Request<'_, '_>, w: &mut Writer) -> Result<usize>
         ensures { Serves F.allows F.DirIter.gives Opcode.Removexattr q.entry
             self.old w.old result w.new self.new }
     {
-        let name = read_name(q.alloc, q.header, 0, q.r)?;
+        let name = q.name(0)?;
         let answer = self.fs.removexattr(q.context(), q.node(), name.as_c_str());
         reply_done(answer, q.header.unique, w)
     }

@@ -6,11 +6,13 @@
 
 mod extensions;
 mod options;
+mod parts;
 mod reply;
 mod request;
 
 pub use extensions::{get_extensions, parse_security_context, parse_sup_groups};
 pub use options::{agreed_options, offered_options, read_second_flags, reply_init, reply_version};
+pub use parts::Request;
 pub use reply::{
     hold_header, reply_attr, reply_created, reply_data, reply_done, reply_entry, reply_error,
     reply_failed, reply_fault, reply_fault_alone, reply_names, reply_offset, reply_ok,
@@ -19,6 +21,5 @@ pub use reply::{
 };
 pub use request::{
     FirstName, Name, NameAndText, Tail, TwoNames, further_flags, handle_if, is_set, known_valid,
-    name_of_tail, number_if, read_extended, read_link, read_name, read_names, read_pairs,
-    read_record, read_setxattr, read_tail, read_value, setxattr_size,
+    name_of_tail, number_if, read_pairs, read_record, read_tail, setxattr_size,
 };

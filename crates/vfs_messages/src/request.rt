@@ -169,23 +169,6 @@ pub fn name_of_tail<'a>(tail: Tail<'a>) -> Result<Name<'a>>
     Ok(Name { tail })
 }
 
-/// The name that the tail is, of a request with a record of `size` bytes: the errors of
-/// [`read_tail`], then `InvalidCString` where the tail is no name.
-#[inline(always)]
-pub fn read_name<'a>(
-    alloc: Global,
-    header: &InHeader,
-    size: usize,
-    reader: &mut Reader<'a>,
-) -> Result<Name<'a>>
-    requires { size ≤ LARGEST_RECORD }
-    ensures { GivesPart (TailIsCut header.now size reader.old.pieces) name_in result
-        (tail_of header.now size reader.old.left) }
-{
-    let tail = read_tail(alloc, header, size, reader)?;
-    name_of_tail(tail)
-}
-
 /// A tail that begins with a name and the 0 behind it.
 #[derive(Drop)]
 pub struct FirstName<'a> {
@@ -269,7 +252,7 @@ fn second_of<'a>(first: FirstName<'a>) -> Result<TwoNames<'a>>
 }
 
 /// The two names that a tail is.
-fn names_of_tail<'a>(tail: Tail<'a>) -> Result<TwoNames<'a>>
+pub(crate) fn names_of_tail<'a>(tail: Tail<'a>) -> Result<TwoNames<'a>>
     ensures { MatchResult result
         (λ names. two_names_in tail.entry ≡ Ok names)
         (λ error. two_names_in tail.entry ≡ Err error) }
@@ -278,23 +261,6 @@ fn names_of_tail<'a>(tail: Tail<'a>) -> Result<TwoNames<'a>>
         return Err(Error::MissingParameter);
     };
     second_of(FirstName { tail, nul })
-}
-
-/// The two names that the tail is, of a request with a record of `size` bytes: the errors of
-/// [`read_tail`], then `MissingParameter` where no 0 ends the first, and `InvalidCString` where the
-/// rest is no name.
-pub fn read_names<'a>(
-    alloc: Global,
-    header: &InHeader,
-    size: usize,
-    reader: &mut Reader<'a>,
-) -> Result<TwoNames<'a>>
-    requires { size ≤ LARGEST_RECORD }
-    ensures { GivesPart (TailIsCut header.now size reader.old.pieces) two_names_in result
-        (tail_of header.now size reader.old.left) }
-{
-    let tail = read_tail(alloc, header, size, reader)?;
-    names_of_tail(tail)
 }
 
 /// A name and a value, where the value has this size.
@@ -311,7 +277,7 @@ fn sized<'a>(size: u32, part: FirstName<'a>) -> Result<FirstName<'a>>
 }
 
 /// The name and the value that a tail is.
-fn value_of_tail<'a>(size: u32, tail: Tail<'a>) -> Result<FirstName<'a>>
+pub(crate) fn value_of_tail<'a>(size: u32, tail: Tail<'a>) -> Result<FirstName<'a>>
     ensures { MatchResult result
         (λ part. value_in size tail.entry ≡ Ok part)
         (λ error. value_in size tail.entry ≡ Err error) }
@@ -320,24 +286,6 @@ fn value_of_tail<'a>(size: u32, tail: Tail<'a>) -> Result<FirstName<'a>>
         return Err(Error::MissingParameter);
     };
     sized(size, FirstName { tail, nul })
-}
-
-/// The name and the value that the tail is, of a request with a record of `size` bytes, which says
-/// that the value has `value` bytes: the errors of [`read_tail`], then `MissingParameter` where no 0
-/// ends the name, and `InvalidXattrSize` where the value has another length.
-pub fn read_value<'a>(
-    alloc: Global,
-    header: &InHeader,
-    size: usize,
-    value: u32,
-    reader: &mut Reader<'a>,
-) -> Result<FirstName<'a>>
-    requires { size ≤ LARGEST_RECORD }
-    ensures { GivesPart (TailIsCut header.now size reader.old.pieces) (value_in value) result
-        (tail_of header.now size reader.old.left) }
-{
-    let tail = read_tail(alloc, header, size, reader)?;
-    value_of_tail(value, tail)
 }
 
 /// The place of the 0 that ends the name that bytes begin with, and the extensions behind it.
@@ -361,7 +309,7 @@ fn extended(alloc: Global, options: FsOptions, bytes: &[u8]) -> Result<(usize, E
 
 /// The name and the extensions that a tail is.
 #[inline(always)]
-fn extended_of_tail<'a>(
+pub(crate) fn extended_of_tail<'a>(
     alloc: Global,
     options: FsOptions,
     tail: Tail<'a>,
@@ -371,27 +319,6 @@ fn extended_of_tail<'a>(
 {
     let (nul, extensions) = extended(alloc, options, tail.as_bytes())?;
     Ok((FirstName { tail, nul }, extensions))
-}
-
-/// The name and the extensions that the tail is, of a request with a record of `size` bytes: the
-/// errors of [`read_tail`], then `MissingParameter` where it has no byte, the errors of
-/// [`get_extensions`], and `InvalidCString` where no 0 ends the name.
-#[inline(always)]
-pub fn read_extended<'a>(
-    alloc: Global,
-    options: FsOptions,
-    header: &InHeader,
-    size: usize,
-    reader: &mut Reader<'a>,
-) -> Result<(FirstName<'a>, Extensions)>
-    requires { size ≤ LARGEST_RECORD }
-    ensures { GivesPartAs
-        (TailIsCut header.now size reader.old.pieces ⊎ MayHoldContext (fs_options_bits options))
-        extended_values (extended_in (fs_options_bits options)) result
-        (tail_of header.now size reader.old.left) }
-{
-    let tail = read_tail(alloc, header, size, reader)?;
-    extended_of_tail(alloc, options, tail)
 }
 
 /// A tail that begins with a name and a text, each with the 0 behind it.
@@ -441,7 +368,7 @@ fn link_of<'a>(
 }
 
 /// The name, the text and the extensions that a tail is.
-fn link_of_tail<'a>(
+pub(crate) fn link_of_tail<'a>(
     alloc: Global,
     options: FsOptions,
     tail: Tail<'a>,
@@ -455,24 +382,6 @@ fn link_of_tail<'a>(
     link_of(alloc, options, FirstName { tail, nul })
 }
 
-/// The name of a link, its text and the extensions that the tail is, of a request without a record:
-/// the errors of [`read_tail`], then `MissingParameter` where no 0 ends the name or no byte follows
-/// it, the errors of [`get_extensions`], and `InvalidCString` where no 0 ends the text.
-pub fn read_link<'a>(
-    alloc: Global,
-    options: FsOptions,
-    header: &InHeader,
-    reader: &mut Reader<'a>,
-) -> Result<(NameAndText<'a>, Extensions)>
-    ensures { GivesPartAs
-        (TailIsCut header.now 0 reader.old.pieces ⊎ MayHoldContext (fs_options_bits options))
-        link_values (link_in_tail (fs_options_bits options)) result
-        (tail_of header.now 0 reader.old.left) }
-{
-    let tail = read_tail(alloc, header, 0, reader)?;
-    link_of_tail(alloc, options, tail)
-}
-
 /// Whether SETXATTR has its shorter record: its longer one was not agreed on.
 fn has_short_setxattr(options: FsOptions) -> bool
     ensures { result ≡ (bit_and (fs_options_bits options) setxattr_ext == 0) }
@@ -481,7 +390,7 @@ fn has_short_setxattr(options: FsOptions) -> bool
 }
 
 /// SETXATTR's record, by the agreed options.
-pub fn read_setxattr(options: FsOptions, reader: &mut Reader<'_>) -> Result<SetxattrIn>
+pub(crate) fn read_setxattr(options: FsOptions, reader: &mut Reader<'_>) -> Result<SetxattrIn>
     ensures value { layout_record (setxattr_layout (fs_options_bits options)) reader.old.left
         ≡ result }
     ensures moved { OnOk result (reader.new.left ≡

@@ -24,11 +24,11 @@ use vfs_files::FileSystem;
 use vfs_files::laws::runs_join;
 use vfs_flags::{DEFAULT_MAX_BUFFER, FsOptions};
 use vfs_grammar::{Limits, Result};
-use vfs_handlers::{Request, Session};
+use vfs_handlers::Session;
 use vfs_laws::books::turns_keep_books;
 use vfs_laws::turns::{directories_are_read, memory_is_wanted_for_copies};
 pub use vfs_listings::add_dirent;
-use vfs_messages::read_record;
+use vfs_messages::{Request, read_record};
 pub use vfs_messages::{
     get_extensions, parse_security_context, parse_sup_groups, reply_error, reply_ok, reply_readdir,
 };

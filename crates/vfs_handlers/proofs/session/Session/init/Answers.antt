@@ -3,4 +3,6 @@ use Rattle.std.proofs.lemmas.Grind.{common_steps}
 use Rattle.vfs_handlers.proofs.session.Session.init.Goals as goal
 
 pub returns : goal.returns
-returns g c = grind (arith, common_steps)
+returns g c =
+    let told = rw c.record.ensures.header at c.init_version.ensures in
+    grind (arith, common_steps, told)

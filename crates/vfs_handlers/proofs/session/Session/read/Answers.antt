@@ -10,9 +10,9 @@ returns g c =
     rw (c.in_ok-read_in.ensures.value, c.in_ok-hold_header.ensures.room) (
       (
         read_answer c.read_into-answer.result r.bytes,
-        r.allowed,
+        rw c.record.ensures.header at r.allowed,
         c.reply_data.ensures.kind r.bytes c.in_ok-read_in.read_in.size r.counts,
-        c.reply_data.ensures.replied c.args.w.now r.bytes c.in_ok-read_in.read_in.size h r.counts,
+        rw c.record.ensures.header at (c.reply_data.ensures.replied c.args.w.now r.bytes c.in_ok-read_in.read_in.size h r.counts),
         r.same_options,
       ),
       r.same_limits,

@@ -10,7 +10,7 @@ returns g c =
         written_answer c.write-answer.result,
         search (rules, c.write-answer.ensures.2),
         c.reply_written.ensures.kind,
-        c.reply_written.ensures.replied,
+        search rules,
         search rules,
       ),
       search rules,
