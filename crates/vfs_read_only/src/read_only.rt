@@ -1,20 +1,21 @@
-//! The calls of a tree's file system, in the trait's order.
+//! The calls of a tree's file system.
 
 ghost use Rattle.std.specs.Prelude.{◌≡◌, ◌==◌, Some, if◌then◌else◌};
-ghost use Rattle.vfs_flags.specs.Numbers.{enoent, erofs};
-ghost use Rattle.vfs_files.specs.Answers.{Failed, attr_answer};
-ghost use Rattle.vfs_read_only.specs.ReadOnly.{AnswersAttr, refusal_of, lookup_refusal};
+ghost use Rattle.vfs_flags.specs.Numbers.{enoent};
+ghost use Rattle.vfs_files.specs.Values.{name_text};
+ghost use Rattle.vfs_files.specs.Calls.{Plain, kind_of};
+ghost use Rattle.vfs_files.specs.Asked.{call_of, answer_of, IsEntry, IsAttributes, IsOfKind};
+ghost use Rattle.vfs_read_only.specs.ReadOnly.{AnswersLookup, AnswersAttr, TreeHands, refusal_of, lookup_refusal};
 
 use crate::listing::TreeEntries;
 use crate::makers::{TIMEOUT_SECONDS, node_entry};
 use crate::tree::ReadTree;
 use std::time::Duration;
 use vfs_files::{
-    CStr, Context, Entry, Extensions, FileSystem, GetxattrReply, ListxattrReply, ZeroCopyReader,
-    ZeroCopyWriter, defaults, read_bytes,
+    Asked, CStr, Context, Given, PartialFileSystem, ZeroCopyReader, ZeroCopyWriter, read_bytes,
+    unserved,
 };
-use vfs_flags::{Errno, Fault, FsOptions, OpenOptions, SetattrValid, SetxattrFlags};
-use vfs_wire::{Attr, SetattrIn, Statvfs64};
+use vfs_flags::{Errno, Fault};
 
 /// In `flags` of an open: that it is for writing (`O_WRONLY` or `O_RDWR`).
 const FOR_WRITING: u32 = 3;
@@ -54,148 +55,85 @@ impl<T: ReadTree> ReadOnly<T> {
             self.refusal(parent, Errno::ENOTDIR)
         }
     }
-}
 
-impl<T: ReadTree> FileSystem for ReadOnly<T> {
-    ghost use Rattle.std.specs.Prelude.{◌≡◌};
-    ghost use Rattle.vfs_read_only.specs.ReadOnly.{TreeHands};
-
-    type Inode = u64;
-
-    type Handle = u64;
-
-    type DirIter = TreeEntries<T>;
-
-    ghost allows = { λ old call handed new.
-        TreeHands (T.tables old.tree) call handed × (new ≡ old) };
-
-    fn lookup(&mut self, _ctx: Context, parent: u64, name: CStr<'_>) -> Result<Entry, Fault> {
+    // A LOOKUP.
+    #[inline(always)]
+    fn look_up(&self, parent: u64, name: CStr<'_>) -> Result<Given, Fault>
+        ensures answer { AnswersLookup (T.tables self.now.tree) parent
+            ((T.tables self.now.tree).child parent (name_text name.entry)) (answer_of result) }
+        ensures kind { IsEntry result }
+    {
         match self.tree.child(parent, name.to_bytes()) {
             Some(node) => match self.tree.attr(node) {
-                Some(attr) => Ok(node_entry(node, attr)),
+                Some(attr) => Ok(Given::Found(node_entry(node, attr))),
                 None => Err(Some(Errno::ENOENT)),
             },
             None => Err(self.lookup_refusal(parent)),
         }
     }
 
-    fn forget(&mut self, _ctx: Context, _inode: u64, _count: u64) {
-        defaults::forget()
-    }
-
-    fn getattr(
-        &mut self,
-        _ctx: Context,
-        inode: u64,
-        _handle: Option<u64>,
-    ) -> Result<(Attr, Duration), Fault>
-        ensures answer { AnswersAttr ((T.tables self.old.tree).attr inode) (attr_answer result) }
-        ensures same { self.new ≡ self.old }
+    // A GETATTR.
+    #[inline(always)]
+    fn attributes(&self, inode: u64) -> Result<Given, Fault>
+        ensures answer { AnswersAttr ((T.tables self.now.tree).attr inode) (answer_of result) }
+        ensures kind { IsAttributes result }
     {
         match self.tree.attr(inode) {
-            Some(attr) => Ok((attr, Duration::from_secs(TIMEOUT_SECONDS))),
+            Some(attr) => {
+                let timeout = Duration::from_secs(TIMEOUT_SECONDS);
+                Ok(Given::Attributes(attr, timeout))
+            }
             None => Err(Some(Errno::ENOENT)),
         }
     }
 
-    fn setattr(
-        &mut self,
-        _ctx: Context,
-        _inode: u64,
-        _attr: SetattrIn,
-        _handle: Option<u64>,
-        _valid: SetattrValid,
-    ) -> Result<(Attr, Duration), Fault>
-        ensures answer { attr_answer result ≡ Failed (Some erofs) }
-        ensures same { self.new ≡ self.old }
+    // What a call answers.
+    #[inline(always)]
+    fn given(&self, asked: &Asked<'_>) -> Result<Given, Fault>
+        ensures answer { TreeHands (T.tables self.now.tree) (call_of asked.now)
+            (Plain (answer_of result)) }
+        ensures kind { IsOfKind (kind_of (call_of asked.now)) result }
     {
-        Err(Some(Errno::EROFS))
-    }
-
-    fn readlink(&mut self, _ctx: Context, _inode: u64) -> Result<Vec<u8>, Fault> {
-        defaults::readlink()
-    }
-
-    fn symlink(
-        &mut self,
-        _ctx: Context,
-        _linkname: CStr<'_>,
-        _parent: u64,
-        _name: CStr<'_>,
-        _ext: Extensions,
-    ) -> Result<Entry, Fault> {
-        Err(Some(Errno::EROFS))
-    }
-
-    fn mknod(
-        &mut self,
-        _ctx: Context,
-        _inode: u64,
-        _name: CStr<'_>,
-        _mode: u32,
-        _rdev: u32,
-        _umask: u32,
-        _ext: Extensions,
-    ) -> Result<Entry, Fault> {
-        Err(Some(Errno::EROFS))
-    }
-
-    fn mkdir(
-        &mut self,
-        _ctx: Context,
-        _parent: u64,
-        _name: CStr<'_>,
-        _mode: u32,
-        _umask: u32,
-        _ext: Extensions,
-    ) -> Result<Entry, Fault> {
-        Err(Some(Errno::EROFS))
-    }
-
-    fn unlink(&mut self, _ctx: Context, _parent: u64, _name: CStr<'_>) -> Result<(), Fault> {
-        Err(Some(Errno::EROFS))
-    }
-
-    fn rmdir(&mut self, _ctx: Context, _parent: u64, _name: CStr<'_>) -> Result<(), Fault> {
-        Err(Some(Errno::EROFS))
-    }
-
-    fn rename(
-        &mut self,
-        _ctx: Context,
-        _olddir: u64,
-        _oldname: CStr<'_>,
-        _newdir: u64,
-        _newname: CStr<'_>,
-        _flags: u32,
-    ) -> Result<(), Fault> {
-        Err(Some(Errno::EROFS))
-    }
-
-    fn link(
-        &mut self,
-        _ctx: Context,
-        _inode: u64,
-        _newparent: u64,
-        _newname: CStr<'_>,
-    ) -> Result<Entry, Fault> {
-        Err(Some(Errno::EROFS))
-    }
-
-    fn open(
-        &mut self,
-        _ctx: Context,
-        _inode: u64,
-        _kill_priv: bool,
-        flags: u32,
-    ) -> Result<(Option<u64>, OpenOptions), Fault> {
-        if flags & FOR_WRITING != 0 {
-            return Err(Some(Errno::EROFS));
+        match asked {
+            Asked::Lookup { parent, name, .. } => self.look_up(*parent, *name),
+            Asked::Getattr { inode, .. } => self.attributes(*inode),
+            Asked::Open { flags, .. } if *flags & FOR_WRITING != 0 => Err(Some(Errno::EROFS)),
+            Asked::Access { mask, .. } if *mask & MAY_WRITE == 0 => Ok(Given::Done),
+            Asked::Access { .. }
+            | Asked::Setattr { .. }
+            | Asked::Symlink { .. }
+            | Asked::Mknod { .. }
+            | Asked::Mkdir { .. }
+            | Asked::Unlink { .. }
+            | Asked::Rmdir { .. }
+            | Asked::Rename { .. }
+            | Asked::Link { .. }
+            | Asked::Setxattr { .. }
+            | Asked::Removexattr { .. }
+            | Asked::Create { .. }
+            | Asked::Fallocate { .. }
+            | Asked::Copyfilerange { .. }
+            | Asked::Tmpfile => Err(Some(Errno::EROFS)),
+            _ => unserved(asked),
         }
-        defaults::open::<u64>()
+    }
+}
+
+impl<T: ReadTree> PartialFileSystem for ReadOnly<T> {
+    ghost use Rattle.std.specs.Prelude.{◌≡◌};
+    ghost use Rattle.vfs_read_only.specs.ReadOnly.{TreeHands};
+
+    type Entries = TreeEntries<T>;
+
+    ghost permits = { λ old call handed new.
+        TreeHands (T.tables old.tree) call handed × (new ≡ old) };
+
+    #[inline(always)]
+    fn call(&mut self, asked: Asked<'_>) -> Result<Given, Fault> {
+        self.given(&asked)
     }
 
-    fn read<W: ZeroCopyWriter>(
+    fn read_data<W: ZeroCopyWriter>(
         &mut self,
         _ctx: Context,
         inode: u64,
@@ -212,7 +150,7 @@ impl<T: ReadTree> FileSystem for ReadOnly<T> {
         }
     }
 
-    fn write<R: ZeroCopyReader>(
+    fn write_data<R: ZeroCopyReader>(
         &mut self,
         _ctx: Context,
         _inode: u64,
@@ -228,92 +166,7 @@ impl<T: ReadTree> FileSystem for ReadOnly<T> {
         Err(Some(Errno::EROFS))
     }
 
-    fn statfs(&mut self, _ctx: Context, _inode: u64) -> Result<Statvfs64, Fault> {
-        defaults::statfs()
-    }
-
-    fn release(
-        &mut self,
-        _ctx: Context,
-        _inode: u64,
-        _flags: u32,
-        _handle: u64,
-        _flush: bool,
-        _flock_release: bool,
-        _lock_owner: Option<u64>,
-    ) -> Result<(), Fault> {
-        defaults::release()
-    }
-
-    fn fsync(
-        &mut self,
-        _ctx: Context,
-        _inode: u64,
-        _datasync: bool,
-        _handle: u64,
-    ) -> Result<(), Fault> {
-        defaults::fsync()
-    }
-
-    fn setxattr(
-        &mut self,
-        _ctx: Context,
-        _inode: u64,
-        _name: CStr<'_>,
-        _value: &[u8],
-        _flags: u32,
-        _extra: SetxattrFlags,
-    ) -> Result<(), Fault> {
-        Err(Some(Errno::EROFS))
-    }
-
-    fn getxattr(
-        &mut self,
-        _ctx: Context,
-        _inode: u64,
-        _name: CStr<'_>,
-        _size: u32,
-    ) -> Result<GetxattrReply, Fault> {
-        defaults::getxattr()
-    }
-
-    fn listxattr(
-        &mut self,
-        _ctx: Context,
-        _inode: u64,
-        _size: u32,
-    ) -> Result<ListxattrReply, Fault> {
-        defaults::listxattr()
-    }
-
-    fn removexattr(&mut self, _ctx: Context, _inode: u64, _name: CStr<'_>) -> Result<(), Fault> {
-        Err(Some(Errno::EROFS))
-    }
-
-    fn flush(
-        &mut self,
-        _ctx: Context,
-        _inode: u64,
-        _handle: u64,
-        _lock_owner: u64,
-    ) -> Result<(), Fault> {
-        defaults::flush()
-    }
-
-    fn init(&mut self, _capable: FsOptions) -> Result<FsOptions, Fault> {
-        defaults::init()
-    }
-
-    fn opendir(
-        &mut self,
-        _ctx: Context,
-        _inode: u64,
-        _flags: u32,
-    ) -> Result<(Option<u64>, OpenOptions), Fault> {
-        defaults::opendir::<u64>()
-    }
-
-    fn readdir(
+    fn read_directory(
         &mut self,
         _ctx: Context,
         inode: u64,
@@ -329,128 +182,5 @@ impl<T: ReadTree> FileSystem for ReadOnly<T> {
             node: inode,
             next: offset,
         })
-    }
-
-    fn releasedir(
-        &mut self,
-        _ctx: Context,
-        _inode: u64,
-        _flags: u32,
-        _handle: u64,
-    ) -> Result<(), Fault> {
-        defaults::releasedir()
-    }
-
-    fn fsyncdir(
-        &mut self,
-        _ctx: Context,
-        _inode: u64,
-        _datasync: bool,
-        _handle: u64,
-    ) -> Result<(), Fault> {
-        defaults::fsyncdir()
-    }
-
-    fn getlk(&mut self) -> Result<(), Fault> {
-        defaults::getlk()
-    }
-
-    fn setlk(&mut self) -> Result<(), Fault> {
-        defaults::setlk()
-    }
-
-    fn setlkw(&mut self) -> Result<(), Fault> {
-        defaults::setlkw()
-    }
-
-    fn access(&mut self, _ctx: Context, _inode: u64, mask: u32) -> Result<(), Fault> {
-        if mask & MAY_WRITE != 0 {
-            return Err(Some(Errno::EROFS));
-        }
-        Ok(())
-    }
-
-    fn create(
-        &mut self,
-        _ctx: Context,
-        _parent: u64,
-        _name: CStr<'_>,
-        _mode: u32,
-        _kill_priv: bool,
-        _flags: u32,
-        _umask: u32,
-        _ext: Extensions,
-    ) -> Result<(Entry, Option<u64>, OpenOptions), Fault> {
-        Err(Some(Errno::EROFS))
-    }
-
-    fn bmap(&mut self) -> Result<(), Fault> {
-        defaults::bmap()
-    }
-
-    fn destroy(&mut self) {
-        defaults::destroy()
-    }
-
-    fn ioctl(&mut self) -> Result<(), Fault> {
-        defaults::ioctl()
-    }
-
-    fn poll(&mut self) -> Result<(), Fault> {
-        defaults::poll()
-    }
-
-    fn notify_reply(&mut self) -> Result<(), Fault> {
-        defaults::notify_reply()
-    }
-
-    fn batch_forget(&mut self, _ctx: Context, _requests: Vec<(u64, u64)>)
-        ensures { self.new ≡ self.old }
-    {}
-
-    fn fallocate(
-        &mut self,
-        _ctx: Context,
-        _inode: u64,
-        _handle: u64,
-        _mode: u32,
-        _offset: u64,
-        _length: u64,
-    ) -> Result<(), Fault> {
-        Err(Some(Errno::EROFS))
-    }
-
-    fn lseek(
-        &mut self,
-        _ctx: Context,
-        _inode: u64,
-        _handle: u64,
-        _offset: u64,
-        _whence: u32,
-    ) -> Result<u64, Fault> {
-        defaults::lseek()
-    }
-
-    fn copyfilerange(
-        &mut self,
-        _ctx: Context,
-        _inode_in: u64,
-        _handle_in: u64,
-        _offset_in: u64,
-        _inode_out: u64,
-        _handle_out: u64,
-        _offset_out: u64,
-        _len: u64,
-        _flags: u64,
-    ) -> Result<u32, Fault> {
-        Err(Some(Errno::EROFS))
-    }
-
-    fn syncfs(&mut self, _ctx: Context, _inode: u64) -> Result<(), Fault> {
-        defaults::syncfs()
-    }
-
-    fn tmpfile(&mut self) -> Fault {
-        Some(Errno::EROFS)
     }
 }
