@@ -1,22 +1,20 @@
 //! A file system that answers what its maker says.
 
 ghost use Rattle.std.specs.Prelude.{◌≡◌, ℕ, List, None, Some, Ok, Err, IfOk};
-ghost use Rattle.vfs_flags.specs.Flags.{setattr_valid_bits};
-ghost use Rattle.vfs_files.specs.Calls.{Getattr, Setattr, BatchForget, Options, Plain, Done, not_served, default_opening, default_statistics, init_answer, attr_answer, opened_answer, text_answer, getxattr_answer, listxattr_answer};
-ghost use Rattle.vfs_files.specs.Answers.{Text, FitsText, KeepsTextShort, written_answer};
+ghost use Rattle.vfs_files.specs.Calls.{Options, Plain, kind_of, not_served, default_opening, default_statistics, init_answer, entry_answer, created_answer, opened_answer, text_answer, getxattr_answer, listxattr_answer, done_answer};
+ghost use Rattle.vfs_files.specs.Answers.{Text, FitsText, written_answer};
+ghost use Rattle.vfs_files.specs.Asked.{call_of, answer_of, IsEntry, IsCreation, IsText, IsTextOrCount, IsDone, IsOfKind};
 ghost use Rattle.vfs_bench.specs.Scripts.{Plays, MayCopy, WritesFile};
 
 use crate::directory::{ScriptDirectory, ScriptEntries};
 use crate::file::ScriptFile;
 use std::time::Duration;
 use vfs_files::{
-    CStr, Context, Entry, Extensions, FileSystem, GetxattrReply, ListxattrReply, ZeroCopyReader,
+    Asked, Context, Entry, GetxattrReply, Given, ListxattrReply, PartialFileSystem, ZeroCopyReader,
     ZeroCopyWriter, copy_of, defaults,
 };
-use vfs_flags::{
-    Errno, Fault, FsOptions, MAX_REPLY_DATA, OpenOptions, SetattrValid, SetxattrFlags,
-};
-use vfs_wire::{Attr, SetattrIn, Statvfs64};
+use vfs_flags::{Errno, Fault, FsOptions, MAX_REPLY_DATA, OpenOptions};
+use vfs_wire::{Attr, Statvfs64};
 
 /// Answers each call as its maker says, again and again, whatever the call's arguments are.
 ///
@@ -122,23 +120,23 @@ fn same_entry(entry: &Entry) -> Entry
 }
 
 /// An equal answer.
-fn same_entry_answer(answer: &Result<Entry, Fault>) -> Result<Entry, Fault>
-    ensures { result ≡ answer.now }
+fn same_entry_answer(answer: &Result<Entry, Fault>) -> Result<Given, Fault>
+    ensures answer { answer_of result ≡ entry_answer answer.now }
+    ensures kind { IsEntry result }
 {
     match answer {
-        Ok(entry) => Ok(same_entry(entry)),
+        Ok(entry) => Ok(Given::Found(same_entry(entry))),
         Err(fault) => Err(*fault),
     }
 }
 
 /// An equal answer.
-fn same_creation(
-    answer: &Result<(Entry, Option<u64>, OpenOptions), Fault>,
-) -> Result<(Entry, Option<u64>, OpenOptions), Fault>
-    ensures { result ≡ answer.now }
+fn same_creation(answer: &Result<(Entry, Option<u64>, OpenOptions), Fault>) -> Result<Given, Fault>
+    ensures answer { answer_of result ≡ created_answer (λ handle. handle) answer.now }
+    ensures kind { IsCreation result }
 {
     match answer {
-        Ok((entry, handle, options)) => Ok((same_entry(entry), *handle, *options)),
+        Ok((entry, handle, options)) => Ok(Given::Created(same_entry(entry), *handle, *options)),
         Err(fault) => Err(*fault),
     }
 }
@@ -177,169 +175,117 @@ fn write_file<R: ZeroCopyReader>(
 }
 
 /// The same text as `same_bytes` gives it, or the fault.
-fn same_text(text: &Result<Vec<u8>, Fault>) -> Result<Vec<u8>, Fault>
-    ensures told { MayCopy (text_answer text.now) (Plain (text_answer result)) }
-    ensures short { KeepsTextShort (text_answer result) }
+fn same_text(text: &Result<Vec<u8>, Fault>) -> Result<Given, Fault>
+    ensures told { MayCopy (text_answer text.now) (Plain (answer_of result)) }
+    ensures kind { IsText result }
 {
     match text {
-        Ok(bytes) => same_bytes(bytes),
+        Ok(bytes) => Ok(Given::Text(same_bytes(bytes)?)),
         Err(fault) => Err(*fault),
     }
 }
 
 /// The same value as `same_bytes` gives it, the same length, or the fault.
-fn same_value(value: &Result<GetxattrReply, Fault>) -> Result<GetxattrReply, Fault>
-    ensures told { MayCopy (getxattr_answer value.now) (Plain (getxattr_answer result)) }
-    ensures short { KeepsTextShort (getxattr_answer result) }
+fn same_value(value: &Result<GetxattrReply, Fault>) -> Result<Given, Fault>
+    ensures told { MayCopy (getxattr_answer value.now) (Plain (answer_of result)) }
+    ensures kind { IsTextOrCount result }
 {
     match value {
-        Ok(GetxattrReply::Value(bytes)) => Ok(GetxattrReply::Value(same_bytes(bytes)?)),
-        Ok(GetxattrReply::Count(count)) => Ok(GetxattrReply::Count(*count)),
+        Ok(GetxattrReply::Value(bytes)) => Ok(Given::Text(same_bytes(bytes)?)),
+        Ok(GetxattrReply::Count(count)) => Ok(Given::Count(*count)),
         Err(fault) => Err(*fault),
     }
 }
 
 /// The same names as `same_bytes` gives them, the same length, or the fault.
-fn same_names(names: &Result<ListxattrReply, Fault>) -> Result<ListxattrReply, Fault>
-    ensures told { MayCopy (listxattr_answer names.now) (Plain (listxattr_answer result)) }
-    ensures short { KeepsTextShort (listxattr_answer result) }
+fn same_names(names: &Result<ListxattrReply, Fault>) -> Result<Given, Fault>
+    ensures told { MayCopy (listxattr_answer names.now) (Plain (answer_of result)) }
+    ensures kind { IsTextOrCount result }
 {
     match names {
-        Ok(ListxattrReply::Names(bytes)) => Ok(ListxattrReply::Names(same_bytes(bytes)?)),
-        Ok(ListxattrReply::Count(count)) => Ok(ListxattrReply::Count(*count)),
+        Ok(ListxattrReply::Names(bytes)) => Ok(Given::Text(same_bytes(bytes)?)),
+        Ok(ListxattrReply::Count(count)) => Ok(Given::Count(*count)),
         Err(fault) => Err(*fault),
     }
 }
 
-impl FileSystem for Script {
-    type Inode = u64;
-
-    type Handle = u64;
-
-    type DirIter = ScriptEntries;
-
-    ghost allows = { Plays };
-
-    fn lookup(&mut self, ctx: Context, parent: u64, name: CStr<'_>) -> Result<Entry, Fault> {
-        same_entry_answer(&self.entry)
+/// An equal answer.
+fn same_done(answer: &Result<(), Fault>) -> Result<Given, Fault>
+    ensures answer { answer_of result ≡ done_answer answer.now }
+    ensures kind { IsDone result }
+{
+    match answer {
+        Ok(()) => Ok(Given::Done),
+        Err(fault) => Err(*fault),
     }
+}
 
-    fn forget(&mut self, ctx: Context, inode: u64, count: u64) {
-        defaults::forget()
-    }
-
-    fn getattr(
-        &mut self,
-        ctx: Context,
-        inode: u64,
-        handle: Option<u64>,
-    ) -> Result<(Attr, Duration), Fault>
-        ensures { Plays self.old
-            (Getattr ctx inode handle)
-            (Plain (attr_answer result))
-            self.new }
+impl Script {
+    // What a call answers.
+    #[inline(always)]
+    fn given(&self, asked: &Asked<'_>) -> Result<Given, Fault>
+        ensures answer { Plays self.now (call_of asked.now) (Plain (answer_of result)) self.now }
+        ensures kind { IsOfKind (kind_of (call_of asked.now)) result }
     {
-        self.attributes
+        match asked {
+            Asked::Forget { .. } | Asked::BatchForget { .. } | Asked::Destroy => Ok(Given::Done),
+            Asked::Init { .. } => Ok(Given::Options(self.options?)),
+            Asked::Lookup { .. }
+            | Asked::Symlink { .. }
+            | Asked::Mknod { .. }
+            | Asked::Mkdir { .. }
+            | Asked::Link { .. } => same_entry_answer(&self.entry),
+            Asked::Getattr { .. } | Asked::Setattr { .. } => {
+                let (attr, timeout) = self.attributes?;
+                Ok(Given::Attributes(attr, timeout))
+            }
+            Asked::Open { .. } | Asked::Opendir { .. } => {
+                let (handle, options) = self.opening?;
+                Ok(Given::Opened(handle, options))
+            }
+            Asked::Create { .. } => same_creation(&self.creation),
+            Asked::Statfs { .. } => Ok(Given::Statistics(self.statistics?)),
+            Asked::Readlink { .. } => same_text(&self.text),
+            Asked::Getxattr { .. } => same_value(&self.value),
+            Asked::Listxattr { .. } => same_names(&self.names),
+            Asked::Lseek { .. } => Ok(Given::Offset(self.offset?)),
+            Asked::Copyfilerange { .. } => Ok(Given::Wrote(self.written?)),
+            Asked::Tmpfile => Err(self.tmpfile),
+            Asked::Unlink { .. }
+            | Asked::Rmdir { .. }
+            | Asked::Rename { .. }
+            | Asked::Release { .. }
+            | Asked::Fsync { .. }
+            | Asked::Setxattr { .. }
+            | Asked::Removexattr { .. }
+            | Asked::Flush { .. }
+            | Asked::Releasedir { .. }
+            | Asked::Fsyncdir { .. }
+            | Asked::Getlk
+            | Asked::Setlk
+            | Asked::Setlkw
+            | Asked::Access { .. }
+            | Asked::Bmap
+            | Asked::Ioctl
+            | Asked::Poll
+            | Asked::NotifyReply
+            | Asked::Fallocate { .. }
+            | Asked::Syncfs { .. } => same_done(&self.done),
+        }
+    }
+}
+
+impl PartialFileSystem for Script {
+    type Entries = ScriptEntries;
+
+    ghost permits = { Plays };
+
+    #[inline(always)]
+    fn call(&mut self, asked: Asked<'_>) -> Result<Given, Fault> {
+        self.given(&asked)
     }
 
-    fn setattr(
-        &mut self,
-        ctx: Context,
-        inode: u64,
-        attr: SetattrIn,
-        handle: Option<u64>,
-        valid: SetattrValid,
-    ) -> Result<(Attr, Duration), Fault>
-        ensures { Plays self.old
-            (Setattr ctx inode attr handle
-            (setattr_valid_bits valid))
-            (Plain (attr_answer result))
-            self.new }
-    {
-        self.attributes
-    }
-
-    fn readlink(&mut self, ctx: Context, inode: u64) -> Result<Vec<u8>, Fault> {
-        same_text(&self.text)
-    }
-
-    fn symlink(
-        &mut self,
-        ctx: Context,
-        linkname: CStr<'_>,
-        parent: u64,
-        name: CStr<'_>,
-        ext: Extensions,
-    ) -> Result<Entry, Fault> {
-        same_entry_answer(&self.entry)
-    }
-
-    fn mknod(
-        &mut self,
-        ctx: Context,
-        inode: u64,
-        name: CStr<'_>,
-        mode: u32,
-        rdev: u32,
-        umask: u32,
-        ext: Extensions,
-    ) -> Result<Entry, Fault> {
-        same_entry_answer(&self.entry)
-    }
-
-    fn mkdir(
-        &mut self,
-        ctx: Context,
-        parent: u64,
-        name: CStr<'_>,
-        mode: u32,
-        umask: u32,
-        ext: Extensions,
-    ) -> Result<Entry, Fault> {
-        same_entry_answer(&self.entry)
-    }
-
-    fn unlink(&mut self, ctx: Context, parent: u64, name: CStr<'_>) -> Result<(), Fault> {
-        self.done
-    }
-
-    fn rmdir(&mut self, ctx: Context, parent: u64, name: CStr<'_>) -> Result<(), Fault> {
-        self.done
-    }
-
-    fn rename(
-        &mut self,
-        ctx: Context,
-        olddir: u64,
-        oldname: CStr<'_>,
-        newdir: u64,
-        newname: CStr<'_>,
-        flags: u32,
-    ) -> Result<(), Fault> {
-        self.done
-    }
-
-    fn link(
-        &mut self,
-        ctx: Context,
-        inode: u64,
-        newparent: u64,
-        newname: CStr<'_>,
-    ) -> Result<Entry, Fault> {
-        same_entry_answer(&self.entry)
-    }
-
-    fn open(
-        &mut self,
-        ctx: Context,
-        inode: u64,
-        kill_priv: bool,
-        flags: u32,
-    ) -> Result<(Option<u64>, OpenOptions), Fault> {
-        self.opening
-    }
-
-    fn read<W: ZeroCopyWriter>(
+    fn read_data<W: ZeroCopyWriter>(
         &mut self,
         ctx: Context,
         inode: u64,
@@ -356,7 +302,7 @@ impl FileSystem for Script {
         }
     }
 
-    fn write<R: ZeroCopyReader>(
+    fn write_data<R: ZeroCopyReader>(
         &mut self,
         ctx: Context,
         inode: u64,
@@ -375,87 +321,7 @@ impl FileSystem for Script {
         }
     }
 
-    fn statfs(&mut self, ctx: Context, inode: u64) -> Result<Statvfs64, Fault> {
-        self.statistics
-    }
-
-    fn release(
-        &mut self,
-        ctx: Context,
-        inode: u64,
-        flags: u32,
-        handle: u64,
-        flush: bool,
-        flock_release: bool,
-        lock_owner: Option<u64>,
-    ) -> Result<(), Fault> {
-        self.done
-    }
-
-    fn fsync(
-        &mut self,
-        ctx: Context,
-        inode: u64,
-        datasync: bool,
-        handle: u64,
-    ) -> Result<(), Fault> {
-        self.done
-    }
-
-    fn setxattr(
-        &mut self,
-        ctx: Context,
-        inode: u64,
-        name: CStr<'_>,
-        value: &[u8],
-        flags: u32,
-        extra: SetxattrFlags,
-    ) -> Result<(), Fault> {
-        self.done
-    }
-
-    fn getxattr(
-        &mut self,
-        ctx: Context,
-        inode: u64,
-        name: CStr<'_>,
-        size: u32,
-    ) -> Result<GetxattrReply, Fault> {
-        same_value(&self.value)
-    }
-
-    fn listxattr(&mut self, ctx: Context, inode: u64, size: u32) -> Result<ListxattrReply, Fault> {
-        same_names(&self.names)
-    }
-
-    fn removexattr(&mut self, ctx: Context, inode: u64, name: CStr<'_>) -> Result<(), Fault> {
-        self.done
-    }
-
-    fn flush(
-        &mut self,
-        ctx: Context,
-        inode: u64,
-        handle: u64,
-        lock_owner: u64,
-    ) -> Result<(), Fault> {
-        self.done
-    }
-
-    fn init(&mut self, capable: FsOptions) -> Result<FsOptions, Fault> {
-        self.options
-    }
-
-    fn opendir(
-        &mut self,
-        ctx: Context,
-        inode: u64,
-        flags: u32,
-    ) -> Result<(Option<u64>, OpenOptions), Fault> {
-        self.opening
-    }
-
-    fn readdir(
+    fn read_directory(
         &mut self,
         ctx: Context,
         inode: u64,
@@ -467,128 +333,5 @@ impl FileSystem for Script {
             Ok(directory) => directory.entries(),
             Err(fault) => Err(*fault),
         }
-    }
-
-    fn releasedir(
-        &mut self,
-        ctx: Context,
-        inode: u64,
-        flags: u32,
-        handle: u64,
-    ) -> Result<(), Fault> {
-        self.done
-    }
-
-    fn fsyncdir(
-        &mut self,
-        ctx: Context,
-        inode: u64,
-        datasync: bool,
-        handle: u64,
-    ) -> Result<(), Fault> {
-        self.done
-    }
-
-    fn getlk(&mut self) -> Result<(), Fault> {
-        self.done
-    }
-
-    fn setlk(&mut self) -> Result<(), Fault> {
-        self.done
-    }
-
-    fn setlkw(&mut self) -> Result<(), Fault> {
-        self.done
-    }
-
-    fn access(&mut self, ctx: Context, inode: u64, mask: u32) -> Result<(), Fault> {
-        self.done
-    }
-
-    fn create(
-        &mut self,
-        ctx: Context,
-        parent: u64,
-        name: CStr<'_>,
-        mode: u32,
-        kill_priv: bool,
-        flags: u32,
-        umask: u32,
-        ext: Extensions,
-    ) -> Result<(Entry, Option<u64>, OpenOptions), Fault> {
-        same_creation(&self.creation)
-    }
-
-    fn bmap(&mut self) -> Result<(), Fault> {
-        self.done
-    }
-
-    fn destroy(&mut self) {
-        defaults::destroy()
-    }
-
-    fn ioctl(&mut self) -> Result<(), Fault> {
-        self.done
-    }
-
-    fn poll(&mut self) -> Result<(), Fault> {
-        self.done
-    }
-
-    fn notify_reply(&mut self) -> Result<(), Fault> {
-        self.done
-    }
-
-    fn batch_forget(&mut self, ctx: Context, requests: Vec<(u64, u64)>)
-        ensures { Plays self.old
-            (BatchForget ctx requests.items)
-            (Plain Done)
-            self.new }
-    {}
-
-    fn fallocate(
-        &mut self,
-        ctx: Context,
-        inode: u64,
-        handle: u64,
-        mode: u32,
-        offset: u64,
-        length: u64,
-    ) -> Result<(), Fault> {
-        self.done
-    }
-
-    fn lseek(
-        &mut self,
-        ctx: Context,
-        inode: u64,
-        handle: u64,
-        offset: u64,
-        whence: u32,
-    ) -> Result<u64, Fault> {
-        self.offset
-    }
-
-    fn copyfilerange(
-        &mut self,
-        ctx: Context,
-        inode_in: u64,
-        handle_in: u64,
-        offset_in: u64,
-        inode_out: u64,
-        handle_out: u64,
-        offset_out: u64,
-        len: u64,
-        flags: u64,
-    ) -> Result<u32, Fault> {
-        self.written
-    }
-
-    fn syncfs(&mut self, ctx: Context, inode: u64) -> Result<(), Fault> {
-        self.done
-    }
-
-    fn tmpfile(&mut self) -> Fault {
-        self.tmpfile
     }
 }

@@ -1,6 +1,6 @@
 use Rattle.std.proofs.Common.{◌≡◌, min, refl, arith}
 use Rattle.vfs_files.specs.TransferLaws.{transfer_counts}
-use Rattle.vfs_bench.proofs.script.ScriptFileSystem.read.Goals as goal
+use Rattle.vfs_bench.proofs.script.ScriptPartialFileSystem.read_data.Goals as goal
 
 pub returns-in-Some : goal.returns-in-Some
 returns-in-Some g c =
