@@ -28,8 +28,9 @@
 //!
 //! An answer that the input tells goes before all this.
 
-ghost use Rattle.std.specs.Prelude.{◌≤◌, ℕ, List, IfOk, IfSome, vec_len};
+ghost use Rattle.std.specs.Prelude.{◌≤◌, ℕ, List, IfOk};
 ghost use Rattle.vfs_files.specs.Answers.{Counts};
+ghost use Rattle.vfs_files.specs.Asked.{IsOptions, IsEntry, IsAttributes, IsOpening, IsCreation, IsText, IsTextOrCount, IsOffset, IsWrote, IsDone};
 
 use crate::contents::Contents;
 use crate::listing::{DirectoryItems, Seeded};
@@ -41,8 +42,7 @@ use std::alloc::{AllocError, Global};
 use std::cell::RefCell;
 use std::collections::VecDeque;
 use std::mem;
-use std::time::Duration;
-use vfs_files::{CStr, Context, Entry, ZeroCopyReader, ZeroCopyWriter};
+use vfs_files::{CStr, Context, Given, ZeroCopyReader, ZeroCopyWriter};
 use vfs_flags::{Errno, Fault, FsOptions, OpenOptions};
 use vfs_wire::{Attr, SetattrIn};
 
@@ -88,16 +88,17 @@ impl<'a> SeededFs<'a> {
         &self.notes
     }
 
-    // Begins the note of a call, and takes its word.
-    fn begin(&mut self, call: &str, ctx: &Context) {
-        self.notes.call_by(call, ctx);
-        self.word = ctx.pid.cast_unsigned();
-    }
-
     // Notes a call, and takes its word.
     fn called(&mut self, call: &str, ctx: &Context, args: &[Arg<'_>]) {
-        self.begin(call, ctx);
+        self.notes.call_by(call, ctx);
+        self.word = ctx.pid.cast_unsigned();
         self.notes.args(args);
+        self.notes.end();
+    }
+
+    // Notes a call that has no caller.
+    fn called_untold(&mut self, call: &str) {
+        self.notes.call(call);
         self.notes.end();
     }
 
@@ -136,16 +137,20 @@ impl<'a> SeededFs<'a> {
     }
 
     // The options that are wanted.
-    fn wanted(&self) -> Result<FsOptions, Fault> {
+    fn wanted(&self) -> Result<Given, Fault>
+        ensures { IsOptions result }
+    {
         let bits = match self.source()? {
             Source::Told(bits) => bits,
             Source::Seed(seed) => wanted_bits(seed),
         };
-        Ok(FsOptions::from_bits_truncate(bits))
+        Ok(Given::Options(FsOptions::from_bits_truncate(bits)))
     }
 
     // What LOOKUP finds.
-    fn found(&mut self, ctx: &Context, name: CStr<'_>) -> Result<Entry, Fault> {
+    fn found(&self, ctx: &Context, name: CStr<'_>) -> Result<Given, Fault>
+        ensures { IsEntry result }
+    {
         let source = match self.next_told() {
             Some(told) => told.source(),
             None => match name.to_bytes().first() {
@@ -154,65 +159,30 @@ impl<'a> SeededFs<'a> {
                 _ => self.seed(),
             },
         };
-        self.entry_of(source, ctx, name)
+        Ok(Given::Found(source?.entry(ctx, name.to_bytes())))
     }
 
     // The entry of a node that is made or gets a name.
-    fn made(&mut self, ctx: &Context, name: CStr<'_>) -> Result<Entry, Fault> {
-        let source = self.source();
-        self.entry_of(source, ctx, name)
-    }
-
-    // The entry by what it hangs on, which is noted.
-    fn entry_of(
-        &mut self,
-        source: Result<Source, Fault>,
-        ctx: &Context,
-        name: CStr<'_>,
-    ) -> Result<Entry, Fault> {
-        let answer = match source {
-            Ok(source) => Ok(source.entry(ctx, name.to_bytes())),
-            Err(fault) => Err(fault),
-        };
-        self.notes.answer(&answer);
-        if let Ok(entry) = &answer {
-            self.notes.number("node", entry.inode);
-        }
-        self.notes.end();
-        answer
+    fn made(&self, ctx: &Context, name: CStr<'_>) -> Result<Given, Fault>
+        ensures { IsEntry result }
+    {
+        Ok(Given::Found(self.source()?.entry(ctx, name.to_bytes())))
     }
 
     // What is opened.
-    fn opened(&mut self) -> Result<(Option<u64>, OpenOptions), Fault> {
-        let answer = match self.source() {
-            Ok(source) => Ok(source.opening()),
-            Err(fault) => Err(fault),
-        };
-        self.notes.answer(&answer);
-        if let Ok((handle, options)) = &answer {
-            self.note_opening(*handle, *options);
-        }
-        self.notes.end();
-        answer
+    fn opened(&self) -> Result<Given, Fault>
+        ensures { IsOpening result }
+    {
+        let (handle, options) = self.source()?.opening();
+        Ok(Given::Opened(handle, options))
     }
 
     // The node that is made, and what is opened of it.
-    fn created(
-        &mut self,
-        ctx: &Context,
-        name: CStr<'_>,
-    ) -> Result<(Entry, Option<u64>, OpenOptions), Fault> {
-        let answer = match self.source() {
-            Ok(source) => Ok(source.creation(ctx, name.to_bytes())),
-            Err(fault) => Err(fault),
-        };
-        self.notes.answer(&answer);
-        if let Ok((entry, handle, options)) = &answer {
-            self.notes.number("node", entry.inode);
-            self.note_opening(*handle, *options);
-        }
-        self.notes.end();
-        answer
+    fn created(&self, ctx: &Context, name: CStr<'_>) -> Result<Given, Fault>
+        ensures { IsCreation result }
+    {
+        let (entry, handle, options) = self.source()?.creation(ctx, name.to_bytes());
+        Ok(Given::Created(entry, handle, options))
     }
 
     // A reading of a directory from this place on.
@@ -227,27 +197,26 @@ impl<'a> SeededFs<'a> {
         Ok(DirectoryItems::Seeded(Seeded::new(source.as_seed(), place)))
     }
 
-    // The attributes of a node. The answer is noted.
-    fn attributes(
-        &mut self,
-        ctx: &Context,
-        inode: u64,
-        handle: Option<u64>,
-    ) -> Result<(Attr, Duration), Fault> {
-        let t = u64::from(self.seed_noted()?) + inode % 1000 + handle.unwrap_or(0) % 7;
-        Ok((attr(t, inode, ctx), time(t)))
+    // The attributes of a node.
+    fn attributes(&self, ctx: &Context, inode: u64, handle: Option<u64>) -> Result<Given, Fault>
+        ensures { IsAttributes result }
+    {
+        let t = u64::from(self.seed_or_told()?) + inode % 1000 + handle.unwrap_or(0) % 7;
+        Ok(Given::Attributes(attr(t, inode, ctx), time(t)))
     }
 
-    // The attributes of a node, where those of the record are set. The answer is noted.
+    // The attributes of a node, where those of the record are set.
     fn changed(
-        &mut self,
+        &self,
         ctx: &Context,
         inode: u64,
         set: &SetattrIn,
         nlink: u32,
         flags: u32,
-    ) -> Result<(Attr, Duration), Fault> {
-        let t = u64::from(self.seed_noted()?);
+    ) -> Result<Given, Fault>
+        ensures { IsAttributes result }
+    {
+        let t = u64::from(self.seed_or_told()?);
         let attr = Attr {
             size: set.size,
             atime: set.atime,
@@ -263,7 +232,7 @@ impl<'a> SeededFs<'a> {
             flags,
             ..attr(t, inode, ctx)
         };
-        Ok((attr, time(t)))
+        Ok(Given::Attributes(attr, time(t)))
     }
 
     // Puts bytes of a file into `w`.
@@ -288,17 +257,15 @@ impl<'a> SeededFs<'a> {
         r: &mut R,
         size: u32,
         offset: u64,
-    ) -> Result<u32, Fault>
-        ensures { (bytes : List ℕ) × R.takes r.old bytes r.new }
+    ) -> Result<usize, Fault>
+        ensures taken { (bytes : List ℕ) × R.takes r.old bytes r.new }
+        ensures within { IfOk result (λ n. n ≤ size) }
     {
         let seed = self.seed_or_told()?;
         let mut file = self.lend_notes(seed);
         let answer = file.write_from(r, size, offset);
         self.notes = file.into_notes();
-        match answer {
-            Ok(count) => Ok(count as u32),
-            Err(fault) => Err(fault),
-        }
+        answer
     }
 
     // A file that has the notes, to add to them.
@@ -308,51 +275,69 @@ impl<'a> SeededFs<'a> {
     }
 
     // The text of a link.
-    fn text(&self) -> Result<Vec<u8>, Fault>
-        ensures { IfOk result (λ text. vec_len text ≤ 500) }
+    fn text(&self) -> Result<Given, Fault>
+        ensures { IsText result }
     {
         let seed = self.seed_or_told()?;
-        bytes(self.alloc, seed, seed % 300)
+        Ok(Given::Text(bytes(self.alloc, seed, seed % 300)?))
     }
 
     // The bytes of extended attributes, or their length where there is to be no more.
-    fn attribute(&self) -> Result<(Option<Vec<u8>>, u32), Fault>
-        ensures { IfOk result (λ found. IfSome found.0 (λ text. vec_len text ≤ 500)) }
+    fn attribute(&self) -> Result<Given, Fault>
+        ensures { IsTextOrCount result }
     {
         let seed = self.seed_or_told()?;
         if seed % 3 == 0 {
-            Ok((None, seed))
+            Ok(Given::Count(seed))
         } else {
-            Ok((Some(bytes(self.alloc, seed, seed / 3 % 500)?), seed))
+            Ok(Given::Text(bytes(self.alloc, seed, seed / 3 % 500)?))
         }
     }
 
-    // Notes a call that answers only whether it is done, and its answer.
-    fn done(&mut self, call: &str, ctx: &Context, args: &[Arg<'_>]) -> Result<(), Fault> {
-        self.called(call, ctx, args);
-        self.done_noted()
+    // The place that LSEEK finds.
+    fn sought(&self, offset: u64) -> Result<Given, Fault>
+        ensures { IsOffset result }
+    {
+        let seed = self.seed_or_told()?;
+        Ok(Given::Offset(if seed % 2 == 0 {
+            offset
+        } else {
+            u64::from(seed)
+        }))
     }
 
-    // The same of a call that is told nothing.
-    fn done_untold(&mut self, call: &str) -> Result<(), Fault> {
-        self.notes.call(call);
+    // How much of `len` bytes is copied.
+    fn copied(&self, len: u64) -> Result<Given, Fault>
+        ensures { IsWrote result }
+    {
+        let seed = self.seed_or_told()?;
+        Ok(Given::Wrote(u32::try_from(len).unwrap_or(seed).min(seed)))
+    }
+
+    // That a call is done.
+    fn done(&self) -> Result<Given, Fault>
+        ensures { IsDone result }
+    {
+        self.seed_or_told()?;
+        Ok(Given::Done)
+    }
+
+    // Notes an answer, and the numbers that it shows.
+    fn note_answer(&mut self, answer: &Result<Given, Fault>) {
+        self.notes.answer(answer);
+        match answer {
+            Ok(Given::Options(want)) => self.notes.bits("want", want.bits()),
+            Ok(Given::Found(entry)) => self.notes.number("node", entry.inode),
+            Ok(Given::Opened(handle, options)) => self.note_opening(*handle, *options),
+            Ok(Given::Created(entry, handle, options)) => {
+                self.notes.number("node", entry.inode);
+                self.note_opening(*handle, *options);
+            }
+            Ok(Given::Offset(offset)) => self.notes.number("offset", *offset),
+            Ok(Given::Wrote(count)) => self.notes.number("count", u64::from(*count)),
+            _ => {}
+        }
         self.notes.end();
-        self.done_noted()
-    }
-
-    // That a call is done, which is noted.
-    fn done_noted(&mut self) -> Result<(), Fault> {
-        match self.seed_noted() {
-            Ok(_) => Ok(()),
-            Err(fault) => Err(fault),
-        }
-    }
-
-    // The seed, or what the input tells in its place, noted as an answer of which nothing is shown.
-    fn seed_noted(&mut self) -> Result<u32, Fault> {
-        let answer = self.seed_or_told();
-        self.note_plain(&answer);
-        answer
     }
 
     // Notes a handle and how to use it.
@@ -361,26 +346,11 @@ impl<'a> SeededFs<'a> {
         self.notes.number("opts", u64::from(options.bits()));
     }
 
-    // Notes an answer of which nothing is shown.
-    fn note_plain<T>(&mut self, answer: &Result<T, Fault>) {
-        self.notes.answer(answer);
-        self.notes.end();
-    }
-
     // Notes an answer that says how many bytes were moved.
     fn note_moved(&mut self, answer: &Result<usize, Fault>) {
         self.notes.answer(answer);
         if let Ok(count) = answer {
             self.notes.number("count", *count as u64);
-        }
-        self.notes.end();
-    }
-
-    // Notes an answer that is a number.
-    fn note_number<N: Copy + Into<u64>>(&mut self, name: &str, answer: &Result<N, Fault>) {
-        self.notes.answer(answer);
-        if let Ok(number) = answer {
-            self.notes.number(name, (*number).into());
         }
         self.notes.end();
     }
