@@ -1,6 +1,5 @@
 mod FilesAt
 mod Index
 mod Indexed
-mod Results
 mod RootItems
 mod Searches

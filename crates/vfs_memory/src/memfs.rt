@@ -111,13 +111,13 @@ impl MemFs {
         };
         let key = copy_of(self.alloc, name.to_bytes())?;
         let entry = entry(&file);
-        if self.files.push(file).is_err() {
+        let Ok(()) = self.files.push(file) else {
             return Err(Some(Errno::ENOMEM));
-        }
-        if self.names.insert(key, node).is_err() {
+        };
+        let Ok(_) = self.names.insert(key, node) else {
             self.files.pop();
             return Err(Some(Errno::ENOMEM));
-        }
+        };
         self.next += 1;
         Ok(entry)
     }
