@@ -1,4 +1,5 @@
 pub mod Asked
+pub mod Cleared
 pub mod Contexts
 pub mod Memory
 pub mod Noting

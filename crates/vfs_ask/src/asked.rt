@@ -19,6 +19,7 @@ ghost use Rattle.vfs_ask.specs.Noting.{IsNoted, NotedAndTold};
 ghost use Rattle.vfs_ask.specs.Parts.{told_with};
 ghost use Rattle.vfs_ask.specs.Asked.{IsAsked, IsEnough, LiesWithin, Tells, interrupted_behind, interrupted_by, unique_or_none};
 
+use crate::clear::{clear_numbers, clear_places};
 use crate::contexts::{may_have_context, place_context, read_tail_of, refusal_of_tail};
 use crate::direct::{note_getattr, note_lookup, note_read, note_write};
 use crate::init::ask_init;
@@ -98,6 +99,7 @@ pub fn ask(
 }
 
 // The same, whatever room `w` has left: a finished request has as much of its reply there as fits.
+#[inline(always)]
 pub(crate) fn ask_request(
     alloc: Global,
     limits: Limits,
@@ -112,9 +114,11 @@ pub(crate) fn ask_request(
         (fs_options_bits options) (interrupted_by limits r.entry.left) room
         (ask limits (fs_options_bits options) room r.entry.left) w.old result w.new call.new }
 {
-    *call = CallData::NONE;
+    clear_places(call);
     let len = r.available_bytes() as u64;
-    match read_record::<InHeader>(&mut r) {
+    let header = read_record::<InHeader>(&mut r);
+    clear_numbers(call);
+    match header {
         Ok(header) => {
             let (header, r) = (&header, &mut r);
             ask_behind(
@@ -132,6 +136,7 @@ pub(crate) fn ask_request(
 }
 
 // What a request of `len` bytes with this header asks.
+#[inline(always)]
 fn ask_behind(
     limits: Limits,
     options: FsOptions,
@@ -183,6 +188,7 @@ fn interrupted(r: &mut Reader<'_>) -> u64
 
 // What a request of `len` bytes and this opcode asks, which is no INIT, no INTERRUPT and
 // reads no directory.
+#[inline(always)]
 fn ask_of_opcode(
     opcode: Opcode,
     limits: Limits,
@@ -218,6 +224,7 @@ fn ask_of_opcode(
 }
 
 // What a request of this opcode asks, which has no context.
+#[inline(always)]
 fn ask_without_context(
     opcode: Opcode,
     limits: Limits,
@@ -250,6 +257,7 @@ fn ask_without_context(
 }
 
 // What a request of this opcode asks, which may have a context.
+#[inline(never)]
 fn ask_with_context(
     opcode: Opcode,
     limits: Limits,
@@ -294,6 +302,7 @@ fn ask_with_context(
 
 // Notes the call of a request of this opcode, or finishes the request: those that are asked for most
 // by themselves, and the others over a handler.
+#[inline(always)]
 fn note_opcode(
     opcode: Opcode,
     limits: Limits,
@@ -326,6 +335,7 @@ fn note_opcode(
 }
 
 // Notes the call of a request of `len` bytes, and tells it with the places of its names and values.
+#[inline(always)]
 fn tell(
     opcode: Opcode,
     limits: Limits,

@@ -15,6 +15,7 @@ use vfs_segments::{Reader, Writer};
 use vfs_wire::{InHeader, InitInCompat};
 
 /// What an INIT with this header asks, behind which `r` stands: its one or two records.
+#[inline(never)]
 pub fn ask_init(
     header: &InHeader,
     options: FsOptions,

@@ -3,6 +3,7 @@
 
 mod asked;
 mod checked;
+mod clear;
 mod contexts;
 mod direct;
 mod init;

@@ -19,6 +19,7 @@ use vfs_wire::{ByteValued, OutHeader};
 use vfs_wire_more::ReadIn;
 
 /// What a READDIR asks, or with `plus` a READDIRPLUS: the directory is to be read.
+#[inline(never)]
 pub fn ask_listing(
     plus: bool,
     limits: Limits,

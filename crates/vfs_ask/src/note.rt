@@ -32,6 +32,7 @@ fn handle(session: &mut Session<Asking<'_>>, q: Request<'_, '_>, w: &mut Writer)
 
 /// Notes the call that a request with this header asks for, in a record that has none. Else it
 /// finishes the request: the reply is put into the room that `w` has left.
+#[inline(never)]
 pub fn note(
     limits: Limits,
     options: FsOptions,

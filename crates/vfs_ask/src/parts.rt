@@ -43,6 +43,7 @@ fn behind(size: usize) -> u64
 
 impl Parts {
     /// The parts of a request of this opcode, where these options are agreed on.
+    #[inline(always)]
     pub fn of(opcode: Opcode, options: FsOptions) -> Parts
         ensures { result ≡ parts_of (fs_options_bits options) opcode }
     {
@@ -68,6 +69,7 @@ impl Parts {
 
     /// Tells the places of these parts of a call, whose names and values are told by their lengths, in
     /// a request of `len` bytes with a room of `room` bytes.
+    #[inline(always)]
     pub fn place(self, len: u64, room: u64, call: &mut CallData)
         ensures { call.new ≡ with_parts len room self call.old }
     {

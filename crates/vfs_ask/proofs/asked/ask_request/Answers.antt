@@ -14,7 +14,7 @@ returns-in-Ok c =
     let options = fs_options_bits c.args.options in
     let by = interrupted_by c.args.limits q in
     let h = c.in-Ok.header in
-    let wanted = MayWantBehind c.args.limits options c.args.room (opcode_of h.opcode) h c.read_record.new.reader.pieces in
+    let wanted = MayWantBehind c.args.limits options c.args.room (opcode_of h.opcode) h c.read_record-header.new.reader.pieces in
     let told : Tells wanted q options by c.args.room (ask c.args.limits options c.args.room q) c.args.w.now
     c.ask_behind.result c.ask_behind.new.w c.ask_behind.new.call = search rules in
     tells_less wanted (MayWant c.args.limits options c.args.room c.args.r)
