@@ -4,8 +4,8 @@ use Rattle.vfs_calls.specs.Shapes.{no_range, no_setattr}
 use Rattle.vfs_calls.specs.declared.call.CallData.{CallData}
 
 -- a call without what has 8 bytes, and without its ranges
-abbrev pub without_places : CallData → CallData
-without_places c = record c {
+abbrev pub cleared_places : CallData → CallData
+cleared_places c = record c {
   unique = 0;
   options = 0;
   room = 0;
@@ -25,8 +25,8 @@ without_places c = record c {
 }
 
 -- a call without the record of a SETATTR, and without what has 4 bytes
-abbrev pub without_numbers : CallData → CallData
-without_numbers c = record c {
+abbrev pub cleared_numbers : CallData → CallData
+cleared_numbers c = record c {
   attr = no_setattr;
   call = 0;
   answer = 0;

@@ -3,14 +3,14 @@
 //! It is cleared in two parts, each short enough that LLVM writes it in line. All at once is a call of `memset`.
 
 ghost use Rattle.std.specs.Prelude.{◌≡◌};
-ghost use Rattle.vfs_ask.specs.Cleared.{without_places, without_numbers};
+ghost use Rattle.vfs_ask.specs.Cleared.{cleared_places, cleared_numbers};
 
 use vfs_calls::{CallData, Range, SetattrData};
 
 /// Clears the first part: what has 8 bytes, and the ranges.
 #[inline(always)]
 pub fn clear_places(call: &mut CallData)
-    ensures { call.new ≡ without_places call.old }
+    ensures { call.new ≡ cleared_places call.old }
 {
     call.unique = 0;
     call.options = 0;
@@ -33,7 +33,7 @@ pub fn clear_places(call: &mut CallData)
 /// Clears the second part: the record of a SETATTR, and what has 4 bytes.
 #[inline(always)]
 pub fn clear_numbers(call: &mut CallData)
-    ensures { call.new ≡ without_numbers call.old }
+    ensures { call.new ≡ cleared_numbers call.old }
 {
     call.attr = SetattrData::NONE;
     call.call = 0;
