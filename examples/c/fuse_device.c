@@ -6,10 +6,15 @@
  * FUSE_DEV_IOC_CLONE, and begins once the options are agreed on.
  *
  * The kernel wakes those that read in turn, so one client would be served by one cold worker after
- * another. So a worker that finds another one reading, and no request that waits, rests. While
- * requests come the calling thread looks each millisecond whether some wait and no one reads. It
- * calls one that rests if none was taken since it looked last, as one takes long, or if some wait
- * time after time; and that one calls the next if there was a request for it at once. */
+ * another. So only as many workers take requests as are wanted, one at first, and the others rest. A
+ * worker that takes a request while others wait, and no one reads, calls one that rests: at once, if
+ * there are data to copy, or else time after time. While requests come the calling thread looks
+ * each millisecond whether some wait, no one reads and none was taken, as one takes long, and calls one
+ * too. From time to time one less is wanted.
+ *
+ * To sleep and to be woken takes longer than most clients take from a reply to the next request. So a
+ * worker that is alone, and that was woken soon time after time, looks for a while whether one comes
+ * before it sleeps. */
 #define _GNU_SOURCE
 #include <errno.h>
 #include <fcntl.h>
@@ -31,8 +36,17 @@
 
 /* The longest request and reply: a header and its record take less than a page. Before the data of
  * a WRITE stand 80 bytes, and before those of a READ's reply 16. */
-enum { TICK = 1, QUIET_TICKS = 50, STUCK_TICKS = 2, WAITED_TICKS = 4 };
 enum { PAGE = 4096, LONGEST = TRANSPORT_PAYLOAD + PAGE, BEFORE_WRITE = 80, BEFORE_READ = 16 };
+
+/* In milliseconds: how often the calling thread looks, when it no longer does so if no request comes,
+ * and when a worker takes long. Each CALM_TICKS one less is wanted. */
+enum { TICK = 1, QUIET_TICKS = 50, STUCK_TICKS = 2, CALM_TICKS = 50 };
+/* How many bytes are data to copy; of the other requests, of which each is looked whether others wait,
+ * and how many in turn that find some call one more. */
+enum { BULK = 32768, LOOK_EACH = 4, BACKLOGS = 4 };
+/* In nanoseconds: how long a request that didn't wait already takes to come at least, and one that
+ * comes soon at most. Behind so many of these more than of others a worker looks before it sleeps. */
+enum { LEAST_WAIT = 1500, SHORT_WAIT = 20000, SHORT_WAITS = 4 };
 
 enum outcome { SERVED, ENDED, FAILED };
 
@@ -44,6 +58,8 @@ struct worker {
 	int fd;
 	pthread_t thread;
 	unsigned char *memory, *request, *room;
+	/* How many requests came soon, less those that waited already, since one took longer. */
+	unsigned short_waits;
 };
 
 struct device {
@@ -56,6 +72,8 @@ struct device {
 	/* How many read now, and how many requests were taken. */
 	atomic_uint readers;
 	atomic_ulong taken;
+	/* How many don't rest, how many are not to, and how many requests in turn found others waiting. */
+	atomic_uint active, wanted, backlogs;
 	/* The calling thread waits for no tick, but to be told by `busy`. */
 	atomic_int sleeps;
 	int busy;
@@ -102,14 +120,24 @@ static void tell(const struct device *d, int event)
 		say(d->by, "eventfd");
 }
 
-/* Calls one that rests, if one does. */
+/* Calls one that rests, if one does: as many are wanted from now on. */
 static void call_one(struct device *d)
 {
 	pthread_mutex_lock(&d->lock);
 	if (d->resting > d->called) {
 		d->called++;
+		atomic_store(&d->wanted, atomic_load(&d->active) + d->called);
 		pthread_cond_signal(&d->call);
 	}
+	pthread_mutex_unlock(&d->lock);
+}
+
+/* One less is wanted, or one alone. */
+static void want_less(struct device *d, int alone)
+{
+	pthread_mutex_lock(&d->lock);
+	if (atomic_load(&d->wanted) > 1)
+		atomic_store(&d->wanted, alone ? 1 : atomic_load(&d->wanted) - 1);
 	pthread_mutex_unlock(&d->lock);
 }
 
@@ -121,41 +149,107 @@ static int is_waited_for(const struct worker *w)
 	return poll(&device, 1, 0) > 0;
 }
 
-/* Rests until it is called. Answers whether it was. */
-static int rest(struct device *d)
+/* Rests until it is called. */
+static void rest(struct device *d)
 {
-	int was_called = 0;
-
 	pthread_mutex_lock(&d->lock);
 	d->resting++;
+	atomic_fetch_sub(&d->active, 1);
 	while (!d->called && !atomic_load(&d->stop))
 		pthread_cond_wait(&d->call, &d->lock);
-	if (d->called) {
+	if (d->called)
 		d->called--;
-		was_called = 1;
-	}
 	d->resting--;
+	atomic_fetch_add(&d->active, 1);
 	pthread_mutex_unlock(&d->lock);
-	return was_called;
 }
 
-/* Rests if another one reads and no request waits. Answers whether it was called since. */
-static int rest_if_idle(const struct worker *w)
+/* Rests if it isn't wanted: another one reads, and no request waits. */
+static void rest_if_idle(const struct worker *w)
 {
-	return atomic_load(&w->of->readers) && !is_waited_for(w) ? rest(w->of) : 0;
+	struct device *d = w->of;
+
+	if (atomic_load(&d->active) > atomic_load(&d->wanted) && atomic_load(&d->readers) &&
+	    !is_waited_for(w))
+		rest(d);
+}
+
+/* Whether a request has data to copy, or room for them. */
+static int is_bulk(const struct fuse_in_header *asked, size_t room)
+{
+	return asked->len >= BULK ||
+	       (room >= BULK && (asked->opcode == FUSE_READ || asked->opcode == FUSE_READDIR ||
+				 asked->opcode == FUSE_READDIRPLUS));
+}
+
+/* Whether no client waits for what a request comes to: one client alone has some of these at once. */
+static int is_let_go(const struct fuse_in_header *asked)
+{
+	return asked->opcode == FUSE_FORGET || asked->opcode == FUSE_BATCH_FORGET ||
+	       asked->opcode == FUSE_RELEASE || asked->opcode == FUSE_RELEASEDIR;
+}
+
+/* Calls one that rests if others wait while this request is answered. */
+static void call_if_late(const struct worker *w, const struct fuse_in_header *asked, size_t room)
+{
+	struct device *d = w->of;
+	const int bulk = is_bulk(asked, room);
+
+	if (atomic_load(&d->active) >= d->by->workers || is_let_go(asked) ||
+	    (!bulk && atomic_load(&d->taken) % LOOK_EACH))
+		return;
+	if (atomic_load(&d->readers) || !is_waited_for(w)) {
+		atomic_store(&d->backlogs, 0);
+	} else if (bulk || atomic_fetch_add(&d->backlogs, 1) + 1 >= BACKLOGS) {
+		atomic_store(&d->backlogs, 0);
+		call_one(d);
+	}
+}
+
+static uint64_t now(void)
+{
+	struct timespec time;
+
+	clock_gettime(CLOCK_MONOTONIC, &time);
+	return (uint64_t)time.tv_sec * 1000000000 + (uint64_t)time.tv_nsec;
+}
+
+/* Reads a request, and looks before whether one comes soon. */
+static ssize_t read_alone(struct worker *w)
+{
+	const uint64_t from = now();
+	uint64_t waited;
+	ssize_t got;
+	int error;
+
+	if (w->short_waits >= SHORT_WAITS)
+		while (!is_waited_for(w) && now() - from < SHORT_WAIT)
+			;
+	got = read(w->fd, w->request, LONGEST);
+	error = errno;
+	waited = now() - from;
+	if (waited >= SHORT_WAIT)
+		w->short_waits = 0;
+	else if (waited > LEAST_WAIT)
+		w->short_waits += w->short_waits < 2 * SHORT_WAITS;
+	else
+		w->short_waits -= w->short_waits > 0;
+	errno = error;
+	return got;
 }
 
 /* Reads a request, and counts those that read. */
-static ssize_t read_request(const struct worker *w)
+static ssize_t read_request(struct worker *w)
 {
 	struct device *d = w->of;
 	ssize_t got;
 	int error;
 
 	if (d->by->workers == 1)
-		return read(w->fd, w->request, LONGEST);
+		return read_alone(w);
 	atomic_fetch_add(&d->readers, 1);
-	got = read(w->fd, w->request, LONGEST);
+	got = atomic_load(&d->wanted) == 1 && atomic_load(&d->readers) == 1 ?
+		      read_alone(w) : read(w->fd, w->request, LONGEST);
 	error = errno;
 	atomic_fetch_sub(&d->readers, 1);
 	atomic_fetch_add(&d->taken, 1);
@@ -189,9 +283,8 @@ static size_t room_for(const struct worker *w, const struct fuse_in_header *aske
 	}
 }
 
-/* Takes a request and answers it. `*opcode` is what was asked, 0 if nothing was. One that was called
- * calls the next. */
-static enum outcome serve_one(const struct worker *w, uint32_t *opcode, int was_called)
+/* Takes a request and answers it. `*opcode` is what was asked, 0 if nothing was. */
+static enum outcome serve_one(struct worker *w, uint32_t *opcode)
 {
 	const ssize_t got = read_request(w);
 	const nizwarf_segment segment = { w->request, (size_t)got };
@@ -202,8 +295,6 @@ static enum outcome serve_one(const struct worker *w, uint32_t *opcode, int was_
 	int32_t code;
 
 	*opcode = 0;
-	if (got > 0 && was_called && !atomic_load(&w->of->readers))
-		call_one(w->of);
 	if (got == 0 || (got < 0 && errno == ENODEV))
 		return ENDED;
 	/* ENOENT: who asked has been interrupted before it was read. */
@@ -216,6 +307,7 @@ static enum outcome serve_one(const struct worker *w, uint32_t *opcode, int was_
 	memcpy(&asked, w->request, sizeof(asked));
 	*opcode = asked.opcode;
 	room.len = room_for(w, &asked, (size_t)got);
+	call_if_late(w, &asked, room.len);
 	code = by->serve(by->user, w->number, &segment, 1, &room, 1, &len);
 	if (code != NIZWARF_OK)
 		len = refuse(w, &asked, code);
@@ -243,10 +335,12 @@ static int start(struct device *d, int fd)
 	}
 	/* (the first one counts on from here, as soon as it runs) */
 	d->started++;
+	atomic_fetch_add(&d->active, 1);
 	errno = ENOMEM;
 	if (memory && fd >= 0 && !(errno = pthread_create(&w->thread, NULL, run, w)))
 		return 0;
 	d->started--;
+	atomic_fetch_sub(&d->active, 1);
 	say(d->by, "a worker");
 	free(memory);
 	if (fd >= 0)
@@ -288,16 +382,17 @@ static void *run(void *given)
 	struct worker *w = given;
 	struct device *d = w->of;
 	enum outcome outcome = FAILED;
-	int was_called;
 	uint32_t opcode;
 
 	if (!d->by->begin || !d->by->begin(d->by->user, w->number)) {
-		was_called = w->number ? rest(d) : 0;
+		if (w->number)
+			rest(d);
 		do {
-			outcome = serve_one(w, &opcode, was_called);
+			outcome = serve_one(w, &opcode);
 			if (opcode == FUSE_INIT && w->number == 0)
 				start_others(d);
-			was_called = outcome == SERVED ? rest_if_idle(w) : 0;
+			if (outcome == SERVED)
+				rest_if_idle(w);
 		} while (outcome == SERVED && !atomic_load(&d->stop));
 		if (d->by->end)
 			d->by->end(d->by->user, w->number);
@@ -337,21 +432,23 @@ int fuse_device_unmount(const transport *by, const char *folder)
 /* What the calling thread saw when it looked last. */
 struct seen {
 	unsigned long taken;
-	unsigned quiet, waited;
+	unsigned quiet, stuck, calm;
 };
 
-/* Calls one that rests if requests are to be taken, and no one does. */
+/* Calls one that rests if requests wait and none is taken; or else one less is wanted, after a while. */
 static void look(struct device *d, struct seen *seen, unsigned long taken)
 {
-	if (atomic_load(&d->readers)) {
-		seen->waited = 0;
-		return;
+	const int is_stuck = taken == seen->taken && !atomic_load(&d->readers) &&
+			     is_waited_for(&d->worker[0]);
+
+	seen->stuck = is_stuck ? seen->stuck + 1 : 0;
+	if (seen->stuck >= STUCK_TICKS) {
+		seen->stuck = 0;
+		call_one(d);
+	} else if (++seen->calm >= CALM_TICKS) {
+		seen->calm = 0;
+		want_less(d, 0);
 	}
-	seen->waited = is_waited_for(&d->worker[0]) ? seen->waited + 1 : 0;
-	if (seen->waited < (taken == seen->taken ? STUCK_TICKS : WAITED_TICKS))
-		return;
-	seen->waited = 0;
-	call_one(d);
 }
 
 /* How long to wait for the next tick, in milliseconds; -1: until somebody is busy. */
@@ -367,6 +464,7 @@ static int next_tick(struct device *d, struct seen *seen)
 	if (seen->quiet < QUIET_TICKS)
 		return TICK;
 	/* A worker that takes a request from now on sees this, or it is seen here that it did. */
+	want_less(d, 1);
 	atomic_store(&d->sleeps, 1);
 	if (atomic_load(&d->taken) == now && atomic_load(&d->readers))
 		return -1;
@@ -456,6 +554,7 @@ int fuse_device_serve(const transport *by, int device, const char *folder)
 		d->by = by;
 		d->over = own[1];
 		d->busy = own[2];
+		atomic_store(&d->wanted, 1);
 		pthread_mutex_init(&d->lock, NULL);
 		pthread_cond_init(&d->call, NULL);
 		is_wrong = serve(d, device, own[0], folder);
