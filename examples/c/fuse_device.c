@@ -8,9 +8,9 @@
  * The kernel wakes those that read in turn, so one client would be served by one cold worker after
  * another. So only as many workers take requests as are wanted, one at first, and the others rest. A
  * worker that takes a request while others wait, and no one reads, calls one that rests: at once, if
- * there are data to copy, or else time after time. While requests come the calling thread looks
- * each millisecond whether some wait, no one reads and none was taken, as one takes long, and calls one
- * too. From time to time one less is wanted.
+ * there are data to copy, or else time after time. While requests come the calling thread looks from
+ * time to time whether some wait and no one reads, as one takes long, and calls one too; and if it is
+ * calm, one less is wanted.
  *
  * To sleep and to be woken takes longer than most clients take from a reply to the next request. So a
  * worker that is alone, and that was woken soon time after time, looks for a while whether one comes
@@ -38,12 +38,14 @@
  * a WRITE stand 80 bytes, and before those of a READ's reply 16. */
 enum { PAGE = 4096, LONGEST = TRANSPORT_PAYLOAD + PAGE, BEFORE_WRITE = 80, BEFORE_READ = 16 };
 
-/* In milliseconds: how often the calling thread looks, when it no longer does so if no request comes,
- * and when a worker takes long. Each CALM_TICKS one less is wanted. */
-enum { TICK = 1, QUIET_TICKS = 50, STUCK_TICKS = 2, CALM_TICKS = 50 };
+/* In milliseconds: how often the calling thread looks if one worker alone is wanted and no request
+ * waits, or else; when it no longer does so if none comes; and when one less is wanted. */
+enum { LONG_TICK = 16, TICK = 1, QUIET = 50, CALM = 20 };
+/* How many ticks in turn requests wait until it calls one: if none was taken meanwhile, or else. */
+enum { STUCK_TICKS = 2, WAITED_TICKS = 4 };
 /* How many bytes are data to copy; of the other requests, of which each is looked whether others wait,
  * and how many in turn that find some call one more. */
-enum { BULK = 32768, LOOK_EACH = 4, BACKLOGS = 4 };
+enum { BULK = 32768, LOOK_EACH = 8, BACKLOGS = 3 };
 /* In nanoseconds: how long a request that didn't wait already takes to come at least, and one that
  * comes soon at most. Behind so many of these more than of others a worker looks before it sleeps. */
 enum { LEAST_WAIT = 1500, SHORT_WAIT = 20000, SHORT_WAITS = 4 };
@@ -238,6 +240,16 @@ static ssize_t read_alone(struct worker *w)
 	return got;
 }
 
+/* Whether a worker that reads is alone, and may look before. Unless it does, it is only seen now and
+ * then how long a request took to come. */
+static int may_look(const struct worker *w)
+{
+	const struct device *d = w->of;
+
+	return atomic_load(&d->wanted) == 1 && atomic_load(&d->readers) == 1 &&
+	       (w->short_waits || atomic_load(&d->taken) % LOOK_EACH == 0);
+}
+
 /* Reads a request, and counts those that read. */
 static ssize_t read_request(struct worker *w)
 {
@@ -245,11 +257,8 @@ static ssize_t read_request(struct worker *w)
 	ssize_t got;
 	int error;
 
-	if (d->by->workers == 1)
-		return read_alone(w);
 	atomic_fetch_add(&d->readers, 1);
-	got = atomic_load(&d->wanted) == 1 && atomic_load(&d->readers) == 1 ?
-		      read_alone(w) : read(w->fd, w->request, LONGEST);
+	got = may_look(w) ? read_alone(w) : read(w->fd, w->request, LONGEST);
 	error = errno;
 	atomic_fetch_sub(&d->readers, 1);
 	atomic_fetch_add(&d->taken, 1);
@@ -429,23 +438,23 @@ int fuse_device_unmount(const transport *by, const char *folder)
 	return umount2(folder, MNT_DETACH) ? say(by, folder) : 0;
 }
 
-/* What the calling thread saw when it looked last. */
+/* What the calling thread saw when it looked last: how many requests were taken, at how many ticks in
+ * turn some waited, for how many milliseconds it was calm and nothing came; and the tick since then. */
 struct seen {
 	unsigned long taken;
-	unsigned quiet, stuck, calm;
+	unsigned waited, calm, quiet, tick;
 };
 
-/* Calls one that rests if requests wait and none is taken; or else one less is wanted, after a while. */
+/* Calls one that rests if requests wait and no one reads; or one less is wanted, if it is calm. */
 static void look(struct device *d, struct seen *seen, unsigned long taken)
 {
-	const int is_stuck = taken == seen->taken && !atomic_load(&d->readers) &&
-			     is_waited_for(&d->worker[0]);
+	const int is_late = !atomic_load(&d->readers) && is_waited_for(&d->worker[0]);
 
-	seen->stuck = is_stuck ? seen->stuck + 1 : 0;
-	if (seen->stuck >= STUCK_TICKS) {
-		seen->stuck = 0;
+	seen->waited = is_late ? seen->waited + 1 : 0;
+	if (seen->waited >= (taken == seen->taken ? STUCK_TICKS : WAITED_TICKS)) {
+		seen->waited = seen->calm = 0;
 		call_one(d);
-	} else if (++seen->calm >= CALM_TICKS) {
+	} else if (!is_late && (seen->calm += seen->tick) >= CALM) {
 		seen->calm = 0;
 		want_less(d, 0);
 	}
@@ -459,18 +468,19 @@ static int next_tick(struct device *d, struct seen *seen)
 	if (d->by->workers == 1)
 		return -1;
 	look(d, seen, now);
-	seen->quiet = now == seen->taken && atomic_load(&d->readers) ? seen->quiet + 1 : 0;
+	seen->quiet = now == seen->taken && atomic_load(&d->readers) ? seen->quiet + seen->tick : 0;
 	seen->taken = now;
-	if (seen->quiet < QUIET_TICKS)
-		return TICK;
-	/* A worker that takes a request from now on sees this, or it is seen here that it did. */
+	seen->tick = seen->waited || atomic_load(&d->wanted) > 1 ? TICK : LONG_TICK;
+	if (seen->quiet < QUIET)
+		return (int)seen->tick;
 	want_less(d, 1);
+	/* A worker that takes a request from now on sees this, or it is seen here that it did. */
 	atomic_store(&d->sleeps, 1);
 	if (atomic_load(&d->taken) == now && atomic_load(&d->readers))
 		return -1;
 	atomic_store(&d->sleeps, 0);
 	seen->quiet = 0;
-	return TICK;
+	return (int)seen->tick;
 }
 
 /* Waits until a worker has ended, or signals want an end. */

@@ -24,6 +24,8 @@ struct worker {
 	char text[LONGEST_VALUE + 1];
 	nizwarf_item *items;
 	size_t items_size;
+	/* How many items have entries, from the first one on. */
+	size_t entries;
 	char *names;
 	size_t names_size;
 	struct iovec *pieces;

@@ -55,14 +55,25 @@ struct space {
 	bool lacks_memory;
 };
 
-/* A place for one item more; NULL: there is no memory. */
+/* A place for one item more, without an entry; NULL: there is no memory. */
 static nizwarf_item *add_item(struct worker *w, size_t count)
 {
-	if (count == w->items_size / sizeof(nizwarf_item) &&
-	    !grow(&w->items, &w->items_size, 2 * w->items_size + 64 * sizeof(nizwarf_item)))
+	const size_t size = w->items_size;
+
+	if (count < size / sizeof(nizwarf_item))
+		return &w->items[count];
+	if (!grow(&w->items, &w->items_size, 2 * size + 64 * sizeof(nizwarf_item)))
 		return NULL;
-	memset(&w->items[count], 0, sizeof(nizwarf_item));
+	memset(&w->items[count], 0, w->items_size - size);
 	return &w->items[count];
+}
+
+/* Takes the entries from the items of the listing before. */
+static void clear_entries(struct worker *w)
+{
+	for (size_t i = 0; i < w->entries; i++)
+		memset(&w->items[i].entry, 0, sizeof(w->items[i].entry));
+	w->entries = 0;
 }
 
 /* The entry of an item. Of one that can't be looked up, or went, there is the name alone. */
@@ -127,6 +138,7 @@ static int list(const struct call *call)
 	int error = move_to(file, call->asked->offset);
 	bool entries;
 
+	clear_entries(w);
 	/* Names are copied, since the buffer changes; of each the record is longer than the name. */
 	if (!error && !grow(&w->names, &w->names_size, space.room))
 		error = ENOMEM;
@@ -148,6 +160,7 @@ static int list(const struct call *call)
 		file->is_at_end = false;
 	if (!error && next && !space.count && space.lacks_memory)
 		error = ENOMEM;
+	w->entries = entries ? space.count : 0;
 	call->answer->items = w->items;
 	call->answer->items_len = space.count;
 	return error;
