@@ -14,7 +14,10 @@
  *
  * To sleep and to be woken takes longer than most clients take from a reply to the next request. So a
  * worker that is alone, and that was woken soon time after time, looks for a while whether one comes
- * before it sleeps. */
+ * before it sleeps.
+ *
+ * Data of a reply that lie in a file take the way of a pipe: it has references to the file's pages,
+ * which the kernel copies to the client's. */
 #define _GNU_SOURCE
 #include <errno.h>
 #include <fcntl.h>
@@ -30,6 +33,7 @@
 #include <sys/ioctl.h>
 #include <sys/mount.h>
 #include <sys/signalfd.h>
+#include <sys/stat.h>
 #include <time.h>
 #include <unistd.h>
 #include "transport.h"
@@ -49,6 +53,9 @@ enum { BULK = 32768, LOOK_EACH = 8, BACKLOGS = 3 };
 /* In nanoseconds: how long a request that didn't wait already takes to come at least, and one that
  * comes soon at most. Behind so many of these more than of others a worker looks before it sleeps. */
 enum { LEAST_WAIT = 1500, SHORT_WAIT = 20000, SHORT_WAITS = 4 };
+/* In bytes: what a pipe holds, as each page of data has a place for one there, and one more has the
+ * header; and from how many data on to use it takes less than a copy. */
+enum { PIPE = 1 << 18, LEAST_PIPED = 1 << 16, MOST_PIPED = PIPE - 2 * PAGE };
 
 enum outcome { SERVED, ENDED, FAILED };
 
@@ -62,7 +69,14 @@ struct worker {
 	unsigned char *memory, *request, *room;
 	/* How many requests came soon, less those that waited already, since one took longer. */
 	unsigned short_waits;
+	/* A pipe, -1 if there is none, with how many bytes of a reply, which begins with this header. */
+	int pipe[2];
+	size_t piped;
+	struct fuse_out_header header;
 };
+
+/* The worker that a thread is. */
+static _Thread_local struct worker *serving;
 
 struct device {
 	const transport *by;
@@ -292,6 +306,97 @@ static size_t room_for(const struct worker *w, const struct fuse_in_header *aske
 	}
 }
 
+static void close_pipe(struct worker *w)
+{
+	for (int i = 0; i < 2; i++) {
+		if (w->pipe[i] >= 0)
+			close(w->pipe[i]);
+		w->pipe[i] = -1;
+	}
+	w->piped = 0;
+}
+
+/* Makes an empty pipe, if there is to be one. (A socket would take its pages for messages.) */
+static void make_pipe(struct worker *w)
+{
+	struct stat seen;
+
+	w->pipe[0] = w->pipe[1] = -1;
+	if (!w->of->by->splices || fstat(w->fd, &seen) || !S_ISCHR(seen.st_mode))
+		return;
+	if (pipe2(w->pipe, O_CLOEXEC) || fcntl(w->pipe[1], F_SETPIPE_SZ, PIPE) < PIPE)
+		close_pipe(w);
+}
+
+/* Takes the header from the pipe, and the data into the room. 0, or -1 with errno. */
+static int empty_pipe(struct worker *w)
+{
+	struct fuse_out_header header;
+	size_t at = 0;
+
+	while (at < w->piped) {
+		const ssize_t got = at ? read(w->pipe[0], w->room + at, w->piped - at) :
+					 read(w->pipe[0], &header, sizeof(header));
+
+		if (got <= 0)
+			return -1;
+		at += (size_t)got;
+	}
+	w->piped = 0;
+	return 0;
+}
+
+ssize_t fuse_device_take(int fd, uint64_t offset, size_t size)
+{
+	struct worker *w = serving;
+	off_t at = (off_t)offset;
+	size_t done = 0;
+	ssize_t got = 1;
+
+	if (!w || w->pipe[1] < 0 || w->piped || size < LEAST_PIPED || size > MOST_PIPED)
+		return -1;
+	w->header.len = (uint32_t)(sizeof(w->header) + size);
+	if (write(w->pipe[1], &w->header, sizeof(w->header)) != (ssize_t)sizeof(w->header))
+		return -1;
+	while (got > 0 && done < size) {
+		got = splice(fd, &at, w->pipe[1], NULL, size - done, SPLICE_F_NONBLOCK);
+		done += got > 0 ? (size_t)got : 0;
+	}
+	w->piped = sizeof(w->header) + done;
+	if (got >= 0)
+		return (ssize_t)done;
+	/* (who reads without a pipe tells the error) */
+	empty_pipe(w);
+	return -1;
+}
+
+/* Writes a reply: that of the pipe, if it has all that was announced, or else that of the room. */
+static ssize_t put_reply(struct worker *w, size_t len)
+{
+	struct fuse_out_header reply;
+	ssize_t put;
+	int error;
+
+	if (!w->piped)
+		return write(w->fd, w->room, len);
+	memcpy(&reply, w->room, sizeof(reply));
+	if (w->piped == len && !memcmp(&reply, &w->header, sizeof(reply))) {
+		put = splice(w->pipe[0], NULL, w->fd, NULL, len, 0);
+		error = errno;
+		w->piped = 0;
+		if (put < 0) {
+			close_pipe(w);
+			make_pipe(w);
+		}
+		errno = error;
+		return put;
+	}
+	if (empty_pipe(w))
+		return -1;
+	memcpy(w->room, &reply, sizeof(reply));
+	return write(w->fd, w->room, len);
+}
+
 /* Takes a request and answers it. `*opcode` is what was asked, 0 if nothing was. */
 static enum outcome serve_one(struct worker *w, uint32_t *opcode)
 {
@@ -317,11 +422,12 @@ static enum outcome serve_one(struct worker *w, uint32_t *opcode)
 	*opcode = asked.opcode;
 	room.len = room_for(w, &asked, (size_t)got);
 	call_if_late(w, &asked, room.len);
+	w->header.unique = asked.unique;
 	code = by->serve(by->user, w->number, &segment, 1, &room, 1, &len);
 	if (code != NIZWARF_OK)
 		len = refuse(w, &asked, code);
 	/* ENOENT: who asked no longer waits. ENODEV: nobody does. */
-	if (len && write(w->fd, w->room, len) < 0 && errno != ENOENT && errno != ENODEV)
+	if (len && put_reply(w, len) < 0 && errno != ENOENT && errno != ENODEV)
 		return failed(w, "write");
 	return SERVED;
 }
@@ -337,6 +443,7 @@ static int start(struct device *d, int fd)
 	w->of = d;
 	w->number = d->started;
 	w->fd = fd;
+	make_pipe(w);
 	w->memory = memory;
 	if (memory) {
 		w->request = memory + PAGE - BEFORE_WRITE;
@@ -351,6 +458,7 @@ static int start(struct device *d, int fd)
 	d->started--;
 	atomic_fetch_sub(&d->active, 1);
 	say(d->by, "a worker");
+	close_pipe(w);
 	free(memory);
 	if (fd >= 0)
 		close(fd);
@@ -393,6 +501,7 @@ static void *run(void *given)
 	enum outcome outcome = FAILED;
 	uint32_t opcode;
 
+	serving = w;
 	if (!d->by->begin || !d->by->begin(d->by->user, w->number)) {
 		if (w->number)
 			rest(d);
@@ -421,6 +530,7 @@ static void end(struct worker *w)
 		pthread_kill(w->thread, SIGRTMIN);
 		nanosleep(&pause, NULL);
 	}
+	close_pipe(w);
 	close(w->fd);
 	free(w->memory);
 }

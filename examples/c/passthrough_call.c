@@ -337,9 +337,16 @@ static int transfer(const struct call *call)
 	const int fd = call->file->counted.fd;
 	struct iovec *data = call->data;
 	size_t pieces = call->pieces, done = 0;
+	ssize_t taken = -1;
 
 	if (asked->offset > INT64_MAX)
 		return is_read ? EINVAL : EFBIG;
+	if (is_read && pieces == 1)
+		taken = fuse_device_take(fd, asked->offset, data->iov_len);
+	if (taken >= 0) {
+		call->answer->count = (uint64_t)taken;
+		return 0;
+	}
 	while (pieces) {
 		const int most = pieces < IOV_MAX ? (int)pieces : IOV_MAX;
 		const size_t others = pieces - (size_t)most;

@@ -543,8 +543,8 @@ static bool is_below(const char *path, const char *folder)
 }
 
 /* The transport, and the device of a mount. */
-static transport by = { .program = "nizwarf-share", .writes_in_place = 1, .begin = passthrough_begin,
-			.end = passthrough_finish, .parted = passthrough_parted,
+static transport by = { .program = "nizwarf-share", .writes_in_place = 1, .splices = 1,
+			.begin = passthrough_begin, .end = passthrough_finish, .parted = passthrough_parted,
 			.serve = passthrough_serve };
 static int device = -1;
 

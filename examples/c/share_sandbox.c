@@ -236,12 +236,12 @@ static const char *const calls[] = {
 	"futex", "getdents64", "geteuid", "getpid", "getrandom", "gettid", "getxattr", "ioctl",
 	"linkat", "listxattr", "lseek", "lstat", "madvise", "mkdirat", "mknodat", "mmap", "mprotect",
 	"mremap", "munmap", "name_to_handle_at", "nanosleep", "newfstatat", "open_by_handle_at",
-	"openat", "openat2", "poll", "ppoll", "prctl", "pread64", "preadv", "prlimit64", "pwrite64", "pwritev",
+	"openat", "openat2", "pipe2", "poll", "ppoll", "prctl", "pread64", "preadv", "prlimit64", "pwrite64", "pwritev",
 	"read", "readlinkat", "recvfrom", "recvmsg", "removexattr", "renameat", "renameat2",
 	"restart_syscall", "rseq", "rt_sigaction", "rt_sigprocmask", "rt_sigreturn",
 	"sched_getaffinity", "sched_yield", "sendmsg", "sendto", "set_robust_list", "setgroups",
-	"setresgid", "setresuid", "setsockopt", "setxattr", "sigaltstack", "signalfd4", "statfs",
-	"statx", "symlinkat", "syncfs", "tgkill", "unlink", "unlinkat", "utimensat", "write",
+	"setresgid", "setresuid", "setsockopt", "setxattr", "sigaltstack", "signalfd4", "splice",
+	"statfs", "statx", "symlinkat", "syncfs", "tgkill", "unlink", "unlinkat", "utimensat", "write",
 	"writev",
 };
 

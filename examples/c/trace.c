@@ -194,5 +194,7 @@ int trace_begin(transport *by, const char *path)
 	}
 	of = *by;
 	by->serve = serve;
+	/* (replies are printed from the rooms) */
+	by->splices = 0;
 	return 0;
 }

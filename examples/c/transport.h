@@ -17,6 +17,7 @@
 #ifndef TRANSPORT_H
 #define TRANSPORT_H
 
+#include <sys/types.h>
 #include "nizwarf.h"
 
 /* The largest payload of a request or a reply: what stands behind is made with this. */
@@ -28,6 +29,8 @@ typedef struct {
 	/* At least 1. */
 	unsigned workers;
 	int writes_in_place;
+	/* Data of a reply may be taken by fuse_device_take: rooms lack them then. */
+	int splices;
 	/* Not to print how many requests came to what, once a front end has gone. */
 	int quiet;
 	/* One of /proc/self/fd, by which /dev/fuse is opened again where it has no path; 0: none. */
@@ -65,6 +68,11 @@ int fuse_device_unmount(const transport *by, const char *folder);
  * apart, and is served until the other end is closed. 0: it ended so; 1: it failed, and said
  * why. */
 int fuse_device_serve(const transport *by, int device, const char *folder);
+
+/* Takes the data of the reply to a READ, which the calling worker serves, right from a file: so many
+ * bytes as the file has there, up to `size`. They are as if they stood in the room behind the first 16
+ * bytes of the reply. -1: they can't be taken so, and are to be put into the room. */
+ssize_t fuse_device_take(int fd, uint64_t offset, size_t size);
 
 /* Listens on a new socket of this path, in place of one on which nobody listens. Answers its
  * descriptor, or -1: it failed; -2: the path can't be that of a socket. It said why. */
