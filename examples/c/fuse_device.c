@@ -16,8 +16,9 @@
  * worker that is alone, and that was woken soon time after time, looks for a while whether one comes
  * before it sleeps.
  *
- * Data of a reply that lie in a file take the way of a pipe: it has references to the file's pages,
- * which the kernel copies to the client's. */
+ * Many data take the way of a pipe, which has references to pages. Those of a READ are copied from the
+ * file's pages to the client's, and those of a WRITE from the client's to the file's. A worker takes
+ * requests by its pipe as long as each has such data. */
 #define _GNU_SOURCE
 #include <errno.h>
 #include <fcntl.h>
@@ -53,9 +54,9 @@ enum { BULK = 32768, LOOK_EACH = 8, BACKLOGS = 3 };
 /* In nanoseconds: how long a request that didn't wait already takes to come at least, and one that
  * comes soon at most. Behind so many of these more than of others a worker looks before it sleeps. */
 enum { LEAST_WAIT = 1500, SHORT_WAIT = 20000, SHORT_WAITS = 4 };
-/* In bytes: what a pipe holds, as each page of data has a place for one there, and one more has the
- * header; and from how many data on to use it takes less than a copy. */
-enum { PIPE = 1 << 18, LEAST_PIPED = 1 << 16, MOST_PIPED = PIPE - 2 * PAGE };
+/* In bytes: how large a pipe is, which has a place for each page; from how many data on to use it takes
+ * less than a copy; and how many it holds behind a header, if they don't begin at a page. */
+enum { PIPE = 2 * FUSE_DEVICE_PIPED, LEAST_PIPED = 1 << 16, MOST_PIPED = PIPE - 2 * PAGE };
 
 enum outcome { SERVED, ENDED, FAILED };
 
@@ -69,10 +70,13 @@ struct worker {
 	unsigned char *memory, *request, *room;
 	/* How many requests came soon, less those that waited already, since one took longer. */
 	unsigned short_waits;
-	/* A pipe, -1 if there is none, with how many bytes of a reply, which begins with this header. */
-	int pipe[2];
-	size_t piped;
+	/* Whether it may have a pipe; that, -1 if it has none yet; how many bytes of a WRITE are in it, or
+	 * of the reply to a READ, which begins with this header; and whether the last request was a WRITE
+	 * of many. */
+	int pipes, pipe[2];
+	size_t written, piped;
 	struct fuse_out_header header;
+	int writes;
 };
 
 /* The worker that a thread is. */
@@ -230,6 +234,138 @@ static uint64_t now(void)
 	return (uint64_t)time.tv_sec * 1000000000 + (uint64_t)time.tv_nsec;
 }
 
+static void close_pipe(struct worker *w)
+{
+	for (int i = 0; i < 2; i++) {
+		if (w->pipe[i] >= 0)
+			close(w->pipe[i]);
+		w->pipe[i] = -1;
+	}
+	w->written = w->piped = 0;
+}
+
+/* Whether a worker has a pipe, which it makes if it may. */
+static int has_pipe(struct worker *w)
+{
+	if (!w->pipes || w->pipe[1] >= 0)
+		return w->pipes;
+	if (!pipe2(w->pipe, O_CLOEXEC) && fcntl(w->pipe[1], F_SETPIPE_SZ, PIPE) >= PIPE)
+		return 1;
+	close_pipe(w);
+	w->pipes = 0;
+	return 0;
+}
+
+/* Takes so many bytes from the pipe, which has them. 0, or -1 with errno. */
+static int empty_pipe(struct worker *w, unsigned char *to, size_t len)
+{
+	while (len) {
+		const ssize_t got = read(w->pipe[0], to, len);
+
+		if (got <= 0) {
+			close_pipe(w);
+			errno = EIO;
+			return -1;
+		}
+		to += got;
+		len -= (size_t)got;
+	}
+	return 0;
+}
+
+/* Takes a request by the pipe. The data of a WRITE of many are left there. Answers its length, or -1
+ * with errno. */
+static ssize_t take_by_pipe(struct worker *w)
+{
+	const ssize_t got = splice(w->fd, NULL, w->pipe[1], NULL, LONGEST, 0);
+	const size_t len = got < 0 ? 0 : (size_t)got, head = len < BEFORE_WRITE ? len : BEFORE_WRITE;
+	struct fuse_in_header asked;
+
+	if (empty_pipe(w, w->request, head))
+		return -1;
+	memcpy(&asked, w->request, sizeof(asked));
+	if (len < BEFORE_WRITE + LEAST_PIPED || asked.opcode != FUSE_WRITE)
+		return empty_pipe(w, w->request + head, len - head) ? -1 : got;
+	w->written = len - head;
+	return got;
+}
+
+static ssize_t take(struct worker *w)
+{
+	return w->writes && has_pipe(w) ? take_by_pipe(w) : read(w->fd, w->request, LONGEST);
+}
+
+ssize_t fuse_device_write_to(int fd, uint64_t offset, size_t size)
+{
+	struct worker *w = serving;
+	off_t at = (off_t)offset;
+	size_t done = 0;
+	ssize_t put = 1;
+
+	if (!w || !w->written)
+		return 0;
+	size = size < w->written ? size : w->written;
+	while (put > 0 && done < size) {
+		put = splice(w->pipe[0], NULL, fd, &at, size - done, 0);
+		done += put > 0 ? (size_t)put : 0;
+	}
+	/* (who writes the others without a pipe tells the error) */
+	size = w->written - done;
+	w->written = 0;
+	return empty_pipe(w, w->request + BEFORE_WRITE + done, size) ? -1 : (ssize_t)done;
+}
+
+ssize_t fuse_device_read_from(int fd, uint64_t offset, size_t size)
+{
+	struct worker *w = serving;
+	off_t at = (off_t)offset;
+	size_t done = 0;
+	ssize_t got = 1;
+
+	if (!w || w->piped || size < LEAST_PIPED || size > MOST_PIPED || !has_pipe(w))
+		return -1;
+	w->header.len = (uint32_t)(sizeof(w->header) + size);
+	if (write(w->pipe[1], &w->header, sizeof(w->header)) != (ssize_t)sizeof(w->header))
+		return -1;
+	while (got > 0 && done < size) {
+		got = splice(fd, &at, w->pipe[1], NULL, size - done, SPLICE_F_NONBLOCK);
+		done += got > 0 ? (size_t)got : 0;
+	}
+	w->piped = sizeof(w->header) + done;
+	if (got >= 0)
+		return (ssize_t)done;
+	/* (who reads without a pipe tells the error) */
+	empty_pipe(w, w->room, w->piped);
+	w->piped = 0;
+	return -1;
+}
+
+/* Writes a reply: that of the pipe, if it has all that was announced, or else that of the room. */
+static ssize_t put_reply(struct worker *w, size_t len)
+{
+	const size_t piped = w->piped;
+	struct fuse_out_header reply;
+	ssize_t put;
+	int error;
+
+	if (!piped)
+		return write(w->fd, w->room, len);
+	w->piped = 0;
+	memcpy(&reply, w->room, sizeof(reply));
+	if (piped != len || memcmp(&reply, &w->header, sizeof(reply)) != 0) {
+		if (empty_pipe(w, w->room, piped))
+			return -1;
+		memcpy(w->room, &reply, sizeof(reply));
+		return write(w->fd, w->room, len);
+	}
+	put = splice(w->pipe[0], NULL, w->fd, NULL, len, 0);
+	error = errno;
+	if (put < 0)
+		close_pipe(w);
+	errno = error;
+	return put;
+}
+
 /* Reads a request, and looks before whether one comes soon. */
 static ssize_t read_alone(struct worker *w)
 {
@@ -241,7 +377,7 @@ static ssize_t read_alone(struct worker *w)
 	if (w->short_waits >= SHORT_WAITS)
 		while (!is_waited_for(w) && now() - from < SHORT_WAIT)
 			;
-	got = read(w->fd, w->request, LONGEST);
+	got = take(w);
 	error = errno;
 	waited = now() - from;
 	if (waited >= SHORT_WAIT)
@@ -272,7 +408,7 @@ static ssize_t read_request(struct worker *w)
 	int error;
 
 	atomic_fetch_add(&d->readers, 1);
-	got = may_look(w) ? read_alone(w) : read(w->fd, w->request, LONGEST);
+	got = may_look(w) ? read_alone(w) : take(w);
 	error = errno;
 	atomic_fetch_sub(&d->readers, 1);
 	atomic_fetch_add(&d->taken, 1);
@@ -306,97 +442,6 @@ static size_t room_for(const struct worker *w, const struct fuse_in_header *aske
 	}
 }
 
-static void close_pipe(struct worker *w)
-{
-	for (int i = 0; i < 2; i++) {
-		if (w->pipe[i] >= 0)
-			close(w->pipe[i]);
-		w->pipe[i] = -1;
-	}
-	w->piped = 0;
-}
-
-/* Makes an empty pipe, if there is to be one. (A socket would take its pages for messages.) */
-static void make_pipe(struct worker *w)
-{
-	struct stat seen;
-
-	w->pipe[0] = w->pipe[1] = -1;
-	if (!w->of->by->splices || fstat(w->fd, &seen) || !S_ISCHR(seen.st_mode))
-		return;
-	if (pipe2(w->pipe, O_CLOEXEC) || fcntl(w->pipe[1], F_SETPIPE_SZ, PIPE) < PIPE)
-		close_pipe(w);
-}
-
-/* Takes the header from the pipe, and the data into the room. 0, or -1 with errno. */
-static int empty_pipe(struct worker *w)
-{
-	struct fuse_out_header header;
-	size_t at = 0;
-
-	while (at < w->piped) {
-		const ssize_t got = at ? read(w->pipe[0], w->room + at, w->piped - at) :
-					 read(w->pipe[0], &header, sizeof(header));
-
-		if (got <= 0)
-			return -1;
-		at += (size_t)got;
-	}
-	w->piped = 0;
-	return 0;
-}
-
-ssize_t fuse_device_take(int fd, uint64_t offset, size_t size)
-{
-	struct worker *w = serving;
-	off_t at = (off_t)offset;
-	size_t done = 0;
-	ssize_t got = 1;
-
-	if (!w || w->pipe[1] < 0 || w->piped || size < LEAST_PIPED || size > MOST_PIPED)
-		return -1;
-	w->header.len = (uint32_t)(sizeof(w->header) + size);
-	if (write(w->pipe[1], &w->header, sizeof(w->header)) != (ssize_t)sizeof(w->header))
-		return -1;
-	while (got > 0 && done < size) {
-		got = splice(fd, &at, w->pipe[1], NULL, size - done, SPLICE_F_NONBLOCK);
-		done += got > 0 ? (size_t)got : 0;
-	}
-	w->piped = sizeof(w->header) + done;
-	if (got >= 0)
-		return (ssize_t)done;
-	/* (who reads without a pipe tells the error) */
-	empty_pipe(w);
-	return -1;
-}
-
-/* Writes a reply: that of the pipe, if it has all that was announced, or else that of the room. */
-static ssize_t put_reply(struct worker *w, size_t len)
-{
-	struct fuse_out_header reply;
-	ssize_t put;
-	int error;
-
-	if (!w->piped)
-		return write(w->fd, w->room, len);
-	memcpy(&reply, w->room, sizeof(reply));
-	if (w->piped == len && !memcmp(&reply, &w->header, sizeof(reply))) {
-		put = splice(w->pipe[0], NULL, w->fd, NULL, len, 0);
-		error = errno;
-		w->piped = 0;
-		if (put < 0) {
-			close_pipe(w);
-			make_pipe(w);
-		}
-		errno = error;
-		return put;
-	}
-	if (empty_pipe(w))
-		return -1;
-	memcpy(w->room, &reply, sizeof(reply));
-	return write(w->fd, w->room, len);
-}
-
 /* Takes a request and answers it. `*opcode` is what was asked, 0 if nothing was. */
 static enum outcome serve_one(struct worker *w, uint32_t *opcode)
 {
@@ -426,6 +471,11 @@ static enum outcome serve_one(struct worker *w, uint32_t *opcode)
 	code = by->serve(by->user, w->number, &segment, 1, &room, 1, &len);
 	if (code != NIZWARF_OK)
 		len = refuse(w, &asked, code);
+	if (w->written) {
+		empty_pipe(w, w->request + BEFORE_WRITE, w->written);
+		w->written = 0;
+	}
+	w->writes = asked.opcode == FUSE_WRITE && asked.len >= BEFORE_WRITE + LEAST_PIPED;
 	/* ENOENT: who asked no longer waits. ENODEV: nobody does. */
 	if (len && put_reply(w, len) < 0 && errno != ENOENT && errno != ENODEV)
 		return failed(w, "write");
@@ -433,6 +483,14 @@ static enum outcome serve_one(struct worker *w, uint32_t *opcode)
 }
 
 static void *run(void *given);
+
+/* Whether a descriptor is that of a device. (A socket would take pages for messages.) */
+static int is_device(int fd)
+{
+	struct stat seen;
+
+	return !fstat(fd, &seen) && S_ISCHR(seen.st_mode);
+}
 
 /* Starts the next worker over a descriptor, which is its own then. */
 static int start(struct device *d, int fd)
@@ -443,7 +501,8 @@ static int start(struct device *d, int fd)
 	w->of = d;
 	w->number = d->started;
 	w->fd = fd;
-	make_pipe(w);
+	w->pipes = d->by->splices && is_device(fd);
+	w->pipe[0] = w->pipe[1] = -1;
 	w->memory = memory;
 	if (memory) {
 		w->request = memory + PAGE - BEFORE_WRITE;
@@ -458,7 +517,6 @@ static int start(struct device *d, int fd)
 	d->started--;
 	atomic_fetch_sub(&d->active, 1);
 	say(d->by, "a worker");
-	close_pipe(w);
 	free(memory);
 	if (fd >= 0)
 		close(fd);

@@ -145,7 +145,7 @@ int32_t passthrough_serve(void *user, unsigned worker, const nizwarf_segment *re
 {
 	struct passthrough *all = user;
 	struct worker *w = all->worker[worker];
-	const nizwarf_session session = { atomic_load(&all->agreed), 4096, TRANSPORT_PAYLOAD };
+	const nizwarf_session session = { atomic_load(&all->agreed), 4096, all->options.payload };
 	nizwarf_answer answer = NIZWARF_NO_ANSWER;
 	nizwarf_call asked;
 	nizwarf_told told = { 0 };

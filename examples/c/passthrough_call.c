@@ -337,15 +337,22 @@ static int transfer(const struct call *call)
 	const int fd = call->file->counted.fd;
 	struct iovec *data = call->data;
 	size_t pieces = call->pieces, done = 0;
-	ssize_t taken = -1;
+	ssize_t direct = -1;
 
 	if (asked->offset > INT64_MAX)
 		return is_read ? EINVAL : EFBIG;
-	if (is_read && pieces == 1)
-		taken = fuse_device_take(fd, asked->offset, data->iov_len);
-	if (taken >= 0) {
-		call->answer->count = (uint64_t)taken;
+	if (pieces == 1 && is_read)
+		direct = fuse_device_read_from(fd, asked->offset, data->iov_len);
+	if (direct >= 0) {
+		call->answer->count = (uint64_t)direct;
 		return 0;
+	}
+	if (pieces == 1 && !is_read) {
+		direct = fuse_device_write_to(fd, asked->offset, data->iov_len);
+		if (direct < 0)
+			return errno;
+		done = (size_t)direct;
+		move_on(&data, &pieces, done);
 	}
 	while (pieces) {
 		const int most = pieces < IOV_MAX ? (int)pieces : IOV_MAX;

@@ -658,6 +658,7 @@ int main(int count, char **given)
 
 	take_words(count, given);
 	by.workers = words.files.workers;
+	words.files.payload = is_mount() ? FUSE_DEVICE_PIPED : TRANSPORT_PAYLOAD;
 	by.quiet = !words.says_more;
 	if (words.traces && trace_begin(&by, words.trace_file))
 		return 1;

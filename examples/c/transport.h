@@ -22,6 +22,8 @@
 
 /* The largest payload of a request or a reply: what stands behind is made with this. */
 enum { TRANSPORT_PAYLOAD = 1 << 20, TRANSPORT_MOST_WORKERS = 64 };
+/* The largest payload if it may go by a pipe: one that holds it must not take privileges. */
+enum { FUSE_DEVICE_PIPED = 1 << 19 };
 
 typedef struct {
 	/* What messages on standard error begin with. */
@@ -29,7 +31,8 @@ typedef struct {
 	/* At least 1. */
 	unsigned workers;
 	int writes_in_place;
-	/* Data of a reply may be taken by fuse_device_take: rooms lack them then. */
+	/* The payload is at most FUSE_DEVICE_PIPED. Data of a WRITE over /dev/fuse may lack in the
+	 * segment until fuse_device_write_to was called, and those of a READ in the rooms. */
 	int splices;
 	/* Not to print how many requests came to what, once a front end has gone. */
 	int quiet;
@@ -69,10 +72,14 @@ int fuse_device_unmount(const transport *by, const char *folder);
  * why. */
 int fuse_device_serve(const transport *by, int device, const char *folder);
 
-/* Takes the data of the reply to a READ, which the calling worker serves, right from a file: so many
- * bytes as the file has there, up to `size`. They are as if they stood in the room behind the first 16
- * bytes of the reply. -1: they can't be taken so, and are to be put into the room. */
-ssize_t fuse_device_take(int fd, uint64_t offset, size_t size);
+/* Both move the data of the request that the calling worker serves right between a file and the kernel.
+ * The first takes those of the reply to a READ, so many bytes as the file has there, up to `size`: they
+ * are as if they stood in the room behind the first 16 bytes of the reply. -1: they can't be taken so,
+ * and are to be put into the room. The second writes the first `size` bytes of the data of a WRITE, or
+ * fewer, and tells how many: the others are in the segment from then on. -1: they are lost, as errno
+ * says. */
+ssize_t fuse_device_read_from(int fd, uint64_t offset, size_t size);
+ssize_t fuse_device_write_to(int fd, uint64_t offset, size_t size);
 
 /* Listens on a new socket of this path, in place of one on which nobody listens. Answers its
  * descriptor, or -1: it failed; -2: the path can't be that of a socket. It said why. */
