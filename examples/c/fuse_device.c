@@ -70,10 +70,10 @@ struct worker {
 	unsigned char *memory, *request, *room;
 	/* How many requests came soon, less those that waited already, since one took longer. */
 	unsigned short_waits;
-	/* Whether it may have a pipe; that, -1 if it has none yet; how many bytes of a WRITE are in it, or
+	/* A pipe, -1 if it has none, and whether that has its size; how many bytes of a WRITE are in it, or
 	 * of the reply to a READ, which begins with this header; and whether the last request was a WRITE
 	 * of many. */
-	int pipes, pipe[2];
+	int pipe[2], is_large;
 	size_t written, piped;
 	struct fuse_out_header header;
 	int writes;
@@ -234,6 +234,12 @@ static uint64_t now(void)
 	return (uint64_t)time.tv_sec * 1000000000 + (uint64_t)time.tv_nsec;
 }
 
+static void make_pipe(struct worker *w)
+{
+	if (pipe2(w->pipe, O_CLOEXEC))
+		w->pipe[0] = w->pipe[1] = -1;
+}
+
 static void close_pipe(struct worker *w)
 {
 	for (int i = 0; i < 2; i++) {
@@ -241,19 +247,19 @@ static void close_pipe(struct worker *w)
 			close(w->pipe[i]);
 		w->pipe[i] = -1;
 	}
+	w->is_large = 0;
 	w->written = w->piped = 0;
 }
 
-/* Whether a worker has a pipe, which it makes if it may. */
+/* Whether a worker has a pipe, which gets its size with the first use. */
 static int has_pipe(struct worker *w)
 {
-	if (!w->pipes || w->pipe[1] >= 0)
-		return w->pipes;
-	if (!pipe2(w->pipe, O_CLOEXEC) && fcntl(w->pipe[1], F_SETPIPE_SZ, PIPE) >= PIPE)
-		return 1;
-	close_pipe(w);
-	w->pipes = 0;
-	return 0;
+	if (w->is_large || w->pipe[1] < 0)
+		return w->is_large;
+	w->is_large = fcntl(w->pipe[1], F_SETPIPE_SZ, PIPE) >= PIPE;
+	if (!w->is_large)
+		close_pipe(w);
+	return w->is_large;
 }
 
 /* Takes so many bytes from the pipe, which has them. 0, or -1 with errno. */
@@ -281,6 +287,10 @@ static ssize_t take_by_pipe(struct worker *w)
 	const size_t len = got < 0 ? 0 : (size_t)got, head = len < BEFORE_WRITE ? len : BEFORE_WRITE;
 	struct fuse_in_header asked;
 
+	/* (the error is that of the next reading, if it is one of the device) */
+	w->writes = 0;
+	if (got < 0 && errno != ENODEV)
+		errno = EAGAIN;
 	if (empty_pipe(w, w->request, head))
 		return -1;
 	memcpy(&asked, w->request, sizeof(asked));
@@ -340,30 +350,40 @@ ssize_t fuse_device_read_from(int fd, uint64_t offset, size_t size)
 	return -1;
 }
 
+/* Writes the reply that is in the pipe, or if that can't be an error. */
+static ssize_t put_piped(struct worker *w)
+{
+	const struct fuse_out_header reply = { sizeof(reply), -EIO, w->header.unique };
+	const ssize_t put = splice(w->pipe[0], NULL, w->fd, NULL, w->header.len, 0);
+	const int error = errno;
+
+	if (put >= 0)
+		return put;
+	close_pipe(w);
+	errno = error;
+	if (error != ENOENT)
+		return error == ENODEV ? put : write(w->fd, &reply, sizeof(reply));
+	make_pipe(w);
+	errno = error;
+	return put;
+}
+
 /* Writes a reply: that of the pipe, if it has all that was announced, or else that of the room. */
 static ssize_t put_reply(struct worker *w, size_t len)
 {
 	const size_t piped = w->piped;
 	struct fuse_out_header reply;
-	ssize_t put;
-	int error;
 
 	if (!piped)
 		return write(w->fd, w->room, len);
 	w->piped = 0;
 	memcpy(&reply, w->room, sizeof(reply));
-	if (piped != len || memcmp(&reply, &w->header, sizeof(reply)) != 0) {
-		if (empty_pipe(w, w->room, piped))
-			return -1;
-		memcpy(w->room, &reply, sizeof(reply));
-		return write(w->fd, w->room, len);
-	}
-	put = splice(w->pipe[0], NULL, w->fd, NULL, len, 0);
-	error = errno;
-	if (put < 0)
-		close_pipe(w);
-	errno = error;
-	return put;
+	if (piped == len && !memcmp(&reply, &w->header, sizeof(reply)))
+		return put_piped(w);
+	if (empty_pipe(w, w->room, piped))
+		return -1;
+	memcpy(w->room, &reply, sizeof(reply));
+	return write(w->fd, w->room, len);
 }
 
 /* Reads a request, and looks before whether one comes soon. */
@@ -476,6 +496,8 @@ static enum outcome serve_one(struct worker *w, uint32_t *opcode)
 		w->written = 0;
 	}
 	w->writes = asked.opcode == FUSE_WRITE && asked.len >= BEFORE_WRITE + LEAST_PIPED;
+	if (!len && w->piped)
+		close_pipe(w);
 	/* ENOENT: who asked no longer waits. ENODEV: nobody does. */
 	if (len && put_reply(w, len) < 0 && errno != ENOENT && errno != ENODEV)
 		return failed(w, "write");
@@ -501,8 +523,9 @@ static int start(struct device *d, int fd)
 	w->of = d;
 	w->number = d->started;
 	w->fd = fd;
-	w->pipes = d->by->splices && is_device(fd);
 	w->pipe[0] = w->pipe[1] = -1;
+	if (d->by->splices && is_device(fd))
+		make_pipe(w);
 	w->memory = memory;
 	if (memory) {
 		w->request = memory + PAGE - BEFORE_WRITE;
@@ -517,6 +540,7 @@ static int start(struct device *d, int fd)
 	d->started--;
 	atomic_fetch_sub(&d->active, 1);
 	say(d->by, "a worker");
+	close_pipe(w);
 	free(memory);
 	if (fd >= 0)
 		close(fd);
