@@ -327,6 +327,7 @@ ssize_t fuse_device_write_to(int fd, uint64_t offset, size_t size)
 
 ssize_t fuse_device_read_from(int fd, uint64_t offset, size_t size)
 {
+	struct fuse_out_header header = { .len = (uint32_t)(sizeof(header) + size) };
 	struct worker *w = serving;
 	off_t at = (off_t)offset;
 	size_t done = 0;
@@ -334,14 +335,15 @@ ssize_t fuse_device_read_from(int fd, uint64_t offset, size_t size)
 
 	if (!w || w->piped || size < LEAST_PIPED || size > MOST_PIPED || !has_pipe(w))
 		return -1;
-	w->header.len = (uint32_t)(sizeof(w->header) + size);
-	if (write(w->pipe[1], &w->header, sizeof(w->header)) != (ssize_t)sizeof(w->header))
+	header.unique = w->header.unique;
+	w->header = header;
+	if (write(w->pipe[1], &header, sizeof(header)) != (ssize_t)sizeof(header))
 		return -1;
 	while (got > 0 && done < size) {
 		got = splice(fd, &at, w->pipe[1], NULL, size - done, SPLICE_F_NONBLOCK);
 		done += got > 0 ? (size_t)got : 0;
 	}
-	w->piped = sizeof(w->header) + done;
+	w->piped = sizeof(header) + done;
 	if (got >= 0)
 		return (ssize_t)done;
 	/* (who reads without a pipe tells the error) */
