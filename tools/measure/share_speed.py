@@ -34,9 +34,9 @@ other; in brackets the same of the servers' processor time. Below 1 the share is
 those of the other that is the quicker one. Medians of {rounds} rounds in turns: `tools/measure/share-speed.sh {rounds}`.
 {facts}
 
-Each has its defaults and remembers names and attributes for a second. The share has its sandbox and 4 workers,
-passthrough_ll `cache=auto`, `default_permissions`, and threads by need; of bindfs the quicker one of one thread and
-many is meant.
+Each has its defaults: names and attributes are remembered for a second, and no name that is missing. The share has its
+sandbox and 4 workers, passthrough_ll `cache=auto`, `default_permissions`, and threads by need; of bindfs the quicker
+one of one thread and many is meant. A WRITE has up to 512 KiB at the share, 1 MiB at passthrough_ll and 4 KiB at bindfs.
 """
 CALLS = """
 ## System calls
@@ -51,7 +51,9 @@ What the share alone does: each file that is looked up is opened with O_PATH, an
 a request goes to the file that was looked up, whatever is renamed meanwhile, and no path is walked or link followed.
 bindfs holds no file and walks the path of each request from the folder on, so it may reach another file. What the
 share opens by a name is compared with that file by `fstat`; and each system call passes a filter, to which the others
-have none.
+have none. Its data of 64 KiB and more go by a pipe between the file and the kernel, without a copy of its own. And a
+worker that is alone, to which requests come soon one after another, looks up to 20 microseconds for the next one before
+it sleeps.
 """
 
 
