@@ -8,9 +8,9 @@
  * The kernel wakes those that read in turn, so one client would be served by one cold worker after
  * another. So only as many workers take requests as are wanted, one at first, and the others rest. A
  * worker that takes a request while others wait, and no one reads, calls one that rests: at once, if
- * there are data to copy, or else time after time. While requests come the calling thread looks from
- * time to time whether some wait and no one reads, as one takes long, and calls one too; and if it is
- * calm, one less is wanted.
+ * there are data to copy, or else time after time; and in any case before one that may take long. While
+ * requests come the calling thread looks from time to time whether some wait and no one reads, and
+ * calls one too; and if it is calm, one less is wanted.
  *
  * To sleep and to be woken takes longer than most clients take from a reply to the next request. So a
  * worker that is alone, and that was woken soon time after time, looks for a while whether one comes
@@ -194,6 +194,14 @@ static void rest_if_idle(const struct worker *w)
 		rest(d);
 }
 
+/* Whether a request may take long, whatever its length is. */
+static int is_slow(const struct fuse_in_header *asked)
+{
+	return asked->opcode == FUSE_FSYNC || asked->opcode == FUSE_FSYNCDIR ||
+	       asked->opcode == FUSE_SYNCFS || asked->opcode == FUSE_FALLOCATE ||
+	       asked->opcode == FUSE_COPY_FILE_RANGE;
+}
+
 /* Whether a request has data to copy, or room for them. */
 static int is_bulk(const struct fuse_in_header *asked, size_t room)
 {
@@ -209,18 +217,18 @@ static int is_let_go(const struct fuse_in_header *asked)
 	       asked->opcode == FUSE_RELEASE || asked->opcode == FUSE_RELEASEDIR;
 }
 
-/* Calls one that rests if others wait while this request is answered. */
+/* Calls one that rests if this request is slow, or if others wait while it is answered. */
 static void call_if_late(const struct worker *w, const struct fuse_in_header *asked, size_t room)
 {
 	struct device *d = w->of;
-	const int bulk = is_bulk(asked, room);
+	const int slow = is_slow(asked), soon = slow || is_bulk(asked, room);
 
 	if (atomic_load(&d->active) >= d->by->workers || is_let_go(asked) ||
-	    (!bulk && atomic_load(&d->taken) % LOOK_EACH))
+	    (!soon && atomic_load(&d->taken) % LOOK_EACH))
 		return;
-	if (atomic_load(&d->readers) || !is_waited_for(w)) {
+	if (atomic_load(&d->readers) || (!slow && !is_waited_for(w))) {
 		atomic_store(&d->backlogs, 0);
-	} else if (bulk || atomic_fetch_add(&d->backlogs, 1) + 1 >= BACKLOGS) {
+	} else if (soon || atomic_fetch_add(&d->backlogs, 1) + 1 >= BACKLOGS) {
 		atomic_store(&d->backlogs, 0);
 		call_one(d);
 	}
