@@ -171,11 +171,16 @@ works 'in' 'cat d/e/h'
 works 'late' 'exec 3<> z && rm z && echo late >&3 && exec 3>&- 3< /dev/null && echo late'
 fails 'No such file or directory' 'cat z'
 
-# Copied, and compared.
+# Copied, in pieces of many sizes too, and compared.
 works '' 'dd if=/dev/urandom of="$other/full" bs=4096 count=500 2> /dev/null'
 works '' 'cp "$other/full" full && cmp "$other/full" full'
 works '2048000' 'stat -c %s full'
-works '' 'cp full "$other/back" && cmp "$other/full" "$other/back" && rm full'
+works '' 'cp full "$other/back" && cmp "$other/full" "$other/back" &&
+    for n in 4095 65535 70001 131072 524288 1000003; do
+        dd if="$other/full" of=full bs=$n 2> /dev/null && cmp "$other/full" full &&
+        dd if=full of="$other/back" bs=$n 2> /dev/null && cmp "$other/full" "$other/back" &&
+        dd if="$other/full" bs=$n 2> /dev/null >> full && tail -c 2048000 full | cmp - "$other/full" && rm full || exit 1
+    done'
 works '' 'sync'
 works '' 'mkdir t && cp -R d t/ && tar cf t.tar t && rm -r t && tar xf t.tar && diff -r d t/d'
 works '' 'rm -r t t.tar'
