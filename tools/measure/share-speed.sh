@@ -72,7 +72,7 @@ tidy() {
 trap 'tidy 2> /dev/null || true' EXIT
 built="built without a proof"
 [[ ${library[0]} == */out/unproved/* ]] || built="the proved one"
-facts="Begun on $(LC_ALL=C date '+%-d %B %Y'), commit $(git -C "$here" describe --always --dirty), the library $built;
+facts="Begun on $(LC_ALL=C date '+%-d %B %Y'), commit $(git -C "$here" describe --always --dirty), the library $built, $("$transport" --version | sed 's/.*, //');
 Linux $(uname -r), $(nproc) processors, load $(cut -d ' ' -f 1-3 /proc/loadavg); libfuse and bindfs \
 $(paste -sd ' ' "$beside/versions"), folders in memory."
 python3 -B "$here/tools/measure/share_speed.py" "$here/out/c/share_speed" "$transport" "$beside/passthrough_ll" \

@@ -50,10 +50,10 @@ WHY = """
 What the share alone does: each file that is looked up is opened with O_PATH, and closed when it is forgotten, so that
 a request goes to the file that was looked up, whatever is renamed meanwhile, and no path is walked or link followed.
 bindfs holds no file and walks the path of each request from the folder on, so it may reach another file. What the
-share opens by a name is compared with that file by `fstat`; and each system call passes a filter, to which the others
-have none. Its data of 64 KiB and more go by a pipe between the file and the kernel, without a copy of its own. And a
-worker that is alone, to which requests come soon one after another, looks up to 20 microseconds for the next one before
-it sleeps.
+share opens by a name is compared with that file by `fstat`; and with libseccomp each system call passes a filter,
+which none of the others' do. Its data of 64 KiB and more go by a pipe between the file and the kernel, without a copy of
+its own. And a worker that is alone, to which requests come soon one after another, looks up to 20 microseconds for the
+next one before it sleeps.
 """
 
 
