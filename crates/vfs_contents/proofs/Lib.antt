@@ -1,3 +1,4 @@
+pub mod Counts
 pub mod Fills
 pub mod Held
 pub mod Moves

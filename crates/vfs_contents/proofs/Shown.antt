@@ -8,7 +8,7 @@ use Rattle.std.proofs.lemmas.List.FromFn.{length-map-range_with_len, get_or-map-
 use Rattle.vfs_views.specs.Segments.{with_bytes_at}
 use Rattle.vfs_files.specs.Bytes.{lengthened}
 use Rattle.vfs_contents.specs.Pages.{Pages, byte_at, byte_over, with_pages}
-use Rattle.vfs_contents.specs.Contents.{Contents, AreZeroBehind, bytes_of, contents_of, resized, written, pages_over}
+use Rattle.vfs_contents.specs.Contents.{Contents, AreZeroBehind, bytes_of, contents_of, resized, allocated, written, pages_over}
 use Rattle.vfs_contents.proofs.Held.{zeros_at, over_in, over_before, over_behind, list_over}
 
 pub length-bytes_of : (pages : Pages) (size : ℕ) → length (bytes_of pages size) ≡ size
@@ -179,3 +179,22 @@ contents_written old held new was off (b ∷ bs) some zero kept same keys over =
     (bytes_written old new was off (b ∷ bs) zero (λ place.
     over place ∙ over_same off (b ∷ bs) (byte_at held) (byte_at old) place (same place)))
     (keys ∙ kept)
+
+-- ---- zeros behind them
+
+pub contents_allocated : (old new : Pages) (was off len : ℕ) → AreZeroBehind old was
+    → keys_of new ≡ with_pages (keys_of old) (off / 4096) (pages_over off len)
+    → ((place : ℕ) → byte_at new place ≡ byte_at old place)
+    → contents_of new (max was (off + len)) ≡ allocated (contents_of old was) off len
+contents_allocated old new was off len zero kept same =
+    let end : ℕ = off + len in
+    let k : ℕ = end - length (bytes_of old was) in
+    let was_long = length-bytes_of old was in
+    let now_long = length-bytes_of new (max was end) in
+    let zeros = length-replicate {A = ℕ} k 0 in
+    let all = length-append (bytes_of old was) (replicate k 0) in
+    both _ _ _ _
+    (ext_get_or 0 (bytes_of new (max was end)) (bytes_of old was ++ replicate k 0) (omega arith)
+    (λ i inside.
+    shown new (max was end) i (omega arith) ∙ same i ∙ sym (shown_behind old was k i zero)))
+    kept

@@ -33,6 +33,18 @@ pages_over off len = div_ceil (off + len) 4096 - off / 4096
 abbrev pub lacking : Contents → (off len : ℕ) → ℕ
 lacking c off len = missing c.held (off / 4096) (pages_over off len)
 
+-- some of these bytes lie in pages that are not held
+pub record Lacks (c : Contents) (off len : ℕ) : Type 0 where
+  pub some : 0 < len
+  pub pages : 0 < lacking c off len
+
+-- so many bytes from off on are there, in pages that are held then; zeros are added
+abbrev pub allocated : Contents → (off len : ℕ) → Contents
+allocated c off len = record {
+  bytes = flat.lengthened c.bytes (off + len);
+  held = with_pages c.held (off / 4096) (pages_over off len);
+}
+
 -- these bytes written from off on, in pages that are held then
 abbrev pub written : Contents → (off : ℕ) → List ℕ → Contents
 written c off [] = c
@@ -49,7 +61,7 @@ abbrev pub Writes :
 Writes most old bytes off (Ok count) new =
     (count ≡ length (fitting most off bytes)) × (new ≡ written old off (fitting most off bytes))
 Writes most old bytes off (Err fault) new =
-    (fault ≡ Some enomem) × (0 < lacking old off (length (fitting most off bytes))) × (new ≡ old)
+    (fault ≡ Some enomem) × Lacks old off (length (fitting most off bytes)) × (new ≡ old)
 
 -- ---- how they are kept
 

@@ -1,9 +1,10 @@
 //! The bytes of a file.
 
-ghost use Rattle.std.specs.Prelude.{◌≡◌, ◌<◌, ◌^◌, ◌≤◌, ◌+◌, ◌-◌, ◌*◌, ◌/◌, ℕ, List, [], length, take};
+ghost use Rattle.std.specs.Prelude.{◌≡◌, ◌<◌, ◌^◌, ◌≤◌, ◌+◌, ◌-◌, ◌*◌, ◌/◌, ℕ, List, [], Some, OnOk, IfErr, length, take};
 ghost use Rattle.std.specs.Int.{div_ceil};
 ghost use Rattle.vfs_files.specs.Bytes.{PutsPart};
-ghost use Rattle.vfs_contents.specs.Contents.{no_contents, resized, lacking, pages_over, Writes};
+ghost use Rattle.vfs_flags.specs.Numbers.{enomem};
+ghost use Rattle.vfs_contents.specs.Contents.{no_contents, resized, allocated, lacking, pages_over, Writes};
 ghost use Rattle.vfs_contents.specs.Pages.{reach};
 
 use crate::pages::{PAGE, Pages};
@@ -102,6 +103,20 @@ impl Contents {
         self.pages.cut(size.div_ceil(PAGE as u64));
         self.pages.zero_from(size);
         self.size = size;
+    }
+
+    /// Holds the pages that so many bytes from `offset` on lie in, and adds zeros where there are
+    /// fewer bytes. ENOMEM where a page is not held and there is no memory for it, and all stays.
+    pub fn allocate(&mut self, alloc: Global, offset: u64, length: u64) -> Result<(), Fault>
+        requires { offset + length < 2 ^ 64 }
+        ensures ok { OnOk result (self.new ≡ allocated self.old offset length) }
+        ensures err { IfErr result (λ fault. (fault ≡ Some enomem) × (self.new ≡ self.old)
+            × (0 < lacking self.old offset length)) }
+    {
+        let (first, end) = span(offset, length);
+        self.pages.hold(alloc, first, end - first)?;
+        self.size = self.size.max(offset + length);
+        Ok(())
     }
 
     /// Puts bytes from `offset` on into `w`, at most `size`, and answers how many.
