@@ -5,3 +5,4 @@ pub mod Indexed
 mod Listings
 pub mod Places
 mod Results
+pub mod Weights

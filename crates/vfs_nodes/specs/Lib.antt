@@ -1,4 +1,3 @@
-pub mod Bytes
 pub mod Children
 pub mod Index
 pub mod Listing

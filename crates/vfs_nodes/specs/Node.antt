@@ -1,14 +1,12 @@
 -- What a node shows of itself, and what becomes of it.
-use Rattle.std.specs.Prelude.{◌≡◌, ℕ, ◌+◌, ◌-◌, ◌*◌, ◌^◌, ◌/◌, ◌==◌, ◌&&◌, nat_lt, Bool, List, [], ◌∷◌, length, min, bit_or, bit_and, if◌then◌else◌}
-use Rattle.std.specs.Int.{div_ceil}
+use Rattle.std.specs.Prelude.{◌≡◌, ℕ, ◌+◌, ◌-◌, ◌*◌, ◌^◌, ◌/◌, ◌==◌, ◌&&◌, Bool, List, [], ◌∷◌, length, min, bit_or, bit_and, if◌then◌else◌}
 use Rattle.std.specs.Duration.{as_nanos}
 use Rattle.std.specs.declared.time.Duration.{Duration}
 use Rattle.vfs_wire.specs.declared.attributes.Attr.{Attr}
 use Rattle.vfs_wire.specs.declared.attributes.SetattrIn.{SetattrIn}
 use Rattle.vfs_files.specs.declared.entry.Entry.{Entry}
-use Rattle.vfs_files.specs.Bytes.{written}
-use Rattle.vfs_nodes.specs.Bytes.{resized}
-use Rattle.vfs_nodes.specs.Children.{is_directory, is_file, no_children, directories_in}
+use Rattle.vfs_contents.specs.Contents.{no_contents, resized, written}
+use Rattle.vfs_nodes.specs.Children.{is_directory, is_file, is_link, no_children, directories_in}
 use Rattle.vfs_nodes.specs.Xattrs.{xattr_bytes}
 use Rattle.vfs_nodes.specs.declared.kind.Kind.{Kind}
 use Rattle.vfs_nodes.specs.declared.kind.Kind.TheVariants as kind
@@ -33,13 +31,17 @@ nlink_of node =
     then if node.names == 0 then 0 else min (directories_in node.children + 2) (2 ^ 32 - 1)
     else node.names
 
--- its attributes
+-- how many bytes a node shows: those of its text, or of its contents, which a file alone has
+abbrev pub size_of : Node → ℕ
+size_of node = if is_link node.kind then length node.text else length node.contents.bytes
+
+-- its attributes; a page that is held has 8 blocks
 abbrev pub attr_of : (number : ℕ) → Node → Attr
 attr_of number node =
     record {
       ino = number;
-      size = length node.contents;
-      blocks = div_ceil (length node.contents) 512;
+      size = size_of node;
+      blocks = length node.contents.held * 8;
       atime = node.atime.seconds;
       mtime = node.mtime.seconds;
       ctime = node.ctime.seconds;
@@ -67,16 +69,17 @@ pub record IsEntryOf (number : ℕ) (node : Node) (entry : Entry) : Type 0 where
   pub attr_timeout : IsDay entry.attr_timeout
   pub entry_timeout : IsDay entry.entry_timeout
 
--- how many bytes of the file system's it takes: those of its contents and its extended attributes
+-- how many bytes of the file system's it takes: those of the pages that are held, of its text and its
+-- extended attributes
 abbrev pub weight : Node → ℕ
-weight node = length node.contents + xattr_bytes node.xattrs
+weight node = length node.contents.held * 4096 + length node.text + xattr_bytes node.xattrs
 
 -- ---- what a node becomes
 
 -- a new node of this owner: of one name, held by one lookup, and made now
 abbrev pub new_node :
-    (now : Time) → (uid gid : ℕ) → Kind → (permissions parent : ℕ) → (contents : List ℕ) → Node
-new_node now uid gid kind permissions parent contents = record {
+    (now : Time) → (uid gid : ℕ) → Kind → (permissions parent : ℕ) → (text : List ℕ) → Node
+new_node now uid gid kind permissions parent text = record {
   kind = kind;
   permissions = permissions;
   uid = uid;
@@ -86,7 +89,8 @@ new_node now uid gid kind permissions parent contents = record {
   ctime = now;
   parent = parent;
   children = no_children;
-  contents = contents;
+  contents = no_contents;
+  text = text;
   xattrs = [];
   names = 1;
   lookups = 1;
@@ -111,10 +115,6 @@ set_attr now node attr valid = record node {
   ctime = picked valid 0x400 (record { seconds = attr.ctime; nanoseconds = attr.ctimensec }) now;
 }
 
--- whether SETATTR makes the contents of a node longer, for which memory may be wanted
-abbrev pub lengthens : Node → SetattrIn → (valid : ℕ) → Bool
-lengthens node attr valid = bit_and valid 0x8 == 0x8 && nat_lt (length node.contents) attr.size
-
 -- permission bits without set-user-ID, and without set-group-ID where the group may run it
 abbrev pub without_set_ids : (permissions : ℕ) → ℕ
 without_set_ids permissions =
@@ -133,7 +133,7 @@ abbrev pub opened : (now : Time) → (uid : ℕ) → Node → (flags : ℕ) → 
 opened now uid node flags =
     if truncates node flags
     then record node {
-      contents = [];
+      contents = resized node.contents 0;
       permissions = left_by uid node.permissions;
       mtime = now;
       ctime = now;

@@ -1,13 +1,14 @@
 -- A write into a node.
 use Rattle.std.specs.Prelude.{◌≡◌, ℕ, List, length, Option, Some, Result, Ok, Err}
 use Rattle.vfs_flags.specs.Numbers.{enomem}
-use Rattle.vfs_files.specs.Bytes.{fitting, Lengthens}
+use Rattle.vfs_files.specs.Bytes.{fitting}
+use Rattle.vfs_contents.specs.Contents.{Lacks}
 use Rattle.vfs_nodes.specs.Node.{overwritten}
 use Rattle.vfs_nodes.specs.declared.node.Node.{Node}
 use Rattle.vfs_nodes.specs.declared.node.Time.{Time}
 
--- a write of these bytes into a node, up to a limit: of those that fit all are written; or they
--- would make its contents longer, there is no memory for that, and it stays
+-- a write of these bytes into a node, up to a limit: of those that fit all are written; or one of their
+-- pages is not held, there is no memory for it, and the node stays
 abbrev pub Overwrites :
     (most : ℕ) (now : Time) (old : Node) (off : ℕ) (bytes : List ℕ) → Result ℕ (Option ℕ)
     → (new : Node) → Type 0
@@ -15,4 +16,4 @@ Overwrites most now old off bytes (Ok count) new =
     (count ≡ length (fitting most off bytes))
     × (new ≡ overwritten now old off (fitting most off bytes))
 Overwrites most now old off bytes (Err fault) new =
-    (fault ≡ Some enomem) × (new ≡ old) × Lengthens old.contents off (fitting most off bytes)
+    (fault ≡ Some enomem) × (new ≡ old) × Lacks old.contents off (length (fitting most off bytes))

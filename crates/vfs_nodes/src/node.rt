@@ -1,18 +1,19 @@
 //! A node: a directory, a file or a symbolic link.
 
-ghost use Rattle.std.specs.Prelude.{◌≡◌, ℕ, List, take, if◌then◌else◌, Some, MatchResult, OnOk, IfErr, IsTrue};
+ghost use Rattle.std.specs.Prelude.{◌≡◌, ℕ, List, take, if◌then◌else◌, Some, MatchResult};
 ghost use Rattle.vfs_flags.specs.Numbers.{enomem};
 ghost use Rattle.vfs_flags.specs.Flags.{setattr_valid_bits};
-ghost use Rattle.vfs_nodes.specs.Node.{attr_of, nlink_of, IsEntryOf, weight, new_node, opened, set_attr, left_by, lengthens, truncates, without_set_ids};
+ghost use Rattle.vfs_nodes.specs.Node.{attr_of, nlink_of, size_of, IsEntryOf, weight, new_node, opened, set_attr, left_by, truncates, without_set_ids};
 ghost use Rattle.vfs_nodes.specs.Writing.{Overwrites};
 
 use crate::children::Children;
-use crate::contents::Contents;
 use crate::kind::Kind;
+use crate::text::Text;
 use crate::xattrs::Xattrs;
 use bitflags::Flags;
 use std::alloc::Global;
 use std::time::Duration;
+use vfs_contents::Contents;
 use vfs_files::{Entry, ZeroCopyReader};
 use vfs_flags::{Fault, GuestGid, GuestUid, SetattrValid};
 use vfs_wire::{Attr, SetattrIn};
@@ -22,6 +23,12 @@ pub const TIMEOUT_SECONDS: u64 = 86_400;
 
 /// The flag of `open(2)` that takes the bytes of a file.
 const O_TRUNC: u32 = 0o1000;
+
+/// How many bytes a page of a file's contents has.
+const PAGE: u64 = 4096;
+
+/// How many blocks of 512 bytes it has.
+const PAGE_BLOCKS: u64 = 8;
 
 /// The permission bit by which the group may run a file.
 const GROUP_RUNS: u32 = 0o10;
@@ -56,8 +63,10 @@ pub struct Node {
     pub parent: u64,
     /// Of a directory: its names.
     pub children: Children,
-    /// The bytes of a file, or the text of a symbolic link.
+    /// The bytes of a file.
     pub contents: Contents,
+    /// The text of a symbolic link.
+    pub text: Text,
     /// Its extended attributes.
     pub xattrs: Xattrs,
     /// How many names lead to it. The root has one.
@@ -68,7 +77,7 @@ pub struct Node {
 
 impl Node {
     /// A new node of this owner, in this directory: of one name, held by one lookup, and made now.
-    /// ENOMEM where there is no memory for its contents.
+    /// ENOMEM where there is no memory for its text.
     pub fn new(
         alloc: Global,
         now: Time,
@@ -77,10 +86,10 @@ impl Node {
         kind: Kind,
         permissions: u32,
         parent: u64,
-        contents: &[u8],
+        text: &[u8],
     ) -> Result<Node, Fault>
         ensures { MatchResult result
-            (λ node. node ≡ new_node now uid gid kind permissions parent contents.now)
+            (λ node. node ≡ new_node now uid gid kind permissions parent text.now)
             (λ fault. fault ≡ Some enomem) }
     {
         Ok(Node {
@@ -93,7 +102,8 @@ impl Node {
             ctime: now,
             parent,
             children: Children::new(alloc),
-            contents: Contents::copy_of(alloc, contents)?,
+            contents: Contents::new(alloc),
+            text: Text::copy_of(alloc, text)?,
             xattrs: Xattrs::new(alloc),
             names: 1,
             lookups: 1,
@@ -117,15 +127,25 @@ impl Node {
         }
     }
 
+    // How many bytes it shows.
+    fn size(&self) -> u64
+        ensures { result ≡ size_of self.now }
+    {
+        if self.kind.is_link() {
+            self.text.len()
+        } else {
+            self.contents.len()
+        }
+    }
+
     /// Its attributes.
     pub fn attr(&self, number: u64) -> Attr
         ensures { result ≡ attr_of number self.now }
     {
-        let size = self.contents.len();
         Attr {
             ino: number,
-            size,
-            blocks: size.div_ceil(512),
+            size: self.size(),
+            blocks: self.contents.held() * PAGE_BLOCKS,
             atime: self.atime.seconds,
             mtime: self.mtime.seconds,
             ctime: self.ctime.seconds,
@@ -159,26 +179,16 @@ impl Node {
     pub fn weight(&self) -> u64
         ensures { result ≡ weight self.now }
     {
-        self.contents.len() + self.xattrs.bytes()
+        self.contents.held() * PAGE + self.text.len() + self.xattrs.bytes()
     }
 
-    /// Sets the attributes that the request names. ENOMEM where there is no memory for a longer
-    /// file, and all stays.
-    pub fn set_attr(
-        &mut self,
-        alloc: Global,
-        now: Time,
-        attr: SetattrIn,
-        valid: SetattrValid,
-    ) -> Result<(), Fault>
-        ensures ok { OnOk result (self.new ≡
-            set_attr now self.old attr (setattr_valid_bits valid)) }
-        ensures err { IfErr result (λ fault. (fault ≡ Some enomem) × (self.new ≡ self.old)
-            × IsTrue (lengthens self.old attr (setattr_valid_bits valid))) }
+    /// Sets the attributes that the request names. A longer file takes no memory for that.
+    pub fn set_attr(&mut self, now: Time, attr: SetattrIn, valid: SetattrValid)
+        ensures { self.new ≡ set_attr now self.old attr (setattr_valid_bits valid) }
     {
         let resizes = valid.contains(SetattrValid::SIZE);
         if resizes {
-            self.contents.resize(alloc, attr.size as usize)?;
+            self.contents.resize(attr.size);
         }
         let atime = Time {
             seconds: attr.atime,
@@ -205,7 +215,6 @@ impl Node {
         let written = pick(valid.contains(SetattrValid::MTIME), mtime, resized);
         self.mtime = pick(valid.contains(SetattrValid::MTIME_NOW), now, written);
         self.ctime = pick(valid.contains(SetattrValid::CTIME), ctime, now);
-        Ok(())
     }
 
     /// Whether an opening with these flags takes the bytes of it.
@@ -217,11 +226,11 @@ impl Node {
 
     /// Opens it for this user: O_TRUNC takes the bytes of a file, and by another user than 0 its
     /// set-user-ID and set-group-ID bits.
-    pub fn open(&mut self, alloc: Global, now: Time, uid: GuestUid, flags: u32)
+    pub fn open(&mut self, now: Time, uid: GuestUid, flags: u32)
         ensures { self.new ≡ opened now uid self.old flags }
     {
         if self.truncates(flags) {
-            self.contents.clear(alloc);
+            self.contents.resize(0);
             self.permissions = left_by(uid, self.permissions);
             self.mtime = now;
             self.ctime = now;
@@ -229,9 +238,11 @@ impl Node {
     }
 
     /// Writes up to `size` bytes of `r` over those of a file, from `offset` on, as far as they end
-    /// within `most`, and answers how many. ENOMEM where there is no memory for them, and all stays.
+    /// within `most`, and answers how many. ENOMEM where one of their pages is not held and there is
+    /// no memory for it, and all stays.
     pub fn write_from<R: ZeroCopyReader>(
         &mut self,
+        alloc: Global,
         now: Time,
         r: &mut R,
         size: u32,
@@ -241,7 +252,7 @@ impl Node {
         ensures { (taken : List ℕ) × R.takes r.old taken r.new
             × Overwrites most now self.old offset (take size (R.left r.old)) result self.new }
     {
-        let count = self.contents.write_from(r, size, offset, most as usize)?;
+        let count = self.contents.write_from(alloc, r, size, offset, most)?;
         if count > 0 {
             self.mtime = now;
             self.ctime = now;

@@ -5,18 +5,25 @@ mod session;
 use crate::support::{Message, handle, none_is_wrong};
 use crate::tree::session::memory::steps;
 use crate::tree::session::rest::{fifth, fourth, sixth};
-use crate::tree::session::{Step, first, second, third};
+use crate::tree::session::{Step, first, long, second, third};
 use std::alloc::Global;
 use std::test::Fail;
 use vfs_flags::{GuestGid, GuestUid};
 use vfs_server::server::Server;
 use vfs_tree::{Limits, Time, TreeFs};
 
-/// The limits of the session's tree.
+/// The limits of the session's tree: two pages, an attribute of 137 bytes and a text of 3.
 const LIMITS: Limits = Limits {
     nodes: 64,
-    bytes: 240,
+    bytes: 2 * 4096 + 140,
     file: 64,
+};
+
+/// Those of a tree of two pages, with files of any length.
+const LONG: Limits = Limits {
+    nodes: 64,
+    bytes: 2 * 4096,
+    file: u64::MAX,
 };
 
 /// When the session is.
@@ -25,10 +32,10 @@ const NOW: Time = Time {
     nanoseconds: 0,
 };
 
-/// A server over a new tree, whose root is of user and group 0.
-fn new_server(alloc: Global) -> Result<Server<TreeFs>, Fail> {
+/// A server over a new tree within these limits, whose root is of user and group 0.
+fn new_server(alloc: Global, limits: Limits) -> Result<Server<TreeFs>, Fail> {
     let (uid, gid) = (GuestUid::from(0), GuestGid::from(0));
-    match TreeFs::new(alloc, uid, gid, 0o755, LIMITS, NOW) {
+    match TreeFs::new(alloc, uid, gid, 0o755, limits, NOW) {
         Ok(tree) => Ok(Server::new(tree, 4096)),
         Err(_) => Err(Fail::from("no memory for a tree")),
     }
@@ -94,17 +101,28 @@ fn wrong_step(alloc: Global, server: &mut Server<TreeFs>) -> Result<Option<&'sta
 
 #[test]
 fn a_person_has_a_session(rt: HostRuntime) -> Result<(), Fail> {
-    let mut server = new_server(rt.alloc())?;
+    let mut server = new_server(rt.alloc(), LIMITS)?;
     none_is_wrong(wrong_step(rt.alloc(), &mut server))
 }
 
 /// The first step that lacks memory.
 fn lacking_step(alloc: Global) -> Result<Option<&'static str>, Fail> {
-    let mut server = new_server(alloc)?;
+    let mut server = new_server(alloc, LIMITS)?;
     first_wrong(alloc, &mut server, steps())
 }
 
 #[test]
 fn a_file_has_the_memory_that_it_needs(rt: HostRuntime) -> Result<(), Fail> {
     none_is_wrong(lacking_step(rt.alloc()))
+}
+
+/// The first step with a long file that is replied to otherwise.
+fn wrong_long(alloc: Global) -> Result<Option<&'static str>, Fail> {
+    let mut server = new_server(alloc, LONG)?;
+    first_wrong(alloc, &mut server, long::steps())
+}
+
+#[test]
+fn a_long_file_takes_what_is_written(rt: HostRuntime) -> Result<(), Fail> {
+    none_is_wrong(wrong_long(rt.alloc()))
 }

@@ -3,6 +3,6 @@ mod Below
 mod Forgetting
 mod Pairs
 mod Releasing
-mod Weights
 pub mod Entries
 pub mod Nodes
+pub mod Weights

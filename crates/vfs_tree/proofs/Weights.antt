@@ -1,30 +1,19 @@
 -- How many bytes a node takes before and after a change.
-use Rattle.std.proofs.Common.{◌≡◌, bit_and, ◌==◌, if◌then◌else◌, Ok, ◌≤◌, ◌-◌, ◌+◌, ℕ, zero, suc, Bool, true, false, List, [], ◌∷◌, length, take, drop, replicate, Option, Some, None, refl, ap, arith, length-append, length-take}
-use Rattle.std.proofs.lemmas.List.{length-replicate}
+use Rattle.std.proofs.Common.{◌≡◌, Ok, ◌≤◌, ◌-◌, ◌+◌, ◌*◌, ◌/◌, ℕ, zero, suc, ◌⊎◌, inl, inr, ⊎_elim, List, [], ◌∷◌, length, take, drop, Option, Some, None, refl, ap, arith, length-take}
 use Rattle.std.specs.List.{position}
 use Rattle.std.proofs.lemmas.List.Sums.{sum_by-append, sum_by-cons, sum_by-take-drop}
-use Rattle.std.proofs.lemmas.Bool.Decides.{nat_tests}
-use Rattle.vfs_wire.specs.declared.attributes.SetattrIn.{SetattrIn}
-use Rattle.vfs_files.specs.Bytes.{fitting, written}
-use Rattle.vfs_files.specs.WritingLaws.{length-Writes}
-use Rattle.vfs_nodes.specs.Bytes.{resized}
-use Rattle.vfs_nodes.specs.Node.{weight, set_attr, overwritten}
+use Rattle.vfs_files.specs.Bytes.{fitting}
+use Rattle.vfs_contents.specs.Contents.{pages_over}
+use Rattle.vfs_contents.specs.Pages.{reach}
+use Rattle.vfs_contents.proofs.Counts.{held_within}
+use Rattle.vfs_nodes.specs.Node.{weight, overwritten}
 use Rattle.vfs_nodes.specs.Writing.{Overwrites}
 use Rattle.vfs_nodes.specs.declared.node.Node.{Node}
 use Rattle.vfs_nodes.specs.declared.node.Time.{Time}
 use Rattle.vfs_nodes.specs.Xattrs.{Xattr, attribute_bytes, is_called, xattr_bytes, without_place, without_xattr}
-use Rattle.vfs_tree.specs.Outcome.{or_else, refusal_of}
-use Rattle.vfs_tree.specs.State.{State, node_at, room_of}
-use Rattle.vfs_tree.specs.Tree.{setattr_refusal, size_refusal, contents_refusal, most_size}
-
--- contents of another size have this size
-pub length-resized : (bytes : List ℕ) (size : ℕ) → length (resized bytes size) ≡ size
-length-resized bytes size = omega (
-  arith,
-  length-append (take size bytes) (replicate (size - length bytes) 0),
-  length-take size bytes,
-  length-replicate {A = ℕ} (size - length bytes) 0,
-)
+use Rattle.vfs_nodes.proofs.Weights.{overwritten_weighs}
+use Rattle.vfs_tree.specs.State.{State, room_of}
+use Rattle.vfs_tree.specs.Tree.{most_size, grown}
 
 -- extended attributes without one of them take no more bytes
 drop_bytes : (xattrs : List Xattr) (place : ℕ)
@@ -47,52 +36,41 @@ pub without_xattr_bytes : (xattrs : List Xattr) (name : List ℕ)
     → xattr_bytes (without_xattr xattrs name) ≤ xattr_bytes xattrs
 without_xattr_bytes xattrs name = place_bytes xattrs (position (is_called name) xattrs)
 
--- contents that are cut, or not, take no more bytes than there is room for
-fits_where : (cut : Bool) (bytes : List ℕ) (size room : ℕ)
-    → (cut ≡ true → size - length bytes ≤ room)
-    → length (if cut then resized bytes size else bytes) - length bytes ≤ room
-fits_where true bytes size room fits = omega (arith, length-resized bytes size, fits refl)
-fits_where false bytes size room fits = omega arith
+-- bytes that fit end within a limit, unless none fits
+pub fitting_ends : (most off : ℕ) (bytes : List ℕ)
+    → off + length (fitting most off bytes) ≤ most ⊎ (fitting most off bytes ≡ [])
+fitting_ends most off bytes = by (most - off) refl
+  where
+    by : (n : ℕ) → most - off ≡ n → off + length (take n bytes) ≤ most ⊎ (take n bytes ≡ [])
+    by zero is = inr refl
+    by (suc n) is = inl (omega (arith, is, length-take (suc n) bytes))
 
--- where neither refuses, the second does not
-none_after : (first second : Option ℕ) → or_else first second ≡ None → second ≡ None
-none_after None second free = free
-none_after (Some error) second free = cc
+-- a file that is written into takes no more bytes than there is room for
+pub written_fits : (s : State) (node : Node) (now : Time) (off size : ℕ) (bytes : List ℕ)
+    → weight (overwritten now node off (fitting (most_size s off size node) off bytes))
+    ≤ weight node + room_of s
+written_fits s node now off size bytes =
+    let fit = fitting (most_size s off size node) off bytes in
+    let free : ℕ = room_of s / 4096 in
+    let ends : off + length fit
+    ≤ 4096 * reach node.contents.held free (off / 4096) (pages_over off size) ⊎ (fit ≡ []) =
+    ⊎_elim (λ (h : off + length fit ≤ most_size s off size node). inl (omega (arith, h)))
+    (λ (none : fit ≡ []). inr none)
+    (fitting_ends (most_size s off size node) off bytes) in
+    omega (arith, overwritten_weighs now node off fit free size ends)
 
-size_fits : (most room : ℕ) (node : Node) (size : ℕ) → size_refusal most room node size ≡ None
-    → size - length node.contents ≤ room
-size_fits most room node size free = grind (arith, nat_tests)
-
-resize_fits : (s : State) (node : Node) (size : ℕ)
-    → or_else (contents_refusal node) (size_refusal s.limits.file (room_of s) node size) ≡ None
-    → size - length node.contents ≤ room_of s
-resize_fits s node size free =
-    size_fits s.limits.file (room_of s) node size
-    (none_after (contents_refusal node) (size_refusal s.limits.file (room_of s) node size) free)
-
--- so does a node whose attributes are set
-pub set_attr_fits : (s : State) (n : ℕ) (node : Node) (attr : SetattrIn) (valid : ℕ)
-    → node_at s n ≡ Some node → refusal_of (node_at s n) (setattr_refusal s attr valid) ≡ None
-    → weight (set_attr s.now node attr valid) - weight node ≤ room_of s
-set_attr_fits s n node attr valid is free =
-    let fits : (bit_and valid 8 == 8) ≡ true → attr.size - length node.contents ≤ room_of s = λ cut.
-    resize_fits s node attr.size (rw (is, cut) at free) in
-    omega (arith, fits_where (bit_and valid 8 == 8) node.contents attr.size (room_of s) fits)
-
--- and one that is written into
-overwritten_bytes : (now : Time) (node : Node) (off : ℕ) (bytes : List ℕ)
-    → weight (overwritten now node off bytes)
-    ≡ length (written node.contents off bytes) + xattr_bytes node.xattrs
-overwritten_bytes now node off [] = refl
-overwritten_bytes now node off (b ∷ bs) = refl
-
-pub overwritten_fits : (s : State) (node new : Node) (now : Time) (off most count : ℕ)
+pub overwritten_fits : (s : State) (node new : Node) (now : Time) (off size most count : ℕ)
     (bytes : List ℕ)
-    → most ≡ most_size s node → Overwrites most now node off bytes (Ok count) new
+    → most ≡ most_size s off size node → Overwrites most now node off bytes (Ok count) new
     → weight new - weight node ≤ room_of s
-overwritten_fits s node new now off most count bytes is wrote =
-    let fit = fitting most off bytes in
-    let size = overwritten_bytes now node off fit in
-    let longest = length-Writes most node.contents bytes off (Ok count)
-    (written node.contents off fit) (wrote.0, refl) in
-    omega (arith, size, longest, ap weight wrote.1)
+overwritten_fits s node new now off size most count bytes is wrote =
+    let same = ap (λ m. weight (overwritten now node off (fitting m off bytes))) is in
+    omega (arith, written_fits s node now off size bytes, same, ap weight wrote.1)
+
+-- so does one that has place for these bytes
+pub grown_fits : (s : State) (node : Node) (now : Time) (off len : ℕ)
+    → off + len ≤ most_size s off len node
+    → weight (grown now off len node) ≤ weight node + room_of s
+grown_fits s node now off len within =
+    let free : ℕ = room_of s / 4096 in
+    omega (arith, held_within node.contents.held off len free len (omega (arith, within)))

@@ -1,4 +1,3 @@
-pub use Rattle.vfs_nodes.specs.Bytes
 pub use Rattle.vfs_nodes.specs.Children
 pub use Rattle.vfs_nodes.specs.Listing
 pub use Rattle.vfs_nodes.specs.Node

@@ -1,5 +1,5 @@
 -- How each call ends.
-use Rattle.std.specs.Prelude.{ℕ, ◌==◌, ◌+◌, ◌-◌, ◌/◌, ◌^◌, ◌||◌, ◌&&◌, nat_eq, nat_le, nat_lt, not, min, max, Bool, true, List, [], ◌∷◌, length, map, take, codes, bit_and, bit_or, Option, Some, None, is_some, is_none, if◌then◌else◌}
+use Rattle.std.specs.Prelude.{ℕ, ◌==◌, ◌+◌, ◌-◌, ◌*◌, ◌/◌, ◌^◌, ◌||◌, ◌&&◌, nat_eq, nat_le, nat_lt, not, min, Bool, true, List, [], ◌∷◌, length, map, take, codes, bit_and, bit_or, Option, Some, None, is_some, is_none, if◌then◌else◌}
 use Rattle.std.specs.List.{starts_with}
 use Rattle.std.specs.Str.{bytes_eq}
 use Rattle.vfs_flags.specs.Numbers.{eperm, enoent, eexist, enotdir, eisdir, einval, enospc, erange, enotempty, enodata, eoverflow, eopnotsupp}
@@ -9,10 +9,11 @@ use Rattle.vfs_files.specs.declared.entry.Context.{Context}
 use Rattle.vfs_files.specs.Values.{Item}
 use Rattle.vfs_files.specs.Bytes.{part_of, most_put, fitting}
 use Rattle.vfs_files.specs.Calls.{Call, Init, Lookup, Forget, BatchForget, Getattr, Setattr, Symlink, Readlink, Open, Unlink, Rmdir, Rename, Link, Mknod, Mkdir, Create, Read, Write, Fallocate, Statfs, Readdir, Setxattr, Getxattr, Listxattr, Removexattr, Fsync, Flush, Release, Fsyncdir, Releasedir, Destroy, Answer, Options, Opened, Text, Count, Put, Wrote, Done, Statistics, Handed, default_answer}
-use Rattle.vfs_nodes.specs.Bytes.{resized}
+use Rattle.vfs_contents.specs.Pages.{reach}
+use Rattle.vfs_contents.specs.Contents.{allocated, lacking, pages_over}
 use Rattle.vfs_nodes.specs.Children.{with_child, without_child, is_directory, is_file, is_link}
 use Rattle.vfs_nodes.specs.Listing.{items_behind}
-use Rattle.vfs_nodes.specs.Node.{new_node, lengthens, set_attr, truncates, opened, overwritten}
+use Rattle.vfs_nodes.specs.Node.{new_node, set_attr, truncates, opened, overwritten}
 use Rattle.vfs_nodes.specs.Xattrs.{Xattr, xattr_named, xattr_bytes, with_xattr, without_xattr, name_list}
 use Rattle.vfs_nodes.specs.declared.children.Child.{Child}
 use Rattle.vfs_nodes.specs.declared.kind.Kind.{Kind}
@@ -83,13 +84,13 @@ released s = all_forgotten s (held_of s.nodes)
 
 -- ---- MKDIR, MKNOD, CREATE, SYMLINK, LINK
 
--- whether there is no room for one node more with so many bytes, or no place for it in its directory
+-- whether there is no room for one node more with a text of so many bytes, or no place for it in its directory
 abbrev pub is_full : State → (above : Option Node) → (size : ℕ) → Bool
 is_full s above size =
     nat_le s.limits.nodes s.inodes || s.next == 2 ^ 64 - 1 || is_crowded above
     || nat_lt (room_of s) size
 
--- why nothing of this name, with contents of so many bytes, can be made in this directory
+-- why nothing of this name, with a text of so many bytes, can be made in this directory
 abbrev pub make_refusal : State → (parent : ℕ) → (name : List ℕ) → (size : ℕ) → Option ℕ
 make_refusal s parent name size =
     or_else (directory_refusal (node_at s parent) name)
@@ -121,12 +122,12 @@ made s parent name node =
 
 -- a node of this kind is made, or refused
 abbrev pub makes :
-    State → Context → Kind → (permissions parent : ℕ) → (name contents : List ℕ) → Outcome
-makes s ctx kind permissions parent name contents =
+    State → Context → Kind → (permissions parent : ℕ) → (name text : List ℕ) → Outcome
+makes s ctx kind permissions parent name text =
     let above = node_at s parent in
     let node = new_node s.now ctx.uid (group_in above ctx.gid) kind
-    (permissions_in above kind permissions) parent contents in
-    unless (make_refusal s parent name (length contents))
+    (permissions_in above kind permissions) parent text in
+    unless (make_refusal s parent name (length text))
     (Tried true (EntryOf s.next node) (made s parent name node))
 
 -- MKNOD makes files with contents alone
@@ -171,70 +172,69 @@ abbrev pub contents_refusal : Node → Option ℕ
 contents_refusal node =
     first_of ((is_directory node.kind, eisdir) ∷ (not (is_file node.kind), einval) ∷ [])
 
--- why contents can't be of this size, where a file has at most so many bytes and there is room for so
--- many more
-abbrev pub size_refusal : (most room : ℕ) → Node → (size : ℕ) → Option ℕ
-size_refusal most room node size =
-    first_of ((nat_lt most size, efbig) ∷ (nat_lt room (size - length node.contents), enospc) ∷ [])
+-- how many bytes a file may have: a signed number of 64 bits counts them
+abbrev pub longest : State → ℕ
+longest s = min s.limits.file (2 ^ 63 - 1)
 
 abbrev pub setattr_refusal : State → SetattrIn → (valid : ℕ) → Node → Option ℕ
 setattr_refusal s attr valid node =
     if bit_and valid 8 == 8
-    then or_else (contents_refusal node) (size_refusal s.limits.file (room_of s) node attr.size)
+    then or_else (contents_refusal node) (first_of ((nat_lt (longest s) attr.size, efbig) ∷ []))
     else None
 
--- so SETATTR does, or it is refused
+-- so SETATTR does, or it is refused; a longer file takes no more memory
 abbrev pub sets_attr : State → (number : ℕ) → SetattrIn → (valid : ℕ) → Outcome
 sets_attr s n attr valid = on (node_at s n) (setattr_refusal s attr valid) (λ node.
     let set = set_attr s.now node attr valid in
-    Tried (lengthens node attr valid) (AttrOf n set) (with_resized s n node set))
+    Answered (AttrOf n set) (with_resized s n node set))
 
 -- how an OPEN is answered: what the client keeps of the bytes stays true, unless they were taken
 abbrev pub opening : Node → (flags : ℕ) → Answer
 opening node flags = Opened None (if truncates node flags then 0 else 2)
 
+-- up to which place a file can have bytes from off on, at most so many, in pages that are held or can be
+abbrev pub most_size : State → (off len : ℕ) → Node → ℕ
+most_size s off len node =
+    min (longest s)
+    (4096 * reach node.contents.held (room_of s / 4096) (off / 4096) (pages_over off len))
+
 -- why a file can't be made to have place for these bytes
 abbrev pub fallocate_refusal : State → (mode off len : ℕ) → Node → Option ℕ
 fallocate_refusal s mode off len node =
-    or_else
-    (first_of ((not (mode == 0), eopnotsupp) ∷ (not (is_file node.kind), enodev)
-    ∷ (len == 0, einval) ∷ []))
-    (size_refusal s.limits.file (room_of s) node (off + len))
+    first_of ((not (mode == 0), eopnotsupp) ∷ (not (is_file node.kind), enodev)
+    ∷ (len == 0, einval)
+    ∷ (nat_lt (longest s) (off + len), efbig)
+    ∷ (nat_lt (most_size s off len node) (off + len), enospc) ∷ [])
 
--- contents are at least so long, with zeros at the end where they were shorter
-abbrev pub grown : (now : Time) → (size : ℕ) → Node → Node
-grown now size node =
-    let contents = resized node.contents (max size (length node.contents)) in
-    record node { contents = contents; mtime = now; ctime = now }
+-- these bytes are there, in pages that are held
+abbrev pub grown : (now : Time) → (off len : ℕ) → Node → Node
+grown now off len node =
+    record node { contents = allocated node.contents off len; mtime = now; ctime = now }
 
 abbrev pub allocates : State → (number mode off len : ℕ) → Outcome
 allocates s n mode off len = on (node_at s n) (fallocate_refusal s mode off len) (λ node.
-    Tried (nat_lt (length node.contents) (off + len)) (Just Done)
-    (with_resized s n node (grown s.now (off + len) node)))
-
--- how long a file may become
-abbrev pub most_size : State → Node → ℕ
-most_size s node = min s.limits.file (length node.contents + room_of s)
+    Tried (nat_lt 0 (lacking node.contents off len)) (Just Done)
+    (with_resized s n node (grown s.now off len node)))
 
 -- why not one of so many bytes can be written from off on
 abbrev pub write_refusal : State → (off size : ℕ) → Node → Option ℕ
 write_refusal s off size node =
     or_else (contents_refusal node)
-    (first_of ((nat_lt 0 size && nat_le s.limits.file off, efbig)
-    ∷ (nat_lt 0 size && nat_le (most_size s node) off, enospc) ∷ []))
+    (first_of ((nat_lt 0 size && nat_le (longest s) off, efbig)
+    ∷ (nat_lt 0 size && nat_le (most_size s off size node) off, enospc) ∷ []))
 
--- of these bytes those are written that fit; memory is needed where they make the contents longer
-abbrev pub writes : State → (number off : ℕ) → List ℕ → Node → Outcome
-writes s n off bytes node =
-    let fit = fitting (most_size s node) off bytes in
-    Tried (nat_lt 0 (length fit) && nat_lt (length node.contents) (off + length fit))
+-- of these bytes those are written that fit; memory is needed where their pages are not all held
+abbrev pub writes : State → (number off size : ℕ) → List ℕ → Node → Outcome
+writes s n off size bytes node =
+    let fit = fitting (most_size s off size node) off (take size bytes) in
+    Tried (nat_lt 0 (length fit) && nat_lt 0 (lacking node.contents off (length fit)))
     (Just (Wrote (length fit))) (with_resized s n node (overwritten s.now node off fit))
 
 -- ---- READLINK, READDIR, STATFS
 
 -- whether a node has no text that could be answered
 abbrev pub has_no_text : Node → Bool
-has_no_text node = not (is_link node.kind) || nat_lt (2 ^ 32 - 17) (length node.contents)
+has_no_text node = not (is_link node.kind) || nat_lt (2 ^ 32 - 17) (length node.text)
 
 -- what the file system holds, in blocks of 4096 bytes, and how much more it may
 abbrev pub statistics_of : State → Statvfs64
@@ -330,14 +330,14 @@ outcome s (Rmdir _ parent name) = at_name s parent name (λ child node.
     (done (taken_out s parent name child)))
 outcome s (Rename _ od on nd nn flags) = renames s od on nd nn flags
 outcome s (Readlink _ n) = with_it (node_at s n) (λ node.
-    unless (first_of ((has_no_text node, einval) ∷ [])) (Tried true (Just (Text node.contents)) s))
+    unless (first_of ((has_no_text node, einval) ∷ [])) (Tried true (Just (Text node.text)) s))
 outcome s (Open ctx n _ flags) = with_it (node_at s n) (λ node.
     Answered (Just (opening node flags)) (with_resized s n node (opened s.now ctx.uid node flags)))
 outcome s (Read _ n _ room size off _ _) =
     on (node_at s n) contents_refusal
-    (λ node. Answered (Just (Put (part_of node.contents off (most_put room size)))) s)
+    (λ node. Answered (Just (Put (part_of node.contents.bytes off (most_put room size)))) s)
 outcome s (Write _ n _ bytes size off _ _ _ _) =
-    on (node_at s n) (write_refusal s off size) (writes s n off (take size bytes))
+    on (node_at s n) (write_refusal s off size) (writes s n off size bytes)
 outcome s (Fallocate _ n _ mode off len) = allocates s n mode off len
 outcome s (Statfs _ _) = Answered (Just (Statistics (statistics_of s))) s
 outcome s (Setxattr _ n name value flags _) = sets_xattr s n name value flags

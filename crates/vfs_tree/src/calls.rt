@@ -8,7 +8,7 @@ ghost use Rattle.vfs_tree.specs.Outcome.{Answered, AttrOf, Ends, with_it};
 ghost use Rattle.vfs_tree.specs.State.{node_at};
 ghost use Rattle.vfs_tree.specs.Tree.{all_forgotten, sets_attr};
 
-use crate::changes::check_contents;
+use crate::changes::{PAGE, check_contents};
 use crate::fs::TreeFs;
 use crate::naming::directory;
 use bitflags::Flags;
@@ -25,9 +25,6 @@ use vfs_wire::{Attr, SetattrIn, Statvfs64};
 
 /// The most bytes of a text that is answered: with the 16 of a header they are below 2 ^ 32.
 const MOST_TEXT: u64 = 0xffff_ffef;
-
-/// In how many bytes the file system counts.
-const BLOCK: u64 = 4096;
 
 impl FileSystem for TreeFs {
     ghost use Rattle.vfs_tree.specs.Tree.{TreeAllows};
@@ -89,12 +86,12 @@ impl FileSystem for TreeFs {
             (Plain (attr_answer result)) self.new }
     {
         self.check_set_attr(inode, &attr, valid)?;
-        let (alloc, now) = (self.alloc, self.now);
+        let now = self.now;
         let Some(node) = self.nodes.get_mut(&inode) else {
             unreachable!()
         };
         let before = node.weight();
-        node.set_attr(alloc, now, attr, valid)?;
+        node.set_attr(now, attr, valid);
         let after = node.weight();
         let attr = node.attr(inode);
         self.reweigh(before, after);
@@ -105,10 +102,10 @@ impl FileSystem for TreeFs {
         let Some(node) = self.nodes.get(&inode) else {
             return Err(Some(Errno::ENOENT));
         };
-        if !node.kind.is_link() || node.contents.len() > MOST_TEXT {
+        if !node.kind.is_link() || node.text.len() > MOST_TEXT {
             return Err(Some(Errno::EINVAL));
         }
-        node.contents.copy(self.alloc)
+        node.text.copy(self.alloc)
     }
 
     fn symlink(
@@ -212,7 +209,7 @@ impl FileSystem for TreeFs {
         _kill_priv: bool,
         flags: u32,
     ) -> Result<(Option<u64>, OpenOptions), Fault> {
-        let (alloc, now) = (self.alloc, self.now);
+        let now = self.now;
         let Some(node) = self.nodes.get_mut(&inode) else {
             return Err(Some(Errno::ENOENT));
         };
@@ -222,7 +219,7 @@ impl FileSystem for TreeFs {
         } else {
             OpenOptions::KEEP_CACHE
         };
-        node.open(alloc, now, ctx.uid, flags);
+        node.open(now, ctx.uid, flags);
         let after = node.weight();
         self.reweigh(before, after);
         Ok((None, options))
@@ -260,12 +257,12 @@ impl FileSystem for TreeFs {
         _flags: u32,
     ) -> Result<u32, Fault> {
         let most = self.check_write(inode, offset, size)?;
-        let now = self.now;
+        let (alloc, now) = (self.alloc, self.now);
         let Some(node) = self.nodes.get_mut(&inode) else {
             unreachable!()
         };
         let before = node.weight();
-        let count = node.write_from(now, r, size, offset, most)?;
+        let count = node.write_from(alloc, now, r, size, offset, most)?;
         let after = node.weight();
         self.reweigh(before, after);
         Ok(count)
@@ -273,11 +270,11 @@ impl FileSystem for TreeFs {
 
     fn statfs(&mut self, _ctx: Context, _inode: u64) -> Result<Statvfs64, Fault> {
         Ok(Statvfs64 {
-            f_bsize: BLOCK,
-            f_frsize: BLOCK,
-            f_blocks: self.limits.bytes / BLOCK,
-            f_bfree: self.room() / BLOCK,
-            f_bavail: self.room() / BLOCK,
+            f_bsize: PAGE,
+            f_frsize: PAGE,
+            f_blocks: self.limits.bytes / PAGE,
+            f_bfree: self.room() / PAGE,
+            f_bavail: self.room() / PAGE,
             f_files: self.limits.nodes,
             f_ffree: self.limits.nodes.saturating_sub(self.inodes),
             f_namemax: 255,

@@ -1,13 +1,13 @@
 //! Changes of a node: its contents and its extended attributes.
 
-ghost use Rattle.std.specs.Prelude.{◌≡◌, ◌+◌, length, max, IfSome, Some, None, IfOk, IfErr, OnOk};
+ghost use Rattle.std.specs.Prelude.{◌≡◌, ◌<◌, ◌≤◌, ◌^◌, ◌+◌, ◌-◌, IfSome, Some, None, IfOk, IfErr, OnOk};
 ghost use Rattle.vfs_flags.specs.Flags.{setattr_valid_bits};
 ghost use Rattle.vfs_files.specs.Values.{name_text};
 ghost use Rattle.vfs_files.specs.Calls.{Plain, KeepsTextShort, done_answer, getxattr_answer, listxattr_answer};
 ghost use Rattle.vfs_nodes.specs.Xattrs.{xattr_named, name_list};
 ghost use Rattle.vfs_tree.specs.Outcome.{Ends, refusal_of, unless, with_it};
 ghost use Rattle.vfs_tree.specs.State.{node_at};
-ghost use Rattle.vfs_tree.specs.Tree.{contents_refusal, size_refusal, setattr_refusal, write_refusal, fallocate_refusal, allocates, most_size, setxattr_refusal, is_bare, is_kept, namespace_refusal, sets_xattr, removes_xattr, tells};
+ghost use Rattle.vfs_tree.specs.Tree.{contents_refusal, setattr_refusal, write_refusal, fallocate_refusal, allocates, longest, most_size, setxattr_refusal, is_bare, is_kept, namespace_refusal, sets_xattr, removes_xattr, tells};
 
 use crate::fs::TreeFs;
 use bitflags::Flags;
@@ -15,6 +15,9 @@ use vfs_files::{CStr, GetxattrReply, ListxattrReply, copy_of};
 use vfs_flags::{Errno, Fault, SetattrValid};
 use vfs_nodes::Node;
 use vfs_wire::SetattrIn;
+
+/// How many bytes a page of a file's contents has.
+pub(crate) const PAGE: u64 = 4096;
 
 /// The flag by which an extended attribute that is there is not set.
 const XATTR_CREATE: u32 = 1;
@@ -52,21 +55,6 @@ pub(crate) fn check_contents(node: &Node) -> Result<(), Errno>
     }
     if !node.kind.is_file() {
         return Err(Errno::EINVAL);
-    }
-    Ok(())
-}
-
-/// Whether a node's contents can be of this size, where a file has at most `most` bytes and there is
-/// room for `room` more.
-pub(crate) fn check_size(node: &Node, size: u64, most: u64, room: u64) -> Result<(), Errno>
-    ensures ok { OnOk result (size_refusal most room node.now size ≡ None) }
-    ensures err { IfErr result (λ errno. size_refusal most room node.now size ≡ Some errno) }
-{
-    if size > most {
-        return Err(too_big());
-    }
-    if size.saturating_sub(node.contents.len()) > room {
-        return Err(Errno::ENOSPC);
     }
     Ok(())
 }
@@ -119,15 +107,39 @@ impl TreeFs {
             return Ok(());
         }
         check_contents(node)?;
-        check_size(node, attr.size, self.limits.file, self.room())
+        if attr.size > self.longest() {
+            return Err(too_big());
+        }
+        Ok(())
     }
 
-    /// Whether so many bytes can be written into a file from `offset` on, and how long it may become.
+    // How many bytes a file may have.
+    fn longest(&self) -> u64
+        ensures longest { result ≡ longest self.entry.now }
+        ensures most { result < 2 ^ 63 }
+    {
+        self.limits.file.min(i64::MAX as u64)
+    }
+
+    // Up to which place a file can have bytes from `offset` on, at most so many, in pages that are
+    // held or can be.
+    fn most_size(&self, node: &Node, offset: u64, len: u64) -> u64
+        requires { offset < 2 ^ 63 → offset + len < 2 ^ 64 - 4096 }
+        ensures { result ≡ most_size self.entry.now offset len node.now }
+    {
+        let longest = self.longest();
+        if offset > i64::MAX as u64 {
+            return longest;
+        }
+        longest.min(node.contents.reach(offset, len, self.room() / PAGE))
+    }
+
+    /// Whether so many bytes can be written into a file from `offset` on, and up to which place.
     pub(crate) fn check_write(&self, inode: u64, offset: u64, size: u32) -> Result<u64, Errno>
         ensures ok { OnOk result (refusal_of (node_at self.entry.now inode)
             (write_refusal self.entry.now offset size) ≡ None) }
         ensures most { IfOk result (λ most. IfSome (node_at self.entry.now inode) (λ node.
-            most ≡ most_size self.entry.now node)) }
+            most ≡ most_size self.entry.now offset size node)) }
         ensures err { IfErr result (λ errno. refusal_of (node_at self.entry.now inode)
             (write_refusal self.entry.now offset size) ≡ Some errno) }
     {
@@ -135,18 +147,18 @@ impl TreeFs {
             return Err(Errno::ENOENT);
         };
         check_contents(node)?;
-        let most = node.contents.len().saturating_add(self.room());
-        let most = self.limits.file.min(most);
-        if size > 0 && offset >= self.limits.file {
+        if size > 0 && offset >= self.longest() {
             return Err(too_big());
         }
+        let most = self.most_size(node, offset, size as u64);
         if size > 0 && offset >= most {
             return Err(Errno::ENOSPC);
         }
         Ok(most)
     }
 
-    /// Makes a file at least `offset + length` bytes long.
+    /// Makes a file at least `offset + length` bytes long, and has these `length` in pages that are
+    /// held.
     pub(crate) fn allocate(
         &mut self,
         inode: u64,
@@ -157,13 +169,13 @@ impl TreeFs {
         ensures { Ends self.old (allocates self.old inode mode offset length)
             (Plain (done_answer result)) self.new }
     {
-        let size = self.check_allocate(inode, mode, offset, length)?;
+        self.check_allocate(inode, mode, offset, length)?;
         let (alloc, now) = (self.alloc, self.now);
         let Some(node) = self.nodes.get_mut(&inode) else {
             unreachable!()
         };
         let before = node.weight();
-        node.contents.resize(alloc, size as usize)?;
+        node.contents.allocate(alloc, offset, length)?;
         node.mtime = now;
         node.ctime = now;
         let after = node.weight();
@@ -171,12 +183,13 @@ impl TreeFs {
         Ok(())
     }
 
-    // Whether a file can be made at least `offset + len` bytes long, and how long it is then.
-    fn check_allocate(&self, inode: u64, mode: u32, offset: u64, len: u64) -> Result<u64, Errno>
+    // Whether a file can be made so.
+    fn check_allocate(&self, inode: u64, mode: u32, offset: u64, len: u64) -> Result<(), Errno>
         ensures ok { OnOk result (refusal_of (node_at self.entry.now inode)
             (fallocate_refusal self.entry.now mode offset len) ≡ None) }
-        ensures size { IfOk result (λ size. IfSome (node_at self.entry.now inode) (λ node.
-            size ≡ max (offset + len) (length node.contents))) }
+        ensures end { OnOk result (offset + len < 2 ^ 63) }
+        ensures room { OnOk result (IfSome (node_at self.entry.now inode) (λ node.
+            offset + len ≤ most_size self.entry.now offset len node)) }
         ensures err { IfErr result (λ errno. refusal_of (node_at self.entry.now inode)
             (fallocate_refusal self.entry.now mode offset len) ≡ Some errno) }
     {
@@ -192,12 +205,16 @@ impl TreeFs {
         if len == 0 {
             return Err(Errno::EINVAL);
         }
-        let most = self.limits.file;
-        let Some(size) = offset.checked_add(len) else {
+        let Some(end) = offset.checked_add(len) else {
             return Err(too_big());
         };
-        check_size(node, size, most, self.room())?;
-        Ok(size.max(node.contents.len()))
+        if end > self.longest() {
+            return Err(too_big());
+        }
+        if end > self.most_size(node, offset, len) {
+            return Err(Errno::ENOSPC);
+        }
+        Ok(())
     }
 
     /// Sets an extended attribute.

@@ -30,10 +30,10 @@ use vfs_nodes::{Child, Kind, Node, Time};
 pub struct Limits {
     /// How many nodes, the root among them. Each further name of a node counts as one more.
     pub nodes: u64,
-    /// How many bytes, in the contents of files, the texts of symbolic links, and the names and
-    /// values of extended attributes with 128 bytes for each.
+    /// How many bytes: 4096 for each page of a file that is held, those of the texts of symbolic
+    /// links, and those of the names and values of extended attributes with 128 for each.
     pub bytes: u64,
-    /// How many bytes a file has at most.
+    /// How many bytes a file has at most, up to 2^63 - 1.
     pub file: u64,
 }
 
@@ -132,7 +132,7 @@ impl TreeFs {
         self.limits.bytes.saturating_sub(self.used)
     }
 
-    // Whether there is no room for one node more with so many bytes, or no place for it in this
+    // Whether there is no room for one node more with a text of so many bytes, or no place for it in this
     // directory.
     fn is_full(&self, above: &Node, size: u64) -> bool
         ensures full { result ≡ is_full self.entry.now (Some above.now) size }
@@ -175,17 +175,17 @@ impl TreeFs {
         permissions: u32,
         parent: u64,
         name: CStr<'_>,
-        contents: &[u8],
+        text: &[u8],
     ) -> Result<Entry, Fault>
         ensures { Ends self.old
-            (makes self.old ctx kind permissions parent (name_text name.entry) contents.now)
+            (makes self.old ctx kind permissions parent (name_text name.entry) text.now)
             (Plain (entry_answer result)) self.new }
     {
-        self.check_make(parent, name.to_bytes(), contents.len() as u64)?;
+        self.check_make(parent, name.to_bytes(), text.len() as u64)?;
         let (alloc, now) = (self.alloc, self.now);
         let uid = ctx.uid;
         let (gid, permissions) = self.handed_down(parent, ctx.gid, kind, permissions);
-        let node = Node::new(alloc, now, uid, gid, kind, permissions, parent, contents)?;
+        let node = Node::new(alloc, now, uid, gid, kind, permissions, parent, text)?;
         let entry = node.entry(self.next);
         self.add(parent, name, node)?;
         Ok(entry)

@@ -12,21 +12,24 @@ use Rattle.vfs_wire.specs.declared.attributes.SetattrIn.{SetattrIn}
 use Rattle.std.proofs.lemmas.Bool.{ltb-true, ltb-false, eqb-true, not-false, or_parts}
 use Rattle.std.proofs.lemmas.List.{length-replicate}
 use Rattle.std.proofs.lemmas.List.Sums.{sum_by-remove}
-use Rattle.vfs_tree.specs.Bytes.{resized}
+use Rattle.vfs_contents.specs.Contents.{Contents, resized, lacking}
 use Rattle.vfs_tree.specs.Children.{with_child, is_directory, is_file}
 use Rattle.vfs_tree.specs.Listing.{items_behind}
-use Rattle.vfs_tree.specs.Node.{weight, left_by, truncates, opened, lengthens, set_attr, overwritten, new_node}
+use Rattle.vfs_tree.specs.Node.{weight, left_by, truncates, opened, set_attr, overwritten, new_node}
 use Rattle.vfs_tree.specs.Outcome.{TreeReply, Just, EntryOf, AttrOf, Listed, Outcome, Refused, Answered, Tried, Replies, Ends, done, first_of, or_else, unless, with_it, on}
 use Rattle.vfs_tree.specs.Rename.{directory_refusal, rename_refusal, renamed}
 use Rattle.vfs_tree.specs.State.{State, node_at, node_named, room_of, with_node, with_resized, with_names, change, child_at}
 use Rattle.vfs_tree.specs.State as tree
 use Rattle.vfs_tree_laws.specs.Laws.{IsShort}
-use Rattle.vfs_tree.specs.Tree.{opening, held_of, group_in, permissions_in, namespace_refusal, efbig, enodev, most_xattr_bytes, TreeAllows, outcome, found, at_name, made, makes, linked, all_forgotten, setattr_refusal, contents_refusal, size_refusal, writes, write_refusal, most_size, grown, fallocate_refusal, setxattr_refusal, with_xattrs, has_no_text, is_plain, make_refusal, taken_out, link_refusal, statistics_of, tells}
+use Rattle.vfs_tree.specs.Tree.{opening, held_of, group_in, permissions_in, namespace_refusal, efbig, enodev, most_xattr_bytes, TreeAllows, outcome, found, at_name, made, makes, linked, all_forgotten, setattr_refusal, contents_refusal, writes, write_refusal, longest, most_size, grown, fallocate_refusal, setxattr_refusal, with_xattrs, has_no_text, is_plain, make_refusal, taken_out, link_refusal, statistics_of, tells}
 use Rattle.vfs_tree.specs.Xattrs.{Xattr, is_called, attribute_bytes, without_place, xattr_named, xattr_bytes, with_xattr, without_xattr, name_list}
 use Rattle.vfs_nodes.specs.declared.children.Child.{Child}
 use Rattle.vfs_nodes.specs.declared.kind.Kind.{Kind}
 use Rattle.vfs_nodes.specs.declared.kind.Kind.TheVariants as kind
 use Rattle.vfs_nodes.specs.declared.node.Node.{Node}
+use Rattle.vfs_nodes.specs.declared.node.Time.{Time}
+use Rattle.vfs_nodes.proofs.Weights.{resized_holds, set_attr_weighs}
+use Rattle.vfs_tree.proofs.Weights.{fitting_ends, written_fits, grown_fits}
 
 -- a node with other contents or extended attributes, for which there is room
 pub record Resizes (s : State) (was now : Node) : Type 0 where
@@ -71,10 +74,9 @@ pub record Covers (old : State) (P : List (ℕ × ℕ) → TreeReply → State �
       → P pairs reply (all_forgotten old pairs)
   pub resizes : (n : ℕ) (was now : Node) (reply : TreeReply) → IsTold reply → node_at old n ≡ Some was
       → Resizes old was now → P [] reply (with_resized old n was now)
-  pub makes : (uid gid : ℕ) (kind : Kind) (permissions parent : ℕ) (name contents : List ℕ)
-      → make_refusal old parent name (length contents) ≡ None
-      → (is_file kind ≡ true → contents ≡ [])
-      → let node = new_node old.now uid gid kind permissions parent contents in
+  pub makes : (uid gid : ℕ) (kind : Kind) (permissions parent : ℕ) (name text : List ℕ)
+      → make_refusal old parent name (length text) ≡ None
+      → let node = new_node old.now uid gid kind permissions parent text in
       P [] (EntryOf old.next node) (made old parent name node)
   pub links : (n : ℕ) (node : Node) (parent : ℕ) (name : List ℕ) → node_at old n ≡ Some node
       → link_refusal old parent name node ≡ None
@@ -113,15 +115,6 @@ or_none (Some e) b none = cc
 or_none None b none = (refl, none)
 
 -- ---- contents
-
-length-resized : (bytes : List ℕ) (size : ℕ) → length (resized bytes size) ≡ size
-length-resized bytes size =
-    omega (
-      arith,
-      length-append (take size bytes) (replicate (size - length bytes) 0),
-      length-take size bytes,
-      length-replicate {A = ℕ} (size - length bytes) 0,
-    )
 
 length-with_bytes_at : (at : ℕ) (bs xs : List ℕ) → at + length bs ≤ length xs
     → length (with_bytes_at at bs xs) ≡ length xs
@@ -165,46 +158,42 @@ resizes_itself s node = record {
   file = λ h. h;
 }
 
--- contents that may take the place of a node's
-record Fits (s : State) (node : Node) (contents : List ℕ) : Type 0 where
-  pub room : length contents ≤ length node.contents + room_of s
-  pub file : length node.contents ≤ s.limits.file → length contents ≤ s.limits.file
-
-size_fits : (most room : ℕ) (node : Node) (size : ℕ) → size_refusal most room node size ≡ None
-    → (size ≤ length node.contents + room) × (size ≤ most)
-size_fits most room node size none =
-    let more = size - length node.contents in
-    let fits = are_not ((nat_lt most size, efbig) ∷ (nat_lt room more, enospc) ∷ []) none in
-    (omega (arith, ltb-false room more fits.1.0), ltb-false most size fits.0)
+-- contents of another size have this size
+length-resized : (c : Contents) (size : ℕ) → length (resized c size).bytes ≡ size
+length-resized c size =
+    omega (
+      arith,
+      length-append (take size c.bytes) (replicate (size - length c.bytes) 0),
+      length-take size c.bytes,
+      length-replicate {A = ℕ} (size - length c.bytes) 0,
+    )
 
 -- SETATTR
 set_attr_resizes : (s : State) (node : Node) (attr : SetattrIn) (valid : ℕ)
     → setattr_refusal s attr valid node ≡ None
     → Resizes s node (set_attr s.now node attr valid)
-set_attr_resizes s node attr valid none =
-    let fits = by (bit_and valid 8 == 8) none in record {
-      kind = refl;
-      parent = refl;
-      names = refl;
-      lookups = refl;
-      children = refl;
-      room = omega (arith, fits.room);
-      file = λ short is. fits.file (short is);
-    }
+set_attr_resizes s node attr valid none = record {
+  kind = refl;
+  parent = refl;
+  names = refl;
+  lookups = refl;
+  children = refl;
+  room = omega (arith, set_attr_weighs s.now node attr valid);
+  file = λ short is. by (bit_and valid 8 == 8) none (short is);
+}
   where
     by : (t : Bool)
         → (if t
-        then or_else (contents_refusal node) (size_refusal s.limits.file (room_of s) node attr.size)
+        then or_else (contents_refusal node) (first_of ((nat_lt (longest s) attr.size, efbig) ∷ []))
         else None)
         ≡ None
-        → Fits s node (if t then resized node.contents attr.size else node.contents)
-    by true none =
-        let last = size_refusal s.limits.file (room_of s) node attr.size in
-        let fits = size_fits s.limits.file (room_of s) node attr.size
-        (or_none (contents_refusal node) last none).1 in
-        let size = length-resized node.contents attr.size in
-        record { room = omega (arith, fits.0, size); file = λ h. omega (arith, fits.1, size) }
-    by false none = record { room = omega arith; file = λ h. h }
+        → length node.contents.bytes ≤ s.limits.file
+        → length (if t then resized node.contents attr.size else node.contents).bytes ≤ s.limits.file
+    by true none short =
+        let rs : List (Bool × ℕ) = (nat_lt (longest s) attr.size, efbig) ∷ [] in
+        let fits = are_not rs (or_none (contents_refusal node) (first_of rs) none).1 in
+        omega (arith, ltb-false (longest s) attr.size fits.0, length-resized node.contents attr.size)
+    by false none short = short
 
 -- OPEN
 opened_resizes : (s : State) (uid : ℕ) (node : Node) (flags : ℕ)
@@ -215,7 +204,7 @@ opened_resizes s uid node flags = by (truncates node flags)
         → Resizes s node
         (if t
         then record node {
-          contents = [];
+          contents = resized node.contents 0;
           permissions = left_by uid node.permissions;
           mtime = s.now;
           ctime = s.now;
@@ -227,64 +216,66 @@ opened_resizes s uid node flags = by (truncates node flags)
       names = refl;
       lookups = refl;
       children = refl;
-      room = omega arith;
-      file = λ h is. omega arith;
+      room = omega (arith, resized_holds node.contents 0);
+      file = λ h is. omega (arith, length-resized node.contents 0);
     }
     by false = resizes_itself s node
 
 -- WRITE
--- the bytes that are written end within what there is room for, and within a file's limit
-abbrev EndsWithin : State → Node → (end : ℕ) → Type 0
-EndsWithin s node end = (end ≤ length node.contents + room_of s) × (end ≤ s.limits.file)
+overwritten_short : (now : Time) (node : Node) (off most : ℕ) (bytes : List ℕ)
+    → off + length bytes ≤ most ⊎ (bytes ≡ []) → length node.contents.bytes ≤ most
+    → length (overwritten now node off bytes).contents.bytes ≤ most
+overwritten_short now node off most [] within short = short
+overwritten_short now node off most (b ∷ bs) within short =
+    let ends : off + length (b ∷ bs) ≤ most = ⊎_elim (λ h. h) (λ none. cc) within in
+    omega (arith, length-written node.contents.bytes off (b ∷ bs), ends, short)
 
-overwritten_resizes : (s : State) (node : Node) (off : ℕ) (bytes : List ℕ)
-    → EndsWithin s node (off + length bytes) ⊎ (bytes ≡ [])
-    → Resizes s node (overwritten s.now node off bytes)
-overwritten_resizes s node off [] within = resizes_itself s node
-overwritten_resizes s node off (b ∷ bs) within =
-    let ends : EndsWithin s node (off + length (b ∷ bs)) = ⊎_elim (λ h. h) (λ none. cc) within in
-    let size = length-written node.contents off (b ∷ bs) in
-    record {
+overwritten_resizes : (s : State) (node : Node) (off size : ℕ) (bytes : List ℕ)
+    → Resizes s node (overwritten s.now node off (fitting (most_size s off size node) off bytes))
+overwritten_resizes s node off size bytes =
+    by (fitting (most_size s off size node) off bytes) (written_fits s node s.now off size bytes)
+    (fitting_ends (most_size s off size node) off bytes)
+  where
+    by : (fit : List ℕ) → weight (overwritten s.now node off fit) ≤ weight node + room_of s
+        → off + length fit ≤ most_size s off size node ⊎ (fit ≡ [])
+        → Resizes s node (overwritten s.now node off fit)
+    by [] weighs ends = resizes_itself s node
+    by (b ∷ bs) weighs ends = record {
       kind = refl;
       parent = refl;
       names = refl;
       lookups = refl;
       children = refl;
-      room = omega (arith, size, ends.0);
-      file = λ short is. omega (arith, size, ends.1, short is);
+      room = weighs;
+      file = λ short is.
+          overwritten_short s.now node off s.limits.file (b ∷ bs)
+          (⊎_elim
+          (λ (h : off + length (b ∷ bs) ≤ most_size s off size node). inl (omega (arith, h)))
+          (λ (none : b ∷ bs ≡ []). inr none) ends)
+          (short is);
     }
-
--- what fits ends within these
-fitting_ends : (s : State) (node : Node) (off : ℕ) (bytes : List ℕ)
-    → EndsWithin s node (off + length (fitting (most_size s node) off bytes))
-    ⊎ (fitting (most_size s node) off bytes ≡ [])
-fitting_ends s node off bytes = by (most_size s node - off) refl
-  where
-    by : (n : ℕ) → most_size s node - off ≡ n
-        → EndsWithin s node (off + length (take n bytes)) ⊎ (take n bytes ≡ [])
-    by zero is = inr refl
-    by (suc n) is =
-        let size = length-take (suc n) bytes in
-        inl (omega (arith, is, size), omega (arith, is, size))
 
 -- FALLOCATE
 grown_resizes : (s : State) (node : Node) (mode off len : ℕ)
     → fallocate_refusal s mode off len node ≡ None
-    → Resizes s node (grown s.now (off + len) node)
+    → Resizes s node (grown s.now off len node)
 grown_resizes s node mode off len none =
-    let fits = size_fits s.limits.file (room_of s) node (off + len) (or_none
-    (first_of ((not (mode == 0), eopnotsupp) ∷ (not (is_file node.kind), enodev)
-    ∷ (len == 0, einval) ∷ []))
-    (size_refusal s.limits.file (room_of s) node (off + len)) none).1 in
-    let size = length-resized node.contents (max (off + len) (length node.contents)) in
+    let most : ℕ = most_size s off len node in
+    let rs : List (Bool × ℕ) = (not (mode == 0), eopnotsupp) ∷ (not (is_file node.kind), enodev)
+    ∷ (len == 0, einval)
+    ∷ (nat_lt (longest s) (off + len), efbig)
+    ∷ (nat_lt most (off + len), enospc) ∷ [] in
+    let fits = are_not rs none in
+    let within : off + len ≤ most = omega (arith, ltb-false most (off + len) fits.1.1.1.1.0) in
+    let size = length-lengthened node.contents.bytes (off + len) in
     record {
       kind = refl;
       parent = refl;
       names = refl;
       lookups = refl;
       children = refl;
-      room = omega (arith, fits.0, size);
-      file = λ short is. omega (arith, fits.1, size, short is);
+      room = grown_fits s node s.now off len within;
+      file = λ short is. omega (arith, within, size, short is);
     }
 
 -- SETXATTR
@@ -418,23 +409,23 @@ module _ (old : State) (P : List (ℕ × ℕ) → TreeReply → State → Type 0
   makes_covered : (call : Call)
       → ((answer : Answer) → answered_nodes call answer ≡ entry_node answer)
       → taken_pairs old call ≡ [] → (ctx : Context) (kind : Kind) (permissions parent : ℕ)
-      (name contents : List ℕ) → (is_file kind ≡ true → contents ≡ [])
-      → Each (Fails old call) (Leaves call) (makes old ctx kind permissions parent name contents)
-  makes_covered call same none ctx kind permissions parent name contents plain =
+      (name text : List ℕ)
+      → Each (Fails old call) (Leaves call) (makes old ctx kind permissions parent name text)
+  makes_covered call same none ctx kind permissions parent name text =
       let above = node_at old parent in
       let gid = group_in above ctx.gid in
       let bits = permissions_in above kind permissions in
-      let node = new_node old.now ctx.uid gid kind bits parent contents in
+      let node = new_node old.now ctx.uid gid kind bits parent text in
       let last = made old parent name node in
       let fails : Fails old call = (none, λ error. same (Failed error)) in
-      each-unless (Fails old call) (Leaves call) fails (make_refusal old parent name (length contents))
+      each-unless (Fails old call) (Leaves call) fails (make_refusal old parent name (length text))
       (Tried true (EntryOf old.next node) last)
       (λ free. (
         fails,
         (
           λ answer r. same answer ∙ entry_nodes old.next node answer r,
           subst (λ pairs. P pairs (EntryOf old.next node) last) (sym none)
-              (q.makes ctx.uid gid kind bits parent name contents free plain),
+              (q.makes ctx.uid gid kind bits parent name text free),
         ),
       ))
 
@@ -489,30 +480,24 @@ module _ (old : State) (P : List (ℕ × ℕ) → TreeReply → State → Type 0
       let fails : Fails old call = (refl, λ e. refl) in
       let set = λ (node : Node). set_attr old.now node attr valid in
       each-on (Fails old call) (Leaves call) fails (node_at old n) (setattr_refusal old attr valid)
-      (λ node. Tried (lengthens node attr valid) (AttrOf n (set node)) (with_resized old n node (set node)))
+      (λ node. Answered (AttrOf n (set node)) (with_resized old n node (set node)))
       (λ node is free. (
-        fails,
-        (
-          (λ a r. refl),
-          q.resizes n node (set node) (AttrOf n (set node)) tt is
-              (set_attr_resizes old node attr valid free),
-        ),
+        (λ a r. refl),
+        q.resizes n node (set node) (AttrOf n (set node)) tt is
+            (set_attr_resizes old node attr valid free),
       ))
   covered (Mkdir c parent name mode u e) =
       makes_covered (Mkdir c parent name mode u e) (λ a. refl) refl c kind.Directory mode parent name []
-      (λ is. refl)
   covered (Create c parent name mode k f u e) =
       makes_covered (Create c parent name mode k f u e) (λ a. refl) refl c kind.File mode parent name []
-      (λ is. refl)
   covered (Symlink c text parent name e) =
       makes_covered (Symlink c text parent name e) (λ a. refl) refl c kind.Link 0o777 parent name text
-      (λ is. cc is)
   covered (Mknod c parent name mode r u e) =
       let call = (Mknod c parent name mode r u e) in
       let fails : Fails old call = (refl, λ e. refl) in
       each-unless (Fails old call) (Leaves call) fails (if is_plain mode then None else Some eperm)
       (makes old c kind.File mode parent name [])
-      (λ plain. makes_covered call (λ a. refl) refl c kind.File mode parent name [] (λ is. refl))
+      (λ plain. makes_covered call (λ a. refl) refl c kind.File mode parent name [])
   covered (Link c n parent name) =
       let call = (Link c n parent name) in
       let fails : Fails old call = (refl, λ e. refl) in
@@ -560,12 +545,12 @@ module _ (old : State) (P : List (ℕ × ℕ) → TreeReply → State → Type 0
   covered (Readlink c n) =
       let call = (Readlink c n) in
       let fails : Fails old call = (refl, λ e. refl) in
-      let text = λ (node : Node). Tried true (Just (Text node.contents)) old in
+      let text = λ (node : Node). Tried true (Just (Text node.text)) old in
       let none = λ (node : Node). first_of ((has_no_text node, einval) ∷ []) in
       each-with_it (Fails old call) (Leaves call) fails (node_at old n)
       (λ node. unless (none node) (text node))
       (λ node is. each-unless (Fails old call) (Leaves call) fails (none node) (text node)
-      (λ some. (fails, ((λ a r. refl), q.same (Just (Text node.contents)) refl))))
+      (λ some. (fails, ((λ a r. refl), q.same (Just (Text node.text)) refl))))
   covered (Open c n k flags) =
       let call = (Open c n k flags) in
       let fails : Fails old call = (refl, λ e. refl) in
@@ -580,30 +565,30 @@ module _ (old : State) (P : List (ℕ × ℕ) → TreeReply → State → Type 0
   covered (Read c n h room size off o f) =
       let call = (Read c n h room size off o f) in
       let fails : Fails old call = (refl, λ e. refl) in
-      let reply = λ (node : Node). Just (Put (part_of node.contents off (most_put room size))) in
+      let reply = λ (node : Node). Just (Put (part_of node.contents.bytes off (most_put room size))) in
       each-on (Fails old call) (Leaves call) fails (node_at old n) contents_refusal
       (λ node. Answered (reply node) old) (λ node is free. ((λ a r. refl), q.same (reply node) refl))
   covered (Write c n h bytes size off o d k f) =
       let call = (Write c n h bytes size off o d k f) in
       let fails : Fails old call = (refl, λ e. refl) in
-      let fit = λ (node : Node). fitting (most_size old node) off (take size bytes) in
+      let fit = λ (node : Node). fitting (most_size old off size node) off (take size bytes) in
       each-on (Fails old call) (Leaves call) fails (node_at old n) (write_refusal old off size)
-      (writes old n off (take size bytes))
+      (writes old n off size bytes)
       (λ node is free. (
         fails,
         (
           (λ a r. refl),
           q.resizes n node (overwritten old.now node off (fit node))
               (Just (Wrote (length (fit node)))) refl is
-              (overwritten_resizes old node off (fit node) (fitting_ends old node off (take size bytes))),
+              (overwritten_resizes old node off size (take size bytes)),
         ),
       ))
   covered (Fallocate c n h mode off len) =
       let call = (Fallocate c n h mode off len) in
       let fails : Fails old call = (refl, λ e. refl) in
-      let last = λ (node : Node). grown old.now (off + len) node in
+      let last = λ (node : Node). grown old.now off len node in
       each-on (Fails old call) (Leaves call) fails (node_at old n) (fallocate_refusal old mode off len)
-      (λ node. Tried (nat_lt (length node.contents) (off + len)) (Just Done)
+      (λ node. Tried (nat_lt 0 (lacking node.contents off len)) (Just Done)
       (with_resized old n node (last node)))
       (λ node is free. (
         fails,

@@ -87,14 +87,13 @@ forgets_all s (r ∷ rs) both =
 -- ---- calls that change names
 
 module _ (old : State) (sound : IsSound old) (linked_old : IsLinked old) where
-  makes : (uid gid : ℕ) (kind : Kind) (permissions parent : ℕ) (name contents : List ℕ)
-      → make_refusal old parent name (length contents) ≡ None
-      → (is_file kind ≡ true → contents ≡ [])
-      → IsLinked (made old parent name (new_node old.now uid gid kind permissions parent contents))
-  makes uid gid kind permissions parent name contents free plain =
-      let t = make_takes old parent name (length contents) free in
+  makes : (uid gid : ℕ) (kind : Kind) (permissions parent : ℕ) (name text : List ℕ)
+      → make_refusal old parent name (length text) ≡ None
+      → IsLinked (made old parent name (new_node old.now uid gid kind permissions parent text))
+  makes uid gid kind permissions parent name text free =
+      let t = make_takes old parent name (length text) free in
       linked-made old sound linked_old parent name
-      (new_node old.now uid gid kind permissions parent contents) t.above t.is t.dir t.named t.free refl
+      (new_node old.now uid gid kind permissions parent text) t.above t.is t.dir t.named t.free refl
       refl refl
 
   links : (n : ℕ) (node : Node) (parent : ℕ) (name : List ℕ) → node_at old n ≡ Some node

@@ -479,19 +479,18 @@ module _ (old : State) (sound : IsSound old) (links : IsLinked old) (rooted : Is
         })))
         other
 
-  makes : (uid gid : ℕ) (kind : Kind) (permissions parent : ℕ) (name contents : List ℕ)
-      → make_refusal old parent name (length contents) ≡ None
-      → (is_file kind ≡ true → contents ≡ [])
-      → IsRooted (made old parent name (new_node old.now uid gid kind permissions parent contents))
-  makes uid gid kind permissions parent name contents none plain =
-      let node = new_node old.now uid gid kind permissions parent contents in
+  makes : (uid gid : ℕ) (kind : Kind) (permissions parent : ℕ) (name text : List ℕ)
+      → make_refusal old parent name (length text) ≡ None
+      → IsRooted (made old parent name (new_node old.now uid gid kind permissions parent text))
+  makes uid gid kind permissions parent name text none =
+      let node = new_node old.now uid gid kind permissions parent text in
       let mid = with_new old node in
       let rs : List (Bool × ℕ) = (is_nameless (node_at old parent), enoent)
       ∷ (is_improper name, einval)
       ∷ (is_some (child_at old parent name), eexist)
       ∷ (
         nat_le old.limits.nodes old.inodes || old.next == 2 ^ 64 - 1
-            || is_crowded (node_at old parent) || nat_lt (room_of old) (length contents),
+            || is_crowded (node_at old parent) || nat_lt (room_of old) (length text),
         enospc,
       )
       ∷ [] in

@@ -193,8 +193,8 @@ covers old sound = record {
       subst (Counts old (with_resized old n was now) []) (sym (told_none reply told))
       (quiet old (with_resized old n was now)
       (keeps-resized old n was now r.lookups r.names sound is));
-  makes = λ uid gid kind permissions parent name contents none plain.
-      makes old parent name (new_node old.now uid gid kind permissions parent contents) sound refl;
+  makes = λ uid gid kind permissions parent name text none.
+      makes old parent name (new_node old.now uid gid kind permissions parent text) sound refl;
   links = λ n node parent name is none. links old n node parent name sound is;
   unlinks = λ parent name child node there found is file.
       quiet old _ (keeps-taken_out old parent name child sound);

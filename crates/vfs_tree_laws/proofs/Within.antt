@@ -384,15 +384,14 @@ module _ (old : State) (sound : IsSound old) (within : IsWithin old) where
         limits = refl;
       }
 
-  makes : (uid gid : ℕ) (kind : Kind) (permissions parent : ℕ) (name contents : List ℕ)
-      → make_refusal old parent name (length contents) ≡ None
-      → (is_file kind ≡ true → contents ≡ [])
+  makes : (uid gid : ℕ) (kind : Kind) (permissions parent : ℕ) (name text : List ℕ)
+      → make_refusal old parent name (length text) ≡ None
       → StaysWithin old
-      (made old parent name (new_node old.now uid gid kind permissions parent contents))
-  makes uid gid kind permissions parent name contents none plain =
-      let node = new_node old.now uid gid kind permissions parent contents in
+      (made old parent name (new_node old.now uid gid kind permissions parent text))
+  makes uid gid kind permissions parent name text none =
+      let node = new_node old.now uid gid kind permissions parent text in
       let crowded = is_crowded (node_at old parent) in
-      let short = nat_lt (room_of old) (length contents) in
+      let short = nat_lt (room_of old) (length text) in
       let full = nat_le old.limits.nodes old.inodes in
       let last = old.next == 2 ^ 64 - 1 in
       let rs : List (Bool × ℕ) = (is_nameless (node_at old parent), enoent)
@@ -404,8 +403,8 @@ module _ (old : State) (sound : IsSound old) (within : IsWithin old) where
       let place = or_parts full last (or_parts (full || last) crowded parts.0).0 in
       stays-slims old (with_new old node) (made old parent name node)
       (adds node refl (leb-false old.limits.nodes old.inodes place.0)
-      (omega (arith, ltb-false (room_of old) (length contents) parts.1))
-      (λ is. let none = ap length (plain is) in omega (arith, none)))
+      (omega (arith, ltb-false (room_of old) (length text) parts.1))
+      (λ is. omega arith))
       (slims-with_names (with_new old node) parent _)
 
   links : (n : ℕ) (node : Node) (parent : ℕ) (name : List ℕ) → node_at old n ≡ Some node

@@ -76,7 +76,7 @@ inodes_of node = max 1 node.names
 
 -- a file has at most so many bytes
 abbrev pub IsShort : (most : ℕ) → Node → Type 0
-IsShort most node = is_file node.kind ≡ true → length node.contents ≤ most
+IsShort most node = is_file node.kind ≡ true → length node.contents.bytes ≤ most
 
 abbrev pub AreShort : (most : ℕ) → List (ℕ × Node) → Type 0
 AreShort most [] = Unit {0}

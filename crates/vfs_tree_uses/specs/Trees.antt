@@ -1,5 +1,6 @@
 -- Trees to call, written out.
 use Rattle.std.specs.Prelude.{ℕ, ◌^◌, ◌-◌, List, [], ◌∷◌, codes}
+use Rattle.vfs_contents.specs.Contents.{Contents, no_contents}
 use Rattle.vfs_nodes.specs.Children.{Children, Link, no_children}
 use Rattle.vfs_nodes.specs.Node.{weight}
 use Rattle.vfs_nodes.specs.Xattrs.{Xattr}
@@ -15,21 +16,21 @@ use Rattle.vfs_tree.specs.declared.fs.Limits.{Limits}
 abbrev pub second_7 : Time
 second_7 = record { seconds = 7; nanoseconds = 0 }
 
--- at most a hundred nodes and a thousand bytes
+-- at most a hundred nodes and two pages; a file has at most a thousand bytes
 abbrev pub wide : Limits
-wide = record { nodes = 100; bytes = 1000; file = 1000 }
+wide = record { nodes = 100; bytes = 8192; file = 1000 }
 
 -- a file has at most six bytes
 abbrev pub short : Limits
-short = record { nodes = 9; bytes = 900; file = 6 }
+short = record { nodes = 9; bytes = 8192; file = 6 }
 
--- at most six bytes
+-- at most a page and a byte
 abbrev pub narrow : Limits
-narrow = record { nodes = 9; bytes = 6; file = 900 }
+narrow = record { nodes = 9; bytes = 4097; file = 9000 }
 
 -- at most two nodes
 abbrev pub pair : Limits
-pair = record { nodes = 2; bytes = 900; file = 900 }
+pair = record { nodes = 2; bytes = 8192; file = 900 }
 
 -- the root alone
 abbrev pub single : Limits
@@ -38,13 +39,13 @@ single = record { nodes = 1; bytes = 900; file = 900 }
 -- a new one, within these limits, at second 7
 abbrev pub small_tree : State
 small_tree =
-    first_state 0 0 0o755 (record { nodes = 100; bytes = 1000; file = 1000 })
+    first_state 0 0 0o755 (record { nodes = 100; bytes = 8192; file = 1000 })
     (record { seconds = 7; nanoseconds = 0 })
 
 -- a node of user and group 0, in the root, as it was at second 7: with these names or bytes, and with so
 -- many names and lookups of its own
 abbrev pub node_in_root :
-    Kind → (permissions : ℕ) → Children → (contents : List ℕ) → (names lookups : ℕ) → Node
+    Kind → (permissions : ℕ) → Children → Contents → (names lookups : ℕ) → Node
 node_in_root kind permissions children contents names lookups = record {
   kind = kind;
   permissions = permissions;
@@ -56,18 +57,24 @@ node_in_root kind permissions children contents names lookups = record {
   parent = 1;
   children = children;
   contents = contents;
+  text = [];
   xattrs = [];
   names = names;
   lookups = lookups;
 }
 
--- a file of these bytes, of one name, and held by one lookup
-abbrev pub file_of : (contents : List ℕ) → Node
-file_of contents = node_in_root kind.File 0o644 no_children contents 1 1
+-- a file of one page, which has these bytes, of one name, and held by one lookup
+abbrev pub file_of : (bytes : List ℕ) → Node
+file_of bytes =
+    node_in_root kind.File 0o644 no_children (record { bytes = bytes; held = 0 ∷ [] }) 1 1
+
+-- a file that is empty
+abbrev pub empty_file : Node
+empty_file = node_in_root kind.File 0o644 no_children no_contents 1 1
 
 -- a directory that is empty, likewise
 abbrev pub empty_directory : Node
-empty_directory = node_in_root kind.Directory 0o755 no_children [] 1 1
+empty_directory = node_in_root kind.Directory 0o755 no_children no_contents 1 1
 
 -- a name that leads to a node of this kind
 abbrev pub link_to : (name : List ℕ) → (node : ℕ) → Kind → Link
@@ -80,7 +87,7 @@ tree_of limits node =
     let names : Children =
     record { links = (last, link_to (codes "f") 2 node.kind) ∷ []; next = last - 1 } in
     record {
-      nodes = (1, node_in_root kind.Directory 0o755 names [] 1 0) ∷ (2, node) ∷ [];
+      nodes = (1, node_in_root kind.Directory 0o755 names no_contents 1 0) ∷ (2, node) ∷ [];
       next = 3;
       used = weight node;
       inodes = 2;
@@ -89,12 +96,12 @@ tree_of limits node =
     }
 
 -- a tree with a file `f` of these bytes
-abbrev pub file_tree : Limits → (contents : List ℕ) → State
-file_tree limits contents = tree_of limits (file_of contents)
+abbrev pub file_tree : Limits → (bytes : List ℕ) → State
+file_tree limits bytes = tree_of limits (file_of bytes)
 
 -- a tree with a file `f` of no bytes and these extended attributes
 abbrev pub attribute_tree : Limits → List Xattr → State
-attribute_tree limits xattrs = tree_of limits (record (file_of []) { xattrs = xattrs })
+attribute_tree limits xattrs = tree_of limits (record empty_file { xattrs = xattrs })
 
 -- the attribute `user.a`, with this value
 abbrev pub user_a : (value : List ℕ) → Xattr
@@ -113,8 +120,8 @@ tree_of_two f d =
     } in
     record {
       nodes =
-          (1, node_in_root kind.Directory 0o755 names [] 1 0)
-          ∷ (2, file_of []) ∷ (3, empty_directory) ∷ [];
+          (1, node_in_root kind.Directory 0o755 names no_contents 1 0)
+          ∷ (2, empty_file) ∷ (3, empty_directory) ∷ [];
       next = 4;
       used = 0;
       inodes = 3;

@@ -17,7 +17,7 @@ use vfs_wire::{Attr, SetattrIn};
 fn attributes_for_a_day(tree: &mut TreeFs) -> Result<(Attr, Duration), Fault>
     requires { tree.old ≡ file_tree wide (codes "hello") }
     ensures { MatchResult result
-        (λ reply. (reply.0.ino ≡ 2) × (reply.0.size ≡ 5) × (reply.0.blocks ≡ 1)
+        (λ reply. (reply.0.ino ≡ 2) × (reply.0.size ≡ 5) × (reply.0.blocks ≡ 8)
         × (reply.0.mode ≡ 0o100644) × (as_nanos reply.1 ≡ 86400000000000))
         (λ _. ⊥) }
 {

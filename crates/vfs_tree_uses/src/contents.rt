@@ -3,7 +3,7 @@
 ghost use Rattle.std.specs.Prelude.{◌≡◌, [], ◌∷◌, ◌++◌, codes, Ok, Err, Some, None, MatchResult, OnOk};
 ghost use Rattle.std.specs.Duration.{as_nanos};
 ghost use Rattle.vfs_flags.specs.Flags.{open_options_bits};
-ghost use Rattle.vfs_tree_uses.specs.Trees.{file_tree, small_tree, wide};
+ghost use Rattle.vfs_tree_uses.specs.Trees.{empty_file, file_tree, small_tree, tree_of, wide};
 
 use crate::support::root;
 use std::time::Duration;
@@ -74,18 +74,28 @@ fn written_over<R: ZeroCopyReader>(tree: &mut TreeFs, r: &mut R) -> Result<u32, 
     tree.write(root(), 2, 0, r, 3, 0, None, false, false, 0)
 }
 
-/// WRITE two bytes behind the end of a file: zeros fill the gap. Memory alone can be wanting, and
-/// then nothing changes.
+/// WRITE two bytes behind the end of a file: zeros fill the gap. The page has place for them, so that
+/// no memory is wanted.
 #[tactic(auto, unfolding(vfs_views::specs::Segments::with_bytes_at))]
 fn written_behind_the_end<R: ZeroCopyReader>(tree: &mut TreeFs, r: &mut R) -> Result<u32, Fault>
     requires tree { tree.old ≡ file_tree wide (codes "hello") }
     requires bytes { R.left r.old ≡ codes "HEY" }
-    ensures { MatchResult result
-        (λ count. (count ≡ 3)
-        × (tree.new ≡ file_tree wide (codes "hello" ++ (0 ∷ 0 ∷ [] ++ codes "HEY"))))
-        (λ fault. (fault ≡ Some 12) × (tree.new ≡ tree.old)) }
+    ensures answer { result ≡ Ok 3 }
+    ensures bytes { tree.new ≡ file_tree wide (codes "hello" ++ (0 ∷ 0 ∷ [] ++ codes "HEY")) }
 {
     tree.write(root(), 2, 0, r, 3, 7, None, false, false, 0)
+}
+
+/// WRITE into a file without a page. Memory for one can be wanting, and then nothing changes.
+#[tactic(auto, unfolding(vfs_views::specs::Segments::with_bytes_at))]
+fn first_page<R: ZeroCopyReader>(tree: &mut TreeFs, r: &mut R) -> Result<u32, Fault>
+    requires tree { tree.old ≡ tree_of wide empty_file }
+    requires bytes { R.left r.old ≡ codes "HEY" }
+    ensures { MatchResult result
+        (λ count. (count ≡ 3) × (tree.new ≡ file_tree wide (codes "HEY")))
+        (λ fault. (fault ≡ Some 12) × (tree.new ≡ tree.old)) }
+{
+    tree.write(root(), 2, 0, r, 3, 0, None, false, false, 0)
 }
 
 /// WRITE of no bytes behind the end of a file: it wants no memory, and nothing changes.
@@ -97,7 +107,7 @@ fn nothing_written<R: ZeroCopyReader>(tree: &mut TreeFs, r: &mut R) -> Result<u3
     tree.write(root(), 2, 0, r, 0, 7, None, false, false, 0)
 }
 
-/// SETATTR of a size.
+/// SETATTR of a size: it wants no memory.
 fn resize(tree: &mut TreeFs, size: u64) -> Result<(Attr, Duration), Fault>
     requires { tree.old ≡ file_tree wide (codes "hello") }
     ensures cut { size ≡ 2 → MatchResult result
@@ -105,9 +115,9 @@ fn resize(tree: &mut TreeFs, size: u64) -> Result<(Attr, Duration), Fault>
         × (tree.new ≡ file_tree wide (codes "he")))
         (λ _. ⊥) }
     ensures longer { size ≡ 7 → MatchResult result
-        (λ reply. (reply.0.size ≡ 7)
+        (λ reply. (reply.0.size ≡ 7) × (reply.0.blocks ≡ 8)
         × (tree.new ≡ file_tree wide (codes "hello" ++ 0 ∷ 0 ∷ [])))
-        (λ fault. (fault ≡ Some 12) × (tree.new ≡ tree.old)) }
+        (λ _. ⊥) }
 {
     let wanted = SetattrIn {
         size,
@@ -125,14 +135,23 @@ fn place_that_is_there(tree: &mut TreeFs) -> Result<(), Fault>
     tree.fallocate(root(), 2, 0, 0, 0, 5)
 }
 
-/// FALLOCATE past the end of a file: zeros stand there.
+/// FALLOCATE past the end of a file, within its page: zeros stand there.
 fn more_place(tree: &mut TreeFs) -> Result<(), Fault>
     requires { tree.old ≡ file_tree wide (codes "hello") }
-    ensures { MatchResult result
-        (λ _. tree.new ≡ file_tree wide (codes "hello" ++ 0 ∷ 0 ∷ []))
-        (λ fault. (fault ≡ Some 12) × (tree.new ≡ tree.old)) }
+    ensures answer { result ≡ Ok tt }
+    ensures bytes { tree.new ≡ file_tree wide (codes "hello" ++ 0 ∷ 0 ∷ []) }
 {
     tree.fallocate(root(), 2, 0, 0, 4, 3)
+}
+
+/// FALLOCATE of a file without a page. Memory for one can be wanting, and then nothing changes.
+fn first_place(tree: &mut TreeFs) -> Result<(), Fault>
+    requires { tree.old ≡ tree_of wide empty_file }
+    ensures { MatchResult result
+        (λ _. tree.new ≡ file_tree wide (0 ∷ 0 ∷ []))
+        (λ fault. (fault ≡ Some 12) × (tree.new ≡ tree.old)) }
+{
+    tree.fallocate(root(), 2, 0, 0, 0, 2)
 }
 
 /// OPEN: what the client keeps of a file stays true (`FOPEN_KEEP_CACHE`, 2), and nothing changes.
@@ -150,7 +169,7 @@ fn opened_and_emptied(tree: &mut TreeFs) -> Result<(Option<u64>, OpenOptions), F
     requires { tree.old ≡ file_tree wide (codes "hello") }
     ensures answer { MatchResult result
         (λ reply. (reply.0 ≡ None) × (open_options_bits reply.1 ≡ 0)) (λ _. ⊥) }
-    ensures bytes { tree.new ≡ file_tree wide [] }
+    ensures bytes { tree.new ≡ tree_of wide empty_file }
 {
     tree.open(root(), 2, false, 0o1000)
 }

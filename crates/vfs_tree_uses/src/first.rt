@@ -14,13 +14,13 @@ use vfs_flags::{Fault, GuestGid, GuestUid, SetattrValid, SetxattrFlags};
 use vfs_tree::{Limits, Time, TreeFs};
 use vfs_wire::SetattrIn;
 
-/// A new tree of at most a hundred nodes and a thousand bytes. `None` where there is no memory.
+/// A new tree of at most a hundred nodes and two pages. `None` where there is no memory.
 fn new_tree(alloc: Global) -> Option<TreeFs>
     ensures { IfSome result (λ tree. tree ≡ small_tree) }
 {
     let limits = Limits {
         nodes: 100,
-        bytes: 1000,
+        bytes: 8192,
         file: 1000,
     };
     let now = Time {

@@ -1,6 +1,6 @@
 //! The limits of a tree, each reached.
 
-ghost use Rattle.std.specs.Prelude.{◌≡◌, codes, Err, Some, MatchResult};
+ghost use Rattle.std.specs.Prelude.{◌≡◌, codes, Ok, Err, Some};
 ghost use Rattle.vfs_tree.specs.Tree.{first_state};
 ghost use Rattle.vfs_tree_uses.specs.Trees.{file_tree, narrow, pair, second_7, short, single};
 
@@ -17,21 +17,19 @@ use vfs_wire::{Attr, SetattrIn};
 fn written_to_the_limit<R: ZeroCopyReader>(tree: &mut TreeFs, r: &mut R) -> Result<u32, Fault>
     requires tree { tree.old ≡ file_tree short (codes "hello") }
     requires bytes { R.left r.old ≡ codes "HEY" }
-    ensures { MatchResult result
-        (λ count. (count ≡ 1) × (tree.new ≡ file_tree short (codes "helloH")))
-        (λ fault. (fault ≡ Some 12) × (tree.new ≡ tree.old)) }
+    ensures answer { result ≡ Ok 1 }
+    ensures bytes { tree.new ≡ file_tree short (codes "helloH") }
 {
     tree.write(root(), 2, 0, r, 3, 5, None, false, false, 0)
 }
 
-/// WRITE of three bytes where there is room for one more: that one is written.
+/// WRITE of three bytes into a page that is held, where there is room for no other: they are written.
 #[tactic(auto, unfolding(vfs_views::specs::Segments::with_bytes_at))]
-fn written_to_the_last_byte<R: ZeroCopyReader>(tree: &mut TreeFs, r: &mut R) -> Result<u32, Fault>
+fn written_without_room<R: ZeroCopyReader>(tree: &mut TreeFs, r: &mut R) -> Result<u32, Fault>
     requires tree { tree.old ≡ file_tree narrow (codes "hello") }
     requires bytes { R.left r.old ≡ codes "HEY" }
-    ensures { MatchResult result
-        (λ count. (count ≡ 1) × (tree.new ≡ file_tree narrow (codes "helloH")))
-        (λ fault. (fault ≡ Some 12) × (tree.new ≡ tree.old)) }
+    ensures answer { result ≡ Ok 3 }
+    ensures bytes { tree.new ≡ file_tree narrow (codes "helloHEY") }
 {
     tree.write(root(), 2, 0, r, 3, 5, None, false, false, 0)
 }
@@ -45,19 +43,20 @@ fn written_past_the_limit<R: ZeroCopyReader>(tree: &mut TreeFs, r: &mut R) -> Re
     tree.write(root(), 2, 0, r, 3, 6, None, false, false, 0)
 }
 
-/// WRITE behind the last byte that there is room for: ENOSPC.
+/// WRITE behind the last page that there is room for: ENOSPC.
 fn written_past_the_room<R: ZeroCopyReader>(tree: &mut TreeFs, r: &mut R) -> Result<u32, Fault>
     requires { tree.old ≡ file_tree narrow (codes "hello") }
     ensures refused { result ≡ Err (Some 28) }
     ensures same { tree.new ≡ tree.old }
 {
-    tree.write(root(), 2, 0, r, 3, 6, None, false, false, 0)
+    tree.write(root(), 2, 0, r, 3, 4096, None, false, false, 0)
 }
 
-/// SETATTR of a size of seven bytes.
+/// SETATTR of a size of seven bytes: EFBIG past the limit of a file.
 fn seven_bytes(tree: &mut TreeFs) -> Result<(Attr, Duration), Fault>
-    ensures limit { tree.old ≡ file_tree short (codes "hello") → result ≡ Err (Some 27) }
-    ensures room { tree.old ≡ file_tree narrow (codes "hello") → result ≡ Err (Some 28) }
+    requires { tree.old ≡ file_tree short (codes "hello") }
+    ensures refused { result ≡ Err (Some 27) }
+    ensures same { tree.new ≡ tree.old }
 {
     let wanted = SetattrIn {
         size: 7,
@@ -66,12 +65,12 @@ fn seven_bytes(tree: &mut TreeFs) -> Result<(Attr, Duration), Fault>
     tree.setattr(root(), 2, wanted, None, SetattrValid::SIZE)
 }
 
-/// FALLOCATE of two bytes more: EFBIG past the limit of a file, ENOSPC past the room.
-fn place_for_seven(tree: &mut TreeFs) -> Result<(), Fault>
+/// FALLOCATE of a byte of a second page: EFBIG past the limit of a file, ENOSPC past the room.
+fn place_for_a_page(tree: &mut TreeFs) -> Result<(), Fault>
     ensures limit { tree.old ≡ file_tree short (codes "hello") → result ≡ Err (Some 27) }
     ensures room { tree.old ≡ file_tree narrow (codes "hello") → result ≡ Err (Some 28) }
 {
-    tree.fallocate(root(), 2, 0, 0, 5, 2)
+    tree.fallocate(root(), 2, 0, 0, 4096, 1)
 }
 
 /// SYMLINK of two bytes, where there is room for one: ENOSPC.

@@ -2,6 +2,7 @@
 //! is named by a function that does no more, since the proof of a function goes through a table that
 //! it names at each step.
 
+pub mod long;
 pub mod memory;
 pub mod rest;
 
@@ -174,7 +175,7 @@ static SECOND: [Step; 15] = [
         message: (3, 3, b"\0\0\0\0\0\0\0\0\0\0\0\0\0\0\0\0"),
         error: 0,
         length: 120,
-        says: &[(40, b"\x09\0\0\0\0\0\0\0"), (48, b"\x01\0\0\0\0\0\0\0")],
+        says: &[(40, b"\x09\0\0\0\0\0\0\0"), (48, b"\x08\0\0\0\0\0\0\0")],
     },
     Step {
         why: "a shorter file",
@@ -276,7 +277,7 @@ static SECOND: [Step; 15] = [
         message: (3, 3, b"\0\0\0\0\0\0\0\0\0\0\0\0\0\0\0\0"),
         error: 0,
         length: 120,
-        says: &[(40, b"\0\0\0\0\0\0\0\0")],
+        says: &[(40, b"\0\0\0\0\0\0\0\0"), (48, b"\0\0\0\0\0\0\0\0")],
     },
     Step {
         why: "place for 64 bytes",
@@ -294,7 +295,7 @@ static SECOND: [Step; 15] = [
         message: (3, 3, b"\0\0\0\0\0\0\0\0\0\0\0\0\0\0\0\0"),
         error: 0,
         length: 120,
-        says: &[(40, b"@\0\0\0\0\0\0\0"), (48, b"\x01\0\0\0\0\0\0\0")],
+        says: &[(40, b"@\0\0\0\0\0\0\0"), (48, b"\x08\0\0\0\0\0\0\0")],
     },
     Step {
         why: "another way of it is not served",

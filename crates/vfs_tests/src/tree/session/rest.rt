@@ -214,9 +214,9 @@ static FIFTH: [Step; 15] = [
         error: 0,
         length: 96,
         says: &[
-            (16, b"\0\0\0\0\0\0\0\0"),
-            (24, b"\0\0\0\0\0\0\0\0"),
-            (32, b"\0\0\0\0\0\0\0\0"),
+            (16, b"\x02\0\0\0\0\0\0\0"),
+            (24, b"\x01\0\0\0\0\0\0\0"),
+            (32, b"\x01\0\0\0\0\0\0\0"),
             (40, b"@\0\0\0\0\0\0\0"),
             (48, b":\0\0\0\0\0\0\0"),
             (56, b"\0\x10\0\0"),
@@ -278,7 +278,7 @@ static SIXTH: [Step; 13] = [
         says: &[(16, b"\x07\0\0\0\0\0\0\0"), (56, b"\x07\0\0\0\0\0\0\0")],
     },
     Step {
-        why: "as much as there is place for",
+        why: "takes the last page",
         message: (
             16,
             7,
@@ -286,18 +286,18 @@ static SIXTH: [Step; 13] = [
         ),
         error: 0,
         length: 24,
-        says: &[(16, b"#\0\0\0")],
+        says: &[(16, b"<\0\0\0")],
     },
     Step {
-        why: "no place is left",
+        why: "which has place for more",
         message: (
             16,
             7,
             b"\0\0\0\0\0\0\0\0$\0\0\0\0\0\0\0\x01\0\0\0\0\0\0\0\0\0\0\0\0\0\0\0\0\0\0\0\0\0\0\0y",
         ),
-        error: -28,
-        length: 16,
-        says: &[],
+        error: 0,
+        length: 24,
+        says: &[(16, b"\x01\0\0\0")],
     },
     Step {
         why: "a third file",

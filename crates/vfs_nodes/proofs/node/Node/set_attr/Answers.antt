@@ -1,5 +1,5 @@
 use Rattle.std.proofs.Common.{rules}
 use Rattle.vfs_nodes.proofs.node.Node.set_attr.Goals as goal
 
-pub returns-clause-ok : goal.returns-clause-ok
-returns-clause-ok c = search rules
+pub returns : goal.returns
+returns c = search rules

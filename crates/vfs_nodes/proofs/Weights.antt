@@ -1,0 +1,72 @@
+-- How much a node weighs after a change.
+use Rattle.std.proofs.Common.{◌≡◌, ◌≤◌, ◌+◌, ◌*◌, ◌/◌, ◌==◌, ℕ, Bool, true, false, List, [], ◌∷◌, length, filter, nat_lt, bit_and, ◌⊎◌, ⊎_elim, if◌then◌else◌, arith}
+use Rattle.std.specs.Int.{div_ceil}
+use Rattle.vfs_wire.specs.declared.attributes.SetattrIn.{SetattrIn}
+use Rattle.vfs_contents.specs.Contents.{Contents, resized, pages_over}
+use Rattle.vfs_contents.specs.Pages.{reach}
+use Rattle.vfs_contents.proofs.Counts.{held_within}
+use Rattle.vfs_nodes.specs.Node.{weight, set_attr, left_by, truncates, opened, overwritten}
+use Rattle.vfs_nodes.specs.declared.node.Node.{Node}
+use Rattle.vfs_nodes.specs.declared.node.Time.{Time}
+
+-- of some there are no more
+length-filter-le : (p : ℕ → Bool) (xs : List ℕ) → length (filter p xs) ≤ length xs
+length-filter-le p [] = omega arith
+length-filter-le p (x ∷ xs) = by (p x) (length-filter-le p xs)
+  where
+    by : (t : Bool) → length (filter p xs) ≤ length xs
+        → length (if t then x ∷ filter p xs else filter p xs) ≤ length (x ∷ xs)
+    by true more = omega (arith, more)
+    by false more = omega (arith, more)
+
+-- contents of another size hold no more pages
+pub resized_holds : (c : Contents) (size : ℕ) → length (resized c size).held ≤ length c.held
+resized_holds c size = by (nat_lt (length c.bytes) size)
+  where
+    by : (t : Bool)
+        → length (if t then c.held else filter (λ n. nat_lt n (div_ceil size 4096)) c.held)
+        ≤ length c.held
+    by true = omega arith
+    by false = length-filter-le (λ n. nat_lt n (div_ceil size 4096)) c.held
+
+-- SETATTR
+pub set_attr_weighs : (now : Time) (node : Node) (attr : SetattrIn) (valid : ℕ)
+    → weight (set_attr now node attr valid) ≤ weight node
+set_attr_weighs now node attr valid = omega (arith, by (bit_and valid 8 == 8))
+  where
+    by : (t : Bool)
+        → length (if t then resized node.contents attr.size else node.contents).held
+        ≤ length node.contents.held
+    by true = resized_holds node.contents attr.size
+    by false = omega arith
+
+-- OPEN
+pub opened_weighs : (now : Time) (uid : ℕ) (node : Node) (flags : ℕ)
+    → weight (opened now uid node flags) ≤ weight node
+opened_weighs now uid node flags = by (truncates node flags)
+  where
+    by : (t : Bool)
+        → weight
+        (if t
+        then record node {
+          contents = resized node.contents 0;
+          permissions = left_by uid node.permissions;
+          mtime = now;
+          ctime = now;
+        }
+        else node)
+        ≤ weight node
+    by true = omega (arith, resized_holds node.contents 0)
+    by false = omega arith
+
+-- WRITE, of bytes that end where pages are held or can be
+pub overwritten_weighs : (now : Time) (node : Node) (off : ℕ) (bytes : List ℕ) (free size : ℕ)
+    → off + length bytes ≤ 4096 * reach node.contents.held free (off / 4096) (pages_over off size)
+    ⊎ (bytes ≡ [])
+    → weight (overwritten now node off bytes) ≤ weight node + free * 4096
+overwritten_weighs now node off [] free size within = omega arith
+overwritten_weighs now node off (b ∷ bs) free size within =
+    let ends : off + length (b ∷ bs)
+    ≤ 4096 * reach node.contents.held free (off / 4096) (pages_over off size) =
+    ⊎_elim (λ h. h) (λ none. cc) within in
+    omega (arith, held_within node.contents.held off (length (b ∷ bs)) free size ends)

@@ -1,0 +1,9 @@
+use Rattle.std.proofs.Common.{ap, arith}
+use Rattle.vfs_nodes.specs.Node.{weight}
+use Rattle.vfs_nodes.proofs.Weights.{opened_weighs}
+use Rattle.vfs_tree.proofs.calls.TreeFsFileSystem.open.Goals as goal
+
+pub reweigh-requires : goal.reweigh-requires
+reweigh-requires c =
+    let fits = opened_weighs c.self.inside.now c.args.ctx.uid c.in-Some.node.now c.args.flags in
+    omega (arith, fits, ap weight c.open.ensures)
