@@ -88,10 +88,10 @@ typedef struct {
 	uint32_t uid, gid, mode;
 } nizwarf_settings;
 
-/* A million nodes and 4 GiB, all of them in one file if need be; a root of user and group 0, which they
- * alone may write; no time yet. */
+/* A million nodes and 4 GiB of memory, and files as long as Linux allows; a root of user and group 0, which
+ * they alone may write; no time yet. */
 #define NIZWARF_SETTINGS \
-	{ 0, UINT64_C(1) << 20, UINT64_C(1) << 32, UINT64_C(1) << 32, 0, 0, 0, 0755 }
+	{ 0, UINT64_C(1) << 20, UINT64_C(1) << 32, INT64_MAX, 0, 0, 0, 0755 }
 
 /* What a call came to. After each of the first eleven, the request is completed with `*len` bytes, and
  * the session goes on. */

@@ -149,8 +149,6 @@ static int begin(void *user, unsigned worker)
 	clock_gettime(CLOCK_REALTIME, &now);
 	settings.seconds = (uint64_t)now.tv_sec;
 	settings.nanoseconds = (uint32_t)now.tv_nsec;
-	if (settings.file < settings.bytes)
-		settings.file = settings.bytes;
 	if (nizwarf_new(&server, (uint32_t)sysconf(_SC_PAGESIZE), TRANSPORT_PAYLOAD, &settings) ==
 	    NIZWARF_OK)
 		return 0;

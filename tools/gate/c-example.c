@@ -148,7 +148,7 @@ static void settings(void)
 	size_t len;
 
 	CHECK(sizeof(set) == 48 && defaults.nodes == 1 << 20 && defaults.bytes == UINT64_C(4) << 30 &&
-	      defaults.file == UINT64_C(4) << 30 && defaults.mode == 0755);
+	      defaults.file == INT64_MAX && defaults.mode == 0755);
 	CHECK(nizwarf_new(&server, 4096, 4096, &set) == NIZWARF_OK);
 	getattr.header.nodeid = 1;
 	CHECK(ask(&server, &getattr, 40, 0, 120, &len) == NIZWARF_OK && len == 120 && header->error == 0);
