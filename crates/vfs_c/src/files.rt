@@ -6,7 +6,7 @@ ghost use Rattle.vfs_c.specs.Files.{new_state, at_time};
 
 use std::alloc::Global;
 use vfs_flags::{GuestGid, GuestUid};
-use vfs_tree::{Limits, Time, TreeFs};
+use vfs_tree::{Capacity, Time, TreeFs};
 
 /// The file system.
 pub type Files = TreeFs;
@@ -38,7 +38,7 @@ pub struct Settings {
 pub fn new_files(alloc: Global, settings: &Settings) -> Option<Files>
     ensures { IfSome result (λ files. files ≡ new_state settings.now) }
 {
-    let limits = Limits {
+    let limits = Capacity {
         nodes: settings.nodes,
         bytes: settings.bytes,
         file: settings.file,

@@ -12,7 +12,7 @@ use Rattle.std.proofs.lemmas.List.Elements.{All-append, All-take, All-drop, All-
 use Rattle.std.proofs.lemmas.List.Quantifiers.{position-Some, all_pairs_push, all_pairs_remove}
 use Rattle.std.proofs.lemmas.Map.Text.{is_eq-slice_cmp}
 use Rattle.vfs_memory.specs.MemFs.{Stored}
-use Rattle.vfs_memory.specs.Index.{ComesBefore, AreIndexed, is_named, node_named, node_of}
+use Rattle.vfs_memory.specs.Index.{ComesBefore, AreIndexed, is_named, node_named, node_in}
 use Rattle.vfs_memory.proofs.Searches.{position_none, find_none, fails_at, find_pushed, find_push_other, find_removed_other}
 
 -- ---- names
@@ -32,8 +32,8 @@ turned_name a b t is = nat_list_eq_equiv.symm b a ∙ is
 
 -- another index with the same names
 index_same : (old new : BTreeMap (Vec ℕ Global) ℕ) (files : List Stored)
-    → new.entries ≡ old.entries → ((other : List ℕ) → node_of old other ≡ node_named files other)
-    → (other : List ℕ) → node_of new other ≡ node_named files other
+    → new.entries ≡ old.entries → ((other : List ℕ) → node_in old other ≡ node_named files other)
+    → (other : List ℕ) → node_in new other ≡ node_named files other
 index_same old new files same index other =
     ap (λ es. lookup (λ key. is_eq (slice_cmp nat_cmp other key.items)) es) same ∙ index other
 
@@ -41,7 +41,7 @@ index_same old new files same index other =
 module _ (old new : BTreeMap (Vec ℕ Global) ℕ) (name : List ℕ) (w : Option ℕ) where
   kept : KeepsOthers (λ x y. is_eq (slice_cmp nat_cmp x.items y.items))
       (λ key. is_eq (slice_cmp nat_cmp name key.items)) old.entries new.entries
-      → (other : List ℕ) → bytes_eq name other ≡ false → node_of new other ≡ node_of old other
+      → (other : List ℕ) → bytes_eq name other ≡ false → node_in new other ≡ node_in old other
   unfolding KeepsOthers
   kept keeps other apart =
       keeps (λ key. is_eq (slice_cmp nat_cmp other key.items))
@@ -53,14 +53,14 @@ module _ (old new : BTreeMap (Vec ℕ Global) ℕ) (name : List ℕ) (w : Option
       UpdatesBy (λ x y. slice_cmp nat_cmp x.items y.items) (λ key. slice_cmp nat_cmp name key.items)
       old new w
       → (files changed : List Stored)
-      → ((other : List ℕ) → node_of old other ≡ node_named files other)
+      → ((other : List ℕ) → node_in old other ≡ node_named files other)
       → node_named changed name ≡ w
       → ((other : List ℕ) → bytes_eq name other ≡ false
       → node_named changed other ≡ node_named files other)
-      → (other : List ℕ) → node_of new other ≡ node_named changed other
+      → (other : List ℕ) → node_in new other ≡ node_named changed other
   index_changed updates files changed index here others other =
       ⊎_elim
-      (λ passes. subst (λ (l : List ℕ). node_of new l ≡ node_named changed l)
+      (λ passes. subst (λ (l : List ℕ). node_in new l ≡ node_named changed l)
       (same_name name other passes) (updates.1 ∙ sym here))
       (λ fails. kept updates.3 other fails ∙ index other ∙ sym (others other fails))
       (cases_Bool (bytes_eq name other))

@@ -22,8 +22,8 @@ abbrev pub node_named : List Stored → (name : List ℕ) → Option ℕ
 node_named files name = option_map (λ file. file.node) (find (is_named name) files)
 
 -- the node that the index has for a name
-abbrev pub node_of : BTreeMap (Vec ℕ Global) ℕ → (name : List ℕ) → Option ℕ
-node_of names name = get_by (λ key. slice_cmp nat_cmp name key.items) names
+abbrev pub node_in : BTreeMap (Vec ℕ Global) ℕ → (name : List ℕ) → Option ℕ
+node_in names name = get_by (λ key. slice_cmp nat_cmp name key.items) names
 
 -- a file that was made before another one, and has another name
 pub record ComesBefore (file later : Stored) : Type 0 where
@@ -36,7 +36,7 @@ pub record AreIndexed
     (files : List Stored) (names : BTreeMap (Vec ℕ Global) ℕ) (next : ℕ) : Type 0 where
   pub order : AllPairs ComesBefore files
   pub before : All (λ file. file.node < next) files
-  pub index : (name : List ℕ) → node_of names name ≡ node_named files name
+  pub index : (name : List ℕ) → node_in names name ≡ node_named files name
 
 -- a file of this name with these contents is added and its entry answered, or there was no memory
 -- for it and the files stay

@@ -10,17 +10,17 @@ use std::alloc::Global;
 use std::test::Fail;
 use vfs_flags::{GuestGid, GuestUid};
 use vfs_server::server::Server;
-use vfs_tree::{Limits, Time, TreeFs};
+use vfs_tree::{Capacity, Time, TreeFs};
 
 /// The limits of the session's tree: two pages, an attribute of 137 bytes and a text of 3.
-const LIMITS: Limits = Limits {
+const LIMITS: Capacity = Capacity {
     nodes: 64,
     bytes: 2 * 4096 + 140,
     file: 64,
 };
 
 /// Those of a tree of two pages, with files of any length.
-const LONG: Limits = Limits {
+const LONG: Capacity = Capacity {
     nodes: 64,
     bytes: 2 * 4096,
     file: u64::MAX,
@@ -33,7 +33,7 @@ const NOW: Time = Time {
 };
 
 /// A server over a new tree within these limits, whose root is of user and group 0.
-fn new_server(alloc: Global, limits: Limits) -> Result<Server<TreeFs>, Fail> {
+fn new_server(alloc: Global, limits: Capacity) -> Result<Server<TreeFs>, Fail> {
     let (uid, gid) = (GuestUid::from(0), GuestGid::from(0));
     match TreeFs::new(alloc, uid, gid, 0o755, limits, NOW) {
         Ok(tree) => Ok(Server::new(tree, 4096)),

@@ -9,7 +9,7 @@ use Rattle.vfs_nodes.specs.Node.{weight}
 use Rattle.vfs_nodes.specs.declared.children.Child.{Child}
 use Rattle.vfs_nodes.specs.declared.node.Node.{Node}
 use Rattle.vfs_nodes.specs.declared.node.Time.{Time}
-use Rattle.vfs_tree.specs.declared.fs.Limits.{Limits}
+use Rattle.vfs_tree.specs.declared.fs.Capacity.{Capacity}
 
 -- the nodes in order of their numbers, the number of the next one, how many bytes the nodes take, how many
 -- inodes they are counted as (each node as one, and each further name that leads to it as one more), how
@@ -19,7 +19,7 @@ pub record State : Type 0 where
   pub next : ℕ
   pub used : ℕ
   pub inodes : ℕ
-  pub limits : Limits
+  pub limits : Capacity
   pub now : Time
 
 -- the node of this number

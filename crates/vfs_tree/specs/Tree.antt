@@ -23,7 +23,7 @@ use Rattle.vfs_nodes.specs.declared.node.Time.{Time}
 use Rattle.vfs_tree.specs.Outcome.{Just, EntryOf, AttrOf, Listed, Outcome, Refused, Answered, Tried, Ends, done, first_of, or_else, unless, with_it, on}
 use Rattle.vfs_tree.specs.Rename.{directory_refusal, is_improper, is_nameless, is_crowded, renames}
 use Rattle.vfs_tree.specs.State.{State, node_at, room_of, with_node, with_resized, with_new, settled, change, with_names, unnamed, child_at, node_named}
-use Rattle.vfs_tree.specs.declared.fs.Limits.{Limits}
+use Rattle.vfs_tree.specs.declared.fs.Capacity.{Capacity}
 
 -- the most bytes that a node's extended attributes take, and the most names that lead to a file
 abbrev pub most_xattr_bytes : ℕ
@@ -48,7 +48,7 @@ abbrev pub root_node : (uid gid permissions : ℕ) → Time → Node
 root_node uid gid permissions now =
     record (new_node now uid gid kind.Directory permissions 1 []) { lookups = 0 }
 
-abbrev pub first_state : (uid gid permissions : ℕ) → Limits → Time → State
+abbrev pub first_state : (uid gid permissions : ℕ) → Capacity → Time → State
 first_state uid gid permissions limits now =
     let nodes = (1, root_node uid gid permissions now) ∷ [] in
     record { nodes = nodes; next = 2; used = 0; inodes = 1; limits = limits; now = now }

@@ -27,7 +27,7 @@ use vfs_nodes::{Child, Kind, Node, Time};
 
 /// How much a file system holds at most.
 #[derive(Clone, Copy, Debug, PartialEq, Eq)]
-pub struct Limits {
+pub struct Capacity {
     /// How many nodes, the root among them. Each further name of a node counts as one more.
     pub nodes: u64,
     /// How many bytes: 4096 for each page of a file that is held, those of the texts of symbolic
@@ -51,7 +51,7 @@ pub struct TreeFs {
     pub(crate) next: u64,
     pub(crate) used: u64,
     pub(crate) inodes: u64,
-    pub(crate) limits: Limits,
+    pub(crate) limits: Capacity,
     pub(crate) now: Time,
 }
 
@@ -93,7 +93,7 @@ impl TreeFs {
         uid: GuestUid,
         gid: GuestGid,
         permissions: u32,
-        limits: Limits,
+        limits: Capacity,
         now: Time,
     ) -> Result<TreeFs, Fault>
         ensures { MatchResult result

@@ -10,5 +10,5 @@ mod fs;
 mod naming;
 mod rename;
 
-pub use fs::{Limits, TreeFs};
+pub use fs::{Capacity, TreeFs};
 pub use vfs_nodes::Time;

@@ -9,7 +9,7 @@ use Rattle.vfs_tree.specs.Children.{is_directory}
 use Rattle.vfs_tree_laws.specs.Laws.{lookups_in, IsHeld, IsNamed, IsTree, Leads, NewOnesAreTrees, above, names_of, names_to}
 use Rattle.vfs_tree.specs.State.{State, node_at}
 use Rattle.vfs_tree.specs.Tree.{first_state, root_node}
-use Rattle.vfs_tree.specs.declared.fs.Limits.{Limits}
+use Rattle.vfs_tree.specs.declared.fs.Capacity.{Capacity}
 use Rattle.vfs_nodes.specs.declared.node.Node.{Node}
 use Rattle.vfs_nodes.specs.declared.node.Time.{Time}
 use Rattle.vfs_tree_laws.proofs.Held.{at}
@@ -19,7 +19,7 @@ none_apart : IsDistinct bytes_eq []
 unfolding IsDistinct
 none_apart = tt
 
-module _ (uid gid permissions : ℕ) (limits : Limits) (now : Time) where
+module _ (uid gid permissions : ℕ) (limits : Capacity) (now : Time) where
   abbrev first : State
   first = first_state uid gid permissions limits now
 

@@ -8,7 +8,7 @@ use Rattle.vfs_server.specs.Step.{ServerState}
 use Rattle.vfs_history.specs.History.{Moment, Handled, Changed, turns_in, IsHistory}
 use Rattle.vfs_tree.specs.State.{State, node_at}
 use Rattle.vfs_tree.specs.Tree.{TreeAllows, first_state}
-use Rattle.vfs_tree.specs.declared.fs.Limits.{Limits}
+use Rattle.vfs_tree.specs.declared.fs.Capacity.{Capacity}
 use Rattle.vfs_nodes.specs.declared.node.Time.{Time}
 use Rattle.vfs_tree_laws.specs.Laws.{IsTree, lookups_of, names_of}
 use Rattle.vfs_tree_laws.specs.Runs.{last_turns, KeepsTree, LeavesNone}
@@ -60,7 +60,7 @@ pub record IsKept (turns : List Turn) (new : State) : Type 0 where
 -- from a new tree on, over any requests and tellings of the time
 abbrev pub NewTreesAreKept : Type 0
 NewTreesAreKept =
-    (uid gid permissions : ℕ) (limits : Limits) (now : Time) (first new : ServerState State)
+    (uid gid permissions : ℕ) (limits : Capacity) (now : Time) (first new : ServerState State)
     (moments : List (Moment State)) → first.fs ≡ first_state uid gid permissions limits now
     → IsHistory TreeAllows GivesFirst first moments new → OnlyTold moments
     → IsKept (turns_in moments) new.fs

@@ -13,7 +13,7 @@ use Rattle.vfs_tree.specs.Rename.{parent_of}
 use Rattle.vfs_tree.specs.State.{State, node_at}
 use Rattle.vfs_tree.specs.Tree.{TreeAllows, first_state}
 use Rattle.vfs_nodes.specs.declared.children.Child.{Child}
-use Rattle.vfs_tree.specs.declared.fs.Limits.{Limits}
+use Rattle.vfs_tree.specs.declared.fs.Capacity.{Capacity}
 use Rattle.vfs_nodes.specs.declared.node.Node.{Node}
 use Rattle.vfs_nodes.specs.declared.node.Time.{Time}
 
@@ -178,7 +178,7 @@ pub record IsTree (s : State) : Type 0 where
 -- a new one, of which no lookup is held
 abbrev pub NewOnesAreTrees : Type 0
 NewOnesAreTrees =
-    (uid gid permissions : ℕ) (limits : Limits) (now : Time)
+    (uid gid permissions : ℕ) (limits : Capacity) (now : Time)
     → IsTree (first_state uid gid permissions limits now)
     × ((n : ℕ) → lookups_of (first_state uid gid permissions limits now) n ≡ 0)
 

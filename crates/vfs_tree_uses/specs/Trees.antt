@@ -11,29 +11,29 @@ use Rattle.vfs_nodes.specs.declared.node.Node.{Node}
 use Rattle.vfs_nodes.specs.declared.node.Time.{Time}
 use Rattle.vfs_tree.specs.State.{State}
 use Rattle.vfs_tree.specs.Tree.{first_state}
-use Rattle.vfs_tree.specs.declared.fs.Limits.{Limits}
+use Rattle.vfs_tree.specs.declared.fs.Capacity.{Capacity}
 
 abbrev pub second_7 : Time
 second_7 = record { seconds = 7; nanoseconds = 0 }
 
 -- at most a hundred nodes and two pages; a file has at most a thousand bytes
-abbrev pub wide : Limits
+abbrev pub wide : Capacity
 wide = record { nodes = 100; bytes = 8192; file = 1000 }
 
 -- a file has at most six bytes
-abbrev pub short : Limits
+abbrev pub short : Capacity
 short = record { nodes = 9; bytes = 8192; file = 6 }
 
 -- at most a page and a byte
-abbrev pub narrow : Limits
+abbrev pub narrow : Capacity
 narrow = record { nodes = 9; bytes = 4097; file = 9000 }
 
 -- at most two nodes
-abbrev pub pair : Limits
+abbrev pub pair : Capacity
 pair = record { nodes = 2; bytes = 8192; file = 900 }
 
 -- the root alone
-abbrev pub single : Limits
+abbrev pub single : Capacity
 single = record { nodes = 1; bytes = 900; file = 900 }
 
 -- a new one, within these limits, at second 7
@@ -81,7 +81,7 @@ abbrev pub link_to : (name : List ℕ) → (node : ℕ) → Kind → Link
 link_to name node kind = record { name = name; child = record { node = node; kind = kind } }
 
 -- the root alone, with one name, `f`, that leads to node 2, which is this one
-abbrev pub tree_of : Limits → Node → State
+abbrev pub tree_of : Capacity → Node → State
 tree_of limits node =
     let last = 2 ^ 63 - 1 in
     let names : Children =
@@ -96,11 +96,11 @@ tree_of limits node =
     }
 
 -- a tree with a file `f` of these bytes
-abbrev pub file_tree : Limits → (bytes : List ℕ) → State
+abbrev pub file_tree : Capacity → (bytes : List ℕ) → State
 file_tree limits bytes = tree_of limits (file_of bytes)
 
 -- a tree with a file `f` of no bytes and these extended attributes
-abbrev pub attribute_tree : Limits → List Xattr → State
+abbrev pub attribute_tree : Capacity → List Xattr → State
 attribute_tree limits xattrs = tree_of limits (record empty_file { xattrs = xattrs })
 
 -- the attribute `user.a`, with this value

@@ -11,14 +11,14 @@ use bitflags::Flags;
 use std::alloc::Global;
 use vfs_files::{CStr, Context, Entry, EntryList, Extensions, FileSystem, GetxattrReply};
 use vfs_flags::{Fault, GuestGid, GuestUid, SetattrValid, SetxattrFlags};
-use vfs_tree::{Limits, Time, TreeFs};
+use vfs_tree::{Capacity, Time, TreeFs};
 use vfs_wire::SetattrIn;
 
 /// A new tree of at most a hundred nodes and two pages. `None` where there is no memory.
 fn new_tree(alloc: Global) -> Option<TreeFs>
     ensures { IfSome result (λ tree. tree ≡ small_tree) }
 {
-    let limits = Limits {
+    let limits = Capacity {
         nodes: 100,
         bytes: 8192,
         file: 1000,

@@ -11,12 +11,12 @@ use vfs_flags::{Fault, GuestGid, GuestUid};
 use vfs_grammar::Result as Served;
 use vfs_segments::{Reader, Writer};
 use vfs_server::server::Server;
-use vfs_tree::{Limits, Time, TreeFs};
+use vfs_tree::{Capacity, Time, TreeFs};
 use vfs_tree_laws::laws::{calls_keep_trees, new_ones_are_trees};
 use vfs_tree_laws::session::handle_session;
 
 /// A new tree, whatever its limits: no lookup is held of any node. `None` where there is no memory.
-fn free_tree(alloc: Global, limits: Limits, now: Time) -> Option<TreeFs>
+fn free_tree(alloc: Global, limits: Capacity, now: Time) -> Option<TreeFs>
     ensures tree { IfSome result (λ tree. IsTree tree) }
     ensures lookups { IfSome result (λ tree. (n : ℕ) → lookups_of tree n ≡ 0) }
 {
