@@ -37,6 +37,8 @@ those of the other that is the quicker one. Medians of {rounds} rounds in turns:
 Each has its defaults: names and attributes are remembered for a second, and no name that is missing. The share has its
 sandbox and 4 workers, passthrough_ll `cache=auto`, `default_permissions`, and threads by need; of bindfs the quicker
 one of one thread and many is meant. A WRITE has up to 512 KiB at the share, 1 MiB at passthrough_ll and 4 KiB at bindfs.
+With one job it is chance in each round whether client and server come to one processor or to two, by which a small
+request takes two or three times as long; so of few rounds the medians of small requests say little.
 """
 CALLS = """
 ## System calls
