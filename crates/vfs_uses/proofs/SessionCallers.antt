@@ -209,12 +209,12 @@ ask-forget limits options room =
     let in_limit : nat_lt (max_len limits) 48 ≡ false = grind (arith, nat_tests) in
     ap (λ (above : Bool). within above (value_of in_header FORGET) (Asks (echo_of (value_of in_header FORGET)) (Forget (context_of (value_of in_header FORGET)) 5 3))) in_limit
 
--- nothing comes back of a call that answers nothing
+-- nothing comes back of a call that answers nothing, and the room stays
 quiet : (limits : Limits) (echo : Echo) (options : ℕ) (a : Answer) (room : List ℕ) (outcome : Result ℕ Error) (room_after : List ℕ)
-    → IsReplied (reply_of limits echo options Quiet a) room outcome room_after → outcome ≡ Ok 0
-quiet limits echo options a room outcome room_after r = r.0
+    → IsReplied (reply_of limits echo options Quiet a) room outcome room_after → (outcome ≡ Ok 0) × (room_after ≡ room)
+quiet limits echo options a room outcome room_after r = r
 
-turn-forget : (limits : Limits) (options : ℕ) (t : Turn) (after : ℕ) → IsTurn limits options t after → t.request ≡ FORGET → t.outcome ≡ Ok 0
+turn-forget : (limits : Limits) (options : ℕ) (t : Turn) (after : ℕ) → IsTurn limits options t after → t.request ≡ FORGET → (t.outcome ≡ Ok 0) × (t.room_after ≡ t.room)
 turn-forget limits options t after s request =
     let echo : Echo = echo_of (value_of in_header FORGET) in
     let call : Call = Forget (context_of (value_of in_header FORGET)) 5 3 in
@@ -228,16 +228,34 @@ turn-forget limits options t after s request =
 accepted-forget : (n : ℕ) (t : Turn) → t.request ≡ FORGET → t.outcome ≡ Ok 0 → accepted n t ≡ accepted_by n FORGET (Ok 0)
 accepted-forget n t request outcome = ap (λ (b : List ℕ). accepted_by n b t.outcome) request ∙ ap (λ (o : Result ℕ Error). accepted_by n FORGET o) outcome
 
--- the one turn of a session of one request
-record One (limits : Limits) (options : ℕ) (reader : Unread) (turns : List Turn) : Type 0 where
+-- the one turn of a session of one request, and its writer before and after
+record One (limits : Limits) (options : ℕ) (reader : Unread) (writers : List Written) (turns : List Turn) (news : List Written) : Type 0 where
   t : Turn
   after : ℕ
+  writer : Written
+  new : Written
   turns_are : turns ≡ t ∷ []
+  writers_are : writers ≡ writer ∷ []
+  news_are : news ≡ new ∷ []
   is_turn : IsTurn limits options t after
   request : t.request ≡ reader.left
+  room : t.room ≡ writer.left
+  leaves : Leaves writer t.room_after new
 
-one_turn : (limits : Limits) (options : ℕ) (reader : Unread) (writers : List Written) (turns : List Turn) (news : List Written) (after : ℕ) → AreServed limits options (reader ∷ []) writers turns news after → One limits options reader turns
-one_turn limits options reader (w ∷ []) (t ∷ []) (n ∷ []) after s = record { t = t; after = s.0; turns_are = refl; is_turn = s.1.turn; request = s.1.request }
+one_turn : (limits : Limits) (options : ℕ) (reader : Unread) (writers : List Written) (turns : List Turn) (news : List Written) (after : ℕ) → AreServed limits options (reader ∷ []) writers turns news after → One limits options reader writers turns news
+one_turn limits options reader (w ∷ []) (t ∷ []) (n ∷ []) after s = record {
+  t = t;
+  after = s.0;
+  writer = w;
+  new = n;
+  turns_are = refl;
+  writers_are = refl;
+  news_are = refl;
+  is_turn = s.1.turn;
+  request = s.1.request;
+  room = s.1.room;
+  leaves = s.1.leaves;
+}
 one_turn limits options reader [] turns news after s = absurd s
 one_turn limits options reader (w ∷ ws) [] news after s = absurd s
 one_turn limits options reader (w ∷ ws) (t ∷ ts) [] after s = absurd s
@@ -245,30 +263,37 @@ one_turn limits options reader (w ∷ v ∷ ws) (t ∷ ts) (n ∷ ns) after s = 
 one_turn limits options reader (w ∷ []) (t ∷ u ∷ ts) (n ∷ ns) after s = absurd s.2
 one_turn limits options reader (w ∷ []) (t ∷ []) (n ∷ m ∷ ns) after s = absurd s.2
 
+-- if the room of the turn stays, so do the writer's bytes
+bytes_stay : (w new : Written) (room room_after : List ℕ) → Leaves w room_after new → room_after ≡ room → room ≡ w.left → whole new ≡ whole w
+bytes_stay w new room room_after l after before = l.kept ∙ ap (λ (b : List ℕ). w.passed ++ b) (after ∙ before)
+
 -- a client of which nothing is accepted gives back nothing
 gives_nothing_back : (n : ℕ) (t : Turn) → accepted n t ≡ 0 → GivesBackWithin n (t ∷ [])
 gives_nothing_back n t none k = omega (arith, none, sum_by-take-le (accepted n) (t ∷ []) k)
 
 module _ {S I : Type 0} (allows : S → Call → Handed I → S → Type 0) (gives : I → Option Item → I → Type 0) where
   -- what is seen of a session of the FORGET alone
-  pub record Forgotten (old new : ServerState S) (outcomes : List (Result ℕ Error)) : Type 0 where
+  pub record Forgotten (old new : ServerState S) (writers : List Written) (outcomes : List (Result ℕ Error)) (news : List Written) : Type 0 where
     pub outcomes_are : outcomes ≡ Ok 0 ∷ []
+    pub rooms : map whole news ≡ map whole writers
     pub books : SendsThreeBack allows gives old.fs new.fs
 
   pub session-forgotten : (old new : ServerState S) (reader : Unread) (writers : List Written) (outcomes : List (Result ℕ Error)) (news : List Written)
-      → IsSession allows gives old (reader ∷ []) writers outcomes news new → reader.left ≡ FORGET → Forgotten old new outcomes
+      → IsSession allows gives old (reader ∷ []) writers outcomes news new → reader.left ≡ FORGET → Forgotten old new writers outcomes news
   unfolding number opcode_of
   session-forgotten old new reader writers outcomes news s request =
       let o = one_turn old.limits old.options reader writers s.turns news new.options s.served in
-      let outcome = turn-forget old.limits old.options o.t o.after o.is_turn (o.request ∙ request) in
-      let five : accepted 5 o.t ≡ 3 = accepted-forget 5 o.t (o.request ∙ request) outcome in
-      let six : accepted 6 o.t ≡ 0 = accepted-forget 6 o.t (o.request ∙ request) outcome in
-      let none : delivered 5 o.t ≡ 0 = ap (λ (r : Result ℕ Error). delivered_by 5 (opcode_in o.t.request) r o.t.room_after) outcome in
+      let seen = turn-forget old.limits old.options o.t o.after o.is_turn (o.request ∙ request) in
+      let five : accepted 5 o.t ≡ 3 = accepted-forget 5 o.t (o.request ∙ request) seen.0 in
+      let six : accepted 6 o.t ≡ 0 = accepted-forget 6 o.t (o.request ∙ request) seen.0 in
+      let none : delivered 5 o.t ≡ 0 = ap (λ (r : Result ℕ Error). delivered_by 5 (opcode_in o.t.request) r o.t.room_after) seen.0 in
+      let stays : whole o.new ≡ whole o.writer = bytes_stay o.writer o.new o.t.room o.t.room_after o.leaves seen.1 o.room in
       let books = subst KeepsBooks o.turns_are s.books in
       let balanced = books.balanced 5 (λ e. omega (arith, e)) in
       let below = books.never_below 6 (λ e. omega (arith, e)) (gives_nothing_back 6 o.t six) in
       record {
-        outcomes_are = sym s.outcomes_are ∙ (ap (λ (ts : List Turn). map (λ t. t.outcome) ts) o.turns_are ∙ ap (λ (r : Result ℕ Error). r ∷ []) outcome);
+        outcomes_are = sym s.outcomes_are ∙ (ap (λ (ts : List Turn). map (λ t. t.outcome) ts) o.turns_are ∙ ap (λ (r : Result ℕ Error). r ∷ []) seen.0);
+        rooms = ap (λ (ws : List Written). map whole ws) o.news_are ∙ (ap (λ (b : List ℕ). b ∷ []) stays ∙ sym (ap (λ (ws : List Written). map whole ws) o.writers_are));
         books = record {
           events = events_in (o.t ∷ []);
           is_run = subst (λ (ts : List Turn). IsRun allows gives None old.fs (events_in ts) new.fs) o.turns_are s.is_run;

@@ -47,7 +47,8 @@ const FORGET: [u8; 48] = [
 /// Hands over a session of one FORGET, of node 5 by 3, to any server. It is answered 0, and by the
 /// books of the session the file system was sent three more forgets of node 5 than it answered
 /// entries of it; and of node 6, of which nothing was given back, it was never sent more than that.
-/// `None` where there is no memory for the reader.
+/// No byte of the room changes, whatever stood there. `None` where there is no memory for the
+/// reader.
 fn forget_three<F: FileSystem>(
     alloc: Global,
     server: &mut Server<F>,
@@ -57,6 +58,7 @@ fn forget_three<F: FileSystem>(
     requires room { length writers.old ≡ 1 }
     requires places { length outcomes.old ≡ 1 }
     ensures outcomes { OnSome result (outcomes.new ≡ Ok 0 ∷ []) }
+    ensures rooms { OnSome result (map whole writers.new ≡ map whole writers.old) }
     ensures books { OnSome result
         (SendsThreeBack F.allows F.DirIter.gives server.old.fs server.new.fs) }
 {

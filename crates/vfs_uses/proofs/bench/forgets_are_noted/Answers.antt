@@ -15,8 +15,6 @@ notes_of-forgets ctx (x ∷ xs) = ap (λ notes. unanswered 2 x.0 x.1 ∷ notes) 
 
 pub returns : goal.returns
 returns c = λ unset.
-    let forgot = c.forget_each.ensures in
     let before = c.args.recorder.now.notes in
-    c.notes_are_the_calls.ensures None _ forgot.0 _ forgot.1 unset
-    ∙ ap (λ events. before ++ notes_of events) forgot.2
+    c.notes_are_the_calls.ensures None _ _ _ c.forget_each.ensures unset
     ∙ ap (λ notes. before ++ notes) (notes_of-forgets c.args.ctx.now c.args.requests.items)
