@@ -30,6 +30,8 @@ MOST_MEMORY = 128 * 1024
 STRESSORS = ("access", "chdir", "chmod", "chown", "dentry", "dir", "dirdeep", "dirmany", "fallocate",
              "fcntl", "filename", "flock", "fpunch", "fstat", "getdent", "hdd", "iomix", "link", "lockf", "mknod",
              "open", "rename", "symlink", "sync-file", "touch", "utime", "xattr")
+# Of these two each holds thousands of files open, and so takes all the descriptors that a server may have.
+FEW_OPEN = ("--chdir-dirs", "1024", "--open-max", "1024")
 # What a program may be told of a full disk, of descriptors that ran out, and of refused allocations.
 FULL = {errno.ENOSPC}
 SCARCE = {errno.EMFILE, errno.ENFILE}
@@ -251,9 +253,8 @@ def keep(keeper, until, size):
 
 
 def hold_failure(said, killed):
-    """A stressor says what failed: that may be a full disk, or a want of descriptors, which all clients share: `chdir`
-    holds 8,192 folders open. Of one that was killed the counters are wrong, and its folder is removed while children
-    of its go on."""
+    """A stressor says what failed: that may be a full disk, or a want of descriptors, which all clients share. Of one
+    that was killed the counters are wrong, and its folder is removed while children of its go on."""
     name = re.search(r"fail:\s+\[\d+\] ([\w-]+)", said)
     if not name or name[1] == "metrics-check" or name[1].replace("_", "-") in killed:
         return
@@ -282,7 +283,8 @@ def stress(place, chance, seconds):
     os.makedirs(place + "/stress", exist_ok=True)
     log, killed = tempfile.TemporaryFile("w+", dir=work), set()
     running = subprocess.Popen(["stress-ng", "--temp-path", place + "/stress", "--timeout", str(seconds), "--verify",
-                                "--hdd-bytes", "8m", "--iomix-bytes", "8m", "--fallocate-bytes", "8m", *words],
+                                "--hdd-bytes", "8m", "--iomix-bytes", "8m", "--fallocate-bytes", "8m", *FEW_OPEN,
+                                *words],
                                stdout=log, stderr=log, start_new_session=True)
     began = time.monotonic()
     until = began + seconds
