@@ -30,8 +30,8 @@ MOST_MEMORY = 128 * 1024
 STRESSORS = ("access", "chdir", "chmod", "chown", "dentry", "dir", "dirdeep", "dirmany", "fallocate",
              "fcntl", "filename", "flock", "fpunch", "fstat", "getdent", "hdd", "iomix", "link", "lockf", "mknod",
              "open", "rename", "symlink", "sync-file", "touch", "utime", "xattr")
-# Of these two each holds thousands of files open, and so takes all the descriptors that a server may have.
-FEW_OPEN = ("--chdir-dirs", "1024", "--open-max", "1024")
+# Of these two each holds thousands of files open, of which a server may have 150.
+FEW_OPEN = ("--chdir-dirs", "32", "--open-max", "32")
 # What a program may be told of a full disk, of descriptors that ran out, and of refused allocations.
 FULL = {errno.ENOSPC}
 SCARCE = {errno.EMFILE, errno.ENFILE}
