@@ -55,7 +55,7 @@ listing_of ctx parent space plus size items old answer taken new e r = record {
   written = subst (λ n. AreWritten plus size n 0 r.lines) e r.written;
   stops = subst (λ n. Stops plus size n (sum_by line_len r.lines) r.stop) e r.stops;
   events_are = refl;
-  body_is = refl;
+  records_are = refl;
   answer_is = subst (λ n. answer ≡ answer_of plus size n (sum_by line_len r.lines) r.stop) e r.answer_is;
 }
 
@@ -85,7 +85,7 @@ module _ (call : CallData) (a : AnswerData) (items : List ItemData) (old held mi
         events = Called (Readdir l.ctx l.parent l.handle l.size l.offset) (Failed fault) ∷ [];
         records = [];
         answer = answer;
-        read = inl (record { fault = fault; events_are = refl; body_is = refl; answer_is = e });
+        read = inl (record { fault = fault; events_are = refl; records_are = refl; answer_is = e });
         offered = (failed, none);
         fits = kind [] call.size counted;
         replied = replied old [] call.size (none_behind old held mid holds enough same) counted;

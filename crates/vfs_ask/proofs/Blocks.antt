@@ -200,7 +200,7 @@ next_of : (options most : ℕ) (received : Received) (left : List ℕ) (ext : Ex
 next_of options most received left ext (Err e) is enough h = absurd (let a = h in cc)
 next_of options most received left ext (Ok block) is enough h =
     let others = cut_of_most most (drop (block_size left) left) in
-    let o = or_ok (receive_all options received (block ∷ others.blocks)) (received_at_end options others.fault) ext h in
+    let o = or_ok (receive_all options received (block ∷ others.blocks)) (received_at_end options others.error) ext h in
     let p = or_ok (receive options received block) (λ more. receive_all options more others.blocks) o.0 o.1 in
     let f = first_block left block is in
     record {
@@ -210,7 +210,7 @@ next_of options most received left ext (Ok block) is enough h =
       most = most;
       enough = omega (arith, enough, f.least, f.fits, length-drop (block_size left) left);
       got = p.1;
-      rest = ap (λ r. error_or r (received_at_end options others.fault)) p.2 ∙ o.2;
+      rest = ap (λ r. error_or r (received_at_end options others.error)) p.2 ∙ o.2;
     }
 
 next_within : (options most : ℕ) (received : Received) (x : ℕ) (xs : List ℕ) (ext : ExtensionValues) → length (x ∷ xs) ≤ most
@@ -294,7 +294,7 @@ stands_here options q left at ext c is l s one =
     ap (λ k. receive_kind options l.received (ext_type_of k) n.block.body) (sym type_is) ∙ n.got in
     let says = one_context options l.received n.more n.block.body got in
     let others = cut_of_most n.most (drop (block_size left) left) in
-    let last : ext.context ≡ Some says.context = kept options others.fault others.blocks n.more ext says.has n.rest ∙ says.received in
+    let last : ext.context ≡ Some says.context = kept options others.error others.blocks n.more ext says.has n.rest ∙ says.received in
     let same : says.context ≡ c = let a = sym last ∙ s in cc in
     let body : n.block.body ≡ take (block_size left - 8) (drop (at + 8) q) = n.first.body_is ∙ ap (λ (xs : List ℕ). take (block_size left - 8) (drop 8 xs)) is
     ∙ ap (take (block_size left - 8)) (drop-drop 8 at q) in
@@ -323,7 +323,7 @@ none_agreed options fault (block ∷ blocks) received ext lacks h =
 none_either : (options : ℕ) (b : Bool) (blocks : List ℕ) (ext : ExtensionValues) → has_option options security_ctx ≡ false
     → (if b then extensions_of options nothing_received (cut_of_most (length blocks) blocks) else Ok no_extensions) ≡ Ok ext → ext.context ≡ None
 none_either options true blocks ext lacks e =
-    none_agreed options (cut_of_most (length blocks) blocks).fault (cut_of_most (length blocks) blocks).blocks nothing_received ext lacks e
+    none_agreed options (cut_of_most (length blocks) blocks).error (cut_of_most (length blocks) blocks).blocks nothing_received ext lacks e
 none_either options false blocks ext lacks e = sym (ap (λ (x : ExtensionValues). x.context) (same_ok no_extensions ext e))
 
 pub no_contexts : (options : ℕ) (blocks : List ℕ) (ext : ExtensionValues) → has_option options security_ctx ≡ false → extensions_in options blocks ≡ Ok ext → ext.context ≡ None

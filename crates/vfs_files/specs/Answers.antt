@@ -31,9 +31,9 @@ pub data Answer : Type 0 where
   -- the bytes that were put into a reply
   Put : (bytes : List ℕ) → Answer
   -- a handle, where there is one, and the bits of how to use what was opened
-  Opened : (handle : Option ℕ) (options : ℕ) → Answer
+  Opened : (handle : Option ℕ) (opening : ℕ) → Answer
   -- an entry, and a handle and bits as above
-  Created : (entry : Entry) (handle : Option ℕ) (options : ℕ) → Answer
+  Created : (entry : Entry) (handle : Option ℕ) (opening : ℕ) → Answer
   -- what a file system holds
   Statistics : (statistics : Statvfs64) → Answer
   -- the text of a link, the value of an extended attribute, or the names of all
@@ -181,7 +181,7 @@ FitsEntry entry = Fit entry_out.widths (entry_out.fields (entry_out_of entry))
 -- a handle's number, or 0 where there is no handle, and the bits of how to use it are within their
 -- widths in the reply, of 8 and 4 bytes; 4 bytes behind them are padding
 abbrev pub FitsOpening : Option ℕ → ℕ → Type 0
-FitsOpening handle options = Fit (8 ∷ 4 ∷ 4 ∷ []) (unwrap_or handle 0 ∷ options ∷ 0 ∷ [])
+FitsOpening handle opening = Fit (8 ∷ 4 ∷ 4 ∷ []) (unwrap_or handle 0 ∷ opening ∷ 0 ∷ [])
 
 -- the length of a reply with this text, 16 bytes of its header included, is below 2 ^ 32
 abbrev pub FitsText : List ℕ → Type 0
@@ -198,8 +198,8 @@ abbrev pub Counts : Result ℕ (Option ℕ) → List ℕ → ℕ → Type 0
 Counts (Ok count) bytes size = (count ≡ length bytes) × (count ≤ size) × FitsText bytes
 Counts (Err fault) bytes size = ⊤
 
--- an answer of this kind, with its numbers in their widths in the reply; a time is in whole seconds and the
--- nanoseconds beyond
+-- an answer of this kind, with its numbers in their widths in the reply: a fault is one of every kind but
+-- `Quiet`; a time is in whole seconds and the nanoseconds beyond
 abbrev pub IsAnswer : Kind → Answer → Type 0
 IsAnswer Quiet Done = Unit {0}
 IsAnswer Quiet _ = ⊥
@@ -212,8 +212,8 @@ IsAnswer Entries (Found entry) = FitsEntry entry
 IsAnswer TimedAttributes (Attributes attributes timeout) =
     Fit attr_out.widths
     (whole_seconds timeout ∷ nanoseconds_beyond timeout ∷ 0 ∷ attr.fields attributes)
-IsAnswer Openings (Opened handle options) = FitsOpening handle options
-IsAnswer Creations (Created entry handle options) = FitsEntry entry × FitsOpening handle options
+IsAnswer Openings (Opened handle opening) = FitsOpening handle opening
+IsAnswer Creations (Created entry handle opening) = FitsEntry entry × FitsOpening handle opening
 IsAnswer Capacities (Statistics statistics) =
     Fit kstatfs.widths (kstatfs.fields (kstatfs_of statistics))
 IsAnswer Texts (Text bytes) = FitsText bytes

@@ -47,7 +47,8 @@ whole_seconds time = as_nanos time / 1_000_000_000
 abbrev pub nanoseconds_beyond : Duration → ℕ
 nanoseconds_beyond time = as_nanos time % 1_000_000_000
 
--- the caller that a header names: its user and group, and its process with the same 32 bits
+-- the caller that a header names: its user, its group, and its process, whose 32 bits are read as
+-- signed
 abbrev pub context_of : InHeader → Context
 context_of header = record { uid = header.uid; gid = header.gid; pid = cast_signed w32 header.pid }
 

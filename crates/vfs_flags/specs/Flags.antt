@@ -28,7 +28,8 @@ security_ctx = 2 ^ 32
 abbrev pub create_supp_group : ℕ
 create_supp_group = 2 ^ 34
 
--- the bits of all the options of INIT: those from 0 to 34 but 26, and 36 and 40
+-- the options of INIT that are known: bits 0 to 34 but 26 (MAP_ALIGNMENT), the reserved 31 among them,
+-- 36 and 40
 abbrev pub known_fs_options : ℕ
 known_fs_options = 0x117fbffffff
 
@@ -43,7 +44,7 @@ supported_fs_options =
 abbrev pub setattr_valid_bits : SetattrValid → ℕ
 setattr_valid_bits flags = flags.0
 
--- the bits of all the attributes that a SETATTR changes
+-- the bits of SETATTR's `valid` that are passed on: all of `fuse.h` but FATTR_FH and FATTR_LOCKOWNER
 abbrev pub known_setattr_valid : ℕ
 known_setattr_valid = 0xdbf
 

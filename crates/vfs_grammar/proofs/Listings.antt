@@ -86,11 +86,11 @@ module _ {plus : Bool} {ctx : Context} {parent size room : ℕ} {events : List E
   length-listing h n e =
       let total : n ≡ sum_by line_len h.lines =
       answer_of_is plus size room (sum_by line_len h.lines) n h.stop (sym e ∙ h.answer_is) in
-      total ∙ sym (ap length h.body_is ∙ length-lines plus size room 0 h.lines h.written)
+      total ∙ sym (ap length h.records_are ∙ length-lines plus size room 0 h.lines h.written)
 
   -- its records are no longer than was asked for
   pub listing_within : IsListing plus ctx parent size room events body result → length body ≤ size
   listing_within h =
-      let long = ap length h.body_is ∙ length-lines plus size room 0 h.lines h.written in
+      let long = ap length h.records_are ∙ length-lines plus size room 0 h.lines h.written in
       let within = lines_within plus size room 0 h.lines h.written (omega arith) in
       omega (arith, long, within)

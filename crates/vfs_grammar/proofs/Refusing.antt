@@ -84,12 +84,12 @@ IsLeft : Option Error → Type 0
 IsLeft None = Unit {0}
 IsLeft (Some e) = MayRefuse e
 
-of_cut_on : (block : Result Block Error) (others : Cut) → IsRefused block → IsLeft others.fault → IsLeft (cut_on block others).fault
+of_cut_on : (block : Result Block Error) (others : Cut) → IsRefused block → IsLeft others.error → IsLeft (cut_on block others).error
 unfolding IsLeft
 of_cut_on (Err e) others f g = f
 of_cut_on (Ok block) others f g = g
 
-of_cut : (most : ℕ) (bytes : List ℕ) → IsLeft (cut_of_most most bytes).fault
+of_cut : (most : ℕ) (bytes : List ℕ) → IsLeft (cut_of_most most bytes).error
 unfolding IsLeft
 of_cut zero bytes = tt
 of_cut (suc most) [] = tt
@@ -124,7 +124,7 @@ of_extensions options bytes =
     let cut = cut_of_most (length bytes) bytes in
     tested (reads_extensions options) _ _
     (onward (receive_all options nothing_received cut.blocks) _ (of_all options nothing_received cut.blocks)
-    (λ received. of_end options cut.fault received (of_cut (length bytes) bytes)))
+    (λ received. of_end options cut.error received (of_cut (length bytes) bytes)))
     tt
 
 -- ---- names and extensions

@@ -40,9 +40,10 @@ setxattr_layout options =
     }))
     else Record setxattr_in
 
--- whether a directory's records may have more bytes than the limit, or than there is room for
-abbrev pub lists_too_much : Limits → (space : ℕ) → ReadIn → Bool
-lists_too_much limits space r = nat_lt limits.max_buffer r.size || nat_lt space r.size
+-- whether a directory is asked for more bytes than the limit, or than the whole room has, its
+-- header counted
+abbrev pub lists_too_much : Limits → (room_len : ℕ) → ReadIn → Bool
+lists_too_much limits room_len r = nat_lt limits.max_buffer r.size || nat_lt room_len r.size
 
 -- the directory that is read, with entries where `plus`
 abbrev pub listing_of : (plus : Bool) → InHeader → ReadIn → (space_for_records : ℕ) → Listing
@@ -56,14 +57,15 @@ listing_of plus h r space_for_records = record {
   space = space_for_records;
 }
 
-module _ (limits : Limits) (options space : ℕ) (h : InHeader) where
+module _ (limits : Limits) (options room_len : ℕ) (h : InHeader) where
   -- the caller that the header names
   abbrev pub caller : Context
   caller = context_of h
 
-  -- The table of the protocol: a line for each opcode, by the limits, the agreed options, the space
-  -- for the reply, and the header. The calls that name a caller and a node name those of the
-  -- header.
+  -- The table of the protocol: a row for each opcode, by the limits, the agreed options, the length
+  -- of the room, and the header. A call names the caller and the header's node. But BATCH_FORGET
+  -- names the caller alone; INIT, DESTROY and the eight without arguments name neither; LINK's node
+  -- is its record's, and its new parent the header's.
   abbrev pub form_of : Opcode → Form
   form_of Lookup = NameTail no_record never (λ r name. call.Lookup caller h.nodeid name)
   form_of Forget = NoTail (Record forget_in) never (λ r. call.Forget caller h.nodeid r.nlookup)
@@ -87,7 +89,7 @@ module _ (limits : Limits) (options space : ℕ) (h : InHeader) where
       call.Link caller r.oldnodeid h.nodeid name)
   form_of Open = NoTail (Record open_in) never (λ r.
       call.Open caller h.nodeid (has_flag r.open_flags OPEN_KILL_SUIDGID) r.flags)
-  form_of Read = IntoRoom (Record read_in) space (λ r space_for_data.
+  form_of Read = IntoRoom (Record read_in) room_len (λ r space_for_data.
       call.Read caller h.nodeid r.fh space_for_data r.size r.offset
       (if_set r.read_flags READ_LOCKOWNER r.lock_owner) r.flags)
   form_of Write = WithRest (Record write_in) (λ r rest.
@@ -112,7 +114,7 @@ module _ (limits : Limits) (options space : ℕ) (h : InHeader) where
   form_of Flush = NoTail (Record flush_in) never (λ r. call.Flush caller h.nodeid r.fh r.lock_owner)
   form_of Init = Versions
   form_of Opendir = NoTail (Record open_in) never (λ r. call.Opendir caller h.nodeid r.flags)
-  form_of Readdir = Directories (Record read_in) (lists_too_much limits space) space
+  form_of Readdir = Directories (Record read_in) (lists_too_much limits room_len) room_len
       (listing_of false h)
   form_of Releasedir = NoTail (Record release_in) never (λ r.
       call.Releasedir caller h.nodeid r.flags r.fh)
@@ -136,7 +138,7 @@ module _ (limits : Limits) (options space : ℕ) (h : InHeader) where
       call.BatchForget caller pairs)
   form_of Fallocate = NoTail (Record fallocate_in) never (λ r.
       call.Fallocate caller h.nodeid r.fh r.mode r.offset r.length)
-  form_of Readdirplus = Directories (Record read_in) (lists_too_much limits space) space
+  form_of Readdirplus = Directories (Record read_in) (lists_too_much limits room_len) room_len
       (listing_of true h)
   form_of Rename2 = TwoNames (Record rename2_in) (λ r old new.
       call.Rename caller h.nodeid old r.newdir new (bit_and r.flags RENAME_FLAGS))
@@ -150,27 +152,26 @@ module _ (limits : Limits) (options space : ℕ) (h : InHeader) where
   form_of Syncfs = NoTail no_record never (λ r. call.Syncfs caller h.nodeid)
   form_of TmpFile = NoTail no_record never (λ r. call.Tmpfile)
 
-module _ (limits : Limits) (options space : ℕ) where
+module _ (limits : Limits) (options room_len : ℕ) where
   -- what the bytes behind a header ask, by its opcode
   abbrev pub ask_opcode : Opcode → InHeader → (rest : List ℕ) → Ask
-  ask_opcode opcode h rest = ask_form h rest (form_of limits options space h opcode)
+  ask_opcode opcode h rest = ask_form h rest (form_of limits options room_len h opcode)
 
   -- the same, of a number that may be no opcode
   abbrev pub ask_number : Option Opcode → InHeader → (rest : List ℕ) → Ask
   ask_number None h rest = faulted enosys h
   ask_number (Some opcode) h rest = ask_opcode opcode h rest
 
-  -- what a request with this header asks: a `len` above the limit is ENOMEM, whatever the opcode
+  -- what a request with this header asks: a `len` above `max_len` is ENOMEM, whatever the opcode
   abbrev pub ask_header : InHeader → (rest : List ℕ) → Ask
   ask_header h rest =
       within (nat_lt (max_len limits) h.len) h (ask_number (opcode_of h.opcode) h rest)
 
-  -- what these bytes ask, under these limits and agreed options, and where there is so much space
-  -- for the reply
+  -- what these bytes ask, under these limits and agreed options, with a room of this length
   abbrev pub ask : (bytes : List ℕ) → Ask
   ask bytes =
       refused_or (record_of in_header bytes) (λ h. ask_header h (drop (size_of in_header) bytes))
 
--- the header that a request begins with
+-- the header that a request begins with; bytes that are not there count 0
 abbrev pub header_of : (request : List ℕ) → InHeader
 header_of request = value_of in_header request

@@ -17,15 +17,15 @@ abbrev pub times : (n : ℕ) → List ℕ → ℕ
 times n nodes = count_by (λ node. node == n) nodes
 
 -- the sum of the counts for a node, in pairs of a node and a count
-abbrev pub counts : (n : ℕ) → List (ℕ × ℕ) → ℕ
-counts n pairs = sum_by (λ pair. if pair.0 == n then pair.1 else 0) pairs
+abbrev pub forgotten : (n : ℕ) → List (ℕ × ℕ) → ℕ
+forgotten n pairs = sum_by (λ pair. if pair.0 == n then pair.1 else 0) pairs
 
 -- ---- events
 
 -- the node of an answer's entry, where it has one
 abbrev pub entry_node : Answer → List ℕ
 entry_node (Found entry) = entry.inode ∷ []
-entry_node (Created entry handle options) = entry.inode ∷ []
+entry_node (Created entry handle opening) = entry.inode ∷ []
 entry_node _ = []
 
 -- the node of the entry that a call answered: of these six calls, and of no other
@@ -51,7 +51,7 @@ answered_by n _ = 0
 
 -- the forgets of a node in one event
 abbrev pub sent_by : (n : ℕ) → Event → ℕ
-sent_by n (Called call answer) = counts n (forgets_of call)
+sent_by n (Called call answer) = forgotten n (forgets_of call)
 sent_by n _ = 0
 
 -- the entries of a node that were answered
@@ -95,16 +95,17 @@ forgets_in (Some opcode.Forget) request = (u64_at 16 request, u64_at in_header_s
 forgets_in (Some opcode.BatchForget) request = pairs_at (u32_at in_header_size request) (drop pairs_place request)
 forgets_in _ request = []
 
--- the entries of a node in a room by this outcome: in the reply that it counts, where there is one
+-- how often a node stands in the reply at the front of this room, as long as the outcome says:
+-- never after an error or 0
 abbrev pub delivered_by : (n : ℕ) → Option Opcode → Result ℕ Error → (room_after : List ℕ) → ℕ
 delivered_by n opcode (Ok m) room_after =
     if m == 0 then 0 else times n (delivered_nodes opcode (take m room_after))
 delivered_by n opcode (Err error) room_after = 0
 
--- the forgets of a node in a request's bytes, where it was accepted
+-- the forgets of a node in a request's bytes, if its outcome is `Ok 0`
 abbrev pub accepted_by : (n : ℕ) → (request : List ℕ) → Result ℕ Error → ℕ
 accepted_by n request (Ok m) =
-    if m == 0 then counts n (forgets_in (opcode_in request) request) else 0
+    if m == 0 then forgotten n (forgets_in (opcode_in request) request) else 0
 accepted_by n request (Err error) = 0
 
 -- ---- a turn
@@ -123,12 +124,13 @@ AreBalanced n turns =
     answered n (events_in turns) + sum_by (accepted n) turns
     ≡ sum_by (delivered n) turns + sent n (events_in turns)
 
--- after each turn the client has given back no more of a node than was delivered to it
+-- after each turn the client has given back no more of a node than was delivered to it by these
+-- turns
 abbrev pub GivesBackWithin : (n : ℕ) → List Turn → Type 0
 GivesBackWithin n turns =
     (k : ℕ) → sum_by (accepted n) (take k turns) ≤ sum_by (delivered n) (take k turns)
 
--- after each event no more of a node was sent back than was answered
+-- after each event no more of a node was sent back than was answered in these events
 abbrev pub NeverBelow : (n : ℕ) → List Event → Type 0
 NeverBelow n events = (k : ℕ) → sent n (take k events) ≤ answered n (take k events)
 

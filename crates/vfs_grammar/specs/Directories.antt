@@ -40,27 +40,27 @@ EndsWhole plus ctx parent events lines =
 -- would pass `size`
 pub record EndsFull
     (plus : Bool) (ctx : Context) (parent size : ℕ)
-    (events : List Event) (lines : List Line) (body : List ℕ) : Type 0 where
+    (events : List Event) (lines : List Line) (records : List ℕ) : Type 0 where
   pub last : Line
   pub events_are :
       events
       ≡ flat_map (line_events ctx parent plus) lines ++ stop_events ctx parent plus (At last)
   pub got : IsGot plus last
-  pub passes : size < length body + line_len last
+  pub passes : size < length records + line_len last
 
--- A directory that is whole: the body is the records of all items taken, in order, each with what
+-- A directory that is whole: the records are those of all items taken, in order, each with what
 -- the item should get, but of a last one whose record would pass `size`; where there is no such one,
--- the iterator answered its end. The body itself doesn't pass `size`.
+-- the iterator answered its end. The records don't pass `size`.
 pub record IsWhole
     (plus : Bool) (ctx : Context) (parent size : ℕ)
-    (events : List Event) (body : List ℕ) (result : Result ℕ (Option ℕ)) : Type 0 where
+    (events : List Event) (records : List ℕ) (result : Result ℕ (Option ℕ)) : Type 0 where
   pub lines : List Line
   pub got : All (IsGot plus) lines
-  pub body_is : body ≡ flat_map line_bytes lines
-  pub answer_is : result ≡ Ok (length body)
-  pub within : length body ≤ size
+  pub records_are : records ≡ flat_map line_bytes lines
+  pub answer_is : result ≡ Ok (length records)
+  pub within : length records ≤ size
   pub ends :
-      EndsWhole plus ctx parent events lines ⊎ EndsFull plus ctx parent size events lines body
+      EndsWhole plus ctx parent events lines ⊎ EndsFull plus ctx parent size events lines records
 
 -- the reply to the reading of a directory: its records, or the fault
 abbrev pub listing_reply : Result ℕ (Option ℕ) → (records : List ℕ) → (unique : ℕ) → List ℕ

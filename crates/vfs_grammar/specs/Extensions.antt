@@ -71,21 +71,21 @@ block_in bytes =
           take (r.size - size_of ext_header) (drop (size_of ext_header) bytes);
     }))
 
--- what bytes are: blocks, one behind the other, and why what is left then begins with no block,
--- where something is left
+-- what bytes are: blocks, one behind the other, and the error of what is left then, which begins
+-- with no block, if something is left
 pub record Cut : Type 0 where
   pub blocks : List Block
-  pub fault : Option Error
+  pub error : Option Error
 
 -- a block in front of the others, or none
 abbrev pub cut_on : Result Block Error → (others : Cut) → Cut
-cut_on (Err error) others = record { blocks = []; fault = Some error }
-cut_on (Ok block) others = record { blocks = block ∷ others.blocks; fault = others.fault }
+cut_on (Err error) others = record { blocks = []; error = Some error }
+cut_on (Ok block) others = record { blocks = block ∷ others.blocks; error = others.error }
 
--- what bytes are, of which there are at most so many
+-- the same, with at most so many blocks: the number of bytes is always enough
 abbrev pub cut_of_most : (most : ℕ) → (bytes : List ℕ) → Cut
-cut_of_most zero bytes = record { blocks = []; fault = None }
-cut_of_most (suc most) [] = record { blocks = []; fault = None }
+cut_of_most zero bytes = record { blocks = []; error = None }
+cut_of_most (suc most) [] = record { blocks = []; error = None }
 cut_of_most (suc most) (b ∷ bytes) =
     cut_on (block_in (b ∷ bytes)) (cut_of_most most (drop (block_size (b ∷ bytes)) (b ∷ bytes)))
 
@@ -143,13 +143,14 @@ abbrev pub receive : (options : ℕ) → Received → Block → Result Received 
 receive options received block =
     receive_kind options received (ext_type_of block.ext_type) block.body
 
--- what is received with these blocks, or the fault of the first bad one
+-- what is received with these blocks, or the error of the first bad one
 abbrev pub receive_all : (options : ℕ) → Received → List Block → Result Received Error
 receive_all options received [] = Ok received
 receive_all options received (block ∷ blocks) =
     error_or (receive options received block) (λ more. receive_all options more blocks)
 
--- the values, where nothing but blocks was there, and a context that was agreed on was received
+-- the values, if nothing is left behind the blocks and, where contexts were agreed on, a block of
+-- contexts came, of none too
 abbrev pub received_at_end : (options : ℕ) → Option Error → Received → Result ExtensionValues Error
 received_at_end options (Some error) received = Err error
 received_at_end options None received =
@@ -159,11 +160,11 @@ received_at_end options None received =
 -- the extensions that a cut says, where so much was received before
 abbrev pub extensions_of : (options : ℕ) → Received → Cut → Result ExtensionValues Error
 extensions_of options received cut =
-    error_or (receive_all options received cut.blocks) (received_at_end options cut.fault)
+    error_or (receive_all options received cut.blocks) (received_at_end options cut.error)
 
--- The extensions that bytes are: the fault of the first bad block, or else of what is left behind
--- the blocks; or that the context is missing that was agreed on; or their values. Where neither
--- kind is agreed on nothing is read.
+-- The extensions that bytes are: the error of the first bad block, or else of what is left behind
+-- the blocks; or that no block of contexts came, though they were agreed on; or their values. Where
+-- neither kind is agreed on nothing is read.
 unfoldable pub extensions_in : (options : ℕ) → (bytes : List ℕ) → Result ExtensionValues Error
 extensions_in options bytes =
     if reads_extensions options then extensions_of options nothing_received (cut_of bytes)

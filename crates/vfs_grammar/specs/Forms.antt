@@ -18,8 +18,9 @@ use Rattle.vfs_grammar.specs.declared.error.Error.{Error}
 use Rattle.vfs_grammar.specs.declared.error.Error.TheVariants.{DecodeMessage, EncodeMessage, MissingParameter, InvalidCString, InvalidHeaderLength, InvalidXattrSize}
 use Rattle.vfs_files.specs.Calls as call
 
--- A directory that is to be read: for this caller, with an entry behind each of its items where
--- `plus`, from this offset on; and at most `size` bytes of records, for which there is this space.
+-- A directory that is to be read for this caller from this offset on, where `plus` with an
+-- `EntryOut` in front of each record; at most `size` bytes of records, into this space, which is
+-- the room less a header.
 pub record Listing : Type 0 where
   pub plus : Bool
   pub ctx : Context
@@ -30,8 +31,8 @@ pub record Listing : Type 0 where
   pub space : ℕ
 
 -- What a request asks: to be ended without a call, by this coming back; a call, or that a directory
--- be read, whose reply repeats this of the request; or the rest, where there is memory for a copy of
--- some of its bytes, if one is needed.
+-- be read, with what is kept of the request for its reply; or the rest, where there is memory for a
+-- copy of some of its bytes, if one is needed.
 pub data Ask : Type 0 where
   Ends : (reply : Reply) → Ask
   Asks : (echo : Echo) (call : Call) → Ask
@@ -59,8 +60,8 @@ refused_or (Ok part) next = next part
 abbrev pub within : (above : Bool) → InHeader → (next : Ask) → Ask
 within above h next = if above then faulted enomem h else next
 
--- the tail of a request, of what follows the header and a record of `size` bytes: as long as
--- `len` says
+-- the tail of a request, of what follows the header and a record of `size` bytes: `len` counts all
+-- three, and the tail is what it leaves
 abbrev pub tail_of : InHeader → (size : ℕ) → (behind : List ℕ) → Result (List ℕ) Error
 tail_of h size behind =
     if nat_lt h.len (size_of in_header + size) then Err InvalidHeaderLength
@@ -77,8 +78,8 @@ two_names_in tail =
     error_or (ok_or (first_name tail) MissingParameter) (λ part.
     error_or (ok_or (name_of part.1) InvalidCString) (λ second. Ok (part.0, second)))
 
--- the name and the value that a tail is: the name ends at its first 0, and the value is the rest, of
--- this size
+-- the name and the value that a tail is: the name ends at its first 0, and the value is the rest,
+-- of this size
 abbrev pub value_in : (size : ℕ) → (tail : List ℕ) → Result (List ℕ × List ℕ) Error
 value_in size tail =
     error_or (ok_or (first_name tail) MissingParameter) (λ part.
@@ -114,11 +115,12 @@ pairs_in count bytes =
     if nat_lt (length bytes) (count * size_of forget_one) then Err DecodeMessage
     else Ok (pairs_of count bytes)
 
--- the space behind the header of a reply, or the refusal of one that is too small for the header
-abbrev pub space_behind_header : (space : ℕ) → Result ℕ Error
-space_behind_header space =
-    if nat_lt space (size_of out_header) then Err EncodeMessage
-    else Ok (space - size_of out_header)
+-- the space that a room leaves behind the header of a reply, or the refusal of one that is too
+-- small for the header
+abbrev pub space_behind_header : (room_len : ℕ) → Result ℕ Error
+space_behind_header room_len =
+    if nat_lt room_len (size_of out_header) then Err EncodeMessage
+    else Ok (room_len - size_of out_header)
 
 -- the second word of INIT's flags: in a record of its own, where INIT_EXT in the first says that
 -- there is one, and else 0
@@ -127,7 +129,7 @@ second_flags flags behind =
     if bit_and flags init_ext == 0 then Ok 0
     else error_or (record_of init_in_ext behind) (λ r. Ok r.flags2)
 
--- INIT of this version: an older one is refused, and a newer major one is told ours
+-- INIT of this version: an older one is answered EPROTO, and a newer major one is told ours
 abbrev pub ask_version : InHeader → InitInCompat → (flags2 : ℕ) → Ask
 ask_version h r flags2 =
     if nat_lt r.major KERNEL_VERSION then faulted eproto h
@@ -137,7 +139,7 @@ ask_version h r flags2 =
     else Asks (record (echo_of h) { max_readahead = r.max_readahead })
     (call.Init (options_offered r.flags flags2))
 
--- a request's record: none, in the place of which this stands, or one of this table
+-- the record behind a header: none, with this value in its place, or one of this table
 pub data Layout (R : Type 0) : Type 0 where
   Without : R → Layout R
   Record : Table R → Layout R
@@ -164,7 +166,7 @@ behind layout rest = drop (layout_size layout) rest
 abbrev pub never : {R : Type 0} → R → Bool
 never r = false
 
--- A line of the protocol's table: the form of a request, with its record and the call that it
+-- A row of the protocol's table: the form of a request, with its record and the call that it
 -- asks for. By the form something may follow the record: nothing; a name; two names; a name and a
 -- value of the size that the record says; a name, or a link's name and its text, and extensions;
 -- pairs of a node and a count, as many as the record says; or bytes that the call takes as they
@@ -185,9 +187,9 @@ pub data Form : Type 1 where
   Pairs : {R : Type 0} (layout : Layout R) (above : R → Bool) (count : R → ℕ)
       (call : R → List (ℕ × ℕ) → Call) → Form
   WithRest : {R : Type 0} (layout : Layout R) (call : R → (rest : List ℕ) → Call) → Form
-  IntoRoom : {R : Type 0} (layout : Layout R) (space : ℕ)
+  IntoRoom : {R : Type 0} (layout : Layout R) (room_len : ℕ)
       (call : R → (space_for_data : ℕ) → Call) → Form
-  Directories : {R : Type 0} (layout : Layout R) (above : R → Bool) (space : ℕ)
+  Directories : {R : Type 0} (layout : Layout R) (above : R → Bool) (room_len : ℕ)
       (listing : R → (space_for_records : ℕ) → Listing) → Form
   Versions : Form
   Silent : Form
@@ -239,12 +241,12 @@ module _ (h : InHeader) (rest : List ℕ) where
   ask_form (WithRest layout call) =
       refused_or (layout_record layout rest) (λ r.
       Asks (echo_of h) (call r (behind layout rest)))
-  ask_form (IntoRoom layout space call) =
+  ask_form (IntoRoom layout room_len call) =
       refused_or (layout_record layout rest) (λ r.
-      refused_or (space_behind_header space) (λ for_data. Asks (echo_of h) (call r for_data)))
-  ask_form (Directories layout above space listing) =
+      refused_or (space_behind_header room_len) (λ for_data. Asks (echo_of h) (call r for_data)))
+  ask_form (Directories layout above room_len listing) =
       refused_or (layout_record layout rest) (λ r. within (above r) h
-      (refused_or (space_behind_header space) (λ for_records.
+      (refused_or (space_behind_header room_len) (λ for_records.
       Lists (echo_of h) (listing r for_records))))
   ask_form Versions =
       refused_or (record_of init_in_compat rest) (λ r.

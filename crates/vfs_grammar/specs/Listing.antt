@@ -17,7 +17,7 @@ use Rattle.vfs_wire.specs.declared.listings.Dirent.{Dirent}
 use Rattle.vfs_files.specs.Answers.{FitsEntry}
 use Rattle.vfs_grammar.specs.Records.{dirent_size, entry_out_size}
 
--- ---- the record of an entry
+-- ---- the record of an item
 
 -- how long the record of an item with a name of this length is, without an entry: a `Dirent`
 -- and the name, rounded up to a multiple of 8
@@ -149,7 +149,8 @@ module _ (ctx : Context) (parent : ℕ) where
   abbrev pub line_events : (plus : Bool) → Line → List Event
   line_events plus l = Taken (Some l.item) ∷ lookups plus (is_dot l.item.name) l
 
-  -- the events of a stop: an entry that was not written is given back
+  -- the events of a stop: an entry that was not written is given back, whatever its node is, and
+  -- that of `.` or `..` too
   abbrev pub stop_events : (plus : Bool) → Stop → List Event
   stop_events plus End = Taken None ∷ []
   stop_events plus (At l) = line_events plus l ++ given_back ctx (node_got l.got)
@@ -174,9 +175,9 @@ bytes_got (Err fault) i = []
 abbrev pub line_bytes : Line → List ℕ
 line_bytes l = bytes_got l.got l.item
 
--- What becomes of an item that got this, where `max` bytes may still be put and there is space for
--- `space`, by the first of these that applies: one whose lookup failed fails with that fault; a
--- name of 2 ^ 32 bytes or more is EOVERFLOW; a record longer than `max` is too long; one longer
+-- What becomes of an item that got this, where `max` bytes are still asked for and `space` bytes of
+-- room are left, by the first of these that applies: one whose lookup failed fails with that fault;
+-- a name of 2 ^ 32 bytes or more is EOVERFLOW; a record longer than `max` is too long; one longer
 -- than the space is a fault of writing, which has no number.
 abbrev pub verdict : (max space : ℕ) → Got → Item → Verdict
 verdict max space (Err fault) i = Fails fault
@@ -188,7 +189,8 @@ verdict max space (Ok entry) i =
 
 -- ---- the whole
 
--- these lines are written behind so many bytes of records: no stop applies to any of them
+-- these lines are written behind so many bytes of records: no stop applies to any of them, and
+-- each has what its item gets, within its widths
 abbrev pub AreWritten : (plus : Bool) (size space written : ℕ) → List Line → Type 0
 AreWritten plus size space written [] = ⊤
 AreWritten plus size space written (l ∷ ls) =
@@ -220,35 +222,35 @@ answer_of plus size space written (At l) =
 -- stop comes. That gives the events after `readdir`, the records, and the answer: how many bytes
 -- these have, or a fault in their place.
 pub record IsListing (plus : Bool) (ctx : Context) (parent size space : ℕ) (events : List Event)
-    (body : List ℕ) (result : Result ℕ (Option ℕ)) : Type 0 where
+    (records : List ℕ) (result : Result ℕ (Option ℕ)) : Type 0 where
   pub lines : List Line
   pub stop : Stop
   pub written : AreWritten plus size space 0 lines
   pub stops : Stops plus size space (sum_by line_len lines) stop
   pub events_are :
       events ≡ flat_map (line_events ctx parent plus) lines ++ stop_events ctx parent plus stop
-  pub body_is : body ≡ flat_map line_bytes lines
+  pub records_are : records ≡ flat_map line_bytes lines
   pub answer_is : result ≡ answer_of plus size space (sum_by line_len lines) stop
 
 -- `readdir` failed: its fault is the answer, and nothing is taken
-pub record IsUnopened (call : Call) (events : List Event) (body : List ℕ)
+pub record IsUnopened (call : Call) (events : List Event) (records : List ℕ)
     (result : Result ℕ (Option ℕ)) : Type 0 where
   pub fault : Option ℕ
   pub events_are : events ≡ Called call (Failed fault) ∷ []
-  pub body_is : body ≡ []
+  pub records_are : records ≡ []
   pub answer_is : result ≡ Err fault
 
 -- `readdir` handed back an iterator, and the directory is read from it
 pub record IsOpened (plus : Bool) (call : Call) (ctx : Context) (parent size space : ℕ)
-    (events : List Event) (body : List ℕ) (result : Result ℕ (Option ℕ)) : Type 0 where
+    (events : List Event) (records : List ℕ) (result : Result ℕ (Option ℕ)) : Type 0 where
   pub takings : List Event
   pub events_are : events ≡ OpenedDirectory call ∷ takings
-  pub listing : IsListing plus ctx parent size space takings body result
+  pub listing : IsListing plus ctx parent size space takings records result
 
 -- a whole READDIR or, where `plus`, READDIRPLUS: its events, the records, and the answer
 abbrev pub IsDirectory :
     (plus : Bool) (ctx : Context) (parent handle size offset space : ℕ)
     → List Event → List ℕ → Result ℕ (Option ℕ) → Type 0
-IsDirectory plus ctx parent handle size offset space events body result =
-    IsUnopened (Readdir ctx parent handle size offset) events body result
-    ⊎ IsOpened plus (Readdir ctx parent handle size offset) ctx parent size space events body result
+IsDirectory plus ctx parent handle size offset space events records result =
+    IsUnopened (Readdir ctx parent handle size offset) events records result
+    ⊎ IsOpened plus (Readdir ctx parent handle size offset) ctx parent size space events records result

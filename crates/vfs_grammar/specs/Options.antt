@@ -18,8 +18,8 @@ pub record AreAgreed (offered options : ℕ) : Type 0 where
   pub supported_too :
       (k : ℕ) → bit_at offered k ≡ 1 → bit_at supported_fs_options k ≡ 1 → bit_at options k ≡ 1
 
--- The options after a call with this answer: INIT's are those agreed, DESTROY leaves none, and
--- every other call keeps the old ones.
+-- The options after a call with this answer: those agreed after an INIT that was answered, none
+-- after DESTROY, and the old ones after every other call, an INIT that failed too.
 abbrev pub options_after : Call → Answer → (options : ℕ) → ℕ
 options_after (Init offered) (Options want) options = agreed offered want
 options_after Destroy answer options = 0

@@ -36,7 +36,7 @@ pub record Echo : Type 0 where
   pub max_readahead : ℕ
   pub ctx : Context
 
--- what is kept of every request but INIT
+-- what is kept of a request; INIT adds its read-ahead
 abbrev pub echo_of : InHeader → Echo
 echo_of h = record { unique = h.unique; max_readahead = 0; ctx = context_of h }
 
@@ -70,8 +70,8 @@ attr_out_of attr timeout = record {
 }
 
 -- what was opened, as OPEN, OPENDIR and CREATE reply it: handle 0 where there is none
-abbrev pub open_out_of : (handle : Option ℕ) → (options : ℕ) → OpenOut
-open_out_of handle options = record { fh = unwrap_or handle 0; open_flags = options; padding = 0 }
+abbrev pub open_out_of : (handle : Option ℕ) → (opening : ℕ) → OpenOut
+open_out_of handle opening = record { fh = unwrap_or handle 0; open_flags = opening; padding = 0 }
 
 -- how many bytes extended attributes have, as GETXATTR and LISTXATTR reply it
 abbrev pub getxattr_out_of : (length : ℕ) → GetxattrOut
@@ -111,9 +111,9 @@ body_of Done = []
 body_of (Put bytes) = bytes
 body_of (Found entry) = bytes_of entry_out (entry_out_of entry)
 body_of (Attributes attr timeout) = bytes_of attr_out (attr_out_of attr timeout)
-body_of (Opened handle options) = bytes_of open_out (open_out_of handle options)
-body_of (Created entry handle options) =
-    bytes_of entry_out (entry_out_of entry) ++ bytes_of open_out (open_out_of handle options)
+body_of (Opened handle opening) = bytes_of open_out (open_out_of handle opening)
+body_of (Created entry handle opening) =
+    bytes_of entry_out (entry_out_of entry) ++ bytes_of open_out (open_out_of handle opening)
 body_of (Statistics statistics) = bytes_of kstatfs (kstatfs_of statistics)
 body_of (Text bytes) = bytes
 body_of (Count length) = bytes_of getxattr_out (getxattr_out_of length)
@@ -127,8 +127,8 @@ answer_reply body unique (Failed fault) = fault_reply fault unique
 answer_reply body unique _ = body_reply body unique
 
 -- What comes back of a call of this kind, but INIT, with this answer: nothing of one that answers
--- nothing, and where one was done of which only a fault is told; data, behind which the room is
--- open; and else the reply.
+-- nothing, and where one was done of which only a fault is told; of READ and of a directory the
+-- reply, a fault too, behind which the room is open; and else the reply.
 abbrev pub reply_to : (unique : ℕ) → Kind → Answer → Reply
 reply_to unique Quiet answer = NoReply
 reply_to unique Untold Done = NoReply

@@ -4,7 +4,7 @@ use Rattle.vfs_grammar.specs.Reply.{Reply, Refusal, NoReply, Bytes, OpenBehind}
 use Rattle.vfs_grammar.specs.declared.error.Error.{Error}
 use Rattle.vfs_grammar.specs.declared.error.Error.TheVariants.{EncodeMessage}
 
--- a reply that fits is answered by its length, another by a refusal
+-- the outcome of a reply that fits is its length, that of another is EncodeMessage
 abbrev pub put_outcome : (reply room : List ℕ) → Result ℕ Error
 put_outcome reply room =
     if nat_le (length reply) (length room) then Ok (length reply) else Err EncodeMessage
@@ -29,20 +29,20 @@ pub record IsPutOpen (reply room : List ℕ) (outcome : Result ℕ Error) (room_
   pub begins : take (length reply) room_after ≡ reply
   pub same_length : length room_after ≡ length room
 
--- The rule of rooms: what comes back, of this room, by this outcome, and with these bytes in the
--- room afterwards.
+-- The rule of rooms: what comes back, put into this room, has this outcome and leaves these bytes
+-- there.
 abbrev pub IsReplied : Reply → (room : List ℕ) → Result ℕ Error → (room_after : List ℕ) → Type 0
 IsReplied (Refusal error) room outcome room_after = (outcome ≡ Err error) × (room_after ≡ room)
 IsReplied NoReply room outcome room_after = (outcome ≡ Ok 0) × (room_after ≡ room)
 IsReplied (Bytes reply) room outcome room_after = IsPut reply room outcome room_after
 IsReplied (OpenBehind reply) room outcome room_after = IsPutOpen reply room outcome room_after
 
--- whether what comes back fits into so much space
-abbrev pub fits : (space : ℕ) → Reply → Bool
-fits space (Bytes reply) = nat_le (length reply) space
-fits space _ = true
+-- whether what comes back fits into a room of this length
+abbrev pub fits : (room_len : ℕ) → Reply → Bool
+fits room_len (Bytes reply) = nat_le (length reply) room_len
+fits room_len _ = true
 
 -- the node of an entry that a client doesn't get to see: of one whose reply doesn't fit
-abbrev pub unseen : (space : ℕ) → Reply → Option ℕ → Option ℕ
-unseen space reply None = None
-unseen space reply (Some node) = if fits space reply then None else Some node
+abbrev pub unseen : (room_len : ℕ) → Reply → Option ℕ → Option ℕ
+unseen room_len reply None = None
+unseen room_len reply (Some node) = if fits room_len reply then None else Some node

@@ -25,10 +25,10 @@ counted node = if node == 0 then None else Some node
 -- the node of the entry in an answer of this kind, where there is one and its lookups are counted
 abbrev pub node_answered : Kind → Answer → Option ℕ
 node_answered Entries (Found entry) = counted entry.inode
-node_answered Creations (Created entry handle options) = counted entry.inode
+node_answered Creations (Created entry handle opening) = counted entry.inode
 node_answered _ _ = None
 
--- a request with all that a reader of the bytes and of the calls sees of it
+-- a request with what is seen of it from outside
 pub record Turn : Type 0 where
   pub request : List ℕ
   pub room : List ℕ
@@ -38,8 +38,9 @@ pub record Turn : Type 0 where
 
 -- What follows in a turn from a request that asks this, with the options before and after it. One
 -- that is ended has no call. One that asks a call has this, with an answer of its kind; an entry in
--- it whose reply doesn't fit is given back. A directory's records are replied as the data of a READ
--- are. One that wants memory follows with it, or is refused for want of it, and has no call.
+-- it whose reply doesn't fit is given back, unless its node is 0. A directory's records are replied
+-- as the data of a READ are. One that wants memory follows with it, or is refused for want of it,
+-- and has no call.
 abbrev pub Follows : Turn → Limits → (options : ℕ) → Ask → (after : ℕ) → Type 0
 Follows t limits options (Ends reply) after =
     (t.events ≡ []) × IsReplied reply t.room t.outcome t.room_after × (after ≡ options)
@@ -62,7 +63,7 @@ Follows t limits options (WithMemory rest) after =
     ⊎ ((t.events ≡ []) × IsReplied (Refusal OutOfMemory) t.room t.outcome t.room_after
     × (after ≡ options))
 
--- a turn: what follows from what its request asks, where there is so much space for the reply
+-- a turn: what follows from what its request asks, by its bytes and the length of its room
 abbrev pub IsTurn : Limits → (options : ℕ) → Turn → (after : ℕ) → Type 0
 IsTurn limits options t after =
     Follows t limits options (ask limits options (length t.room) t.request) after

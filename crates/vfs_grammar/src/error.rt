@@ -33,10 +33,10 @@ pub enum Error {
     /// The `size` of a SETXATTR, and the length of its value, which differ.
     #[error("the size of an extended attribute is said to be {}, and its value has {} bytes", .0.0, .0.1)]
     InvalidXattrSize((u32, usize)),
-    /// A security context was agreed on, and the request has none.
+    /// Security contexts were agreed on, and the request has no block of them.
     #[error("the request lacks the security context that was agreed on")]
     MissingExtension,
-    /// A tail or a list could not be copied for want of memory. No call was made.
+    /// A tail, a list or a security context could not be copied for want of memory. No call was made.
     #[error("out of memory")]
     OutOfMemory,
 }

@@ -9,7 +9,7 @@ use Rattle.vfs_grammar.specs.Books.{KeepsBooks}
 use Rattle.vfs_grammar.specs.declared.limits.Limits.{Limits}
 use Rattle.vfs_grammar.specs.declared.error.Error.{Error}
 use Rattle.vfs_server.specs.Step.{ServerState, IsStep, turn_over}
-use Rattle.vfs_history.specs.History.{Handled, Changed, turns_in, turn_of_end, IsHandled, IsHistory, Begins, GoesOn, GoesOnChanged, GoesOnEnded, HasOneRun, HasTurns, HeldCountsStay, HistoriesJoin, HistoriesKeepBooks, IsCut}
+use Rattle.vfs_history.specs.History.{Handled, Changed, turns_in, turn_of_end, IsHandled, IsHistory, Begins, GoesOn, GoesOnChanged, GoesOnEnded, HasOneRun, HasTurns, HeldCountsStay, HistoriesJoin, HistoriesKeepBooks, HistoriesSplit}
 use Rattle.vfs_history.proofs.Counts.{never_below_held}
 use Rattle.vfs_history.proofs.Ending.{is_end}
 
@@ -66,7 +66,7 @@ module _ {S I : Type 0} (allows : S → Call → Handed I → S → Type 0)
       join first old new ms (Handled turn_of_end ∷ []) h
       (new, is_end allows gives old new called none same, refl)
 
-  pub is_cut : IsCut allows gives
+  pub is_cut : HistoriesSplit allows gives
   is_cut first last [] after h = (first, refl, h)
   is_cut first last (Handled t ∷ ms) after h =
       let r = is_cut h.0 last ms after h.2 in (r.0, (h.0, h.1, r.1), r.2)

@@ -8,7 +8,7 @@ use Rattle.vfs_server.specs.Served.{room_of}
 use Rattle.vfs_server.specs.Step.{ServerState, IsStep}
 use Rattle.vfs_server.specs.declared.transport.error.ServeError.TheVariants.{OutOfMemory, Segments, Server, FileSystem}
 use Rattle.vfs_history.specs.History.{turn_of, IsHistory}
-use Rattle.vfs_history.specs.Serving.{IsServed, GoesOnServed}
+use Rattle.vfs_history.specs.Serving.{IsTurnOf, GoesOnServed}
 use Rattle.vfs_history.proofs.Going.{goes_on}
 
 module _ {S I : Type 0} (allows : S → Call → Handed I → S → Type 0)
@@ -16,7 +16,7 @@ module _ {S I : Type 0} (allows : S → Call → Handed I → S → Type 0)
   is_served : (old : ServerState S) (request : List ℕ) (size : ℕ) (outcome : Result ℕ Error)
       (after : Written) (new : ServerState S)
       → (step : IsStep allows gives old request (room_of size) outcome after new)
-      → IsServed request size outcome
+      → IsTurnOf request size outcome
       (turn_of allows gives old request (room_of size) outcome after new step)
   is_served old request size outcome after new step =
       record { asked = refl; room = append-nil (replicate size 0); came = refl }

@@ -118,8 +118,8 @@ module _ {S I : Type 0}
       → IsHistory first (before ++ after) last
 
   -- a history is two, wherever it is cut
-  abbrev pub IsCut : Type 0
-  IsCut =
+  abbrev pub HistoriesSplit : Type 0
+  HistoriesSplit =
       (first last : ServerState S) (before after : List (Moment S))
       → IsHistory first (before ++ after) last
       → (middle : ServerState S) × IsHistory first before middle × IsHistory middle after last

@@ -13,7 +13,7 @@ use Rattle.vfs_server.specs.declared.transport.error.ServeError.TheVariants.{Out
 use Rattle.vfs_history.specs.History.{Moment, Handled, IsHistory}
 
 -- the turn of a request that came as these bytes, with a room of so many zeros, and had this outcome
-pub record IsServed (request : List ℕ) (size : ℕ) (outcome : Result ℕ Error) (t : Turn) : Type 0 where
+pub record IsTurnOf (request : List ℕ) (size : ℕ) (outcome : Result ℕ Error) (t : Turn) : Type 0 where
   pub asked : t.request ≡ request
   pub room : t.room ≡ replicate size 0
   pub came : t.outcome ≡ outcome
@@ -22,26 +22,26 @@ module _ {S I : Type 0} (allows : S → Call → Handed I → S → Type 0)
     (gives : I → Option Item → I → Type 0) (first : ServerState S) (moments : List (Moment S))
     (request : List ℕ) (size : ℕ) where
   -- a turn more, whose reply these bytes are
-  pub record IsReplied (reply : List ℕ) (new : ServerState S) : Type 0 where
+  pub record AddsReply (reply : List ℕ) (new : ServerState S) : Type 0 where
     pub t : Turn
     pub len : ℕ
-    pub served : IsServed request size (Ok len) t
+    pub served : IsTurnOf request size (Ok len) t
     pub bytes : reply ≡ take len t.room_after
     pub history : IsHistory allows gives first (moments ++ Handled t ∷ []) new
 
   -- a turn more, which was refused with this error
-  pub record IsRefused (error : Error) (new : ServerState S) : Type 0 where
+  pub record AddsRefusal (error : Error) (new : ServerState S) : Type 0 where
     pub t : Turn
-    pub served : IsServed request size (Err error) t
+    pub served : IsTurnOf request size (Err error) t
     pub history : IsHistory allows gives first (moments ++ Handled t ∷ []) new
 
   -- a turn more, or, if the request was not handed on, the same history
-  abbrev pub IsServedOn : Result (Vec ℕ Global) ServeError → (new : ServerState S) → Type 0
-  IsServedOn (Ok reply) new = IsReplied reply.items new
-  IsServedOn (Err OutOfMemory) new = IsHistory allows gives first moments new
-  IsServedOn (Err (Segments error)) new = IsHistory allows gives first moments new
-  IsServedOn (Err (Server error)) new = IsRefused error new
-  IsServedOn (Err (FileSystem fault)) new = ⊥
+  abbrev pub AddsServed : Result (Vec ℕ Global) ServeError → (new : ServerState S) → Type 0
+  AddsServed (Ok reply) new = AddsReply reply.items new
+  AddsServed (Err OutOfMemory) new = IsHistory allows gives first moments new
+  AddsServed (Err (Segments error)) new = IsHistory allows gives first moments new
+  AddsServed (Err (Server error)) new = AddsRefusal error new
+  AddsServed (Err (FileSystem fault)) new = ⊥
 
 -- a history goes on by each request that is served
 abbrev pub GoesOnServed : {S I : Type 0} → (S → Call → Handed I → S → Type 0)
@@ -51,4 +51,4 @@ GoesOnServed {S} allows gives =
     (result : Result (Vec ℕ Global) ServeError)
     → IsHistory allows gives first moments old
     → Served allows gives old request size result new
-    → IsServedOn allows gives first moments request size result new
+    → AddsServed allows gives first moments request size result new

@@ -1,6 +1,6 @@
 //! What holds of every history of a server over any file system.
 
-ghost use Rattle.vfs_history.specs.History.{Begins, GoesOn, GoesOnChanged, GoesOnEnded, HasOneRun, HasTurns, HeldCountsStay, HistoriesJoin, HistoriesKeepBooks, IsCut};
+ghost use Rattle.vfs_history.specs.History.{Begins, GoesOn, GoesOnChanged, GoesOnEnded, HasOneRun, HasTurns, HeldCountsStay, HistoriesJoin, HistoriesKeepBooks, HistoriesSplit};
 ghost use Rattle.vfs_history.specs.Serving.{GoesOnServed};
 ghost use Rattle.vfs_history.specs.Sessions.{SessionsAreHistories};
 
@@ -30,7 +30,7 @@ pub fn histories_join<F: FileSystem>()
 
 /// A history is cut in two at any of its moments.
 pub fn history_is_cut<F: FileSystem>()
-    ensures { IsCut F.allows F.DirIter.gives }
+    ensures { HistoriesSplit F.allows F.DirIter.gives }
 {}
 
 /// The turns of a history are in order, and the limits stay. If nobody but the server changed the file

@@ -9,7 +9,7 @@ use Rattle.vfs_grammar.specs.Listing.{given_back}
 use Rattle.vfs_grammar.specs.Reply.{Reply}
 use Rattle.vfs_grammar.specs.Room.{unseen}
 use Rattle.vfs_grammar.specs.Turn.{counted, node_answered}
-use Rattle.vfs_grammar.specs.Books.{times, counts, entry_node, answered_nodes, forgets_of, answered, sent}
+use Rattle.vfs_grammar.specs.Books.{times, forgotten, entry_node, answered_nodes, forgets_of, answered, sent}
 use Rattle.vfs_laws.proofs.ListedNodes.{no_node}
 use Rattle.vfs_laws.proofs.Replying.{LastOnly, one_event}
 use Rattle.vfs_laws.proofs.Saying.{AreForgets}
@@ -61,6 +61,6 @@ call_last n ctx kind c answer room reply events none e = record {
   front = Called c answer ∷ [];
   last = given_back ctx (unseen room reply (node_answered kind answer));
   are = e;
-  none = zero-add _ ∙ ap (counts n) none;
+  none = zero-add _ ∙ ap (forgotten n) none;
   short = back_short ctx (unseen room reply (node_answered kind answer));
 }

@@ -88,6 +88,10 @@ lookup_past_the_end : ask usual 0 144 (header 44 1 9 1 ++ (0x61 ∷ 0 ∷ [])) �
 unfolding number little opcode_of
 lookup_past_the_end = refl
 
+bytes_behind_len_are_ignored : ask usual 0 144 (header 42 1 9 1 ++ (0x61 ∷ 0 ∷ 0x62 ∷ [])) ≡ WithMemory (Asks (echo 9) (call.Lookup nobody 1 (0x61 ∷ [])))
+unfolding number little opcode_of
+bytes_behind_len_are_ignored = refl
+
 lookup_of_the_empty_name : ask usual 0 144 (header 41 1 9 1 ++ (0 ∷ [])) ≡ WithMemory (Asks (echo 9) (call.Lookup nobody 1 []))
 unfolding number little opcode_of
 lookup_of_the_empty_name = refl
@@ -117,6 +121,11 @@ init_of_everything = refl
 init_of_7_26 : ask usual 0 80 (header 56 26 1 0 ++ ((four 7 ++ four 26) ++ zeros 8)) ≡ said_so (((16 ∷ zeros 3) ++ (0xb9 ∷ 0xff ∷ 0xff ∷ 0xff ∷ [])) ++ (1 ∷ zeros 7))
 unfolding number little opcode_of
 init_of_7_26 = refl
+
+-- the second record is read before the version is judged
+init_of_7_26_without_its_second_record : ask usual 0 80 (header 56 26 1 0 ++ ((four 7 ++ four 26) ++ (four 0 ++ four 0x40000000))) ≡ refused DecodeMessage
+unfolding number little opcode_of
+init_of_7_26_without_its_second_record = refl
 
 init_of_8_0 : ask usual 0 80 (header 56 26 1 0 ++ (four 8 ++ zeros 12)) ≡ said_so ((((0x50 ∷ zeros 7) ++ (1 ∷ zeros 7)) ++ (four 7 ++ four 38)) ++ zeros 56)
 unfolding number little opcode_of
@@ -440,6 +449,42 @@ unfolding number little opcode_of
 rename2_with_four_flags = refl
 
 -- SETXATTR of the name a and the value 1 2, without SETXATTR_EXT and with it: then the record is 16 bytes
+rmdir : ask usual 0 16 (header 42 11 9 1 ++ (0x61 ∷ 0 ∷ [])) ≡ WithMemory (Asks (echo 9) (call.Rmdir nobody 1 (0x61 ∷ [])))
+unfolding number little opcode_of
+rmdir = refl
+
+removexattr : ask usual 0 16 (header 42 24 9 1 ++ (0x61 ∷ 0 ∷ [])) ≡ WithMemory (Asks (echo 9) (call.Removexattr nobody 1 (0x61 ∷ [])))
+unfolding number little opcode_of
+removexattr = refl
+
+setlk : ask usual 0 16 (header 40 32 9 1) ≡ Asks (echo 9) call.Setlk
+unfolding number little opcode_of
+setlk = refl
+
+setlkw : ask usual 0 16 (header 40 33 9 1) ≡ Asks (echo 9) call.Setlkw
+unfolding number little opcode_of
+setlkw = refl
+
+bmap : ask usual 0 16 (header 40 37 9 1) ≡ Asks (echo 9) call.Bmap
+unfolding number little opcode_of
+bmap = refl
+
+ioctl : ask usual 0 16 (header 40 39 9 1) ≡ Asks (echo 9) call.Ioctl
+unfolding number little opcode_of
+ioctl = refl
+
+poll : ask usual 0 16 (header 40 40 9 1) ≡ Asks (echo 9) call.Poll
+unfolding number little opcode_of
+poll = refl
+
+notify_reply : ask usual 0 16 (header 40 41 9 1) ≡ Asks (echo 9) call.NotifyReply
+unfolding number little opcode_of
+notify_reply = refl
+
+removemapping : ask usual 0 16 (header 40 49 9 0) ≡ said_so (((16 ∷ zeros 3) ++ (0xda ∷ 0xff ∷ 0xff ∷ 0xff ∷ [])) ++ (9 ∷ zeros 7))
+unfolding number little opcode_of
+removemapping = refl
+
 setxattr : ask usual 0 16 (header 52 21 9 3 ++ ((four 2 ++ four 1) ++ (0x61 ∷ 0 ∷ 1 ∷ 2 ∷ []))) ≡ WithMemory (Asks (echo 9) (call.Setxattr nobody 3 (0x61 ∷ []) (1 ∷ 2 ∷ []) 1 0))
 unfolding number little opcode_of
 setxattr = refl
@@ -451,6 +496,10 @@ setxattr_with_further_flags = refl
 setxattr_of_another_size : ask usual 0 16 (header 56 21 9 1 ++ ((four 2 ++ four 0) ++ (0x75 ∷ 0x73 ∷ 0x65 ∷ 0x72 ∷ 0x2e ∷ 0x78 ∷ 0 ∷ 0x76 ∷ []))) ≡ WithMemory (refused (InvalidXattrSize (2, 1)))
 unfolding number little opcode_of
 setxattr_of_another_size = refl
+
+setxattr_of_a_longer_value : ask usual 0 16 (header 52 21 9 3 ++ ((four 1 ++ four 1) ++ (0x61 ∷ 0 ∷ 1 ∷ 2 ∷ []))) ≡ WithMemory (refused (InvalidXattrSize (1, 2)))
+unfolding number little opcode_of
+setxattr_of_a_longer_value = refl
 
 setxattr_whose_record_takes_its_name : ask usual 0x20000000 16 (header 56 21 9 1 ++ ((four 2 ++ four 0) ++ (0x75 ∷ 0x73 ∷ 0x65 ∷ 0x72 ∷ 0x2e ∷ 0x78 ∷ 0 ∷ 0x76 ∷ []))) ≡ WithMemory (refused MissingParameter)
 unfolding number little opcode_of

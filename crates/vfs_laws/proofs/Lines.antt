@@ -58,7 +58,7 @@ one_file ctx parent size body result h =
       | inl ended ↦ one_line ctx parent file_a h.lines h.got ended
       | inr full ↦ absurd (not_full ctx parent file_a h.lines full.last full.got full.events_are)
     ] in
-    let is : body ≡ record_of_a = h.body_is ∙ lines ∙ record_of_a_is in
+    let is : body ≡ record_of_a = h.records_are ∙ lines ∙ record_of_a_is in
     let long : length body ≡ 32 = ap length is in
     (is, h.answer_is ∙ ap Ok long, omega (arith, long, h.within))
 
@@ -194,7 +194,7 @@ dot_and_file ctx parent size entry body result h =
       | inl ended ↦ both_lines ctx parent entry h.lines End h.got tt ended
       | inr full ↦ both_lines ctx parent entry h.lines (At full.last) h.got full.got full.events_are
     ] in
-    let is = h.body_is ∙ lines in
+    let is = h.records_are ∙ lines in
     let long = length-append (entry_of_dot ++ record_of_dot) (record_bytes (Some entry) file_a) in
     let one = length-record_bytes (Some entry) file_a in
     let total : length body ≡ 320 = ap length is ∙ omega (arith, long, one) in
@@ -258,7 +258,7 @@ module _ (ctx : Context) (parent n : ℕ) where
 
 pub dot_is_given_back : (ctx : Context) (parent size n : ℕ) (body : List ℕ) (result : Result ℕ (Option ℕ))
     → IsWhole true ctx parent size (dot_back ctx parent n) body result → (n ≡ 0) × (body ≡ []) × (size < 160)
-dot_is_given_back ctx parent size n body result h = dot_back_by ctx parent n size h.lines body h.body_is h.ends
+dot_is_given_back ctx parent size n body result h = dot_back_by ctx parent n size h.lines body h.records_are h.ends
 
 pub dot_back_goes_on : (ctx : Context) (parent n : ℕ) → All GoesOn (dot_back ctx parent n)
 dot_back_goes_on ctx parent n =
@@ -275,7 +275,7 @@ pub refused_is : (plus : Bool) (ctx : Context) (parent handle size offset room :
 refused_is plus ctx parent handle size offset room body result (inl u) =
     let are = u.events_are in
     let same : u.fault ≡ Some 13 = cc in
-    (u.body_is, u.answer_is ∙ ap Err same)
+    (u.records_are, u.answer_is ∙ ap Err same)
 refused_is plus ctx parent handle size offset room body result (inr o) = let are = o.events_are in absurd cc
 
 module _ (ctx : Context) (parent size room : ℕ) where
@@ -313,4 +313,4 @@ pub first_lookup_fails : (ctx : Context) (parent size room : ℕ) (body : List �
     → (body ≡ []) × (result ≡ Err (Some 2))
 first_lookup_fails ctx parent size room body result h =
     let f = first_by ctx parent size room h.lines h.stop h.written h.stops h.events_are in
-    (h.body_is ∙ f.0, h.answer_is ∙ f.1)
+    (h.records_are ∙ f.0, h.answer_is ∙ f.1)

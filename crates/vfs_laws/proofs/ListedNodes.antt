@@ -200,7 +200,7 @@ fault_delivers true ctx parent size room n events body g h =
     let zero = stop_fault size room (sum_by line_len h.lines) h.stop g h.answer_is in
     let least = lines_least true size room 0 h.lines h.written in
     let none : h.lines ≡ [] = no_lines h.lines (omega (arith, zero, least)) in
-    let empty : body ≡ [] = h.body_is ∙ ap (λ (ls : List Line). flat_map line_bytes ls) none in
+    let empty : body ≡ [] = h.records_are ∙ ap (λ (ls : List Line). flat_map line_bytes ls) none in
     ap (λ (b : List ℕ). times n (nodes_in b)) empty
 
 -- ---- a turn

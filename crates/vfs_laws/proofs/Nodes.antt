@@ -157,5 +157,5 @@ pub nodes_in-listing :
 nodes_in-listing {ctx} {parent} {size} {room} {events} {body} {result} h =
     let many = lines_least true size room 0 h.lines h.written in
     let long = length-lines true size room 0 h.lines h.written in
-    ap nodes_in h.body_is ∙ nodes_of-lines size room 0 (length (flat_map line_bytes h.lines))
+    ap nodes_in h.records_are ∙ nodes_of-lines size room 0 (length (flat_map line_bytes h.lines))
     h.lines h.written (omega (arith, many, long))

@@ -7,7 +7,7 @@ use Rattle.vfs_wire.specs.FieldLaws.{value_of-take}
 use Rattle.vfs_wire.specs.Records.{ext_header}
 use Rattle.vfs_wire.specs.declared.extensions.ExtHeader.{ExtHeader}
 use Rattle.vfs_grammar.specs.Extensions.{Block, Cut, block_in, block_size, cut_on, cut_of_most, cut_of, error_or}
-use Rattle.vfs_laws.specs.Extensions.{IsBlock, IsCut, error_of, fault_of}
+use Rattle.vfs_laws.specs.Extensions.{IsBlock, IsCut, error_of, error_left}
 use Rattle.vfs_grammar.specs.declared.error.Error.{Error}
 use Rattle.vfs_grammar.specs.declared.error.Error.TheVariants.{DecodeMessage, InvalidHeaderLength}
 use Rattle.vfs_grammar.proofs.Blocks.{HasBlock, block_in-has}
@@ -74,10 +74,10 @@ block_is-in bytes b is =
 
 -- this is how the bytes are cut
 abbrev IsWell : (bytes : List ℕ) → Cut → Type 0
-IsWell bytes cut = (rest : List ℕ) × IsCut bytes cut.blocks rest × (cut.fault ≡ fault_of rest)
+IsWell bytes cut = (rest : List ℕ) × IsCut bytes cut.blocks rest × (cut.error ≡ error_left rest)
 
 -- nothing is cut into nothing
-nothing_is-well : IsWell [] (record { blocks = []; fault = None })
+nothing_is-well : IsWell [] (record { blocks = []; error = None })
 nothing_is-well = (
   [],
   (
@@ -119,7 +119,7 @@ cut_of_most-is (suc n) (b ∷ bytes) h =
 
 -- bytes are cut
 pub cut_of-is : (bytes : List ℕ)
-    → (rest : List ℕ) × IsCut bytes (cut_of bytes).blocks rest × ((cut_of bytes).fault ≡ fault_of rest)
+    → (rest : List ℕ) × IsCut bytes (cut_of bytes).blocks rest × ((cut_of bytes).error ≡ error_left rest)
 unfolding cut_of
 cut_of-is bytes = cut_of_most-is (length bytes) bytes (omega arith)
 

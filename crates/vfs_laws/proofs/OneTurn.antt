@@ -17,7 +17,7 @@ use Rattle.vfs_grammar.specs.declared.error.Error.TheVariants.{EncodeMessage, Ou
 use Rattle.vfs_grammar.proofs.Rooms.{length-fault_reply, length-body_reply}
 use Rattle.vfs_laws.proofs.Unseen.{unseen-whole, unseen-unfit}
 use Rattle.vfs_grammar.specs.Nodes.{u64_at}
-use Rattle.vfs_grammar.specs.Books.{times, counts, opcode_in, answered_nodes, forgets_of, delivered_nodes, answered_by, sent_by, answered, sent}
+use Rattle.vfs_grammar.specs.Books.{times, forgotten, opcode_in, answered_nodes, forgets_of, delivered_nodes, answered_by, sent_by, answered, sent}
 use Rattle.vfs_laws.proofs.Backs.{back_answered, nodes_back, call_last}
 use Rattle.vfs_laws.proofs.Decoding.{delivered_nodes-fault, delivered_nodes-body, u64_at-body}
 use Rattle.vfs_laws.proofs.ListedNodes.{directory_books, directory_last}
@@ -59,7 +59,7 @@ module _ (n : ℕ) (t : Turn) where
       → IsReplied reply t.room t.outcome t.room_after → Balances n t
   end_books (Refusal e) fits none p = refused_books n t e none p.0
   end_books NoReply fits none p =
-      done_books n t p.0 (ap (answered n) none) (ap (sent n) none ∙ ap (counts n) (sym fits))
+      done_books n t p.0 (ap (answered n) none) (ap (sent n) none ∙ ap (forgotten n) (sym fits))
   end_books (Bytes reply) fits none p =
       reply_books n t reply (put_back reply t.room t.outcome t.room_after p) fits.0 (ap (answered n) none ∙ ap (times n) (sym fits.1))
       (record { whole = λ m o. ap (sent n) none; unfit = λ o. ap (sent n) none ∙ sym (ap (answered n) none) })
@@ -79,7 +79,7 @@ module _ (n : ℕ) (t : Turn) where
         let f : answered n t.events ≡ times n (answered_nodes c answer) = ap (answered n) called ∙ omega (arith, a, b) in
         f ∙ ap (times n) e
 
-    one_sent : sent n t.events ≡ counts n (forgets_of c) + sent n (given_back ctx given)
+    one_sent : sent n t.events ≡ forgotten n (forgets_of c) + sent n (given_back ctx given)
     one_sent = ap (sent n) called ∙ sum_by-cons (sent_by n) (Called c answer) (given_back ctx given)
 
     none_sent : (m : ℕ) → GivesUnseen → t.outcome ≡ Ok m → sent n (given_back ctx given) ≡ 0
@@ -87,7 +87,7 @@ module _ (n : ℕ) (t : Turn) where
 
     sends : forgets_of c ≡ [] → GivesUnseen → SendsBack n t
     sends none g =
-        let nothing : counts n (forgets_of c) ≡ 0 = ap (counts n) none in
+        let nothing : forgotten n (forgets_of c) ≡ 0 = ap (forgotten n) none in
         record {
           whole = λ m o. let s = none_sent m g o in omega (arith, one_sent, nothing, s);
           unfit = λ o. let s = g.unfit o in let a = one_answered (answered_nodes c answer) refl in omega (arith, one_sent, nothing, s, a);
@@ -108,7 +108,7 @@ module _ (n : ℕ) (t : Turn) where
         (one_answered (node_first (has_entry c) body) nodes ∙ ap (times n) (sym decoded)) (sends forgets g)
     said_books unique Unsaid nodes small forgets g back =
         let s = none_sent 0 g back in
-        let asked = ap (counts n) fits.forgets in
+        let asked = ap (forgotten n) fits.forgets in
         done_books n t back (one_answered [] nodes) (omega (arith, one_sent, s, asked))
 
   -- what a request asks

@@ -7,7 +7,7 @@ use Rattle.vfs_grammar.specs.Room.{IsPut}
 use Rattle.vfs_grammar.specs.Turn.{Turn}
 use Rattle.vfs_grammar.specs.declared.error.Error.{Error}
 use Rattle.vfs_grammar.specs.declared.error.Error.TheVariants.{EncodeMessage}
-use Rattle.vfs_grammar.specs.Books.{times, counts, opcode_in, forgets_in, delivered_nodes, answered, sent, delivered_by, delivered, accepted_by, accepted}
+use Rattle.vfs_grammar.specs.Books.{times, forgotten, opcode_in, forgets_in, delivered_nodes, answered, sent, delivered_by, delivered, accepted_by, accepted}
 
 -- ---- what came back
 
@@ -61,10 +61,10 @@ module _ (n : ℕ) (t : Turn) where
 
   -- a request that is done without a reply: what was sent is what its bytes give back
   pub done_books : t.outcome ≡ Ok 0 → answered n t.events ≡ 0
-      → sent n t.events ≡ counts n (forgets_in (opcode_in t.request) t.request) → Balances n t
+      → sent n t.events ≡ forgotten n (forgets_in (opcode_in t.request) t.request) → Balances n t
   done_books o e s =
       let d : delivered n t ≡ 0 = ap (λ r. delivered_by n (opcode_in t.request) r t.room_after) o in
-      let a : accepted n t ≡ counts n (forgets_in (opcode_in t.request) t.request) = ap (λ r. accepted_by n t.request r) o in
+      let a : accepted n t ≡ forgotten n (forgets_in (opcode_in t.request) t.request) = ap (λ r. accepted_by n t.request r) o in
       omega (arith, d, a, e, s)
 
   -- a request that is refused without a call

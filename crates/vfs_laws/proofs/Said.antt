@@ -22,7 +22,7 @@ use Rattle.vfs_files.specs.Runs.{Event, Called}
 use Rattle.vfs_files.specs.declared.entry.Entry.{Entry}
 use Rattle.vfs_grammar.specs.Ask.{ask}
 use Rattle.vfs_grammar.specs.Forms.{Listing, Ask, Ends, Asks, Lists, WithMemory}
-use Rattle.vfs_laws.specs.Turns.{IsAnswered, body_in}
+use Rattle.vfs_laws.specs.Turns.{AnswersWhole, body_in}
 use Rattle.vfs_grammar.specs.Limits.{AreLimits, max_pages}
 use Rattle.vfs_grammar.specs.Options.{agreed, options_after}
 use Rattle.vfs_grammar.specs.Reply.{Bytes, OpenBehind, Echo, reply_of, body_reply, init_out_of, attr_out_of, open_out_of, getxattr_out_of, write_out_of}
@@ -87,7 +87,7 @@ says limits options (Lists echo l) t after call answer f e = listed_says limits 
 says limits options (WithMemory rest) t after call answer (inl f) e = says limits options rest t after call answer f e
 says limits options (WithMemory rest) t after call answer (inr f) e = absurd (let a = sym f.0 ∙ e in cc)
 
-answered_says : (limits : Limits) (options : ℕ) (answer : Answer) (t : Turn) (after : ℕ) → IsAnswered limits options answer t after → Says limits after answer t
+answered_says : (limits : Limits) (options : ℕ) (answer : Answer) (t : Turn) (after : ℕ) → AnswersWhole limits options answer t after → Says limits after answer t
 answered_says limits options answer t after a = says limits options (ask limits options (length t.room) t.request) t after a.call answer a.turn a.called
 
 -- ---- by the answer
@@ -249,7 +249,7 @@ options_small (Init offered) want options a = agreed_small offered want a
 options_small _ want options a = absurd a
 
 module _ (limits : Limits) (options after : ℕ) (t : Turn) where
-  pub flags_said : (want : ℕ) → IsAnswered limits options (Options want) t after
+  pub flags_said : (want : ℕ) → AnswersWhole limits options (Options want) t after
       → (value_of init_out (body_in t.room_after)).flags + 2 ^ 32 * (value_of init_out (body_in t.room_after)).flags2 ≡ after
   unfolding SaidBy
   flags_said want a =
@@ -258,68 +258,68 @@ module _ (limits : Limits) (options after : ℕ) (t : Turn) where
       let s = answered_says limits options (Options want) t after a in
       flags_by limits s.echo after t a.len a.fits s.kind want s.of_kind s.replied (omega (arith, is, small))
 
-  pub max_write_said : (want : ℕ) → IsAnswered limits options (Options want) t after → limits.max_buffer < 256 ^ 4
+  pub max_write_said : (want : ℕ) → AnswersWhole limits options (Options want) t after → limits.max_buffer < 256 ^ 4
       → (value_of init_out (body_in t.room_after)).max_write ≡ limits.max_buffer
   unfolding SaidBy
   max_write_said want a small =
       let s = answered_says limits options (Options want) t after a in
       max_write_by limits s.echo after t a.len a.fits s.kind want s.of_kind s.replied small
 
-  pub max_pages_said : (want : ℕ) → IsAnswered limits options (Options want) t after → AreLimits limits
+  pub max_pages_said : (want : ℕ) → AnswersWhole limits options (Options want) t after → AreLimits limits
       → (value_of init_out (body_in t.room_after)).max_pages ≡ max_pages limits
   unfolding SaidBy
   max_pages_said want a are =
       let s = answered_says limits options (Options want) t after a in
       max_pages_by limits s.echo after t a.len a.fits s.kind want s.of_kind s.replied (pages_fit limits are)
 
-  pub entry_said : (entry : Entry) → IsAnswered limits options (Found entry) t after → value_of entry_out (body_in t.room_after) ≡ entry_out_of entry
+  pub entry_said : (entry : Entry) → AnswersWhole limits options (Found entry) t after → value_of entry_out (body_in t.room_after) ≡ entry_out_of entry
   unfolding SaidBy
   entry_said entry a = let s = answered_says limits options (Found entry) t after a in entry_by limits s.echo after t a.len a.fits s.kind entry s.of_kind s.replied
 
-  pub attributes_said : (attributes : Attr) (timeout : Duration) → IsAnswered limits options (Attributes attributes timeout) t after
+  pub attributes_said : (attributes : Attr) (timeout : Duration) → AnswersWhole limits options (Attributes attributes timeout) t after
       → value_of attr_out (body_in t.room_after) ≡ attr_out_of attributes timeout
   unfolding SaidBy
   attributes_said attributes timeout a =
       let s = answered_says limits options (Attributes attributes timeout) t after a in
       attributes_by limits s.echo after t a.len a.fits s.kind attributes timeout s.of_kind s.replied
 
-  pub opening_said : (handle : Option ℕ) (how : ℕ) → IsAnswered limits options (Opened handle how) t after
+  pub opening_said : (handle : Option ℕ) (how : ℕ) → AnswersWhole limits options (Opened handle how) t after
       → value_of open_out (body_in t.room_after) ≡ open_out_of handle how
   unfolding SaidBy
   opening_said handle how a =
       let s = answered_says limits options (Opened handle how) t after a in
       opening_by limits s.echo after t a.len a.fits s.kind handle how s.of_kind s.replied
 
-  pub creation_said : (entry : Entry) (handle : Option ℕ) (how : ℕ) → IsAnswered limits options (Created entry handle how) t after
+  pub creation_said : (entry : Entry) (handle : Option ℕ) (how : ℕ) → AnswersWhole limits options (Created entry handle how) t after
       → (value_of entry_out (body_in t.room_after) ≡ entry_out_of entry) × (value_of open_out (drop 128 (body_in t.room_after)) ≡ open_out_of handle how)
   unfolding SaidBy
   creation_said entry handle how a =
       let s = answered_says limits options (Created entry handle how) t after a in
       creation_by limits s.echo after t a.len a.fits s.kind entry handle how s.of_kind s.replied
 
-  pub statistics_said : (statistics : Statvfs64) → IsAnswered limits options (Statistics statistics) t after
+  pub statistics_said : (statistics : Statvfs64) → AnswersWhole limits options (Statistics statistics) t after
       → value_of kstatfs (body_in t.room_after) ≡ kstatfs_of statistics
   unfolding SaidBy
   statistics_said statistics a =
       let s = answered_says limits options (Statistics statistics) t after a in
       statistics_by limits s.echo after t a.len a.fits s.kind statistics s.of_kind s.replied
 
-  pub count_said : (size : ℕ) → IsAnswered limits options (Count size) t after → (value_of getxattr_out (body_in t.room_after)).size ≡ size
+  pub count_said : (size : ℕ) → AnswersWhole limits options (Count size) t after → (value_of getxattr_out (body_in t.room_after)).size ≡ size
   unfolding SaidBy
   count_said size a = let s = answered_says limits options (Count size) t after a in count_by limits s.echo after t a.len a.fits s.kind size s.of_kind s.replied
 
-  pub offset_said : (offset : ℕ) → IsAnswered limits options (Offset offset) t after → (value_of lseek_out (body_in t.room_after)).offset ≡ offset
+  pub offset_said : (offset : ℕ) → AnswersWhole limits options (Offset offset) t after → (value_of lseek_out (body_in t.room_after)).offset ≡ offset
   unfolding SaidBy
   offset_said offset a = let s = answered_says limits options (Offset offset) t after a in offset_by limits s.echo after t a.len a.fits s.kind offset s.of_kind s.replied
 
-  pub written_said : (count : ℕ) → IsAnswered limits options (Wrote count) t after → (value_of write_out (body_in t.room_after)).size ≡ count
+  pub written_said : (count : ℕ) → AnswersWhole limits options (Wrote count) t after → (value_of write_out (body_in t.room_after)).size ≡ count
   unfolding SaidBy
   written_said count a = let s = answered_says limits options (Wrote count) t after a in written_by limits s.echo after t a.len a.fits s.kind count s.of_kind s.replied
 
-  pub text_said : (bytes : List ℕ) → IsAnswered limits options (Text bytes) t after → take (length bytes) (body_in t.room_after) ≡ bytes
+  pub text_said : (bytes : List ℕ) → AnswersWhole limits options (Text bytes) t after → take (length bytes) (body_in t.room_after) ≡ bytes
   unfolding SaidBy
   text_said bytes a = let s = answered_says limits options (Text bytes) t after a in text_by limits s.echo after t a.len a.fits s.kind bytes s.of_kind s.replied
 
-  pub data_said : (bytes : List ℕ) → IsAnswered limits options (Put bytes) t after → take (length bytes) (body_in t.room_after) ≡ bytes
+  pub data_said : (bytes : List ℕ) → AnswersWhole limits options (Put bytes) t after → take (length bytes) (body_in t.room_after) ≡ bytes
   unfolding SaidBy
   data_said bytes a = let s = answered_says limits options (Put bytes) t after a in data_by limits s.echo after t a.len a.fits s.kind bytes s.of_kind s.replied

@@ -193,21 +193,21 @@ module _ (plus : Bool) (ctx : Context) (parent size room : ℕ) (events : List E
       → result ≡ answer_of plus size room (sum_by line_len lines) stop → size ≤ room
       → All GoesOn events
       → IsWhole plus ctx parent size events body result
-  whole_by lines End written stops events_are body_is answer_is roomy goes =
-      let long = ap length body_is ∙ length-lines plus size room 0 lines written in
+  whole_by lines End written stops events_are records_are answer_is roomy goes =
+      let long = ap length records_are ∙ length-lines plus size room 0 lines written in
       let within = lines_within plus size room 0 lines written (omega arith) in
       record {
         lines = lines;
         got = got_of_written plus size room 0 lines written;
-        body_is = body_is;
+        records_are = records_are;
         answer_is = answer_is
             ∙ ap Ok (sym long);
         within = omega (arith, long, within);
         ends = inl events_are;
       }
-  whole_by lines (At l) written stops events_are body_is answer_is roomy goes =
+  whole_by lines (At l) written stops events_are records_are answer_is roomy goes =
       let total = sum_by line_len lines in
-      let long : length body ≡ total = ap length body_is
+      let long : length body ≡ total = ap length records_are
       ∙ length-lines plus size room 0 lines written in
       let within = lines_within plus size room 0 lines written (omega arith) in
       let last = All-back GoesOn (flat_map (line_events ctx parent plus) lines)
@@ -217,7 +217,7 @@ module _ (plus : Bool) (ctx : Context) (parent size room : ℕ) (events : List E
       record {
         lines = lines;
         got = got_of_written plus size room 0 lines written;
-        body_is = body_is;
+        records_are = records_are;
         answer_is = answer_is ∙ ap (λ v. answer_at plus total v) full.0 ∙ ap Ok (sym long);
         within = omega (arith, long, within);
         ends = inr (record {
@@ -232,5 +232,5 @@ module _ (plus : Bool) (ctx : Context) (parent size room : ℕ) (events : List E
   -- where the room is at least `size` and nothing cuts the reading short, the directory is whole
   pub listing_whole : IsListing plus ctx parent size room events body result → size ≤ room
       → All GoesOn events → IsWhole plus ctx parent size events body result
-  listing_whole h roomy goes = whole_by h.lines h.stop h.written h.stops h.events_are h.body_is
+  listing_whole h roomy goes = whole_by h.lines h.stop h.written h.stops h.events_are h.records_are
       h.answer_is roomy goes

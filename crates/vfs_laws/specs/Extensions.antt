@@ -86,6 +86,6 @@ error_of (Ok part) = None
 error_of (Err error) = Some error
 
 -- why a rest that begins with no block is refused, where it isn't empty
-abbrev pub fault_of : (rest : List ℕ) → Option Error
-fault_of [] = None
-fault_of (b ∷ rest) = error_of (block_in (b ∷ rest))
+abbrev pub error_left : (rest : List ℕ) → Option Error
+error_left [] = None
+error_left (b ∷ rest) = error_of (block_in (b ∷ rest))

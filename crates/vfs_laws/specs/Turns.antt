@@ -113,7 +113,7 @@ pub record LacksRoomForHeader (options after : ℕ) (t : Turn) : Type 0 where
   pub same_options : after ≡ options
 
 -- a turn whose one call was answered by this, and whose reply fit
-pub record IsAnswered (limits : Limits) (options : ℕ) (answer : Answer) (t : Turn) (after : ℕ)
+pub record AnswersWhole (limits : Limits) (options : ℕ) (answer : Answer) (t : Turn) (after : ℕ)
     : Type 0 where
   pub turn : IsTurn limits options t after
   pub call : Call

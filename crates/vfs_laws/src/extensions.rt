@@ -5,7 +5,7 @@ ghost use Rattle.std.specs.Prelude.{◌≡◌, ◌<◌, ◌^◌, ◌++◌, ℕ, 
 ghost use Rattle.vfs_flags.specs.Flags.{security_ctx, create_supp_group};
 ghost use Rattle.vfs_files.specs.Values.{ExtensionValues};
 ghost use Rattle.vfs_grammar.specs.Extensions.{Block, cut_of, has_option, extensions_after};
-ghost use Rattle.vfs_laws.specs.Extensions.{blocks_of, group_block, FitExtensions, IsCut, fault_of};
+ghost use Rattle.vfs_laws.specs.Extensions.{blocks_of, group_block, FitExtensions, IsCut, error_left};
 
 /// What is found in extensions as they are written is what was written, whatever names stand in
 /// front of them: with a context agreed on, and with a group too where there is one.
@@ -28,7 +28,7 @@ pub fn written_groups_are_found()
 /// Bytes are blocks, one behind the other, and a rest that begins with none, in one way.
 pub fn extensions_are_cut_in_one_way()
     ensures cut { (bytes : List ℕ) → (rest : List ℕ) × IsCut bytes (cut_of bytes).blocks rest
-        × ((cut_of bytes).fault ≡ fault_of rest) }
+        × ((cut_of bytes).error ≡ error_left rest) }
     ensures only { (bytes rest other_rest : List ℕ) (blocks others : List Block) →
         IsCut bytes blocks rest → IsCut bytes others other_rest →
         (blocks ≡ others) × (rest ≡ other_rest) }

@@ -50,7 +50,7 @@ pub fn takings_are_bounded()
         length (takings events) ≤ size / least_record plus + 1 }
 {}
 
-/// Where the room is at least `size`, no lookup fails and no name has 2^32 bytes or more, the
+/// Where the room behind a header is at least `size`, no lookup fails and no name has 2^32 bytes or more, the
 /// records are those of all items taken but of a last one whose record would pass `size`; where
 /// there is no such one, the iterator answered its end.
 pub fn directories_are_whole()

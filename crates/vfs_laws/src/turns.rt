@@ -14,7 +14,7 @@ ghost use Rattle.vfs_files.specs.Runs.{Event, Called};
 ghost use Rattle.vfs_files.specs.declared.entry.Entry.{Entry};
 ghost use Rattle.vfs_grammar.specs.Ask.{ask, ask_number, header_of};
 ghost use Rattle.vfs_grammar.specs.Forms.{Ask, Listing, Lists, Asks, WithMemory, faulted, refused_or, pairs_in};
-ghost use Rattle.vfs_laws.specs.Turns.{IsAnswered, body_in, unique_of, BeginsWithHeader, WantsMemory, behind_header, count_of_pairs, CarriesData, size_asked, cut_turn_tells, LacksRoomForHeader};
+ghost use Rattle.vfs_laws.specs.Turns.{AnswersWhole, body_in, unique_of, BeginsWithHeader, WantsMemory, behind_header, count_of_pairs, CarriesData, size_asked, cut_turn_tells, LacksRoomForHeader};
 ghost use Rattle.vfs_grammar.specs.Books.{opcode_in};
 ghost use Rattle.vfs_grammar.specs.Limits.{default_limits, AreLimits, max_len};
 ghost use Rattle.vfs_grammar.specs.Options.{AreAgreed};
@@ -32,10 +32,10 @@ ghost use Rattle.vfs_grammar.specs.declared.limits.Limits.{Limits};
 /// not.
 pub fn limits_are_kept()
     ensures max_write { (limits : Limits) (options after want : ℕ) (t : Turn) → AreLimits limits →
-        IsAnswered limits options (Options want) t after →
+        AnswersWhole limits options (Options want) t after →
         (value_of init_out (body_in t.room_after)).max_write ≡ limits.max_buffer }
     ensures max_pages { (limits : Limits) (options after want : ℕ) (t : Turn) → AreLimits limits →
-        IsAnswered limits options (Options want) t after →
+        AnswersWhole limits options (Options want) t after →
         (value_of init_out (body_in t.room_after)).max_pages
         ≡ (limits.max_buffer - 1) / limits.page_size + 1 }
     ensures len_within { (limits : Limits) (options space : ℕ) (request : List ℕ) →
@@ -69,7 +69,7 @@ pub fn limits_are_kept()
 pub fn limits_have_their_numbers()
     ensures largest_len { (page_size : ℕ) → max_len (default_limits page_size) ≡ 1_052_672 }
     ensures max_write { (page_size options after want : ℕ) (t : Turn) →
-        IsAnswered (default_limits page_size) options (Options want) t after →
+        AnswersWhole (default_limits page_size) options (Options want) t after →
         (value_of init_out (body_in t.room_after)).max_write ≡ 1_048_576 }
     ensures len_within { (page_size options space : ℕ) (request : List ℕ) → 40 ≤ length request →
         (header_of request).len ≤ 1_052_672 →
@@ -176,7 +176,7 @@ pub fn options_are_agreed()
 /// fits: in its two words of flags together.
 pub fn agreed_options_are_told()
     ensures { (limits : Limits) (options after want : ℕ) (t : Turn) →
-        IsAnswered limits options (Options want) t after →
+        AnswersWhole limits options (Options want) t after →
         (value_of init_out (body_in t.room_after)).flags
         + 2 ^ 32 * (value_of init_out (body_in t.room_after)).flags2 ≡ after }
 {}
@@ -206,36 +206,36 @@ pub fn answers_are_of_their_kind()
 /// its numbers, where the tables of the records have them, or its bytes.
 pub fn replies_say_what_was_answered()
     ensures entry { (limits : Limits) (options after : ℕ) (t : Turn) (entry : Entry) →
-        IsAnswered limits options (Found entry) t after →
+        AnswersWhole limits options (Found entry) t after →
         value_of entry_out (body_in t.room_after) ≡ entry_out_of entry }
     ensures attributes { (limits : Limits) (options after : ℕ) (t : Turn) (attributes : Attr)
-        (timeout : Duration) → IsAnswered limits options (Attributes attributes timeout) t after →
+        (timeout : Duration) → AnswersWhole limits options (Attributes attributes timeout) t after →
         value_of attr_out (body_in t.room_after) ≡ attr_out_of attributes timeout }
     ensures opening { (limits : Limits) (options after : ℕ) (t : Turn) (handle : Option ℕ)
-        (how : ℕ) → IsAnswered limits options (Opened handle how) t after →
+        (how : ℕ) → AnswersWhole limits options (Opened handle how) t after →
         value_of open_out (body_in t.room_after) ≡ open_out_of handle how }
     ensures creation { (limits : Limits) (options after : ℕ) (t : Turn) (entry : Entry)
         (handle : Option ℕ) (how : ℕ) →
-        IsAnswered limits options (Created entry handle how) t after →
+        AnswersWhole limits options (Created entry handle how) t after →
         (value_of entry_out (body_in t.room_after) ≡ entry_out_of entry)
         × (value_of open_out (drop 128 (body_in t.room_after)) ≡ open_out_of handle how) }
     ensures statistics { (limits : Limits) (options after : ℕ) (t : Turn)
-        (statistics : Statvfs64) → IsAnswered limits options (Statistics statistics) t after →
+        (statistics : Statvfs64) → AnswersWhole limits options (Statistics statistics) t after →
         value_of kstatfs (body_in t.room_after) ≡ kstatfs_of statistics }
     ensures count { (limits : Limits) (options after : ℕ) (t : Turn) (size : ℕ) →
-        IsAnswered limits options (Count size) t after →
+        AnswersWhole limits options (Count size) t after →
         (value_of getxattr_out (body_in t.room_after)).size ≡ size }
     ensures offset { (limits : Limits) (options after : ℕ) (t : Turn) (offset : ℕ) →
-        IsAnswered limits options (Offset offset) t after →
+        AnswersWhole limits options (Offset offset) t after →
         (value_of lseek_out (body_in t.room_after)).offset ≡ offset }
     ensures written { (limits : Limits) (options after : ℕ) (t : Turn) (count : ℕ) →
-        IsAnswered limits options (Wrote count) t after →
+        AnswersWhole limits options (Wrote count) t after →
         (value_of write_out (body_in t.room_after)).size ≡ count }
     ensures text { (limits : Limits) (options after : ℕ) (t : Turn) (bytes : List ℕ) →
-        IsAnswered limits options (Text bytes) t after →
+        AnswersWhole limits options (Text bytes) t after →
         take (length bytes) (body_in t.room_after) ≡ bytes }
     ensures put { (limits : Limits) (options after : ℕ) (t : Turn) (bytes : List ℕ) →
-        IsAnswered limits options (Put bytes) t after →
+        AnswersWhole limits options (Put bytes) t after →
         take (length bytes) (body_in t.room_after) ≡ bytes }
 {}
 

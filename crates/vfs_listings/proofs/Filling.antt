@@ -308,7 +308,7 @@ module _ {S I : Type 0} (allows : S → Call → Handed I → S → Type 0)
           written = f.lines_written;
           stops = tt;
           events_are = refl;
-          body_is = refl;
+          records_are = refl;
           answer_is = ap Ok f.count;
         };
         puts = rw (append-nil (flat_map line_bytes f.lines)) f.puts;
@@ -353,7 +353,7 @@ module _ {S I : Type 0} (allows : S → Call → Handed I → S → Type 0)
                 (sym here ∙ e),
           );
           events_are = refl;
-          body_is = refl;
+          records_are = refl;
           answer_is = ap (λ n. answer_at plus n v) f.count
               ∙ ap (λ z. answer_at plus (sum_by line_len f.lines) z) (sym here);
         };

@@ -46,7 +46,7 @@ module _ {S I : Type 0} (allows : S → Call → Handed I → S → Type 0)
     directory = inl (record {
       fault = fault;
       events_are = refl;
-      body_is = refl;
+      records_are = refl;
       answer_is =
           fails.0;
     });

@@ -225,7 +225,7 @@ module _ (l : Listing) where
                   ∙ ap (λ (x : List Event). lines ++ (last_events l.ctx l.parent l.plus t.stop ++ x))
                   (rest_back l.plus came.taken t.lines t.stop all tail taken)
                   ∙ ap (λ (x : List Event). lines ++ x) (stop_is t.stop);
-              body_is = o.body_is ∙ sym (same_bytes t.lines o.lines same.0);
+              records_are = o.records_are ∙ sym (same_bytes t.lines o.lines same.0);
               answer_is = answer;
             };
             fits = c.fits;
@@ -278,7 +278,7 @@ module _ (l : Listing) where
       records = [];
       answer = Err fault;
       is_run = (new, opens, refl);
-      read = inl (record { fault = fault; events_are = refl; body_is = refl; answer_is = refl });
+      read = inl (record { fault = fault; events_are = refl; records_are = refl; answer_is = refl });
       fits = h.0;
       replied = h.1;
       same_options = h.2;
@@ -344,7 +344,7 @@ module _ (limits : Limits) (options : ℕ) (echo : Echo) (l : Listing) (a : Answ
       → (c.answer ≡ Err fault) × (c.records ≡ [])
   fault_by (inl unopened) offered = (
     unopened.answer_is ∙ ap (λ (f : Option ℕ). Err f) (fault_is a.error unopened.fault fault failed.0 offered.0.1 failed.1),
-    unopened.body_is,
+    unopened.records_are,
   )
   fault_by (inr opened) offered = absurd (failed.0 offered.0)
 

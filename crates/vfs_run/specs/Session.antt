@@ -25,7 +25,7 @@ room_for line = unwritten (map zeros (request line).rooms)
 
 -- The requests of lines were handled as one session: readers have their bytes, in order, and writers have
 -- rooms of their lengths, with zeros in them.
-pub record IsAnswered {S I : Type 0} (allows : S → Call → Handed I → S → Type 0)
+pub record IsSessionOf {S I : Type 0} (allows : S → Call → Handed I → S → Type 0)
     (gives : I → Option Item → I → Type 0) (old : ServerState S) (lines : List Line)
     (new : ServerState S) : Type 0 where
   pub readers : List Unread

@@ -4,7 +4,7 @@ ghost use Rattle.std.specs.Prelude.{◌≡◌, map, IfOk, IfErr, IfSome, OnOk};
 ghost use Rattle.std.specs.Io.KnownBytes.{Appends};
 ghost use Rattle.vfs_lines.specs.Lines.{first_limit_of, or_default, IsRunFault};
 ghost use Rattle.vfs_segments.specs.Segments.{segments_of, contents, flat_bytes};
-ghost use Rattle.vfs_run.specs.Session.{IsAnswered, segments_asked, room_for, zeros};
+ghost use Rattle.vfs_run.specs.Session.{IsSessionOf, segments_asked, room_for, zeros};
 
 use crate::answer::answer_line;
 use std::alloc::{AllocError, Global};
@@ -92,7 +92,7 @@ pub fn answers_to<F: FileSystem>(
     server: &mut Server<F>,
     requests: &[Line],
 ) -> Result<String, RunError>
-    ensures session { OnOk result (IsAnswered F.allows F.DirIter.gives
+    ensures session { OnOk result (IsSessionOf F.allows F.DirIter.gives
         server.old requests.now server.new) }
     ensures memory { IfErr result (λ e. e ≡ RunError.OutOfMemory) }
 {

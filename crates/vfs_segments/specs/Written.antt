@@ -1,11 +1,11 @@
--- What a writer is to its callers: the bytes of its room, those passed and those left, a held
--- place, and how the room is cut into segments.
+-- What a writer is to its callers: the bytes that it has passed, those that are left, which are its
+-- room, a held place, and how all of them are cut into segments.
 use Rattle.std.specs.Prelude.{ℕ, ◌≡◌, ◌+◌, List, [], ◌++◌, length, take, drop}
 use Rattle.vfs_segments.specs.Segments.{flat_bytes, lengths_of, with_bytes_at}
 use Rattle.vfs_segments.specs.Lengths.{lengths_before, lengths_from}
 
--- The bytes that a writer has passed, those of its room that are left, and the part of the passed
--- ones that it holds: `held` bytes from place `held_at` on. `lengths` are those of its segments, in
+-- The bytes that a writer has passed, those that are left, and the part of the passed ones that it
+-- holds: `held` bytes from place `held_at` on. `lengths` are those of its segments, in
 -- order.
 pub record Written : Type 0 where
   pub passed : List ℕ

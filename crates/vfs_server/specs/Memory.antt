@@ -31,19 +31,19 @@ WantsNone h u form =
     (λ R layout above count. ⊥) form
 
 -- the same by the opcode; a number that is none is answered without memory
-abbrev pub WantsNoneBehind : Limits → (options space : ℕ) → Option Opcode → InHeader → Unread
+abbrev pub WantsNoneBehind : Limits → (options room_len : ℕ) → Option Opcode → InHeader → Unread
     → Type 0
-WantsNoneBehind limits options space None h u = Unit {0}
-WantsNoneBehind limits options space (Some opcode) h u =
-    WantsNone h u (form_of limits options space h opcode)
+WantsNoneBehind limits options room_len None h u = Unit {0}
+WantsNoneBehind limits options room_len (Some opcode) h u =
+    WantsNone h u (form_of limits options room_len h opcode)
 
 -- no memory is wanted for the request that a reader has left
-abbrev pub WantsNoMemory : Limits → (options space : ℕ) → Unread → Type 0
-WantsNoMemory limits options space u =
-    WantsNoneBehind limits options space (opcode_of (header_of u.left).opcode) (header_of u.left) u
+abbrev pub WantsNoMemory : Limits → (options room_len : ℕ) → Unread → Type 0
+WantsNoMemory limits options room_len u =
+    WantsNoneBehind limits options room_len (opcode_of (header_of u.left).opcode) (header_of u.left) u
 
 -- memory may be wanted for the request that a reader has left
-abbrev pub MayWant : Limits → (options space : ℕ) → Unread → Type 0
-MayWant limits options space u =
-    MayWantBehind limits options space (opcode_of (header_of u.left).opcode) (header_of u.left)
+abbrev pub MayWant : Limits → (options room_len : ℕ) → Unread → Type 0
+MayWant limits options room_len u =
+    MayWantBehind limits options room_len (opcode_of (header_of u.left).opcode) (header_of u.left)
     (lengths_from (size_of in_header) u.pieces)

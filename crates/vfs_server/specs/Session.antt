@@ -11,7 +11,7 @@ use Rattle.vfs_grammar.specs.declared.error.Error.{Error}
 use Rattle.vfs_grammar.specs.declared.error.Error.TheVariants.{OutOfMemory}
 use Rattle.vfs_grammar.specs.Books.{KeepsBooks}
 use Rattle.vfs_server.specs.Memory.{WantsNoMemory}
-use Rattle.vfs_server.specs.Step.{ServerState}
+use Rattle.vfs_handlers.specs.State.{ServerState}
 
 -- A request was served, by this turn, with these options before it and after it: the turn is of the
 -- bytes that its reader has left and of the room that its writer has left. A request that wants no
@@ -37,9 +37,10 @@ AreServed limits options (reader ∷ readers) (writer ∷ writers) (t ∷ turns)
     × AreServed limits mid readers writers turns news after
 AreServed limits options _ _ _ _ after = ⊥
 
--- A session: a run of the file system from its state before to that after, whose events are those
--- of turns in order. By these turns the requests were served in order, and they have these
--- outcomes; the books of every node but 0 are kept over them; and the limits stay.
+-- A session: a run of the file system from its state before to that after, with no iterator at
+-- first, whose events are those of turns in order. By these turns the requests were served in
+-- order, and they have these outcomes; the books of every node but 0 are kept over them; and the
+-- limits stay.
 pub record IsSession {S I : Type 0} (allows : S → Call → Handed I → S → Type 0)
     (gives : I → Option Item → I → Type 0) (old : ServerState S) (readers : List Unread)
     (writers : List Written) (outcomes : List (Result ℕ Error)) (writers_after : List Written)

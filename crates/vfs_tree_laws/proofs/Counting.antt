@@ -4,7 +4,7 @@ use Rattle.std.specs.List.{list_any}
 use Rattle.vfs_files.specs.Values.{Item}
 use Rattle.vfs_files.specs.Calls.{Call, Lookup, Forget, BatchForget, Getattr, Setattr, Symlink, Readlink, Open, Unlink, Rmdir, Rename, Link, Mknod, Mkdir, Create, Read, Write, Fallocate, Setxattr, Getxattr, Listxattr, Removexattr, Statfs, Release, Fsync, Flush, Init, Opendir, Readdir, Releasedir, Fsyncdir, Getlk, Setlk, Setlkw, Access, Bmap, Destroy, Ioctl, Poll, NotifyReply, Lseek, Copyfilerange, Syncfs, Tmpfile, Answer, Plain}
 use Rattle.vfs_files.specs.Runs.{Event, Called, OpenedDirectory, Taken, IsRun}
-use Rattle.vfs_grammar.specs.Books.{answered, sent, answered_by, sent_by, answered_nodes, forgets_of, times, counts, KeepsBooks}
+use Rattle.vfs_grammar.specs.Books.{answered, sent, answered_by, sent_by, answered_nodes, forgets_of, times, forgotten, KeepsBooks}
 use Rattle.vfs_grammar.specs.Turn.{Turn, events_in}
 use Rattle.vfs_history.specs.History.{NeverBelowHeld}
 use Rattle.vfs_tree_laws.specs.Laws.{IsTree, IsHeld, lookups_in, lookups_of, names_of, CallsKeepTrees, ReadingsChangeNothing}
@@ -19,8 +19,8 @@ use Rattle.std.proofs.lemmas.List.Sums.{sum_by-append}
 
 -- no call gives lookups and takes some back
 takes_alone : (n held : ℕ) (call : Call) (answer : Answer)
-    → counts n (forgets_of call) ≤ held + times n (answered_nodes call answer)
-    → counts n (forgets_of call) ≤ held
+    → forgotten n (forgets_of call) ≤ held + times n (answered_nodes call answer)
+    → forgotten n (forgets_of call) ≤ held
 takes_alone n held (Lookup _ _ _) answer within = omega arith
 takes_alone n held (Forget _ _ _) answer within = omega (arith, within)
 takes_alone n held (Getattr _ _ _) answer within = omega arith

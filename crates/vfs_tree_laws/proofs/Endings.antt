@@ -2,7 +2,7 @@
 use Rattle.std.proofs.Common.{◌≡◌, ◌⊎◌, inl, inr, ℕ, true, false, [], None, refl}
 use Rattle.vfs_files.specs.Calls.{Call, Lookup, Forget, Getattr, Setattr, Readlink, Symlink, Mknod, Mkdir, Unlink, Rmdir, Rename, Link, Open, Read, Write, Statfs, Release, Fsync, Setxattr, Getxattr, Listxattr, Removexattr, Flush, Init, Opendir, Readdir, Releasedir, Fsyncdir, Getlk, Setlk, Setlkw, Access, Create, Bmap, Destroy, Ioctl, Poll, NotifyReply, BatchForget, Fallocate, Lseek, Copyfilerange, Syncfs, Tmpfile, Answer, kind_of}
 use Rattle.vfs_files.specs.Runs.{Called}
-use Rattle.vfs_grammar.specs.Books.{counts, answered_nodes, forgets_of}
+use Rattle.vfs_grammar.specs.Books.{forgotten, answered_nodes, forgets_of}
 use Rattle.vfs_grammar.specs.Turn.{node_answered}
 use Rattle.vfs_tree.specs.State.{State}
 use Rattle.vfs_tree.specs.Tree.{held_of}
@@ -13,7 +13,7 @@ use Rattle.vfs_tree_laws.proofs.Cases.{taken_pairs}
 -- a call that takes back what it says
 pub record IsOrdinary (old : State) (call : Call) (answer : Answer) : Type 0 where
   pub goes_on : takes_all (Called call answer) ≡ false
-  pub taken : (n : ℕ) → taken_back old call n ≡ counts n (forgets_of call)
+  pub taken : (n : ℕ) → taken_back old call n ≡ forgotten n (forgets_of call)
   pub pairs : taken_pairs old call ≡ forgets_of call
 
 -- one that takes back all, and answers no entry

@@ -7,7 +7,7 @@ use Rattle.std.proofs.lemmas.Cmp.{nat_cmp_total, tied_itself}
 use Rattle.std.proofs.lemmas.List.Sums.{sum_by-append}
 use Rattle.vfs_files.specs.Values.{Item}
 use Rattle.vfs_files.specs.Calls.{Call, Answer, Handed, Plain, Iterator}
-use Rattle.vfs_grammar.specs.Books.{times, counts, answered_nodes}
+use Rattle.vfs_grammar.specs.Books.{times, forgotten, answered_nodes}
 use Rattle.vfs_tree.specs.Children.{with_child}
 use Rattle.vfs_tree.specs.Node.{new_node}
 use Rattle.vfs_tree.specs.Outcome.{TreeReply, Just, EntryOf, AttrOf, Listed}
@@ -27,8 +27,8 @@ use Rattle.vfs_tree_laws.proofs.Keeping.{there-change, Keeps, keeps_itself, keep
 -- that were taken back
 record Counts (old new : State) (taken : List (ℕ × ℕ)) (given : List ℕ) : Type 0 where
   pub sound : IsSound new
-  pub lookups : (m : ℕ) → counts m taken ≤ lookups_of old m
-      → lookups_of new m + counts m taken ≡ lookups_of old m + times m given
+  pub lookups : (m : ℕ) → forgotten m taken ≤ lookups_of old m
+      → lookups_of new m + forgotten m taken ≡ lookups_of old m + times m given
 
 quiet : (old new : State) → Keeps old new → Counts old new [] []
 quiet old new keeps = record {
@@ -114,22 +114,22 @@ module _ (s : State) (n : ℕ) (node : Node) (parent : ℕ) (name : List ℕ) (s
 -- ---- FORGET
 
 -- so many lookups of a node are taken back
-back_here : (n count m : ℕ) → n ≡ m → counts m ((n, count) ∷ []) ≡ count
+back_here : (n count m : ℕ) → n ≡ m → forgotten m ((n, count) ∷ []) ≡ count
 back_here n count m e = search (rules, tests)
 
-back_other : (n count m : ℕ) → m ≢ n → counts m ((n, count) ∷ []) ≡ 0
+back_other : (n count m : ℕ) → m ≢ n → forgotten m ((n, count) ∷ []) ≡ 0
 back_other n count m apart = search (rules, tests)
 
 record TakesBack (old new : State) (pairs : List (ℕ × ℕ)) : Type 0 where
   pub sound : IsSound new
-  pub lookups : (m : ℕ) → counts m pairs ≤ lookups_of old m
-      → lookups_of new m + counts m pairs ≡ lookups_of old m
+  pub lookups : (m : ℕ) → forgotten m pairs ≤ lookups_of old m
+      → lookups_of new m + forgotten m pairs ≡ lookups_of old m
 
 forgets : (s : State) (n count : ℕ) (o : Option Node) → node_at s n ≡ o → IsSound s
     → TakesBack s (forgotten s n count o) ((n, count) ∷ [])
 forgets s n count None is sound = record {
   sound = sound;
-  lookups = λ m within. at n m (lookups_of s m + counts m ((n, count) ∷ []) ≡ lookups_of s m)
+  lookups = λ m within. at n m (lookups_of s m + forgotten m ((n, count) ∷ []) ≡ lookups_of s m)
       (λ e. let none : lookups_of s m ≡ 0 = ap lookups_in (ap (node_at s) (sym e) ∙ is) in
       omega (arith, none, within))
       (λ apart. omega (arith, back_other n count m apart));
@@ -141,7 +141,7 @@ forgets s n count (Some node) is sound =
     record {
       sound = done.stays;
       lookups = λ m within.
-          at n m (lookups_of new m + counts m ((n, count) ∷ []) ≡ lookups_of s m)
+          at n m (lookups_of new m + forgotten m ((n, count) ∷ []) ≡ lookups_of s m)
           (λ e. let held : lookups_of s m ≡ node.lookups =
           ap lookups_in (ap (node_at s) (sym e) ∙ is) in
           let left : lookups_of new m ≡ node.lookups - count = ap (lookups_of new) (sym e) ∙ done.here in
@@ -151,7 +151,7 @@ forgets s n count (Some node) is sound =
 
 -- the pairs one by one
 taken_more : (m : ℕ) (r : ℕ × ℕ) (rs : List (ℕ × ℕ))
-    → counts m (r ∷ rs) ≡ counts m ((r.0, r.1) ∷ []) + counts m rs
+    → forgotten m (r ∷ rs) ≡ forgotten m ((r.0, r.1) ∷ []) + forgotten m rs
 taken_more m r rs = sum_by-append (λ pair. if pair.0 == m then pair.1 else 0) (r ∷ []) rs
 
 forgets_all : (s : State) (pairs : List (ℕ × ℕ)) → IsSound s
@@ -206,13 +206,13 @@ covers old sound = record {
 
 -- the lookups that a sound state holds of a node are those in its list
 counts_held : (from to n : ℕ) (es : List (ℕ × Node)) → Ascend from es to
-    → counts n (held_of es) ≡ lookups_in (lookup (is_at (nat_cmp n)) es)
+    → forgotten n (held_of es) ≡ lookups_in (lookup (is_at (nat_cmp n)) es)
 counts_held from to n [] a = refl
 counts_held from to n (e ∷ es) a =
     let more = taken_more n (e.0, e.1.lookups) (held_of es) in
     let rest = counts_held (e.0 + 1) to n es a.1 in
     let later = lookup (is_at (nat_cmp n)) es in
-    at e.0 n (counts n (held_of (e ∷ es)) ≡ lookups_in (lookup (is_at (nat_cmp n)) (e ∷ es)))
+    at e.0 n (forgotten n (held_of (e ∷ es)) ≡ lookups_in (lookup (is_at (nat_cmp n)) (e ∷ es)))
     (λ same.
     let none = none_below (e.0 + 1) to n es a.1 (omega (arith, same)) in
     let is : is_at (nat_cmp n) e.0 ≡ true =
@@ -226,12 +226,12 @@ counts_held from to n (e ∷ es) a =
 
 -- what a call takes back, as pairs
 taken_same : (old : State) → IsSound old → (call : Call) (answer : Answer) (n : ℕ)
-    → taken_back old call n ≡ counts n (taken_pairs old call)
+    → taken_back old call n ≡ forgotten n (taken_pairs old call)
 taken_same old sound call answer n =
     ⊎_elim
-    (λ (o : IsOrdinary old call answer). o.taken n ∙ ap (counts n) (sym o.pairs))
+    (λ (o : IsOrdinary old call answer). o.taken n ∙ ap (forgotten n) (sym o.pairs))
     (λ (e : IsEnding old call answer).
-    e.taken n ∙ sym (counts_held 1 old.next n old.nodes sound.ordered) ∙ ap (counts n) (sym e.pairs))
+    e.taken n ∙ sym (counts_held 1 old.next n old.nodes sound.ordered) ∙ ap (forgotten n) (sym e.pairs))
     (which old call answer)
 
 -- the nodes of what a call hands back
@@ -248,7 +248,7 @@ calls_are_sound old new call answer sound =
       λ n within. omega (
         arith,
         ap (λ s. lookups_of s n) same,
-        ap (counts n) fails.0,
+        ap (forgotten n) fails.0,
         taken_same old sound call answer n,
         ap (times n) (ap (handed_nodes call) is ∙ fails.1 error),
       ),

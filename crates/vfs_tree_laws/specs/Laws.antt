@@ -6,7 +6,7 @@ use Rattle.std.specs.Map.{values_of}
 use Rattle.std.specs.Str.{bytes_eq}
 use Rattle.vfs_files.specs.Values.{Item}
 use Rattle.vfs_files.specs.Calls.{Call, Init, Destroy, Answer, Plain, Iterator}
-use Rattle.vfs_grammar.specs.Books.{times, counts, answered_nodes, forgets_of}
+use Rattle.vfs_grammar.specs.Books.{times, forgotten, answered_nodes, forgets_of}
 use Rattle.vfs_tree.specs.Children.{Link, is_directory, is_file}
 use Rattle.vfs_tree.specs.Node.{weight}
 use Rattle.vfs_tree.specs.Rename.{parent_of}
@@ -45,7 +45,7 @@ pub record IsSound (s : State) : Type 0 where
 abbrev pub taken_back : State → Call → (n : ℕ) → ℕ
 taken_back old (Init _) n = lookups_of old n
 taken_back old Destroy n = lookups_of old n
-taken_back old call n = counts n (forgets_of call)
+taken_back old call n = forgotten n (forgets_of call)
 
 -- Of a node of which a call takes back no more lookups than are held, so many are held then as were, with
 -- those that it gives, by the entry that it answers, and without those that it takes back.

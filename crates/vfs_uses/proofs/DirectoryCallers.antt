@@ -65,7 +65,7 @@ no_records (l ∷ ls) records b (inr f) = absurd (let g : Some None ≡ Some (So
 empty_reply : (t : Turn) → CameWhole small_listing 9 (Taken None ∷ []) t → (t.outcome ≡ Ok 16) × (take 16 t.room_after ≡ no_records_reply)
 unfolding little number
 empty_reply t w =
-    let none = no_records w.whole.lines w.records w.whole.body_is w.whole.ends in
+    let none = no_records w.whole.lines w.records w.whole.records_are w.whole.ends in
     let q = subst (λ (r : List ℕ). IsPutOpen (body_reply r 9) t.room t.outcome t.room_after) none w.replied in
     (q.says, q.begins)
 

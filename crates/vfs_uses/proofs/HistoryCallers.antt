@@ -18,7 +18,7 @@ use Rattle.vfs_files.specs.Listing.{GivesFirst}
 use Rattle.vfs_files.specs.Runs.{Event, Called, IsRun}
 use Rattle.vfs_files.specs.declared.entry.Entry.{Entry}
 use Rattle.vfs_grammar.specs.Ask.{ask}
-use Rattle.vfs_grammar.specs.Books.{opcode_in, answered, sent, accepted, accepted_by, counts, delivered, delivered_by, times, GivesBackWithin, KeepsBooks}
+use Rattle.vfs_grammar.specs.Books.{opcode_in, answered, sent, accepted, accepted_by, forgotten, delivered, delivered_by, times, GivesBackWithin, KeepsBooks}
 use Rattle.vfs_grammar.specs.Forms.{Ask, Asks, WithMemory, within}
 use Rattle.vfs_grammar.specs.Limits.{max_len}
 use Rattle.vfs_grammar.specs.Listing.{given_back}
@@ -250,12 +250,12 @@ unfolding number opcode_of
 delivered-bytes n behind = refl
 
 -- the node that the FORGET gives back
-accepted-bytes : (n : ℕ) → accepted_by n FORGET (Ok 0) ≡ counts n ((2, 1) ∷ [])
+accepted-bytes : (n : ℕ) → accepted_by n FORGET (Ok 0) ≡ forgotten n ((2, 1) ∷ [])
 unfolding number opcode_of
 accepted-bytes n = refl
 
 -- it is given back as often as it is delivered
-as_often : (n : ℕ) (b : Bool) → (2 == n) ≡ b → counts n ((2, 1) ∷ []) ≡ times n (2 ∷ [])
+as_often : (n : ℕ) (b : Bool) → (2 == n) ≡ b → forgotten n ((2, 1) ∷ []) ≡ times n (2 ∷ [])
 as_often n true e = rw e refl
 as_often n false e = rw e refl
 
@@ -309,7 +309,7 @@ module _ (one two one_after two_after : Written) (s0 s1 s2 : ServerState Stock)
       ap (λ (o : Result ℕ Error). delivered_by n (opcode_in LOOKUP) o x.room_after) l.outcome_is
       ∙ (ap (λ (r : List ℕ). delivered_by n (opcode_in LOOKUP) (Ok 144) r) l.room_is
       ∙ delivered-bytes n (drop 144 one.left)) in
-      let accepted_is : (n : ℕ) → accepted n b ≡ counts n ((2, 1) ∷ []) = λ n.
+      let accepted_is : (n : ℕ) → accepted n b ≡ forgotten n ((2, 1) ∷ []) = λ n.
       ap (λ (o : Result ℕ Error). accepted_by n FORGET o) g.outcome_is ∙ accepted-bytes n in
       let none : (n : ℕ) → accepted n a ≡ 0 = λ n.
       ap (λ (o : Result ℕ Error). accepted_by n LOOKUP o) l.outcome_is in

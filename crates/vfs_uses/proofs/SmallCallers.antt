@@ -101,7 +101,7 @@ room_is_filled allows gives ctx parent size it old new room left result h are sh
     let l = h.listing in
     let cut = cut_at ctx parent size (length room.left) short asked l.lines l.stop l.written l.stops (sym are ∙ l.events_are) in
     let put = h.puts.wrote
-    ∙ ap (λ (b : List ℕ). wrote room (b ++ cut_short size (length room.left) (sum_by line_len l.lines) l.stop)) l.body_is
+    ∙ ap (λ (b : List ℕ). wrote room (b ++ cut_short size (length room.left) (sum_by line_len l.lines) l.stop)) l.records_are
     ∙ ap (wrote room) cut.0 in
     let some = length-take 31 (record_bytes None file_a) in
     let long = length-record_bytes None file_a in (

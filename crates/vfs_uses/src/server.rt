@@ -262,6 +262,21 @@ fn mkdir_in_one_segment<F: FileSystem>(
     server.handle_message(alloc, r, w)
 }
 
+/// The same of a MKDIR where groups were agreed on, as FUSE_CREATE_SUPP_GROUP, and no contexts: 2^34.
+fn mkdir_with_groups_in_one_segment<F: FileSystem>(
+    alloc: Global,
+    server: &mut Server<F>,
+    r: Reader<'_>,
+    w: &mut Writer,
+) -> Result<usize>
+    requires opcode { opcode_of (header_of r.left).opcode ≡ Some Opcode.Mkdir }
+    requires options { server.old.options ≡ 0x400000000 }
+    requires together { are_together r 48 ((header_of r.left).len - 48) ≡ true }
+    ensures { result ≢ Err OutOfMemory }
+{
+    server.handle_message(alloc, r, w)
+}
+
 /// The same of a SYMLINK whose name and text lie in one segment.
 fn symlink_in_one_segment<F: FileSystem>(
     alloc: Global,
