@@ -4,3 +4,4 @@ pub mod Rooms
 pub mod Blocks
 pub mod Refusing
 pub mod Turns
+pub mod Keeping

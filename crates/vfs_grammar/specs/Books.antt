@@ -1,7 +1,7 @@
 -- The books of lookups and forgets. A file system counts how often it answered an entry of a node,
 -- and a client gives these counts back by forgets. Four sums are kept of a node: two of the events
 -- that happened, and two of the bytes that came and went.
-use Rattle.std.specs.Prelude.{ℕ, zero, suc, ◌==◌, if◌then◌else◌, List, [], ◌∷◌, take, drop, sum_by, count_by, Option, Some, Result, Ok, Err, ◌≡◌, ◌≢◌, ◌≤◌, ◌+◌}
+use Rattle.std.specs.Prelude.{ℕ, zero, suc, ◌==◌, if◌then◌else◌, List, [], ◌∷◌, take, drop, sum_by, count_by, Option, Some, Result, Ok, Err, ◌≡◌, ◌≢◌, ◌≤◌, ◌+◌, ◌++◌}
 use Rattle.vfs_flags.specs.Numbers.{opcode_of}
 use Rattle.vfs_flags.specs.declared.opcode.Opcode.{Opcode}
 use Rattle.vfs_files.specs.Calls.{Call, Lookup, Symlink, Mknod, Mkdir, Link, Create, Forget, BatchForget, Answer, Found, Created}
@@ -134,8 +134,11 @@ GivesBackWithin n turns =
 abbrev pub NeverBelow : (n : ℕ) → List Event → Type 0
 NeverBelow n events = (k : ℕ) → sent n (take k events) ≤ answered n (take k events)
 
--- The books of every node but 0 are kept over turns: they balance, and a client that gives back no
--- more than it had drives no count below zero, not even in the middle of a request.
+-- The books of every node but 0 are kept over turns: they balance; and over any of these turns that
+-- follow one another, as those from one INIT to the next, a client that gives back no more than was
+-- delivered to it by them drives no count below zero, not even in the middle of a request.
 pub record KeepsBooks (turns : List Turn) : Type 0 where
   pub balanced : (n : ℕ) → n ≢ 0 → AreBalanced n turns
-  pub never_below : (n : ℕ) → n ≢ 0 → GivesBackWithin n turns → NeverBelow n (events_in turns)
+  pub never_below :
+      (before some after : List Turn) → turns ≡ before ++ (some ++ after)
+      → (n : ℕ) → n ≢ 0 → GivesBackWithin n some → NeverBelow n (events_in some)

@@ -11,6 +11,7 @@ use Rattle.vfs_grammar.specs.Books.{KeepsBooks}
 use Rattle.vfs_grammar.specs.Samples.{lookup_of_a}
 use Rattle.vfs_grammar.specs.Turn.{Turn}
 use Rattle.vfs_grammar.specs.declared.error.Error.{Error}
+use Rattle.vfs_grammar.proofs.Keeping.{never_below_over}
 use Rattle.vfs_server.specs.Served.{Served}
 use Rattle.vfs_server.specs.Step.{ServerState, IsStep}
 use Rattle.vfs_server.specs.declared.transport.error.ServeError.{ServeError}
@@ -191,7 +192,7 @@ module _ {S I : Type 0} (allows : S → Call → Handed I → S → Type 0)
         record {
           run = runs s0 s2 (Handled a ∷ Handled b ∷ []) all tt;
           never_below = λ behind whole reply done.
-              (keep s0 s2 (Handled a ∷ Handled b ∷ []) all).never_below 5 (is_some 5 4 refl)
+              never_below_over (a ∷ b ∷ []) (keep s0 s2 (Handled a ∷ Handled b ∷ []) all) 5 (is_some 5 4 refl)
               (gives_back 5 a b (delivered-lookup a behind e whole reply)
               (accepted-replied 5 a whole) (accepted-forget b f done));
         },

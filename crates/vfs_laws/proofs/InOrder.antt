@@ -1,6 +1,6 @@
 -- The books over turns, whatever options each has: each turn adds what it balances, and within a turn only
 -- the last event gives back anything.
-use Rattle.std.proofs.Common.{◌≡◌, ◌≢◌, ◌≤◌, ◌<◌, ◌+◌, ◌-◌, ℕ, zero, suc, List, [], ◌∷◌, ◌++◌, length, take, sum_by, refl, ap, ◌∙◌, ◌⊎◌, inl, inr, arith, length-append}
+use Rattle.std.proofs.Common.{◌≡◌, ◌≢◌, ◌≤◌, ◌<◌, ◌+◌, ◌-◌, ℕ, zero, suc, List, [], ◌∷◌, ◌++◌, length, take, sum_by, refl, ap, ◌∙◌, ◌⊎◌, inl, inr, subst, arith, length-append}
 use Rattle.std.proofs.lemmas.Bool.Decides.{nat_tests}
 use Rattle.std.proofs.lemmas.List.{take_all, take-append-le}
 use Rattle.std.proofs.lemmas.List.Sums.{sum_by-cons, sum_by-take-le}
@@ -95,8 +95,20 @@ module _ (n : ℕ) (some : n ≢ 0) (limits : Limits) where
       let r = below_from turns are 0 0 0 0 refl (λ j. let w = within j in omega (arith, w)) k in
       omega (arith, r)
 
+-- the last of these turns, and the first
+last_turns : (limits : Limits) (before last : List Turn) → AreEachTurns limits (before ++ last) → AreEachTurns limits last
+last_turns limits [] last are = are
+last_turns limits (t ∷ ts) last are = last_turns limits ts last are.1
+
+first_turns : (limits : Limits) (first after : List Turn) → AreEachTurns limits (first ++ after) → AreEachTurns limits first
+first_turns limits [] after are = tt
+first_turns limits (t ∷ ts) after are = (are.0, first_turns limits ts after are.1)
+
 pub keeps_books : (limits : Limits) (turns : List Turn) → AreEachTurns limits turns → KeepsBooks turns
 keeps_books limits turns are = record {
   balanced = λ n some. turns_books n some limits turns are;
-  never_below = λ n some. never_below n some limits turns are;
+  never_below = λ before some after parts n counted within.
+      let these = first_turns limits some after
+      (last_turns limits before (some ++ after) (subst (AreEachTurns limits) parts are)) in
+      never_below n counted limits some these within;
 }

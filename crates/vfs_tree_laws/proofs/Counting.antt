@@ -6,6 +6,7 @@ use Rattle.vfs_files.specs.Calls.{Call, Lookup, Forget, BatchForget, Getattr, Se
 use Rattle.vfs_files.specs.Runs.{Event, Called, OpenedDirectory, Taken, IsRun}
 use Rattle.vfs_grammar.specs.Books.{answered, sent, answered_by, sent_by, answered_nodes, forgets_of, times, forgotten, KeepsBooks}
 use Rattle.vfs_grammar.specs.Turn.{Turn, events_in}
+use Rattle.vfs_grammar.proofs.Keeping.{never_below_over}
 use Rattle.vfs_history.specs.History.{NeverBelowHeld}
 use Rattle.vfs_tree_laws.specs.Laws.{IsTree, IsHeld, lookups_in, lookups_of, names_of, CallsKeepTrees, ReadingsChangeNothing}
 use Rattle.vfs_files.specs.Listing.{GivesFirst}
@@ -214,7 +215,7 @@ module _ (old new : State) (turns : List Turn) (c : Counted old new (events_in t
     tree = c.tree;
     lookups = λ n some within.
         let balanced = books.balanced n some in
-        let never = books.never_below n some within in
+        let never = never_below_over _ books n some within in
         let counts = counts_turns n (λ k. omega (arith, never k)) in
         omega (arith, balanced, counts);
   }

@@ -29,6 +29,7 @@ use Rattle.vfs_grammar.specs.Turn.{Turn, Follows, counted, node_answered, events
 use Rattle.vfs_grammar.specs.declared.limits.Limits.{Limits}
 use Rattle.vfs_grammar.specs.declared.error.Error.{Error}
 use Rattle.vfs_grammar.specs.declared.error.Error.TheVariants.{OutOfMemory}
+use Rattle.vfs_grammar.proofs.Keeping.{never_below_over}
 use Rattle.vfs_grammar.proofs.Rooms.{put_outcome-fits, put_room-fits}
 use Rattle.vfs_server.specs.Memory.{WantsNoMemory}
 use Rattle.vfs_server.specs.Step.{ServerState, IsStep, turn_over}
@@ -338,7 +339,7 @@ module _ (one two one_after two_after : Written) (s0 s1 s2 : ServerState Stock)
             accepted_once = accepted_is 2;
             answered_once = ap (answered 2) events ∙ answered-both l.entry l.node g.answer;
             sent_once = ap (sent 2) events;
-            never_below = λ n counted. books.never_below n counted (within n);
+            never_below = λ n counted. never_below_over _ books n counted (within n);
           },
         );
       }

@@ -24,6 +24,7 @@ use Rattle.vfs_grammar.specs.Room.{IsReplied}
 use Rattle.vfs_grammar.specs.declared.limits.Limits.{Limits}
 use Rattle.vfs_grammar.specs.declared.error.Error.{Error}
 use Rattle.vfs_grammar.specs.declared.error.Error.TheVariants.{OutOfMemory}
+use Rattle.vfs_grammar.proofs.Keeping.{never_below_over}
 use Rattle.vfs_uses.proofs.Callers.{Seen, AreDefault, seen_put, turn-statfs, run_is_default}
 use Rattle.vfs_server.specs.Memory.{WantsNoMemory}
 use Rattle.vfs_server.specs.Session.{IsServed, AreServed, IsSession}
@@ -290,7 +291,7 @@ module _ {S I : Type 0} (allows : S → Call → Handed I → S → Type 0) (giv
       let stays : whole o.new ≡ whole o.writer = bytes_stay o.writer o.new o.t.room o.t.room_after o.leaves seen.1 o.room in
       let books = subst KeepsBooks o.turns_are s.books in
       let balanced = books.balanced 5 (λ e. omega (arith, e)) in
-      let below = books.never_below 6 (λ e. omega (arith, e)) (gives_nothing_back 6 o.t six) in
+      let below = never_below_over (o.t ∷ []) books 6 (λ e. omega (arith, e)) (gives_nothing_back 6 o.t six) in
       record {
         outcomes_are = sym s.outcomes_are ∙ (ap (λ (ts : List Turn). map (λ t. t.outcome) ts) o.turns_are ∙ ap (λ (r : Result ℕ Error). r ∷ []) seen.0);
         rooms = ap (λ (ws : List Written). map whole ws) o.news_are ∙ (ap (λ (b : List ℕ). b ∷ []) stays ∙ sym (ap (λ (ws : List Written). map whole ws) o.writers_are));

@@ -92,6 +92,16 @@ fn no_session_begins_with_a_forget()
     turns_keep_books();
 }
 
+/// Nor does the part of a session that begins anywhere, as with an INIT after a DESTROY, if the client
+/// gives back no more than was delivered to it from there on.
+fn no_part_of_a_session_begins_with_a_forget()
+    ensures { (limits : Limits) (options after : ℕ) (before part behind : List Turn) (ctx : Context)
+        (events : List Event) → AreTurns limits options (before ++ (part ++ behind)) after →
+        GivesBackWithin 5 part → events_in part ≢ Called (Forget ctx 5 1) Done ∷ events }
+{
+    turns_keep_books();
+}
+
 /// The sizes and places by which bytes are read without their tables are those of the tables.
 fn sizes_are_of_the_tables()
     ensures in_header { in_header_size ≡ size_of in_header }

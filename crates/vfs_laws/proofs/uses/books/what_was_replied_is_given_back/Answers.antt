@@ -1,5 +1,6 @@
 use Rattle.std.proofs.Common.{[], ◌∷◌, refl, arith, zero-add}
 use Rattle.vfs_files.specs.Calls.{Lookup}
+use Rattle.vfs_grammar.proofs.Keeping.{never_below_over}
 use Rattle.vfs_laws.proofs.BookCallers.{delivers_once, sends_what_they_say, gives_back}
 use Rattle.vfs_laws.proofs.uses.books.what_was_replied_is_given_back.Goals as goal
 
@@ -11,5 +12,5 @@ pub returns-clause-never_below : goal.returns-clause-never_below
 returns-clause-never_below c = λ limits options after looked gave ctx parent name entry are called five whole asked done.
     let books = c.each_turn_balances.ensures limits options are.0 5 looked (λ e. omega arith) are.1 in
     let once = delivers_once looked (Lookup ctx parent name) entry books called (zero-add _) refl five whole in
-    (c.turns_keep_books.ensures limits options after (looked ∷ gave ∷ []) are).never_below 5 (λ e. omega arith)
+    never_below_over (looked ∷ gave ∷ []) (c.turns_keep_books.ensures limits options after (looked ∷ gave ∷ []) are) 5 (λ e. omega arith)
     (gives_back looked gave once whole asked done)
