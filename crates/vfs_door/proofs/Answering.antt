@@ -1,10 +1,13 @@
 -- What C is told of a call that was answered.
-use Rattle.std.proofs.Common.{◌≡◌, ◌≤◌, ◌+◌, ◌-◌, ◌∙◌, ℕ, ℤ, List, length, replicate, true, Option, Some, None, IfSome, ap, subst, inl, arith, rules}
+use Rattle.std.proofs.Common.{◌≡◌, ◌≢◌, ◌≤◌, ◌+◌, ◌-◌, ◌∙◌, ℕ, ℤ, Bool, true, false, List, length, replicate, if◌then◌else◌, Option, Some, None, IfSome, Result, Ok, Err, ap, sym, subst, inl, arith, rules}
 use Rattle.std.proofs.lemmas.List.{length-replicate}
+use Rattle.std.specs.Prelude.{⊤}
 use Rattle.vfs_segments.specs.Written.{Written, whole}
-use Rattle.vfs_files.specs.Calls.{Kind, Data, Iterators, read_answer}
-use Rattle.vfs_messages.specs.Rooms.{with_behind}
-use Rattle.vfs_grammar.specs.Reply.{reply_of, reply_to}
+use Rattle.vfs_files.specs.Answers.{Kind, Quiet, Untold, Data, Agreements, Iterators, Answer, Done, read_answer}
+use Rattle.vfs_messages.specs.Rooms.{Replies, with_behind}
+use Rattle.vfs_grammar.specs.Reply.{Echo, Reply, Refusal, NoReply, Bytes, OpenBehind, reply_of, reply_to}
+use Rattle.vfs_grammar.specs.declared.error.Error.{Error}
+use Rattle.vfs_grammar.specs.declared.error.Error.TheVariants.{EncodeMessage, OutOfMemory}
 use Rattle.vfs_grammar.specs.declared.limits.Limits.{Limits}
 use Rattle.vfs_calls.specs.declared.call.CallData.{CallData}
 use Rattle.vfs_calls.specs.declared.data.AnswerData.{AnswerData}
@@ -25,6 +28,35 @@ within : (kind : Kind) (call : CallData) (space : ℕ) → can_answer (Some kind
 within (Data size) call space is = search rules
 within Iterators call space is = search rules
 within kind call space is = search rules
+
+-- no error comes back
+abbrev NoRefusal : Reply → Type 0
+NoRefusal (Refusal error) = ⊥
+NoRefusal NoReply = ⊤
+NoRefusal (Bytes reply) = ⊤
+NoRefusal (OpenBehind reply) = ⊤
+
+-- of an answer none does
+no_refusal : (limits : Limits) (echo : Echo) (options : ℕ) (kind : Kind) (answer : Answer)
+    → NoRefusal (reply_of limits echo options kind answer)
+no_refusal limits echo options Agreements answer = tt {0}
+no_refusal limits echo options Quiet answer = tt {0}
+no_refusal limits echo options Untold Done = tt {0}
+no_refusal limits echo options Untold answer = tt {0}
+no_refusal limits echo options (Data size) answer = tt {0}
+no_refusal limits echo options kind answer = tt {0}
+
+put_or_not : (fits : Bool) (n : ℕ) → (if fits then Ok n else Err EncodeMessage) ≢ Err OutOfMemory
+put_or_not true n e = cc
+put_or_not false n e = cc
+
+-- what is put wants no memory
+replied_wants_none : (reply : Reply) (old new : Written) (outcome : Result ℕ Error) → NoRefusal reply
+    → Replies reply old outcome new → outcome ≢ Err OutOfMemory
+replied_wants_none (Refusal error) old new outcome none h = absurd none
+replied_wants_none NoReply old new outcome none h = λ e. let a = h.0 in cc
+replied_wants_none (Bytes reply) old new outcome none h = λ e. put_or_not _ _ (sym h.says.says ∙ e)
+replied_wants_none (OpenBehind reply) old new outcome none h = λ e. let a = h.says.says in cc
 
 module _ (limits : Limits) (call : CallData) (a : AnswerData) (text : List ℕ) (items : List ItemData)
     (before after : Written) (came : Answered) where
@@ -49,6 +81,28 @@ module _ (limits : Limits) (call : CallData) (a : AnswerData) (text : List ℕ) 
       let reply = reply_to call.unique (Data call.size) (read_answer h.1.answer h.1.records) in
       replied_keeps reply before after came.outcome h.1.replied
   answered_keeps (Some kind) h = call_keeps kind h
+
+  call_wants_none : (kind : Kind) → AnswersCall limits (Some kind) call a text before (Some came) after
+      → came.outcome ≢ Err OutOfMemory
+  call_wants_none kind h =
+      let more = call.room - length before.left in
+      let behind : List ℕ = replicate more 0 in
+      let n : length behind ≡ more = length-replicate more 0 in
+      let fits = within kind call (length before.left) h.0 in
+      let all : length before.left + length behind ≡ call.room = omega (arith, n, fits) in
+      let is = h.1 behind all in
+      replied_wants_none (reply_of limits (echo_told call) came.options kind is.answer)
+      (with_behind before behind) (with_behind after behind) came.outcome
+      (no_refusal limits (echo_told call) came.options kind is.answer) is.comes.1
+
+  -- a call that was answered wanted no memory
+  answered_wants_none : (kind : Option Kind) → Answers limits kind call a text items before (Some came) after
+      → came.outcome ≢ Err OutOfMemory
+  answered_wants_none None h = absurd h
+  answered_wants_none (Some Iterators) h =
+      replied_wants_none (reply_to call.unique (Data call.size) (read_answer h.1.answer h.1.records))
+      before after came.outcome (tt {0}) h.1.replied
+  answered_wants_none (Some kind) h = call_wants_none kind h
 
 -- an answer is told so, with this length and so many bytes put
 abbrev told_by : ToldData → Answered → (len put : ℕ) → ToldData
@@ -99,3 +153,10 @@ module _ (limits : Limits) (call : CallData) (a : AnswerData) (text : List ℕ) 
           rw puts first,
         );
       })
+
+  -- it was answered, and wanted no memory
+  pub told_wants_none : (came : Answered) → Clauses result → result ≡ Some came
+      → came.outcome ≢ Err OutOfMemory
+  told_wants_none came clauses some_is =
+      let is : Clauses (Some came) = subst Clauses some_is clauses in
+      answered_wants_none limits call a text items before after came (kind_told call.answer call.size) is.0

@@ -1,9 +1,10 @@
 //! Answering a call.
 
-ghost use Rattle.std.specs.Prelude.{◌≡◌};
+ghost use Rattle.std.specs.Prelude.{◌≡◌, ◌≢◌};
 ghost use Rattle.vfs_grammar.specs.Limits.{AreLimits};
+ghost use Rattle.vfs_rooms.specs.Codes.{no_memory};
 ghost use Rattle.vfs_door.specs.Answering.{AnswersOrNot, entry_of, put_of};
-ghost use Rattle.vfs_door.specs.Shown.{bytes_shown};
+ghost use Rattle.vfs_door.specs.Shown.{HasRoomFor, bytes_shown};
 
 use crate::ask::number_and_length;
 use crate::data::ToldData;
@@ -51,8 +52,9 @@ pub fn answer_call(
     told: &mut ToldData,
 ) -> i32
     requires { AreLimits limits }
-    ensures { AnswersOrNot limits call.now answer.now text.now items.now result told.old told.new
-        (bytes_shown memory.new) }
+    ensures answered { AnswersOrNot limits call.now answer.now text.now items.now
+        result told.old told.new (bytes_shown memory.new) }
+    ensures memory { HasRoomFor (put_of call.now call.now.room) memory.old → result ≢ no_memory }
 {
     let room = put_of(call, call.room as usize);
     if !memory.begin(alloc, room) {

@@ -26,7 +26,7 @@ ghost use Rattle.vfs_segments.specs.Segments.{segments_of, flat_bytes};
 ghost use Rattle.vfs_grammar.specs.Limits.{AreLimits};
 ghost use Rattle.vfs_ask.specs.Memory.{MayWant};
 ghost use Rattle.vfs_rooms.specs.Codes.{no_memory, no_server, ok, wrong_size};
-ghost use Rattle.vfs_door.specs.Answering.{AnswersOrNot};
+ghost use Rattle.vfs_door.specs.Answering.{AnswersOrNot, put_of};
 ghost use Rattle.vfs_door.specs.Asking.{AsksOrNot, unread_in};
 ghost use Rattle.vfs_door.specs.Session.{limits_of, options_of};
 ghost use Rattle.vfs_door.specs.Shown.{HasRoomFor, shown_in};
@@ -134,6 +134,10 @@ pub extern "C" fn nizwarf_answer_at(
     ensures answered { AreLimits (limits_of session.now) →
         AnswersOrNot (limits_of session.now) call.now answer.now text.now items.now
         result told.old told.new (shown_in handle.new.value) }
+
+    // A slot that has as much memory as is put wants no more.
+    ensures memory { (m : Memory) → handle.old.value ≡ Some m →
+        HasRoomFor (put_of call.now call.now.room) m → result ≢ no_memory }
 {
     let Some(limits) = session.limits() else {
         return WRONG_SIZE;

@@ -1,6 +1,6 @@
 //! A program that calls the library in a row, as one does that has a file system.
 
-ghost use Rattle.std.specs.Prelude.{◌≡◌, ◌≤◌, ◌⊎◌, [], ◌∷◌, length};
+ghost use Rattle.std.specs.Prelude.{◌≡◌, ◌≢◌, ◌≤◌, ◌⊎◌, [], ◌∷◌, length};
 ghost use Rattle.std.specs.declared.option.Option.TheVariants.{None, Some};
 ghost use Rattle.vfs_grammar.specs.Samples.{lookup_of_a};
 ghost use Rattle.vfs_segments.specs.Segments.{segments_of, flat_bytes};
@@ -44,12 +44,14 @@ fn ask_lookup(
     nizwarf_ask_at(alloc, handle, &SESSION, lookup, 4096, call, told)
 }
 
-/// Answers that LOOKUP by ENOENT, which is 2: these are the bytes of the reply.
+/// Answers that LOOKUP by ENOENT, which is 2: these are the bytes of the reply. A slot that has memory
+/// for all its room wants no more.
 fn refuse_lookup(alloc: Global, handle: &mut Handle, call: &CallData, told: &mut ToldData) -> i32
     requires { IsLookupOfA call.now }
     ensures bytes { result ≡ ok → shown_in handle.new.value ≡ no_such_name }
     ensures length { result ≡ ok → (told.new.len ≡ 16) × (told.new.put ≡ 16) }
     ensures none_back { result ≡ ok → told.new.give_back ≡ 0 }
+    ensures memory { (m : Memory) → handle.old.value ≡ Some m → HasRoomFor 4096 m → result ≢ no_memory }
 {
     let no_entry = AnswerData {
         error: 2,
