@@ -12,7 +12,8 @@ use Rattle.vfs_tree.specs.Children.{with_child}
 use Rattle.vfs_tree.specs.Node.{new_node}
 use Rattle.vfs_tree.specs.Outcome.{TreeReply, Just, EntryOf, AttrOf, Listed}
 use Rattle.vfs_tree.specs.State.{State, node_at, with_node, with_resized, with_new, with_names, changed}
-use Rattle.vfs_tree.specs.Tree.{made, linked, forgotten, all_forgotten, held_of, outcome}
+use Rattle.vfs_tree.specs.Tree.{made, linked, all_forgotten, held_of, outcome}
+use Rattle.vfs_tree.specs.Tree as tree
 use Rattle.vfs_nodes.specs.declared.children.Child.{Child}
 use Rattle.vfs_nodes.specs.declared.node.Node.{Node}
 use Rattle.vfs_tree_laws.specs.Laws.{Ascend, lookups_in, lookups_of, taken_back, IsSound, CountsLookups, CallsAreSound}
@@ -126,7 +127,7 @@ record TakesBack (old new : State) (pairs : List (ℕ × ℕ)) : Type 0 where
       → lookups_of new m + forgotten m pairs ≡ lookups_of old m
 
 forgets : (s : State) (n count : ℕ) (o : Option Node) → node_at s n ≡ o → IsSound s
-    → TakesBack s (forgotten s n count o) ((n, count) ∷ [])
+    → TakesBack s (tree.forgotten s n count o) ((n, count) ∷ [])
 forgets s n count None is sound = record {
   sound = sound;
   lookups = λ m within. at n m (lookups_of s m + forgotten m ((n, count) ∷ []) ≡ lookups_of s m)
@@ -135,7 +136,7 @@ forgets s n count None is sound = record {
       (λ apart. omega (arith, back_other n count m apart));
 }
 forgets s n count (Some node) is sound =
-    let new = forgotten s n count (Some node) in
+    let new = tree.forgotten s n count (Some node) in
     let left = record node { lookups = node.lookups - count } in
     let done = settles s n node left is sound in
     record {
@@ -158,7 +159,7 @@ forgets_all : (s : State) (pairs : List (ℕ × ℕ)) → IsSound s
     → TakesBack s (all_forgotten s pairs) pairs
 forgets_all s [] sound = record { sound = sound; lookups = λ m within. omega arith }
 forgets_all s (r ∷ rs) sound =
-    let mid = forgotten s r.0 r.1 (node_at s r.0) in
+    let mid = tree.forgotten s r.0 r.1 (node_at s r.0) in
     let first = forgets s r.0 r.1 (node_at s r.0) refl sound in
     let rest = forgets_all mid rs first.sound in
     record {
