@@ -1,5 +1,6 @@
 pub mod Counts
 pub mod Fills
+pub mod First
 pub mod Held
 pub mod Moves
 pub mod Shown

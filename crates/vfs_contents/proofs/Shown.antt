@@ -182,19 +182,18 @@ contents_written old held new was off (b ∷ bs) some zero kept same keys over =
 
 -- ---- zeros behind them
 
-pub contents_allocated : (old new : Pages) (was off len : ℕ) → AreZeroBehind old was
+pub contents_allocated : (old new : Pages) (was off len least : ℕ) → AreZeroBehind old was
     → keys_of new ≡ with_pages (keys_of old) (off / 4096) (pages_over off len)
     → ((place : ℕ) → byte_at new place ≡ byte_at old place)
-    → contents_of new (max was (off + len)) ≡ allocated (contents_of old was) off len
-contents_allocated old new was off len zero kept same =
-    let end : ℕ = off + len in
-    let k : ℕ = end - length (bytes_of old was) in
+    → contents_of new (max was least) ≡ allocated (contents_of old was) off len least
+contents_allocated old new was off len least zero kept same =
+    let k : ℕ = least - length (bytes_of old was) in
     let was_long = length-bytes_of old was in
-    let now_long = length-bytes_of new (max was end) in
+    let now_long = length-bytes_of new (max was least) in
     let zeros = length-replicate {A = ℕ} k 0 in
     let all = length-append (bytes_of old was) (replicate k 0) in
     both _ _ _ _
-    (ext_get_or 0 (bytes_of new (max was end)) (bytes_of old was ++ replicate k 0) (omega arith)
+    (ext_get_or 0 (bytes_of new (max was least)) (bytes_of old was ++ replicate k 0) (omega arith)
     (λ i inside.
-    shown new (max was end) i (omega arith) ∙ same i ∙ sym (shown_behind old was k i zero)))
+    shown new (max was least) i (omega arith) ∙ same i ∙ sym (shown_behind old was k i zero)))
     kept

@@ -1,12 +1,12 @@
 -- The bytes of a file, and which of its pages are held.
-use Rattle.std.specs.Prelude.{◌≡◌, ◌≤◌, ◌<◌, ◌+◌, ◌-◌, ◌/◌, ℕ, nat_lt, List, [], ◌∷◌, ◌++◌, length, take, replicate, map, Option, Some, Result, Ok, Err, if◌then◌else◌}
+use Rattle.std.specs.Prelude.{◌≡◌, ◌≤◌, ◌<◌, ◌+◌, ◌-◌, ◌*◌, ◌/◌, ℕ, min, max, nat_lt, List, [], ◌∷◌, ◌++◌, length, take, replicate, map, Option, Some, None, Result, Ok, Err, if◌then◌else◌}
 use Rattle.std.specs.List.{filter, range_with_len}
 use Rattle.std.specs.Int.{div_ceil}
 use Rattle.std.specs.Map.{keys_of}
 use Rattle.vfs_flags.specs.Numbers.{enomem}
 use Rattle.vfs_files.specs.Bytes.{fitting}
 use Rattle.vfs_files.specs.Bytes as flat
-use Rattle.vfs_contents.specs.Pages.{Pages, byte_at, with_pages, missing}
+use Rattle.vfs_contents.specs.Pages.{Pages, byte_at, first_from, with_pages, missing, reach}
 
 -- the bytes, whatever holds them, and the numbers of the pages that are held, in order. A page has 4096
 -- bytes; it may lie behind the end
@@ -38,10 +38,27 @@ pub record Lacks (c : Contents) (off len : ℕ) : Type 0 where
   pub some : 0 < len
   pub pages : 0 < lacking c off len
 
--- so many bytes from off on are there, in pages that are held then; zeros are added
-abbrev pub allocated : Contents → (off len : ℕ) → Contents
-allocated c off len = record {
-  bytes = flat.lengthened c.bytes (off + len);
+-- where so many bytes end, the first place from off on in this page or behind it
+abbrev pub place_in : (size off : ℕ) → (page : Option ℕ) → Option ℕ
+place_in size off None = None
+place_in size off (Some n) =
+    let place = max (4096 * n) off in if nat_lt place size then Some place else None
+
+-- the first place from off on, before the end, in a page that is held
+abbrev pub data_from : Contents → (off : ℕ) → Option ℕ
+data_from c off = place_in (length c.bytes) off (first_from c.held (off / 4096))
+
+-- the first from off on that lies in none, or the end
+abbrev pub hole_from : Contents → (off : ℕ) → ℕ
+hole_from c off =
+    min (length c.bytes)
+    (max off (4096 * reach c.held 0 (off / 4096) (pages_over off (length c.bytes - off))))
+
+-- the pages that so many bytes from off on lie in are held; zeros are added where there are fewer bytes than
+-- at least so many
+abbrev pub allocated : Contents → (off len least : ℕ) → Contents
+allocated c off len least = record {
+  bytes = flat.lengthened c.bytes least;
   held = with_pages c.held (off / 4096) (pages_over off len);
 }
 

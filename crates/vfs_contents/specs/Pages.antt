@@ -1,6 +1,6 @@
 -- Pages of 4096 bytes, by their numbers. One that is not held has zeros.
 use Rattle.std.specs.Prelude.{◌≡◌, ◌≤◌, ◌^◌, ◌+◌, ◌-◌, ◌/◌, ◌%◌, ◌&&◌, ◌==◌, nat_le, nat_lt, ℕ, zero, suc, Bool, List, [], ◌∷◌, length, slice_index, Option, Some, None, IfSome, if◌then◌else◌, Vec}
-use Rattle.std.specs.List.{list_any}
+use Rattle.std.specs.List.{list_any, find}
 use Rattle.std.specs.Ordering.{nat_cmp}
 use Rattle.std.specs.Map.{lookup, remove_entry}
 use Rattle.std.specs.BTreeMap.{is_at}
@@ -42,6 +42,10 @@ pub record AreSound (pages : Pages) : Type 0 where
 -- whether a page is among these
 abbrev pub holds : (held : List ℕ) → (page : ℕ) → Bool
 holds held n = list_any (is_at (nat_cmp n)) held
+
+-- the first of these pages from one on
+abbrev pub first_from : (held : List ℕ) → (page : ℕ) → Option ℕ
+first_from held n = find (nat_le n) held
 
 -- these pages and one more
 abbrev pub with_page : (held : List ℕ) → (page : ℕ) → List ℕ

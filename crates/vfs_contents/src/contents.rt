@@ -4,7 +4,7 @@ ghost use Rattle.std.specs.Prelude.{◌≡◌, ◌<◌, ◌^◌, ◌≤◌, ◌+
 ghost use Rattle.std.specs.Int.{div_ceil};
 ghost use Rattle.vfs_files.specs.Bytes.{PutsPart};
 ghost use Rattle.vfs_flags.specs.Numbers.{enomem};
-ghost use Rattle.vfs_contents.specs.Contents.{no_contents, resized, allocated, lacking, pages_over, Writes};
+ghost use Rattle.vfs_contents.specs.Contents.{no_contents, resized, allocated, data_from, hole_from, lacking, pages_over, Writes};
 ghost use Rattle.vfs_contents.specs.Pages.{reach};
 
 use crate::pages::{PAGE, Pages};
@@ -79,17 +79,26 @@ impl Contents {
         ensures { result ≡ 4096 * reach self.now.held free (offset / 4096) (pages_over offset length) }
     {
         let (first, end) = span(offset, length);
+        self.stop(first, end, free) * PAGE as u64
+    }
+
+    // The first of these pages that can't be held where so many more can be, or the end.
+    fn stop(&self, first: u64, end: u64, free: u64) -> u64
+        requires { first ≤ end }
+        ensures stop { result ≡ reach self.now.held free first (end - first) }
+        ensures within { result ≤ end }
+    {
         let mut left = free;
         'go: for page in first..end {
             if self.pages.holds(page) {
                 continue;
             }
             if left == 0 {
-                return page * PAGE as u64;
+                return page;
             }
             left -= 1;
         }
-        end * PAGE as u64
+        end
     }
 
     /// Cuts off what is behind so many bytes, and lets its pages go, or adds zeros, which take none.
@@ -105,17 +114,46 @@ impl Contents {
         self.size = size;
     }
 
-    /// Holds the pages that so many bytes from `offset` on lie in, and adds zeros where there are
-    /// fewer bytes. ENOMEM where a page is not held and there is no memory for it, and all stays.
-    pub fn allocate(&mut self, alloc: Global, offset: u64, length: u64) -> Result<(), Fault>
+    /// The first place from `offset` on, before the end, that lies in a page that is held.
+    pub fn data_from(&self, offset: u64) -> Option<u64>
+        ensures { result ≡ data_from self.now offset }
+    {
+        let page = self.pages.first_from(offset / PAGE as u64)?;
+        let place = page.saturating_mul(PAGE as u64).max(offset);
+        if place < self.len() {
+            Some(place)
+        } else {
+            None
+        }
+    }
+
+    /// The first place from `offset` on that lies in no page that is held, or the end.
+    pub fn hole_from(&self, offset: u64) -> u64
+        requires { offset ≤ length self.now.bytes }
+        ensures { result ≡ hole_from self.now offset }
+    {
+        let size = self.len();
+        let page = self.stop(offset / PAGE as u64, size.div_ceil(PAGE as u64), 0);
+        page.saturating_mul(PAGE as u64).max(offset).min(size)
+    }
+
+    /// Holds the pages that so many bytes from `offset` on lie in, and adds zeros where there are fewer
+    /// bytes than `least`. ENOMEM where a page is not held and there is no memory for it, and all stays.
+    pub fn allocate(
+        &mut self,
+        alloc: Global,
+        offset: u64,
+        length: u64,
+        least: u64,
+    ) -> Result<(), Fault>
         requires { offset + length < 2 ^ 64 }
-        ensures ok { OnOk result (self.new ≡ allocated self.old offset length) }
+        ensures ok { OnOk result (self.new ≡ allocated self.old offset length least) }
         ensures err { IfErr result (λ fault. (fault ≡ Some enomem) × (self.new ≡ self.old)
             × (0 < lacking self.old offset length)) }
     {
         let (first, end) = span(offset, length);
         self.pages.hold(alloc, first, end - first)?;
-        self.size = self.size.max(offset + length);
+        self.size = self.size.max(least);
         Ok(())
     }
 

@@ -1,16 +1,18 @@
 //! Pages of bytes, by their numbers.
 
-ghost use Rattle.std.specs.Prelude.{◌≡◌, ◌≤◌, ◌<◌, ◌+◌, ◌-◌, ◌/◌, ◌%◌, ◌^◌, min, ℕ, [], true, false, nat_lt, length, take, slice_index, replicate, Some, IfErr, OnOk, if◌then◌else◌};
+ghost use Rattle.std.specs.Prelude.{◌≡◌, ◌≤◌, ◌<◌, ◌+◌, ◌-◌, ◌/◌, ◌%◌, ◌^◌, min, ℕ, [], ◌∷◌, true, false, nat_lt, length, take, slice_index, replicate, Some, IfErr, OnOk, MatchOption, Vec, if◌then◌else◌};
 ghost use Rattle.std.specs.List.{filter};
 ghost use Rattle.std.specs.Ordering.{nat_cmp};
 ghost use Rattle.std.specs.Map.{keys_of, remove_entry};
 ghost use Rattle.std.specs.BTreeMap.{is_at};
 ghost use Rattle.std.specs.BTreeSet.{insert_key};
 ghost use Rattle.vfs_flags.specs.Numbers.{enomem};
-ghost use Rattle.vfs_contents.specs.Pages.{byte_at, byte_over, holds, with_pages, missing, undone};
+ghost use Rattle.std.specs.declared.alloc.Global.{Global};
+ghost use Rattle.vfs_contents.specs.Pages.{Pages, byte_at, byte_over, first_from, holds, with_pages, missing, undone};
 
 use std::alloc::Global;
 use std::collections::BTreeMap;
+use std::collections::btree_map::Range;
 use std::marker::Model;
 use vfs_files::copy_of;
 use vfs_flags::{Errno, Fault};
@@ -63,6 +65,13 @@ impl Pages {
         ensures { result ≡ holds (keys_of self.now) page }
     {
         self.pages.contains_key(&page)
+    }
+
+    /// The first page that is held, from one on.
+    pub(crate) fn first_from(&self, page: u64) -> Option<u64>
+        ensures { result ≡ first_from (keys_of self.now) page }
+    {
+        first_key(self.pages.range(page..))
     }
 
     /// Holds so many pages from one on, those that were not held with zeros. ENOMEM where there is no
@@ -196,6 +205,17 @@ impl Pages {
             }
             self.pages.remove(&last);
         }
+    }
+}
+
+// The first of these keys.
+fn first_key(mut pages: Range<'_, u64, Vec<u8>>) -> Option<u64>
+    ensures { MatchOption result (pages.entry ≡ []) (λ n.
+        (page : Vec ℕ Global) × (rest : Pages) × (pages.entry ≡ (n, page) ∷ rest)) }
+{
+    match pages.next() {
+        Some((n, _)) => Some(*n),
+        None => None,
     }
 }
 

@@ -116,13 +116,18 @@ fn a_file_has_the_memory_that_it_needs(rt: HostRuntime) -> Result<(), Fail> {
     none_is_wrong(lacking_step(rt.alloc()))
 }
 
-/// The first step with a long file that is replied to otherwise.
-fn wrong_long(alloc: Global) -> Result<Option<&'static str>, Fail> {
+/// The first of these steps with a long file that is replied to otherwise.
+fn wrong_long(alloc: Global, steps: &[Step]) -> Result<Option<&'static str>, Fail> {
     let mut server = new_server(alloc, LONG)?;
-    first_wrong(alloc, &mut server, long::steps())
+    first_wrong(alloc, &mut server, steps)
 }
 
 #[test]
 fn a_long_file_takes_what_is_written(rt: HostRuntime) -> Result<(), Fail> {
-    none_is_wrong(wrong_long(rt.alloc()))
+    none_is_wrong(wrong_long(rt.alloc(), long::steps()))
+}
+
+#[test]
+fn holes_of_a_file_are_found(rt: HostRuntime) -> Result<(), Fail> {
+    none_is_wrong(wrong_long(rt.alloc(), long::holes()))
 }

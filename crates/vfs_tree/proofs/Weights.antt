@@ -68,9 +68,9 @@ overwritten_fits s node new now off size most count bytes is wrote =
     omega (arith, written_fits s node now off size bytes, same, ap weight wrote.1)
 
 -- so does one that has place for these bytes
-pub grown_fits : (s : State) (node : Node) (now : Time) (off len : ℕ)
+pub grown_fits : (s : State) (node : Node) (now : Time) (mode off len : ℕ)
     → off + len ≤ most_size s off len node
-    → weight (grown now off len node) ≤ weight node + room_of s
-grown_fits s node now off len within =
+    → weight (grown now mode off len node) ≤ weight node + room_of s
+grown_fits s node now mode off len within =
     let free : ℕ = room_of s / 4096 in
     omega (arith, held_within node.contents.held off len free len (omega (arith, within)))

@@ -8,9 +8,9 @@ use Rattle.vfs_wire.specs.declared.stat.Statvfs64.{Statvfs64}
 use Rattle.vfs_files.specs.declared.entry.Context.{Context}
 use Rattle.vfs_files.specs.Values.{Item}
 use Rattle.vfs_files.specs.Bytes.{part_of, most_put, fitting}
-use Rattle.vfs_files.specs.Calls.{Call, Init, Lookup, Forget, BatchForget, Getattr, Setattr, Symlink, Readlink, Open, Unlink, Rmdir, Rename, Link, Mknod, Mkdir, Create, Read, Write, Fallocate, Statfs, Readdir, Setxattr, Getxattr, Listxattr, Removexattr, Fsync, Flush, Release, Fsyncdir, Releasedir, Destroy, Answer, Options, Opened, Text, Count, Put, Wrote, Done, Statistics, Handed, default_answer}
+use Rattle.vfs_files.specs.Calls.{Call, Init, Lookup, Forget, BatchForget, Getattr, Setattr, Symlink, Readlink, Open, Unlink, Rmdir, Rename, Link, Mknod, Mkdir, Create, Read, Write, Fallocate, Lseek, Statfs, Readdir, Setxattr, Getxattr, Listxattr, Removexattr, Fsync, Flush, Release, Fsyncdir, Releasedir, Destroy, Answer, Options, Opened, Text, Count, Put, Wrote, Done, Offset, Statistics, Handed, default_answer}
 use Rattle.vfs_contents.specs.Pages.{reach}
-use Rattle.vfs_contents.specs.Contents.{allocated, lacking, pages_over}
+use Rattle.vfs_contents.specs.Contents.{allocated, data_from, hole_from, lacking, pages_over}
 use Rattle.vfs_nodes.specs.Children.{with_child, without_child, is_directory, is_file, is_link}
 use Rattle.vfs_nodes.specs.Listing.{items_behind}
 use Rattle.vfs_nodes.specs.Node.{new_node, set_attr, truncates, opened, overwritten}
@@ -40,6 +40,9 @@ emlink = 31
 
 abbrev pub enodev : ℕ
 enodev = 19
+
+abbrev pub enxio : ℕ
+enxio = 6
 
 -- ---- new nodes
 
@@ -198,23 +201,41 @@ most_size s off len node =
     min (longest s)
     (4096 * reach node.contents.held (room_of s / 4096) (off / 4096) (pages_over off len))
 
--- why a file can't be made to have place for these bytes
+-- a place is answered, if there is one
+abbrev pub at_place : State → Option ℕ → Outcome
+at_place s None = Refused enxio
+at_place s (Some place) = Answered (Just (Offset place)) s
+
+-- why a file can't be made to have place for these bytes; the mode is 0 or 1 (FALLOC_FL_KEEP_SIZE)
 abbrev pub fallocate_refusal : State → (mode off len : ℕ) → Node → Option ℕ
 fallocate_refusal s mode off len node =
-    first_of ((not (mode == 0), eopnotsupp) ∷ (not (is_file node.kind), enodev)
+    first_of ((nat_lt 1 mode, eopnotsupp) ∷ (not (is_file node.kind), enodev)
     ∷ (len == 0, einval)
     ∷ (nat_lt (longest s) (off + len), efbig)
     ∷ (nat_lt (most_size s off len node) (off + len), enospc) ∷ [])
 
--- these bytes are there, in pages that are held
-abbrev pub grown : (now : Time) → (off len : ℕ) → Node → Node
-grown now off len node =
-    record node { contents = allocated node.contents off len; mtime = now; ctime = now }
+-- how long it is at least then
+abbrev pub least_size : (mode off len : ℕ) → ℕ
+least_size mode off len = if mode == 1 then 0 else off + len
+
+-- these bytes lie in pages that are held
+abbrev pub grown : (now : Time) → (mode off len : ℕ) → Node → Node
+grown now mode off len node =
+    let contents = allocated node.contents off len (least_size mode off len) in
+    record node { contents = contents; mtime = now; ctime = now }
 
 abbrev pub allocates : State → (number mode off len : ℕ) → Outcome
 allocates s n mode off len = on (node_at s n) (fallocate_refusal s mode off len) (λ node.
     Tried (nat_lt 0 (lacking node.contents off len)) (Just Done)
-    (with_resized s n node (grown s.now off len node)))
+    (with_resized s n node (grown s.now mode off len node)))
+
+-- LSEEK looks for data (SEEK_DATA, 3) or a hole (SEEK_HOLE, 4) of a file, from a place before its end on
+abbrev pub seeks : State → (number off whence : ℕ) → Outcome
+seeks s n off whence = with_it (node_at s n) (λ node.
+    let at = if whence == 4 then Some (hole_from node.contents off)
+    else data_from node.contents off in
+    unless (first_of ((not (is_file node.kind) || not (whence == 3 || whence == 4), einval)
+    ∷ (nat_le (length node.contents.bytes) off, enxio) ∷ [])) (at_place s at))
 
 -- why not one of so many bytes can be written from off on
 abbrev pub write_refusal : State → (off size : ℕ) → Node → Option ℕ
@@ -339,6 +360,7 @@ outcome s (Read _ n _ room size off _ _) =
 outcome s (Write _ n _ bytes size off _ _ _ _) =
     on (node_at s n) (write_refusal s off size) (writes s n off size bytes)
 outcome s (Fallocate _ n _ mode off len) = allocates s n mode off len
+outcome s (Lseek _ n _ off whence) = seeks s n off whence
 outcome s (Statfs _ _) = Answered (Just (Statistics (statistics_of s))) s
 outcome s (Setxattr _ n name value flags _) = sets_xattr s n name value flags
 outcome s (Getxattr _ n name size) =

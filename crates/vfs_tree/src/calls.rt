@@ -467,12 +467,12 @@ impl FileSystem for TreeFs {
     fn lseek(
         &mut self,
         _ctx: Context,
-        _inode: u64,
+        inode: u64,
         _handle: u64,
-        _offset: u64,
-        _whence: u32,
+        offset: u64,
+        whence: u32,
     ) -> Result<u64, Fault> {
-        defaults::no_such_call::<u64>()
+        self.seek(inode, offset, whence)
     }
 
     fn copyfilerange(

@@ -3,11 +3,11 @@
 ghost use Rattle.std.specs.Prelude.{◌≡◌, ◌<◌, ◌≤◌, ◌^◌, ◌+◌, ◌-◌, IfSome, Some, None, IfOk, IfErr, OnOk};
 ghost use Rattle.vfs_flags.specs.Flags.{setattr_valid_bits};
 ghost use Rattle.vfs_files.specs.Values.{name_text};
-ghost use Rattle.vfs_files.specs.Calls.{Plain, KeepsTextShort, done_answer, getxattr_answer, listxattr_answer};
+ghost use Rattle.vfs_files.specs.Calls.{Plain, KeepsTextShort, done_answer, offset_answer, getxattr_answer, listxattr_answer};
 ghost use Rattle.vfs_nodes.specs.Xattrs.{xattr_named, name_list};
 ghost use Rattle.vfs_tree.specs.Outcome.{Ends, refusal_of, unless, with_it};
 ghost use Rattle.vfs_tree.specs.State.{node_at};
-ghost use Rattle.vfs_tree.specs.Tree.{contents_refusal, setattr_refusal, write_refusal, fallocate_refusal, allocates, longest, most_size, setxattr_refusal, is_bare, is_kept, namespace_refusal, sets_xattr, removes_xattr, tells};
+ghost use Rattle.vfs_tree.specs.Tree.{contents_refusal, setattr_refusal, write_refusal, fallocate_refusal, allocates, seeks, least_size, longest, most_size, setxattr_refusal, is_bare, is_kept, namespace_refusal, sets_xattr, removes_xattr, tells};
 
 use crate::fs::TreeFs;
 use bitflags::Flags;
@@ -18,6 +18,14 @@ use vfs_wire::SetattrIn;
 
 /// How many bytes a page of a file's contents has.
 pub(crate) const PAGE: u64 = 4096;
+
+/// The mode of FALLOCATE by which a file stays as long as it is.
+const KEEP_SIZE: u32 = 1;
+
+/// What LSEEK looks for.
+const SEEK_DATA: u32 = 3;
+
+const SEEK_HOLE: u32 = 4;
 
 /// The flag by which an extended attribute that is there is not set.
 const XATTR_CREATE: u32 = 1;
@@ -30,6 +38,16 @@ pub(crate) fn too_big() -> Errno
     ensures { result ≡ 27 }
 {
     match Errno::new(27) {
+        Some(errno) => errno,
+        None => unreachable!(),
+    }
+}
+
+// The error ENXIO: there is no such place.
+fn no_place() -> Errno
+    ensures { result ≡ 6 }
+{
+    match Errno::new(6) {
         Some(errno) => errno,
         None => unreachable!(),
     }
@@ -157,8 +175,8 @@ impl TreeFs {
         Ok(most)
     }
 
-    /// Makes a file at least `offset + length` bytes long, and has these `length` in pages that are
-    /// held.
+    /// Has `length` bytes of a file in pages that are held, and makes it at least `offset + length`
+    /// bytes long, unless the mode keeps it.
     pub(crate) fn allocate(
         &mut self,
         inode: u64,
@@ -169,13 +187,13 @@ impl TreeFs {
         ensures { Ends self.old (allocates self.old inode mode offset length)
             (Plain (done_answer result)) self.new }
     {
-        self.check_allocate(inode, mode, offset, length)?;
+        let least = self.check_allocate(inode, mode, offset, length)?;
         let (alloc, now) = (self.alloc, self.now);
         let Some(node) = self.nodes.get_mut(&inode) else {
             unreachable!()
         };
         let before = node.weight();
-        node.contents.allocate(alloc, offset, length)?;
+        node.contents.allocate(alloc, offset, length, least)?;
         node.mtime = now;
         node.ctime = now;
         let after = node.weight();
@@ -183,10 +201,11 @@ impl TreeFs {
         Ok(())
     }
 
-    // Whether a file can be made so.
-    fn check_allocate(&self, inode: u64, mode: u32, offset: u64, len: u64) -> Result<(), Errno>
+    // Whether a file can be made so, and how long it is at least then.
+    fn check_allocate(&self, inode: u64, mode: u32, offset: u64, len: u64) -> Result<u64, Errno>
         ensures ok { OnOk result (refusal_of (node_at self.entry.now inode)
             (fallocate_refusal self.entry.now mode offset len) ≡ None) }
+        ensures least { IfOk result (λ least. least ≡ least_size mode offset len) }
         ensures end { OnOk result (offset + len < 2 ^ 63) }
         ensures room { OnOk result (IfSome (node_at self.entry.now inode) (λ node.
             offset + len ≤ most_size self.entry.now offset len node)) }
@@ -196,7 +215,7 @@ impl TreeFs {
         let Some(node) = self.nodes.get(&inode) else {
             return Err(Errno::ENOENT);
         };
-        if mode != 0 {
+        if mode > KEEP_SIZE {
             return Err(Errno::EOPNOTSUPP);
         }
         if !node.kind.is_file() {
@@ -214,7 +233,33 @@ impl TreeFs {
         if end > self.most_size(node, offset, len) {
             return Err(Errno::ENOSPC);
         }
-        Ok(())
+        if mode == KEEP_SIZE {
+            return Ok(0);
+        }
+        Ok(end)
+    }
+
+    /// The next place in a file, from `offset` on, of data or of a hole.
+    pub(crate) fn seek(&self, inode: u64, offset: u64, whence: u32) -> Result<u64, Fault>
+        ensures { Ends self.entry.now (seeks self.entry.now inode offset whence)
+            (Plain (offset_answer result)) self.entry.now }
+    {
+        let Some(node) = self.nodes.get(&inode) else {
+            return Err(Some(Errno::ENOENT));
+        };
+        if !node.kind.is_file() || (whence != SEEK_DATA && whence != SEEK_HOLE) {
+            return Err(Some(Errno::EINVAL));
+        }
+        if offset >= node.contents.len() {
+            return Err(Some(no_place()));
+        }
+        if whence == SEEK_HOLE {
+            return Ok(node.contents.hole_from(offset));
+        }
+        match node.contents.data_from(offset) {
+            Some(place) => Ok(place),
+            None => Err(Some(no_place())),
+        }
     }
 
     /// Sets an extended attribute.

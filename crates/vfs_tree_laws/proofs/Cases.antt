@@ -1,5 +1,5 @@
 -- What the calls leave: a fact of all states that are left follows from that fact of each change.
-use Rattle.std.proofs.Common.{◌≡◌, ◌≤◌, ◌+◌, ◌-◌, ◌^◌, ◌==◌, ◌&&◌, ◌||◌, not, nat_lt, ℕ, zero, suc, max, ◌⊎◌, inl, inr, ⊎_elim, Bool, true, false, cond, List, [], ◌∷◌, ◌++◌, length, take, drop, replicate, Option, Some, None, is_some, is_none, refl, sym, ap, subst, ◌∙◌, arith, if◌then◌else◌, bit_and, length-append, length-take, length-drop}
+use Rattle.std.proofs.Common.{◌≡◌, ◌≤◌, ◌+◌, ◌-◌, ◌^◌, ◌==◌, ◌&&◌, ◌||◌, not, nat_lt, nat_le, ℕ, zero, suc, max, ◌⊎◌, inl, inr, ⊎_elim, Bool, true, false, cond, List, [], ◌∷◌, ◌++◌, length, take, drop, replicate, Option, Some, None, is_some, is_none, refl, sym, ap, subst, ◌∙◌, arith, if◌then◌else◌, bit_and, length-append, length-take, length-drop}
 use Rattle.std.specs.List.{position_or_len}
 use Rattle.vfs_views.specs.Segments.{with_bytes_at}
 use Rattle.vfs_flags.specs.Numbers.{eexist, eisdir, einval, enodata, enospc, enotdir, enotempty, eopnotsupp, eoverflow, eperm, erange}
@@ -12,7 +12,7 @@ use Rattle.vfs_wire.specs.declared.attributes.SetattrIn.{SetattrIn}
 use Rattle.std.proofs.lemmas.Bool.{ltb-true, ltb-false, eqb-true, not-false, or_parts}
 use Rattle.std.proofs.lemmas.List.{length-replicate}
 use Rattle.std.proofs.lemmas.List.Sums.{sum_by-remove}
-use Rattle.vfs_contents.specs.Contents.{Contents, resized, lacking}
+use Rattle.vfs_contents.specs.Contents.{Contents, resized, data_from, hole_from, lacking}
 use Rattle.vfs_tree.specs.Children.{with_child, is_directory, is_file}
 use Rattle.vfs_tree.specs.Listing.{items_behind}
 use Rattle.vfs_tree.specs.Node.{weight, left_by, truncates, opened, set_attr, overwritten, new_node}
@@ -21,7 +21,7 @@ use Rattle.vfs_tree.specs.Rename.{directory_refusal, rename_refusal, renamed}
 use Rattle.vfs_tree.specs.State.{State, node_at, node_named, room_of, with_node, with_resized, with_names, change, child_at}
 use Rattle.vfs_tree.specs.State as tree
 use Rattle.vfs_tree_laws.specs.Laws.{IsShort}
-use Rattle.vfs_tree.specs.Tree.{opening, held_of, group_in, permissions_in, namespace_refusal, efbig, enodev, most_xattr_bytes, TreeAllows, outcome, found, at_name, made, makes, linked, all_forgotten, setattr_refusal, contents_refusal, writes, write_refusal, longest, most_size, grown, fallocate_refusal, setxattr_refusal, with_xattrs, has_no_text, is_plain, make_refusal, taken_out, link_refusal, statistics_of, tells}
+use Rattle.vfs_tree.specs.Tree.{opening, held_of, group_in, permissions_in, namespace_refusal, efbig, enodev, enxio, at_place, most_xattr_bytes, TreeAllows, outcome, found, at_name, made, makes, linked, all_forgotten, setattr_refusal, contents_refusal, writes, write_refusal, longest, most_size, grown, fallocate_refusal, setxattr_refusal, with_xattrs, has_no_text, is_plain, make_refusal, taken_out, link_refusal, statistics_of, tells}
 use Rattle.vfs_tree.specs.Xattrs.{Xattr, is_called, attribute_bytes, without_place, xattr_named, xattr_bytes, with_xattr, without_xattr, name_list}
 use Rattle.vfs_nodes.specs.declared.children.Child.{Child}
 use Rattle.vfs_nodes.specs.declared.kind.Kind.{Kind}
@@ -258,25 +258,31 @@ overwritten_resizes s node off size bytes =
 -- FALLOCATE
 grown_resizes : (s : State) (node : Node) (mode off len : ℕ)
     → fallocate_refusal s mode off len node ≡ None
-    → Resizes s node (grown s.now off len node)
+    → Resizes s node (grown s.now mode off len node)
 grown_resizes s node mode off len none =
     let most : ℕ = most_size s off len node in
-    let rs : List (Bool × ℕ) = (not (mode == 0), eopnotsupp) ∷ (not (is_file node.kind), enodev)
+    let rs : List (Bool × ℕ) = (nat_lt 1 mode, eopnotsupp) ∷ (not (is_file node.kind), enodev)
     ∷ (len == 0, einval)
     ∷ (nat_lt (longest s) (off + len), efbig)
     ∷ (nat_lt most (off + len), enospc) ∷ [] in
     let fits = are_not rs none in
     let within : off + len ≤ most = omega (arith, ltb-false most (off + len) fits.1.1.1.1.0) in
-    let size = length-lengthened node.contents.bytes (off + len) in
     record {
       kind = refl;
       parent = refl;
       names = refl;
       lookups = refl;
       children = refl;
-      room = grown_fits s node s.now off len within;
-      file = λ short is. omega (arith, within, size, short is);
+      room = grown_fits s node s.now mode off len within;
+      file = λ short is. by (mode == 1) within (short is);
     }
+  where
+    by : (t : Bool) → off + len ≤ most_size s off len node
+        → length node.contents.bytes ≤ s.limits.file
+        → length (lengthened node.contents.bytes (if t then 0 else off + len)) ≤ s.limits.file
+    by true within short = omega (arith, length-lengthened node.contents.bytes 0, short)
+    by false within short =
+        omega (arith, within, length-lengthened node.contents.bytes (off + len), short)
 
 -- SETXATTR
 xattr_fits : (s : State) (node : Node) (name value : List ℕ) (flags : ℕ)
@@ -376,6 +382,11 @@ module _ (F : Type 0) (L : TreeReply → State → Type 0) (fails : F) where
       each-unless (directory_refusal (node_at s parent) name)
       (found (child_at s parent name) (node_named s parent name) f)
       (λ free. each-found s (child_at s parent name) f (λ child node is there. more child node free is there))
+
+  each-at_place : (s : State) (o : Option ℕ)
+      → ((place : ℕ) → L (Just (Offset place)) s) → Each F L (at_place s o)
+  each-at_place s None more = fails
+  each-at_place s (Some place) more = more place
 
 -- what is answered has the entry's node
 entry_nodes : (n : ℕ) (node : Node) (answer : Answer) → Replies (EntryOf n node) (Plain answer)
@@ -586,7 +597,7 @@ module _ (old : State) (P : List (ℕ × ℕ) → TreeReply → State → Type 0
   covered (Fallocate c n h mode off len) =
       let call = (Fallocate c n h mode off len) in
       let fails : Fails old call = (refl, λ e. refl) in
-      let last = λ (node : Node). grown old.now off len node in
+      let last = λ (node : Node). grown old.now mode off len node in
       each-on (Fails old call) (Leaves call) fails (node_at old n) (fallocate_refusal old mode off len)
       (λ node. Tried (nat_lt 0 (lacking node.contents off len)) (Just Done)
       (with_resized old n node (last node)))
@@ -680,7 +691,18 @@ module _ (old : State) (P : List (ℕ × ℕ) → TreeReply → State → Type 0
   covered NotifyReply =
       ((λ a r. refl), q.same (Just (default_answer NotifyReply)) refl)
   covered (Lseek c n h off w) =
-      ((λ a r. refl), q.same (Just (default_answer (Lseek c n h off w))) refl)
+      let call = (Lseek c n h off w) in
+      let fails : Fails old call = (refl, λ e. refl) in
+      let at = λ (node : Node). if w == 4 then Some (hole_from node.contents off)
+      else data_from node.contents off in
+      let none = λ (node : Node).
+      first_of ((not (is_file node.kind) || not (w == 3 || w == 4), einval)
+      ∷ (nat_le (length node.contents.bytes) off, enxio) ∷ []) in
+      each-with_it (Fails old call) (Leaves call) fails (node_at old n)
+      (λ node. unless (none node) (at_place old (at node)))
+      (λ node is. each-unless (Fails old call) (Leaves call) fails (none node) (at_place old (at node))
+      (λ free. each-at_place (Fails old call) (Leaves call) fails old (at node)
+      (λ place. ((λ a r. refl), q.same (Just (Offset place)) refl))))
   covered (Copyfilerange c n h o m i p l f) =
       ((λ a r. refl), q.same (Just (default_answer (Copyfilerange c n h o m i p l f))) refl)
   covered (Syncfs c n) =

@@ -154,6 +154,35 @@ fn first_place(tree: &mut TreeFs) -> Result<(), Fault>
     tree.fallocate(root(), 2, 0, 0, 0, 2)
 }
 
+/// FALLOCATE that keeps the size of a file (FALLOC_FL_KEEP_SIZE, 1): it has a page, and shows no byte.
+fn place_behind_the_end(tree: &mut TreeFs) -> Result<(), Fault>
+    requires { tree.old ≡ tree_of wide empty_file }
+    ensures { MatchResult result
+        (λ _. tree.new ≡ file_tree wide [])
+        (λ fault. (fault ≡ Some 12) × (tree.new ≡ tree.old)) }
+{
+    tree.fallocate(root(), 2, 0, 1, 0, 2)
+}
+
+/// LSEEK: where a file has data (SEEK_DATA, 3), and where they end (SEEK_HOLE, 4).
+fn data_and_hole(tree: &mut TreeFs, whence: u32) -> Result<u64, Fault>
+    requires { tree.old ≡ file_tree wide (codes "hello") }
+    ensures data { whence ≡ 3 → result ≡ Ok 2 }
+    ensures hole { whence ≡ 4 → result ≡ Ok 5 }
+    ensures same { tree.new ≡ tree.old }
+{
+    tree.lseek(root(), 2, 0, 2, whence)
+}
+
+/// LSEEK behind the end of a file: ENXIO.
+fn no_place_behind_the_end(tree: &mut TreeFs) -> Result<u64, Fault>
+    requires { tree.old ≡ file_tree wide (codes "hello") }
+    ensures refused { result ≡ Err (Some 6) }
+    ensures same { tree.new ≡ tree.old }
+{
+    tree.lseek(root(), 2, 0, 5, 3)
+}
+
 /// OPEN: what the client keeps of a file stays true (`FOPEN_KEEP_CACHE`, 2), and nothing changes.
 fn opened(tree: &mut TreeFs) -> Result<(Option<u64>, OpenOptions), Fault>
     requires { tree.old ≡ file_tree wide (codes "hello") }

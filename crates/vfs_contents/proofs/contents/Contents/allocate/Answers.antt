@@ -19,7 +19,7 @@ returns c =
     ∙ ap (with_pages (keys_of s.pages) (off / 4096)) over in
     record {
       ok = ap (contents_of c.hold.new.self) c.max-self-inside.ensures
-          ∙ contents_allocated s.pages c.hold.new.self s.size off len c.self.invariant pages c.hold.ensures.same
-          ∙ ap (λ (k : Contents). allocated k off len) c.self.view_is;
+          ∙ contents_allocated s.pages c.hold.new.self s.size off len c.args.least c.self.invariant pages c.hold.ensures.same
+          ∙ ap (λ (k : Contents). allocated k off len c.args.least) c.self.view_is;
       err = tt;
     }

@@ -7,8 +7,8 @@ use Rattle.vfs_tree.proofs.fs.TreeFs.allocate.Goals as goal
 
 pub reweigh-requires : goal.reweigh-requires
 reweigh-requires c =
-    let within = rw (← c.self.view_is, ← c.in-Some.ensures.value) at c.in_ok-check_allocate.ensures.room in
-    let fits = grown_fits (the_view c.self.inside) c.in-Some.node.now c.self.inside.now c.args.offset
+    let within = rw (← c.self.view_is, ← c.in-Some.ensures.value) at c.in_ok-least.ensures.room in
+    let fits = grown_fits (the_view c.self.inside) c.in-Some.node.now c.self.inside.now c.args.mode c.args.offset
     c.args.length within in
     let held = ap (λ (k : Contents). length k.held) c.in_ok-allocate.ensures.ok in
     omega (arith, fits, held)

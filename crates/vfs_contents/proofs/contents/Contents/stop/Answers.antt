@@ -3,13 +3,13 @@ use Rattle.std.proofs.lemmas.Bool.{cond-true, cond-false, ne_eqb}
 use Rattle.vfs_contents.specs.Pages.{holds, reach}
 use Rattle.vfs_contents.specs.Contents.{Contents}
 use Rattle.vfs_contents.proofs.Held.{reach_more}
-use Rattle.vfs_contents.proofs.contents.Contents.reach.Goals as goal
+use Rattle.vfs_contents.proofs.contents.Contents.stop.Goals as goal
 
 pub go-preserved-then-holds : goal.go-preserved-then-holds
 go-preserved-then-holds c =
     let held = c.args.self.now.held in
     let page = c.go.page in
-    let end = c.span-first.result.1 in
+    let end = c.args.end in
     let left = c.go.left in
     let there : holds held page ≡ true =
     sym (c.holds.ensures ∙ ap (λ (k : Contents). holds k.held page) c.self.view_is) ∙ c.if-holds.true in
@@ -22,7 +22,7 @@ pub go-preserved : goal.go-preserved
 go-preserved c =
     let held = c.args.self.now.held in
     let page = c.go.page in
-    let end = c.span-first.result.1 in
+    let end = c.args.end in
     let left = c.go.left in
     let next : ℕ = reach held (left - 1) (page + 1) (end - (page + 1)) in
     let free : holds held page ≡ false =
