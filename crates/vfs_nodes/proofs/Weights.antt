@@ -1,5 +1,5 @@
 -- How much a node weighs after a change.
-use Rattle.std.proofs.Common.{◌≡◌, ◌≤◌, ◌+◌, ◌*◌, ◌/◌, ◌==◌, ℕ, Bool, true, false, List, [], ◌∷◌, length, filter, nat_lt, bit_and, ◌⊎◌, ⊎_elim, if◌then◌else◌, arith}
+use Rattle.std.proofs.Common.{◌≡◌, ◌≤◌, ◌+◌, ◌*◌, ◌/◌, ◌==◌, ℕ, Bool, true, false, List, [], ◌∷◌, Option, length, filter, nat_lt, bit_and, ◌⊎◌, ⊎_elim, if◌then◌else◌, arith}
 use Rattle.std.specs.Int.{div_ceil}
 use Rattle.vfs_wire.specs.declared.attributes.SetattrIn.{SetattrIn}
 use Rattle.vfs_contents.specs.Contents.{Contents, resized, pages_over}
@@ -30,9 +30,9 @@ resized_holds c size = by (nat_lt (length c.bytes) size)
     by false = length-filter-le (λ n. nat_lt n (div_ceil size 4096)) c.held
 
 -- SETATTR
-pub set_attr_weighs : (now : Time) (node : Node) (attr : SetattrIn) (valid : ℕ)
-    → weight (set_attr now node attr valid) ≤ weight node
-set_attr_weighs now node attr valid = omega (arith, by (bit_and valid 8 == 8))
+pub set_attr_weighs : (now : Time) (node : Node) (attr : SetattrIn) (handle : Option ℕ) (valid : ℕ)
+    → weight (set_attr now node attr handle valid) ≤ weight node
+set_attr_weighs now node attr handle valid = omega (arith, by (bit_and valid 8 == 8))
   where
     by : (t : Bool)
         → length (if t then resized node.contents attr.size else node.contents).held

@@ -1,5 +1,5 @@
 -- What a node shows of itself, and what becomes of it.
-use Rattle.std.specs.Prelude.{◌≡◌, ℕ, ◌+◌, ◌-◌, ◌*◌, ◌^◌, ◌/◌, ◌==◌, ◌&&◌, Bool, List, [], ◌∷◌, length, min, bit_or, bit_and, if◌then◌else◌}
+use Rattle.std.specs.Prelude.{◌≡◌, ℕ, ◌+◌, ◌-◌, ◌*◌, ◌^◌, ◌/◌, ◌==◌, ◌&&◌, Bool, List, [], ◌∷◌, Option, is_none, length, min, bit_or, bit_and, if◌then◌else◌}
 use Rattle.std.specs.Duration.{as_nanos}
 use Rattle.std.specs.declared.time.Duration.{Duration}
 use Rattle.vfs_wire.specs.declared.attributes.Attr.{Attr}
@@ -100,9 +100,15 @@ new_node now uid gid kind permissions parent text = record {
 abbrev pub picked : {A : Type 0} → (valid bit : ℕ) → A → A → A
 picked valid bit new old = if bit_and valid bit == bit then new else old
 
--- a node with the attributes that a request sets; its change is now, unless the request says when
-abbrev pub set_attr : (now : Time) → Node → SetattrIn → (valid : ℕ) → Node
-set_attr now node attr valid = record node {
+-- whether a request that names no handle sets the size that a file has, which holds no page
+abbrev pub is_idle : Node → SetattrIn → (handle : Option ℕ) → (valid : ℕ) → Bool
+is_idle node attr handle valid =
+    bit_and valid 0x8 == 0x8 && is_none handle && attr.size == length node.contents.bytes
+    && length node.contents.held == 0
+
+-- a node with the attributes that a request sets; its change is now, unless the request says when or is idle
+abbrev pub set_attr : (now : Time) → Node → SetattrIn → (handle : Option ℕ) → (valid : ℕ) → Node
+set_attr now node attr handle valid = record node {
   contents = picked valid 0x8 (resized node.contents attr.size) node.contents;
   permissions = picked valid 0x1 attr.mode node.permissions;
   uid = picked valid 0x2 attr.uid node.uid;
@@ -111,8 +117,9 @@ set_attr now node attr valid = record node {
       (picked valid 0x10 (record { seconds = attr.atime; nanoseconds = attr.atimensec }) node.atime);
   mtime = picked valid 0x100 now
       (picked valid 0x20 (record { seconds = attr.mtime; nanoseconds = attr.mtimensec })
-      (picked valid 0x8 now node.mtime));
-  ctime = picked valid 0x400 (record { seconds = attr.ctime; nanoseconds = attr.ctimensec }) now;
+      (if is_idle node attr handle valid then node.mtime else picked valid 0x8 now node.mtime));
+  ctime = picked valid 0x400 (record { seconds = attr.ctime; nanoseconds = attr.ctimensec })
+      (if is_idle node attr handle valid then node.ctime else now);
 }
 
 -- permission bits without set-user-ID, and without set-group-ID where the group may run it

@@ -182,11 +182,16 @@ impl Node {
         self.contents.held() * PAGE + self.text.len() + self.xattrs.bytes()
     }
 
-    /// Sets the attributes that the request names. A longer file takes no memory for that.
-    pub fn set_attr(&mut self, now: Time, attr: SetattrIn, valid: SetattrValid)
-        ensures { self.new ≡ set_attr now self.old attr (setattr_valid_bits valid) }
+    /// Sets the attributes that the request names. A longer file takes no memory for that, and the size
+    /// that a file without pages has moves no time, unless by a handle.
+    pub fn set_attr(&mut self, now: Time, attr: SetattrIn, handle: Option<u64>, valid: SetattrValid)
+        ensures { self.new ≡ set_attr now self.old attr handle (setattr_valid_bits valid) }
     {
         let resizes = valid.contains(SetattrValid::SIZE);
+        let idle = resizes
+            && handle.is_none()
+            && attr.size == self.contents.len()
+            && self.contents.held() == 0;
         if resizes {
             self.contents.resize(attr.size);
         }
@@ -211,10 +216,11 @@ impl Node {
         self.gid = pick(valid.contains(SetattrValid::GID), attr.gid, self.gid);
         let read = pick(valid.contains(SetattrValid::ATIME), atime, self.atime);
         self.atime = pick(valid.contains(SetattrValid::ATIME_NOW), now, read);
-        let resized = pick(resizes, now, self.mtime);
+        let resized = pick(idle, self.mtime, pick(resizes, now, self.mtime));
         let written = pick(valid.contains(SetattrValid::MTIME), mtime, resized);
         self.mtime = pick(valid.contains(SetattrValid::MTIME_NOW), now, written);
-        self.ctime = pick(valid.contains(SetattrValid::CTIME), ctime, now);
+        let changed = pick(idle, self.ctime, now);
+        self.ctime = pick(valid.contains(SetattrValid::CTIME), ctime, changed);
     }
 
     /// Whether an opening with these flags takes the bytes of it.

@@ -131,3 +131,8 @@ fn a_long_file_takes_what_is_written(rt: HostRuntime) -> Result<(), Fail> {
 fn holes_of_a_file_are_found(rt: HostRuntime) -> Result<(), Fail> {
     none_is_wrong(wrong_long(rt.alloc(), long::holes()))
 }
+
+#[test]
+fn a_size_that_is_there_moves_no_time(rt: HostRuntime) -> Result<(), Fail> {
+    none_is_wrong(wrong_long(rt.alloc(), long::sizes()))
+}

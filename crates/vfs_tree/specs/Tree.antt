@@ -186,9 +186,9 @@ setattr_refusal s attr valid node =
     else None
 
 -- so SETATTR does, or it is refused; a longer file takes no more memory
-abbrev pub sets_attr : State → (number : ℕ) → SetattrIn → (valid : ℕ) → Outcome
-sets_attr s n attr valid = on (node_at s n) (setattr_refusal s attr valid) (λ node.
-    let set = set_attr s.now node attr valid in
+abbrev pub sets_attr : State → (number : ℕ) → SetattrIn → (handle : Option ℕ) → (valid : ℕ) → Outcome
+sets_attr s n attr handle valid = on (node_at s n) (setattr_refusal s attr valid) (λ node.
+    let set = set_attr s.now node attr handle valid in
     Answered (AttrOf n set) (with_resized s n node set))
 
 -- how an OPEN is answered: what the client keeps of the bytes stays true, unless they were taken
@@ -336,7 +336,7 @@ outcome s (Lookup _ parent name) = at_name s parent name (λ child node.
 outcome s (Forget _ n count) = done (forgotten s n count (node_at s n))
 outcome s (BatchForget _ requests) = done (all_forgotten s requests)
 outcome s (Getattr _ n _) = with_it (node_at s n) (λ node. Answered (AttrOf n node) s)
-outcome s (Setattr _ n attr _ valid) = sets_attr s n attr valid
+outcome s (Setattr _ n attr handle valid) = sets_attr s n attr handle valid
 outcome s (Mkdir ctx parent name mode _ _) = makes s ctx kind.Directory mode parent name []
 outcome s (Mknod ctx parent name mode _ _ _) =
     unless (if is_plain mode then None else Some eperm) (makes s ctx kind.File mode parent name [])

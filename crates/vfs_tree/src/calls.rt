@@ -79,10 +79,10 @@ impl FileSystem for TreeFs {
         _ctx: Context,
         inode: u64,
         attr: SetattrIn,
-        _handle: Option<u64>,
+        handle: Option<u64>,
         valid: SetattrValid,
     ) -> Result<(Attr, Duration), Fault>
-        ensures { Ends self.old (sets_attr self.old inode attr (setattr_valid_bits valid))
+        ensures { Ends self.old (sets_attr self.old inode attr handle (setattr_valid_bits valid))
             (Plain (attr_answer result)) self.new }
     {
         self.check_set_attr(inode, &attr, valid)?;
@@ -91,7 +91,7 @@ impl FileSystem for TreeFs {
             unreachable!()
         };
         let before = node.weight();
-        node.set_attr(now, attr, valid);
+        node.set_attr(now, attr, handle, valid);
         let after = node.weight();
         let attr = node.attr(inode);
         self.reweigh(before, after);

@@ -169,16 +169,16 @@ length-resized c size =
     )
 
 -- SETATTR
-set_attr_resizes : (s : State) (node : Node) (attr : SetattrIn) (valid : ℕ)
+set_attr_resizes : (s : State) (node : Node) (attr : SetattrIn) (handle : Option ℕ) (valid : ℕ)
     → setattr_refusal s attr valid node ≡ None
-    → Resizes s node (set_attr s.now node attr valid)
-set_attr_resizes s node attr valid none = record {
+    → Resizes s node (set_attr s.now node attr handle valid)
+set_attr_resizes s node attr handle valid none = record {
   kind = refl;
   parent = refl;
   names = refl;
   lookups = refl;
   children = refl;
-  room = omega (arith, set_attr_weighs s.now node attr valid);
+  room = omega (arith, set_attr_weighs s.now node attr handle valid);
   file = λ short is. by (bit_and valid 8 == 8) none (short is);
 }
   where
@@ -489,13 +489,13 @@ module _ (old : State) (P : List (ℕ × ℕ) → TreeReply → State → Type 0
   covered (Setattr c n attr h valid) =
       let call = (Setattr c n attr h valid) in
       let fails : Fails old call = (refl, λ e. refl) in
-      let set = λ (node : Node). set_attr old.now node attr valid in
+      let set = λ (node : Node). set_attr old.now node attr h valid in
       each-on (Fails old call) (Leaves call) fails (node_at old n) (setattr_refusal old attr valid)
       (λ node. Answered (AttrOf n (set node)) (with_resized old n node (set node)))
       (λ node is free. (
         (λ a r. refl),
         q.resizes n node (set node) (AttrOf n (set node)) tt is
-            (set_attr_resizes old node attr valid free),
+            (set_attr_resizes old node attr h valid free),
       ))
   covered (Mkdir c parent name mode u e) =
       makes_covered (Mkdir c parent name mode u e) (λ a. refl) refl c kind.Directory mode parent name []

@@ -95,6 +95,10 @@ tree_of limits node =
       now = second_7;
     }
 
+-- the same at second 9
+abbrev pub later : State → State
+later s = record s { now = record { seconds = 9; nanoseconds = 0 } }
+
 -- a tree with a file `f` of these bytes
 abbrev pub file_tree : Capacity → (bytes : List ℕ) → State
 file_tree limits bytes = tree_of limits (file_of bytes)

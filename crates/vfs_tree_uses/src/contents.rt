@@ -3,7 +3,7 @@
 ghost use Rattle.std.specs.Prelude.{◌≡◌, [], ◌∷◌, ◌++◌, codes, Ok, Err, Some, None, MatchResult, OnOk};
 ghost use Rattle.std.specs.Duration.{as_nanos};
 ghost use Rattle.vfs_flags.specs.Flags.{open_options_bits};
-ghost use Rattle.vfs_tree_uses.specs.Trees.{empty_file, file_tree, small_tree, tree_of, wide};
+ghost use Rattle.vfs_tree_uses.specs.Trees.{empty_file, file_tree, later, small_tree, tree_of, wide};
 
 use crate::support::root;
 use std::time::Duration;
@@ -124,6 +124,16 @@ fn resize(tree: &mut TreeFs, size: u64) -> Result<(Attr, Duration), Fault>
         ..SetattrIn::default()
     };
     tree.setattr(root(), 2, wanted, None, SetattrValid::SIZE)
+}
+
+/// SETATTR of the size that a file has, which holds no page: it changes nothing, unless by a handle.
+fn size_that_is_there(tree: &mut TreeFs, handle: Option<u64>) -> Result<(Attr, Duration), Fault>
+    requires { tree.old ≡ later (tree_of wide empty_file) }
+    ensures same { handle ≡ None → tree.new ≡ tree.old }
+    ensures changed { handle ≡ Some 0 → MatchResult result
+        (λ reply. (reply.0.mtime ≡ 9) × (reply.0.ctime ≡ 9)) (λ _. ⊥) }
+{
+    tree.setattr(root(), 2, SetattrIn::default(), handle, SetattrValid::SIZE)
 }
 
 /// FALLOCATE of bytes that are there: it wants no memory, and nothing changes.
