@@ -3,4 +3,5 @@ pub mod Fills
 pub mod First
 pub mod Held
 pub mod Moves
+pub mod Punch
 pub mod Shown

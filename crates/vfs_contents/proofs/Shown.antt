@@ -14,7 +14,7 @@ use Rattle.vfs_contents.proofs.Held.{zeros_at, over_in, over_before, over_behind
 pub length-bytes_of : (pages : Pages) (size : ℕ) → length (bytes_of pages size) ≡ size
 length-bytes_of pages size = length-map-range_with_len (byte_at pages) 0 size
 
-shown : (pages : Pages) (size i : ℕ) → i < size → get_or (bytes_of pages size) i 0 ≡ byte_at pages i
+pub shown : (pages : Pages) (size i : ℕ) → i < size → get_or (bytes_of pages size) i 0 ≡ byte_at pages i
 shown pages size i within =
     get_or-map-range_with_len (byte_at pages) 0 size i i 0 within (omega arith)
 
@@ -32,7 +32,7 @@ shown_behind pages size k i zero =
     ∙ zeros_at (replicate k 0) k (i - size) refl ∙ sym (zero i behind))
     (cases_lt i size)
 
-both : (a b h k : List ℕ) → a ≡ b → h ≡ k
+pub both : (a b h k : List ℕ) → a ≡ b → h ≡ k
     → (let c : Contents = record { bytes = a; held = h } in c) ≡ record { bytes = b; held = k }
 both a b h k same held =
     let with : List ℕ → List ℕ → Contents = λ a h. record { bytes = a; held = h } in

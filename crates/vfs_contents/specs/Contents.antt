@@ -1,12 +1,12 @@
 -- The bytes of a file, and which of its pages are held.
-use Rattle.std.specs.Prelude.{◌≡◌, ◌≤◌, ◌<◌, ◌+◌, ◌-◌, ◌*◌, ◌/◌, ℕ, min, max, nat_lt, List, [], ◌∷◌, ◌++◌, length, take, replicate, map, Option, Some, None, Result, Ok, Err, if◌then◌else◌}
+use Rattle.std.specs.Prelude.{◌≡◌, ◌≤◌, ◌<◌, ◌+◌, ◌-◌, ◌*◌, ◌/◌, ℕ, min, max, nat_lt, List, [], ◌∷◌, ◌++◌, length, take, drop, replicate, map, Option, Some, None, Result, Ok, Err, if◌then◌else◌}
 use Rattle.std.specs.List.{filter, range_with_len}
 use Rattle.std.specs.Int.{div_ceil}
 use Rattle.std.specs.Map.{keys_of}
 use Rattle.vfs_flags.specs.Numbers.{enomem}
 use Rattle.vfs_files.specs.Bytes.{fitting}
 use Rattle.vfs_files.specs.Bytes as flat
-use Rattle.vfs_contents.specs.Pages.{Pages, byte_at, first_from, with_pages, missing, reach}
+use Rattle.vfs_contents.specs.Pages.{Pages, byte_at, first_from, is_outside, with_pages, missing, reach}
 
 -- the bytes, whatever holds them, and the numbers of the pages that are held, in order. A page has 4096
 -- bytes; it may lie behind the end
@@ -60,6 +60,13 @@ abbrev pub allocated : Contents → (off len least : ℕ) → Contents
 allocated c off len least = record {
   bytes = flat.lengthened c.bytes least;
   held = with_pages c.held (off / 4096) (pages_over off len);
+}
+
+-- zeros in place of so many bytes from off on, as far as there are bytes; the pages that lie in them whole go
+abbrev pub punched : Contents → (off len : ℕ) → Contents
+punched c off len = record {
+  bytes = take off c.bytes ++ (replicate (min len (length c.bytes - off)) 0 ++ drop (off + len) c.bytes);
+  held = filter (is_outside (div_ceil off 4096) ((off + len) / 4096)) c.held;
 }
 
 -- these bytes written from off on, in pages that are held then

@@ -1,5 +1,5 @@
 -- Pages of 4096 bytes, by their numbers. One that is not held has zeros.
-use Rattle.std.specs.Prelude.{◌≡◌, ◌≤◌, ◌^◌, ◌+◌, ◌-◌, ◌/◌, ◌%◌, ◌&&◌, ◌==◌, nat_le, nat_lt, ℕ, zero, suc, Bool, List, [], ◌∷◌, length, slice_index, Option, Some, None, IfSome, if◌then◌else◌, Vec}
+use Rattle.std.specs.Prelude.{◌≡◌, ◌≤◌, ◌^◌, ◌+◌, ◌-◌, ◌/◌, ◌%◌, ◌&&◌, ◌==◌, nat_le, nat_lt, not, ℕ, zero, suc, Bool, List, [], ◌∷◌, length, slice_index, Option, Some, None, IfSome, if◌then◌else◌, Vec}
 use Rattle.std.specs.List.{list_any, find}
 use Rattle.std.specs.Ordering.{nat_cmp}
 use Rattle.std.specs.Map.{lookup, remove_entry}
@@ -46,6 +46,10 @@ holds held n = list_any (is_at (nat_cmp n)) held
 -- the first of these pages from one on
 abbrev pub first_from : (held : List ℕ) → (page : ℕ) → Option ℕ
 first_from held n = find (nat_le n) held
+
+-- whether a page is none of those from one on, as far as one that stays
+abbrev pub is_outside : (first end page : ℕ) → Bool
+is_outside first end n = not (nat_le first n && nat_lt n end)
 
 -- these pages and one more
 abbrev pub with_page : (held : List ℕ) → (page : ℕ) → List ℕ

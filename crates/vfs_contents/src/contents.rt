@@ -4,7 +4,7 @@ ghost use Rattle.std.specs.Prelude.{◌≡◌, ◌<◌, ◌^◌, ◌≤◌, ◌+
 ghost use Rattle.std.specs.Int.{div_ceil};
 ghost use Rattle.vfs_files.specs.Bytes.{PutsPart};
 ghost use Rattle.vfs_flags.specs.Numbers.{enomem};
-ghost use Rattle.vfs_contents.specs.Contents.{no_contents, resized, allocated, data_from, hole_from, lacking, pages_over, Writes};
+ghost use Rattle.vfs_contents.specs.Contents.{no_contents, resized, allocated, data_from, hole_from, lacking, pages_over, punched, Writes};
 ghost use Rattle.vfs_contents.specs.Pages.{reach};
 
 use crate::pages::{PAGE, Pages};
@@ -110,7 +110,7 @@ impl Contents {
             return;
         }
         self.pages.cut(size.div_ceil(PAGE as u64));
-        self.pages.zero_from(size);
+        self.pages.zero(size, PAGE as u64 - size % PAGE as u64);
         self.size = size;
     }
 
@@ -155,6 +155,23 @@ impl Contents {
         self.pages.hold(alloc, first, end - first)?;
         self.size = self.size.max(least);
         Ok(())
+    }
+
+    /// Makes zeros of so many bytes from `offset` on, as far as there are bytes, and lets the pages go
+    /// that lie in them whole.
+    pub fn punch(&mut self, offset: u64, length: u64)
+        requires { offset + length < 2 ^ 64 }
+        ensures { self.new ≡ punched self.old offset length }
+    {
+        let end = offset + length;
+        let (first, last) = (offset.div_ceil(PAGE as u64), end / PAGE as u64);
+        self.pages.cut_out(first, last);
+        if last < first {
+            self.pages.zero(offset, length);
+            return;
+        }
+        self.pages.zero(offset, first * PAGE as u64 - offset);
+        self.pages.zero(last * PAGE as u64, end % PAGE as u64);
     }
 
     /// Puts bytes from `offset` on into `w`, at most `size`, and answers how many.

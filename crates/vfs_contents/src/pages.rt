@@ -8,7 +8,7 @@ ghost use Rattle.std.specs.BTreeMap.{is_at};
 ghost use Rattle.std.specs.BTreeSet.{insert_key};
 ghost use Rattle.vfs_flags.specs.Numbers.{enomem};
 ghost use Rattle.std.specs.declared.alloc.Global.{Global};
-ghost use Rattle.vfs_contents.specs.Pages.{Pages, byte_at, byte_over, first_from, holds, with_pages, missing, undone};
+ghost use Rattle.vfs_contents.specs.Pages.{Pages, byte_at, byte_over, first_from, holds, is_outside, with_pages, missing, undone};
 
 use std::alloc::Global;
 use std::collections::BTreeMap;
@@ -181,14 +181,29 @@ impl Pages {
         count
     }
 
-    /// Writes zeros from a place to the end of its page.
-    pub(crate) fn zero_from(&mut self, at: u64)
+    /// Writes so many zeros from a place on, within its page.
+    pub(crate) fn zero(&mut self, at: u64, count: u64)
+        requires { at % 4096 + count ≤ 4096 }
         ensures keys { keys_of self.new ≡ keys_of self.old }
         ensures bytes { (place : ℕ) → byte_at self.new place
-            ≡ byte_over at (replicate (4096 - at % 4096) 0) (byte_at self.old) place }
+            ≡ byte_over at (replicate count 0) (byte_at self.old) place }
     {
         if self.holds(at / PAGE as u64) {
-            self.put(at, zeros(PAGE - (at % PAGE as u64) as usize));
+            self.put(at, zeros(count as usize));
+        }
+    }
+
+    /// Lets the pages from one on go, as far as one that stays.
+    pub(crate) fn cut_out(&mut self, page: u64, end: u64)
+        ensures keys { keys_of self.new ≡ filter (is_outside page end) (keys_of self.old) }
+        ensures bytes { (place : ℕ) → byte_at self.new place
+            ≡ (if is_outside page end (place / 4096) then byte_at self.old place else 0) }
+    {
+        if end <= page {
+            return;
+        }
+        'out: while let Some(n) = first_key(self.pages.range(page..end)) {
+            self.pages.remove(&n);
         }
     }
 

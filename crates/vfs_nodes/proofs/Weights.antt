@@ -2,8 +2,8 @@
 use Rattle.std.proofs.Common.{◌≡◌, ◌≤◌, ◌+◌, ◌*◌, ◌/◌, ◌==◌, ℕ, Bool, true, false, List, [], ◌∷◌, Option, length, filter, nat_lt, bit_and, ◌⊎◌, ⊎_elim, if◌then◌else◌, arith}
 use Rattle.std.specs.Int.{div_ceil}
 use Rattle.vfs_wire.specs.declared.attributes.SetattrIn.{SetattrIn}
-use Rattle.vfs_contents.specs.Contents.{Contents, resized, pages_over}
-use Rattle.vfs_contents.specs.Pages.{reach}
+use Rattle.vfs_contents.specs.Contents.{Contents, resized, punched, pages_over}
+use Rattle.vfs_contents.specs.Pages.{is_outside, reach}
 use Rattle.vfs_contents.proofs.Counts.{held_within}
 use Rattle.vfs_nodes.specs.Node.{weight, set_attr, left_by, truncates, opened, overwritten}
 use Rattle.vfs_nodes.specs.declared.node.Node.{Node}
@@ -28,6 +28,12 @@ resized_holds c size = by (nat_lt (length c.bytes) size)
         ≤ length c.held
     by true = omega arith
     by false = length-filter-le (λ n. nat_lt n (div_ceil size 4096)) c.held
+
+-- nor do those with a hole more
+pub punched_holds : (c : Contents) (off len : ℕ)
+    → length (punched c off len).held ≤ length c.held
+punched_holds c off len =
+    length-filter-le (is_outside (div_ceil off 4096) ((off + len) / 4096)) c.held
 
 -- SETATTR
 pub set_attr_weighs : (now : Time) (node : Node) (attr : SetattrIn) (handle : Option ℕ) (valid : ℕ)

@@ -136,3 +136,8 @@ fn holes_of_a_file_are_found(rt: HostRuntime) -> Result<(), Fail> {
 fn a_size_that_is_there_moves_no_time(rt: HostRuntime) -> Result<(), Fail> {
     none_is_wrong(wrong_long(rt.alloc(), long::sizes()))
 }
+
+#[test]
+fn a_hole_takes_the_place_of_bytes(rt: HostRuntime) -> Result<(), Fail> {
+    none_is_wrong(wrong_long(rt.alloc(), long::punched()))
+}

@@ -10,7 +10,7 @@ use Rattle.vfs_files.specs.Values.{Item}
 use Rattle.vfs_files.specs.Bytes.{part_of, most_put, fitting}
 use Rattle.vfs_files.specs.Calls.{Call, Init, Lookup, Forget, BatchForget, Getattr, Setattr, Symlink, Readlink, Open, Unlink, Rmdir, Rename, Link, Mknod, Mkdir, Create, Read, Write, Fallocate, Lseek, Statfs, Readdir, Setxattr, Getxattr, Listxattr, Removexattr, Fsync, Flush, Release, Fsyncdir, Releasedir, Destroy, Answer, Options, Opened, Text, Count, Put, Wrote, Done, Offset, Statistics, Handed, default_answer}
 use Rattle.vfs_contents.specs.Pages.{reach}
-use Rattle.vfs_contents.specs.Contents.{allocated, data_from, hole_from, lacking, pages_over}
+use Rattle.vfs_contents.specs.Contents.{allocated, punched, data_from, hole_from, lacking, pages_over}
 use Rattle.vfs_nodes.specs.Children.{with_child, without_child, is_directory, is_file, is_link}
 use Rattle.vfs_nodes.specs.Listing.{items_behind}
 use Rattle.vfs_nodes.specs.Node.{new_node, set_attr, truncates, opened, overwritten}
@@ -206,11 +206,12 @@ abbrev pub at_place : State → Option ℕ → Outcome
 at_place s None = Refused enxio
 at_place s (Some place) = Answered (Just (Offset place)) s
 
--- why a file can't be made to have place for these bytes; the mode is 0 or 1 (FALLOC_FL_KEEP_SIZE)
+-- why a file can't be made to have place for these bytes; the mode is 0 or 1 (FALLOC_FL_KEEP_SIZE), or 3 for
+-- a hole (FALLOC_FL_PUNCH_HOLE too)
 abbrev pub fallocate_refusal : State → (mode off len : ℕ) → Node → Option ℕ
 fallocate_refusal s mode off len node =
-    first_of ((nat_lt 1 mode, eopnotsupp) ∷ (not (is_file node.kind), enodev)
-    ∷ (len == 0, einval)
+    first_of ((len == 0, einval) ∷ (nat_lt 1 mode, eopnotsupp)
+    ∷ (not (is_file node.kind), enodev)
     ∷ (nat_lt (longest s) (off + len), efbig)
     ∷ (nat_lt (most_size s off len node) (off + len), enospc) ∷ [])
 
@@ -228,6 +229,21 @@ abbrev pub allocates : State → (number mode off len : ℕ) → Outcome
 allocates s n mode off len = on (node_at s n) (fallocate_refusal s mode off len) (λ node.
     Tried (nat_lt 0 (lacking node.contents off len)) (Just Done)
     (with_resized s n node (grown s.now mode off len node)))
+
+-- why there can be no hole in place of these bytes
+abbrev pub hole_refusal : State → (off len : ℕ) → Node → Option ℕ
+hole_refusal s off len node =
+    first_of ((len == 0, einval) ∷ (not (is_file node.kind), enodev)
+    ∷ (nat_lt (longest s) (off + len), efbig) ∷ [])
+
+-- there is one; it takes no memory
+abbrev pub hollowed : (now : Time) → (off len : ℕ) → Node → Node
+hollowed now off len node =
+    record node { contents = punched node.contents off len; mtime = now; ctime = now }
+
+abbrev pub punches : State → (number off len : ℕ) → Outcome
+punches s n off len = on (node_at s n) (hole_refusal s off len) (λ node.
+    done (with_resized s n node (hollowed s.now off len node)))
 
 -- LSEEK looks for data (SEEK_DATA, 3) or a hole (SEEK_HOLE, 4) of a file, from a place before its end on
 abbrev pub seeks : State → (number off whence : ℕ) → Outcome
@@ -359,7 +375,7 @@ outcome s (Read _ n _ room size off _ _) =
     (λ node. Answered (Just (Put (part_of node.contents.bytes off (most_put room size)))) s)
 outcome s (Write _ n _ bytes size off _ _ _ _) =
     on (node_at s n) (write_refusal s off size) (writes s n off size bytes)
-outcome s (Fallocate _ n _ mode off len) = allocates s n mode off len
+outcome s (Fallocate _ n _ mode off len) = if mode == 3 then punches s n off len else allocates s n mode off len
 outcome s (Lseek _ n _ off whence) = seeks s n off whence
 outcome s (Statfs _ _) = Answered (Just (Statistics (statistics_of s))) s
 outcome s (Setxattr _ n name value flags _) = sets_xattr s n name value flags

@@ -7,7 +7,7 @@ ghost use Rattle.vfs_files.specs.Calls.{Plain, KeepsTextShort, done_answer, offs
 ghost use Rattle.vfs_nodes.specs.Xattrs.{xattr_named, name_list};
 ghost use Rattle.vfs_tree.specs.Outcome.{Ends, refusal_of, unless, with_it};
 ghost use Rattle.vfs_tree.specs.State.{node_at};
-ghost use Rattle.vfs_tree.specs.Tree.{contents_refusal, setattr_refusal, write_refusal, fallocate_refusal, allocates, seeks, least_size, longest, most_size, setxattr_refusal, is_bare, is_kept, namespace_refusal, sets_xattr, removes_xattr, tells};
+ghost use Rattle.vfs_tree.specs.Tree.{contents_refusal, setattr_refusal, write_refusal, fallocate_refusal, allocates, hole_refusal, punches, seeks, least_size, longest, most_size, setxattr_refusal, is_bare, is_kept, namespace_refusal, sets_xattr, removes_xattr, tells};
 
 use crate::fs::TreeFs;
 use bitflags::Flags;
@@ -21,6 +21,9 @@ pub(crate) const PAGE: u64 = 4096;
 
 /// The mode of FALLOCATE by which a file stays as long as it is.
 const KEEP_SIZE: u32 = 1;
+
+/// The one by which it has a hole, and stays as long.
+pub(crate) const PUNCH_HOLE: u32 = 3;
 
 /// What LSEEK looks for.
 const SEEK_DATA: u32 = 3;
@@ -215,14 +218,14 @@ impl TreeFs {
         let Some(node) = self.nodes.get(&inode) else {
             return Err(Errno::ENOENT);
         };
+        if len == 0 {
+            return Err(Errno::EINVAL);
+        }
         if mode > KEEP_SIZE {
             return Err(Errno::EOPNOTSUPP);
         }
         if !node.kind.is_file() {
             return Err(no_device());
-        }
-        if len == 0 {
-            return Err(Errno::EINVAL);
         }
         let Some(end) = offset.checked_add(len) else {
             return Err(too_big());
@@ -237,6 +240,51 @@ impl TreeFs {
             return Ok(0);
         }
         Ok(end)
+    }
+
+    /// Has a hole in place of `length` bytes of a file, which takes no memory.
+    pub(crate) fn punch(&mut self, inode: u64, offset: u64, length: u64) -> Result<(), Fault>
+        ensures { Ends self.old (punches self.old inode offset length)
+            (Plain (done_answer result)) self.new }
+    {
+        self.check_hole(inode, offset, length)?;
+        let now = self.now;
+        let Some(node) = self.nodes.get_mut(&inode) else {
+            unreachable!()
+        };
+        let before = node.weight();
+        node.contents.punch(offset, length);
+        node.mtime = now;
+        node.ctime = now;
+        let after = node.weight();
+        self.reweigh(before, after);
+        Ok(())
+    }
+
+    // Whether there can be a hole in a file.
+    fn check_hole(&self, inode: u64, offset: u64, len: u64) -> Result<(), Errno>
+        ensures ok { OnOk result (refusal_of (node_at self.entry.now inode)
+            (hole_refusal self.entry.now offset len) ≡ None) }
+        ensures end { OnOk result (offset + len < 2 ^ 63) }
+        ensures err { IfErr result (λ errno. refusal_of (node_at self.entry.now inode)
+            (hole_refusal self.entry.now offset len) ≡ Some errno) }
+    {
+        let Some(node) = self.nodes.get(&inode) else {
+            return Err(Errno::ENOENT);
+        };
+        if len == 0 {
+            return Err(Errno::EINVAL);
+        }
+        if !node.kind.is_file() {
+            return Err(no_device());
+        }
+        let Some(end) = offset.checked_add(len) else {
+            return Err(too_big());
+        };
+        if end > self.longest() {
+            return Err(too_big());
+        }
+        Ok(())
     }
 
     /// The next place in a file, from `offset` on, of data or of a hole.

@@ -1,5 +1,5 @@
 -- What the calls leave: a fact of all states that are left follows from that fact of each change.
-use Rattle.std.proofs.Common.{◌≡◌, ◌≤◌, ◌+◌, ◌-◌, ◌^◌, ◌==◌, ◌&&◌, ◌||◌, not, nat_lt, nat_le, ℕ, zero, suc, max, ◌⊎◌, inl, inr, ⊎_elim, Bool, true, false, cond, List, [], ◌∷◌, ◌++◌, length, take, drop, replicate, Option, Some, None, is_some, is_none, refl, sym, ap, subst, ◌∙◌, arith, if◌then◌else◌, bit_and, length-append, length-take, length-drop}
+use Rattle.std.proofs.Common.{◌≡◌, ◌≤◌, ◌+◌, ◌-◌, ◌^◌, ◌==◌, ◌&&◌, ◌||◌, not, nat_lt, nat_le, ℕ, zero, suc, min, max, ◌⊎◌, inl, inr, ⊎_elim, Bool, true, false, cond, List, [], ◌∷◌, ◌++◌, length, take, drop, replicate, Option, Some, None, is_some, is_none, refl, sym, ap, subst, ◌∙◌, arith, if◌then◌else◌, bit_and, length-append, length-take, length-drop}
 use Rattle.std.specs.List.{position_or_len}
 use Rattle.vfs_views.specs.Segments.{with_bytes_at}
 use Rattle.vfs_flags.specs.Numbers.{eexist, eisdir, einval, enodata, enospc, enotdir, enotempty, eopnotsupp, eoverflow, eperm, erange}
@@ -12,7 +12,7 @@ use Rattle.vfs_wire.specs.declared.attributes.SetattrIn.{SetattrIn}
 use Rattle.std.proofs.lemmas.Bool.{ltb-true, ltb-false, eqb-true, not-false, or_parts}
 use Rattle.std.proofs.lemmas.List.{length-replicate}
 use Rattle.std.proofs.lemmas.List.Sums.{sum_by-remove}
-use Rattle.vfs_contents.specs.Contents.{Contents, resized, data_from, hole_from, lacking}
+use Rattle.vfs_contents.specs.Contents.{Contents, resized, punched, data_from, hole_from, lacking}
 use Rattle.vfs_tree.specs.Children.{with_child, is_directory, is_file}
 use Rattle.vfs_tree.specs.Listing.{items_behind}
 use Rattle.vfs_tree.specs.Node.{weight, left_by, truncates, opened, set_attr, overwritten, new_node}
@@ -21,14 +21,14 @@ use Rattle.vfs_tree.specs.Rename.{directory_refusal, rename_refusal, renamed}
 use Rattle.vfs_tree.specs.State.{State, node_at, node_named, room_of, with_node, with_resized, with_names, change, child_at}
 use Rattle.vfs_tree.specs.State as tree
 use Rattle.vfs_tree_laws.specs.Laws.{IsShort}
-use Rattle.vfs_tree.specs.Tree.{opening, held_of, group_in, permissions_in, namespace_refusal, efbig, enodev, enxio, at_place, most_xattr_bytes, TreeAllows, outcome, found, at_name, made, makes, linked, all_forgotten, setattr_refusal, contents_refusal, writes, write_refusal, longest, most_size, grown, fallocate_refusal, setxattr_refusal, with_xattrs, has_no_text, is_plain, make_refusal, taken_out, link_refusal, statistics_of, tells}
+use Rattle.vfs_tree.specs.Tree.{opening, held_of, group_in, permissions_in, namespace_refusal, efbig, enodev, enxio, at_place, most_xattr_bytes, TreeAllows, outcome, found, at_name, made, makes, linked, all_forgotten, setattr_refusal, contents_refusal, writes, write_refusal, longest, most_size, grown, fallocate_refusal, hole_refusal, hollowed, punches, allocates, setxattr_refusal, with_xattrs, has_no_text, is_plain, make_refusal, taken_out, link_refusal, statistics_of, tells}
 use Rattle.vfs_tree.specs.Xattrs.{Xattr, is_called, attribute_bytes, without_place, xattr_named, xattr_bytes, with_xattr, without_xattr, name_list}
 use Rattle.vfs_nodes.specs.declared.children.Child.{Child}
 use Rattle.vfs_nodes.specs.declared.kind.Kind.{Kind}
 use Rattle.vfs_nodes.specs.declared.kind.Kind.TheVariants as kind
 use Rattle.vfs_nodes.specs.declared.node.Node.{Node}
 use Rattle.vfs_nodes.specs.declared.node.Time.{Time}
-use Rattle.vfs_nodes.proofs.Weights.{resized_holds, set_attr_weighs}
+use Rattle.vfs_nodes.proofs.Weights.{resized_holds, punched_holds, set_attr_weighs}
 use Rattle.vfs_tree.proofs.Weights.{fitting_ends, written_fits, grown_fits}
 
 -- a node with other contents or extended attributes, for which there is room
@@ -168,6 +168,19 @@ length-resized c size =
       length-replicate {A = ℕ} (size - length c.bytes) 0,
     )
 
+-- a hole leaves them as long
+length-punched : (c : Contents) (off len : ℕ) → length (punched c off len).bytes ≡ length c.bytes
+length-punched c off len =
+    let zeros : List ℕ = replicate (min len (length c.bytes - off)) 0 in
+    omega (
+      arith,
+      length-append (take off c.bytes) (zeros ++ drop (off + len) c.bytes),
+      length-append zeros (drop (off + len) c.bytes),
+      length-take off c.bytes,
+      length-drop (off + len) c.bytes,
+      length-replicate {A = ℕ} (min len (length c.bytes - off)) 0,
+    )
+
 -- SETATTR
 set_attr_resizes : (s : State) (node : Node) (attr : SetattrIn) (handle : Option ℕ) (valid : ℕ)
     → setattr_refusal s attr valid node ≡ None
@@ -261,8 +274,8 @@ grown_resizes : (s : State) (node : Node) (mode off len : ℕ)
     → Resizes s node (grown s.now mode off len node)
 grown_resizes s node mode off len none =
     let most : ℕ = most_size s off len node in
-    let rs : List (Bool × ℕ) = (nat_lt 1 mode, eopnotsupp) ∷ (not (is_file node.kind), enodev)
-    ∷ (len == 0, einval)
+    let rs : List (Bool × ℕ) = (len == 0, einval) ∷ (nat_lt 1 mode, eopnotsupp)
+    ∷ (not (is_file node.kind), enodev)
     ∷ (nat_lt (longest s) (off + len), efbig)
     ∷ (nat_lt most (off + len), enospc) ∷ [] in
     let fits = are_not rs none in
@@ -283,6 +296,18 @@ grown_resizes s node mode off len none =
     by true within short = omega (arith, length-lengthened node.contents.bytes 0, short)
     by false within short =
         omega (arith, within, length-lengthened node.contents.bytes (off + len), short)
+
+hollowed_resizes : (s : State) (node : Node) (off len : ℕ)
+    → Resizes s node (hollowed s.now off len node)
+hollowed_resizes s node off len = record {
+  kind = refl;
+  parent = refl;
+  names = refl;
+  lookups = refl;
+  children = refl;
+  room = omega (arith, punched_holds node.contents off len);
+  file = λ short is. omega (arith, length-punched node.contents off len, short is);
+}
 
 -- SETXATTR
 xattr_fits : (s : State) (node : Node) (name value : List ℕ) (flags : ℕ)
@@ -382,6 +407,10 @@ module _ (F : Type 0) (L : TreeReply → State → Type 0) (fails : F) where
       each-unless (directory_refusal (node_at s parent) name)
       (found (child_at s parent name) (node_named s parent name) f)
       (λ free. each-found s (child_at s parent name) f (λ child node is there. more child node free is there))
+
+  each-if : (t : Bool) (a b : Outcome) → Each F L a → Each F L b → Each F L (if t then a else b)
+  each-if true a b first second = first
+  each-if false a b first second = second
 
   each-at_place : (s : State) (o : Option ℕ)
       → ((place : ℕ) → L (Just (Offset place)) s) → Each F L (at_place s o)
@@ -597,8 +626,17 @@ module _ (old : State) (P : List (ℕ × ℕ) → TreeReply → State → Type 0
   covered (Fallocate c n h mode off len) =
       let call = (Fallocate c n h mode off len) in
       let fails : Fails old call = (refl, λ e. refl) in
+      let hole = λ (node : Node). hollowed old.now off len node in
       let last = λ (node : Node). grown old.now mode off len node in
-      each-on (Fails old call) (Leaves call) fails (node_at old n) (fallocate_refusal old mode off len)
+      each-if (Fails old call) (Leaves call) fails (mode == 3) (punches old n off len)
+      (allocates old n mode off len)
+      (each-on (Fails old call) (Leaves call) fails (node_at old n) (hole_refusal old off len)
+      (λ node. done (with_resized old n node (hole node)))
+      (λ node is free. (
+        (λ a r. refl),
+        q.resizes n node (hole node) (Just Done) refl is (hollowed_resizes old node off len),
+      )))
+      (each-on (Fails old call) (Leaves call) fails (node_at old n) (fallocate_refusal old mode off len)
       (λ node. Tried (nat_lt 0 (lacking node.contents off len)) (Just Done)
       (with_resized old n node (last node)))
       (λ node is free. (
@@ -607,7 +645,7 @@ module _ (old : State) (P : List (ℕ × ℕ) → TreeReply → State → Type 0
           (λ a r. refl),
           q.resizes n node (last node) (Just Done) refl is (grown_resizes old node mode off len free),
         ),
-      ))
+      )))
   covered (Setxattr c n name value flags e) =
       let call = (Setxattr c n name value flags e) in
       let fails : Fails old call = (refl, λ e. refl) in

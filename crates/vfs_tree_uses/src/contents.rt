@@ -3,7 +3,7 @@
 ghost use Rattle.std.specs.Prelude.{◌≡◌, [], ◌∷◌, ◌++◌, codes, Ok, Err, Some, None, MatchResult, OnOk};
 ghost use Rattle.std.specs.Duration.{as_nanos};
 ghost use Rattle.vfs_flags.specs.Flags.{open_options_bits};
-ghost use Rattle.vfs_tree_uses.specs.Trees.{empty_file, file_tree, later, small_tree, tree_of, wide};
+ghost use Rattle.vfs_tree_uses.specs.Trees.{empty_file, file_tree, later, narrow, small_tree, tree_of, wide};
 
 use crate::support::root;
 use std::time::Duration;
@@ -172,6 +172,27 @@ fn place_behind_the_end(tree: &mut TreeFs) -> Result<(), Fault>
         (λ fault. (fault ≡ Some 12) × (tree.new ≡ tree.old)) }
 {
     tree.fallocate(root(), 2, 0, 1, 0, 2)
+}
+
+/// FALLOCATE that makes a hole (FALLOC_FL_PUNCH_HOLE and FALLOC_FL_KEEP_SIZE, 3): zeros stand in a page
+/// that stays. It wants no memory.
+fn hole_in_a_page(tree: &mut TreeFs) -> Result<(), Fault>
+    requires { tree.old ≡ file_tree wide (codes "hello") }
+    ensures answer { result ≡ Ok tt }
+    ensures bytes { tree.new ≡ file_tree wide (codes "h" ++ (0 ∷ 0 ∷ codes "lo")) }
+{
+    tree.fallocate(root(), 2, 0, 3, 1, 2)
+}
+
+/// FALLOCATE of a hole in place of a page: it goes, and the file stays as long.
+fn hole_in_place_of_a_page(tree: &mut TreeFs) -> Result<(), Fault>
+    requires { tree.old ≡ file_tree narrow (codes "hello") }
+    ensures answer { result ≡ Ok tt }
+    ensures bytes { tree.new ≡ tree_of narrow (record empty_file {
+      contents = record { bytes = 0 ∷ 0 ∷ 0 ∷ 0 ∷ 0 ∷ []; held = [] };
+    }) }
+{
+    tree.fallocate(root(), 2, 0, 3, 0, 4096)
 }
 
 /// LSEEK: where a file has data (SEEK_DATA, 3), and where they end (SEEK_HOLE, 4).

@@ -392,6 +392,159 @@ static SIZES: [Step; 11] = [
     },
 ];
 
+/// Bytes of which a hole is made.
+static PUNCHED: [Step; 15] = [
+    Step {
+        why: "a file",
+        message: (35, 1, b"\0\0\0\0\xa4\x01\0\0\0\0\0\0\0\0\0\0f\0"),
+        error: 0,
+        length: 160,
+        says: &[(16, b"\x02\0\0\0\0\0\0\0")],
+    },
+    Step {
+        why: "bytes in two pages",
+        message: (
+            16,
+            2,
+            b"\0\0\0\0\0\0\0\0\xfc\x0f\0\0\0\0\0\0\x08\0\0\0\0\0\0\0\0\0\0\0\0\0\0\0\0\0\0\0\0\0\0\0abcdefgh",
+        ),
+        error: 0,
+        length: 24,
+        says: &[(16, b"\x08\0\0\0")],
+    },
+    Step {
+        why: "a hole in one and the other",
+        message: (
+            43,
+            2,
+            b"\0\0\0\0\0\0\0\0\xfe\x0f\0\0\0\0\0\0\x02\x10\0\0\0\0\0\0\x03\0\0\0\0\0\0\0",
+        ),
+        error: 0,
+        length: 16,
+        says: &[],
+    },
+    Step {
+        why: "which goes",
+        message: (3, 2, b"\0\0\0\0\0\0\0\0\0\0\0\0\0\0\0\0"),
+        error: 0,
+        length: 120,
+        says: &[(40, b"\x04\x10\0\0\0\0\0\0"), (48, b"\x08\0\0\0\0\0\0\0")],
+    },
+    Step {
+        why: "zeros in place of bytes",
+        message: (
+            15,
+            2,
+            b"\0\0\0\0\0\0\0\0\xfa\x0f\0\0\0\0\0\0d\0\0\0\0\0\0\0\0\0\0\0\0\0\0\0\0\0\0\0\0\0\0\0",
+        ),
+        error: 0,
+        length: 26,
+        says: &[(16, b"\0\0ab\0\0\0\0\0\0")],
+    },
+    Step {
+        why: "more bytes",
+        message: (
+            16,
+            2,
+            b"\0\0\0\0\0\0\0\0\0\0\0\0\0\0\0\0\x08\0\0\0\0\0\0\0\0\0\0\0\0\0\0\0\0\0\0\0\0\0\0\0abcdefgh",
+        ),
+        error: 0,
+        length: 24,
+        says: &[(16, b"\x08\0\0\0")],
+    },
+    Step {
+        why: "a hole within a page",
+        message: (
+            43,
+            2,
+            b"\0\0\0\0\0\0\0\0\x02\0\0\0\0\0\0\0\x03\0\0\0\0\0\0\0\x03\0\0\0\0\0\0\0",
+        ),
+        error: 0,
+        length: 16,
+        says: &[],
+    },
+    Step {
+        why: "which stays",
+        message: (
+            15,
+            2,
+            b"\0\0\0\0\0\0\0\0\0\0\0\0\0\0\0\0\x0a\0\0\0\0\0\0\0\0\0\0\0\0\0\0\0\0\0\0\0\0\0\0\0",
+        ),
+        error: 0,
+        length: 26,
+        says: &[(16, b"ab\0\0\0fgh\0\0")],
+    },
+    Step {
+        why: "pages behind the end",
+        message: (
+            43,
+            2,
+            b"\0\0\0\0\0\0\0\0\0 \0\0\0\0\0\0\0\x10\0\0\0\0\0\0\x01\0\0\0\0\0\0\0",
+        ),
+        error: 0,
+        length: 16,
+        says: &[],
+    },
+    Step {
+        why: "take blocks",
+        message: (3, 2, b"\0\0\0\0\0\0\0\0\0\0\0\0\0\0\0\0"),
+        error: 0,
+        length: 120,
+        says: &[(40, b"\x04\x10\0\0\0\0\0\0"), (48, b"\x10\0\0\0\0\0\0\0")],
+    },
+    Step {
+        why: "and go too",
+        message: (
+            43,
+            2,
+            b"\0\0\0\0\0\0\0\0\0 \0\0\0\0\0\0\0\x10\0\0\0\0\0\0\x03\0\0\0\0\0\0\0",
+        ),
+        error: 0,
+        length: 16,
+        says: &[],
+    },
+    Step {
+        why: "with all others",
+        message: (
+            43,
+            2,
+            b"\0\0\0\0\0\0\0\0\0\0\0\0\0\0\0\0\xff\xff\xff\xff\xff\xff\xff\x7f\x03\0\0\0\0\0\0\0",
+        ),
+        error: 0,
+        length: 16,
+        says: &[],
+    },
+    Step {
+        why: "so that none is held",
+        message: (3, 2, b"\0\0\0\0\0\0\0\0\0\0\0\0\0\0\0\0"),
+        error: 0,
+        length: 120,
+        says: &[(40, b"\x04\x10\0\0\0\0\0\0"), (48, b"\0\0\0\0\0\0\0\0")],
+    },
+    Step {
+        why: "a hole of no bytes",
+        message: (
+            43,
+            2,
+            b"\0\0\0\0\0\0\0\0\0\0\0\0\0\0\0\0\0\0\0\0\0\0\0\0\x03\0\0\0\0\0\0\0",
+        ),
+        error: -22,
+        length: 16,
+        says: &[],
+    },
+    Step {
+        why: "one that ends too far",
+        message: (
+            43,
+            2,
+            b"\0\0\0\0\0\0\0\0\xff\xff\xff\xff\xff\xff\xff\x7f\x0a\0\0\0\0\0\0\0\x03\0\0\0\0\0\0\0",
+        ),
+        error: -27,
+        length: 16,
+        says: &[],
+    },
+];
+
 /// The steps of a file that is written.
 pub fn steps() -> &'static [Step] {
     &STEPS
@@ -405,4 +558,9 @@ pub fn holes() -> &'static [Step] {
 /// Those of one that is cut.
 pub fn sizes() -> &'static [Step] {
     &SIZES
+}
+
+/// Those of one of which bytes go.
+pub fn punched() -> &'static [Step] {
+    &PUNCHED
 }

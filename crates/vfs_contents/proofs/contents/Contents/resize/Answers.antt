@@ -14,11 +14,11 @@ returns-then-size-self c =
 pub returns : goal.returns
 returns c =
     let s = c.self.inside in
-    resized_shorter s.pages c.cut.new.self c.zero_from.new.self s.size c.args.size (omega arith)
+    resized_shorter s.pages c.cut.new.self c.zero.new.self s.size c.args.size (omega arith)
     c.self.invariant
     (c.cut.ensures.keys
     ∙ ap (λ p. filter (λ n. nat_lt n p) (keys_of s.pages)) c.div_ceil.ensures)
     (λ place. c.cut.ensures.bytes place
     ∙ ap (λ p. cond (nat_lt (place / 4096) p) (byte_at s.pages place) 0) c.div_ceil.ensures)
-    c.zero_from.ensures.keys _ c.zero_from.ensures.bytes
+    c.zero.ensures.keys _ c.zero.ensures.bytes
     ∙ ap (λ (k : Contents). resized k c.args.size) c.self.view_is

@@ -4,14 +4,14 @@ use Rattle.std.proofs.lemmas.Bool.{cases_lt}
 use Rattle.std.proofs.lemmas.List.{length-replicate}
 use Rattle.vfs_contents.specs.Pages.{byte_at, holds}
 use Rattle.vfs_contents.proofs.Held.{over_in, over_before, over_behind, part_zero, lookup_free, zeros_at}
-use Rattle.vfs_contents.proofs.pages.Pages.zero_from.Goals as goal
+use Rattle.vfs_contents.proofs.pages.Pages.zero.Goals as goal
 
 pub returns-else-holds-clause-bytes : goal.returns-else-holds-clause-bytes
 returns-else-holds-clause-bytes c =
     λ place.
     let pages = c.args.self.now in
     let at = c.args.at in
-    let count : ℕ = 4096 - at % 4096 in
+    let count = c.args.count in
     let zeros : List ℕ = replicate count 0 in
     let long : length zeros ≡ count = length-replicate {A = ℕ} count 0 in
     let free : holds (keys_of pages) (at / 4096) ≡ false = sym c.holds.ensures ∙ c.if-holds.false in
