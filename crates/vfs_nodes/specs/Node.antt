@@ -1,5 +1,5 @@
 -- What a node shows of itself, and what becomes of it.
-use Rattle.std.specs.Prelude.{◌≡◌, ℕ, ◌+◌, ◌-◌, ◌*◌, ◌^◌, ◌/◌, ◌==◌, ◌&&◌, Bool, List, [], ◌∷◌, Option, is_none, length, min, bit_or, bit_and, if◌then◌else◌}
+use Rattle.std.specs.Prelude.{◌≡◌, ℕ, ◌+◌, ◌-◌, ◌*◌, ◌^◌, ◌/◌, ◌==◌, ◌&&◌, ◌||◌, Bool, List, [], ◌∷◌, Option, Some, None, is_none, length, min, bit_or, bit_and, if◌then◌else◌}
 use Rattle.std.specs.Duration.{as_nanos}
 use Rattle.std.specs.declared.time.Duration.{Duration}
 use Rattle.vfs_wire.specs.declared.attributes.Attr.{Attr}
@@ -18,6 +18,27 @@ abbrev pub kind_bits : Kind → ℕ
 kind_bits kind.Directory = 0o40000
 kind_bits kind.File = 0o100000
 kind_bits kind.Link = 0o120000
+kind_bits kind.Fifo = 0o10000
+kind_bits kind.Socket = 0o140000
+kind_bits (kind.Character device) = 0o20000
+kind_bits (kind.Block device) = 0o60000
+
+-- the number of a device, and 0 of what is none
+abbrev pub device_of : Kind → ℕ
+device_of (kind.Character device) = device
+device_of (kind.Block device) = device
+device_of _ = 0
+
+-- what MKNOD makes by these bits: a file if they say nothing, and no directory or link
+abbrev pub kind_by_mode : (mode device : ℕ) → Option Kind
+kind_by_mode mode device =
+    let bits = bit_and mode 0o170000 in
+    if bits == 0 || bits == 0o100000 then Some kind.File
+    else if bits == 0o10000 then Some kind.Fifo
+    else if bits == 0o140000 then Some kind.Socket
+    else if bits == 0o20000 then Some (kind.Character device)
+    else if bits == 0o60000 then Some (kind.Block device)
+    else None
 
 -- what `readdir(3)` calls a node of this kind
 abbrev pub type_of : Kind → ℕ
@@ -52,7 +73,7 @@ attr_of number node =
       nlink = nlink_of node;
       uid = node.uid;
       gid = node.gid;
-      rdev = 0;
+      rdev = device_of node.kind;
       blksize = 4096;
       flags = 0;
     }

@@ -1,4 +1,4 @@
-//! A node: a directory, a file or a symbolic link.
+//! A node: a directory, a file, a symbolic link, or what `mknod(2)` makes.
 
 ghost use Rattle.std.specs.Prelude.{◌≡◌, ℕ, List, take, if◌then◌else◌, Some, MatchResult};
 ghost use Rattle.vfs_flags.specs.Numbers.{enomem};
@@ -156,7 +156,7 @@ impl Node {
             nlink: self.nlink(),
             uid: self.uid,
             gid: self.gid,
-            rdev: 0,
+            rdev: self.kind.device(),
             blksize: 4096,
             flags: 0,
         }

@@ -4,7 +4,7 @@ mod session;
 
 use crate::support::{Message, handle, none_is_wrong};
 use crate::tree::session::memory::steps;
-use crate::tree::session::rest::{fifth, fourth, sixth};
+use crate::tree::session::rest::{fifth, fourth, sixth, special};
 use crate::tree::session::{Step, first, long, second, third};
 use std::alloc::Global;
 use std::test::Fail;
@@ -140,4 +140,9 @@ fn a_size_that_is_there_moves_no_time(rt: HostRuntime) -> Result<(), Fail> {
 #[test]
 fn a_hole_takes_the_place_of_bytes(rt: HostRuntime) -> Result<(), Fail> {
     none_is_wrong(wrong_long(rt.alloc(), long::punched()))
+}
+
+#[test]
+fn special_nodes_are_made(rt: HostRuntime) -> Result<(), Fail> {
+    none_is_wrong(wrong_long(rt.alloc(), special()))
 }

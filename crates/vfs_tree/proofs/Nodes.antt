@@ -86,3 +86,9 @@ kinds_apart s n parent f none above =
     node_at-change_other s parent n
     (λ node. record node { children = f node.children; mtime = s.now; ctime = s.now })
     (λ e. let same = ap (λ k. is_directory_at (node_at s k)) e in cc same)
+
+pub found_still : (s t : State) (n parent : ℕ) (f : Children → Children) → t ≡ with_names s parent f
+    → is_directory_at (node_at s n) ≡ false → is_directory_at (node_at s parent) ≡ true
+    → node_at t n ≡ node_at s n
+found_still s t n parent f is none above =
+    ap (λ (x : State). node_at x n) is ∙ kinds_apart s n parent f none above

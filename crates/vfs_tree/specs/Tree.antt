@@ -13,7 +13,7 @@ use Rattle.vfs_contents.specs.Pages.{reach}
 use Rattle.vfs_contents.specs.Contents.{allocated, punched, data_from, hole_from, lacking, pages_over}
 use Rattle.vfs_nodes.specs.Children.{with_child, without_child, is_directory, is_file, is_link}
 use Rattle.vfs_nodes.specs.Listing.{items_behind}
-use Rattle.vfs_nodes.specs.Node.{new_node, set_attr, truncates, opened, overwritten}
+use Rattle.vfs_nodes.specs.Node.{kind_by_mode, new_node, set_attr, truncates, opened, overwritten}
 use Rattle.vfs_nodes.specs.Xattrs.{Xattr, xattr_named, xattr_bytes, with_xattr, without_xattr, name_list}
 use Rattle.vfs_nodes.specs.declared.children.Child.{Child}
 use Rattle.vfs_nodes.specs.declared.kind.Kind.{Kind}
@@ -133,9 +133,11 @@ makes s ctx kind permissions parent name text =
     unless (make_refusal s parent name (length text))
     (Tried true (EntryOf s.next node) (made s parent name node))
 
--- MKNOD makes files with contents alone
-abbrev pub is_plain : (mode : ℕ) → Bool
-is_plain mode = bit_and mode 0o170000 == 0 || bit_and mode 0o170000 == 0o100000
+-- a node of this kind is, or there is none that MKNOD makes
+abbrev pub makes_kind :
+    State → Context → Option Kind → (permissions parent : ℕ) → (name : List ℕ) → Outcome
+makes_kind s ctx None permissions parent name = Refused eperm
+makes_kind s ctx (Some kind) permissions parent name = makes s ctx kind permissions parent name []
 
 -- why no further name can lead to a node
 abbrev pub link_refusal : State → (parent : ℕ) → (name : List ℕ) → Node → Option ℕ
@@ -354,8 +356,8 @@ outcome s (BatchForget _ requests) = done (all_forgotten s requests)
 outcome s (Getattr _ n _) = with_it (node_at s n) (λ node. Answered (AttrOf n node) s)
 outcome s (Setattr _ n attr handle valid) = sets_attr s n attr handle valid
 outcome s (Mkdir ctx parent name mode _ _) = makes s ctx kind.Directory mode parent name []
-outcome s (Mknod ctx parent name mode _ _ _) =
-    unless (if is_plain mode then None else Some eperm) (makes s ctx kind.File mode parent name [])
+outcome s (Mknod ctx parent name mode device _ _) =
+    makes_kind s ctx (kind_by_mode mode device) mode parent name
 outcome s (Create ctx parent name mode _ _ _ _) = makes s ctx kind.File mode parent name []
 outcome s (Symlink ctx text parent name _) = makes s ctx kind.Link 0o777 parent name text
 outcome s (Link _ n parent name) = links s n parent name

@@ -17,9 +17,7 @@ use vfs_files::{
     CStr, Context, Entry, EntryList, Extensions, FileSystem, GetxattrReply, ListxattrReply,
     ZeroCopyReader, ZeroCopyWriter, defaults,
 };
-use vfs_flags::{
-    Errno, Fault, FsOptions, OpenOptions, S_IFMT, S_IFREG, SetattrValid, SetxattrFlags,
-};
+use vfs_flags::{Errno, Fault, FsOptions, OpenOptions, SetattrValid, SetxattrFlags};
 use vfs_nodes::{Kind, TIMEOUT_SECONDS, entries_behind};
 use vfs_wire::{Attr, SetattrIn, Statvfs64};
 
@@ -125,14 +123,14 @@ impl FileSystem for TreeFs {
         parent: u64,
         name: CStr<'_>,
         mode: u32,
-        _rdev: u32,
+        rdev: u32,
         _umask: u32,
         _ext: Extensions,
     ) -> Result<Entry, Fault> {
-        if mode & S_IFMT != 0 && mode & S_IFMT != S_IFREG {
+        let Some(kind) = Kind::by_mode(mode, rdev) else {
             return Err(Some(Errno::EPERM));
-        }
-        self.make(ctx, Kind::File, mode, parent, name, &[])
+        };
+        self.make(ctx, kind, mode, parent, name, &[])
     }
 
     fn mkdir(

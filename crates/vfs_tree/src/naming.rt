@@ -1,6 +1,6 @@
 //! Names in directories: how they are added, taken out, and made to lead elsewhere.
 
-ghost use Rattle.std.specs.Prelude.{◌≡◌, ℕ, ◌<◌, ◌^◌, ◌-◌, false, IsSome, IfSome, Some, None, IfOk, IfErr, OnOk};
+ghost use Rattle.std.specs.Prelude.{◌≡◌, ℕ, ◌<◌, ◌^◌, ◌-◌, true, false, IsSome, IfSome, Some, None, IfOk, IfErr, OnOk};
 ghost use Rattle.std.specs.Ordering.{nat_cmp};
 ghost use Rattle.std.specs.Map.{set_value};
 ghost use Rattle.std.specs.BTreeMap.{get, is_at};
@@ -10,7 +10,7 @@ ghost use Rattle.vfs_files.specs.Calls.{Plain, entry_answer};
 ghost use Rattle.vfs_nodes.specs.Children.{with_child, without_child, with_other_child};
 ghost use Rattle.vfs_nodes.specs.Node.{IsEntryOf};
 ghost use Rattle.vfs_tree.specs.Outcome.{Ends, refusal_of};
-ghost use Rattle.vfs_tree.specs.Rename.{directory_refusal, is_improper, is_crowded, moved_into};
+ghost use Rattle.vfs_tree.specs.Rename.{directory_refusal, is_directory_at, is_improper, is_crowded, moved_into};
 ghost use Rattle.vfs_tree.specs.State.{child_of, child_at, node_at, with_names, with_node, unnamed};
 ghost use Rattle.vfs_tree.specs.Tree.{link_refusal, linked, links, taken_out};
 
@@ -179,6 +179,12 @@ impl TreeFs {
             child ≡ record { node = number; kind = node.kind })) }
         ensures ok { OnOk result (refusal_of (node_at self.entry.now number)
             (link_refusal self.entry.now parent name.now) ≡ None) }
+        ensures there { OnOk result (IsSome (node_at self.entry.now number)) }
+        ensures file { OnOk result (is_directory_at (node_at self.entry.now number) ≡ false) }
+        ensures above { OnOk result (is_directory_at (node_at self.entry.now parent) ≡ true) }
+        ensures place { OnOk result (is_crowded (node_at self.entry.now parent) ≡ false) }
+        ensures names { OnOk result (IfSome (node_at self.entry.now number) (λ node.
+            node.names < MOST_LINKS)) }
         ensures lookups { OnOk result (IfSome (node_at self.entry.now number) (λ node.
             node.lookups < 2 ^ 64 - 1)) }
         ensures inodes { OnOk result (self.entry.now.inodes < 2 ^ 64 - 1) }
@@ -222,7 +228,6 @@ impl TreeFs {
     }
 
     /// Lets one more name lead to a node, and counts a lookup of it.
-    #[tactic(auto, using(crate::proofs::Nodes::kinds_apart))]
     pub(crate) fn add_link(
         &mut self,
         number: u64,

@@ -15,13 +15,13 @@ use Rattle.std.proofs.lemmas.List.Sums.{sum_by-remove}
 use Rattle.vfs_contents.specs.Contents.{Contents, resized, punched, data_from, hole_from, lacking}
 use Rattle.vfs_tree.specs.Children.{with_child, is_directory, is_file}
 use Rattle.vfs_tree.specs.Listing.{items_behind}
-use Rattle.vfs_tree.specs.Node.{weight, left_by, truncates, opened, set_attr, overwritten, new_node}
+use Rattle.vfs_tree.specs.Node.{weight, left_by, truncates, opened, set_attr, overwritten, kind_by_mode, new_node}
 use Rattle.vfs_tree.specs.Outcome.{TreeReply, Just, EntryOf, AttrOf, Listed, Outcome, Refused, Answered, Tried, Replies, Ends, done, first_of, or_else, unless, with_it, on}
 use Rattle.vfs_tree.specs.Rename.{directory_refusal, rename_refusal, renamed}
 use Rattle.vfs_tree.specs.State.{State, node_at, node_named, room_of, with_node, with_resized, with_names, change, child_at}
 use Rattle.vfs_tree.specs.State as tree
 use Rattle.vfs_tree_laws.specs.Laws.{IsShort}
-use Rattle.vfs_tree.specs.Tree.{opening, held_of, group_in, permissions_in, namespace_refusal, efbig, enodev, enxio, at_place, most_xattr_bytes, TreeAllows, outcome, found, at_name, made, makes, linked, all_forgotten, setattr_refusal, contents_refusal, writes, write_refusal, longest, most_size, grown, fallocate_refusal, hole_refusal, hollowed, punches, allocates, setxattr_refusal, with_xattrs, has_no_text, is_plain, make_refusal, taken_out, link_refusal, statistics_of, tells}
+use Rattle.vfs_tree.specs.Tree.{opening, held_of, group_in, permissions_in, namespace_refusal, efbig, enodev, enxio, at_place, most_xattr_bytes, TreeAllows, outcome, found, at_name, made, makes, linked, all_forgotten, setattr_refusal, contents_refusal, writes, write_refusal, longest, most_size, grown, fallocate_refusal, hole_refusal, hollowed, punches, allocates, setxattr_refusal, with_xattrs, has_no_text, makes_kind, make_refusal, taken_out, link_refusal, statistics_of, tells}
 use Rattle.vfs_tree.specs.Xattrs.{Xattr, is_called, attribute_bytes, without_place, xattr_named, xattr_bytes, with_xattr, without_xattr, name_list}
 use Rattle.vfs_nodes.specs.declared.children.Child.{Child}
 use Rattle.vfs_nodes.specs.declared.kind.Kind.{Kind}
@@ -408,6 +408,12 @@ module _ (F : Type 0) (L : TreeReply → State → Type 0) (fails : F) where
       (found (child_at s parent name) (node_named s parent name) f)
       (λ free. each-found s (child_at s parent name) f (λ child node is there. more child node free is there))
 
+  each-kind : (s : State) (ctx : Context) (o : Option Kind) (mode parent : ℕ) (name : List ℕ)
+      → ((kind : Kind) → Each F L (makes s ctx kind mode parent name []))
+      → Each F L (makes_kind s ctx o mode parent name)
+  each-kind s ctx None mode parent name more = fails
+  each-kind s ctx (Some kind) mode parent name more = more kind
+
   each-if : (t : Bool) (a b : Outcome) → Each F L a → Each F L b → Each F L (if t then a else b)
   each-if true a b first second = first
   each-if false a b first second = second
@@ -535,9 +541,8 @@ module _ (old : State) (P : List (ℕ × ℕ) → TreeReply → State → Type 0
   covered (Mknod c parent name mode r u e) =
       let call = (Mknod c parent name mode r u e) in
       let fails : Fails old call = (refl, λ e. refl) in
-      each-unless (Fails old call) (Leaves call) fails (if is_plain mode then None else Some eperm)
-      (makes old c kind.File mode parent name [])
-      (λ plain. makes_covered call (λ a. refl) refl c kind.File mode parent name [])
+      each-kind (Fails old call) (Leaves call) fails old c (kind_by_mode mode r) mode parent name
+      (λ kind. makes_covered call (λ a. refl) refl c kind mode parent name [])
   covered (Link c n parent name) =
       let call = (Link c n parent name) in
       let fails : Fails old call = (refl, λ e. refl) in

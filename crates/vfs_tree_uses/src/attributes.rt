@@ -1,6 +1,6 @@
 //! Attributes and entries: what they say, and for how long.
 
-ghost use Rattle.std.specs.Prelude.{◌≡◌, codes, None, Some, IfOk, MatchResult};
+ghost use Rattle.std.specs.Prelude.{◌≡◌, codes, None, Some, Err, IfOk, MatchResult};
 ghost use Rattle.std.specs.Duration.{as_nanos};
 ghost use Rattle.vfs_flags.specs.Flags.{open_options_bits};
 ghost use Rattle.vfs_files.specs.Answers.{Options, init_answer};
@@ -48,6 +48,38 @@ fn created(tree: &mut TreeFs) -> Result<(Entry, Option<u64>, OpenOptions), Fault
 {
     let name = CStr::before_nul(b"f\0", 1);
     tree.create(root(), 1, name, 0o644, false, 0, 0, Extensions::none())
+}
+
+/// MKNOD of a character device: it shows its number. Memory alone can be wanting.
+fn device(tree: &mut TreeFs) -> Result<Entry, Fault>
+    requires { tree.old ≡ small_tree }
+    ensures { MatchResult result
+        (λ entry. (entry.attr.mode ≡ 0o20600) × (entry.attr.rdev ≡ 0x103))
+        (λ fault. fault ≡ Some 12) }
+{
+    let name = CStr::before_nul(b"c\0", 1);
+    tree.mknod(root(), 1, name, 0o20600, 0x103, 0, Extensions::none())
+}
+
+/// MKNOD of a FIFO: it has no number.
+fn pipe(tree: &mut TreeFs) -> Result<Entry, Fault>
+    requires { tree.old ≡ small_tree }
+    ensures { MatchResult result
+        (λ entry. (entry.attr.mode ≡ 0o10644) × (entry.attr.rdev ≡ 0))
+        (λ fault. fault ≡ Some 12) }
+{
+    let name = CStr::before_nul(b"p\0", 1);
+    tree.mknod(root(), 1, name, 0o10644, 5, 0, Extensions::none())
+}
+
+/// MKNOD of a directory: EPERM, and nothing changes.
+fn directory_by_mknod(tree: &mut TreeFs) -> Result<Entry, Fault>
+    requires { tree.old ≡ small_tree }
+    ensures refused { result ≡ Err (Some 1) }
+    ensures same { tree.new ≡ tree.old }
+{
+    let name = CStr::before_nul(b"d\0", 1);
+    tree.mknod(root(), 1, name, 0o40700, 0, 0, Extensions::none())
 }
 
 /// SETATTR of the permission bits, the owner, the group and the two times: it wants no memory, and

@@ -1,10 +1,13 @@
 //! The first calls of a new tree.
 
-ghost use Rattle.std.specs.Prelude.{◌≡◌, codes, true, Err, Some, IfOk, IfSome};
+ghost use Rattle.std.specs.Prelude.{◌≡◌, codes, true, false, Err, Some, IfOk, IfSome};
 ghost use Rattle.vfs_flags.specs.Numbers.{enoent, eisdir};
 ghost use Rattle.vfs_files.specs.Answers.{Count, value_or_count};
 ghost use Rattle.vfs_nodes.specs.Listing.{dot_items};
-ghost use Rattle.vfs_tree_uses.specs.Trees.{small_tree};
+ghost use Rattle.vfs_nodes.specs.Children.{is_directory};
+ghost use Rattle.vfs_tree.specs.State.{node_at};
+ghost use Rattle.vfs_tree.specs.Tree.{made};
+ghost use Rattle.vfs_tree_uses.specs.Trees.{empty_file, small_tree};
 
 use crate::support::root;
 use bitflags::Flags;
@@ -210,15 +213,33 @@ fn held_without_a_name(tree: &mut TreeFs) -> Option<u32>
     requires { tree.old ≡ small_tree }
     ensures { IfSome result (λ links. links ≡ 0) }
 {
+    name_taken_out(tree)?;
+    let (attr, _) = tree.getattr(root(), 2, None).ok()?;
+    Some(attr.nlink)
+}
+
+/// A file is made, and its name taken out: none leads to it.
+fn name_taken_out(tree: &mut TreeFs) -> Option<()>
+    requires { tree.old ≡ small_tree }
+    ensures { IfSome result (λ _. IfSome (node_at tree.new 2) (λ node.
+        (node.names ≡ 0) × (is_directory node.kind ≡ false))) }
+{
+    file_is_made(tree)?;
+    tree.unlink(root(), 1, CStr::before_nul(b"f\0", 1)).ok()
+}
+
+/// A file is made.
+fn file_is_made(tree: &mut TreeFs) -> Option<()>
+    requires { tree.old ≡ small_tree }
+    ensures { IfSome result (λ _. tree.new ≡ made small_tree 1 (codes "f") empty_file) }
+{
     let none = Extensions {
         secctx: None,
         sup_gid: None,
     };
     let name = CStr::before_nul(b"f\0", 1);
     tree.create(root(), 1, name, 0o644, false, 0, 0, none).ok()?;
-    tree.unlink(root(), 1, CStr::before_nul(b"f\0", 1)).ok()?;
-    let (attr, _) = tree.getattr(root(), 2, None).ok()?;
-    Some(attr.nlink)
+    Some(())
 }
 
 /// The value of an extended attribute of the root.

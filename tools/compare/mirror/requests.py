@@ -25,7 +25,8 @@ OPERATIONS = {
     "SETATTR": 10, "READ": 6, "WRITE": 10, "OPEN": 4, "READLINK": 2, "READDIR": 4, "SETXATTR": 5, "GETXATTR": 3,
     "LISTXATTR": 2, "REMOVEXATTR": 3, "FALLOCATE": 3, "FORGET": 5, "GETATTR": 3,
 }
-WATCHED = {"d": "a directory", "f": "a file", "l": "a symbolic link"}
+SPECIAL = {"FIFO": (stat.S_IFIFO, 0), "socket": (stat.S_IFSOCK, 0), "device": (stat.S_IFCHR, os.makedev(1, 3))}
+WATCHED = {"d": "a directory", "f": "a file", "l": "a symbolic link", "s": "a FIFO, socket or device"}
 
 
 def generate(random):
@@ -41,12 +42,12 @@ def generate(random):
     words = {
         "LOOKUP": lambda: (node("d"), word()), "UNLINK": lambda: (node("d"), word()),
         "RMDIR": lambda: (node("d"), word()), "CREATE": lambda: (node("d"), word(), random.choice(MODES)),
-        "MKNOD": lambda: (node("d"), word(), random.choice(MODES)),
+        "MKNOD": lambda: (node("d"), word(), random.choice(["file", "file", *SPECIAL]), random.choice(MODES)),
         "MKDIR": lambda: (node("d"), word(), random.choice(MODES) & 0o1777),
         "SYMLINK": lambda: (node("d"), word(), random.choice([b"a", b"/x/y", b"t" * 200, b"u" * 4095])),
-        "LINK": lambda: (node("fl", 0.85), node("d"), word()),
+        "LINK": lambda: (node("fls", 0.85), node("d"), word()),
         "RENAME": lambda: (node("d"), word(), node("d"), word(), random.choice([0, 0, 0, 0, 1, 2, 2, 3])),
-        "SETATTR": lambda: (node(), random.choice(["mode", "owner", "size", "size", "size", "times", "now"]),
+        "SETATTR": lambda: (node("dfls"), random.choice(["mode", "owner", "size", "size", "size", "times", "now"]),
                             random.choice(MODES),
                             random.choice([0, 1, 5, 100, 4095, 4096, 4097, 70000, random.randrange(9000)]),
                             random.choice([(0, 0), (3, 5), (0, 6)]), (random.randrange(2000), random.randrange(10**9))),
@@ -62,7 +63,7 @@ def generate(random):
         "REMOVEXATTR": lambda: (node("fd", 1), random.choice(ATTRIBUTES)),
         "FALLOCATE": lambda: (node("f", 1), random.choice([0, 1, 4096, random.randrange(20000)]),
                               random.choice([0, 1, 100, 5000]), random.choice([0, 0, 0, 1, 3, 16])),
-        "FORGET": lambda: (node(), random.random(), random.random() < 0.5), "GETATTR": lambda: (node(),),
+        "FORGET": lambda: (node("dfls"), random.random(), random.random() < 0.5), "GETATTR": lambda: (node("dfls"),),
     }
     return (random.choice(GROUPS), name, *words[name]())
 
@@ -130,9 +131,9 @@ class Library:
 
     @staticmethod
     def attributes(bytes_, at=0):
-        of = struct.unpack_from("<QQQQQQIIIIIII", bytes_, at)
+        of = struct.unpack_from("<QQQQQQIIIIIIII", bytes_, at)
         return {"size": of[1], "atime": (of[3], of[6]), "mtime": (of[4], of[7]), "ctime": (of[5], of[8]),
-                "mode": of[9], "nlink": of[10], "uid": of[11], "gid": of[12]}
+                "mode": of[9], "nlink": of[10], "uid": of[11], "gid": of[12], "rdev": of[13]}
 
     def entry(self, *words):
         bytes_ = self.ask(*words)
@@ -167,7 +168,7 @@ class Node:
         self.file, self.given = file, 0
         is_so = os.fstat(file)
         self.inode = is_so.st_ino
-        self.kind = "d" if stat.S_ISDIR(is_so.st_mode) else "l" if stat.S_ISLNK(is_so.st_mode) else "f"
+        self.kind = {stat.S_IFDIR: "d", stat.S_IFLNK: "l", stat.S_IFREG: "f"}.get(stat.S_IFMT(is_so.st_mode), "s")
 
 
 class Session:
@@ -243,7 +244,7 @@ class Session:
     def compare(self, node, ours=None):
         """Attributes side by side; what differs is then made the same."""
         ours, theirs, of = ours or self.library.getattr(node), os.fstat(self.file(node)), self.nodes[node]
-        for key in ("mode", "nlink", "uid", "gid", "size"):
+        for key in ("mode", "nlink", "uid", "gid", "size", "rdev"):
             if ours[key] != getattr(theirs, "st_" + key) and (key != "size" or of.kind != "d"):
                 self.note(f"{key} of {WATCHED[of.kind]}")
                 if key == "mode" and of.kind != "l":
@@ -300,9 +301,10 @@ class Session:
         self.make(of, name, 35, struct.pack("<IIII", flags, 0o100000 | mode, 0, 0) + name + b"\0",
                   lambda directory: os.close(os.open(name, flags, mode, dir_fd=directory)))
 
-    def mknod(self, of, name, mode):
-        self.make(of, name, 8, struct.pack("<IIII", 0o100000 | mode, 0, 0, 0) + name + b"\0",
-                  lambda directory: os.mknod(name, 0o100000 | mode, dir_fd=directory))
+    def mknod(self, of, name, kind, mode):
+        bits, device = SPECIAL.get(kind, (stat.S_IFREG, 0))
+        self.make(of, name, 8, struct.pack("<IIII", bits | mode, device, 0, 0) + name + b"\0",
+                  lambda directory: os.mknod(name, bits | mode, device, dir_fd=directory))
 
     def mkdir(self, of, name, mode):
         self.make(of, name, 9, struct.pack("<II", mode, 0) + name + b"\0",
@@ -513,8 +515,8 @@ class Session:
         theirs = [(b".", 4), (b"..", 4)]
         with os.scandir(way(self.file(node))) as entries:
             for entry in entries:
-                kind = 4 if entry.is_dir(follow_symlinks=False) else 10 if entry.is_symlink() else 8
-                theirs.append((os.fsencode(entry.name), kind))
+                mode = entry.stat(follow_symlinks=False).st_mode
+                theirs.append((os.fsencode(entry.name), stat.S_IFMT(mode) >> 12))
         if len(set(ours)) != len(ours):
             self.note("a name twice")
         if sorted(ours) != sorted(theirs):

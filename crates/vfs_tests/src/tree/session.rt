@@ -381,8 +381,8 @@ static THIRD: [Step; 15] = [
         ],
     },
     Step {
-        why: "a pipe is not made",
-        message: (8, 1, b"\xa0\x11\0\0\0\0\0\0\0\0\0\0\0\0\0\0p\0"),
+        why: "a directory is not made by it",
+        message: (8, 1, b"\xa0A\0\0\0\0\0\0\0\0\0\0\0\0\0\0p\0"),
         error: -1,
         length: 16,
         says: &[],

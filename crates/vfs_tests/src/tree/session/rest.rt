@@ -354,6 +354,76 @@ static SIXTH: [Step; 13] = [
     },
 ];
 
+/// What MKNOD makes.
+static SPECIAL: [Step; 6] = [
+    Step {
+        why: "a FIFO",
+        message: (8, 1, b"\xa4\x11\0\0\x05\0\0\0\0\0\0\0\0\0\0\0p\0"),
+        error: 0,
+        length: 144,
+        says: &[
+            (16, b"\x02\0\0\0\0\0\0\0"),
+            (116, b"\xa4\x11\0\0"),
+            (132, b"\0\0\0\0"),
+        ],
+    },
+    Step {
+        why: "a socket",
+        message: (8, 1, b"\x80\xc1\0\0\x07\0\0\0\0\0\0\0\0\0\0\0s\0"),
+        error: 0,
+        length: 144,
+        says: &[
+            (16, b"\x03\0\0\0\0\0\0\0"),
+            (116, b"\x80\xc1\0\0"),
+            (132, b"\0\0\0\0"),
+        ],
+    },
+    Step {
+        why: "a character device",
+        message: (8, 1, b"\x80!\0\0\x03\x01\0\0\0\0\0\0\0\0\0\0c\0"),
+        error: 0,
+        length: 144,
+        says: &[
+            (16, b"\x04\0\0\0\0\0\0\0"),
+            (116, b"\x80!\0\0"),
+            (132, b"\x03\x01\0\0"),
+        ],
+    },
+    Step {
+        why: "a block device",
+        message: (8, 1, b"\x80a\0\0,\x07\x10\0\0\0\0\0\0\0\0\0b\0"),
+        error: 0,
+        length: 144,
+        says: &[
+            (16, b"\x05\0\0\0\0\0\0\0"),
+            (116, b"\x80a\0\0"),
+            (132, b",\x07\x10\0"),
+        ],
+    },
+    Step {
+        why: "its number",
+        message: (3, 5, b"\0\0\0\0\0\0\0\0\0\0\0\0\0\0\0\0"),
+        error: 0,
+        length: 120,
+        says: &[
+            (40, b"\0\0\0\0\0\0\0\0"),
+            (92, b"\x80a\0\0"),
+            (108, b",\x07\x10\0"),
+        ],
+    },
+    Step {
+        why: "no size of its own",
+        message: (
+            4,
+            5,
+            b"\x08\0\0\0\0\0\0\0\0\0\0\0\0\0\0\0\x01\0\0\0\0\0\0\0\0\0\0\0\0\0\0\0\0\0\0\0\0\0\0\0\0\0\0\0\0\0\0\0\0\0\0\0\0\0\0\0\0\0\0\0\0\0\0\0\0\0\0\0\0\0\0\0\0\0\0\0\0\0\0\0\0\0\0\0\0\0\0\0",
+        ),
+        error: -22,
+        length: 16,
+        says: &[],
+    },
+];
+
 /// The session's fourth part.
 pub fn fourth() -> &'static [Step] {
     &FOURTH
@@ -367,4 +437,9 @@ pub fn fifth() -> &'static [Step] {
 /// The session's sixth part.
 pub fn sixth() -> &'static [Step] {
     &SIXTH
+}
+
+/// What MKNOD makes, in a new tree.
+pub fn special() -> &'static [Step] {
+    &SPECIAL
 }

@@ -1,10 +1,33 @@
-use Rattle.std.proofs.Common.{◌≡◌, ℕ, List, None, refl, ◌∙◌, subst}
+use Rattle.std.proofs.Common.{◌≡◌, ◌<◌, ◌^◌, ◌-◌, ℕ, List, Option, None, IsSome, IfSome, refl, sym, ap, ◌∙◌, subst}
 use Rattle.vfs_files.specs.Values.{name_text}
 use Rattle.vfs_tree.specs.Outcome.{refusal_of}
 use Rattle.vfs_tree.specs.State.{State, node_at}
 use Rattle.vfs_tree.specs.Tree.{link_refusal}
+use Rattle.vfs_nodes.specs.declared.node.Node.{Node}
 use Rattle.vfs_tree.proofs.Answering.{linked_ends}
+use Rattle.vfs_tree.proofs.Nodes.{found_still}
 use Rattle.vfs_tree.proofs.fs.TreeFs.add_link.Goals as goal
+
+pub add_name-requires-clause-place : goal.add_name-requires-clause-place
+add_name-requires-clause-place c = c.in_ok-child.ensures.place
+
+pub count_link-requires-clause-there : goal.count_link-requires-clause-there
+count_link-requires-clause-there c =
+    subst (λ (o : Option Node). IsSome o) (sym (found_still c.args.self.now _ c.args.number c.args.parent _
+    (c.self.view_is ∙ c.in_ok-add_name.ensures.ok) c.in_ok-child.ensures.file c.in_ok-child.ensures.above))
+    c.in_ok-child.ensures.there
+
+pub count_link-requires-clause-names : goal.count_link-requires-clause-names
+count_link-requires-clause-names c =
+    subst (λ (o : Option Node). IfSome o (λ node. node.names < 65000)) (sym (found_still c.args.self.now _ c.args.number c.args.parent _
+    (c.self.view_is ∙ c.in_ok-add_name.ensures.ok) c.in_ok-child.ensures.file c.in_ok-child.ensures.above))
+    c.in_ok-child.ensures.names
+
+pub count_link-requires-clause-lookups : goal.count_link-requires-clause-lookups
+count_link-requires-clause-lookups c =
+    subst (λ (o : Option Node). IfSome o (λ node. node.lookups < 2 ^ 64 - 1)) (sym (found_still c.args.self.now _ c.args.number c.args.parent _
+    (c.self.view_is ∙ c.in_ok-add_name.ensures.ok) c.in_ok-child.ensures.file c.in_ok-child.ensures.above))
+    c.in_ok-child.ensures.lookups
 
 pub returns : goal.returns
 returns c =
