@@ -1,5 +1,5 @@
 -- Transfers into pages that are held, and the count of what is left.
-use Rattle.std.proofs.Common.{◌≡◌, ◌≤◌, ◌<◌, ◌+◌, ◌-◌, ◌/◌, ◌^◌, ℕ, zero, suc, Bool, true, false, List, [], ◌∷◌, ◌++◌, length, take, drop, get_or, min, Option, Some, None, Result, Ok, Err, refl, sym, ap, ◌∙◌, ⊎_elim, arith, append-nil, length-append, length-take, length-drop, take_at, nat_cmp, Ordering, Less, Equal, Greater}
+use Rattle.std.proofs.Common.{◌≡◌, ◌≤◌, ◌<◌, ◌+◌, ◌-◌, ◌/◌, ◌^◌, ℕ, zero, suc, true, false, List, [], ◌∷◌, ◌++◌, length, take, drop, get_or, min, Option, Result, Ok, refl, sym, ap, ◌∙◌, ⊎_elim, arith, length-append, length-take, length-drop, take_at, nat_cmp, Ordering, Less, Equal, Greater}
 use Rattle.std.specs.List.{concat}
 use Rattle.std.proofs.lemmas.List.Folds.{concat-append}
 use Rattle.vfs_views.specs.ViewLaws.{concat-take_more}
@@ -9,11 +9,11 @@ use Rattle.std.specs.BTreeSet.{insert_key}
 use Rattle.std.specs.Ordering.{match_ordering}
 use Rattle.std.proofs.Math.Seq.{take-add}
 use Rattle.std.proofs.lemmas.Bool.{cases_lt, cases_eq, cases_Bool, or_left}
-use Rattle.std.proofs.lemmas.List.{get_or_append_left, get_or-append_right, take_all, nil_from_length, drop-drop, take-append-drop}
+use Rattle.std.proofs.lemmas.List.{get_or_append_left, get_or-append_right, drop-drop, take-append-drop}
 use Rattle.std.proofs.lemmas.List.Sums.{sum_by-cons}
 use Rattle.vfs_views.specs.declared.file.WritevFlags.{WritevFlags}
-use Rattle.vfs_files.specs.Transfers.{Ending, Finished, Stuck, Broken, Past, last_bytes, outcome, bytes_moved, count_moved, writes_of, view_len, Goes, Ends, Transfers}
-use Rattle.vfs_files.specs.TransferLaws.{goes_within, transfer_of_nothing, transfer_within}
+use Rattle.vfs_files.specs.Transfers.{Ending, Finished, Stuck, Broken, Past, last_bytes, bytes_moved, count_moved, writes_of, view_len, Goes, Ends, Transfers}
+use Rattle.vfs_files.specs.TransferLaws.{goes_within}
 use Rattle.vfs_contents.specs.Pages.{Pages, byte_at, byte_over, holds, with_page, with_pages}
 use Rattle.vfs_contents.specs.Filling.{Fills}
 use Rattle.vfs_contents.specs.declared.transfer.Counting.{Counting}

@@ -1,5 +1,5 @@
 -- The first page from one on.
-use Rattle.std.proofs.Common.{◌≡◌, ◌≤◌, ◌<◌, ◌&&◌, ℕ, Bool, true, false, if◌then◌else◌, nat_le, filter, List, [], ◌∷◌, Option, Some, None, MatchOption, nat_cmp, Ordering, Less, Equal, Greater, refl, sym, ap, ◌∙◌, ⊎_elim, arith, Vec}
+use Rattle.std.proofs.Common.{◌≡◌, ◌<◌, ◌&&◌, ℕ, Bool, true, false, if◌then◌else◌, nat_le, filter, [], ◌∷◌, Option, Some, None, MatchOption, nat_cmp, Ordering, Less, Equal, Greater, refl, sym, ◌∙◌, arith, Vec}
 use Rattle.std.specs.List.{find}
 use Rattle.std.specs.Ordering.{is_le, MatchOrdering}
 use Rattle.std.specs.Cmp.{ranks}
@@ -7,7 +7,7 @@ use Rattle.std.specs.Map.{keys_of}
 use Rattle.std.specs.declared.alloc.Global.{Global}
 use Rattle.std.specs.declared.ops.Bound.TheVariants.{Included, Unbounded}
 use Rattle.std.specs.BTreeMap.Range.{entries_between}
-use Rattle.std.proofs.lemmas.Bool.{cases_Bool, cond-true, cond-false, le-leb, lt-leb}
+use Rattle.std.proofs.lemmas.Bool.{le-leb, lt-leb}
 use Rattle.std.proofs.lemmas.List.Elements.{filter_agree}
 use Rattle.vfs_contents.specs.Pages.{Pages, first_from}
 

@@ -1,5 +1,5 @@
 -- Zeros in place of bytes, and pages that go.
-use Rattle.std.proofs.Common.{◌≡◌, ◌≤◌, ◌<◌, ◌+◌, ◌-◌, ◌*◌, ◌/◌, ◌%◌, ℕ, not, nat_le, nat_lt, nat_cmp, true, false, cond, List, [], ◌∷◌, ◌++◌, length, take, drop, filter, replicate, get_or, min, None, Ordering, Less, Equal, Greater, refl, sym, ap, ◌∙◌, ⊎_elim, arith, length-append, length-take, length-drop, Vec}
+use Rattle.std.proofs.Common.{◌≡◌, ◌≤◌, ◌<◌, ◌+◌, ◌-◌, ◌*◌, ◌/◌, ◌%◌, ℕ, not, nat_le, nat_lt, nat_cmp, true, false, cond, [], ◌∷◌, ◌++◌, length, take, drop, filter, replicate, get_or, min, None, Ordering, Less, Equal, Greater, refl, sym, ap, ◌∙◌, ⊎_elim, arith, length-append, length-take, length-drop, Vec}
 use Rattle.std.specs.Int.{div_ceil}
 use Rattle.std.specs.Map.{keys_of, lookup}
 use Rattle.std.specs.BTreeMap.{BTreeMap, is_at}

@@ -1,5 +1,5 @@
 -- The first element of a list that passes a test, and what holds of each element.
-use Rattle.std.proofs.Common.{◌≡◌, Bool, true, false, cond, not, List, [], ◌∷◌, ◌++◌, map, Option, Some, None, find, filter, option_map, refl, sym, ap, ◌∙◌, subst, ⊎_elim}
+use Rattle.std.proofs.Common.{◌≡◌, Bool, true, false, cond, not, List, [], ◌∷◌, map, Option, Some, None, find, filter, option_map, refl, sym, ap, ◌∙◌, subst, ⊎_elim}
 use Rattle.std.specs.List.{AllByRecursion}
 use Rattle.std.proofs.lemmas.Bool.{cases_Bool, cond-true, cond-false, not_from_true, not_from_false, both_ways}
 use Rattle.std.proofs.lemmas.Option.{none-some, same_Some}

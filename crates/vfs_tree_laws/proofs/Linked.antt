@@ -1,7 +1,7 @@
 -- Calls keep links: as many names lead to a node as it says, and each to one that is there.
 use Rattle.std.proofs.Common.{◌≡◌, ◌+◌, ◌-◌, ◌==◌, ◌||◌, if◌then◌else◌, ℕ, Bool, true, false, List, [], ◌∷◌, length, Option, Some, None, refl, sym, ap, ◌∙◌, subst, arith}
 use Rattle.std.proofs.lemmas.Bool.{eqb-false, or_from}
-use Rattle.vfs_tree.specs.Children.{Children, is_directory, is_file, child_named, with_child}
+use Rattle.vfs_tree.specs.Children.{Children, is_directory, child_named, with_child}
 use Rattle.vfs_tree.specs.Node.{new_node}
 use Rattle.vfs_tree_laws.specs.Laws.{names_of, IsSound, IsLinked, CallsKeepLinks}
 use Rattle.vfs_tree.specs.Rename.{directory_refusal, place_refusal, replace_refusal, same_node, renamed, renamed_to, moved_over, exchanged}

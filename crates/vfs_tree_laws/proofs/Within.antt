@@ -11,7 +11,7 @@ use Rattle.std.proofs.lemmas.List.Sums.{sum_by-cons}
 use Rattle.std.proofs.lemmas.Map.Entries.{sum_by-set_value, sum_by-remove_entry}
 use Rattle.std.proofs.lemmas.Option.{same_Some}
 use Rattle.vfs_flags.specs.Numbers.{enoent, eexist, einval, enospc, eperm, eoverflow}
-use Rattle.vfs_tree.specs.Children.{Children, with_child, without_child, with_other_child, is_directory, is_file}
+use Rattle.vfs_tree.specs.Children.{Children, with_child, without_child, with_other_child, is_directory}
 use Rattle.vfs_tree_laws.specs.Laws.{Ascend, IsSound, IsWithin, IsShort, AreShort, inodes_of, CallsStayWithin}
 use Rattle.vfs_tree.specs.Node.{weight, new_node}
 use Rattle.vfs_tree.specs.Outcome.{first_of}

@@ -1,4 +1,4 @@
-use Rattle.std.proofs.Common.{◌≡◌, ◌+◌, ℕ, None, length, take, min, ap, ◌∙◌, arith}
+use Rattle.std.proofs.Common.{◌≡◌, ◌+◌, None, length, take, min, ap, ◌∙◌, arith}
 use Rattle.vfs_contents.specs.Pages.{byte_at, byte_over}
 use Rattle.vfs_contents.proofs.Fills.{fills_all}
 use Rattle.vfs_contents.proofs.transfer.fill.Goals as goal

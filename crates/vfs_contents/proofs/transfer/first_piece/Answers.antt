@@ -1,4 +1,4 @@
-use Rattle.std.proofs.Common.{◌≡◌, ◌<◌, ◌+◌, ◌++◌, [], ℕ, List, length, take, get_or, sym, ap, ◌∙◌, arith}
+use Rattle.std.proofs.Common.{◌<◌, length, sym, ◌∙◌, arith}
 use Rattle.vfs_contents.proofs.Fills.{front_piece, none_more}
 use Rattle.vfs_contents.proofs.transfer.first_piece.Goals as goal
 use Rattle.std.proofs.lemmas.Bool.{eqb-true}

@@ -1,5 +1,4 @@
 use Rattle.std.proofs.Common.{◌≡◌, ◌+◌, ◌-◌, ◌≤◌}
-use Rattle.std.specs.Map.{keys_of}
 use Rattle.vfs_contents.specs.Pages.{missing}
 use Rattle.vfs_contents.proofs.contents.Contents.lacking.Given as goal
 

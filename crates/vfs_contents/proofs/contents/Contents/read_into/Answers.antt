@@ -1,4 +1,4 @@
-use Rattle.std.proofs.Common.{◌≡◌, ◌<◌, ◌+◌, ◌-◌, ◌^◌, ℕ, min, length, sym, ap, ◌∙◌, arith}
+use Rattle.std.proofs.Common.{◌≡◌, length, sym, ap, ◌∙◌, arith}
 use Rattle.vfs_files.specs.Bytes.{part_of, most_put}
 use Rattle.vfs_contents.specs.Contents.{Contents}
 use Rattle.vfs_contents.proofs.Moves.{moves_all}

@@ -1,4 +1,4 @@
-use Rattle.std.proofs.Common.{◌≡◌, ◌<◌, ◌≤◌, ◌+◌, ◌-◌, ◌/◌, ℕ, List, [], length, take, min, max, sym, ap, ◌∙◌, arith, length-take}
+use Rattle.std.proofs.Common.{◌≡◌, ◌+◌, ◌-◌, ◌/◌, ℕ, List, [], length, take, min, max, sym, ap, ◌∙◌, arith, length-take}
 use Rattle.std.specs.Map.{keys_of}
 use Rattle.vfs_files.specs.Bytes.{fitting}
 use Rattle.vfs_contents.specs.Pages.{byte_at, byte_over, holds, with_pages}

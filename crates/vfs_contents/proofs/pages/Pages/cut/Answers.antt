@@ -1,6 +1,5 @@
-use Rattle.std.proofs.Common.{◌≡◌, ℕ, [], nat_lt, nat_cmp, filter, sym, ap, ◌∙◌, arith}
+use Rattle.std.proofs.Common.{◌≡◌, [], nat_lt, filter, sym, ap, ◌∙◌, arith}
 use Rattle.std.specs.Map.{keys_of}
-use Rattle.std.specs.BTreeMap.{is_at}
 use Rattle.std.proofs.lemmas.Bool.{le-ltb}
 use Rattle.vfs_contents.specs.Pages.{Pages}
 use Rattle.vfs_contents.proofs.Held.{filter_removed, filter_none, keys-filter, bytes_filtered, none_behind, none_there, whole_less}

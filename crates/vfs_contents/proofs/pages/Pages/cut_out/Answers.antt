@@ -1,4 +1,4 @@
-use Rattle.std.proofs.Common.{◌≡◌, nat_cmp, filter, sym, ap, ◌∙◌, arith}
+use Rattle.std.proofs.Common.{nat_cmp, filter, sym, ap, ◌∙◌, arith}
 use Rattle.std.specs.Map.{keys_of}
 use Rattle.std.specs.BTreeMap.{is_at}
 use Rattle.vfs_contents.specs.Pages.{Pages, is_outside}

@@ -1,4 +1,4 @@
-use Rattle.std.proofs.Common.{◌≡◌, ◌≤◌, ◌+◌, ◌/◌, ◌%◌, ℕ, List, length, take, true, false, nat_cmp, is_some, sym, ap, ◌∙◌, arith, rules, length-take}
+use Rattle.std.proofs.Common.{◌≡◌, ◌≤◌, ◌+◌, ◌/◌, ◌%◌, ℕ, List, length, take, true, nat_cmp, is_some, sym, ap, ◌∙◌, arith, rules, length-take}
 use Rattle.std.specs.Map.{keys_of}
 use Rattle.std.specs.BTreeMap.{is_at}
 use Rattle.std.specs.Vec.{with_items_from}

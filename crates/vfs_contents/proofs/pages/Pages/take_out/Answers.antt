@@ -1,4 +1,4 @@
-use Rattle.std.proofs.Common.{◌≡◌, ℕ, List, nat_cmp, arith, sym, ap, ◌∙◌}
+use Rattle.std.proofs.Common.{ℕ, List, nat_cmp, arith, sym, ap, ◌∙◌}
 use Rattle.std.specs.BTreeMap.{is_at}
 use Rattle.vfs_contents.specs.Pages.{undone}
 use Rattle.vfs_contents.proofs.Held.{undone-append, whole_less}
