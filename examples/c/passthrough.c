@@ -14,6 +14,8 @@
 
 /* How long a client may remember, in milliseconds. */
 enum { NO_TIME = 0, SHORT_TIME = 1000, LONG_TIME = 86400000 };
+/* How many descriptors a call of a worker opens and closes again: of two nodes, and one more. */
+enum { PASSING = 3 };
 
 /* ---- pieces of requests and rooms */
 
@@ -233,7 +235,8 @@ struct passthrough *passthrough_new(int root, int proc, const struct passthrough
 		}
 	}
 	look_at_folder(all, root);
-	if (nodes_begin(&all->nodes, root, proc, options->file_handles, options->no_devices)) {
+	if (nodes_begin(&all->nodes, root, proc, options->file_handles, options->no_devices,
+			options->other_descriptors + PASSING * options->workers)) {
 		passthrough_end(all);
 		return NULL;
 	}

@@ -50,6 +50,8 @@ struct passthrough_options {
 	/* The capabilities that root's workers have besides, and those that they lack, by bits. */
 	uint64_t more_capabilities, fewer_capabilities;
 	unsigned workers;
+	/* How many descriptors the transport has, and the rest of the process. */
+	unsigned other_descriptors;
 	/* The largest payload of a request or a reply. */
 	uint32_t payload;
 };

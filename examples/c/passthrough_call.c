@@ -229,16 +229,22 @@ static void tell_open(const struct call *call, bool is_directory)
 static int open_file(const struct call *call)
 {
 	const bool is_directory = call->asked->call == NIZWARF_OPENDIR;
-	int fd;
+	struct nodes *nodes = &call->all->nodes;
+	int fd, error = fd_reserve(nodes, 1);
 
+	if (error)
+		return error;
 	lose_fsetid(call);
 	fd = open_node(call, is_directory ? O_RDONLY | O_DIRECTORY : flags_of(call));
+	error = fd < 0 ? errno : 0;
 	regain_fsetid(call);
-	if (fd < 0)
-		return errno;
-	call->answer->handle = file_add(&call->all->nodes, fd, is_directory);
+	if (error) {
+		fd_give_back(nodes, 1);
+		return error;
+	}
+	call->answer->handle = file_add(nodes, fd, is_directory);
 	if (!call->answer->handle) {
-		close(fd);
+		fd_let_go(nodes, fd);
 		return ENOMEM;
 	}
 	tell_open(call, is_directory);
@@ -283,10 +289,14 @@ static int create_file(struct call *call)
 	const nizwarf_call *asked = call->asked;
 	const char *name = name_of(call, asked->name);
 	const struct found found = found_in(&call->node, name);
+	struct nodes *nodes = &call->all->nodes;
 	nizwarf_answer *answer = call->answer;
 	nizwarf_entry *entry = &answer->entry;
-	int fd = -1, path, error = become(call);
+	int fd = -1, path, error = fd_reserve(nodes, 2);
 
+	if (error)
+		return error;
+	error = become(call);
 	if (!error) {
 		/* (a name that is there may be that of a pipe, which waits) */
 		fd = openat(call->node.fd, name, flags_of(call) | O_CREAT | O_EXCL | O_NOFOLLOW | O_CLOEXEC,
@@ -294,21 +304,23 @@ static int create_file(struct call *call)
 		error = fd < 0 ? errno : 0;
 	}
 	become_root(call);
-	if (error == EEXIST && !(asked->flags & O_EXCL))
-		return open_name(call, name);
-	if (error)
-		return error;
+	if (error) {
+		fd_give_back(nodes, 2);
+		return error == EEXIST && !(asked->flags & O_EXCL) ? open_name(call, name) : error;
+	}
 	path = open_made(call, name, fd);
 	error = path < 0 ? errno : enter(call, &found, path, entry);
+	if (path < 0)
+		fd_give_back(nodes, 1);
 	if (!error) {
-		answer->handle = file_add(&call->all->nodes, fd, false);
+		answer->handle = file_add(nodes, fd, false);
 		error = answer->handle ? 0 : ENOMEM;
 		if (error)
-			node_forget(&call->all->nodes, entry->node, 1);
+			node_forget(nodes, entry->node, 1);
 	}
 	if (error) {
 		unmake_of(call->node.fd, name, fd);
-		close(fd);
+		fd_let_go(nodes, fd);
 		return error;
 	}
 	tell_open(call, false);

@@ -73,11 +73,15 @@ bool is_local(const struct call *call);
 const char *name_of(const struct call *call, nizwarf_range range);
 /* Whether a name is that of something in a directory. */
 bool is_plain(const char *name);
+/* What is told of a node that has a lookup more. */
+void tell_entry(const struct call *call, uint64_t number, const struct statx *seen,
+		nizwarf_entry *entry);
 /* Tells attributes, and how long they hold. */
 void tell_attr(const struct call *call, const struct statx *seen, nizwarf_entry *entry);
-/* The entry of a file that was found so, and opened with O_PATH; the descriptor is the node's, or
- * closed. 0, or an error. */
+/* The entry of a file that was found so, and opened with O_PATH, or of the name: one descriptor was
+ * reserved, which is the node's, or given back. 0, or an error. */
 int enter(const struct call *call, const struct found *found, int fd, nizwarf_entry *entry);
+int enter_name(const struct call *call, const struct found *found, nizwarf_entry *entry);
 /* The entry of a name: 0, or an error. */
 int look_up(const struct call *call, const struct found *found, nizwarf_entry *entry);
 /* The same, quicker if it isn't known. */

@@ -41,9 +41,8 @@ void tell_attr(const struct call *call, const struct statx *seen, nizwarf_entry 
 	entry->attr_nanoseconds = (uint32_t)(time % 1000) * 1000000;
 }
 
-/* What is told of a node that has a lookup more. */
-static void tell_entry(const struct call *call, uint64_t number, const struct statx *seen,
-		       nizwarf_entry *entry)
+void tell_entry(const struct call *call, uint64_t number, const struct statx *seen,
+		nizwarf_entry *entry)
 {
 	const struct passthrough *all = call->all;
 
@@ -70,7 +69,7 @@ static int enter_and_tell(const struct call *call, const struct found *found, in
 
 	if (statx(fd, "", AT_EMPTY_PATH | AT_SYMLINK_NOFOLLOW, WANTED, &seen)) {
 		error = errno;
-		close(fd);
+		fd_let_go(&call->all->nodes, fd);
 		return error;
 	}
 	error = node_enter(&call->all->nodes, found, fd, &seen, &number, is_new);
@@ -91,14 +90,35 @@ int enter(const struct call *call, const struct found *found, int fd, nizwarf_en
 	return enter_and_tell(call, found, fd, entry, &is_new);
 }
 
+/* Opens the file of a name with what was reserved for it, and enters it. */
+static int open_reserved(const struct call *call, const struct found *found, nizwarf_entry *entry,
+			 bool *is_new)
+{
+	const int fd = openat(found->directory, found->name, O_PATH | O_NOFOLLOW | O_CLOEXEC);
+	const int error = fd < 0 ? errno : 0;
+
+	*is_new = false;
+	if (!error)
+		return enter_and_tell(call, found, fd, entry, is_new);
+	fd_give_back(&call->all->nodes, 1);
+	return error;
+}
+
+int enter_name(const struct call *call, const struct found *found, nizwarf_entry *entry)
+{
+	bool is_new;
+
+	return open_reserved(call, found, entry, &is_new);
+}
+
 /* Opens the file of a name, and enters it. */
 static int open_and_enter(const struct call *call, const struct found *found, nizwarf_entry *entry,
 			  bool *is_new)
 {
-	const int fd = openat(found->directory, found->name, O_PATH | O_NOFOLLOW | O_CLOEXEC);
+	const int error = fd_reserve(&call->all->nodes, 1);
 
 	*is_new = false;
-	return fd < 0 ? errno : enter_and_tell(call, found, fd, entry, is_new);
+	return error ? error : open_reserved(call, found, entry, is_new);
 }
 
 int look_up_new(const struct call *call, const struct found *found, nizwarf_entry *entry)

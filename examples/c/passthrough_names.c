@@ -3,19 +3,23 @@
 #include <errno.h>
 #include <fcntl.h>
 #include <stdatomic.h>
+#include <string.h>
 #include <sys/stat.h>
 #include <unistd.h>
 #include "passthrough_call.h"
 
-/* Takes back a name that a call made and can't answer, as there is no memory or no descriptor. It is
- * left if it leads to another file by now. Of what was made the inode may not be known. */
+/* Takes back a name that a call made and can't answer, as there is no memory or the host has no
+ * descriptor. It is left if it leads to another file by now. Of what was made the inode may not be known:
+ * such a file has no data yet. */
 static void unmake(int directory, const char *name, const struct statx *made)
 {
 	struct statx seen;
 
-	if (!statx(directory, name, AT_SYMLINK_NOFOLLOW | AT_NO_AUTOMOUNT, WANTED, &seen) &&
-	    !((seen.stx_mode ^ made->stx_mode) & S_IFMT) &&
-	    (!made->stx_ino || (seen.stx_ino == made->stx_ino && seen.stx_mnt_id == made->stx_mnt_id)))
+	if (statx(directory, name, AT_SYMLINK_NOFOLLOW | AT_NO_AUTOMOUNT, WANTED, &seen) ||
+	    (seen.stx_mode ^ made->stx_mode) & S_IFMT)
+		return;
+	if (made->stx_ino ? seen.stx_ino == made->stx_ino && seen.stx_mnt_id == made->stx_mnt_id :
+			    S_ISDIR(seen.stx_mode) || seen.stx_size == made->stx_size)
 		unlinkat(directory, name, S_ISDIR(seen.stx_mode) ? AT_REMOVEDIR : 0);
 }
 
@@ -28,12 +32,15 @@ void unmake_of(int directory, const char *name, int fd)
 }
 
 /* What is known of what a call made. */
-static struct statx type_of(const nizwarf_call *asked)
+static struct statx made_by(const struct call *call)
 {
+	const nizwarf_call *asked = call->asked;
 	const unsigned type = asked->mode & S_IFMT;
 
+	if (asked->call == NIZWARF_SYMLINK)
+		return (struct statx) { .stx_mode = S_IFLNK,
+					.stx_size = strlen(name_of(call, asked->other_name)) };
 	return (struct statx) { .stx_mode = (uint16_t)(asked->call == NIZWARF_MKDIR ? S_IFDIR :
-						       asked->call == NIZWARF_SYMLINK ? S_IFLNK :
 						       type ? type : S_IFREG) };
 }
 
@@ -61,8 +68,11 @@ int make_node(const struct call *call)
 	const char *name = name_of(call, asked->name);
 	const struct found found = found_in(&call->node, name);
 	const int directory = call->node.fd;
-	int error = become(call);
+	int error = fd_reserve(&call->all->nodes, 1);
 
+	if (error)
+		return error;
+	error = become(call);
 	if (error)
 		;
 	else if (asked->call == NIZWARF_MKDIR)
@@ -72,11 +82,13 @@ int make_node(const struct call *call)
 	else
 		error = failed(symlinkat(name_of(call, asked->other_name), directory, name));
 	become_root(call);
-	if (error)
-		return error;
-	error = look_up_new(call, &found, &call->answer->entry);
 	if (error) {
-		const struct statx made = type_of(asked);
+		fd_give_back(&call->all->nodes, 1);
+		return error;
+	}
+	error = enter_name(call, &found, &call->answer->entry);
+	if (error) {
+		const struct statx made = made_by(call);
 
 		unmake(directory, name, &made);
 	}
@@ -85,16 +97,26 @@ int make_node(const struct call *call)
 
 int link_node(const struct call *call)
 {
+	struct node *node = call->node.node;
+	struct nodes *nodes = &call->all->nodes;
 	const char *name = name_of(call, call->asked->name);
-	const struct found found = found_in(&call->other, name);
-	int error;
+	const struct statx made = { .stx_mode = (uint16_t)node->type, .stx_ino = node->inode,
+				    .stx_mnt_id = node->mount };
+	struct statx seen;
+	int error = node_look_up(nodes, node);
 
-	/* (that leads to the node itself, also where it is a symbolic link) */
-	if (linkat(call->all->nodes.proc, name_fd(call->node.fd).bytes, call->other.fd, name,
-		   AT_SYMLINK_FOLLOW))
-		return errno;
-	error = look_up(call, &found, &call->answer->entry);
 	if (error)
-		unmake_of(call->other.fd, name, call->node.fd);
+		return error;
+	/* (that leads to the node itself, also where it is a symbolic link) */
+	error = failed(linkat(nodes->proc, name_fd(call->node.fd).bytes, call->other.fd, name,
+			      AT_SYMLINK_FOLLOW));
+	if (!error && statx(call->node.fd, "", AT_EMPTY_PATH | AT_SYMLINK_NOFOLLOW, WANTED, &seen)) {
+		error = errno;
+		unmake(call->other.fd, name, &made);
+	}
+	if (error)
+		node_forget(nodes, node->counted.number, 1);
+	else
+		tell_entry(call, node->counted.number, &seen, &call->answer->entry);
 	return error;
 }

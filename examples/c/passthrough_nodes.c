@@ -92,6 +92,27 @@ static void take(struct table *table, struct slot *slot)
 	table->count--;
 }
 
+/* ---- descriptors */
+
+int fd_reserve(struct nodes *all, unsigned count)
+{
+	if (atomic_fetch_add(&all->kept, count) + count <= all->most_kept)
+		return 0;
+	fd_give_back(all, count);
+	return EMFILE;
+}
+
+void fd_give_back(struct nodes *all, unsigned count)
+{
+	atomic_fetch_sub(&all->kept, count);
+}
+
+void fd_let_go(struct nodes *all, int fd)
+{
+	close(fd);
+	fd_give_back(all, 1);
+}
+
 /* ---- nodes */
 
 /* Lets go of a mount. With its last node it is closed, so that the host can unmount it. */
@@ -109,7 +130,7 @@ static void mount_put(struct host_mount *mount)
 		*at = mount->next;
 	pthread_mutex_unlock(&mount->of->mounts_lock);
 	if (at) {
-		close(mount->fd);
+		fd_let_go(mount->of, mount->fd);
 		free(mount);
 	}
 }
@@ -119,7 +140,7 @@ static void free_node(struct node *node)
 	if (!node || atomic_fetch_sub(&node->counted.users, 1) > 1)
 		return;
 	if (node->counted.fd >= 0)
-		close(node->counted.fd);
+		fd_let_go(node->counted.of, node->counted.fd);
 	mount_put(node->handle_of);
 	free(node->handle);
 	free(node->place);
@@ -254,6 +275,19 @@ uint64_t node_find(struct nodes *all, const struct statx *seen)
 	return number;
 }
 
+int node_look_up(struct nodes *all, struct node *node)
+{
+	const struct slot *slot;
+
+	/* (no node goes meanwhile) */
+	pthread_rwlock_rdlock(&all->nodes.lock);
+	slot = slot_of(&all->nodes, node->counted.number);
+	if (slot)
+		atomic_fetch_add(&node->lookups, 1);
+	pthread_rwlock_unlock(&all->nodes.lock);
+	return slot ? 0 : ESTALE;
+}
+
 /* Twice as many chains, under the lock, if there is memory. */
 static void grow_chains(struct nodes *all)
 {
@@ -302,12 +336,15 @@ static struct host_mount *mount_by(struct nodes *all, int directory, int fd, con
 	pthread_mutex_lock(&all->mounts_lock);
 	for (mount = all->mounts; mount && mount->id != mount_of(seen); mount = mount->next)
 		;
-	if (!mount && (mount = malloc(sizeof(*mount)))) {
-		*mount = (struct host_mount) { all, mount_of(seen), open_mount(all, directory, fd, seen),
-					       0, all->mounts };
-		if (mount->fd >= 0) {
+	if (!mount && !fd_reserve(all, 1)) {
+		mount = malloc(sizeof(*mount));
+		if (mount)
+			*mount = (struct host_mount) { all, mount_of(seen),
+						       open_mount(all, directory, fd, seen), 0, all->mounts };
+		if (mount && mount->fd >= 0) {
 			all->mounts = mount;
 		} else {
+			fd_give_back(all, 1);
 			free(mount);
 			mount = NULL;
 		}
@@ -351,7 +388,7 @@ static int hold(struct nodes *all, struct node *node, int directory, int fd, con
 	node->handle_of = handle ? mount_by(all, directory, fd, seen) : NULL;
 	if (node->handle_of && opens(node->handle_of, handle)) {
 		node->counted.fd = -1;
-		close(fd);
+		fd_let_go(all, fd);
 		return 0;
 	}
 	mount_put(node->handle_of);
@@ -430,7 +467,7 @@ int open_by_name(struct nodes *all, struct node *node, int flags)
 int node_enter(struct nodes *all, const struct found *found, int fd, const struct statx *seen,
 	       uint64_t *number, bool *is_new)
 {
-	const bool by_handle = fd >= all->handles_from || some_handle(all, seen);
+	const bool by_handle = atomic_load(&all->kept) > all->handles_from || some_handle(all, seen);
 	struct node *made = calloc(1, sizeof(*made));
 	struct file_handle *handle = NULL;
 	int error = made ? 0 : ENOMEM;
@@ -442,9 +479,10 @@ int node_enter(struct nodes *all, const struct found *found, int fd, const struc
 	if (error || *number) {
 		free(made);
 		free(handle);
-		close(fd);
+		fd_let_go(all, fd);
 		return error;
 	}
+	made->counted.of = all;
 	atomic_init(&made->counted.users, 1);
 	atomic_init(&made->lookups, 1);
 	made->device = device_of(seen);
@@ -528,10 +566,22 @@ void nodes_forget_all(struct nodes *all)
 	}
 }
 
-int nodes_begin(struct nodes *all, int root, int proc, enum file_handles handles, bool no_devices)
+/* How many descriptors may be kept, if so many are for others. Where that leaves few, it is a quarter. */
+static unsigned most_to_keep(unsigned others)
+{
+	struct rlimit limit;
+	unsigned may_be;
+
+	if (getrlimit(RLIMIT_NOFILE, &limit) || limit.rlim_cur > INT_MAX)
+		return INT_MAX;
+	may_be = (unsigned)limit.rlim_cur;
+	return may_be / 4 + others < may_be ? may_be - others : may_be / 4;
+}
+
+int nodes_begin(struct nodes *all, int root, int proc, enum file_handles handles, bool no_devices,
+		unsigned others)
 {
 	const struct found nowhere = { -1, 0, NULL };
-	struct rlimit limit = { 0, 0 };
 	struct statx seen;
 	uint64_t number;
 	bool is_new;
@@ -546,16 +596,16 @@ int nodes_begin(struct nodes *all, int root, int proc, enum file_handles handles
 	if (!all->chains || statx(root, "", AT_EMPTY_PATH, STATX_BASIC_STATS | STATX_MNT_ID, &seen))
 		return -1;
 	/* The root stays open, whatever the others are. */
-	all->handles_from = INT_MAX;
-	if (node_enter(all, &nowhere, root, &seen, &number, &is_new))
+	all->handles_from = UINT_MAX;
+	all->most_kept = most_to_keep(others);
+	if (fd_reserve(all, 1) || node_enter(all, &nowhere, root, &seen, &number, &is_new))
 		return -1;
 	all->named_mount = no_devices ? mount_of(&seen) : 0;
 	all->handles_alone = handles == HANDLES_ALONE;
 	if (handles == HANDLES_PREFERRED || handles == HANDLES_ALONE)
 		all->handles_from = 0;
-	else if (handles == HANDLES_IF_SCARCE && !getrlimit(RLIMIT_NOFILE, &limit) &&
-		 limit.rlim_cur < INT_MAX)
-		all->handles_from = (int)(limit.rlim_cur / 4 * 3);
+	else if (handles == HANDLES_IF_SCARCE)
+		all->handles_from = all->most_kept / 4 * 3;
 	return 0;
 }
 
@@ -582,6 +632,7 @@ uint64_t file_add(struct nodes *all, int fd, bool is_directory)
 
 	if (file) {
 		atomic_init(&file->counted.users, 1);
+		file->counted.of = all;
 		file->counted.fd = fd;
 		file->is_directory = is_directory;
 		pthread_mutex_init(&file->lock, NULL);
@@ -605,7 +656,7 @@ void file_put(struct open_file *file)
 {
 	if (!file || atomic_fetch_sub(&file->counted.users, 1) > 1)
 		return;
-	close(file->counted.fd);
+	fd_let_go(file->counted.of, file->counted.fd);
 	pthread_mutex_destroy(&file->lock);
 	free(file->buffer);
 	free(file);

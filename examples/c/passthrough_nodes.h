@@ -26,12 +26,15 @@ enum file_handles {
 	HANDLES_ALONE,
 };
 
+struct nodes;
+
 /* What a number leads to, before the fields of its kind. `users` are the table, and each call that
  * has it in hand. */
 struct counted {
 	atomic_uint users;
 	int fd;
 	uint64_t number;
+	struct nodes *of;
 };
 
 struct slot {
@@ -45,8 +48,6 @@ struct table {
 	struct slot *slots;
 	uint32_t size, used, first_free, count;
 };
-
-struct nodes;
 
 /* A mount of the host, with a descriptor by which handles are opened. It is there as long as a node
  * has a handle of it. */
@@ -101,8 +102,11 @@ struct nodes {
 	uint32_t chain_count;
 	/* The descriptor of /proc/self/fd. */
 	int proc;
-	/* A new node whose descriptor is this one or a later one gets a handle. */
-	int handles_from;
+	/* How many descriptors are kept or reserved, of nodes, open files and mounts, and how many may be:
+	 * the others are for what a call opens and closes again, and for the transport. From how many on a
+	 * new node gets a handle. */
+	atomic_uint kept;
+	unsigned most_kept, handles_from;
 	bool handles_alone;
 	/* The mount whose files may be opened by their names; 0: none. */
 	uint64_t named_mount;
@@ -124,9 +128,17 @@ struct grip {
 };
 
 /* -1: there is no memory. `root` is the node ROOT_NODE from then on, and is closed with it. With
- * `no_devices` none can be opened in its mount. */
-int nodes_begin(struct nodes *all, int root, int proc, enum file_handles handles, bool no_devices);
+ * `no_devices` none can be opened in its mount. So many descriptors are for `others`. */
+int nodes_begin(struct nodes *all, int root, int proc, enum file_handles handles, bool no_devices,
+		unsigned others);
 void nodes_end(struct nodes *all);
+
+/* Reserves descriptors that are to be kept, before they are opened: so a call that makes a name has
+ * those of its answer. 0, or EMFILE. What takes a descriptor over takes its reservation too. */
+int fd_reserve(struct nodes *all, unsigned count);
+void fd_give_back(struct nodes *all, unsigned count);
+/* Closes a descriptor, and gives its reservation back. */
+void fd_let_go(struct nodes *all, int fd);
 
 /* Takes a node in hand. 0, or an error: ESTALE where there is none. */
 int node_get(struct nodes *all, uint64_t number, struct grip *grip);
@@ -141,8 +153,11 @@ bool node_may_be_known(struct nodes *all, const struct node *directory, uint64_t
  * is opened. */
 uint64_t node_find(struct nodes *all, const struct statx *seen);
 
-/* Gives the number of a file, with a lookup more, which was opened with O_PATH: `fd` is the node's
- * from then on, or closed. `*is_new`: it wasn't known. 0, or an error. */
+/* A lookup more of a node that is in hand. 0, or ESTALE: the client gave it back meanwhile. */
+int node_look_up(struct nodes *all, struct node *node);
+
+/* Gives the number of a file, with a lookup more, which was opened with O_PATH: `fd`, for which one was
+ * reserved, is the node's from then on, or closed. `*is_new`: it wasn't known. 0, or an error. */
 int node_enter(struct nodes *all, const struct found *found, int fd, const struct statx *seen,
 	       uint64_t *number, bool *is_new);
 
@@ -165,8 +180,8 @@ int open_by_name(struct nodes *all, struct node *node, int flags);
 /* Opens what a descriptor is of anew, with these flags; the descriptor, or -1 with errno. */
 int open_again(const struct nodes *all, int fd, int flags);
 
-/* The number of a new open file, which has the descriptor from then on; 0: there is no memory, and
- * the descriptor stays the caller's. */
+/* The number of a new open file, which has the descriptor from then on, for which one was reserved; 0:
+ * there is no memory, and the descriptor stays the caller's. */
 uint64_t file_add(struct nodes *all, int fd, bool is_directory);
 /* Takes an open file in hand, or NULL. */
 struct open_file *file_get(struct nodes *all, uint64_t number);

@@ -28,6 +28,9 @@
 #include "trace.h"
 
 enum { MOST_FILES = 1000000, LARGE_TABLE = 65536, WORKERS = 4 };
+/* Descriptors besides those of the folder's files: of a mount, with a device and a pipe for each worker; of
+ * a socket, with two for each queue, if there are as many as workers. */
+enum { OF_MOUNT = 12, OF_MOUNT_WORKER = 3, OF_SOCKET = 24, OF_SOCKET_WORKER = 2 };
 
 static const char usage[] =
 	"Usage: nizwarf-share [WORDS] FOLDER MOUNTPOINT\n"
@@ -659,6 +662,8 @@ int main(int count, char **given)
 	take_words(count, given);
 	by.workers = words.files.workers;
 	words.files.payload = is_mount() ? FUSE_DEVICE_PIPED : TRANSPORT_PAYLOAD;
+	words.files.other_descriptors = is_mount() ? OF_MOUNT + OF_MOUNT_WORKER * by.workers :
+						     OF_SOCKET + OF_SOCKET_WORKER * by.workers;
 	by.quiet = !words.says_more;
 	if (words.traces && trace_begin(&by, words.trace_file))
 		return 1;

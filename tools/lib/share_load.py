@@ -162,6 +162,11 @@ class Keeper:
             wrong(f"{what}: {error}")
         return error.errno in self.allowed
 
+    def hold_undone(self, error, name):
+        """What finds no descriptor makes no name."""
+        if error.errno in SCARCE and os.path.lexists(f"{self.folder}/{name}"):
+            wrong(f"{name} was made, and refused: {error}")
+
     def is_there(self, name):
         def look():
             try:
@@ -184,14 +189,17 @@ class Keeper:
         name = f"file{self.number}"
         self.number += 1
         data = self.chance.randbytes(size)
+        opened = False
         try:
             with open(f"{self.mount}/{name}", "wb", buffering=0) as file:
-                at = 0
+                opened, at = True, 0
                 while at < size:
                     at += file.write(data[at:at + self.chance.choice((100, 4096, 65536, MIB))])
                 os.fsync(file.fileno())
         except OSError as error:
             self.note(error, "a write")
+            if not opened:
+                self.hold_undone(error, name)
             self.remove(name)
             return False
         self.files[name] = hashlib.sha256(data).digest()
@@ -217,6 +225,8 @@ class Keeper:
                 del self.files[name]
         except OSError as error:
             self.note(error, what)
+            if what != "remove":
+                self.hold_undone(error, other)
             # (an error for want of memory may come behind what was done)
             for it in (name, other):
                 if self.is_there(it):
@@ -373,13 +383,90 @@ def full_disk(chance):
     count("disks filled, of files of four sizes each")
 
 
+def make_each(keeper, name, until):
+    """Makes names in all ways, and removes them: each is made and told, or neither."""
+    makers = (lambda path: os.close(os.open(path, os.O_CREAT | os.O_EXCL | os.O_WRONLY)), os.mkdir, os.mkfifo,
+              lambda path: os.symlink("text", path), lambda path: os.link(keeper.mount + "/" + name + "linked", path))
+    while time.monotonic() < until:
+        for i, make in enumerate(makers):
+            try:
+                make(f"{keeper.mount}/{name}{i}")
+                count("names made beside a want of descriptors")
+                if not os.path.lexists(f"{keeper.folder}/{name}{i}"):
+                    wrong(f"{name}{i} was told, and not made")
+            except OSError as error:
+                keeper.note(error, "a maker")
+                keeper.hold_undone(error, f"{name}{i}")
+        for i, _ in enumerate(makers):
+            path = f"{keeper.mount}/{name}{i}"
+            if os.path.lexists(f"{keeper.folder}/{name}{i}"):
+                keeper.retry(lambda path=path, i=i: os.rmdir(path) if i == 1 else os.remove(path))
+
+
+def makers_without():
+    """Each request that makes a name, with so few descriptors left: what is refused for want of one leaves no name.
+    A LINK wants none, by POSIX and Linux, where link() has no such error."""
+    folder, socket = work + "/others", work + "/makers"
+    for i in range(64):
+        with open(f"{folder}/some{i}", "w"):
+            pass
+    makers = {13: lambda node: struct.pack("<Q", node) + b"made\0", 6: lambda _: b"made\0text\0",
+              8: lambda _: struct.pack("<IIII", 0o100644, 0, 0, 0) + b"made\0",
+              9: lambda _: struct.pack("<II", 0o755, 0) + b"made\0",
+              35: lambda _: struct.pack("<IIII", 0o102, 0o644, 0, 0) + b"made\0"}
+    for words in (["--inode-file-handles=never"], ["--inode-file-handles=prefer"], []):
+        server = Server(share, folder, "--rlimit-nofile=64", "--thread-pool-size=1", *words, socket=socket)
+        one = Asking(socket)
+        for opcode, body in makers.items():
+            for left in range(6):
+                hold_maker(one, folder, opcode, body, left, words)
+        one.end()
+        hold_end(server, f"makers of names, with {words}")
+    empty(folder)
+
+
+def hold_maker(one, folder, opcode, body, left, words):
+    """Asks a request that makes a name, where the server has so many descriptors left."""
+    one.ask(requests.FIRST[1])
+    node = number(one.ask(line("16+128", request(1, b"some0\0")))[1])
+    held, error = [], 0
+    for i in range(1, 64):
+        error, entry = one.ask(line("16+128", request(1, b"some%d\0" % i)))
+        if error:
+            break
+        held.append(number(entry))
+    # (where files are held by handles, those that are open run out)
+    while not error:
+        error, entry = one.ask(line("16+16", request(27, bytes(8))))
+    if error not in SCARCE:
+        wrong(f"{error} came of a want of descriptors, with {words}")
+    for it in held[-left - 1:]:
+        one.ask(line("0", request(2, struct.pack("<Q", 1), node=it)))
+    # (the last one that is there is taken by a file that wasn't known)
+    one.ask(line("16+128", request(1, b"some%d\0" % len(held))))
+    error, entry = one.ask(line("16+144", request(opcode, body(node))))
+    is_there = os.path.lexists(folder + "/made")
+    what = f"{requests.NAMES[opcode]} with {left} descriptors left, and {words}"
+    if error not in {0, *SCARCE} or is_there == bool(error):
+        wrong(f"{what}: error {error}, and the name is {'there' if is_there else 'not there'}")
+    if opcode == 13 and (error or number(entry) != node or struct.unpack_from("<I", entry, 104)[0] != 2):
+        wrong(f"{what}: error {error}, {entry.hex()}")
+    count("names made, or refused for want of a descriptor")
+    if is_there:
+        one.ask(line("16", request(11 if opcode == 9 else 10, b"made\0")))
+    one.ask(line("0", request(38)))
+
+
 def few_descriptors(chance):
     """Descriptors run out: an error comes through, and it goes on once some are given back."""
     mount = work + "/mounted"
     server = Server(share, work + "/others", "--inode-file-handles=never", "--rlimit-nofile=64", mount=mount)
     before = server.descriptors()
     keeper = Keeper(mount, work + "/others", SCARCE, chance)
-    opened = []
+    opened, names = [], [f"maker{i}-" for i in range(4)]
+    for name in names:
+        with open(f"{mount}/kept/{name}linked", "w"):
+            pass
     for i in range(200):
         try:
             opened.append(open(f"{mount}/kept/held{i}", "wb"))
@@ -387,7 +474,18 @@ def few_descriptors(chance):
             keeper.note(error, "an open")
     if not 5 < len(opened) < 64:
         wrong(f"{len(opened)} of 200 files could be opened with 64 descriptors")
+    # (a few are left to those who make names at once)
+    for i in range(chance.randrange(5)):
+        opened.pop(0).close()
+        keeper.remove(f"held{i}")
+    making = [threading.Thread(target=make_each, args=(keeper, name, time.monotonic() + 2)) for name in names]
+    for it in making:
+        it.start()
     keep(keeper, time.monotonic() + 2, 100000)
+    for it in making:
+        it.join()
+    for name in names:
+        keeper.remove(name + "linked")
     for file in opened:
         try:
             file.close()
@@ -518,7 +616,6 @@ def machines(server, chance, socket):
     return one.end()
 
 
-
 def number(body, at=0):
     """A number in a reply; 0 if it isn't as long."""
     return struct.unpack_from("<Q", body, at)[0] if len(body) >= at + 8 else 0
@@ -621,6 +718,7 @@ def main(minutes):
     subprocess.run(["mount", "-t", "tmpfs", "-o", "size=256m,nr_inodes=100k", "none", work + "/folder"], check=True)
     until = time.monotonic() + minutes * 60
     in_turn()
+    makers_without()
     mounted = Server(share, work + "/folder", "--xattr", mount=work + "/mount")
     served = Server(share, work + "/served", "--xattr", socket=work + "/socket")
     first = {it: it.memory()[0] for it in (mounted, served)}
