@@ -31,7 +31,7 @@ STRESSORS = ("access", "chdir", "chmod", "chown", "dentry", "dir", "dirdeep", "d
              "fcntl", "filename", "flock", "fpunch", "fstat", "getdent", "hdd", "iomix", "link", "lockf", "mknod",
              "open", "rename", "symlink", "sync-file", "touch", "utime", "xattr")
 # Of these two each holds thousands of files open, of which a server may have 150.
-FEW_OPEN = ("--chdir-dirs", "32", "--open-max", "32")
+FEW_OPEN = ("--chdir-dirs", "64", "--open-max", "32")
 # What a program may be told of a full disk, of descriptors that ran out, and of refused allocations.
 FULL = {errno.ENOSPC}
 SCARCE = {errno.EMFILE, errno.ENFILE}
