@@ -268,6 +268,57 @@ try_names() {
     echo "Files are the ones that were looked up, with $*"
 }
 
+# Who may not open a file may not by O_CREAT either, where it came behind a name that was remembered as none.
+try_late() {
+    rm -rf "$work/folder"
+    mkdir -p "$work/folder" "$work/mount"
+    chmod 1777 "$work/folder"
+    "$share" --log-level=error -o allow_other,negative_timeout=60 "$work/folder" "$work/mount" &
+    server=$!
+    await_mount
+    timeout 60 python3 - "$work/folder" "$work/mount" << 'PYTHON' || wrong "a file that came late"
+import os, sys
+folder, mount = sys.argv[1:]
+for name, mode, opens in (("hidden", 0o600, False), ("shared", 0o666, True)):
+    assert not os.path.exists(f"{mount}/{name}")
+    with open(f"{folder}/{name}", "w") as file:
+        file.write(name)
+    os.chmod(f"{folder}/{name}", mode)
+    os.setegid(65534)
+    os.seteuid(65534)
+    try:
+        with open(os.open(f"{mount}/{name}", os.O_RDWR | os.O_CREAT)) as file:
+            assert opens and file.read() == name
+    except PermissionError:
+        assert not opens
+    os.seteuid(0)
+    os.setegid(0)
+PYTHON
+    umount "$work/mount"
+    wait "$server" || wrong "the server ended with $? behind a file that came late"
+    server=
+    echo "A file that came late is opened by who may."
+}
+
+# Without standard descriptors none of these is another file's; and what is traced is its owner's.
+try_closed() {
+    local child fd
+    mkdir -p "$work/folder" "$work/mount"
+    "$share" --trace="$work/trace" "$work/folder" "$work/mount" <&- >&- 2>&- &
+    server=$!
+    await_mount
+    touch "$work/mount/touched"
+    child=$(cat "/proc/$server/task/$server/children")
+    for fd in 0 1 2; do
+        [ "$(readlink "/proc/$((child))/fd/$fd")" = /dev/null ] || wrong "the descriptor $fd, which was closed"
+    done
+    [ "$(stat -c %a "$work/trace")" = 600 ] || wrong "others may read the trace"
+    umount "$work/mount"
+    wait "$server" || wrong "the server without standard descriptors ended with $?"
+    server=
+    echo "It serves without standard descriptors."
+}
+
 # Words that can't be, what is printed, and who is told that it serves.
 try_words() {
     local came words
@@ -330,6 +381,8 @@ try_signals --sandbox=none
 try_kill
 try_names --sandbox=namespace
 try_names --sandbox=none
+try_late
+try_closed
 try_user
 
 # Asks a server over vhost-user: what it is, its words.
@@ -519,8 +572,9 @@ with open(work + "/log", "w+") as log:
         for name, node, errors in (("link", link, (ELOOP,)), ("pipe", pipe, (ENXIO,)), ("null", null, (ENXIO,))):
             one.hold(f"OPEN of a {name} with {flags}",
                      line("16+16", request(14, struct.pack("<II", flags, 0), node=node)), *errors)
+        # (a client opens what is there by OPEN, and asks who may)
         one.hold(f"CREATE of a pipe with {flags}",
-                 line("16+144", request(35, struct.pack("<IIII", flags | 0o100, 0o644, 0, 0) + b"pipe\0")), ENXIO)
+                 line("16+144", request(35, struct.pack("<IIII", flags | 0o100, 0o644, 0, 0) + b"pipe\0")), ESTALE)
     size = struct.pack("<IIQQ", 8, 0, 0, 5) + bytes(64)
     for name, node, error in (("link", link, ELOOP), ("pipe", pipe, ENXIO), ("null", null, ENXIO)):
         one.hold(f"SETATTR of the size of a {name}", line("16+104", request(4, size, node=node)), error)

@@ -251,24 +251,6 @@ static int open_file(const struct call *call)
 	return 0;
 }
 
-/* CREATE of a name that is there. */
-static int open_name(struct call *call, const char *name)
-{
-	const struct found found = found_in(&call->node, name);
-	nizwarf_entry *entry = &call->answer->entry;
-	int error = look_up(call, &found, entry);
-
-	if (error)
-		return error;
-	node_put(&call->node);
-	error = node_get(&call->all->nodes, entry->node, &call->node);
-	if (!error)
-		error = open_file(call);
-	if (error)
-		node_forget(&call->all->nodes, entry->node, 1);
-	return error;
-}
-
 /* Opens what was just made of a name with O_PATH: by the name, which costs less, or if that leads to another
  * file by now, by its descriptor. */
 static int open_made(const struct call *call, const char *name, int fd)
@@ -284,7 +266,7 @@ static int open_made(const struct call *call, const char *name, int fd)
 	return open_again(&call->all->nodes, fd, O_PATH);
 }
 
-static int create_file(struct call *call)
+static int create_file(const struct call *call)
 {
 	const nizwarf_call *asked = call->asked;
 	const char *name = name_of(call, asked->name);
@@ -306,7 +288,9 @@ static int create_file(struct call *call)
 	become_root(call);
 	if (error) {
 		fd_give_back(nodes, 2);
-		return error == EEXIST && !(asked->flags & O_EXCL) ? open_name(call, name) : error;
+		/* The client thinks that a file which CREATE opens is new, and doesn't ask who may open it. So one
+		 * that came meanwhile is not opened, and the client looks the name up again. */
+		return error == EEXIST && !(asked->flags & O_EXCL) ? ESTALE : error;
 	}
 	path = open_made(call, name, fd);
 	error = path < 0 ? errno : enter(call, &found, path, entry);
@@ -563,7 +547,7 @@ static int check_names(const struct call *call)
 }
 
 /* A call of a node, which is in hand. */
-static int make_of_node(struct call *call)
+static int make_of_node(const struct call *call)
 {
 	const nizwarf_call *asked = call->asked;
 	const char *name = name_of(call, asked->name);

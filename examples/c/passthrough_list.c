@@ -8,8 +8,9 @@
 #include <unistd.h>
 #include "passthrough_call.h"
 
-/* How much is read of a directory at once. */
-enum { ENTRIES = 32768 };
+/* How much is read of a directory at once, and how many may keep what wasn't told of it: a client may
+ * have any number of them open. */
+enum { ENTRIES = 32768, MOST_BUFFERS = 256 };
 
 /* ---- directories */
 
@@ -18,8 +19,12 @@ static int move_to(struct open_file *file, uint64_t offset)
 {
 	const bool is_first = !file->buffer;
 
-	if (is_first && !(file->buffer = malloc(ENTRIES)))
-		return ENOMEM;
+	if (is_first) {
+		file->buffer = malloc(ENTRIES);
+		if (!file->buffer)
+			return ENOMEM;
+		atomic_fetch_add(&file->counted.of->buffers, 1);
+	}
 	/* (at 0 a directory is read anew, but for the first time) */
 	if (offset == file->offset && (offset || is_first))
 		return 0;
@@ -31,6 +36,20 @@ static int move_to(struct open_file *file, uint64_t offset)
 	file->offset = offset;
 	file->is_at_end = false;
 	return 0;
+}
+
+/* Drops what was read and not told, if many keep such. */
+static void drop_buffer(struct open_file *file)
+{
+	atomic_uint *buffers = &file->counted.of->buffers;
+
+	if (!file->buffer || atomic_load(buffers) <= MOST_BUFFERS ||
+	    (file->at < file->end && lseek(file->counted.fd, (off_t)file->offset, SEEK_SET) < 0))
+		return;
+	free(file->buffer);
+	file->buffer = NULL;
+	file->at = file->end = 0;
+	atomic_fetch_sub(buffers, 1);
 }
 
 /* The next item of a directory, or NULL: with errno 0 at its end. */
@@ -174,6 +193,7 @@ int read_directory(const struct call *call)
 		return ENOTDIR;
 	pthread_mutex_lock(&call->file->lock);
 	error = list(call);
+	drop_buffer(call->file);
 	pthread_mutex_unlock(&call->file->lock);
 	return error;
 }

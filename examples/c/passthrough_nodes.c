@@ -656,6 +656,8 @@ void file_put(struct open_file *file)
 {
 	if (!file || atomic_fetch_sub(&file->counted.users, 1) > 1)
 		return;
+	if (file->buffer)
+		atomic_fetch_sub(&file->counted.of->buffers, 1);
 	fd_let_go(file->counted.of, file->counted.fd);
 	pthread_mutex_destroy(&file->lock);
 	free(file->buffer);

@@ -107,6 +107,8 @@ struct nodes {
 	 * new node gets a handle. */
 	atomic_uint kept;
 	unsigned most_kept, handles_from;
+	/* How many open directories have a buffer. */
+	atomic_uint buffers;
 	bool handles_alone;
 	/* The mount whose files may be opened by their names; 0: none. */
 	uint64_t named_mount;

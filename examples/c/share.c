@@ -397,6 +397,16 @@ static void take_words(int count, char **given)
 
 /* ---- what is around serving */
 
+/* Has each of the standard descriptors lead somewhere: a file of the folder that got one would be written
+ * what is said. */
+static int fill_standard(void)
+{
+	for (int fd = 0; fd <= 2; fd++)
+		if (fcntl(fd, F_GETFD) < 0 && open("/dev/null", O_RDWR) != fd)
+			return -1;
+	return 0;
+}
+
 /* Each file that a client knows may have a descriptor. */
 static void raise_limit(void)
 {
@@ -659,6 +669,8 @@ int main(int count, char **given)
 	struct outside outside = { 0 };
 	int listener = -1, status;
 
+	if (fill_standard())
+		return failed("/dev/null"), 1;
 	take_words(count, given);
 	by.workers = words.files.workers;
 	words.files.payload = is_mount() ? FUSE_DEVICE_PIPED : TRANSPORT_PAYLOAD;

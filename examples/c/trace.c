@@ -5,11 +5,13 @@
  * of the last reply to an INIT. */
 #define _GNU_SOURCE
 #include <errno.h>
+#include <fcntl.h>
 #include <linux/fuse.h>
 #include <stdatomic.h>
 #include <stdio.h>
 #include <stdlib.h>
 #include <string.h>
+#include <unistd.h>
 #include "trace.h"
 
 /* Names of the codes 1 to 10. */
@@ -188,8 +190,13 @@ static int32_t serve(void *user, unsigned worker, const nizwarf_segment *request
 
 int trace_begin(transport *by, const char *path)
 {
-	if (path && !(file = fopen(path, "wxe"))) {
+	/* (the data of all files will be in it) */
+	const int fd = path ? open(path, O_WRONLY | O_CREAT | O_EXCL | O_CLOEXEC, 0600) : -1;
+
+	if (path && (fd < 0 || !(file = fdopen(fd, "w")))) {
 		fprintf(stderr, "%s: %s: %s\n", by->program, path, strerror(errno));
+		if (fd >= 0)
+			close(fd);
 		return -1;
 	}
 	of = *by;

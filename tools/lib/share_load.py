@@ -30,7 +30,7 @@ MOST_MEMORY = 128 * 1024
 STRESSORS = ("access", "chdir", "chmod", "chown", "dentry", "dir", "dirdeep", "dirmany", "fallocate",
              "fcntl", "filename", "flock", "fpunch", "fstat", "getdent", "hdd", "iomix", "link", "lockf", "mknod",
              "open", "rename", "symlink", "sync-file", "touch", "utime", "xattr")
-# Of these two each holds thousands of files open, of which a server may have 150.
+# Of these two each holds thousands of files open, of which a server with few descriptors may have 140.
 FEW_OPEN = ("--chdir-dirs", "64", "--open-max", "32")
 # What a program may be told of a full disk, of descriptors that ran out, and of refused allocations.
 FULL = {errno.ENOSPC}
@@ -343,7 +343,7 @@ def with_words(chance):
     """A server with other options, stressed."""
     words = chance.choice((["--writeback", "-o", "allow_other"], ["--cache=always", "--xattr"], ["--cache=never"],
                            ["--inode-file-handles=prefer", "--xattr"], ["--thread-pool-size=1"],
-                           ["--cache=metadata", "--no-readdirplus"], ["--rlimit-nofile=150"]))
+                           ["--cache=metadata", "--no-readdirplus"], ["--rlimit-nofile=600"]))
     server = Server(share, work + "/others", *words, mount=work + "/mounted")
     if not server.is_up:
         return wrong(f"no server with {words}: {server.said()}")
@@ -455,6 +455,43 @@ def hold_maker(one, folder, opcode, body, left, words):
     if is_there:
         one.ask(line("16", request(11 if opcode == 9 else 10, b"made\0")))
     one.ask(line("0", request(38)))
+
+
+def many_directories():
+    """A directory that is open many times: each lists all of its names, and what the server keeps is bounded."""
+    folder, socket, times = work + "/others", work + "/directories", 2000
+    for i in range(800):
+        with open(f"{folder}/name{i}", "w"):
+            pass
+    server = Server(share, folder, socket=socket)
+    one = Asking(socket)
+    one.ask(requests.FIRST[1])
+    handles = [number(one.ask(line("16+16", request(27, bytes(8))))[1]) for _ in range(times)]
+    before, seen = server.memory()[0], [[] for _ in handles]
+    places = [0] * times
+    for size in (1000, 40000):
+        for i, handle in enumerate(handles):
+            names, places[i] = names_in(one.ask(line(f"16+{size}", transfer(28, size, b"", places[i], 1, handle)))[1])
+            seen[i] += names
+    wanted = sorted([".", "..", *os.listdir(folder)])
+    if any(sorted(it) != wanted for it in seen):
+        wrong("a directory that is open many times isn't listed once by each")
+    if server.memory()[0] > before + 32 * 1024:
+        wrong(f"{times} open directories take {server.memory()[0] - before} KiB")
+    one.end()
+    hold_end(server, "many directories")
+    empty(folder)
+    count("listings of a directory at once", times)
+
+
+def names_in(body):
+    """The names of a reply to READDIR, and the offset of the last."""
+    names, at, place = [], 0, 0
+    while at < len(body):
+        place, size = struct.unpack_from("<QI", body, at + 8)
+        names.append(body[at + 24:at + 24 + size].decode())
+        at += (24 + size + 7) // 8 * 8
+    return names, place
 
 
 def few_descriptors(chance):
@@ -719,6 +756,7 @@ def main(minutes):
     until = time.monotonic() + minutes * 60
     in_turn()
     makers_without()
+    many_directories()
     mounted = Server(share, work + "/folder", "--xattr", mount=work + "/mount")
     served = Server(share, work + "/served", "--xattr", socket=work + "/socket")
     first = {it: it.memory()[0] for it in (mounted, served)}
