@@ -88,7 +88,7 @@ status=0
 if [ "$1" = --load ]; then
     need stress-ng "Install it: apt-get install stress-ng."
     build_transport share vfs_door "$here/tools/lib/refuse_some.c" -Wl,--wrap=malloc -Wl,--wrap=calloc \
-        -Wl,--wrap=realloc -Wl,--wrap=aligned_alloc
+        -Wl,--wrap=realloc -Wl,--wrap=aligned_alloc -Wl,--wrap=openat
     python3 -B "$here/tools/lib/share_load.py" "$share" "$transport" "$here/out/c/ask" "$work" "$2" || status=1
     umount -lq "$work"/* || true
     exit "$status"

@@ -1,8 +1,11 @@
-/* Refuses allocations of a program that is linked with --wrap=malloc, --wrap=calloc, --wrap=realloc and
- * --wrap=aligned_alloc, by what the environment says. REFUSE_FROM=N: the one of this number, counted from 1.
- * With REFUSE_ONE_IN=M it is one in M from there on, by chance, and always the same. A line on standard error
- * tells of the first. */
+/* Refuses allocations and descriptors to a program that is linked with --wrap=malloc, --wrap=calloc,
+ * --wrap=realloc, --wrap=aligned_alloc and --wrap=openat, by what the environment says. REFUSE_FROM=N: the
+ * allocation of this number, counted from 1. With REFUSE_ONE_IN=M it is one in M from there on, by chance, and
+ * always the same. REFUSE_OPEN=N: the openat of this number. A line on standard error tells of the first. */
+#define _GNU_SOURCE
 #include <errno.h>
+#include <fcntl.h>
+#include <stdarg.h>
 #include <stdatomic.h>
 #include <stdbool.h>
 #include <stdint.h>
@@ -13,6 +16,7 @@ void *__real_malloc(size_t size);
 void *__real_calloc(size_t count, size_t size);
 void *__real_realloc(void *at, size_t size);
 void *__real_aligned_alloc(size_t alignment, size_t size);
+int __real_openat(int directory, const char *name, int flags, mode_t mode);
 
 static unsigned long number_in(const char *name)
 {
@@ -70,4 +74,24 @@ void *__wrap_realloc(void *old, size_t size)
 void *__wrap_aligned_alloc(size_t alignment, size_t size)
 {
 	return refuses() ? NULL : __real_aligned_alloc(alignment, size);
+}
+
+int __wrap_openat(int directory, const char *name, int flags, ...)
+{
+	static const char said[] = "an openat is refused\n";
+	static atomic_ulong asked;
+	mode_t mode = 0;
+	va_list more;
+
+	if (flags & O_CREAT) {
+		va_start(more, flags);
+		mode = va_arg(more, mode_t);
+		va_end(more);
+	}
+	if (atomic_fetch_add(&asked, 1) + 1 != number_in("REFUSE_OPEN"))
+		return __real_openat(directory, name, flags, mode);
+	if (write(2, said, sizeof(said) - 1) < 0)
+		_exit(3);
+	errno = ENFILE;
+	return -1;
 }

@@ -668,9 +668,9 @@ class Steps:
         """The body of the reply. Errors besides may come. What makes a name, in a node, leaves none if it is refused."""
         for _ in range(3):
             error, body = self.one.ask(text)
-            if error not in (errno.ENOMEM, None):
+            if error not in (errno.ENOMEM, errno.ENFILE, None):
                 break
-            count("requests refused for want of memory")
+            count("requests refused for want of memory or a descriptor")
             if makes and self.one.ask(line("16+128", request(1, makes[1], node=makes[0])))[0] != errno.ENOENT:
                 wrong(f"{makes[1]} was made, and refused")
         self.came.append(0 if error in others else error)
@@ -699,9 +699,11 @@ class Steps:
             self.ask(line("16+128", request(6, b"link%d\0text\0" % i, node=folder)), makes=(folder, b"link%d\0" % i))
         self.ask(line("16+128", request(13, struct.pack("<Q", node) + b"second\0", node=folder)),
                  makes=(folder, b"second\0"))
+        self.ask(line("16+128", request(8, struct.pack("<IIII", 0o100644, 0, 0, 0) + b"plain\0", node=folder)),
+                 makes=(folder, b"plain\0"))
         handle = number(self.ask(line("16+16", request(27, bytes(8), node=folder))))
         listed = self.ask(line("16+65536", transfer(44, 65536, b"", 0, folder, handle)))
-        self.hold(all(name in listed for name in (b"link0", b"link1", b"link2", b"second")))
+        self.hold(all(name in listed for name in (b"link0", b"link1", b"link2", b"second", b"plain")))
         self.ask(line("16", request(29, struct.pack("<Q", handle) + bytes(16), node=folder)))
         self.ask(line("16", request(12, struct.pack("<Q", 1) + b"second\0third\0", node=folder)))
 
@@ -718,30 +720,30 @@ class Steps:
         return self.came
 
 
-def in_turn():
-    """Each allocation of a session is refused, one a run, until one meets no refusal."""
+def in_turn(what, variable):
+    """Each allocation of a session is refused, or each openat, one a run, until one meets no refusal."""
     folder, socket, number, is_refused = work + "/others", work + "/in-turn", 0, True
     wanted = None
     while is_refused:
         empty(folder)
         server = Server(refusing, folder, "--xattr", "--sandbox=none", "--thread-pool-size=1", socket=socket,
-                        environment={"REFUSE_FROM": str(number)})
+                        environment={variable: str(number)})
         one = Asking(socket) if server.is_up else None
         if one and one.is_answered():
             before, came = server.descriptors(), Steps(one).run()
             wanted = wanted or came
             if came != wanted:
-                wrong(f"allocation {number} is refused, and {came} came for {wanted}")
+                wrong(f"{what} {number} is refused, and {came} came for {wanted}")
             if server.descriptors() > before:
-                wrong(f"allocation {number} is refused, and {server.descriptors()} descriptors are left of {before}")
+                wrong(f"{what} {number} is refused, and {server.descriptors()} descriptors are left of {before}")
             one.end()
-            hold_end(server, f"allocation {number} is refused")
+            hold_end(server, f"{what} {number} is refused")
         elif not wait_for(lambda: server.process.poll()) or len(server.said().splitlines()) < 2:
-            wrong(f"allocation {number} is refused: status {server.process.poll()}, {server.said()}")
+            wrong(f"{what} {number} is refused: status {server.process.poll()}, {server.said()}")
         is_refused = number == 0 or "is refused" in server.said()
         number += 1
     empty(folder)
-    count("allocations refused in turn", number - 2)
+    count(f"{what}s refused in turn", number - 2)
     if any(wanted):
         wrong(f"a session that is refused nothing comes to {wanted}")
 
@@ -754,7 +756,8 @@ def main(minutes):
         os.mkdir(f"{work}/{name}")
     subprocess.run(["mount", "-t", "tmpfs", "-o", "size=256m,nr_inodes=100k", "none", work + "/folder"], check=True)
     until = time.monotonic() + minutes * 60
-    in_turn()
+    in_turn("allocation", "REFUSE_FROM")
+    in_turn("openat", "REFUSE_OPEN")
     makers_without()
     many_directories()
     mounted = Server(share, work + "/folder", "--xattr", mount=work + "/mount")
