@@ -8,6 +8,7 @@
 #include <fcntl.h>
 #include <linux/fuse.h>
 #include <stdatomic.h>
+#include <stdbool.h>
 #include <stdio.h>
 #include <stdlib.h>
 #include <string.h>
@@ -107,6 +108,8 @@ static void record_bytes(const struct bytes *bytes)
 /* A request with its answer, behind one another, whichever worker has it. */
 static void record(const struct bytes *request, size_t room, int32_t code, const struct bytes *reply)
 {
+	static bool is_told;
+
 	flockfile(file);
 	fprintf(file, "%zu ", room);
 	record_bytes(request);
@@ -119,7 +122,10 @@ static void record(const struct bytes *request, size_t room, int32_t code, const
 		record_bytes(reply);
 	}
 	putc('\n', file);
-	fflush(file);
+	if ((fflush(file) || ferror(file)) && !is_told) {
+		fprintf(stderr, "%s: the trace is not whole: %s\n", of.program, strerror(errno));
+		is_told = true;
+	}
 	funlockfile(file);
 }
 
