@@ -328,7 +328,8 @@ try_words() {
         "--socket-path=$work/socket $work/folder too-many" "--sandbox=some $work/folder $work/mount" \
         "--thread-pool-size=65 $work/folder $work/mount" "-o no-such-option $work/folder $work/mount" \
         "-o attr_timeout=0x1 $work/folder $work/mount" "--inode-file-handles=always $work/folder $work/mount" \
-        "--modcaps=sys_admin $work/folder $work/mount" "--modcaps=+some $work/folder $work/mount"; do
+        "--modcaps=sys_admin $work/folder $work/mount" "--modcaps=+some $work/folder $work/mount" \
+        "--socket-path= $work/folder" "-o =5 $work/folder $work/mount" "-o fsname= $work/folder $work/mount"; do
         came=0
         # shellcheck disable=SC2086
         timeout 10 "$share" $words > "$work/said" 2>&1 || came=$?

@@ -185,7 +185,7 @@ static void take_option(const char *key, char *value)
 	else if (!strcmp(key, "negative_timeout"))
 		words.files.negative_time = milliseconds(key, value);
 	else
-		refuse("there is no such option: ", key);
+		refuse("there is no such option, or its value can't be: ", key);
 }
 
 static void take_options(char *rest)
@@ -195,7 +195,7 @@ static void take_options(char *rest)
 	while ((option = strsep(&rest, ","))) {
 		const char *key = strsep(&option, "=");
 
-		if (*key)
+		if (*key || option)
 			take_option(key, option);
 	}
 }

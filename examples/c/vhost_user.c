@@ -455,8 +455,9 @@ int vhost_user_listen(const transport *with, const char *path)
 	int probe, listener, why;
 	struct stat there;
 
-	if (strlen(path) >= sizeof(address.sun_path))
-		return refuse(with, -2, path, "the path of a socket is not as long");
+	/* (an empty one would be a name that has no file) */
+	if (!*path || strlen(path) >= sizeof(address.sun_path))
+		return refuse(with, -2, path, *path ? "the path of a socket is not as long" : "it is no path");
 	memcpy(address.sun_path, path, strlen(path) + 1);
 	if (!lstat(path, &there)) {
 		if (!S_ISSOCK(there.st_mode))
