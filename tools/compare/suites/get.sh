@@ -129,7 +129,9 @@ case $what in
     pgbench) package=postgresql ;;
     cp | names) package=coreutils ;;
 esac
-version=$(version_of "$package")
+# (that of go-fuse is its source's)
+version=
+[ "$what" = posixtest ] || version=$(version_of "$package")
 case $what in
     cpython | coreutils | test_syscalls | passthrough_ll | posixtest) "get_$what" ;;
     stress-ng | fio | git | rsync | bindfs | sqlite | pgbench) have "$package" ;;
