@@ -14,14 +14,15 @@
 # With --check it refuses words that can't be, and shares folders of its own. Over /dev/fuse
 # tools/lib/session.sh does there what a person does, with one worker, with four, with a cache of what is
 # written later, with file handles, with few descriptors; after each the descriptors of the server are counted.
+# A file that came behind a remembered name is opened by who may alone.
 # Over vhost-user it is asked the hostile requests of tools/compare/beside, and more that are made up, under
 # sanitizers and in its sandbox; a machine that goes away is followed by another. tools/gate/lint.sh holds its
 # sources against clang-tidy and cppcheck, if they are installed. It takes two minutes, and wants python3.
 #
 # With --load it is under load for so many minutes, and meets faults (tools/lib/share_load.py): programs that
 # stress a file system, machines, both killed amid a request; full disks, descriptors that run out, allocations
-# that are refused in turn and by chance. What was written is held against what is there, and descriptors and
-# memory are counted. It wants python3 and stress-ng, and as much of the processor as it is given: `nice` and
+# that are refused in turn and by chance, openings in turn. What was written is held against what is there, what
+# is refused makes no name, and descriptors and memory are counted. It wants python3 and stress-ng, and as much of the processor as it is given: `nice` and
 # `taskset` bound it.
 #
 # It wants root, for a mount /dev/fuse, a C compiler and the Rattle toolchain; libseccomp-dev if there is to be
