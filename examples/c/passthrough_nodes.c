@@ -234,17 +234,24 @@ static struct node *known(const struct nodes *all, const struct statx *seen,
 	return node;
 }
 
-/* Whether one of these numbers is held by a handle. */
-static bool some_handle(struct nodes *all, const struct statx *seen)
+/* Whether one of these numbers is held by a handle, under the lock; and without it. */
+static bool is_by_handle(const struct nodes *all, const struct statx *seen)
 {
-	struct node *node;
+	const struct node *node = *chain_of(all, device_of(seen), seen->stx_ino);
 
-	pthread_rwlock_rdlock(&all->nodes.lock);
-	node = *chain_of(all, device_of(seen), seen->stx_ino);
 	while (node && (!is_of(node, seen) || node->counted.fd >= 0))
 		node = node->next;
-	pthread_rwlock_unlock(&all->nodes.lock);
 	return node != NULL;
+}
+
+static bool some_handle(struct nodes *all, const struct statx *seen)
+{
+	bool is_some;
+
+	pthread_rwlock_rdlock(&all->nodes.lock);
+	is_some = is_by_handle(all, seen);
+	pthread_rwlock_unlock(&all->nodes.lock);
+	return is_some;
 }
 
 bool node_may_be_known(struct nodes *all, const struct node *directory, uint64_t inode)
@@ -399,8 +406,8 @@ static int hold(struct nodes *all, struct node *node, int directory, int fd, con
 	return all->handles_alone ? EOPNOTSUPP : 0;
 }
 
-/* Adds a lookup of a known node; or `*made`, if that isn't NULL, which is NULL then. The node's
- * number; 0: neither could be. */
+/* Adds a lookup of a known node; or `*made`, if that isn't NULL, which is NULL then: but not if no handle
+ * is told, and the file may be known by one. The node's number; 0: neither could be. */
 static uint64_t add_lookup(struct nodes *all, const struct statx *seen,
 			   const struct file_handle *handle, struct node **made)
 {
@@ -412,7 +419,7 @@ static uint64_t add_lookup(struct nodes *all, const struct statx *seen,
 	if (node) {
 		atomic_fetch_add(&node->lookups, 1);
 		number = node->counted.number;
-	} else if (made && add(&all->nodes, &(*made)->counted)) {
+	} else if (made && (handle || !is_by_handle(all, seen)) && add(&all->nodes, &(*made)->counted)) {
 		if (all->nodes.count > all->chain_count)
 			grow_chains(all);
 		chain = chain_of(all, (*made)->device, (*made)->inode);
@@ -422,6 +429,19 @@ static uint64_t add_lookup(struct nodes *all, const struct statx *seen,
 		*made = NULL;
 	}
 	pthread_rwlock_unlock(&all->nodes.lock);
+	return number;
+}
+
+/* The same of a node that holds its file. Another worker may have entered that by a handle meanwhile. */
+static uint64_t add_made(struct nodes *all, const struct statx *seen, struct node **made)
+{
+	const int fd = (*made)->counted.fd;
+	struct file_handle *handle = NULL;
+	uint64_t number = add_lookup(all, seen, (*made)->handle, made);
+
+	if (!number && fd >= 0 && some_handle(all, seen) && !handle_by(fd, &handle) && handle)
+		number = add_lookup(all, seen, handle, made);
+	free(handle);
 	return number;
 }
 
@@ -492,7 +512,7 @@ int node_enter(struct nodes *all, const struct found *found, int fd, const struc
 	error = hold(all, made, found->directory, fd, seen, handle);
 	if (!error) {
 		keep_place(all, made, found);
-		*number = add_lookup(all, seen, made->handle, &made);
+		*number = add_made(all, seen, &made);
 		error = *number ? 0 : ENOMEM;
 	}
 	*is_new = !made;

@@ -110,6 +110,12 @@ class Server:
             return "no end"
 
 
+def drop_caches():
+    """Has the kernel give back the names that it remembers, and nobody uses."""
+    with open("/proc/sys/vm/drop_caches", "w") as drop:
+        drop.write("2")
+
+
 def hold_end(server, what):
     status = server.end()
     if status != 0:
@@ -119,8 +125,7 @@ def hold_end(server, what):
 def hold_descriptors(server, before, what):
     """The kernel gives back what it doesn't remember, if it is asked to; with it goes what the server held."""
     def are_back():
-        with open("/proc/sys/vm/drop_caches", "w") as drop:
-            drop.write("2")
+        drop_caches()
         return server.descriptors() <= before
     # (what was killed may take its time on a machine with other work)
     if not wait_for(are_back, 300):
@@ -146,12 +151,15 @@ class Keeper:
 
     def retry(self, act):
         """Acts until no error that may come does."""
-        for _ in range(1000):
+        for i in range(1, 1001):
             try:
                 return act()
             except OSError as error:
                 if not self.note(error, "a call"):
                     return None
+                # (all descriptors may be of names that nobody uses, and the kernel remembers)
+                if error.errno in SCARCE and i % 100 == 0:
+                    drop_caches()
                 time.sleep(0.001)
         return wrong("a thousand errors one after another")
 
@@ -521,17 +529,14 @@ def few_descriptors(chance):
     keep(keeper, time.monotonic() + 2, 100000)
     for it in making:
         it.join()
-    for name in names:
-        keeper.remove(name + "linked")
     for file in opened:
         try:
             file.close()
         except OSError as error:
             keeper.note(error, "a close")
-    with open("/proc/sys/vm/drop_caches", "w") as drop:
-        drop.write("2")
-    for i in range(200):
-        keeper.remove(f"held{i}")
+    drop_caches()
+    for name in [f"held{i}" for i in range(200)] + [f"{it}linked" for it in names]:
+        keeper.remove(name)
     # (the kernel gives a name back later than it closes it)
     keeper.retry(lambda: os.listdir(mount + "/kept"))
     keeper.hold("few descriptors")
