@@ -439,7 +439,7 @@ static uint64_t add_made(struct nodes *all, const struct statx *seen, struct nod
 	struct file_handle *handle = NULL;
 	uint64_t number = add_lookup(all, seen, (*made)->handle, made);
 
-	if (!number && fd >= 0 && some_handle(all, seen) && !handle_by(fd, &handle) && handle)
+	if (!number && *made && fd >= 0 && some_handle(all, seen) && !handle_by(fd, &handle) && handle)
 		number = add_lookup(all, seen, handle, made);
 	free(handle);
 	return number;
