@@ -25,6 +25,8 @@ import requests
 from requests import line, request, transfer
 
 MIB = 1 << 20
+# How many seconds what ends may take to do so: on a machine with other work a process may not run for minutes.
+PATIENCE = 600
 # What a server may keep, in KiB.
 MOST_MEMORY = 128 * 1024
 STRESSORS = ("access", "chdir", "chmod", "chown", "dentry", "dir", "dirdeep", "dirmany", "fallocate",
@@ -50,7 +52,7 @@ def count(what, times=1):
     counts[what] = counts.get(what, 0) + times
 
 
-def wait_for(fact, seconds=60):
+def wait_for(fact, seconds=PATIENCE):
     """Whether a fact came to be."""
     until = time.monotonic() + seconds
     while not fact():
@@ -104,7 +106,7 @@ class Server:
             else:
                 self.process.terminate()
         try:
-            return self.process.wait(60)
+            return self.process.wait(PATIENCE)
         except subprocess.TimeoutExpired:
             self.process.kill()
             return "no end"
@@ -127,8 +129,7 @@ def hold_descriptors(server, before, what):
     def are_back():
         drop_caches()
         return server.descriptors() <= before
-    # (what was killed may take its time on a machine with other work)
-    if not wait_for(are_back, 300):
+    if not wait_for(are_back):
         wrong(f"{what}: {server.descriptors()} descriptors, and {before} before it")
     resident, most = server.memory()
     counts["most memory of a server, KiB"] = max(counts.get("most memory of a server, KiB", 0), most)
@@ -306,7 +307,7 @@ def stress(place, chance, seconds):
                                stdout=log, stderr=log, start_new_session=True)
     began = time.monotonic()
     until = began + seconds
-    while running.poll() is None and time.monotonic() < until + 60:
+    while running.poll() is None and time.monotonic() < until + PATIENCE:
         time.sleep(0.5)
         workers = subprocess.run(["pgrep", "-P", str(running.pid)], capture_output=True, text=True, check=False)
         workers = workers.stdout.split()
