@@ -96,6 +96,8 @@ for way in "${ways[@]}"; do
         --mount)
             echo "System calls, on a mount of the tree and on a tmpfs:" >&2
             build_transport mount
+            # (no device is opened there either)
+            mount -o remount,nodev "$work/tmpfs"
             mirror_mount fuse.nizwarf "$transport" -o allow_other,size=1g
             ;;
         --library)

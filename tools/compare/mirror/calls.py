@@ -16,7 +16,8 @@ LENGTHS = [0, 1, 5, 100, 4096, 9000, 20000]
 PLACES = [0, 1, 4095, 4096, 10000, 30000]
 TIMES = [(10**9 + 7, 5), (1234567890123456789, 2**31 * 10**9 - 1), (0, 987654321)]
 TEXTS = ["a", "b/c", "c", "nope", "x" * 300, "", "y" * 4095, "z" * 4096, "h"]
-ATTRIBUTES = ["user.a", "trusted.b", "security.k", "user." + "n" * 250, "user." + "n" * 251, "user.", "other.a"]
+ATTRIBUTES = ["user.a", "trusted.b", "security.k", "user." + "n" * 250, "user." + "n" * 251, "user.", "other.a",
+              *(f"trusted.{i}" for i in range(8))]
 SLOTS = 5
 KEEP_SIZE, PUNCH_HOLE, ZERO_RANGE, WHITEOUT_NEW = 1, 3, 16, 5
 AT_FDCWD, AT_EMPTY_PATH = -100, 0x1000
@@ -30,7 +31,7 @@ OPERATIONS = {
     "creat": 8, "mkdir": 9, "symlink": 4, "link": 6, "unlink": 7, "rmdir": 6, "rename": 9, "rename2": 7, "whiteout": 1,
     "chmod": 5, "chown": 4, "truncate": 5, "write": 8, "append": 4, "read": 5, "stat": 5, "list": 4, "readlink": 2,
     "setxattr": 4, "getxattr": 3, "listxattr": 2, "removexattr": 2, "large attribute": 1, "acl": 1, "fallocate": 3,
-    "fallocate other": 2, "utime": 3, "mknod": 2, "mknod special": 1, "open to truncate": 3, "O_TMPFILE": 1, "seek": 2,
+    "fallocate other": 2, "utime": 3, "mknod": 2, "mknod special": 3, "open to truncate": 3, "O_TMPFILE": 1, "seek": 2,
     "copy": 3, "map": 2, "access": 2, "open": 4, "fd write": 3, "fd read": 3, "fd stat": 3, "fd truncate": 2,
     "fd seek": 1, "fd link": 2, "fd chmod": 1, "fd utime": 1, "fsync": 1, "close": 2,
 }
@@ -65,7 +66,7 @@ def generate(random):
         "truncate": lambda: (path, size), "fd truncate": lambda: (slot, size),
         "write": lambda: (path, at, length, byte), "append": lambda: (path, length, byte),
         "read": lambda: (path, at, length + 50),
-        "setxattr": lambda: (path, key, random.choice([0, 5, 200, 10000]), byte, random.choice([0, 0, 1, 2])),
+        "setxattr": lambda: (path, key, random.choice([0, 5, 200, 3000]), byte, random.choice([0, 0, 1, 2])),
         "getxattr": lambda: (path, key), "removexattr": lambda: (path, key),
         "fallocate": lambda: (path, at, random.choice([1, 4096, 9000])),
         "fallocate other": lambda: (path, random.choice([KEEP_SIZE, PUNCH_HOLE, ZERO_RANGE]), at,
@@ -116,7 +117,7 @@ class Side:
     # An operation has the function of its name. What it answers is held beside that of the other side.
 
     def creat(self, path, flags, mode):
-        os.close(os.open(self.at(path), flags | os.O_CREAT, mode))
+        os.close(os.open(self.at(path), flags | os.O_CREAT | os.O_NONBLOCK, mode))
 
     def mkdir(self, path, mode):
         os.mkdir(self.at(path), mode)
@@ -191,7 +192,8 @@ class Side:
         return came, oct(after)
 
     def opened(self, path, flags, act):
-        file = os.open(self.at(path), flags)
+        # (who opens a FIFO waits for nobody)
+        file = os.open(self.at(path), flags | os.O_NONBLOCK)
         try:
             return act(file)
         finally:
@@ -201,7 +203,10 @@ class Side:
         return self.opened(path, os.O_WRONLY, lambda file: os.pwrite(file, bytes([byte]) * length, at))
 
     def append(self, path, length, byte):
-        return self.opened(path, os.O_WRONLY | os.O_APPEND, lambda file: os.write(file, bytes([byte]) * length))
+        def act(file):
+            # (the kernel keeps the bytes of a FIFO, and moves its times not everywhere)
+            return None if stat.S_ISFIFO(os.fstat(file).st_mode) else os.write(file, bytes([byte]) * length)
+        return self.opened(path, os.O_WRONLY | os.O_APPEND, act)
 
     def read(self, path, at, length):
         return self.opened(path, os.O_RDONLY, lambda file: os.pread(file, length, at))
@@ -271,15 +276,9 @@ class Side:
         os.mknod(self.at(path), stat.S_IFREG | mode)
 
     def mknod_special(self, path, kind, mode):
-        """Removed again, since not all have them."""
         kind = {"FIFO": stat.S_IFIFO, "socket": stat.S_IFSOCK, "device": stat.S_IFCHR}[kind]
-
-        def act():
-            os.mknod(self.at(path), kind | mode, os.makedev(1, 3))
-            is_so = self.shown(os.lstat(self.at(path)))
-            as_root(lambda: os.unlink(self.at(path)))
-            return is_so
-        return self.unchanged(act, os.path.dirname(path))
+        os.mknod(self.at(path), kind | mode, os.makedev(1, 3))
+        return self.shown(os.lstat(self.at(path)))
 
     def open_to_truncate(self, path):
         return self.bits_after(path, lambda: self.opened(path, os.O_WRONLY | os.O_TRUNC, lambda file: None))
@@ -321,7 +320,7 @@ class Side:
 
     def open(self, slot, path, flags, mode):
         self.close(slot)
-        self.slots[slot] = os.open(self.at(path), flags, mode)
+        self.slots[slot] = os.open(self.at(path), flags | os.O_NONBLOCK, mode)
 
     def held(self, slot):
         if self.slots[slot] is None:

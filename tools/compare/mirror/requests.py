@@ -17,13 +17,13 @@ ROOM = 1 << 17
 NAMES = [b"a", b"b", b"c", b"d", b"e", b"f", b"g", b"\xff\xfe", b"x" * 255, b".hid", b"sp ace"]
 MODES = [0o644, 0o755, 0o600, 0o4755, 0o2755, 0o1777, 0]
 GROUPS = [0, 0, 0, 5, 6]
-ATTRIBUTES = [b"user.a", b"user.b", b"trusted.c", b"user." + b"n" * 250]
+ATTRIBUTES = [b"user.a", b"user.b", b"trusted.c", b"user." + b"n" * 250, *(b"security.%d" % i for i in range(12))]
 FLAGS = [os.O_RDONLY, os.O_RDWR, os.O_WRONLY | os.O_TRUNC, os.O_RDWR | os.O_TRUNC | os.O_APPEND]
 AT_EMPTY_PATH = 0x1000
 OPERATIONS = {
     "LOOKUP": 8, "CREATE": 8, "MKNOD": 4, "MKDIR": 8, "SYMLINK": 4, "LINK": 7, "UNLINK": 8, "RMDIR": 6, "RENAME": 14,
     "SETATTR": 10, "READ": 6, "WRITE": 10, "OPEN": 4, "READLINK": 2, "READDIR": 4, "SETXATTR": 5, "GETXATTR": 3,
-    "LISTXATTR": 2, "REMOVEXATTR": 3, "FALLOCATE": 3, "FORGET": 5, "GETATTR": 3,
+    "LISTXATTR": 2, "REMOVEXATTR": 3, "FALLOCATE": 3, "LSEEK": 4, "FORGET": 5, "GETATTR": 3,
 }
 SPECIAL = {"FIFO": (stat.S_IFIFO, 0), "socket": (stat.S_IFSOCK, 0), "device": (stat.S_IFCHR, os.makedev(1, 3))}
 WATCHED = {"d": "a directory", "f": "a file", "l": "a symbolic link", "s": "a FIFO, socket or device"}
@@ -57,12 +57,14 @@ def generate(random):
                          random.choice([0, 1, 100, 4096, 60000])),
         "OPEN": lambda: (node("f", 1), random.choice(FLAGS)), "READLINK": lambda: (node("l", 0.8),),
         "READDIR": lambda: (node("d"), random.random() < 0.5, random.choice([440, 600, 1000, 5000, 60000])),
-        "SETXATTR": lambda: (node("fd", 1), random.choice(ATTRIBUTES), random.choice([0, 1, 10, 300]),
+        "SETXATTR": lambda: (node("fds", 1), random.choice(ATTRIBUTES), random.choice([0, 1, 10, 300]),
                              random.randrange(256), random.choice([0, 0, 1, 2, 3])),
-        "GETXATTR": lambda: (node("fd", 1), random.choice(ATTRIBUTES)), "LISTXATTR": lambda: (node("fd", 1),),
-        "REMOVEXATTR": lambda: (node("fd", 1), random.choice(ATTRIBUTES)),
+        "GETXATTR": lambda: (node("fds", 1), random.choice(ATTRIBUTES)), "LISTXATTR": lambda: (node("fds", 1),),
+        "REMOVEXATTR": lambda: (node("fds", 1), random.choice(ATTRIBUTES)),
         "FALLOCATE": lambda: (node("f", 1), random.choice([0, 1, 4096, random.randrange(20000)]),
                               random.choice([0, 1, 100, 5000]), random.choice([0, 0, 0, 1, 3, 16])),
+        "LSEEK": lambda: (node("f", 1), random.choice([os.SEEK_DATA, os.SEEK_HOLE]),
+                          random.choice([0, 1, 4095, 4096, 4097, random.randrange(80000)])),
         "FORGET": lambda: (node("dfls"), random.random(), random.random() < 0.5), "GETATTR": lambda: (node("dfls"),),
     }
     return (random.choice(GROUPS), name, *words[name]())
@@ -182,7 +184,7 @@ class Session:
         os.mkdir(self.folder, 0o755)
         self.library = Library(library)
         self.nodes = {1: Node(os.open(self.folder, os.O_PATH))}
-        self.found, self.is_slow = [], False
+        self.found, self.is_slow, self.held = [], False, set()
 
     def pick(self, of):
         kinds, number = of
@@ -435,16 +437,20 @@ class Session:
         if (answers := self.both(lambda: self.library.ask(5, node), call, (node,))) and answers[0] != answers[1]:
             self.note("another text")
 
+    def may_have(self, node, key):
+        """Whether a kernel hands on what is asked of an attribute."""
+        return self.nodes[node].kind in ("df" if key.startswith(b"user.") else "dfs")
+
     def setxattr(self, of, key, length, byte, flags):
         node = self.pick(of)
-        if self.nodes[node].kind != "l":
+        if self.may_have(node, key):
             value = bytes([byte]) * length
             self.both(lambda: self.library.ask(21, node, struct.pack("<II", length, flags) + key + b"\0" + value),
                       lambda: os.setxattr(way(self.file(node)), key, value, flags), (node,))
 
     def getxattr(self, of, key):
         node = self.pick(of)
-        if self.nodes[node].kind != "l":
+        if self.may_have(node, key):
             if answers := self.both(lambda: self.library.ask(22, node, struct.pack("<II", 1000, 0) + key + b"\0"),
                                     lambda: os.getxattr(way(self.file(node)), key), (node,)):
                 if answers[0] != answers[1]:
@@ -462,7 +468,7 @@ class Session:
 
     def removexattr(self, of, key):
         node = self.pick(of)
-        if self.nodes[node].kind != "l":
+        if self.may_have(node, key):
             self.both(lambda: self.library.ask(24, node, key + b"\0"),
                       lambda: os.removexattr(way(self.file(node)), key), (node,))
 
@@ -472,6 +478,8 @@ class Session:
             return
         if mode:
             self.operation += " " + {1: "KEEP_SIZE", 3: "PUNCH_HOLE", 16: "ZERO_RANGE"}[mode]
+        if mode < calls.PUNCH_HOLE:
+            self.held.add(self.nodes[node].inode)
         before = opened(self.file(node), os.O_RDONLY, lambda file: os.pread(file, 1 << 20, 0))
         call = lambda: opened(self.file(node), os.O_RDWR, lambda file: calls.allocate(file, mode, at, length))
         if self.both(lambda: self.library.ask(43, node, struct.pack("<QQQII", 0, at, length, mode, 0)), call, (node,)):
@@ -480,6 +488,18 @@ class Session:
             # Of the two one alone has it: the bytes are as they were.
             opened(self.file(node), os.O_RDWR,
                    lambda file: (os.ftruncate(file, len(before)), os.pwrite(file, before, 0)))
+
+    def lseek(self, of, whence, at):
+        node = self.pick(of)
+        if self.nodes[node].kind != "f":
+            return
+        if self.nodes[node].inode in self.held:
+            self.operation += " after FALLOCATE"
+        body = struct.pack("<QQII", 0, at, whence, 0)
+        call = self.on_file(node, os.O_RDONLY, lambda file: os.lseek(file, at, whence))
+        answers = self.both(lambda: struct.unpack("<Q", self.library.ask(46, node, body))[0], call, (node,))
+        if answers and answers[0] != answers[1]:
+            self.note("another place")
 
     def getattr(self, of):
         self.compare(self.pick(of))
