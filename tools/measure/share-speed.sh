@@ -1,14 +1,16 @@
 #!/usr/bin/env bash
-# Times nizwarf-share beside libfuse's passthrough_ll and bindfs: what programs do with files over a mount of
-# each, in turns, by one job and by four. It prints the page docs/generated/share.md: a row has the medians of
-# ratios, nizwarf-share's time by that of another, and the same of the servers' processor time; below 1 it is the
-# quicker one. Behind them stand the system calls of each, if strace is installed.
+# Times nizwarf-share, or the tree in memory, beside libfuse's passthrough_ll and bindfs: what programs do with
+# files over a mount of each, in turns, by one job and by four. It prints the page docs/generated/share.md, or
+# docs/generated/tree.md: a row has the medians of ratios, the time here by that of another, and the same of the
+# servers' processor time; below 1 it is quicker here. Behind them stand the system calls of each, if strace is
+# installed.
 #
-# Usage: tools/measure/share-speed.sh [ROUNDS [CLASS..]]
+# Usage: tools/measure/share-speed.sh [--tree [-o OPTIONS]] [ROUNDS [CLASS..]]
 # Without a word 9 rounds of all classes, which take some ten minutes. Each has the options that it begins with,
 # but passthrough_ll `cache=auto`, which is that of nizwarf-share, and `default_permissions`, which the beside have.
 # The folders are in memory. CLASS is stat, stat-missing, open-close, create-unlink, readdir, ls-l, write-1m,
-# read-1m, write-4k, read-4k, 'git status' or untar.
+# read-1m, write-4k, read-4k, 'git status', untar or names-100k. With --tree it is the tree as tools/mount.sh mounts
+# it, with these options; a tmpfs itself stands beside it too, and names-100k is a class of all, in three rounds.
 #
 # It wants root, /dev/fuse, git, python3 and a C compiler, and gets passthrough_ll, from libfuse's sources, and
 # bindfs from Debian's packages, by apt-get, into an ignored folder; nothing is installed.
@@ -17,10 +19,21 @@ set -euo pipefail
 . "$(dirname "$0")/../lib/usage.sh"
 . "$(dirname "$0")/../lib/transport.sh"
 . "$(dirname "$0")/../lib/debian.sh"
+. "$(dirname "$0")/../lib/mounts.sh"
 
+given=("$@")
+what=share options=
+if [ "${1:-}" = --tree ]; then
+    what=tree
+    shift
+fi
+if [ "$what ${1:-}" = "tree -o" ] && [ $# -ge 2 ]; then
+    options=$2
+    shift 2
+fi
 rounds=${1:-9}
 if ! [[ $rounds =~ ^[1-9][0-9]*$ ]]; then
-    echo "Usage: tools/measure/share-speed.sh [ROUNDS [CLASS..]]" >&2
+    echo "Usage: tools/measure/share-speed.sh [--tree [-o OPTIONS]] [ROUNDS [CLASS..]]" >&2
     exit 2
 fi
 if [ "$(id -u)" != 0 ] || [ ! -e /dev/fuse ]; then
@@ -31,9 +44,7 @@ for command in git python3 cc dpkg-deb; do
     need "$command" "Install it."
 done
 # What is mounted here is in no other namespace, where it would stay in use.
-if [ -z "${SHARE_IS_APART:-}" ]; then
-    SHARE_IS_APART=yes exec unshare --mount "$0" "$@"
-fi
+own_mounts "${given[@]}"
 
 # Gets the two beside.
 get_others() {
@@ -62,7 +73,13 @@ if [ ! -x "$beside/passthrough_ll" ]; then
 fi
 LD_LIBRARY_PATH=$(dirname "$(find "$beside" -name libfuse3.so.3 -print -quit)")
 export LD_LIBRARY_PATH
-build_transport share vfs_door
+version=
+if [ "$what" = tree ]; then
+    build_transport mount
+else
+    build_transport share vfs_door
+    version=", $("$transport" --version | sed 's/.*, //')"
+fi
 cc -std=c11 -O2 -Wall -Wextra -Werror -o "$here/out/c/share_speed" "$here/tools/measure/share_speed.c"
 work=$(mktemp -d -p /dev/shm)
 tidy() {
@@ -72,9 +89,9 @@ tidy() {
 trap 'tidy 2> /dev/null || true' EXIT
 built="built without a proof"
 [[ ${library[0]} == */out/unproved/* ]] || built="the proved one"
-facts="Begun on $(LC_ALL=C date '+%-d %B %Y'), commit $(git -C "$here" describe --always --dirty), the library $built, $("$transport" --version | sed 's/.*, //');
+facts="Begun on $(LC_ALL=C date '+%-d %B %Y'), commit $(git -C "$here" describe --always --dirty), the library $built$version;
 Linux $(uname -r), $(nproc) processors, load $(cut -d ' ' -f 1-3 /proc/loadavg); libfuse and bindfs \
 $(paste -sd ' ' "$beside/versions"), folders in memory."
-python3 -B "$here/tools/measure/share_speed.py" "$here/out/c/share_speed" "$transport" "$beside/passthrough_ll" \
-    "$beside/usr/bin/bindfs" "$here" "$work" "$rounds" "$facts" "${@:2}"
+python3 -B "$here/tools/measure/share_speed.py" "$what" "$here/out/c/share_speed" "$transport" "$options" \
+    "$beside/passthrough_ll" "$beside/usr/bin/bindfs" "$here" "$work" "$rounds" "$facts" "${@:2}"
 echo "load $(cut -d ' ' -f 1-3 /proc/loadavg) at the end" >&2

@@ -17,9 +17,11 @@
 #include <time.h>
 #include <unistd.h>
 
-enum { FILES = 2000, MANY = 10000, TIMES = 5, BLOCK = 4096, CHUNK = 1 << 20, CHUNKS = 48, BLOCKS = 3000 };
+enum { FILES = 2000, MANY = 10000, MOST = 100000, TIMES = 5 };
+enum { BLOCK = 4096, CHUNK = 1 << 20, CHUNKS = 48, BLOCKS = 3000 };
 
 static char bytes[CHUNK];
+static int jobs;
 
 static void need(int fact, const char *what)
 {
@@ -130,11 +132,20 @@ static void read_attributes(void)
 	const struct dirent *found;
 	DIR *dir = opendir(".");
 	struct stat seen;
+	int count = 0;
 
 	need(dir != NULL, "opendir");
-	while ((found = readdir(dir)))
+	for (; (found = readdir(dir)); count++)
 		need(!lstat(found->d_name, &seen), found->d_name);
 	closedir(dir);
+	need(count == MANY + 2, "the names");
+}
+
+/* What a person does with many files, which the jobs have together. */
+static void list_and_remove(void)
+{
+	make_files(MOST / jobs);
+	need(!system("ls -l > /dev/null && find . -type f > /dev/null && rm -r \"$PWD\""), "ls, find or rm");
 }
 
 static void write_large(void)
@@ -212,6 +223,7 @@ static const struct {
 	{ "read-1m", make_large, read_large },
 	{ "write-4k", make_large, write_blocks },
 	{ "read-4k", make_large, read_blocks },
+	{ "names-100k", make_nothing, list_and_remove },
 	{ "run", make_nothing, run_command },
 };
 
@@ -238,7 +250,7 @@ static _Noreturn void run_job(size_t which, int job, const int ready[2], const i
 	_exit(0);
 }
 
-static void prepare(size_t which, int jobs)
+static void prepare(size_t which)
 {
 	for (int i = 0; i < jobs; i++) {
 		enter(i);
@@ -281,7 +293,7 @@ static double now(void)
 }
 
 /* Runs the jobs, and prints their times. Answers whether one failed. */
-static int take_time(size_t which, int jobs, const char *server)
+static int take_time(size_t which, const char *server)
 {
 	int ready[2], go[2], status, is_wrong = 0;
 	unsigned long long spent;
@@ -309,10 +321,10 @@ static int take_time(size_t which, int jobs, const char *server)
 
 int main(int count, char **words)
 {
-	const int jobs = count >= 4 ? atoi(words[3]) : 0;
 	const size_t known = sizeof(classes) / sizeof(*classes);
 	size_t which = 0;
 
+	jobs = count >= 4 ? atoi(words[3]) : 0;
 	while (which < known && jobs > 0 && strcmp(classes[which].name, words[1]) != 0)
 		which++;
 	if (jobs < 1 || which == known) {
@@ -322,7 +334,7 @@ int main(int count, char **words)
 	memset(bytes, 7, sizeof(bytes));
 	need(!chdir(words[2]), words[2]);
 	if (count == 4)
-		return prepare(which, jobs), 0;
+		return prepare(which), 0;
 	command = words + 5;
-	return take_time(which, jobs, words[4]);
+	return take_time(which, words[4]);
 }

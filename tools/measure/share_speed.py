@@ -1,11 +1,14 @@
-"""Times nizwarf-share beside libfuse's passthrough_ll and bindfs, for share-speed.sh.
+"""Times nizwarf-share or the tree in memory beside libfuse's passthrough_ll and bindfs, for share-speed.sh.
 
-Usage: share_speed.py SPEED SHARE PASSTHROUGH_LL BINDFS REPOSITORY WORK ROUNDS FACTS [CLASS..]
-Each shares a folder in memory on a mount of its own. In each round each class goes over each of the mounts, one
-after another, beginning with another one each time. A row has the medians of the ratios of the rounds. FACTS are
-where and of what it is. After the times the system calls of each server are counted by strace, if it is there."""
+Usage: share_speed.py share|tree SPEED OURS OPTIONS PASSTHROUGH_LL BINDFS REPOSITORY WORK ROUNDS FACTS [CLASS..]
+Each shares a folder in memory on a mount of its own; the tree has its files itself, and a tmpfs is beside it too.
+In each round each class goes over each of the mounts, one after another, beginning with another one each time. A
+row has the medians of the ratios of the rounds. FACTS are where and of what it is. After the times the system calls
+of each server are counted by strace, if it is there."""
 import collections
+import ctypes
 import os
+import resource
 import shutil
 import signal
 import statistics
@@ -21,13 +24,19 @@ SAID = {"stat": "statx of 2,000 files, asked anew", "stat-missing": "stat of 2,0
         "readdir": "readdir of 10,000 names, five times", "ls-l": "readdir and lstat of 10,000",
         "write-1m": "sequential WRITE, 48 MiB by 1 MiB", "read-1m": "sequential READ, 48 MiB by 1 MiB",
         "write-4k": "random WRITE, 3,000 of 4 KiB", "read-4k": "random READ, 3,000 of 4 KiB",
-        "git status": "git status of this repository", "untar": "untar of this repository"}
+        "git status": "git status of this repository", "untar": "untar of this repository",
+        "names-100k": "create, ls -l, find and rm -r of 100,000 files in all"}
+COMMANDS = {"git status": ["git", "-C", "clone", "status"], "untar": ["tar", "-xf", "../../archive"]}
 # What is done so many times in a class, and what a system call is counted for.
 TIMES = {"stat": (2000, "file"), "stat-missing": (2000, "name"), "open-close": (2000, "file"),
          "create-unlink": (2000, "file"), "readdir": (5, "listing"), "ls-l": (10000, "name"), "write-1m": (48, "MiB"),
          "read-1m": (48, "MiB"), "write-4k": (3000, "block"), "read-4k": (3000, "block")}
+# What takes long has so many rounds at most.
+FEW = {"names-100k": 3}
+# Of mount(2).
+MS_REMOUNT = 32
 
-HEAD = """# A share beside libfuse's passthrough and bindfs
+SHARE_HEAD = """# A share beside libfuse's passthrough and bindfs
 
 What a program waits for files over a mount of `nizwarf-share`: its time by the clock, by that over a mount of the
 other; in brackets the same of the servers' processor time. Below 1 the share is quicker. The last two columns are
@@ -35,8 +44,22 @@ those of the other that is the quicker one. Medians of {rounds} rounds in turns:
 {facts}
 
 Each has its defaults: names and attributes are remembered for a second, and no name that is missing. The share has its
-sandbox and 4 workers, passthrough_ll `cache=auto`, `default_permissions`, and threads by need; of bindfs the quicker
-one of one thread and many is meant. A WRITE has up to 512 KiB at the share, 1 MiB at passthrough_ll and 4 KiB at bindfs.
+sandbox and 4 workers. A WRITE has up to 512 KiB at the share, 1 MiB at passthrough_ll and 4 KiB at bindfs."""
+TREE_HEAD = """# The tree beside tmpfs, bindfs and libfuse's passthrough
+
+What a program waits for files of the tree in memory, mounted by `tools/mount.sh{options}`: its time by the clock, by that
+over a mount of libfuse's passthrough_ll or bindfs on a tmpfs, with the same of the servers' processor time in brackets,
+and by that over a tmpfs itself. Below 1 the tree is quicker. The last two columns are those of passthrough_ll or bindfs,
+the quicker one. Medians of {rounds} rounds in turns, of 100,000 files three at most:
+`tools/measure/share-speed.sh --tree{options} {rounds}`.
+{facts}
+
+The kernel remembers nothing in the beginning: the tree is filled through its mount, which is then mounted anew, by
+MS_REMOUNT. Then it may remember names and attributes of the tree for a day, since nobody else changes it, and those of
+the others for a second."""
+BOTH_HEAD = """\
+passthrough_ll has `cache=auto`, `default_permissions`, and threads by need; of bindfs the quicker one of one thread and
+many is meant. Where a line stands passthrough_ll failed: it holds a descriptor for each file, and could have {most} here.
 With one job it is chance in each round whether client and server come to one processor or to two, by which a small
 request takes two or three times as long; so of few rounds the medians of small requests say little.
 """
@@ -46,9 +69,9 @@ CALLS = """
 Of the server, for each file, name, listing, MiB or block, by `strace -c`, under which a class takes longer than a second, so
 that names are looked up again. Those of less than one in twenty are left out, and what waits: `poll` and `futex`.
 
-| Class | nizwarf-share | passthrough_ll | bindfs |
+| Class | {ours} | passthrough_ll | bindfs |
 |---|---|---|---|"""
-WHY = """
+SHARE_WHY = """
 What the share alone does: each file that is looked up is opened with O_PATH, and closed when it is forgotten, so that
 a request goes to the file that was looked up, whatever is renamed meanwhile, and no path is walked or link followed.
 bindfs holds no file and walks the path of each request from the folder on, so it may reach another file. What the
@@ -74,6 +97,15 @@ class Server:
                 sys.exit(f"{self.words} ended with {self.process.returncode}")
             time.sleep(0.01)
 
+    def end(self):
+        subprocess.run(["umount", self.mount], check=True)
+        self.process.wait()
+
+    def set_out(self, what, jobs):
+        """Serves what is there before a class."""
+        fill(self.folder, what, jobs)
+        self.begin()
+
     def pid(self):
         """That of what serves: it may be the child of what stands by."""
         with open(f"/proc/{self.process.pid}/task/{self.process.pid}/children") as children:
@@ -94,30 +126,64 @@ class Server:
         return end
 
     def time(self, what, jobs, counts=False):
-        """Seconds by the clock, and of the server's processor; or its system calls."""
+        """Seconds by the clock, and of the server's processor; or its system calls. None: it could not do it."""
         os.mkdir(self.folder)
         os.mkdir(self.mount)
-        words = [speed, what if what in SAID and " " not in what and what != "untar" else "run"]
-        subprocess.run([*words, self.folder, str(jobs)], check=True)
-        if what == "git status":
-            for job in range(jobs):
-                shutil.copytree(work + "/clone", f"{self.folder}/job-{job}/clone", symlinks=True)
-        command = {"git status": ["git", "-C", "clone", "status"], "untar": ["tar", "-xf", work + "/archive"]}
-        self.begin()
+        self.set_out(what, jobs)
         counted = self.count() if counts else dict
-        said = subprocess.run([*words, self.mount, str(jobs), self.pid(), *command.get(what, [])], check=True,
-                              stdout=subprocess.PIPE, text=True, env=dict(os.environ, GIT_OPTIONAL_LOCKS="0")).stdout
+        ran = subprocess.run([speed, class_of(what), self.mount, str(jobs), self.pid(), *COMMANDS.get(what, [])],
+                             stdout=subprocess.PIPE, text=True, env=dict(os.environ, GIT_OPTIONAL_LOCKS="0"))
         calls = counted()
-        subprocess.run(["umount", self.mount], check=True)
-        self.process.wait()
+        self.end()
         os.rmdir(self.mount)
         shutil.rmtree(self.folder)
-        return calls if counts else [float(it) for it in said.split("\n")[-2].split()]
+        if ran.returncode:
+            return None
+        return calls if counts else [float(it) for it in ran.stdout.split("\n")[-2].split()]
 
 
-def ratios(times, at, peer):
-    return statistics.median(ours[at] / theirs[at] if theirs[at] else 1
-                             for ours, theirs in zip(times["nizwarf-share"], times[peer]))
+class Tree(Server):
+    """What has its files itself."""
+
+    def set_out(self, what, jobs):
+        self.begin()
+        fill(self.mount, what, jobs)
+        # (the kernel forgets what it remembers of them)
+        if ctypes.CDLL(None).mount(None, os.fsencode(self.mount), None, MS_REMOUNT, None):
+            sys.exit(f"{self.mount} could not be mounted anew")
+
+
+class Tmpfs(Tree):
+    """Which is served by the kernel."""
+
+    def begin(self):
+        subprocess.run(["mount", "-t", "tmpfs", "none", self.mount], check=True)
+
+    def end(self):
+        subprocess.run(["umount", self.mount], check=True)
+
+    def pid(self):
+        return "self"
+
+
+def class_of(what):
+    """The class of share_speed.c."""
+    return "run" if what in COMMANDS else what
+
+
+def fill(folder, what, jobs):
+    subprocess.run([speed, class_of(what), folder, str(jobs)], check=True)
+    if what == "git status":
+        for job in range(jobs):
+            shutil.copytree(work + "/clone", f"{folder}/job-{job}/clone", symlinks=True)
+
+
+def ratios(ours, theirs):
+    """The medians by the clock and of the processor, or none."""
+    if None in theirs:
+        return None
+    return tuple(statistics.median(mine[at] / its[at] if its[at] else 1 for mine, its in zip(ours, theirs))
+                 for at in (0, 1))
 
 
 def row(servers, what):
@@ -125,24 +191,34 @@ def row(servers, what):
     names, cells, worst = list(servers), [], []
     for jobs in JOBS:
         times = {name: [] for name in names}
-        for turn in range(rounds):
+        for turn in range(min(rounds, FEW.get(what, rounds))):
             for i in range(len(names)):
                 name = names[(i + turn) % len(names)]
                 times[name].append(servers[name].time(what, jobs))
-        clock, spent = ([ratios(times, at, peer) for peer in names[1:]] for at in (0, 1))
-        # (the quicker one of the two ways of bindfs)
-        quicker = 1 if clock[1] > clock[2] else 2
-        both = (clock[0], spent[0]), (clock[quicker], spent[quicker])
-        cells += both
-        worst.append(max(both))
-    return "| " + " | ".join([SAID[what], *(f"{clock:.2f} ({spent:.2f})" for clock, spent in cells + worst)]) + " |"
+        if None in times[names[0]]:
+            sys.exit(f"{names[0]} could not do {what}")
+        beside = {}
+        for name in names[1:]:
+            # (of bindfs the quicker one of the two ways)
+            both, other = ratios(times[names[0]], times[name]), name.split(",")[0]
+            beside[other] = max(beside.get(other, (0, 0)), both or (0, 0))
+        cells += [shown(beside[other], isinstance(servers[other], Tmpfs)) for other in beside]
+        worst.append(shown(max(beside["passthrough_ll"], beside["bindfs"])))
+    return "| " + " | ".join([SAID[what], *cells, *worst]) + " |"
+
+
+def shown(both, is_alone=False):
+    clock, spent = both
+    return "-" if not clock else f"{clock:.2f}" if is_alone else f"{clock:.2f} ({spent:.2f})"
 
 
 def calls_of(server, what):
     """The system calls for each of what is done in a class."""
     times, _ = TIMES[what]
-    counted = collections.Counter(server.time(what, 1, counts=True))
-    kept = [(name, count / times) for name, count in counted.most_common()
+    counted = server.time(what, 1, counts=True)
+    if counted is None:
+        return "-"
+    kept = [(name, count / times) for name, count in collections.Counter(counted).most_common()
             if name not in ("poll", "futex", "total") and count / times >= 0.05]
     return ", ".join(f"{name} {count:.1f}".replace(".0", "") for name, count in kept) or "less"
 
@@ -151,28 +227,35 @@ def main():
     subprocess.run(["git", "-C", repository, "archive", "--output", work + "/archive", "--format=tar", "HEAD"],
                    check=True)
     subprocess.run(["git", "clone", "-q", repository, work + "/clone"], check=True)
-    servers = {"nizwarf-share": Server([share, "--log-level=error", "{folder}", "{mount}"]),
-               "passthrough_ll": Server([passthrough_ll, "-f", "-o",
-                                         "source={folder},cache=auto,default_permissions", "{mount}"]),
-               "bindfs": Server([bindfs, "-f", "{folder}", "{mount}"]),
-               "bindfs, threads": Server([bindfs, "-f", "--multithreaded", "{folder}", "{mount}"])}
-    classes = sys.argv[9:] or CLASSES
-    print(HEAD.format(rounds=rounds, facts=facts))
-    others = ["passthrough_ll", "bindfs"]
-    print("| Class | " + " | ".join(f"{it}, {jobs} job{'s' * (jobs > 1)}" for jobs in JOBS for it in others) +
-          " | quicker, 1 job | quicker, 4 jobs |\n|---" + "|---" * 6 + "|")
+    others = {"passthrough_ll": Server([passthrough_ll, "-f", "-o",
+                                        "source={folder},cache=auto,default_permissions", "{mount}"]),
+              "bindfs": Server([bindfs, "-f", "{folder}", "{mount}"]),
+              "bindfs, threads": Server([bindfs, "-f", "--multithreaded", "{folder}", "{mount}"])}
+    if kind == "tree":
+        servers = {"the tree": Tree([ours, "-o", options, "{mount}"]), **others, "tmpfs": Tmpfs([])}
+        head, why, classes = TREE_HEAD, "", (*CLASSES, "names-100k")
+    else:
+        servers = {"nizwarf-share": Server([ours, "--log-level=error", "{folder}", "{mount}"]), **others}
+        head, why, classes = SHARE_HEAD, SHARE_WHY, CLASSES
+    classes = sys.argv[11:] or classes
+    most, _ = resource.getrlimit(resource.RLIMIT_NOFILE)
+    print(head.format(rounds=rounds, facts=facts, options=options and f" -o {options}"))
+    print(BOTH_HEAD.format(most=most))
+    columns = list(dict.fromkeys(name.split(",")[0] for name in list(servers)[1:]))
+    print("| Class | " + " | ".join(f"{it}, {jobs} job{'s' * (jobs > 1)}" for jobs in JOBS for it in columns) +
+          " | quicker, 1 job | quicker, 4 jobs |\n|---" + "|---" * (2 * len(columns) + 2) + "|")
     for what in classes:
         print(row(servers, what), flush=True)
-    print(WHY, end="")
+    print(why, end="")
     counted = [what for what in classes if what in TIMES]
     if counted and shutil.which("strace"):
-        print(CALLS)
+        print(CALLS.format(ours=list(servers)[0]))
         for what in counted:
             cells = [calls_of(servers[name], what) for name in list(servers)[:3]]
             print(f"| {SAID[what]}, a {TIMES[what][1]} | " + " | ".join(cells) + " |", flush=True)
 
 
 if __name__ == "__main__":
-    speed, share, passthrough_ll, bindfs, repository, work = sys.argv[1:7]
-    rounds, facts = int(sys.argv[7]), sys.argv[8]
+    kind, speed, ours, options, passthrough_ll, bindfs, repository, work = sys.argv[1:9]
+    rounds, facts = int(sys.argv[9]), sys.argv[10]
     main()
