@@ -67,7 +67,8 @@ CALLS = """
 ## System calls
 
 Of the server, for each file, name, listing, MiB or block, by `strace -c`, under which a class takes longer than a second, so
-that names are looked up again. Those of less than one in twenty are left out, and what waits: `poll` and `futex`.
+that names may be looked up again. A request takes a read and a reply a write. Those of less than one in twenty are left out,
+and what waits: `poll` and `futex`.
 
 | Class | {ours} | passthrough_ll | bindfs |
 |---|---|---|---|"""
