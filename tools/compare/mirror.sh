@@ -2,13 +2,14 @@
 # Asks a file system and a tmpfs the same at random, and compares what each answers: errors, attributes, which
 # times move, contents, listings. Of what differs and isn't known it prints the smallest sequence that does.
 #
-# Usage: tools/compare/mirror.sh [--library | --mount] SEED COUNT
-#        tools/compare/mirror.sh --share SEED COUNT [-- WORDS]
+# Usage: tools/compare/mirror.sh [--library] SEED COUNT
+#        tools/compare/mirror.sh --mount | --share SEED COUNT [-- WORDS]
 #        tools/compare/mirror.sh SEED COUNT FOLDER BESIDE
 # Without folders it asks the tree in memory, COUNT operations in each of two ways: system calls on a mount of it,
-# as tools/mount.sh makes one, and messages to the library. With --library or --mount it asks in one of them. With
-# --share it asks a folder on a tmpfs, as tools/share.sh shares it with these WORDS, and without -- over a cache of
-# what is written later too. With two folders it asks these. The same SEED asks the same.
+# as tools/mount.sh makes one, and messages to the library. With --library or --mount it asks in one of them, with
+# these WORDS for the mount. With --share it asks a folder on a tmpfs, as tools/share.sh shares it with these WORDS,
+# and without -- over a cache of what is written later too. With two folders it asks these. The same SEED asks the
+# same.
 #
 # Calls are those of root and of others, on names, descriptors and maps; requests are those of a kernel. A directory's
 # size, blocks and times of access are not compared. What is known to differ has a row in mirror/known.txt here,
@@ -25,7 +26,7 @@ set -euo pipefail
 
 usage() {
     [ $# = 0 ] || echo "$1" >&2
-    echo "Usage: tools/compare/mirror.sh [--library | --mount | --share] SEED COUNT [-- WORDS]," >&2
+    echo "Usage: tools/compare/mirror.sh [--library] SEED COUNT, or --mount | --share SEED COUNT [-- WORDS]," >&2
     echo "or SEED COUNT FOLDER BESIDE" >&2
     exit 2
 }
@@ -44,7 +45,7 @@ seed=$1 count=$2
 shift 2
 words=()
 if [ "${1:-}" = -- ]; then
-    [ "${ways[*]}" = --share ] || usage "Words are for --share."
+    [[ "${ways[*]}" =~ ^--(mount|share)$ ]] || usage "Words are for --mount and --share."
     words=("${@:2}")
 elif [ $# = 2 ] && [ ${#ways[@]} = 2 ]; then
     [ -d "$1" ] || usage "$1 is no folder."
@@ -98,7 +99,7 @@ for way in "${ways[@]}"; do
             build_transport mount
             # (no device is opened there either)
             mount -o remount,nodev "$work/tmpfs"
-            mirror_mount fuse.nizwarf "$transport" -o allow_other,size=1g
+            mirror_mount fuse.nizwarf "$transport" -o allow_other,size=1g "${words[@]}"
             ;;
         --library)
             echo "Messages to the library over the tree, and system calls on a tmpfs:" >&2

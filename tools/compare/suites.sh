@@ -5,13 +5,14 @@
 #
 # Usage: tools/compare/suites.sh [OPTIONS] FOLDER BESIDE
 #        tools/compare/suites.sh [OPTIONS] --share [--on FOLDER] [-- WORDS]
-#        tools/compare/suites.sh [OPTIONS] --tree
+#        tools/compare/suites.sh [OPTIONS] --tree [-- WORDS]
 #        tools/compare/suites.sh --list
 # With folders, each suite runs in a new one below each of the two, and what it made is removed. With --share
 # they run over what tools/share.sh shares: with one worker, with four, with a writeback cache, or with these
 # WORDS instead; beside the folder itself, and beside libfuse's own passthrough_ll, which is only shown. It is on a
-# tmpfs, or below the folder of --on. With --tree they run over the tree in memory of tools/mount.sh, beside a
-# tmpfs. Each suite then has a server of its own, which must end well, with nothing left in its folder.
+# tmpfs, or below the folder of --on. With --tree they run over the tree in memory of tools/mount.sh, with these
+# WORDS for it, beside a tmpfs. Each suite then has a server of its own, which must end well, with nothing left in
+# its folder.
 #
 #   --list           lists the suites
 #   --only NAME..    these suites alone, with commas or spaces between them
@@ -37,7 +38,7 @@ set -euo pipefail
 usage() {
     [ $# = 0 ] || echo "$1" >&2
     echo "Usage: tools/compare/suites.sh [--only NAME..] [--quick] [--jobs N] [--sanitizer NAME] FOLDER BESIDE," >&2
-    echo "or --share [--on FOLDER] [-- WORDS], or --tree, or --list" >&2
+    echo "or --share [--on FOLDER] [-- WORDS], or --tree [-- WORDS], or --list" >&2
     exit 2
 }
 
@@ -82,7 +83,7 @@ while [ $# -gt 0 ]; do
         --)
             shift
             words=("$@")
-            [ "$what" = --share ] || usage "Words are for --share."
+            [ -n "$what" ] || usage "Words are for --share and --tree."
             break
             ;;
         -*) usage "There is no option $1." ;;
@@ -161,7 +162,7 @@ case $what in
     --tree)
         build_transport mount vfs_c "${flags[@]}"
         column tmpfs tmpfs judged tmpfs
-        column "the tree" fuse.nizwarf judged mount "$transport" -o allow_other MOUNT
+        column "the tree" fuse.nizwarf judged mount "$transport" -o allow_other "${words[@]}" MOUNT
         ;;
     *)
         for folder in "${folders[1]}" "${folders[0]}"; do
