@@ -1,4 +1,5 @@
 pub mod Forgetting
+pub mod Indexes
 pub mod Texts
 mod Pieces
 mod Kept

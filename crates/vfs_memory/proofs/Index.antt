@@ -1,9 +1,9 @@
 -- The files in order of their nodes: each is found by its node as by its name.
-use Rattle.std.proofs.Common.{◌≡◌, ◌<◌, ◌≤◌, ◌+◌, ℕ, true, false, List, [], length, get_or, find, position, Option, Some, None, option_map, nat_lt, ◌==◌, eq-eqb, refl, sym, ap, ◌∙◌, arith, ⊎_elim}
+use Rattle.std.proofs.Common.{◌≡◌, ◌<◌, ◌≤◌, ◌+◌, ℕ, true, false, List, [], length, get_or, find, position, Some, None, nat_lt, ◌==◌, eq-eqb, sym, ap, ◌∙◌, arith, ⊎_elim}
 use Rattle.std.specs.List.{AllPairs}
 use Rattle.std.proofs.lemmas.Bool.{ltb-true, ltb-false, ne_eqb, cases_Bool}
 use Rattle.std.proofs.lemmas.List.{get_or_read}
-use Rattle.std.proofs.lemmas.Option.{none-some, same_Some}
+use Rattle.vfs_files.proofs.Indexes.{mapped_some, mapped_none}
 use Rattle.vfs_memory.specs.MemFs.{Stored}
 use Rattle.vfs_memory.specs.Index.{ComesBefore, is_named, node_named}
 use Rattle.vfs_memory.proofs.Searches.{position_is, position_none, position_missing, place_of_found}
@@ -64,15 +64,6 @@ module _ (files : List Stored) (order : AllPairs ComesBefore files) (node : ℕ)
       (cases_Bool (nat_lt i k))
 
 -- ---- by name
-
-mapped_some : {X Y : Type 0} (f : X → Y) (o : Option X) (y : Y) → option_map f o ≡ Some y
-    → (x : X) × (o ≡ Some x) × (f x ≡ y)
-mapped_some f None y is = absurd (none-some y is)
-mapped_some f (Some x) y is = (x, refl, same_Some (f x) y is)
-
-mapped_none : {X Y : Type 0} (f : X → Y) (o : Option X) → option_map f o ≡ None → o ≡ None
-mapped_none f None is = refl
-mapped_none f (Some x) is = absurd (none-some (f x) (sym is))
 
 -- a name is there where its node is
 pub place_named : (files : List Stored) → AllPairs ComesBefore files

@@ -1,8 +1,6 @@
 -- The files and their index, after each change.
-use Rattle.std.proofs.Common.{◌≡◌, ◌<◌, ◌+◌, ℕ, Bool, true, false, cond, List, [], ◌∷◌, ◌++◌, length, take, drop, get_or, set, find, position, remove, Option, Some, None, option_map, bytes_eq, nat_cmp, is_eq, nat_lt, Vec, Global, BTreeMap, refl, zero, suc, sym, ap, ◌∙◌, subst, arith, ⊎_elim}
-use Rattle.std.specs.Cmp.{eq_by_cmp_equiv}
-use Rattle.std.specs.Cmp.Lexicographic.{slice_cmp, bytes_decides, nat_list_cmp_total, nat_list_eq_equiv}
-use Rattle.std.specs.Map.{lookup, KeepsOthers}
+use Rattle.std.proofs.Common.{◌≡◌, ◌<◌, ◌+◌, ℕ, true, false, cond, List, [], ◌∷◌, ◌++◌, length, take, drop, get_or, set, find, position, remove, Some, None, option_map, bytes_eq, nat_cmp, nat_lt, Vec, Global, BTreeMap, refl, zero, suc, sym, ap, ◌∙◌, arith, ⊎_elim}
+use Rattle.std.specs.Cmp.Lexicographic.{slice_cmp, nat_list_eq_equiv}
 use Rattle.std.specs.BTreeMap.{UpdatesBy}
 use Rattle.std.proofs.lemmas.Bool.{cases_Bool, ltb-true, ltb-false}
 use Rattle.std.proofs.lemmas.Bool.Decides.{eqb_tells}
@@ -10,60 +8,10 @@ use Rattle.std.proofs.lemmas.List.{get_or_default, get_or_read, get_or-set_same,
 use Rattle.std.proofs.lemmas.List.Edits.{get_or-remove_below, get_or-remove_above, length-remove}
 use Rattle.std.proofs.lemmas.List.Elements.{All-append, All-take, All-drop, All-push, All-weaker}
 use Rattle.std.proofs.lemmas.List.Quantifiers.{position-Some, all_pairs_push, all_pairs_remove}
-use Rattle.std.proofs.lemmas.Map.Text.{is_eq-slice_cmp}
+use Rattle.vfs_files.proofs.Indexes.{other_name, same_name, turned_name, index_same, index_changed}
 use Rattle.vfs_memory.specs.MemFs.{Stored}
-use Rattle.vfs_memory.specs.Index.{ComesBefore, AreIndexed, is_named, node_named, node_in}
+use Rattle.vfs_memory.specs.Index.{ComesBefore, AreIndexed, is_named, node_named}
 use Rattle.vfs_memory.proofs.Searches.{position_none, find_none, fails_at, find_pushed, find_push_other, find_removed_other}
-
--- ---- names
-
-other_name : (a b c : List ℕ) → bytes_eq a b ≡ false → bytes_eq a c ≡ true
-    → bytes_eq b c ≡ false
-other_name a b c apart same =
-    nat_list_eq_equiv.symm b c ∙ sym (nat_list_eq_equiv.congr a c b same) ∙ apart
-
-same_name : (a b : List ℕ) → bytes_eq a b ≡ true → a ≡ b
-same_name a b same = (bytes_decides a b).0 same
-
-turned_name : (a b : List ℕ) (t : Bool) → bytes_eq a b ≡ t → bytes_eq b a ≡ t
-turned_name a b t is = nat_list_eq_equiv.symm b a ∙ is
-
--- ---- the index
-
--- another index with the same names
-index_same : (old new : BTreeMap (Vec ℕ Global) ℕ) (files : List Stored)
-    → new.entries ≡ old.entries → ((other : List ℕ) → node_in old other ≡ node_named files other)
-    → (other : List ℕ) → node_in new other ≡ node_named files other
-index_same old new files same index other =
-    ap (λ es. lookup (λ key. is_eq (slice_cmp nat_cmp other key.items)) es) same ∙ index other
-
--- one name has another node, or none
-module _ (old new : BTreeMap (Vec ℕ Global) ℕ) (name : List ℕ) (w : Option ℕ) where
-  kept : KeepsOthers (λ x y. is_eq (slice_cmp nat_cmp x.items y.items))
-      (λ key. is_eq (slice_cmp nat_cmp name key.items)) old.entries new.entries
-      → (other : List ℕ) → bytes_eq name other ≡ false → node_in new other ≡ node_in old other
-  unfolding KeepsOthers
-  kept keeps other apart =
-      keeps (λ key. is_eq (slice_cmp nat_cmp other key.items))
-      (λ x y. (eq_by_cmp_equiv nat_list_cmp_total).congr other x.items y.items)
-      (λ key hit. is_eq-slice_cmp other key.items
-      ∙ other_name name other key.items apart (sym (is_eq-slice_cmp name key.items) ∙ hit))
-
-  index_changed :
-      UpdatesBy (λ x y. slice_cmp nat_cmp x.items y.items) (λ key. slice_cmp nat_cmp name key.items)
-      old new w
-      → (files changed : List Stored)
-      → ((other : List ℕ) → node_in old other ≡ node_named files other)
-      → node_named changed name ≡ w
-      → ((other : List ℕ) → bytes_eq name other ≡ false
-      → node_named changed other ≡ node_named files other)
-      → (other : List ℕ) → node_in new other ≡ node_named changed other
-  index_changed updates files changed index here others other =
-      ⊎_elim
-      (λ passes. subst (λ (l : List ℕ). node_in new l ≡ node_named changed l)
-      (same_name name other passes) (updates.1 ∙ sym here))
-      (λ fails. kept updates.3 other fails ∙ index other ∙ sym (others other fails))
-      (cases_Bool (bytes_eq name other))
 
 -- the node of a name does not depend on the contents of a file
 node_written : (name contents : List ℕ) (files : List Stored) (place : ℕ) (file : Stored)
@@ -96,7 +44,7 @@ module _ (files : List Stored) (names : BTreeMap (Vec ℕ Global) ℕ) (next : �
   indexed_same same is = record {
     order = old.order;
     before = old.before;
-    index = index_same names same files is old.index;
+    index = index_same names same (node_named files) old.index is;
   }
 
   -- one file more
@@ -114,8 +62,8 @@ module _ (files : List Stored) (names : BTreeMap (Vec ℕ Global) ℕ) (next : �
     before = All-push (λ f. f.node < next + 1) files file
         (All-weaker (λ f. f.node < next) (λ f. f.node < next + 1) (λ f h. omega (arith, h)) files
         old.before) (omega (arith, is));
-    index = index_changed names changed file.name (Some next) updates files (files ++ file ∷ [])
-        old.index
+    index = index_changed names changed (node_named files) old.index file.name (Some next) updates
+        (node_named (files ++ file ∷ []))
         (ap (option_map (λ f. f.node)) (find_pushed (is_named file.name) files file none
         (nat_list_eq_equiv.refl file.name)) ∙ ap (λ n. Some n) is)
         (λ other apart. ap (option_map (λ f. f.node))
@@ -161,7 +109,8 @@ module _ (files : List Stored) (names : BTreeMap (Vec ℕ Global) ℕ) (next : �
       before = All-append (λ f. f.node < next) (take place files) (drop (suc place) files)
           (All-take (λ f. f.node < next) place files old.before)
           (All-drop (λ f. f.node < next) (suc place) files old.before);
-      index = index_changed names changed name None updates files (remove files place) old.index
+      index = index_changed names changed (node_named files) old.index name None updates
+          (node_named (remove files place))
           (ap (option_map (λ f. f.node)) (find_none (is_named name) (remove files place)
           (position_none (is_named name) (remove files place) none gone)))
           (λ other apart. ap (option_map (λ f. f.node))

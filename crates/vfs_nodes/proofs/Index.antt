@@ -8,11 +8,12 @@ use Rattle.std.specs.BTreeMap.{insert_entry, is_at}
 use Rattle.std.specs.List.{AllByRecursion}
 use Rattle.std.proofs.lemmas.Bool.{cases_Bool, cond-true, cond-false, not_from_true, not_from_false}
 use Rattle.std.proofs.lemmas.Option.{none-some, same_Some}
+use Rattle.vfs_files.proofs.Indexes.{same_name}
 use Rattle.vfs_nodes.specs.Children.{Link, is_named, is_directory, directories_of, relinked}
 use Rattle.vfs_nodes.specs.Index.{IsBehind, AreInOrder}
 use Rattle.vfs_nodes.specs.declared.children.Child.{Child}
 use Rattle.vfs_nodes.proofs.Finds.{every_both, every_filter, every_map, every_weaker, every_found, found_here, found_later, none_passes, filter_all, map_all}
-use Rattle.vfs_nodes.proofs.Places.{same_name, relinked_place, relinked_name}
+use Rattle.vfs_nodes.proofs.Places.{relinked_place, relinked_name}
 
 -- ---- a place as a key
 

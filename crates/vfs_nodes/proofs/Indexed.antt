@@ -1,24 +1,16 @@
 -- The links and the index of a directory, after each change of one name.
-use Rattle.std.proofs.Common.{◌≡◌, ◌+◌, ◌-◌, ◌^◌, ◌<◌, ◌≤◌, ℕ, not, List, ◌∷◌, map, find, filter, Option, Some, None, option_map, Vec, Global, BTreeMap, nat_cmp, refl, sym, ap, ◌∙◌, subst, arith}
+use Rattle.std.proofs.Common.{◌≡◌, ◌+◌, ◌-◌, ◌^◌, ◌<◌, ◌≤◌, ℕ, not, List, ◌∷◌, map, find, filter, Some, None, option_map, Vec, Global, BTreeMap, nat_cmp, refl, sym, ap, ◌∙◌, subst, arith}
 use Rattle.std.specs.Cmp.Lexicographic.{slice_cmp}
 use Rattle.std.specs.Map.{lookup, remove_entry, set_value}
 use Rattle.std.specs.BTreeMap.{UpdatesBy, insert_entry, is_at}
 use Rattle.std.proofs.lemmas.Option.{none-some, same_Some}
+use Rattle.vfs_files.proofs.Indexes.{mapped_some, mapped_none, index_same, index_changed}
 use Rattle.vfs_nodes.specs.Children.{Link, is_named, directories_of, relinked}
-use Rattle.vfs_nodes.specs.Index.{AreIndexed, place_of}
+use Rattle.vfs_nodes.specs.Index.{AreIndexed, place_of, place_named}
 use Rattle.vfs_nodes.specs.declared.children.Child.{Child}
 use Rattle.vfs_nodes.proofs.Finds.{every_filter}
 use Rattle.vfs_nodes.proofs.Index.{inserted_first, removed_first, found_by_place, removed_by_place, set_by_place, order_added, order_filtered, order_relinked, behind_added, places_relinked, fewer_links, one_for, one_at_most, directories_some, counted, directories_removed, directories_set}
-use Rattle.vfs_nodes.proofs.Places.{index_changed, index_same, place_added, place_added_other, place_removed, place_removed_other, place_relinked}
-
-mapped_some : {X Y : Type 0} (f : X → Y) (o : Option X) (y : Y) → option_map f o ≡ Some y
-    → (x : X) × (o ≡ Some x) × (f x ≡ y)
-mapped_some f None y is = absurd (none-some y is)
-mapped_some f (Some x) y is = (x, refl, same_Some (f x) y is)
-
-pub mapped_none : {X Y : Type 0} (f : X → Y) (o : Option X) → option_map f o ≡ None → o ≡ None
-mapped_none f None is = refl
-mapped_none f (Some x) is = absurd (none-some (f x) (sym is))
+use Rattle.vfs_nodes.proofs.Places.{place_added, place_added_other, place_removed, place_removed_other, place_relinked}
 
 module _ (links : List (ℕ × Link)) (places : BTreeMap (Vec ℕ Global) ℕ) (next directories : ℕ)
     (old : AreIndexed links places next directories) where
@@ -46,7 +38,7 @@ module _ (links : List (ℕ × Link)) (places : BTreeMap (Vec ℕ Global) ℕ) (
     behind = old.behind;
     within = old.within;
     room = old.room;
-    index = index_same places same links is old.index;
+    index = index_same places same (place_named links) old.index is;
     count = old.count;
   }
 
@@ -106,8 +98,9 @@ module _ (links : List (ℕ × Link)) (places : BTreeMap (Vec ℕ Global) ℕ) (
             within = every_filter (λ link. link.0 < 2 ^ 63) (λ link. not (is_named name link)) links
                 old.within;
             room = old.room;
-            index = index_changed places changed name None updates links left old.index
-                (place_removed links name) (place_removed_other links name);
+            index = index_changed places changed (place_named links) old.index name None updates
+                (place_named left) (place_removed links name)
+                (place_removed_other links name);
             count = subst (λ (l : List (ℕ × Link)). counted ≡ directories_of l) (sym same)
                 (omega (arith, gone, less, sum, old.count));
           })
@@ -193,7 +186,8 @@ module _ (links : List (ℕ × Link)) (places : BTreeMap (Vec ℕ Global) ℕ) (
           behind = behind_added next link links some old.behind;
           within = (old.room, old.within);
           room = omega (arith, old.room);
-          index = index_changed places changed name (Some next) updates links all old.index
-              (place_added links name next child) (place_added_other links name next child);
+          index = index_changed places changed (place_named links) old.index name (Some next)
+              updates (place_named all) (place_added links name next child)
+              (place_added_other links name next child);
           count = omega (arith, counted (next, link) links, sums, old.count);
         })

@@ -1,7 +1,7 @@
 mod Attributes
 pub mod Finds
 mod Index
-pub mod Indexed
+mod Indexed
 mod Listings
 pub mod Places
 mod Results

@@ -1,67 +1,12 @@
--- The index of a directory, from a name to its place, after a change of one name.
-use Rattle.std.proofs.Common.{◌≡◌, ℕ, Bool, true, false, cond, not, List, ◌∷◌, map, find, filter, Option, Some, None, option_map, bytes_eq, Vec, Global, BTreeMap, nat_cmp, is_eq, refl, sym, ap, ◌∙◌, subst, ⊎_elim}
-use Rattle.std.specs.Cmp.{eq_by_cmp_equiv}
-use Rattle.std.specs.Cmp.Lexicographic.{slice_cmp, bytes_decides, nat_list_cmp_total, nat_list_eq_equiv}
-use Rattle.std.specs.Map.{lookup, KeepsOthers}
-use Rattle.std.specs.BTreeMap.{UpdatesBy}
-use Rattle.std.proofs.lemmas.Bool.{cases_Bool, cond-true, cond-false}
-use Rattle.std.proofs.lemmas.Map.Text.{is_eq-slice_cmp}
+-- The places of names, after a change of the links.
+use Rattle.std.proofs.Common.{◌≡◌, ℕ, true, false, cond, not, List, ◌∷◌, map, find, filter, Some, None, option_map, bytes_eq, refl, ap}
+use Rattle.std.specs.Cmp.Lexicographic.{nat_list_eq_equiv}
+use Rattle.std.proofs.lemmas.Bool.{cond-true, cond-false}
+use Rattle.vfs_files.proofs.Indexes.{other_name, turned_name}
 use Rattle.vfs_nodes.specs.Children.{Link, is_named, relinked}
-use Rattle.vfs_nodes.specs.Index.{place_of, place_named}
+use Rattle.vfs_nodes.specs.Index.{place_named}
 use Rattle.vfs_nodes.specs.declared.children.Child.{Child}
 use Rattle.vfs_nodes.proofs.Finds.{find_filtered, find_filter_other, find_map}
-
--- two names, and a third that is one of them
-other_name : (a b c : List ℕ) → bytes_eq a b ≡ false → bytes_eq a c ≡ true
-    → bytes_eq b c ≡ false
-other_name a b c apart same =
-    nat_list_eq_equiv.symm b c ∙ sym (nat_list_eq_equiv.congr a c b same) ∙ apart
-
-pub same_name : (a b : List ℕ) → bytes_eq a b ≡ true → a ≡ b
-same_name a b same = (bytes_decides a b).0 same
-
-named_itself : (a : List ℕ) → bytes_eq a a ≡ true
-named_itself a = nat_list_eq_equiv.refl a
-
-pub turned_name : (a b : List ℕ) (t : Bool) → bytes_eq a b ≡ t → bytes_eq b a ≡ t
-turned_name a b t is = nat_list_eq_equiv.symm b a ∙ is
-
--- what the index has for other names
-module _ (old new : BTreeMap (Vec ℕ Global) ℕ) (name : List ℕ) (w : Option ℕ) where
-  kept : KeepsOthers (λ x y. is_eq (slice_cmp nat_cmp x.items y.items))
-      (λ key. is_eq (slice_cmp nat_cmp name key.items)) old.entries new.entries
-      → (other : List ℕ) → bytes_eq name other ≡ false → place_of new other ≡ place_of old other
-  unfolding KeepsOthers
-  kept keeps other apart =
-      keeps (λ key. is_eq (slice_cmp nat_cmp other key.items))
-      (λ x y. (eq_by_cmp_equiv nat_list_cmp_total).congr other x.items y.items)
-      (λ key hit. is_eq-slice_cmp other key.items
-      ∙ other_name name other key.items apart (sym (is_eq-slice_cmp name key.items) ∙ hit))
-
-  pub index_changed :
-      UpdatesBy (λ x y. slice_cmp nat_cmp x.items y.items) (λ key. slice_cmp nat_cmp name key.items)
-      old new w
-      → (links changed : List (ℕ × Link))
-      → ((other : List ℕ) → place_of old other ≡ place_named links other)
-      → place_named changed name ≡ w
-      → ((other : List ℕ) → bytes_eq name other ≡ false
-      → place_named changed other ≡ place_named links other)
-      → (other : List ℕ) → place_of new other ≡ place_named changed other
-  index_changed updates links changed index here others other =
-      ⊎_elim
-      (λ passes. subst (λ (l : List ℕ). place_of new l ≡ place_named changed l)
-      (same_name name other passes) (updates.1 ∙ sym here))
-      (λ fails. kept updates.3 other fails ∙ index other ∙ sym (others other fails))
-      (cases_Bool (bytes_eq name other))
-
--- the same entries
-pub index_same : (old new : BTreeMap (Vec ℕ Global) ℕ) (links : List (ℕ × Link))
-    → new.entries ≡ old.entries → ((other : List ℕ) → place_of old other ≡ place_named links other)
-    → (other : List ℕ) → place_of new other ≡ place_named links other
-index_same old new links same index other =
-    ap (λ es. lookup (λ key. is_eq (slice_cmp nat_cmp other key.items)) es) same ∙ index other
-
--- ---- the places of names, after a change of the links
 
 module _ (links : List (ℕ × Link)) (name : List ℕ) where
   pub place_added : (place : ℕ) (child : Child)
@@ -69,7 +14,8 @@ module _ (links : List (ℕ × Link)) (name : List ℕ) where
   place_added place child =
       let link : ℕ × Link = (place, record { name = name; child = child }) in
       ap (option_map (λ link. link.0))
-      (cond-true (is_named name link) (Some link) (find (is_named name) links) (named_itself name))
+      (cond-true (is_named name link) (Some link) (find (is_named name) links)
+      (nat_list_eq_equiv.refl name))
 
   pub place_added_other : (place : ℕ) (child : Child) (other : List ℕ)
       → bytes_eq name other ≡ false

@@ -4,11 +4,12 @@ use Rattle.std.specs.List.{AllByRecursion, IsDistinct}
 use Rattle.std.proofs.lemmas.Bool.{cases_Bool, cond-true, cond-false, not_from_true, not_from_false, eq-eqb, ne_eqb}
 use Rattle.std.proofs.lemmas.List.Sums.{sum_by-cons}
 use Rattle.std.proofs.lemmas.Option.{none-some}
+use Rattle.vfs_files.proofs.Indexes.{same_name, turned_name}
 use Rattle.vfs_tree.specs.Children.{Link, is_named, relinked}
 use Rattle.vfs_tree_laws.specs.Laws.{names_in, AreApart}
 use Rattle.vfs_nodes.specs.declared.children.Child.{Child}
 use Rattle.vfs_nodes.proofs.Finds.{every_filter, every_map, every_weaker, found_here, found_later, none_passes, filter_all, map_all}
-use Rattle.vfs_nodes.proofs.Places.{same_name, turned_name, relinked_name}
+use Rattle.vfs_nodes.proofs.Places.{relinked_name}
 
 -- one, where two numbers are the same
 pub one : (a b : ℕ) → ℕ

@@ -1,6 +1,7 @@
 -- Links after RENAME.
 use Rattle.std.proofs.Common.{min, ◌≡◌, ◌≢◌, ◌+◌, ◌-◌, ◌<◌, ℕ, Bool, true, false, List, [], find, Some, None, option_map, bytes_eq, refl, sym, ap, ◌∙◌, subst, arith}
 use Rattle.std.proofs.lemmas.Option.{same_Some}
+use Rattle.vfs_files.proofs.Indexes.{same_name, mapped_none}
 use Rattle.vfs_tree.specs.Children.{Link, Children, is_directory, is_named, child_named, with_child, without_child, with_other_child}
 use Rattle.vfs_tree_laws.specs.Laws.{names_in, names_to, names_of, IsSound, IsLinked}
 use Rattle.vfs_tree.specs.Rename.{parent_of, moved_into, moved_to_free, moved_over, exchanged}
@@ -9,10 +10,8 @@ use Rattle.vfs_nodes.specs.declared.children.Child.{Child}
 use Rattle.vfs_nodes.specs.declared.node.Node.{Node}
 use Rattle.vfs_tree_laws.proofs.Held.{at}
 use Rattle.vfs_tree_laws.proofs.Keeping.{keeps-with_names, keeps-moved_into}
-use Rattle.vfs_nodes.proofs.Indexed.{mapped_none}
 use Rattle.vfs_tree_laws.proofs.NamesIn.{one, one_same, one_other, find_more_found, find_relinked}
 use Rattle.vfs_tree.proofs.Nodes.{node_at-with_node}
-use Rattle.vfs_nodes.proofs.Places.{same_name}
 use Rattle.vfs_tree_laws.proofs.Shapes.{Fits, Good, Counted, Home, linked_from, good_from, counted_from, home_from}
 use Rattle.vfs_tree_laws.proofs.Steps.{Step, found_link, none_lost, step-with_child, step-without_child, step-with_other_child, step_home, Moves, moves, linked-recounted, linked-settled}
 use Rattle.vfs_tree_laws.proofs.Tables.{links_in, names_at, kind_at, is_dir}

@@ -2,6 +2,7 @@
 use Rattle.std.proofs.Common.{◌≡◌, ◌≢◌, ◌+◌, ◌-◌, ◌≤◌, ◌==◌, ◌&&◌, if◌then◌else◌, ℕ, Bool, true, false, not, List, map, filter, find, Option, Some, None, option_map, refl, sym, ap, ◌∙◌, subst, arith}
 use Rattle.std.proofs.lemmas.Bool.{both_ways, false≢true, and_parts, eqb-true}
 use Rattle.std.proofs.lemmas.Option.{none-some, same_Some}
+use Rattle.vfs_files.proofs.Indexes.{mapped_none}
 use Rattle.vfs_tree.specs.Children.{Link, Children, is_directory, is_named, child_named, with_child, without_child, with_other_child, relinked}
 use Rattle.vfs_tree_laws.specs.Laws.{names_in, names_to, names_of, IsSound, IsLinked}
 use Rattle.vfs_tree.specs.Rename.{parent_of, moved_into}
@@ -10,7 +11,6 @@ use Rattle.vfs_nodes.specs.declared.children.Child.{Child}
 use Rattle.vfs_nodes.specs.declared.node.Node.{Node}
 use Rattle.vfs_nodes.proofs.Finds.{every_filter}
 use Rattle.vfs_tree_laws.proofs.Held.{at}
-use Rattle.vfs_nodes.proofs.Indexed.{mapped_none}
 use Rattle.vfs_tree_laws.proofs.NamesIn.{one, names_in-cons, names_in-filter, names_in-relinked, apart_more, apart_filter, apart_relinked, every_relinked}
 use Rattle.vfs_tree.proofs.Nodes.{node_at-with_node, node_at-with_node_other, node_at-without_node_other}
 use Rattle.vfs_tree_laws.proofs.Shapes.{Shape, Fits, AllFit, Good, good_from, counted_from, home_from, kinds-with_node, good-with_node, kind_left, good-without_node, Counted, Home, linked_from}

@@ -3,11 +3,12 @@ use Rattle.std.specs.Int.{from_bool}
 use Rattle.std.specs.Cmp.Lexicographic.{slice_cmp}
 use Rattle.std.specs.Ordering.{nat_cmp}
 use Rattle.std.specs.BTreeMap.{UpdatesBy, insert_entry}
+use Rattle.vfs_files.proofs.Indexes.{mapped_none}
 use Rattle.vfs_files.specs.Values.{name_text}
 use Rattle.vfs_nodes.specs.Children.{Children, Link, child_named, with_child, is_named}
 use Rattle.vfs_nodes.specs.Index.{AreIndexed}
 use Rattle.vfs_nodes.proofs.Index.{one_for}
-use Rattle.vfs_nodes.proofs.Indexed.{mapped_none, directories_fit, indexed_same, indexed_added, link_added, add_undone}
+use Rattle.vfs_nodes.proofs.Indexed.{directories_fit, indexed_same, indexed_added, link_added, add_undone}
 use Rattle.vfs_nodes.proofs.Results.{ok_clause, err_clause}
 use Rattle.vfs_nodes.proofs.children.Children.add.Goals as goal
 
