@@ -1,15 +1,18 @@
 -- What RENAME does, in steps, each from the state that the one before it left: so the two directories may
 -- be one.
-use Rattle.std.specs.Prelude.{ℕ, zero, suc, ◌==◌, ◌&&◌, ◌||◌, nat_lt, not, Bool, true, false, List, [], ◌∷◌, length, codes, Option, Some, None, is_some, is_none, if◌then◌else◌}
+use Rattle.std.specs.Prelude.{ℕ, zero, suc, ◌==◌, ◌-◌, ◌^◌, ◌&&◌, ◌||◌, nat_le, nat_lt, not, Bool, true, false, List, [], ◌∷◌, length, codes, bit_and, Option, Some, None, is_some, is_none, if◌then◌else◌}
 use Rattle.vfs_flags.specs.Numbers.{enoent, eexist, enotdir, eisdir, enospc, enotempty, einval, enametoolong}
 use Rattle.std.specs.List.{list_any}
 use Rattle.std.specs.Str.{bytes_eq}
 use Rattle.vfs_nodes.specs.Children.{is_directory, has_place, with_child, without_child, with_other_child}
 use Rattle.vfs_files.specs.Calls.{Done}
+use Rattle.vfs_nodes.specs.Node.{new_node}
 use Rattle.vfs_nodes.specs.declared.children.Child.{Child}
+use Rattle.vfs_nodes.specs.declared.kind.Kind.TheVariants as kind
 use Rattle.vfs_nodes.specs.declared.node.Node.{Node}
+use Rattle.vfs_nodes.specs.declared.node.Time.{Time}
 use Rattle.vfs_tree.specs.Outcome.{Just, Outcome, Tried, first_of, or_else, unless}
-use Rattle.vfs_tree.specs.State.{State, node_at, count_of, change, with_names, unnamed, child_at, node_of}
+use Rattle.vfs_tree.specs.State.{State, node_at, count_of, change, with_names, with_new, unnamed, child_at, node_of}
 
 abbrev pub is_directory_at : Option Node → Bool
 is_directory_at None = false
@@ -67,13 +70,23 @@ replace_refusal moved (Some target) =
     ∷ (is_directory_at moved && not (is_directory target.kind), enotdir)
     ∷ (not (length target.children.links == 0), enotempty) ∷ [])
 
--- what RENAME asks of two names; flags are 0, 1 (RENAME_NOREPLACE) or 2 (RENAME_EXCHANGE)
+-- flags: 1 is RENAME_NOREPLACE, 2 RENAME_EXCHANGE, 4 RENAME_WHITEOUT; only the first goes with the last
+abbrev pub is_served : (flags : ℕ) → Bool
+is_served flags = nat_le flags 2 || flags == 4 || flags == 5
+
+abbrev pub keeps_target : (flags : ℕ) → Bool
+keeps_target flags = bit_and flags 1 == 1
+
+abbrev pub leaves_whiteout : (flags : ℕ) → Bool
+leaves_whiteout flags = bit_and flags 4 == 4
+
+-- what RENAME asks of two names
 abbrev pub names_refusal : State → (od nd flags : ℕ) → (moved target : Option Child) → Option ℕ
 names_refusal s od nd flags moved target =
-    first_of ((nat_lt 2 flags, einval)
+    first_of ((not (is_served flags), einval)
     ∷ (is_none (node_of s moved), enoent)
     ∷ (is_nameless (node_at s nd), enoent)
-    ∷ (flags == 1 && is_some target, eexist)
+    ∷ (keeps_target flags && is_some target, eexist)
     ∷ (flags == 2 && is_none (node_of s target), enoent)
     ∷ (is_own_child s moved nd, einval)
     ∷ (flags == 2 && is_own_child s target od, einval) ∷ [])
@@ -87,20 +100,47 @@ place_refusal s nd name flags moved (Some target) =
     if flags == 2 || same_node moved (Some target) then None
     else replace_refusal (node_of s moved) (node_of s (Some target))
 
+-- and of the room for a whiteout, which is a node more
+abbrev pub whiteout_refusal : State → (flags : ℕ) → (moved target : Option Child) → Option ℕ
+whiteout_refusal s flags moved target =
+    first_of ((
+      leaves_whiteout flags && not (same_node moved target)
+          && (nat_le s.limits.nodes s.inodes || s.next == 2 ^ 64 - 1),
+      enospc,
+    ) ∷ [])
+
 -- a node lies in this directory
 abbrev pub moved_into : State → (number directory : ℕ) → State
 moved_into s n directory =
     change s n (λ node. record node { parent = directory; ctime = s.now })
+
+-- a whiteout, made in this directory by this owner: a character device of number 0 that may be used by none.
+-- No lookup of it is held
+abbrev pub whiteout : (now : Time) → (uid gid directory : ℕ) → Node
+whiteout now uid gid directory =
+    record (new_node now uid gid (kind.Character 0) 0 directory []) { lookups = 0 }
+
+-- a name leads to a new node: it was free, or what it led to has one name less
+abbrev pub named_anew : State → (directory : ℕ) → (name : List ℕ) → (target : Option Child) → Node → State
+named_anew s d name None node =
+    with_names (with_new s node) d
+    (λ c. with_child c name (record { node = s.next; kind = node.kind }))
+named_anew s d name (Some target) node =
+    let named = with_names (with_new s node) d
+    (λ c. with_other_child c name (record { node = s.next; kind = node.kind })) in
+    unnamed named target.node (node_at named target.node)
 
 -- from a name of one directory to a name of another
 module _ (s : State) (od : ℕ) (on : List ℕ) (nd : ℕ) (nn : List ℕ) where
   -- why RENAME is refused
   abbrev pub rename_refusal : (flags : ℕ) → Option ℕ
   rename_refusal flags =
+      let moved = child_at s od on in
+      let target = child_at s nd nn in
       or_else (directory_refusal (node_at s od) on)
       (or_else (directory_refusal (node_at s nd) nn)
-      (or_else (names_refusal s od nd flags (child_at s od on) (child_at s nd nn))
-      (place_refusal s nd nn flags (child_at s od on) (child_at s nd nn))))
+      (or_else (names_refusal s od nd flags moved target)
+      (or_else (place_refusal s nd nn flags moved target) (whiteout_refusal s flags moved target))))
 
   -- a free name leads to a node that another name led to
   abbrev pub moved_to_free : Child → State
@@ -130,11 +170,34 @@ module _ (s : State) (od : ℕ) (on : List ℕ) (nd : ℕ) (nn : List ℕ) where
       if child.node == target.node then s
       else if flags == 2 then exchanged child target else moved_over child target
 
-  abbrev pub renamed : (flags : ℕ) → State
-  renamed flags = renamed_to flags (child_at s od on) (child_at s nd nn)
+  -- memory is wanted for a free name and a whiteout
+  abbrev pub wants_memory : (flags : ℕ) → Bool
+  wants_memory flags =
+      let target = child_at s nd nn in
+      is_none target || (leaves_whiteout flags && not (same_node (child_at s od on) target))
 
-  -- memory is wanted for a free name alone
+-- the same, by this owner
+module _ (s : State) (uid gid : ℕ) (od : ℕ) (on : List ℕ) (nd : ℕ) (nn : List ℕ) where
+  -- the new name leads to a whiteout, and then each of the two leads where the other did
+  abbrev pub whited_out : Child → (target : Option Child) → State
+  whited_out child target =
+      let node = whiteout s.now uid gid od in
+      exchanged (named_anew s nd nn target node) od on nd nn child
+      (record { node = s.next; kind = node.kind })
+
+  abbrev pub whited_to : (moved target : Option Child) → State
+  whited_to None target = s
+  whited_to (Some child) target =
+      if same_node (Some child) target then s else whited_out child target
+
+  abbrev pub renamed : (flags : ℕ) → State
+  renamed flags =
+      let moved = child_at s od on in
+      let target = child_at s nd nn in
+      if leaves_whiteout flags then whited_to moved target
+      else renamed_to s od on nd nn flags moved target
+
   abbrev pub renames : (flags : ℕ) → Outcome
   renames flags =
-      unless (rename_refusal flags)
-      (Tried (is_none (child_at s nd nn)) (Just Done) (renamed flags))
+      unless (rename_refusal s od on nd nn flags)
+      (Tried (wants_memory s od on nd nn flags) (Just Done) (renamed flags))

@@ -367,7 +367,8 @@ outcome s (Rmdir _ parent name) = at_name s parent name (λ child node.
     unless (first_of ((not (is_directory node.kind), enotdir)
     ∷ (not (length node.children.links == 0), enotempty) ∷ []))
     (done (taken_out s parent name child)))
-outcome s (Rename _ od on nd nn flags) = renames s od on nd nn flags
+outcome s (Rename ctx od on nd nn flags) =
+    renames s ctx.uid (group_in (node_at s od) ctx.gid) od on nd nn flags
 outcome s (Readlink _ n) = with_it (node_at s n) (λ node.
     unless (first_of ((has_no_text node, einval) ∷ [])) (Tried true (Just (Text node.text)) s))
 outcome s (Open ctx n _ flags) = with_it (node_at s n) (λ node.

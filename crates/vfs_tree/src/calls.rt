@@ -180,14 +180,14 @@ impl FileSystem for TreeFs {
 
     fn rename(
         &mut self,
-        _ctx: Context,
+        ctx: Context,
         olddir: u64,
         oldname: CStr<'_>,
         newdir: u64,
         newname: CStr<'_>,
         flags: u32,
     ) -> Result<(), Fault> {
-        self.move_name(olddir, oldname, newdir, newname, flags)
+        self.move_name(ctx, olddir, oldname, newdir, newname, flags)
     }
 
     fn link(

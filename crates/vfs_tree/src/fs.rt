@@ -191,8 +191,8 @@ impl TreeFs {
         Ok(entry)
     }
 
-    // The group and the permission bits of what is made in a directory.
-    fn handed_down(
+    /// The group and the permission bits of what is made in a directory.
+    pub(crate) fn handed_down(
         &self,
         parent: u64,
         gid: GuestGid,
@@ -215,10 +215,10 @@ impl TreeFs {
         }
     }
 
-    // Adds a node under the next number, and a name that leads to it. ENOMEM where there is no memory
-    // for them, and all stays.
+    /// Adds a node under the next number, and a name that leads to it. ENOMEM where there is no memory
+    /// for them, and all stays.
     #[tactic(auto, using(crate::proofs::Nodes::remove_entry_new))]
-    fn add(&mut self, parent: u64, name: CStr<'_>, node: Node) -> Result<(), Fault>
+    pub(crate) fn add(&mut self, parent: u64, name: CStr<'_>, node: Node) -> Result<(), Fault>
         requires directory { IsSome (node_at self.old parent) }
         requires free { child_at self.old parent (name_text name) ≡ None }
         requires place { is_crowded (node_at self.old parent) ≡ false }

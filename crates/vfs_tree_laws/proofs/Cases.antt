@@ -17,7 +17,7 @@ use Rattle.vfs_tree.specs.Children.{with_child, is_directory, is_file}
 use Rattle.vfs_tree.specs.Listing.{items_behind}
 use Rattle.vfs_tree.specs.Node.{weight, left_by, truncates, opened, set_attr, overwritten, kind_by_mode, new_node}
 use Rattle.vfs_tree.specs.Outcome.{TreeReply, Just, EntryOf, AttrOf, Listed, Outcome, Refused, Answered, Tried, Replies, Ends, done, first_of, or_else, unless, with_it, on}
-use Rattle.vfs_tree.specs.Rename.{directory_refusal, rename_refusal, renamed}
+use Rattle.vfs_tree.specs.Rename.{directory_refusal, rename_refusal, renamed, wants_memory}
 use Rattle.vfs_tree.specs.State.{State, node_at, node_named, room_of, with_node, with_resized, with_names, change, child_at}
 use Rattle.vfs_tree.specs.State as tree
 use Rattle.vfs_tree_laws.specs.Laws.{IsShort}
@@ -91,8 +91,9 @@ pub record Covers (old : State) (P : List (ℕ × ℕ) → TreeReply → State �
       → directory_refusal (node_at old parent) name ≡ None → child_at old parent name ≡ Some child
       → node_at old child.node ≡ Some node → length node.children.links ≡ 0
       → P [] (Just Done) (taken_out old parent name child)
-  pub renames : (od : ℕ) (on : List ℕ) (nd : ℕ) (nn : List ℕ) (flags : ℕ)
-      → rename_refusal old od on nd nn flags ≡ None → P [] (Just Done) (renamed old od on nd nn flags)
+  pub renames : (uid gid od : ℕ) (on : List ℕ) (nd : ℕ) (nn : List ℕ) (flags : ℕ)
+      → rename_refusal old od on nd nn flags ≡ None
+      → P [] (Just Done) (renamed old uid gid od on nd nn flags)
 
 -- ---- refusals
 
@@ -585,8 +586,12 @@ module _ (old : State) (P : List (ℕ × ℕ) → TreeReply → State → Type 0
       let call = (Rename c od on nd nn flags) in
       let fails : Fails old call = (refl, λ e. refl) in
       each-unless (Fails old call) (Leaves call) fails (rename_refusal old od on nd nn flags)
-      (Tried (is_none (child_at old nd nn)) (Just Done) (renamed old od on nd nn flags))
-      (λ free. (fails, ((λ a r. refl), q.renames od on nd nn flags free)))
+      (Tried (wants_memory old od on nd nn flags) (Just Done)
+      (renamed old c.uid (group_in (node_at old od) c.gid) od on nd nn flags))
+      (λ free. (
+        fails,
+        ((λ a r. refl), q.renames c.uid (group_in (node_at old od) c.gid) od on nd nn flags free),
+      ))
   covered (Readlink c n) =
       let call = (Readlink c n) in
       let fails : Fails old call = (refl, λ e. refl) in

@@ -2,9 +2,9 @@
 use Rattle.std.proofs.Common.{◌≡◌, ◌≢◌, ◌+◌, ◌-◌, ◌<◌, ◌≤◌, min, ℕ, true, false, List, [], find, Option, Some, None, option_map, refl, sym, ap, ◌∙◌, subst, arith}
 use Rattle.std.proofs.lemmas.Bool.{both_ways, false≢true}
 use Rattle.std.proofs.lemmas.Option.{none-some, same_Some}
-use Rattle.vfs_tree.specs.Children.{Link, Children, is_directory, is_named, child_named, with_child, without_child}
+use Rattle.vfs_tree.specs.Children.{Link, Children, is_directory, is_named, child_named, with_child, without_child, with_other_child}
 use Rattle.vfs_tree_laws.specs.Laws.{names_in, names_to, names_of, IsSound, IsLinked}
-use Rattle.vfs_tree.specs.Rename.{parent_of}
+use Rattle.vfs_tree.specs.Rename.{parent_of, named_anew}
 use Rattle.vfs_tree.specs.State.{State, node_at, with_node, with_new, changed, change, with_names, unnamed}
 use Rattle.vfs_tree.specs.Tree.{made, linked, taken_out}
 use Rattle.vfs_nodes.specs.declared.children.Child.{Child}
@@ -16,7 +16,7 @@ use Rattle.vfs_tree_laws.proofs.Keeping.{keeps-with_names}
 use Rattle.vfs_tree_laws.proofs.NamesIn.{one, one_same, one_other, Apart, names_in-found}
 use Rattle.vfs_tree.proofs.Nodes.{node_at-with_new, node_at-with_new_other}
 use Rattle.vfs_tree_laws.proofs.Shapes.{Shape, Fits, AllFit, Good, kind_new, kind_new_other, good-with_new, Counted, Home, linked_from, good_from, counted_from, home_from}
-use Rattle.vfs_tree_laws.proofs.Steps.{Step, found_link, none_lost, step-with_child, step-without_child, step_home, linked_counted, linked-recounted, linked-with_node, linked-settled}
+use Rattle.vfs_tree_laws.proofs.Steps.{Step, found_link, none_lost, step-with_child, step-without_child, step-with_other_child, step_home, linked_counted, linked-recounted, linked-with_node, linked-settled}
 use Rattle.vfs_tree_laws.proofs.Tables.{links_in, names_at, kind_in, kind_at, is_dir, names_at_most, names_at_both, names_to-with_new, free_number}
 
 -- ---- what is found
@@ -88,13 +88,22 @@ arrived_home s node m p lies few some dir d apart =
     let both = names_at_both s d p node m (λ e. apart (e ∙ sym lies)) in
     omega (arith, both, few dir, some)
 
--- ---- MKDIR and the like
+-- the shape of a node without names that has one name less
+pub shape_empty : (kind : Kind) (names : ℕ) (links : List (ℕ × Link)) → links ≡ []
+    → Shape kind names links → Shape kind (names - 1) links
+shape_empty kind names links empty old = record {
+  apart = old.apart;
+  files = old.files;
+  nameless = λ zero. empty;
+  single = λ dir. let few = old.single dir in omega (arith, few);
+}
 
-module _ (s : State) (sound : IsSound s) (linked : IsLinked s) (parent : ℕ) (name : List ℕ)
+-- ---- a node that is new
+
+module _ (s : State) (sound : IsSound s) (linked : IsLinked s) (parent : ℕ)
     (node above : Node) (is : node_at s parent ≡ Some above)
-    (dir : is_directory above.kind ≡ true) (named : above.names ≡ 0 → ⊥)
-    (free : child_named above.children name ≡ None)
-    (first : node.names ≡ 1) (empty : node.children.links ≡ []) (lies : node.parent ≡ parent) where
+    (first : node.names ≡ 1) (empty : node.children.links ≡ [])
+    (lies : is_directory node.kind ≡ true → node.parent ≡ parent) where
   abbrev mid : State
   mid = with_new s node
 
@@ -135,11 +144,6 @@ module _ (s : State) (sound : IsSound s) (linked : IsLinked s) (parent : ℕ) (n
   abbrev child_made : Child
   child_made = record { node = s.next; kind = node.kind }
 
-  step_made : Step mid (made s parent name node) parent none_lost (one s.next)
-  step_made =
-      step-with_child mid parent above (node_at-with_new_other s parent node parent_there ∙ is)
-      good_mid name child_made dir named free (kind_new s node sound)
-
   same_to : (m : ℕ) → names_to mid m ≡ names_to s m
   same_to m =
       let sum = names_to-with_new s node sound m in
@@ -154,61 +158,121 @@ module _ (s : State) (sound : IsSound s) (linked : IsLinked s) (parent : ℕ) (n
       ∙ sym (ap (λ o. names_in m (links_in o)) free_next)))
       (λ apart. ap (λ o. names_in m (links_in o)) (node_at-with_new_other s e node apart))
 
-  counted_made : Counted (made s parent name node)
-  counted_made m =
-      at s.next m
-      (names_of (node_at (made s parent name node) m)
-      ≡ names_to (made s parent name node) m + one m 1)
-      (λ e. subst (λ j. names_of (node_at (made s parent name node) j)
-      ≡ names_to (made s parent name node) j + one j 1) e
-      (let now = ap names_of (node_at-with_new s s.next node) in
-      let root = one_other s.next 1 (λ e. root_there (sym e)) in
-      omega (
-        arith,
-        step_made.names s.next,
-        now,
-        first,
-        root,
-        step_made.to s.next,
-        one_same s.next s.next refl,
-        same_to s.next,
-        next_none,
-      )))
-      (λ apart.
-      let as_was = ap names_of (node_at-with_new_other s m node apart) in
-      omega (
-        arith,
-        step_made.names m,
-        as_was,
-        step_made.to m,
-        one_other s.next m (λ e. apart (sym e)),
-        same_to m,
-        counted m,
-      ))
+  -- a name of the directory leads to it, which led nowhere or elsewhere
+  module _ (new : State) (lost : ℕ → ℕ) (step : Step mid new parent lost (one s.next))
+      (none_here : lost s.next ≡ 0) where
+    counted_new : (m : ℕ) → names_of (node_at new m) ≡ names_to new m + lost m + one m 1
+    counted_new m =
+        at s.next m (names_of (node_at new m) ≡ names_to new m + lost m + one m 1)
+        (λ e. subst (λ j. names_of (node_at new j) ≡ names_to new j + lost j + one j 1) e
+        (let now = ap names_of (node_at-with_new s s.next node) in
+        let root = one_other s.next 1 (λ e. root_there (sym e)) in
+        omega (
+          arith,
+          step.names s.next,
+          now,
+          first,
+          root,
+          none_here,
+          step.to s.next,
+          one_same s.next s.next refl,
+          same_to s.next,
+          next_none,
+        )))
+        (λ apart.
+        let as_was = ap names_of (node_at-with_new_other s m node apart) in
+        omega (
+          arith,
+          step.names m,
+          as_was,
+          step.to m,
+          one_other s.next m (λ e. apart (sym e)),
+          same_to m,
+          counted m,
+        ))
 
-  home_made : (c : ℕ) → Home (made s parent name node) c
-  home_made c =
-      at s.next c (Home (made s parent name node) c)
-      (λ e. subst (Home (made s parent name node)) e
-      (λ dir d apart.
-      let other : d ≢ parent = λ same. apart (same ∙ sym (step_made.parents s.next
-      ∙ ap parent_of (node_at-with_new s s.next node) ∙ lies)) in
-      let still = ap (λ o. names_in s.next (links_in o)) (step_made.nodes d other) in
-      omega (arith, still, same_each d s.next, names_at_most s d node s.next, next_none)))
-      (λ apart.
-      step_home mid (made s parent name node) parent none_lost (one s.next) step_made c
-      (one_other s.next c (λ e. apart (sym e)))
-      (λ dir d other.
-      same_each d c
-      ∙ home_from s linked c (sym (ap is_dir (kind_new_other s node sound c apart)) ∙ dir) d
-      (λ same. other (same ∙ sym (ap parent_of (node_at-with_new_other s c node apart))))))
+    home_new : (c : ℕ) → Home new c
+    home_new c =
+        at s.next c (Home new c)
+        (λ e. subst (Home new) e
+        (λ dir d apart.
+        let is_one = sym (ap is_dir (step.kinds s.next ∙ kind_new s node sound)) ∙ dir in
+        let other : d ≢ parent = λ same. apart (same ∙ sym (step.parents s.next
+        ∙ ap parent_of (node_at-with_new s s.next node) ∙ lies is_one)) in
+        let still = ap (λ o. names_in s.next (links_in o)) (step.nodes d other) in
+        omega (arith, still, same_each d s.next, names_at_most s d node s.next, next_none)))
+        (λ apart.
+        step_home mid new parent lost (one s.next) step c
+        (one_other s.next c (λ e. apart (sym e)))
+        (λ dir d other.
+        same_each d c
+        ∙ home_from s linked c (sym (ap is_dir (kind_new_other s node sound c apart)) ∙ dir) d
+        (λ same. other (same ∙ sym (ap parent_of (node_at-with_new_other s c node apart))))))
 
-  pub linked-made : IsLinked (made s parent name node)
-  linked-made =
-      linked_from (made s parent name node) step_made.good
-      (step_made.parents 1
-      ∙ ap parent_of (node_at-with_new_other s 1 node root_there) ∙ linked.top)
-      counted_made home_made
+    top_new : parent_of (node_at new 1) ≡ 1
+    top_new =
+        step.parents 1 ∙ ap parent_of (node_at-with_new_other s 1 node root_there) ∙ linked.top
+
+  module _ (name : List ℕ) where
+    -- MKDIR and the like
+    module _ (dir : is_directory above.kind ≡ true) (named : above.names ≡ 0 → ⊥)
+        (free : child_named above.children name ≡ None) where
+      step_made : Step mid (made s parent name node) parent none_lost (one s.next)
+      step_made =
+          step-with_child mid parent above (node_at-with_new_other s parent node parent_there ∙ is)
+          good_mid name child_made dir named free (kind_new s node sound)
+
+      pub linked-made : IsLinked (made s parent name node)
+      linked-made =
+          let new = made s parent name node in
+          linked_from new step_made.good (top_new new none_lost step_made refl)
+          (λ m. omega (arith, counted_new new none_lost step_made refl m))
+          (home_new new none_lost step_made refl)
+
+    -- a whiteout in place of another node
+    module _ (target : Child) (found : child_named above.children name ≡ Some target) (old : Node)
+        (is_old : node_at s target.node ≡ Some old) (bare : old.children.links ≡ []) where
+      abbrev put : State
+      put = with_names mid parent (λ c. with_other_child c name child_made)
+
+      step_put : Step mid put parent (one target.node) (one s.next)
+      step_put =
+          step-with_other_child mid parent above
+          (node_at-with_new_other s parent node parent_there ∙ is)
+          good_mid name child_made target found (kind_new s node sound)
+
+      target_there : target.node ≢ s.next
+      target_there e = none-some old (sym free_next ∙ ap (node_at s) (sym e) ∙ is_old)
+
+      target_below : target.node ≢ parent
+      target_below e =
+          let same = same_Some old above (sym is_old ∙ ap (node_at s) e ∙ is) in
+          empty_finds above.children name target
+          (ap (λ (x : Node). x.children.links) (sym same) ∙ bare) found
+
+      is_put : node_at put target.node ≡ Some old
+      is_put =
+          step_put.nodes target.node target_below
+          ∙ node_at-with_new_other s target.node node target_there ∙ is_old
+
+      abbrev old_left : Node
+      old_left = record old { names = old.names - 1; ctime = put.now }
+
+      pub linked-put : IsSound mid → IsLinked (named_anew s parent name (Some target) node)
+      linked-put there =
+          let none = one_other target.node s.next target_there in
+          let names = ap names_of is_put in
+          let t = target.node in
+          let sums = counted_new put (one target.node) step_put none in
+          subst IsLinked (sym (ap (unnamed put target.node) is_put))
+          (linked-recounted put t old_left (put.inodes - min (old.names - 1) 1)
+          (linked-settled put t old old_left is_put refl refl refl step_put.good
+          (top_new put (one target.node) step_put none)
+          (shape_empty old.kind old.names old.children.links bare (good.nodes t old is_old).shape)
+          (omega (arith, names, sums t, one_same t t refl))
+          (λ m apart. omega (arith, sums m, one_other t m (λ e. apart (sym e))))
+          (home_new put (one target.node) step_put none)
+          (keeps-with_names mid parent (λ c. with_other_child c name child_made) there).sound))
 
 -- ---- LINK
 
@@ -278,16 +342,6 @@ module _ (s : State) (linked_s : IsLinked s) (n : ℕ) (node : Node)
       (one_other n c (λ e. apart (sym e))) (home_from s linked_s c)))))
 
 -- ---- UNLINK, RMDIR
-
--- the shape of a node without names that has one name less
-pub shape_empty : (kind : Kind) (names : ℕ) (links : List (ℕ × Link)) → links ≡ []
-    → Shape kind names links → Shape kind (names - 1) links
-shape_empty kind names links empty old = record {
-  apart = old.apart;
-  files = old.files;
-  nameless = λ zero. empty;
-  single = λ dir. let few = old.single dir in omega (arith, few);
-}
 
 module _ (s : State) (sound : IsSound s) (linked_s : IsLinked s) (parent : ℕ) (name : List ℕ)
     (child : Child) (above : Node) (is : node_at s parent ≡ Some above)

@@ -2,13 +2,13 @@
 use Rattle.std.proofs.Common.{◌≡◌, ◌≢◌, ◌<◌, ◌-◌, ◌==◌, min, ℕ, Bool, true, false, List, Option, Some, None, IsSome, IfSome, is_some, refl, sym, ap, subst, ◌∙◌, arith, if◌then◌else◌}
 use Rattle.vfs_tree.specs.Children.{Children, with_child, without_child, with_other_child}
 use Rattle.vfs_tree_laws.specs.Laws.{lookups_in, lookups_of, IsHeld, IsSound}
-use Rattle.vfs_tree.specs.Rename.{moved_into, moved_to_free, moved_over, exchanged, renamed, renamed_to}
-use Rattle.vfs_tree.specs.State.{State, node_at, with_node, with_resized, changed, change, with_names, unnamed, child_at}
+use Rattle.vfs_tree.specs.Rename.{same_node, leaves_whiteout, moved_into, moved_to_free, moved_over, exchanged, named_anew, whiteout, whited_out, whited_to, renamed, renamed_to}
+use Rattle.vfs_tree.specs.State.{State, node_at, with_node, with_new, with_resized, changed, change, with_names, unnamed, child_at}
 use Rattle.vfs_tree.specs.Tree.{taken_out}
 use Rattle.vfs_nodes.specs.declared.children.Child.{Child}
 use Rattle.vfs_nodes.specs.declared.node.Node.{Node}
 use Rattle.vfs_tree.proofs.Nodes.{node_at-with_node, node_at-with_node_other}
-use Rattle.vfs_tree_laws.proofs.Held.{at, lookups_here, lookups_other, sound_counted, sound-with_node, settles}
+use Rattle.vfs_tree_laws.proofs.Held.{at, lookups_here, lookups_other, none_yet, lookups_new, lookups_new_other, sound_counted, sound-with_node, sound-with_new, settles}
 
 pub record Keeps (old new : State) : Type 0 where
   pub sound : IsSound new
@@ -119,6 +119,31 @@ keeps-taken_out s parent name child sound =
     (keeps-with_names s parent _ sound)
     (keeps-unnamed rest child.node (node_at rest child.node) refl)
 
+-- ---- a new node that a name leads to, and of which no lookup is held
+
+module _ (s : State) (node : Node) (one : node.names ≡ 1) (unheld : node.lookups ≡ 0)
+    (sound : IsSound s) where
+  keeps-with_new : Keeps s (with_new s node)
+  keeps-with_new = record {
+    sound = sound-with_new s node sound (λ zero. omega (arith, one, zero));
+    lookups = λ m. at s.next m (lookups_of (with_new s node) m ≡ lookups_of s m)
+        (λ e. subst (λ k. lookups_of (with_new s node) k ≡ lookups_of s k) e
+        (lookups_new s node sound ∙ unheld ∙ sym (none_yet s node sound)))
+        (lookups_new_other s node sound m);
+  }
+
+  pub keeps-named_anew : (d : ℕ) (name : List ℕ) (target : Option Child)
+      → Keeps s (named_anew s d name target node)
+  keeps-named_anew d name None =
+      keeps_both s (with_new s node) (named_anew s d name None node) keeps-with_new
+      (keeps-with_names (with_new s node) d _)
+  keeps-named_anew d name (Some target) =
+      let new : Child = record { node = s.next; kind = node.kind } in
+      let named = with_names (with_new s node) d (λ c. with_other_child c name new) in
+      keeps_both s named (named_anew s d name (Some target) node)
+      (keeps_both s (with_new s node) named keeps-with_new (keeps-with_names (with_new s node) d _))
+      (keeps-unnamed named target.node (node_at named target.node) refl)
+
 -- ---- RENAME
 
 module _ (s : State) (od : ℕ) (on : List ℕ) (nd : ℕ) (nn : List ℕ) (sound : IsSound s) where
@@ -167,5 +192,33 @@ module _ (s : State) (od : ℕ) (on : List ℕ) (nd : ℕ) (nn : List ℕ) (soun
       by false true = keeps_exchange child target
       by false false = keeps_over child target
 
-  pub keeps-renamed : (flags : ℕ) → Keeps s (renamed s od on nd nn flags)
-  keeps-renamed flags = keeps-renamed_to flags (child_at s od on) (child_at s nd nn)
+module _ (s : State) (od : ℕ) (on : List ℕ) (nd : ℕ) (nn : List ℕ) (sound : IsSound s)
+    (uid gid : ℕ) where
+  keeps_whited : (child : Child) (target : Option Child)
+      → Keeps s (whited_out s uid gid od on nd nn child target)
+  keeps_whited child target =
+      let node = whiteout s.now uid gid od in
+      let mid = named_anew s nd nn target node in
+      keeps_both s mid (whited_out s uid gid od on nd nn child target)
+      (keeps-named_anew s node refl refl sound nd nn target)
+      (λ there. keeps_exchange mid od on nd nn there child
+      (record { node = s.next; kind = node.kind }))
+
+  keeps-whited_to : (moved target : Option Child)
+      → Keeps s (whited_to s uid gid od on nd nn moved target)
+  keeps-whited_to None target = keeps_itself s sound
+  keeps-whited_to (Some child) target = by (same_node (Some child) target)
+    where
+      by : (same : Bool)
+          → Keeps s (if same then s else whited_out s uid gid od on nd nn child target)
+      by true = keeps_itself s sound
+      by false = keeps_whited child target
+
+  pub keeps-renamed : (flags : ℕ) → Keeps s (renamed s uid gid od on nd nn flags)
+  keeps-renamed flags = by (leaves_whiteout flags)
+    where
+      by : (leaves : Bool)
+          → Keeps s (if leaves then whited_to s uid gid od on nd nn (child_at s od on) (child_at s nd nn)
+          else renamed_to s od on nd nn flags (child_at s od on) (child_at s nd nn))
+      by true = keeps-whited_to (child_at s od on) (child_at s nd nn)
+      by false = keeps-renamed_to s od on nd nn sound flags (child_at s od on) (child_at s nd nn)

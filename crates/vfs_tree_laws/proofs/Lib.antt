@@ -21,4 +21,5 @@ mod Steps
 mod Tables
 mod Telling
 mod WayUp
+mod Whiteouts
 mod Within

@@ -1,10 +1,10 @@
 -- Calls keep links: as many names lead to a node as it says, and each to one that is there.
-use Rattle.std.proofs.Common.{◌≡◌, ◌+◌, ◌-◌, ◌==◌, ◌||◌, if◌then◌else◌, ℕ, Bool, true, false, List, [], ◌∷◌, length, Option, Some, None, refl, sym, ap, ◌∙◌, subst, arith}
-use Rattle.std.proofs.lemmas.Bool.{eqb-false, or_from}
+use Rattle.std.proofs.Common.{◌≡◌, ◌+◌, ◌-◌, ◌==◌, ◌||◌, if◌then◌else◌, ℕ, Bool, true, false, List, [], ◌∷◌, length, Option, Some, None, refl, sym, ap, ◌∙◌, subst, ⊎_elim, arith}
+use Rattle.std.proofs.lemmas.Bool.{cases_Bool, eqb-true, eqb-false, false≢true, or_from}
 use Rattle.vfs_tree.specs.Children.{Children, is_directory, child_named, with_child}
 use Rattle.vfs_tree.specs.Node.{new_node}
 use Rattle.vfs_tree_laws.specs.Laws.{names_of, IsSound, IsLinked, CallsKeepLinks}
-use Rattle.vfs_tree.specs.Rename.{directory_refusal, place_refusal, replace_refusal, same_node, renamed, renamed_to, moved_over, exchanged}
+use Rattle.vfs_tree.specs.Rename.{directory_refusal, place_refusal, replace_refusal, same_node, leaves_whiteout, renamed, renamed_to, moved_over, exchanged, named_anew, whiteout, whited_out, whited_to}
 use Rattle.vfs_tree.specs.State.{State, node_at, with_node, with_resized, with_names, change, child_at, child_of}
 use Rattle.vfs_tree.specs.Tree.{made, linked, forgotten, all_forgotten, make_refusal, link_refusal, taken_out}
 use Rattle.vfs_nodes.specs.declared.children.Child.{Child}
@@ -17,6 +17,7 @@ use Rattle.vfs_tree_laws.proofs.Refused.{directory_there, has_names, make_takes,
 use Rattle.vfs_tree_laws.proofs.Renaming.{linked-moved_to_free, linked-moved_over, linked-exchanged}
 use Rattle.vfs_tree_laws.proofs.Shapes.{Shape, good_from, counted_from, home_from, linked_from}
 use Rattle.vfs_tree_laws.proofs.Steps.{linked-with_node, linked-settled}
+use Rattle.vfs_tree_laws.proofs.Whiteouts.{Ready, ready_free, ready_over, linked-ready}
 
 -- ---- changes of one node that leave its names
 
@@ -84,6 +85,14 @@ forgets_all s (r ∷ rs) both =
     forgets_all (forgotten s r.0 r.1 (node_at s r.0)) rs
     (forgets s r.0 r.1 (node_at s r.0) refl both)
 
+-- names that are exchanged leave no whiteout
+no_exchange : (flags : ℕ) → leaves_whiteout flags ≡ true → (flags == 2) ≡ false
+no_exchange flags leaves =
+    ⊎_elim
+    (λ two. absurd (false≢true (sym (ap leaves_whiteout (eqb-true flags 2 two)) ∙ leaves)))
+    (λ not. not)
+    (cases_Bool (flags == 2))
+
 -- ---- calls that change names
 
 module _ (old : State) (sound : IsSound old) (linked_old : IsLinked old) where
@@ -92,9 +101,9 @@ module _ (old : State) (sound : IsSound old) (linked_old : IsLinked old) where
       → IsLinked (made old parent name (new_node old.now uid gid kind permissions parent text))
   makes uid gid kind permissions parent name text free =
       let t = make_takes old parent name (length text) free in
-      linked-made old sound linked_old parent name
-      (new_node old.now uid gid kind permissions parent text) t.above t.is t.dir t.named t.free refl
-      refl refl
+      linked-made old sound linked_old parent
+      (new_node old.now uid gid kind permissions parent text) t.above t.is refl refl (λ dir. refl)
+      name t.dir t.named t.free
 
   links : (n : ℕ) (node : Node) (parent : ℕ) (name : List ℕ) → node_at old n ≡ Some node
       → link_refusal old parent name node ≡ None
@@ -156,6 +165,24 @@ module _ (old : State) (sound : IsSound old) (linked_old : IsLinked old) where
           target found_target (eqb-false child.node target.node same) old_target.0 old_target.1
           (empty same two)
 
+    -- a whiteout takes the new name first
+    readies : (uid gid : ℕ) (child : Child) (target : Option Child)
+        → child_named from.children on ≡ Some child → child_named into.children nn ≡ target
+        → is_directory into.kind ≡ true → (into.names ≡ 0 → ⊥)
+        → same_node (Some child) target ≡ false → (flags == 2) ≡ false
+        → place_refusal old nd nn flags (Some child) target ≡ None
+        → let node = whiteout old.now uid gid od in
+        Ready (named_anew old nd nn target node) od on nd nn child
+        (record { node = old.next; kind = node.kind })
+    readies uid gid child None found at dir named same two place =
+        ready_free old sound linked_old od on nd nn child from into is_from is_into found uid gid
+        dir named at
+    readies uid gid child (Some target) found at dir named same two place =
+        let it = old_target child target found at place in
+        ready_over old sound linked_old od on nd nn child from into is_from is_into found uid gid
+        target at (eqb-false child.node target.node same) it.0 it.1
+        (empty child target found at place same two)
+
     renames_to : (moved target : Option Child) → child_at old od on ≡ moved
         → child_at old nd nn ≡ target → is_directory into.kind ≡ true
         → (into.names ≡ 0 → ⊥) → place_refusal old nd nn flags moved target ≡ None
@@ -170,14 +197,53 @@ module _ (old : State) (sound : IsSound old) (linked_old : IsLinked old) where
         (sym (ap (λ o. child_of o nn) is_into) ∙ at) place (child.node == target.node) refl
         (flags == 2) refl
 
-  renames : (od : ℕ) (on : List ℕ) (nd : ℕ) (nn : List ℕ) (flags : ℕ)
-      → Renames old od on nd nn flags → IsLinked (renamed old od on nd nn flags)
-  renames od on nd nn flags allowed =
-      let from = directory_there (node_at old od) on allowed.from in
-      let into = directory_there (node_at old nd) nn allowed.into in
-      renames_to od on nd nn flags from.0 into.0 from.1 into.1 (child_at old od on)
-      (child_at old nd nn) refl refl into.2
-      (has_names (node_at old nd) into.0 into.1 allowed.named) allowed.place
+  module _ (od : ℕ) (on : List ℕ) (nd : ℕ) (nn : List ℕ) (flags : ℕ)
+      (allowed : Renames old od on nd nn flags) where
+    pub ready : (uid gid : ℕ) (child : Child) (target : Option Child)
+        → child_at old od on ≡ Some child → child_at old nd nn ≡ target
+        → same_node (Some child) target ≡ false → leaves_whiteout flags ≡ true
+        → let node = whiteout old.now uid gid od in
+        Ready (named_anew old nd nn target node) od on nd nn child
+        (record { node = old.next; kind = node.kind })
+    ready uid gid child target is at same leaves =
+        let from = directory_there (node_at old od) on allowed.from in
+        let into = directory_there (node_at old nd) nn allowed.into in
+        readies od on nd nn flags from.0 into.0 from.1 into.1 uid gid child target
+        (sym (ap (λ o. child_of o on) from.1) ∙ is) (sym (ap (λ o. child_of o nn) into.1) ∙ at)
+        into.2 (has_names (node_at old nd) into.0 into.1 allowed.named) same
+        (no_exchange flags leaves)
+        (sym (ap (λ m. place_refusal old nd nn flags m target) is)
+        ∙ sym (ap (place_refusal old nd nn flags (child_at old od on)) at) ∙ allowed.place)
+
+    whites_to : (uid gid : ℕ) (moved target : Option Child) → child_at old od on ≡ moved
+        → child_at old nd nn ≡ target → leaves_whiteout flags ≡ true
+        → IsLinked (whited_to old uid gid od on nd nn moved target)
+    whites_to uid gid None target is at leaves = linked_old
+    whites_to uid gid (Some child) target is at leaves = by (same_node (Some child) target) refl
+      where
+        by : (same : Bool) → same_node (Some child) target ≡ same
+            → IsLinked (if same then old else whited_out old uid gid od on nd nn child target)
+        by true same = linked_old
+        by false same =
+            let node = whiteout old.now uid gid od in
+            linked-ready (named_anew old nd nn target node) od on nd nn child
+            (record { node = old.next; kind = node.kind })
+            (ready uid gid child target is at same leaves)
+
+    renames : (uid gid : ℕ) → IsLinked (renamed old uid gid od on nd nn flags)
+    renames uid gid = by (leaves_whiteout flags) refl
+      where
+        by : (leaves : Bool) → leaves_whiteout flags ≡ leaves
+            → IsLinked (if leaves
+            then whited_to old uid gid od on nd nn (child_at old od on) (child_at old nd nn)
+            else renamed_to old od on nd nn flags (child_at old od on) (child_at old nd nn))
+        by true leaves = whites_to uid gid (child_at old od on) (child_at old nd nn) refl refl leaves
+        by false leaves =
+            let from = directory_there (node_at old od) on allowed.from in
+            let into = directory_there (node_at old nd) nn allowed.into in
+            renames_to od on nd nn flags from.0 into.0 from.1 into.1 (child_at old od on)
+            (child_at old nd nn) refl refl into.2
+            (has_names (node_at old nd) into.0 into.1 allowed.named) allowed.place
 
   resizes : (n : ℕ) (was now : Node) → node_at old n ≡ Some was → Resizes old was now
       → IsLinked (with_resized old n was now)
@@ -209,8 +275,8 @@ module _ (old : State) (sound : IsSound old) (linked_old : IsLinked old) where
         (((good_from old linked_old).nodes child.node node is).shape.files file);
     removes = λ parent name child node there found is empty.
         takes_out parent name child node there found is (none_in node.children.links empty);
-    renames = λ od on nd nn flags free.
-        renames od on nd nn flags (rename_takes old od on nd nn flags free);
+    renames = λ uid gid od on nd nn flags free.
+        renames od on nd nn flags (rename_takes old od on nd nn flags free) uid gid;
   }
 
 pub calls_keep_links : CallsKeepLinks

@@ -28,7 +28,7 @@ covers old = record {
   links = λ n node parent name is free items read. absurd read;
   unlinks = λ parent name child node there found is file items read. absurd read;
   removes = λ parent name child node there found is empty items read. absurd read;
-  renames = λ od on nd nn flags free items read. absurd read;
+  renames = λ uid gid od on nd nn flags free items read. absurd read;
 }
 
 pub readings_change_nothing : ReadingsChangeNothing

@@ -6,7 +6,7 @@ use Rattle.std.proofs.lemmas.Option.{none-some}
 use Rattle.vfs_flags.specs.Numbers.{eperm, enoent, eexist, enotdir, eisdir, enospc, enotempty, einval, eoverflow, enametoolong}
 use Rattle.vfs_tree.specs.Children.{is_directory, child_named}
 use Rattle.vfs_tree.specs.Outcome.{first_of, or_else}
-use Rattle.vfs_tree.specs.Rename.{is_improper, is_directory_at, directory_refusal, is_nameless, is_crowded, is_own_child, replace_refusal, names_refusal, place_refusal, rename_refusal}
+use Rattle.vfs_tree.specs.Rename.{is_improper, is_directory_at, directory_refusal, is_nameless, is_crowded, is_own_child, is_served, keeps_target, replace_refusal, names_refusal, place_refusal, whiteout_refusal, rename_refusal}
 use Rattle.vfs_tree.specs.State.{State, node_at, room_of, child_at, child_of, node_of}
 use Rattle.vfs_tree.specs.Tree.{make_refusal, link_refusal, most_links, emlink}
 use Rattle.vfs_nodes.specs.declared.children.Child.{Child}
@@ -118,10 +118,10 @@ names_take : (s : State) (od nd flags : ℕ) (moved target : Option Child)
     → names_refusal s od nd flags moved target ≡ None → is_nameless (node_at s nd) ≡ false
 names_take s od nd flags moved target free =
     let each = all_false
-    ((nat_lt 2 flags, einval)
+    ((not (is_served flags), einval)
     ∷ (is_none (node_of s moved), enoent)
     ∷ (is_nameless (node_at s nd), enoent)
-    ∷ (flags == 1 && is_some target, eexist)
+    ∷ (keeps_target flags && is_some target, eexist)
     ∷ (flags == 2 && is_none (node_of s target), enoent)
     ∷ (is_own_child s moved nd, einval)
     ∷ (flags == 2 && is_own_child s target od, einval) ∷ []) free in
@@ -134,21 +134,26 @@ pub record Renames
   pub into : directory_refusal (node_at s nd) nn ≡ None
   pub named : is_nameless (node_at s nd) ≡ false
   pub place : place_refusal s nd nn flags (child_at s od on) (child_at s nd nn) ≡ None
+  pub room : whiteout_refusal s flags (child_at s od on) (child_at s nd nn) ≡ None
 
 pub rename_takes : (s : State) (od : ℕ) (on : List ℕ) (nd : ℕ) (nn : List ℕ) (flags : ℕ)
     → rename_refusal s od on nd nn flags ≡ None → Renames s od on nd nn flags
 rename_takes s od on nd nn flags free =
     let moved = child_at s od on in
     let target = child_at s nd nn in
-    let last = place_refusal s nd nn flags moved target in
+    let place = place_refusal s nd nn flags moved target in
+    let room = whiteout_refusal s flags moved target in
+    let last = or_else place room in
     let names = names_refusal s od nd flags moved target in
     let one = or_none (directory_refusal (node_at s od) on)
     (or_else (directory_refusal (node_at s nd) nn) (or_else names last)) free in
     let two = or_none (directory_refusal (node_at s nd) nn) (or_else names last) one.1 in
     let three = or_none names last two.1 in
+    let four = or_none place room three.1 in
     record {
       from = one.0;
       into = two.0;
       named = names_take s od nd flags moved target three.0;
-      place = three.1;
+      place = four.0;
+      room = four.1;
     }

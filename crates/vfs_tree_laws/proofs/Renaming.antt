@@ -42,7 +42,7 @@ module _ (s : State) (nd : ℕ) (f : Children → Children) (d : ℕ) (node : No
         found = stays e;
       }
 
-  found_after : ((e : ℕ) → e ≢ nd → node_at (with_names s nd f) e ≡ node_at s e)
+  pub found_after : ((e : ℕ) → e ≢ nd → node_at (with_names s nd f) e ≡ node_at s e)
       → Finds (with_names s nd f) d name child
   found_after others =
       at nd d (Finds (with_names s nd f) d name child) here_after
@@ -141,7 +141,7 @@ module _ (s : State) (sound : IsSound s) (linked : IsLinked s)
     free_first = step-with_child s nd into is_into good nn child dir named free fits
 
     -- where both directories are one, the new name is free in it
-    free_here : nd ≡ od → find (is_named nn) from.children.links ≡ None
+    pub free_here : nd ≡ od → find (is_named nn) from.children.links ≡ None
     free_here same =
         let one = same_Some into from (sym is_into ∙ ap (node_at s) same ∙ is_from) in
         mapped_none (λ (link : ℕ × Link). link.1.child) (find (is_named nn) from.children.links)
@@ -208,7 +208,7 @@ module _ (s : State) (sound : IsSound s) (linked : IsLinked s)
     over_first = step-with_other_child s nd into is_into good nn child target found_target fits
 
     -- the names differ where the directories are one
-    differ : nd ≡ od → (t : Bool) → bytes_eq on nn ≡ t → bytes_eq on nn ≡ false
+    pub differ : nd ≡ od → (t : Bool) → bytes_eq on nn ≡ t → bytes_eq on nn ≡ false
     differ e false is = is
     differ e true is =
         let one_node = same_Some into from (sym is_into ∙ ap (node_at s) e ∙ is_from) in

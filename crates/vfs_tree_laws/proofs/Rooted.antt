@@ -1,24 +1,27 @@
 -- Calls keep the way up to the root.
 use Rattle.std.proofs.Common.{min, ◌≡◌, ◌≢◌, ◌<◌, ◌+◌, ◌-◌, ◌==◌, ◌&&◌, ◌||◌, ◌^◌, nat_le, nat_lt, not, ℕ, zero, suc, Bool, true, false, List, [], ◌∷◌, length, Option, Some, None, IsSome, is_some, is_none, refl, sym, ap, subst, ◌∙◌, arith, if◌then◌else◌, ◌⊎◌, inl, inr, ⊎_elim}
-use Rattle.std.proofs.lemmas.Bool.{both_ways, not-false, eqb-false, and_cases}
+use Rattle.std.proofs.lemmas.Bool.{both_ways, false≢true, not-false, eqb-false, and_cases}
 use Rattle.std.proofs.lemmas.Option.{none-some, same_Some}
 use Rattle.vfs_flags.specs.Numbers.{eperm, enoent, eexist, enotdir, einval, enospc, eoverflow, enametoolong}
 use Rattle.vfs_tree.specs.Children.{Children, is_directory, with_child, without_child, with_other_child}
 use Rattle.vfs_tree.specs.Node.{new_node}
 use Rattle.vfs_tree_laws.specs.Laws.{IsSound, IsLinked, IsRooted, CallsKeepTheWayUp, above}
 use Rattle.vfs_tree.specs.Outcome.{first_of, or_else}
-use Rattle.vfs_tree.specs.Rename.{is_improper, directory_refusal, is_directory_at, is_nameless, is_crowded, is_below, is_own_child, names_refusal, place_refusal, parent_of, rename_refusal, moved_into, moved_over, exchanged, renamed_to}
-use Rattle.vfs_tree.specs.State.{State, node_at, node_of, count_of, room_of, with_node, with_resized, with_new, without_node, settled, changed, change, with_names, unnamed, child_at}
+use Rattle.vfs_tree.specs.Rename.{is_improper, directory_refusal, is_directory_at, is_nameless, is_crowded, is_below, is_own_child, is_served, keeps_target, leaves_whiteout, same_node, names_refusal, place_refusal, whiteout_refusal, parent_of, rename_refusal, moved_into, moved_over, exchanged, named_anew, whiteout, whited_out, whited_to, renamed, renamed_to}
+use Rattle.vfs_tree.specs.State.{State, node_at, node_of, count_of, room_of, with_node, with_resized, with_new, without_node, settled, changed, change, with_names, unnamed, child_at, child_of}
 use Rattle.vfs_tree.specs.Tree.{emlink, most_links, made, linked, forgotten, all_forgotten, taken_out, make_refusal, link_refusal}
 use Rattle.vfs_nodes.specs.declared.children.Child.{Child}
 use Rattle.vfs_nodes.specs.declared.kind.Kind.{Kind}
 use Rattle.vfs_nodes.specs.declared.node.Node.{Node}
 use Rattle.vfs_tree_laws.proofs.Ascending.{gone-remove_entry, none_from}
 use Rattle.vfs_tree_laws.proofs.Cases.{one_inode_more, Covers, are_not, or_none, calls_covered}
-use Rattle.vfs_tree_laws.proofs.Held.{at, sound_counted, settles}
+use Rattle.vfs_tree_laws.proofs.Held.{at, sound_counted, sound-with_new, settles}
 use Rattle.vfs_tree_laws.proofs.Keeping.{keeps-with_names, keeps-moved_into, there-change}
 use Rattle.vfs_tree.proofs.Nodes.{node_at-with_node, node_at-with_node_other, node_at-without_node_other, node_at-with_new, node_at-with_new_other, kinds_apart}
-use Rattle.vfs_tree_laws.proofs.WayUp.{IsPlaced, Goes, rooted_from, goes_from, placed_from, names_place, name_leads, rooted_ways, goes_still, avoids_from, goes_on}
+use Rattle.vfs_tree_laws.proofs.WayUp.{IsPlaced, Goes, Avoids, rooted_from, goes_from, placed_from, names_place, name_leads, rooted_ways, goes_still, avoids_from, avoids_still, goes_on}
+use Rattle.vfs_tree_laws.proofs.Linked.{ready}
+use Rattle.vfs_tree_laws.proofs.Refused.{Renames, rename_takes}
+use Rattle.vfs_tree_laws.proofs.Whiteouts.{Ready}
 
 -- ---- directories that lie where they lay
 
@@ -254,15 +257,16 @@ grants s od on nd nn flags none =
     let moved = child_at s od on in
     let target = child_at s nd nn in
     let names = names_refusal s od nd flags moved target in
-    let place = place_refusal s nd nn flags moved target in
+    let place = or_else (place_refusal s nd nn flags moved target)
+    (whiteout_refusal s flags moved target) in
     let first = or_none (directory_refusal (node_at s od) on)
     (or_else (directory_refusal (node_at s nd) nn) (or_else names place)) none in
     let second = or_none (directory_refusal (node_at s nd) nn) (or_else names place) first.1 in
     let facts = are_not
-    ((nat_lt 2 flags, einval)
+    ((not (is_served flags), einval)
     ∷ (is_none (node_of s moved), enoent)
     ∷ (is_nameless (node_at s nd), enoent)
-    ∷ (flags == 1 && is_some target, eexist)
+    ∷ (keeps_target flags && is_some target, eexist)
     ∷ (flags == 2 && is_none (node_of s target), enoent)
     ∷ (is_own_child s moved nd, einval)
     ∷ (flags == 2 && is_own_child s target od, einval) ∷ [])
@@ -281,6 +285,11 @@ not_below s child d none there =
     (λ no. absurd (both_ways is_one no (ap is_directory_at there.is ∙ there.directory)))
     (λ not. not)
     (and_cases is_one (is_below s (count_of s) child.node d) none)
+
+own_way : (s : State) (child : Child) (d : ℕ) → is_own_child s (Some child) d ≡ false
+    → IsPlaced s child.node → (j : ℕ) × Avoids s child.node j d
+own_way s child d none there =
+    avoids_from s child.node (count_of s) d (not_below s child d none there)
 
 -- ---- a node that comes to lie in another directory
 
@@ -314,16 +323,15 @@ module _ (s : State) (sound : IsSound s) (linked : IsLinked s) (new : State) (c 
     (placed : IsPlaced s d)
     (turns : (m : ℕ) → IsPlaced s m → m ≢ 1 → m ≢ c
     → (parent_of (node_at new m) ≡ parent_of (node_at s m)) ⊎ (parent_of (node_at s m) ≡ d)) where
-  goes_moved : is_below s (count_of s) c d ≡ false → parent_of (node_at new c) ≡ d → Goes new c
-  goes_moved not_below here =
-      let way = avoids_from s c (count_of s) d not_below in
+  goes_moved : (j : ℕ) × Avoids s c j d → parent_of (node_at new c) ≡ d → Goes new c
+  goes_moved way here =
       let goes = goes_on s new sound linked c d turns (way.0 + 1) way.0 (omega arith) placed way.1 in
       (suc goes.0, ap (above new goes.0) here ∙ goes.1)
 
 module _ (s : State) (od : ℕ) (on : List ℕ) (nd : ℕ) (nn : List ℕ) (sound : IsSound s)
     (linked : IsLinked s) (rooted : IsRooted s) (placed : IsPlaced s nd) (f g : Children → Children)
     (child : Child) (leads : child_at s od on ≡ Some child)
-    (apart : is_own_child s (Some child) nd ≡ false) where
+    (way : IsPlaced s child.node → (j : ℕ) × Avoids s child.node j nd) where
   -- the names are changed
   abbrev renames : State
   renames = with_names (with_names s nd f) od g
@@ -359,7 +367,7 @@ module _ (s : State) (od : ℕ) (on : List ℕ) (nd : ℕ) (nn : List ℕ) (soun
       let goes : IsPlaced s c → Goes once c =
       λ placed_c. goes_moved s sound linked once c nd placed
       (λ m placed_m root apart. inl (other m apart))
-      (not_below s child nd apart placed_c) (moves.here (there c placed_c)) in
+      (way placed_c) (moves.here (there c placed_c)) in
       rooted_ways s once sound linked rooted
       (λ m placed_m. inl (stays.from m (moves.from m placed_m)))
       (λ m placed_m root.
@@ -369,7 +377,8 @@ module _ (s : State) (od : ℕ) (on : List ℕ) (nd : ℕ) (nn : List ℕ) (soun
 
   -- or two are
   module _ (target : Child) (leads_target : child_at s nd nn ≡ Some target)
-      (apart_target : is_own_child s (Some target) od ≡ false) (two : child.node ≢ target.node) where
+      (way_target : IsPlaced s target.node → (j : ℕ) × Avoids s target.node j od)
+      (two : child.node ≢ target.node) where
     abbrev twice : State
     twice = moved_into once target.node od
 
@@ -388,7 +397,7 @@ module _ (s : State) (od : ℕ) (on : List ℕ) (nd : ℕ) (nn : List ℕ) (soun
         (name_leads s linked nd nn target leads_target
         (subst (λ k. IsPlaced s k) (sym e) placed_m))))
         (λ not_t. inl (other m not_c not_t)))
-        (not_below s child nd apart placed_c)
+        (way placed_c)
         (more.other c two ∙ moves.here (there c placed_c)) in
         let goes_t : IsPlaced s t → Goes twice t =
         λ placed_t. goes_moved s sound linked twice t od (names_place s linked od on child leads)
@@ -397,7 +406,7 @@ module _ (s : State) (od : ℕ) (on : List ℕ) (nd : ℕ) (nn : List ℕ) (soun
         (name_leads s linked od on child leads
         (subst (λ k. IsPlaced s k) (sym e) placed_m))))
         (λ not_c. inl (other m not_c not_t)))
-        (not_below s target od apart_target placed_t)
+        (way_target placed_t)
         (more.here (there-change renames c t _ (there t placed_t))) in
         rooted_ways s twice sound linked rooted
         (λ m placed_m. inl (stays.from m (moves.from m (more.from m placed_m))))
@@ -416,7 +425,8 @@ module _ (s : State) (od : ℕ) (on : List ℕ) (nd : ℕ) (nn : List ℕ) (flag
   rooted-renamed_to None target moves_from leads granted = rooted
   rooted-renamed_to (Some child) None moves_from leads granted =
       rooted-once s od on nd nn sound linked rooted granted.placed
-      (λ c. with_child c nn child) (λ c. without_child c on) child moves_from granted.there
+      (λ c. with_child c nn child) (λ c. without_child c on) child moves_from
+      (own_way s child nd granted.there)
   rooted-renamed_to (Some child) (Some target) moves_from leads granted =
       by (child.node == target.node) refl (flags == 2) granted.back
     where
@@ -429,8 +439,8 @@ module _ (s : State) (od : ℕ) (on : List ℕ) (nd : ℕ) (nn : List ℕ) (flag
       by false is true back =
           rooted-twice s od on nd nn sound linked rooted granted.placed
           (λ c. with_other_child c nn child) (λ c. with_other_child c on target)
-          child moves_from granted.there
-          target leads back (eqb-false child.node target.node is)
+          child moves_from (own_way s child nd granted.there)
+          target leads (own_way s target od back) (eqb-false child.node target.node is)
       by false is false back =
           let f : Children → Children = λ c. with_other_child c nn child in
           let g : Children → Children = λ c. without_child c on in
@@ -438,9 +448,9 @@ module _ (s : State) (od : ℕ) (on : List ℕ) (nd : ℕ) (nn : List ℕ) (flag
           rooted-follows mid (moved_over s od on nd nn child target)
           (follows-unnamed mid target.node (node_at mid target.node) refl
           (sound-once s od on nd nn sound linked rooted granted.placed f g
-          child moves_from granted.there))
+          child moves_from (own_way s child nd granted.there)))
           (rooted-once s od on nd nn sound linked rooted granted.placed f g
-          child moves_from granted.there)
+          child moves_from (own_way s child nd granted.there))
 
 -- ---- the calls
 
@@ -478,6 +488,115 @@ module _ (old : State) (sound : IsSound old) (links : IsLinked old) (rooted : Is
           named = there.named;
         })))
         other
+
+  -- a whiteout takes the new name, and then the two names are exchanged
+  module _ (uid gid od : ℕ) (on : List ℕ) (nd : ℕ) (nn : List ℕ) (child : Child)
+      (target : Option Child) (leads : child_at old od on ≡ Some child) (placed : IsPlaced old nd)
+      (apart : is_own_child old (Some child) nd ≡ false) where
+    abbrev white : Node
+    white = whiteout old.now uid gid od
+
+    abbrev fresh : Child
+    fresh = record { node = old.next; kind = white.kind }
+
+    abbrev whitened : State
+    whitened = named_anew old nd nn target white
+
+    follows_by : (t : Option Child) → Follows (with_new old white) (named_anew old nd nn t white)
+    follows_by None =
+        follows_stays (with_new old white) (named_anew old nd nn None white)
+        (stays-with_names (with_new old white) nd _)
+    follows_by (Some t) =
+        let f : Children → Children = λ c. with_other_child c nn fresh in
+        let mid = with_new old white in
+        let named = with_names mid nd f in
+        follows_both mid named (named_anew old nd nn (Some t) white)
+        (follows_stays mid named (stays-with_names mid nd _))
+        (follows-unnamed named t.node (node_at named t.node) refl
+        (keeps-with_names mid nd f (sound-with_new old white sound (λ zero. cc zero))).sound)
+
+    follows_new : Follows (with_new old white) whitened
+    follows_new = follows_by target
+
+    -- a device is no directory
+    none_placed : IsPlaced whitened old.next → ⊥
+    none_placed there =
+        let facts = placed_at (with_new old white) old.next white
+        (node_at-with_new old old.next white) (follows_new.from old.next there) in
+        false≢true facts.0
+
+    from_old : (m : ℕ) → IsPlaced whitened m → IsPlaced old m
+    from_old m there =
+        let was = follows_new.from m there in
+        at old.next m (IsPlaced old m)
+        (λ e. absurd (none_placed (subst (λ k. IsPlaced whitened k) (sym e) there)))
+        (λ other. record {
+          node = was.node;
+          is = sym (node_at-with_new_other old m white other) ∙ was.is;
+          directory = was.directory;
+          named = was.named;
+        })
+
+    parents_old : (m : ℕ) → IsPlaced old m
+        → (parent_of (node_at whitened m) ≡ parent_of (node_at old m))
+        ⊎ (parent_of (node_at whitened m) ≡ 1)
+    parents_old m there =
+        let same = ap parent_of (node_at-with_new_other old m white
+        (λ e. none-some there.node
+        (sym (none_from 1 old.next old.next old.nodes sound.ordered (omega arith))
+        ∙ ap (node_at old) (sym e) ∙ there.is))) in
+        ⊎_elim (λ stays. inl (stays ∙ same)) (λ root. inr root) (follows_new.parents m)
+
+    rooted-whitened : IsRooted whitened
+    rooted-whitened =
+        rooted-follows (with_new old white) whitened follows_new
+        (rooted-with_new white (names_place old links od on child leads))
+
+    rooted-whited_out : Ready whitened od on nd nn child fresh
+        → IsRooted (whited_out old uid gid od on nd nn child target)
+    rooted-whited_out r =
+        let into : child_at whitened nd nn ≡ Some fresh =
+        ap (λ o. child_of o nn) r.into.is ∙ r.into.found in
+        let from : child_at whitened od on ≡ Some child =
+        ap (λ o. child_of o on) r.from.is ∙ r.from.found in
+        rooted-twice whitened od on nd nn r.sound r.linked rooted-whitened
+        (names_place whitened r.linked nd nn fresh into)
+        (λ c. with_other_child c nn child) (λ c. with_other_child c on fresh) child from
+        (λ there.
+        let way = own_way old child nd apart (from_old child.node there) in
+        avoids_still old whitened sound links child.node parents_old way.0 nd placed way.1)
+        fresh into (λ there. absurd (none_placed there)) r.apart
+
+  module _ (uid gid od : ℕ) (on : List ℕ) (nd : ℕ) (nn : List ℕ) (flags : ℕ)
+      (allowed : Renames old od on nd nn flags) where
+    rooted-whited_to : (moved target : Option Child) → child_at old od on ≡ moved
+        → child_at old nd nn ≡ target → leaves_whiteout flags ≡ true
+        → Grants old od nd flags moved target
+        → IsRooted (whited_to old uid gid od on nd nn moved target)
+    rooted-whited_to None target is at_new leaves granted = rooted
+    rooted-whited_to (Some child) target is at_new leaves granted =
+        by (same_node (Some child) target) refl
+      where
+        by : (same : Bool) → same_node (Some child) target ≡ same
+            → IsRooted (if same then old else whited_out old uid gid od on nd nn child target)
+        by true same = rooted
+        by false same =
+            rooted-whited_out uid gid od on nd nn child target is granted.placed granted.there
+            (ready old sound links od on nd nn flags allowed uid gid child target is at_new same leaves)
+
+    rooted-renamed : Grants old od nd flags (child_at old od on) (child_at old nd nn)
+        → IsRooted (renamed old uid gid od on nd nn flags)
+    rooted-renamed granted = by (leaves_whiteout flags) refl
+      where
+        by : (leaves : Bool) → leaves_whiteout flags ≡ leaves
+            → IsRooted (if leaves
+            then whited_to old uid gid od on nd nn (child_at old od on) (child_at old nd nn)
+            else renamed_to old od on nd nn flags (child_at old od on) (child_at old nd nn))
+        by true leaves =
+            rooted-whited_to (child_at old od on) (child_at old nd nn) refl refl leaves granted
+        by false leaves =
+            rooted-renamed_to old od on nd nn flags sound links rooted
+            (child_at old od on) (child_at old nd nn) refl refl granted
 
   makes : (uid gid : ℕ) (kind : Kind) (permissions parent : ℕ) (name text : List ℕ)
       → make_refusal old parent name (length text) ≡ None
@@ -551,9 +670,9 @@ module _ (old : State) (sound : IsSound old) (links : IsLinked old) (rooted : Is
         after _ (follows-taken_out old parent name child sound);
     removes = λ parent name child node there found is empty.
         after _ (follows-taken_out old parent name child sound);
-    renames = λ od on nd nn flags none.
-        rooted-renamed_to old od on nd nn flags sound links rooted
-        (child_at old od on) (child_at old nd nn) refl refl (grants old od on nd nn flags none);
+    renames = λ uid gid od on nd nn flags none.
+        rooted-renamed uid gid od on nd nn flags (rename_takes old od on nd nn flags none)
+        (grants old od on nd nn flags none);
   }
 
 pub calls_keep_the_way_up : CallsKeepTheWayUp

@@ -201,8 +201,8 @@ covers old sound = record {
       quiet old _ (keeps-taken_out old parent name child sound);
   removes = λ parent name child node there found is empty.
       quiet old _ (keeps-taken_out old parent name child sound);
-  renames = λ od on nd nn flags none.
-      quiet old _ (keeps-renamed old od on nd nn sound flags);
+  renames = λ uid gid od on nd nn flags none.
+      quiet old _ (keeps-renamed old od on nd nn sound uid gid flags);
 }
 
 -- the lookups that a sound state holds of a node are those in its list

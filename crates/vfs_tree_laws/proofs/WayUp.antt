@@ -265,6 +265,21 @@ avoids_from s c (suc k) n not_below =
     (suc way.0, (eqb-false n c parts.0, way.1)))
     (and_cases (not (n == 1)) (is_below s k c (parent_of (node_at s n))) parts.1)
 
+-- such a way is there still, or a shorter one, where each directory lies where it lay or in the root
+module _ (s new : State) (sound : IsSound s) (linked : IsLinked s) (c : ℕ)
+    (parents : (m : ℕ) → IsPlaced s m
+    → (parent_of (node_at new m) ≡ parent_of (node_at s m)) ⊎ (parent_of (node_at new m) ≡ 1)) where
+  pub avoids_still : (k n : ℕ) → IsPlaced s n → Avoids s c k n → (j : ℕ) × Avoids new c j n
+  avoids_still zero n there way = (0, way)
+  avoids_still (suc k) n there way =
+      at 1 n ((j : ℕ) × Avoids new c j n) (λ is. (0, sym is))
+      (λ apart. ⊎_elim
+      (λ same.
+      let rest = avoids_still k (parent_of (node_at s n)) (up s linked sound n there apart) way.1 in
+      (suc rest.0, (way.0, subst (λ m. Avoids new c rest.0 m) (sym same) rest.1)))
+      (λ root. (1, (way.0, root)))
+      (parents n there))
+
 -- A way from a directory that avoids a node goes on, where all the others that it meets lie where they
 -- lay, but for those that lay in this very directory: a way that meets one of these has a shorter one.
 module _ (s new : State) (sound : IsSound s) (linked : IsLinked s) (c d : ℕ)

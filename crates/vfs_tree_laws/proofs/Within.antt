@@ -1,5 +1,5 @@
 -- Calls keep a state within its limits, which stay.
-use Rattle.std.proofs.Common.{◌≡◌, ◌≢◌, ◌≤◌, ◌<◌, ◌+◌, ◌-◌, ◌==◌, ◌&&◌, ◌||◌, nat_lt, nat_le, min, ℕ, Bool, true, false, cond, List, [], ◌∷◌, length, Option, Some, None, is_some, nat_cmp, Ordering, Less, Equal, Greater, option_map, refl, sym, ap, ◌∙◌, subst, arith, if◌then◌else◌, ◌^◌}
+use Rattle.std.proofs.Common.{◌≡◌, ◌≢◌, ◌≤◌, ◌<◌, ◌+◌, ◌-◌, ◌==◌, ◌&&◌, ◌||◌, not, nat_lt, nat_le, min, ℕ, Bool, true, false, cond, List, [], ◌∷◌, length, Option, Some, None, is_some, nat_cmp, Ordering, Less, Equal, Greater, option_map, refl, sym, ap, ◌∙◌, subst, arith, if◌then◌else◌, ◌^◌}
 use Rattle.std.specs.List.{sum_by}
 use Rattle.std.specs.Option.{unwrap_or}
 use Rattle.std.specs.BTreeMap.{insert_entry, is_at}
@@ -15,7 +15,7 @@ use Rattle.vfs_tree.specs.Children.{Children, with_child, without_child, with_ot
 use Rattle.vfs_tree_laws.specs.Laws.{Ascend, IsSound, IsWithin, IsShort, AreShort, inodes_of, CallsStayWithin}
 use Rattle.vfs_tree.specs.Node.{weight, new_node}
 use Rattle.vfs_tree.specs.Outcome.{first_of}
-use Rattle.vfs_tree.specs.Rename.{directory_refusal, is_directory_at, is_improper, is_nameless, is_crowded, moved_into, moved_to_free, moved_over, exchanged, renamed_to}
+use Rattle.vfs_tree.specs.Rename.{directory_refusal, is_directory_at, is_improper, is_nameless, is_crowded, leaves_whiteout, same_node, moved_into, moved_to_free, moved_over, exchanged, named_anew, whiteout, whited_out, whited_to, rename_refusal, renamed, renamed_to}
 use Rattle.vfs_tree.specs.State.{State, node_at, room_of, with_node, with_resized, with_new, without_node, settled, changed, change, with_names, unnamed, child_at}
 use Rattle.vfs_tree.specs.Tree.{emlink, most_links, made, linked, forgotten, all_forgotten, taken_out, make_refusal, link_refusal}
 use Rattle.vfs_nodes.specs.declared.children.Child.{Child}
@@ -24,7 +24,7 @@ use Rattle.vfs_nodes.specs.declared.node.Node.{Node}
 use Rattle.vfs_tree.proofs.Nodes.{kinds_apart}
 use Rattle.vfs_tree_laws.proofs.Ascending.{ascend_within}
 use Rattle.vfs_tree_laws.proofs.Cases.{Covers, Resizes, one_inode_more, are_not, or_none, calls_covered}
-use Rattle.vfs_tree_laws.proofs.Refused.{link_takes}
+use Rattle.vfs_tree_laws.proofs.Refused.{link_takes, rename_takes}
 
 -- what the nodes take together, and how many inodes they are counted as
 abbrev total : State → ℕ
@@ -407,6 +407,71 @@ module _ (old : State) (sound : IsSound old) (within : IsWithin old) where
       (λ is. omega arith))
       (slims-with_names (with_new old node) parent _)
 
+  -- a name leads to a new node that takes no bytes
+  names_anew : (d : ℕ) (name : List ℕ) (target : Option Child) (node : Node) → node.names ≡ 1
+      → old.inodes < old.limits.nodes → weight node ≤ room_of old → IsShort old.limits.file node
+      → StaysWithin old (named_anew old d name target node)
+  names_anew d name None node one place room short =
+      stays-slims old (with_new old node) (named_anew old d name None node)
+      (adds node one place room short) (slims-with_names (with_new old node) d _)
+  names_anew d name (Some target) node one place room short =
+      let new : Child = record { node = old.next; kind = node.kind } in
+      let named = with_names (with_new old node) d (λ c. with_other_child c name new) in
+      stays-slims old (with_new old node) (named_anew old d name (Some target) node)
+      (adds node one place room short)
+      (slims_both (with_new old node) named (named_anew old d name (Some target) node)
+      (slims-with_names (with_new old node) d _)
+      (slims-unnamed named target.node (node_at named target.node) refl))
+
+  module _ (uid gid od : ℕ) (on : List ℕ) (nd : ℕ) (nn : List ℕ) where
+    whites : (child : Child) (target : Option Child) → old.inodes < old.limits.nodes
+        → StaysWithin old (whited_out old uid gid od on nd nn child target)
+    whites child target place =
+        let node = whiteout old.now uid gid od in
+        let mid = named_anew old nd nn target node in
+        stays-slims old mid (whited_out old uid gid od on nd nn child target)
+        (names_anew nd nn target node refl place (omega arith) (λ is. omega arith))
+        (slims_exchange mid od on nd nn child (record { node = old.next; kind = node.kind }))
+
+    whites_to : (moved target : Option Child)
+        → (not (same_node moved target)
+        && (nat_le old.limits.nodes old.inodes || old.next == 2 ^ 64 - 1)) ≡ false
+        → StaysWithin old (whited_to old uid gid od on nd nn moved target)
+    whites_to None target room = slim old (slims_itself old)
+    whites_to (Some child) target room = by (same_node (Some child) target) room
+      where
+        by : (same : Bool)
+            → (not same && (nat_le old.limits.nodes old.inodes || old.next == 2 ^ 64 - 1)) ≡ false
+            → StaysWithin old (if same then old else whited_out old uid gid od on nd nn child target)
+        by true room = slim old (slims_itself old)
+        by false room =
+            whites child target (leb-false old.limits.nodes old.inodes
+            (or_parts (nat_le old.limits.nodes old.inodes) (old.next == 2 ^ 64 - 1) room).0)
+
+    renames : (flags : ℕ) → rename_refusal old od on nd nn flags ≡ None
+        → StaysWithin old (renamed old uid gid od on nd nn flags)
+    renames flags none =
+        let moved = child_at old od on in
+        let target = child_at old nd nn in
+        by (leaves_whiteout flags)
+        (are_not
+        ((
+          leaves_whiteout flags && not (same_node moved target)
+              && (nat_le old.limits.nodes old.inodes || old.next == 2 ^ 64 - 1),
+          enospc,
+        ) ∷ [])
+        (rename_takes old od on nd nn flags none).room).0
+      where
+        by : (leaves : Bool)
+            → (leaves && not (same_node (child_at old od on) (child_at old nd nn))
+            && (nat_le old.limits.nodes old.inodes || old.next == 2 ^ 64 - 1)) ≡ false
+            → StaysWithin old (if leaves
+            then whited_to old uid gid od on nd nn (child_at old od on) (child_at old nd nn)
+            else renamed_to old od on nd nn flags (child_at old od on) (child_at old nd nn))
+        by true room = whites_to (child_at old od on) (child_at old nd nn) room
+        by false room =
+            slim _ (slims-renamed_to old od on nd nn flags (child_at old od on) (child_at old nd nn))
+
   links : (n : ℕ) (node : Node) (parent : ℕ) (name : List ℕ) → node_at old n ≡ Some node
       → link_refusal old parent name node ≡ None
       → StaysWithin old (change (one_inode_more (with_names old parent
@@ -468,8 +533,7 @@ module _ (old : State) (sound : IsSound old) (within : IsWithin old) where
         slim _ (slims-taken_out old parent name child);
     removes = λ parent name child node there found is empty.
         slim _ (slims-taken_out old parent name child);
-    renames = λ od on nd nn flags none.
-        slim _ (slims-renamed_to old od on nd nn flags (child_at old od on) (child_at old nd nn));
+    renames = renames;
   }
 
 pub calls_stay_within : CallsStayWithin
