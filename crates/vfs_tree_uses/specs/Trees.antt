@@ -1,5 +1,5 @@
 -- Trees to call, written out.
-use Rattle.std.specs.Prelude.{ℕ, ◌^◌, ◌-◌, List, [], ◌∷◌, codes}
+use Rattle.std.specs.Prelude.{ℕ, ◌^◌, ◌+◌, ◌-◌, List, [], ◌∷◌, codes}
 use Rattle.vfs_contents.specs.Contents.{Contents, no_contents}
 use Rattle.vfs_nodes.specs.Children.{Children, Link, no_children}
 use Rattle.vfs_nodes.specs.Node.{weight}
@@ -139,3 +139,28 @@ to_file = record { node = 2; kind = kind.File }
 
 abbrev pub to_directory : Child
 to_directory = record { node = 3; kind = kind.Directory }
+
+-- a tree whose root has two names, `f` and `g`: this file, node 2, and a whiteout of this number
+abbrev pub whitened_tree : (f g : Child) → (whiteout : ℕ) → State
+whitened_tree f g whiteout =
+    let last = 2 ^ 63 - 1 in
+    let names : Children =
+    record {
+      links =
+          (last - 1, record { name = codes "g"; child = g })
+          ∷ (last, record { name = codes "f"; child = f }) ∷ [];
+      next = last - 2;
+    } in
+    record {
+      nodes =
+          (1, node_in_root kind.Directory 0o755 names no_contents 1 0) ∷ (2, empty_file)
+          ∷ (whiteout, node_in_root (kind.Character 0) 0 no_children no_contents 1 0) ∷ [];
+      next = whiteout + 1;
+      used = 0;
+      inodes = 3;
+      limits = wide;
+      now = second_7;
+    }
+
+abbrev pub to_whiteout : (number : ℕ) → Child
+to_whiteout number = record { node = number; kind = kind.Character 0 }

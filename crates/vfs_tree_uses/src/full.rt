@@ -108,6 +108,16 @@ fn no_second_name(tree: &mut TreeFs) -> Result<Entry, Fault>
     tree.link(root(), 2, 1, CStr::before_nul(b"g\0", 1))
 }
 
+/// RENAME with RENAME_WHITEOUT (4) there: a whiteout is a third node, ENOSPC.
+fn no_room_for_a_whiteout(tree: &mut TreeFs) -> Result<(), Fault>
+    requires { tree.old ≡ file_tree pair (codes "hello") }
+    ensures refused { result ≡ Err (Some 28) }
+    ensures same { tree.new ≡ tree.old }
+{
+    let (f, g) = (CStr::before_nul(b"f\0", 1), CStr::before_nul(b"g\0", 1));
+    tree.rename(root(), 1, f, 1, g, 4)
+}
+
 /// SETXATTR where there is no room for its 128 bytes and those of name and value: ENOSPC.
 fn attribute_without_room(tree: &mut TreeFs) -> Result<(), Fault>
     requires { tree.old ≡ file_tree narrow (codes "hello") }

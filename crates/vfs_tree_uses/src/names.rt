@@ -3,7 +3,7 @@
 ghost use Rattle.std.specs.Prelude.{◌≡◌, ◌⊎◌, ◌-◌, ◌^◌, [], ◌∷◌, codes, length, Ok, Err, Some, IfOk, IfSome, MatchResult};
 ghost use Rattle.vfs_files.specs.Values.{name_text};
 ghost use Rattle.vfs_tree.specs.Tree.{first_state};
-ghost use Rattle.vfs_tree_uses.specs.Trees.{second_7, small_tree, to_directory, to_file, tree_of_two, wide};
+ghost use Rattle.vfs_tree_uses.specs.Trees.{empty_file, second_7, small_tree, to_directory, to_file, to_whiteout, tree_of, tree_of_two, whitened_tree, wide};
 
 use crate::support::root;
 use vfs_files::{CStr, Context, Entry, EntryList, Extensions, FileSystem};
@@ -108,6 +108,51 @@ fn not_replaced(tree: &mut TreeFs) -> Result<(), Fault>
 {
     let (f, d) = (CStr::before_nul(b"f\0", 1), CStr::before_nul(b"d\0", 1));
     tree.rename(root(), 1, f, 1, d, 1)
+}
+
+/// RENAME with RENAME_WHITEOUT (4): the old name leads to a whiteout, of which no lookup is held.
+fn whitened(tree: &mut TreeFs) -> Result<(), Fault>
+    requires { tree.old ≡ tree_of wide empty_file }
+    ensures { MatchResult result
+        (λ _. tree.new ≡ whitened_tree (to_whiteout 3) to_file 3)
+        (λ fault. (fault ≡ Some 12) × (tree.new ≡ tree.old)) }
+{
+    let (f, g) = (CStr::before_nul(b"f\0", 1), CStr::before_nul(b"g\0", 1));
+    tree.rename(root(), 1, f, 1, g, 4)
+}
+
+/// The same over a whiteout, which is gone then.
+fn whitened_back(tree: &mut TreeFs) -> Result<(), Fault>
+    requires { tree.old ≡ whitened_tree (to_whiteout 3) to_file 3 }
+    ensures { MatchResult result
+        (λ _. tree.new ≡ whitened_tree to_file (to_whiteout 4) 4)
+        (λ fault. (fault ≡ Some 12) × (tree.new ≡ tree.old)) }
+{
+    let (f, g) = (CStr::before_nul(b"f\0", 1), CStr::before_nul(b"g\0", 1));
+    tree.rename(root(), 1, g, 1, f, 4)
+}
+
+/// LOOKUP of a whiteout: a character device of number 0 that nobody may use.
+fn found_white(tree: &mut TreeFs) -> Result<Entry, Fault>
+    requires { tree.old ≡ whitened_tree (to_whiteout 3) to_file 3 }
+    ensures { IfOk result (λ found. (found.inode ≡ 3) × (found.attr.mode ≡ 0o20000)
+        × (found.attr.rdev ≡ 0) × (found.attr.nlink ≡ 1)) }
+{
+    tree.lookup(root(), 1, CStr::before_nul(b"f\0", 1))
+}
+
+/// RENAME_WHITEOUT with RENAME_NOREPLACE (5) of a name that is taken: EEXIST; with RENAME_EXCHANGE (6):
+/// EINVAL.
+fn not_whitened(tree: &mut TreeFs) -> (Result<(), Fault>, Result<(), Fault>)
+    requires { tree.old ≡ tree_of_two to_file to_directory }
+    ensures taken { result.0 ≡ Err (Some 17) }
+    ensures both { result.1 ≡ Err (Some 22) }
+    ensures same { tree.new ≡ tree.old }
+{
+    let (f, d) = (CStr::before_nul(b"f\0", 1), CStr::before_nul(b"d\0", 1));
+    let taken = tree.rename(root(), 1, f, 1, d, 5);
+    let both = tree.rename(root(), 1, f, 1, d, 6);
+    (taken, both)
 }
 
 /// RENAME of a file to the name of a directory: EISDIR; of a directory to that of a file: ENOTDIR.
