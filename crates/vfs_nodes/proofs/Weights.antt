@@ -1,13 +1,43 @@
 -- How much a node weighs after a change.
-use Rattle.std.proofs.Common.{◌≡◌, ◌≤◌, ◌+◌, ◌*◌, ◌/◌, ◌==◌, ℕ, Bool, true, false, List, [], ◌∷◌, Option, length, filter, nat_lt, bit_and, ◌⊎◌, ⊎_elim, if◌then◌else◌, arith}
+use Rattle.std.proofs.Common.{◌≡◌, ◌≤◌, ◌+◌, ◌*◌, ◌/◌, ◌==◌, ◌||◌, ℕ, zero, suc, Bool, true, false, not, List, [], ◌∷◌, Option, Some, None, length, take, drop, filter, nat_lt, bit_and, ◌⊎◌, ⊎_elim, if◌then◌else◌, arith}
 use Rattle.std.specs.Int.{div_ceil}
+use Rattle.std.specs.List.{position}
+use Rattle.std.proofs.lemmas.List.Sums.{sum_by-append, sum_by-cons, sum_by-take-drop}
 use Rattle.vfs_wire.specs.declared.attributes.SetattrIn.{SetattrIn}
 use Rattle.vfs_contents.specs.Contents.{Contents, resized, punched, pages_over}
 use Rattle.vfs_contents.specs.Pages.{is_outside, reach}
 use Rattle.vfs_contents.proofs.Counts.{held_within}
-use Rattle.vfs_nodes.specs.Node.{weight, set_attr, left_by, truncates, opened, overwritten}
+use Rattle.vfs_nodes.specs.Node.{weight, capabilities, stripped, set_attr, takes_caps, is_other, truncates, opened, overwritten}
+use Rattle.vfs_nodes.specs.Xattrs.{Xattr, attribute_bytes, is_called, xattr_bytes, without_place, without_xattr}
 use Rattle.vfs_nodes.specs.declared.node.Node.{Node}
 use Rattle.vfs_nodes.specs.declared.node.Time.{Time}
+
+-- extended attributes without one of them take no more bytes
+drop_bytes : (xattrs : List Xattr) (place : ℕ)
+    → xattr_bytes (drop (suc place) xattrs) ≤ xattr_bytes (drop place xattrs)
+drop_bytes [] place = omega arith
+drop_bytes (x ∷ xs) zero = omega (arith, sum_by-cons attribute_bytes x xs)
+drop_bytes (x ∷ xs) (suc place) = drop_bytes xs place
+
+place_bytes : (xattrs : List Xattr) (place : Option ℕ)
+    → xattr_bytes (without_place xattrs place) ≤ xattr_bytes xattrs
+place_bytes xattrs None = omega arith
+place_bytes xattrs (Some place) = omega (
+  arith,
+  sum_by-append attribute_bytes (take place xattrs) (drop (suc place) xattrs),
+  sum_by-take-drop attribute_bytes xattrs place,
+  drop_bytes xattrs place,
+)
+
+pub without_xattr_bytes : (xattrs : List Xattr) (name : List ℕ)
+    → xattr_bytes (without_xattr xattrs name) ≤ xattr_bytes xattrs
+without_xattr_bytes xattrs name = place_bytes xattrs (position (is_called name) xattrs)
+
+-- nor do those without the capabilities, and so a node without privileges
+pub stripped_bytes : (caps ids : Bool) (node : Node)
+    → xattr_bytes (stripped caps ids node).xattrs ≤ xattr_bytes node.xattrs
+stripped_bytes true ids node = without_xattr_bytes node.xattrs capabilities
+stripped_bytes false ids node = omega arith
 
 -- of some there are no more
 length-filter-le : (p : ℕ → Bool) (xs : List ℕ) → length (filter p xs) ≤ length xs
@@ -38,7 +68,11 @@ punched_holds c off len =
 -- SETATTR
 pub set_attr_weighs : (now : Time) (node : Node) (attr : SetattrIn) (handle : Option ℕ) (valid : ℕ)
     → weight (set_attr now node attr handle valid) ≤ weight node
-set_attr_weighs now node attr handle valid = omega (arith, by (bit_and valid 8 == 8))
+set_attr_weighs now node attr handle valid = omega (
+  arith,
+  by (bit_and valid 8 == 8),
+  stripped_bytes (takes_caps node.kind valid) true node,
+)
   where
     by : (t : Bool)
         → length (if t then resized node.contents attr.size else node.contents).held
@@ -47,32 +81,36 @@ set_attr_weighs now node attr handle valid = omega (arith, by (bit_and valid 8 =
     by false = omega arith
 
 -- OPEN
-pub opened_weighs : (now : Time) (uid : ℕ) (node : Node) (flags : ℕ)
-    → weight (opened now uid node flags) ≤ weight node
-opened_weighs now uid node flags = by (truncates node flags)
+pub opened_weighs : (now : Time) (uid : ℕ) (kill : Bool) (node : Node) (flags : ℕ)
+    → weight (opened now uid kill node flags) ≤ weight node
+opened_weighs now uid kill node flags = by (truncates node flags)
   where
     by : (t : Bool)
         → weight
         (if t
-        then record node {
+        then record (stripped true (kill || is_other uid) node) {
           contents = resized node.contents 0;
-          permissions = left_by uid node.permissions;
           mtime = now;
           ctime = now;
         }
         else node)
         ≤ weight node
-    by true = omega (arith, resized_holds node.contents 0)
+    by true = omega (arith, resized_holds node.contents 0, stripped_bytes true true node)
     by false = omega arith
 
 -- WRITE, of bytes that end where pages are held or can be
-pub overwritten_weighs : (now : Time) (node : Node) (off : ℕ) (bytes : List ℕ) (free size : ℕ)
+pub overwritten_weighs : (now : Time) (delayed kill : Bool) (node : Node) (off : ℕ) (bytes : List ℕ)
+    (free size : ℕ)
     → off + length bytes ≤ 4096 * reach node.contents.held free (off / 4096) (pages_over off size)
     ⊎ (bytes ≡ [])
-    → weight (overwritten now node off bytes) ≤ weight node + free * 4096
-overwritten_weighs now node off [] free size within = omega arith
-overwritten_weighs now node off (b ∷ bs) free size within =
+    → weight (overwritten now delayed kill node off bytes) ≤ weight node + free * 4096
+overwritten_weighs now delayed kill node off [] free size within = omega arith
+overwritten_weighs now delayed kill node off (b ∷ bs) free size within =
     let ends : off + length (b ∷ bs)
     ≤ 4096 * reach node.contents.held free (off / 4096) (pages_over off size) =
     ⊎_elim (λ h. h) (λ none. cc) within in
-    omega (arith, held_within node.contents.held off (length (b ∷ bs)) free size ends)
+    omega (
+      arith,
+      held_within node.contents.held off (length (b ∷ bs)) free size ends,
+      stripped_bytes (not delayed) kill node,
+    )

@@ -1,5 +1,5 @@
 -- What a node shows of itself, and what becomes of it.
-use Rattle.std.specs.Prelude.{◌≡◌, ℕ, ◌+◌, ◌-◌, ◌*◌, ◌^◌, ◌/◌, ◌==◌, ◌&&◌, ◌||◌, Bool, List, [], ◌∷◌, Option, Some, None, is_none, length, min, bit_or, bit_and, if◌then◌else◌}
+use Rattle.std.specs.Prelude.{◌≡◌, ℕ, ◌+◌, ◌-◌, ◌*◌, ◌^◌, ◌/◌, ◌==◌, ◌&&◌, ◌||◌, not, Bool, true, List, [], ◌∷◌, Option, Some, None, is_none, length, min, codes, bit_or, bit_and, if◌then◌else◌}
 use Rattle.std.specs.Duration.{as_nanos}
 use Rattle.std.specs.declared.time.Duration.{Duration}
 use Rattle.vfs_wire.specs.declared.attributes.Attr.{Attr}
@@ -7,7 +7,7 @@ use Rattle.vfs_wire.specs.declared.attributes.SetattrIn.{SetattrIn}
 use Rattle.vfs_files.specs.declared.entry.Entry.{Entry}
 use Rattle.vfs_contents.specs.Contents.{no_contents, resized, written}
 use Rattle.vfs_nodes.specs.Children.{is_directory, is_file, is_link, no_children, directories_in}
-use Rattle.vfs_nodes.specs.Xattrs.{xattr_bytes}
+use Rattle.vfs_nodes.specs.Xattrs.{xattr_bytes, without_xattr}
 use Rattle.vfs_nodes.specs.declared.kind.Kind.{Kind}
 use Rattle.vfs_nodes.specs.declared.kind.Kind.TheVariants as kind
 use Rattle.vfs_nodes.specs.declared.node.Node.{Node}
@@ -117,6 +117,26 @@ new_node now uid gid kind permissions parent text = record {
   lookups = 1;
 }
 
+-- ---- privileges: what a program has of the file that it is run from
+
+-- permission bits without set-user-ID, and without set-group-ID where the group may run it
+abbrev pub without_set_ids : (permissions : ℕ) → ℕ
+without_set_ids permissions =
+    bit_and permissions (if bit_and permissions 0o10 == 0o10 then 0o1777 else 0o3777)
+
+-- the attribute that has its capabilities
+abbrev pub capabilities : List ℕ
+capabilities = codes "security.capability"
+
+-- a node without its privileges, as far as they go: its capabilities, and its set-user-ID and set-group-ID
+abbrev pub stripped : (caps ids : Bool) → Node → Node
+stripped caps ids node = record node {
+  permissions = if ids then without_set_ids node.permissions else node.permissions;
+  xattrs = if caps then without_xattr node.xattrs capabilities else node.xattrs;
+}
+
+-- ---- SETATTR
+
 -- the value that a request gives, where its bit is set, or else the old one
 abbrev pub picked : {A : Type 0} → (valid bit : ℕ) → A → A → A
 picked valid bit new old = if bit_and valid bit == bit then new else old
@@ -127,49 +147,64 @@ is_idle node attr handle valid =
     bit_and valid 0x8 == 0x8 && is_none handle && attr.size == length node.contents.bytes
     && length node.contents.held == 0
 
+-- whether a request is a chown: it gives an owner or a group; or it sets no attribute, which Linux sends for
+-- a chown of neither, and before a FALLOCATE by one who is not to leave set-user-ID and set-group-ID
+abbrev pub is_chown : (valid : ℕ) → Bool
+is_chown valid = not (bit_and valid 0x6 == 0) || bit_and valid 0x1bf == 0
+
+-- whether set-user-ID and set-group-ID go: of what is no directory, by a chown, and where it is asked
+abbrev pub takes_ids : Kind → (valid : ℕ) → Bool
+takes_ids kind valid = not (is_directory kind) && (is_chown valid || bit_and valid 0x800 == 0x800)
+
+-- whether its capabilities go: then too, and with another size
+abbrev pub takes_caps : Kind → (valid : ℕ) → Bool
+takes_caps kind valid = takes_ids kind valid || bit_and valid 0x8 == 0x8
+
 -- a node with the attributes that a request sets; its change is now, unless the request says when or is idle
 abbrev pub set_attr : (now : Time) → Node → SetattrIn → (handle : Option ℕ) → (valid : ℕ) → Node
-set_attr now node attr handle valid = record node {
-  contents = picked valid 0x8 (resized node.contents attr.size) node.contents;
-  permissions = picked valid 0x1 attr.mode node.permissions;
-  uid = picked valid 0x2 attr.uid node.uid;
-  gid = picked valid 0x4 attr.gid node.gid;
-  atime = picked valid 0x80 now
-      (picked valid 0x10 (record { seconds = attr.atime; nanoseconds = attr.atimensec }) node.atime);
-  mtime = picked valid 0x100 now
-      (picked valid 0x20 (record { seconds = attr.mtime; nanoseconds = attr.mtimensec })
-      (if is_idle node attr handle valid then node.mtime else picked valid 0x8 now node.mtime));
-  ctime = picked valid 0x400 (record { seconds = attr.ctime; nanoseconds = attr.ctimensec })
-      (if is_idle node attr handle valid then node.ctime else now);
-}
+set_attr now node attr handle valid =
+    stripped (takes_caps node.kind valid) (takes_ids node.kind valid) (record node {
+      contents = picked valid 0x8 (resized node.contents attr.size) node.contents;
+      permissions = picked valid 0x1 attr.mode node.permissions;
+      uid = picked valid 0x2 attr.uid node.uid;
+      gid = picked valid 0x4 attr.gid node.gid;
+      atime = picked valid 0x80 now
+          (picked valid 0x10 (record { seconds = attr.atime; nanoseconds = attr.atimensec }) node.atime);
+      mtime = picked valid 0x100 now
+          (picked valid 0x20 (record { seconds = attr.mtime; nanoseconds = attr.mtimensec })
+          (if is_idle node attr handle valid then node.mtime else picked valid 0x8 now node.mtime));
+      ctime = picked valid 0x400 (record { seconds = attr.ctime; nanoseconds = attr.ctimensec })
+          (if is_idle node attr handle valid then node.ctime else now);
+    })
 
--- permission bits without set-user-ID, and without set-group-ID where the group may run it
-abbrev pub without_set_ids : (permissions : ℕ) → ℕ
-without_set_ids permissions =
-    bit_and permissions (if bit_and permissions 0o10 == 0o10 then 0o1777 else 0o3777)
-
--- what is left of them where this user changed the bytes
-abbrev pub left_by : (uid permissions : ℕ) → ℕ
-left_by uid permissions = if uid == 0 then permissions else without_set_ids permissions
+-- ---- OPEN, WRITE
 
 -- whether O_TRUNC is among the flags of an OPEN, and the node has bytes to be taken
 abbrev pub truncates : Node → (flags : ℕ) → Bool
 truncates node flags = bit_and flags 0o1000 == 0o1000 && is_file node.kind
 
--- a node as it is after this user opened it: O_TRUNC takes the bytes of a file
-abbrev pub opened : (now : Time) → (uid : ℕ) → Node → (flags : ℕ) → Node
-opened now uid node flags =
+-- whether it is told who asks, and that is another user than 0. Linux tells it of few requests, from 6.12 on
+abbrev pub is_other : (uid : ℕ) → Bool
+is_other uid = not (uid == 0 || uid == 2 ^ 32 - 1)
+
+-- a node as it is after this user opened it: O_TRUNC takes the bytes of a file, and its privileges;
+-- set-user-ID and set-group-ID by another user than 0, and where the request says so
+abbrev pub opened : (now : Time) → (uid : ℕ) → (kill : Bool) → Node → (flags : ℕ) → Node
+opened now uid kill node flags =
     if truncates node flags
-    then record node {
+    then record (stripped true (kill || is_other uid) node) {
       contents = resized node.contents 0;
-      permissions = left_by uid node.permissions;
       mtime = now;
       ctime = now;
     }
     else node
 
--- a file with bytes written over its own from off on; it has not changed where there are none
-abbrev pub overwritten : (now : Time) → Node → (off : ℕ) → List ℕ → Node
-overwritten now node off [] = node
-overwritten now node off (b ∷ bs) =
-    record node { contents = written node.contents off (b ∷ bs); mtime = now; ctime = now }
+-- a file with bytes written over its own from off on; it has not changed where there are none. Capabilities go,
+-- but by a delayed write: the client kept its bytes, and saw to them when it got these
+abbrev pub overwritten : (now : Time) → (delayed kill : Bool) → Node → (off : ℕ) → List ℕ → Node
+overwritten now delayed kill node off [] = node
+overwritten now delayed kill node off (b ∷ bs) = record (stripped (not delayed) kill node) {
+  contents = written node.contents off (b ∷ bs);
+  mtime = now;
+  ctime = now;
+}

@@ -1,5 +1,5 @@
 -- A write into a node.
-use Rattle.std.specs.Prelude.{◌≡◌, ℕ, List, length, Option, Some, Result, Ok, Err}
+use Rattle.std.specs.Prelude.{◌≡◌, ℕ, Bool, List, length, Option, Some, Result, Ok, Err}
 use Rattle.vfs_flags.specs.Numbers.{enomem}
 use Rattle.vfs_files.specs.Bytes.{fitting}
 use Rattle.vfs_contents.specs.Contents.{Lacks}
@@ -10,10 +10,10 @@ use Rattle.vfs_nodes.specs.declared.node.Time.{Time}
 -- a write of these bytes into a node, up to a limit: of those that fit all are written; or one of their
 -- pages is not held, there is no memory for it, and the node stays
 abbrev pub Overwrites :
-    (most : ℕ) (now : Time) (old : Node) (off : ℕ) (bytes : List ℕ) → Result ℕ (Option ℕ)
-    → (new : Node) → Type 0
-Overwrites most now old off bytes (Ok count) new =
+    (most : ℕ) (now : Time) (delayed kill : Bool) (old : Node) (off : ℕ) (bytes : List ℕ)
+    → Result ℕ (Option ℕ) → (new : Node) → Type 0
+Overwrites most now delayed kill old off bytes (Ok count) new =
     (count ≡ length (fitting most off bytes))
-    × (new ≡ overwritten now old off (fitting most off bytes))
-Overwrites most now old off bytes (Err fault) new =
+    × (new ≡ overwritten now delayed kill old off (fitting most off bytes))
+Overwrites most now delayed kill old off bytes (Err fault) new =
     (fault ≡ Some enomem) × (new ≡ old) × Lacks old.contents off (length (fitting most off bytes))

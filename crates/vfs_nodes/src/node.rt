@@ -3,7 +3,7 @@
 ghost use Rattle.std.specs.Prelude.{◌≡◌, ℕ, List, take, if◌then◌else◌, Some, MatchResult};
 ghost use Rattle.vfs_flags.specs.Numbers.{enomem};
 ghost use Rattle.vfs_flags.specs.Flags.{setattr_valid_bits};
-ghost use Rattle.vfs_nodes.specs.Node.{attr_of, nlink_of, size_of, IsEntryOf, weight, new_node, opened, set_attr, left_by, truncates, without_set_ids};
+ghost use Rattle.vfs_nodes.specs.Node.{attr_of, nlink_of, size_of, IsEntryOf, weight, new_node, opened, set_attr, stripped, is_chown, is_other, takes_ids, truncates, without_set_ids};
 ghost use Rattle.vfs_nodes.specs.Writing.{Overwrites};
 
 use crate::children::Children;
@@ -32,6 +32,15 @@ const PAGE_BLOCKS: u64 = 8;
 
 /// The permission bit by which the group may run a file.
 const GROUP_RUNS: u32 = 0o10;
+
+/// The bits of a SETATTR that give an owner or a group.
+const OWNER: u32 = 0x6;
+
+/// Those that give any attribute but `ctime`.
+const ATTRIBUTES: u32 = 0x1bf;
+
+/// The user that Linux names where it does not tell who asks.
+const UNTOLD: u32 = u32::MAX;
 
 /// A point in time.
 #[derive(Clone, Copy, Debug, PartialEq, Eq)]
@@ -182,8 +191,21 @@ impl Node {
         self.contents.held() * PAGE + self.text.len() + self.xattrs.bytes()
     }
 
-    /// Sets the attributes that the request names. A longer file takes no memory for that, and the size
-    /// that a file without pages has moves no time, unless by a handle.
+    /// Takes its privileges, as far as they are to go: its capabilities, and its set-user-ID and
+    /// set-group-ID bits.
+    pub fn strip(&mut self, caps: bool, ids: bool)
+        ensures { self.new ≡ stripped caps ids self.old }
+    {
+        if caps {
+            self.xattrs.remove(b"security.capability");
+        }
+        let left = without_set_ids(self.permissions);
+        self.permissions = pick(ids, left, self.permissions);
+    }
+
+    /// Sets the attributes that the request names, and takes the privileges that it costs. A longer
+    /// file takes no memory for that, and the size that a file without pages has moves no time, unless
+    /// by a handle.
     pub fn set_attr(&mut self, now: Time, attr: SetattrIn, handle: Option<u64>, valid: SetattrValid)
         ensures { self.new ≡ set_attr now self.old attr handle (setattr_valid_bits valid) }
     {
@@ -221,6 +243,8 @@ impl Node {
         self.mtime = pick(valid.contains(SetattrValid::MTIME_NOW), now, written);
         let changed = pick(idle, self.ctime, now);
         self.ctime = pick(valid.contains(SetattrValid::CTIME), ctime, changed);
+        let ids = takes_ids(self.kind, valid);
+        self.strip(ids || resizes, ids);
     }
 
     /// Whether an opening with these flags takes the bytes of it.
@@ -230,22 +254,23 @@ impl Node {
         flags & O_TRUNC == O_TRUNC && self.kind.is_file()
     }
 
-    /// Opens it for this user: O_TRUNC takes the bytes of a file, and by another user than 0 its
-    /// set-user-ID and set-group-ID bits.
-    pub fn open(&mut self, now: Time, uid: GuestUid, flags: u32)
-        ensures { self.new ≡ opened now uid self.old flags }
+    /// Opens it for this user: O_TRUNC takes the bytes and the capabilities of a file, and by another
+    /// user than 0, or with `kill_priv`, its set-user-ID and set-group-ID bits.
+    pub fn open(&mut self, now: Time, uid: GuestUid, kill_priv: bool, flags: u32)
+        ensures { self.new ≡ opened now uid kill_priv self.old flags }
     {
         if self.truncates(flags) {
+            self.strip(true, kill_priv || is_other(uid));
             self.contents.resize(0);
-            self.permissions = left_by(uid, self.permissions);
             self.mtime = now;
             self.ctime = now;
         }
     }
 
     /// Writes up to `size` bytes of `r` over those of a file, from `offset` on, as far as they end
-    /// within `most`, and answers how many. ENOMEM where one of their pages is not held and there is
-    /// no memory for it, and all stays.
+    /// within `most`, and answers how many. A file that is changed loses its capabilities, unless the
+    /// write is delayed, and with `kill_priv` its set-user-ID and set-group-ID bits. ENOMEM where one of
+    /// their pages is not held and there is no memory for it, and all stays.
     pub fn write_from<R: ZeroCopyReader>(
         &mut self,
         alloc: Global,
@@ -254,12 +279,16 @@ impl Node {
         size: u32,
         offset: u64,
         most: u64,
+        delayed: bool,
+        kill_priv: bool,
     ) -> Result<u32, Fault>
         ensures { (taken : List ℕ) × R.takes r.old taken r.new
-            × Overwrites most now self.old offset (take size (R.left r.old)) result self.new }
+            × Overwrites most now delayed kill_priv self.old offset (take size (R.left r.old)) result
+            self.new }
     {
         let count = self.contents.write_from(alloc, r, size, offset, most)?;
         if count > 0 {
+            self.strip(!delayed, kill_priv);
             self.mtime = now;
             self.ctime = now;
         }
@@ -267,15 +296,26 @@ impl Node {
     }
 }
 
-// What is left of permission bits where this user changed the bytes.
-fn left_by(uid: GuestUid, permissions: u32) -> u32
-    ensures { result ≡ left_by uid permissions }
+// Whether this is told, and another user than 0.
+fn is_other(uid: GuestUid) -> bool
+    ensures { result ≡ is_other uid }
 {
-    if uid == GuestUid::from(0) {
-        permissions
-    } else {
-        without_set_ids(permissions)
-    }
+    uid != GuestUid::from(0) && uid != GuestUid::from(UNTOLD)
+}
+
+// Whether a request takes the set-user-ID and set-group-ID bits of what is of this kind.
+fn takes_ids(kind: Kind, valid: SetattrValid) -> bool
+    ensures { result ≡ takes_ids kind (setattr_valid_bits valid) }
+{
+    !kind.is_directory() && (is_chown(valid) || valid.contains(SetattrValid::KILL_SUIDGID))
+}
+
+// Whether it is a chown: it gives an owner or a group, or sets no attribute.
+fn is_chown(valid: SetattrValid) -> bool
+    ensures { result ≡ is_chown (setattr_valid_bits valid) }
+{
+    let bits = valid.bits();
+    bits & OWNER != 0 || bits & ATTRIBUTES == 0
 }
 
 // Permission bits without set-user-ID, and without set-group-ID where the group may run it.

@@ -1,5 +1,5 @@
 -- How each call ends.
-use Rattle.std.specs.Prelude.{ℕ, ◌==◌, ◌+◌, ◌-◌, ◌*◌, ◌/◌, ◌^◌, ◌||◌, ◌&&◌, nat_eq, nat_le, nat_lt, not, min, Bool, true, List, [], ◌∷◌, length, map, take, codes, bit_and, bit_or, Option, Some, None, is_some, is_none, if◌then◌else◌}
+use Rattle.std.specs.Prelude.{ℕ, ◌==◌, ◌+◌, ◌-◌, ◌*◌, ◌/◌, ◌^◌, ◌||◌, ◌&&◌, nat_eq, nat_le, nat_lt, not, min, Bool, true, false, List, [], ◌∷◌, length, map, take, codes, bit_and, bit_or, Option, Some, None, is_some, is_none, if◌then◌else◌}
 use Rattle.std.specs.List.{starts_with}
 use Rattle.std.specs.Str.{bytes_eq}
 use Rattle.vfs_flags.specs.Numbers.{eperm, enoent, eexist, enotdir, eisdir, einval, enospc, erange, enotempty, enodata, eoverflow, eopnotsupp}
@@ -13,7 +13,7 @@ use Rattle.vfs_contents.specs.Pages.{reach}
 use Rattle.vfs_contents.specs.Contents.{allocated, punched, data_from, hole_from, lacking, pages_over}
 use Rattle.vfs_nodes.specs.Children.{with_child, without_child, is_directory, is_file, is_link}
 use Rattle.vfs_nodes.specs.Listing.{items_behind}
-use Rattle.vfs_nodes.specs.Node.{kind_by_mode, new_node, set_attr, truncates, opened, overwritten}
+use Rattle.vfs_nodes.specs.Node.{kind_by_mode, new_node, set_attr, stripped, truncates, opened, overwritten}
 use Rattle.vfs_nodes.specs.Xattrs.{Xattr, xattr_named, xattr_bytes, with_xattr, without_xattr, name_list}
 use Rattle.vfs_nodes.specs.declared.children.Child.{Child}
 use Rattle.vfs_nodes.specs.declared.kind.Kind.{Kind}
@@ -221,11 +221,11 @@ fallocate_refusal s mode off len node =
 abbrev pub least_size : (mode off len : ℕ) → ℕ
 least_size mode off len = if mode == 1 then 0 else off + len
 
--- these bytes lie in pages that are held
+-- these bytes lie in pages that are held; it loses its capabilities
 abbrev pub grown : (now : Time) → (mode off len : ℕ) → Node → Node
 grown now mode off len node =
     let contents = allocated node.contents off len (least_size mode off len) in
-    record node { contents = contents; mtime = now; ctime = now }
+    record (stripped true false node) { contents = contents; mtime = now; ctime = now }
 
 abbrev pub allocates : State → (number mode off len : ℕ) → Outcome
 allocates s n mode off len = on (node_at s n) (fallocate_refusal s mode off len) (λ node.
@@ -238,10 +238,13 @@ hole_refusal s off len node =
     first_of ((len == 0, einval) ∷ (not (is_file node.kind), enodev)
     ∷ (nat_lt (longest s) (off + len), efbig) ∷ [])
 
--- there is one; it takes no memory
+-- there is one; it takes no memory, and the file loses its capabilities
 abbrev pub hollowed : (now : Time) → (off len : ℕ) → Node → Node
-hollowed now off len node =
-    record node { contents = punched node.contents off len; mtime = now; ctime = now }
+hollowed now off len node = record (stripped true false node) {
+  contents = punched node.contents off len;
+  mtime = now;
+  ctime = now;
+}
 
 abbrev pub punches : State → (number off len : ℕ) → Outcome
 punches s n off len = on (node_at s n) (hole_refusal s off len) (λ node.
@@ -263,11 +266,13 @@ write_refusal s off size node =
     ∷ (nat_lt 0 size && nat_le (most_size s off size node) off, enospc) ∷ []))
 
 -- of these bytes those are written that fit; memory is needed where their pages are not all held
-abbrev pub writes : State → (number off size : ℕ) → List ℕ → Node → Outcome
-writes s n off size bytes node =
+abbrev pub writes :
+    State → (number : ℕ) → (delayed kill : Bool) → (off size : ℕ) → List ℕ → Node → Outcome
+writes s n delayed kill off size bytes node =
     let fit = fitting (most_size s off size node) off (take size bytes) in
     Tried (nat_lt 0 (length fit) && nat_lt 0 (lacking node.contents off (length fit)))
-    (Just (Wrote (length fit))) (with_resized s n node (overwritten s.now node off fit))
+    (Just (Wrote (length fit)))
+    (with_resized s n node (overwritten s.now delayed kill node off fit))
 
 -- ---- READLINK, READDIR, STATFS
 
@@ -343,9 +348,13 @@ tells s size (Some text) =
 
 -- ---- the table
 
+-- what INIT asks for: DO_READDIRPLUS, READDIRPLUS_AUTO and HANDLE_KILLPRIV_V2
+abbrev pub wanted_options : ℕ
+wanted_options = 0x10006000
+
 -- how a call ends; what has no line has its default answer, and everything stays
 abbrev pub outcome : State → Call → Outcome
-outcome s (Init _) = Answered (Just (Options 0x6000)) (released s)
+outcome s (Init _) = Answered (Just (Options wanted_options)) (released s)
 outcome s Destroy = done (released s)
 outcome s (Lookup _ parent name) = at_name s parent name (λ child node.
     unless (first_of ((node.lookups == 2 ^ 64 - 1, eoverflow) ∷ []))
@@ -371,13 +380,14 @@ outcome s (Rename ctx od on nd nn flags) =
     renames s ctx.uid (group_in (node_at s od) ctx.gid) od on nd nn flags
 outcome s (Readlink _ n) = with_it (node_at s n) (λ node.
     unless (first_of ((has_no_text node, einval) ∷ [])) (Tried true (Just (Text node.text)) s))
-outcome s (Open ctx n _ flags) = with_it (node_at s n) (λ node.
-    Answered (Just (opening node flags)) (with_resized s n node (opened s.now ctx.uid node flags)))
+outcome s (Open ctx n kill flags) = with_it (node_at s n) (λ node.
+    Answered (Just (opening node flags))
+    (with_resized s n node (opened s.now ctx.uid kill node flags)))
 outcome s (Read _ n _ room size off _ _) =
     on (node_at s n) contents_refusal
     (λ node. Answered (Just (Put (part_of node.contents.bytes off (most_put room size)))) s)
-outcome s (Write _ n _ bytes size off _ _ _ _) =
-    on (node_at s n) (write_refusal s off size) (writes s n off size bytes)
+outcome s (Write _ n _ bytes size off _ delayed kill _) =
+    on (node_at s n) (write_refusal s off size) (writes s n delayed kill off size bytes)
 outcome s (Fallocate _ n _ mode off len) = if mode == 3 then punches s n off len else allocates s n mode off len
 outcome s (Lseek _ n _ off whence) = seeks s n off whence
 outcome s (Statfs _ _) = Answered (Just (Statistics (statistics_of s))) s

@@ -204,7 +204,7 @@ impl FileSystem for TreeFs {
         &mut self,
         ctx: Context,
         inode: u64,
-        _kill_priv: bool,
+        kill_priv: bool,
         flags: u32,
     ) -> Result<(Option<u64>, OpenOptions), Fault> {
         let now = self.now;
@@ -217,7 +217,7 @@ impl FileSystem for TreeFs {
         } else {
             OpenOptions::KEEP_CACHE
         };
-        node.open(now, ctx.uid, flags);
+        node.open(now, ctx.uid, kill_priv, flags);
         let after = node.weight();
         self.reweigh(before, after);
         Ok((None, options))
@@ -250,8 +250,8 @@ impl FileSystem for TreeFs {
         size: u32,
         offset: u64,
         _lock_owner: Option<u64>,
-        _delayed_write: bool,
-        _kill_priv: bool,
+        delayed_write: bool,
+        kill_priv: bool,
         _flags: u32,
     ) -> Result<u32, Fault> {
         let most = self.check_write(inode, offset, size)?;
@@ -260,7 +260,7 @@ impl FileSystem for TreeFs {
             unreachable!()
         };
         let before = node.weight();
-        let count = node.write_from(alloc, now, r, size, offset, most)?;
+        let count = node.write_from(alloc, now, r, size, offset, most, delayed_write, kill_priv)?;
         let after = node.weight();
         self.reweigh(before, after);
         Ok(count)
@@ -344,7 +344,7 @@ impl FileSystem for TreeFs {
 
     fn init(&mut self, _capable: FsOptions) -> Result<FsOptions, Fault> {
         self.release();
-        Ok(FsOptions::DO_READDIRPLUS | FsOptions::READDIRPLUS_AUTO)
+        Ok(FsOptions::DO_READDIRPLUS | FsOptions::READDIRPLUS_AUTO | FsOptions::HANDLE_KILLPRIV_V2)
     }
 
     fn opendir(

@@ -197,6 +197,7 @@ impl TreeFs {
         };
         let before = node.weight();
         node.contents.allocate(alloc, offset, length, least)?;
+        node.strip(true, false);
         node.mtime = now;
         node.ctime = now;
         let after = node.weight();
@@ -254,6 +255,7 @@ impl TreeFs {
         };
         let before = node.weight();
         node.contents.punch(offset, length);
+        node.strip(true, false);
         node.mtime = now;
         node.ctime = now;
         let after = node.weight();

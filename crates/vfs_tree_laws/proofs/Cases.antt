@@ -1,6 +1,5 @@
 -- What the calls leave: a fact of all states that are left follows from that fact of each change.
-use Rattle.std.proofs.Common.{◌≡◌, ◌≤◌, ◌+◌, ◌-◌, ◌^◌, ◌==◌, ◌&&◌, ◌||◌, not, nat_lt, nat_le, ℕ, min, max, ◌⊎◌, inl, inr, ⊎_elim, Bool, true, false, cond, List, [], ◌∷◌, ◌++◌, length, take, drop, replicate, Option, Some, None, is_some, is_none, refl, sym, ap, subst, ◌∙◌, arith, if◌then◌else◌, bit_and, length-append, length-take, length-drop}
-use Rattle.std.specs.List.{position_or_len}
+use Rattle.std.proofs.Common.{◌≡◌, ◌≤◌, ◌+◌, ◌-◌, ◌^◌, ◌==◌, ◌&&◌, ◌||◌, not, nat_lt, nat_le, ℕ, min, max, ◌⊎◌, inl, inr, ⊎_elim, Bool, true, false, List, [], ◌∷◌, ◌++◌, length, take, drop, replicate, Option, Some, None, is_some, is_none, refl, sym, ap, subst, ◌∙◌, arith, if◌then◌else◌, bit_and, length-append, length-take, length-drop}
 use Rattle.vfs_views.specs.Segments.{with_bytes_at}
 use Rattle.vfs_flags.specs.Numbers.{eexist, eisdir, einval, enodata, enospc, enotdir, enotempty, eopnotsupp, eoverflow, erange}
 use Rattle.vfs_files.specs.Bytes.{part_of, most_put, fitting, written, lengthened}
@@ -9,26 +8,25 @@ use Rattle.vfs_files.specs.Calls.{Call, Lookup, Forget, BatchForget, Getattr, Se
 use Rattle.vfs_files.specs.declared.entry.Context.{Context}
 use Rattle.vfs_grammar.specs.Books.{entry_node, answered_nodes, forgets_of}
 use Rattle.vfs_wire.specs.declared.attributes.SetattrIn.{SetattrIn}
-use Rattle.std.proofs.lemmas.Bool.{ltb-true, ltb-false, eqb-true, not-false, or_parts}
+use Rattle.std.proofs.lemmas.Bool.{ltb-false, eqb-true, not-false, or_parts}
 use Rattle.std.proofs.lemmas.List.{length-replicate}
-use Rattle.std.proofs.lemmas.List.Sums.{sum_by-remove}
 use Rattle.vfs_contents.specs.Contents.{Contents, resized, punched, data_from, hole_from, lacking}
 use Rattle.vfs_tree.specs.Children.{with_child, is_directory, is_file}
 use Rattle.vfs_tree.specs.Listing.{items_behind}
-use Rattle.vfs_tree.specs.Node.{weight, left_by, truncates, opened, set_attr, overwritten, kind_by_mode, new_node}
+use Rattle.vfs_tree.specs.Node.{weight, stripped, is_other, truncates, opened, set_attr, overwritten, kind_by_mode, new_node}
 use Rattle.vfs_tree.specs.Outcome.{TreeReply, Just, EntryOf, AttrOf, Listed, Outcome, Refused, Answered, Tried, Replies, Ends, done, first_of, or_else, unless, with_it, on}
 use Rattle.vfs_tree.specs.Rename.{directory_refusal, rename_refusal, renamed, wants_memory}
 use Rattle.vfs_tree.specs.State.{State, node_at, node_named, room_of, with_node, with_resized, with_names, change, child_at}
 use Rattle.vfs_tree.specs.State as tree
 use Rattle.vfs_tree_laws.specs.Laws.{IsShort}
-use Rattle.vfs_tree.specs.Tree.{opening, held_of, group_in, permissions_in, namespace_refusal, efbig, enodev, enxio, at_place, most_xattr_bytes, TreeAllows, outcome, found, at_name, made, makes, linked, all_forgotten, setattr_refusal, contents_refusal, writes, write_refusal, longest, most_size, grown, fallocate_refusal, hole_refusal, hollowed, punches, allocates, setxattr_refusal, with_xattrs, has_no_text, makes_kind, make_refusal, taken_out, link_refusal, statistics_of, tells}
-use Rattle.vfs_tree.specs.Xattrs.{Xattr, is_called, attribute_bytes, without_place, xattr_named, xattr_bytes, with_xattr, without_xattr, name_list}
+use Rattle.vfs_tree.specs.Tree.{opening, held_of, group_in, permissions_in, namespace_refusal, efbig, enodev, enxio, at_place, most_xattr_bytes, TreeAllows, outcome, wanted_options, found, at_name, made, makes, linked, all_forgotten, setattr_refusal, contents_refusal, writes, write_refusal, longest, most_size, grown, fallocate_refusal, hole_refusal, hollowed, punches, allocates, setxattr_refusal, with_xattrs, has_no_text, makes_kind, make_refusal, taken_out, link_refusal, statistics_of, tells}
+use Rattle.vfs_tree.specs.Xattrs.{xattr_named, xattr_bytes, with_xattr, without_xattr, name_list}
 use Rattle.vfs_nodes.specs.declared.children.Child.{Child}
 use Rattle.vfs_nodes.specs.declared.kind.Kind.{Kind}
 use Rattle.vfs_nodes.specs.declared.kind.Kind.TheVariants as kind
 use Rattle.vfs_nodes.specs.declared.node.Node.{Node}
 use Rattle.vfs_nodes.specs.declared.node.Time.{Time}
-use Rattle.vfs_nodes.proofs.Weights.{resized_holds, punched_holds, set_attr_weighs}
+use Rattle.vfs_nodes.proofs.Weights.{resized_holds, punched_holds, set_attr_weighs, stripped_bytes, without_xattr_bytes}
 use Rattle.vfs_tree.proofs.Weights.{fitting_ends, written_fits, grown_fits}
 
 -- a node with other contents or extended attributes, for which there is room
@@ -210,16 +208,15 @@ set_attr_resizes s node attr handle valid none = record {
     by false none short = short
 
 -- OPEN
-opened_resizes : (s : State) (uid : ℕ) (node : Node) (flags : ℕ)
-    → Resizes s node (opened s.now uid node flags)
-opened_resizes s uid node flags = by (truncates node flags)
+opened_resizes : (s : State) (uid : ℕ) (kill : Bool) (node : Node) (flags : ℕ)
+    → Resizes s node (opened s.now uid kill node flags)
+opened_resizes s uid kill node flags = by (truncates node flags)
   where
     by : (t : Bool)
         → Resizes s node
         (if t
-        then record node {
+        then record (stripped true (kill || is_other uid) node) {
           contents = resized node.contents 0;
-          permissions = left_by uid node.permissions;
           mtime = s.now;
           ctime = s.now;
         }
@@ -230,29 +227,32 @@ opened_resizes s uid node flags = by (truncates node flags)
       names = refl;
       lookups = refl;
       children = refl;
-      room = omega (arith, resized_holds node.contents 0);
+      room = omega (arith, resized_holds node.contents 0, stripped_bytes true true node);
       file = λ h is. omega (arith, length-resized node.contents 0);
     }
     by false = resizes_itself s node
 
 -- WRITE
-overwritten_short : (now : Time) (node : Node) (off most : ℕ) (bytes : List ℕ)
+overwritten_short : (now : Time) (delayed kill : Bool) (node : Node) (off most : ℕ) (bytes : List ℕ)
     → off + length bytes ≤ most ⊎ (bytes ≡ []) → length node.contents.bytes ≤ most
-    → length (overwritten now node off bytes).contents.bytes ≤ most
-overwritten_short now node off most [] within short = short
-overwritten_short now node off most (b ∷ bs) within short =
+    → length (overwritten now delayed kill node off bytes).contents.bytes ≤ most
+overwritten_short now delayed kill node off most [] within short = short
+overwritten_short now delayed kill node off most (b ∷ bs) within short =
     let ends : off + length (b ∷ bs) ≤ most = ⊎_elim (λ h. h) (λ none. cc) within in
     omega (arith, length-written node.contents.bytes off (b ∷ bs), ends, short)
 
-overwritten_resizes : (s : State) (node : Node) (off size : ℕ) (bytes : List ℕ)
-    → Resizes s node (overwritten s.now node off (fitting (most_size s off size node) off bytes))
-overwritten_resizes s node off size bytes =
-    by (fitting (most_size s off size node) off bytes) (written_fits s node s.now off size bytes)
+overwritten_resizes : (s : State) (delayed kill : Bool) (node : Node) (off size : ℕ) (bytes : List ℕ)
+    → Resizes s node
+    (overwritten s.now delayed kill node off (fitting (most_size s off size node) off bytes))
+overwritten_resizes s delayed kill node off size bytes =
+    by (fitting (most_size s off size node) off bytes)
+    (written_fits s node s.now delayed kill off size bytes)
     (fitting_ends (most_size s off size node) off bytes)
   where
-    by : (fit : List ℕ) → weight (overwritten s.now node off fit) ≤ weight node + room_of s
+    by : (fit : List ℕ)
+        → weight (overwritten s.now delayed kill node off fit) ≤ weight node + room_of s
         → off + length fit ≤ most_size s off size node ⊎ (fit ≡ [])
-        → Resizes s node (overwritten s.now node off fit)
+        → Resizes s node (overwritten s.now delayed kill node off fit)
     by [] weighs ends = resizes_itself s node
     by (b ∷ bs) weighs ends = record {
       kind = refl;
@@ -262,7 +262,7 @@ overwritten_resizes s node off size bytes =
       children = refl;
       room = weighs;
       file = λ short is.
-          overwritten_short s.now node off s.limits.file (b ∷ bs)
+          overwritten_short s.now delayed kill node off s.limits.file (b ∷ bs)
           (⊎_elim
           (λ (h : off + length (b ∷ bs) ≤ most_size s off size node). inl (omega (arith, h)))
           (λ (none : b ∷ bs ≡ []). inr none) ends)
@@ -306,7 +306,7 @@ hollowed_resizes s node off len = record {
   names = refl;
   lookups = refl;
   children = refl;
-  room = omega (arith, punched_holds node.contents off len);
+  room = omega (arith, punched_holds node.contents off len, stripped_bytes true false node);
   file = λ short is. omega (arith, length-punched node.contents off len, short is);
 }
 
@@ -335,19 +335,6 @@ xattr_fits s node name value flags none =
     }
 
 -- REMOVEXATTR
-less_at : (xattrs : List Xattr) (at : ℕ) (t : Bool) → nat_lt at (length xattrs) ≡ t
-    → xattr_bytes (without_place xattrs (cond t (Some at) None)) ≤ xattr_bytes xattrs
-less_at xattrs at true is =
-    let none : Xattr = record { name = []; value = [] } in
-    omega (arith, sum_by-remove attribute_bytes xattrs at none (ltb-true at (length xattrs) is))
-less_at xattrs at false is = omega arith
-
-less_without : (xattrs : List Xattr) (name : List ℕ)
-    → xattr_bytes (without_xattr xattrs name) ≤ xattr_bytes xattrs
-less_without xattrs name =
-    let at = position_or_len (is_called name) xattrs in
-    less_at xattrs at (nat_lt at (length xattrs)) refl
-
 xattr_leaves : (s : State) (node : Node) (name : List ℕ)
     → Resizes s node (with_xattrs s.now node (without_xattr node.xattrs name))
 xattr_leaves s node name = record {
@@ -356,7 +343,7 @@ xattr_leaves s node name = record {
   names = refl;
   lookups = refl;
   children = refl;
-  room = omega (arith, less_without node.xattrs name);
+  room = omega (arith, without_xattr_bytes node.xattrs name);
   file = λ h. h;
 }
 
@@ -604,13 +591,13 @@ module _ (old : State) (P : List (ℕ × ℕ) → TreeReply → State → Type 0
   covered (Open c n k flags) =
       let call = (Open c n k flags) in
       let fails : Fails old call = (refl, λ e. refl) in
-      let last = λ (node : Node). opened old.now c.uid node flags in
+      let last = λ (node : Node). opened old.now c.uid k node flags in
       let reply = λ (node : Node). Just (opening node flags) in
       each-with_it (Fails old call) (Leaves call) fails (node_at old n)
       (λ node. Answered (reply node) (with_resized old n node (last node)))
       (λ node is. (
         (λ a r. refl),
-        q.resizes n node (last node) (reply node) refl is (opened_resizes old c.uid node flags),
+        q.resizes n node (last node) (reply node) refl is (opened_resizes old c.uid k node flags),
       ))
   covered (Read c n h room size off o f) =
       let call = (Read c n h room size off o f) in
@@ -623,14 +610,14 @@ module _ (old : State) (P : List (ℕ × ℕ) → TreeReply → State → Type 0
       let fails : Fails old call = (refl, λ e. refl) in
       let fit = λ (node : Node). fitting (most_size old off size node) off (take size bytes) in
       each-on (Fails old call) (Leaves call) fails (node_at old n) (write_refusal old off size)
-      (writes old n off size bytes)
+      (writes old n d k off size bytes)
       (λ node is free. (
         fails,
         (
           (λ a r. refl),
-          q.resizes n node (overwritten old.now node off (fit node))
+          q.resizes n node (overwritten old.now d k node off (fit node))
               (Just (Wrote (length (fit node)))) refl is
-              (overwritten_resizes old node off size (take size bytes)),
+              (overwritten_resizes old d k node off size (take size bytes)),
         ),
       ))
   covered (Fallocate c n h mode off len) =
@@ -707,7 +694,7 @@ module _ (old : State) (P : List (ℕ × ℕ) → TreeReply → State → Type 0
   covered (Statfs c n) =
       ((λ a r. refl), q.same (Just (Statistics (statistics_of old))) refl)
   covered (Init x) =
-      ((λ a r. refl), q.forgot (held_of old.nodes) (Just (Options 0x6000)) refl)
+      ((λ a r. refl), q.forgot (held_of old.nodes) (Just (Options wanted_options)) refl)
   covered (Release c n f h x y o) =
       ((λ a r. refl), q.same (Just Done) refl)
   covered (Fsync c n x h) =

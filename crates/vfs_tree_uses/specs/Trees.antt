@@ -111,6 +111,23 @@ attribute_tree limits xattrs = tree_of limits (record empty_file { xattrs = xatt
 abbrev pub user_a : (value : List ℕ) → Xattr
 user_a value = record { name = codes "user.a"; value = value }
 
+-- the attribute that has the capabilities of a program, with some value
+abbrev pub capability : Xattr
+capability = record { name = codes "security.capability"; value = codes "c" }
+
+-- a file with these permission bits, extended attributes and bytes, and a tree with it
+abbrev pub program : (permissions : ℕ) → List Xattr → (bytes : List ℕ) → Node
+program permissions xattrs bytes =
+    record (file_of bytes) { permissions = permissions; xattrs = xattrs }
+
+abbrev pub program_tree : (permissions : ℕ) → List Xattr → (bytes : List ℕ) → State
+program_tree permissions xattrs bytes = tree_of wide (program permissions xattrs bytes)
+
+-- a tree with an empty directory `f`, likewise
+abbrev pub directory_tree : (permissions : ℕ) → List Xattr → State
+directory_tree permissions xattrs =
+    tree_of wide (record empty_directory { permissions = permissions; xattrs = xattrs })
+
 -- a tree whose root has two names, `f` and `d`: this file, node 2, and this directory, node 3
 abbrev pub tree_of_two : (f d : Child) → State
 tree_of_two f d =

@@ -124,9 +124,10 @@ fn mode_is_set(tree: &mut TreeFs) -> Result<(Attr, Duration), Fault>
     tree.setattr(root(), 2, wanted, None, SetattrValid::MODE)
 }
 
-/// INIT asks for READDIRPLUS as the client likes: DO_READDIRPLUS and READDIRPLUS_AUTO.
+/// INIT asks for READDIRPLUS as the client likes, DO_READDIRPLUS and READDIRPLUS_AUTO, and that the tree
+/// takes privileges, HANDLE_KILLPRIV_V2.
 fn wanted(tree: &mut TreeFs, capable: FsOptions) -> Result<FsOptions, Fault>
-    ensures { init_answer result ≡ Options 0x6000 }
+    ensures { init_answer result ≡ Options 0x10006000 }
 {
     tree.init(capable)
 }

@@ -12,5 +12,6 @@ mod full;
 mod laws;
 mod lookups;
 mod names;
+mod privileges;
 mod support;
 mod xattrs;

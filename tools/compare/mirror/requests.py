@@ -366,7 +366,8 @@ class Session:
         if what == "mode" and kind == "l":
             return
         # (the words of fuse_setattr_in: which hold, and then each)
-        valid = {"mode": 1, "owner": 6, "size": 8, "times": 0x30, "now": 0x1B0}[what]
+        # (a kernel that leaves privileges to the tree asks for them by 0x800)
+        valid = {"mode": 1, "owner": 6 if kind == "d" else 0x806, "size": 8, "times": 0x30, "now": 0x1B0}[what]
         seconds, nanoseconds = when if what == "times" else (0, 0)
         body = struct.pack("<IIQQQQQQIIIIIIII", valid, 0, 0, size, 0, seconds, seconds, 0, nanoseconds, nanoseconds, 0,
                            mode, 0, *owner, 0)
@@ -376,11 +377,7 @@ class Session:
             if what == "mode":
                 os.chmod(way(file), mode)
             elif what == "owner":
-                bits = os.fstat(file).st_mode
                 calls.check(LIBC.fchownat(file, b"", *owner, AT_EMPTY_PATH))
-                if kind != "l":
-                    # (a kernel asks for the mode apart)
-                    os.chmod(way(file), bits & 0o7777)
             elif what == "size":
                 if kind == "l":
                     raise OSError(errno.EINVAL, "")

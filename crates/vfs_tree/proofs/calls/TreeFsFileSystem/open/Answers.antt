@@ -5,5 +5,6 @@ use Rattle.vfs_tree.proofs.calls.TreeFsFileSystem.open.Goals as goal
 
 pub reweigh-requires : goal.reweigh-requires
 reweigh-requires c =
-    let fits = opened_weighs c.self.inside.now c.args.ctx.uid c.in-Some.node.now c.args.flags in
+    let fits = opened_weighs c.self.inside.now c.args.ctx.uid c.args.kill_priv c.in-Some.node.now
+    c.args.flags in
     omega (arith, fits, ap weight c.open.ensures)

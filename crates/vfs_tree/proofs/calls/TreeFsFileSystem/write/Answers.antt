@@ -7,8 +7,8 @@ use Rattle.vfs_tree.proofs.calls.TreeFsFileSystem.write.Goals as goal
 pub reweigh-requires : goal.reweigh-requires
 reweigh-requires g c =
     let most = rw (← c.self.view_is, ← c.in-Some.ensures.value) at c.in_ok-most.ensures.most in
-    let fits = overwritten_fits (the_view c.self.inside) c.in-Some.node.now _ _ c.args.offset c.args.size _ _ _ most
-    c.in_ok-count.ensures.2 in
+    let fits = overwritten_fits (the_view c.self.inside) c.in-Some.node.now _ _ c.args.delayed_write
+    c.args.kill_priv c.args.offset c.args.size _ _ _ most c.in_ok-count.ensures.2 in
     omega (arith, fits)
 
 pub returns-in_err-count : goal.returns-in_err-count

@@ -1,4 +1,4 @@
-use Rattle.std.proofs.Common.{◌≡◌, ◌<◌, ◌^◌, ◌-◌, ℕ, List, Option, None, IsSome, IfSome, refl, sym, ap, ◌∙◌, subst}
+use Rattle.std.proofs.Common.{◌≡◌, ◌<◌, ◌^◌, ◌-◌, ℕ, List, Option, None, IsSome, IfSome, refl, sym, ◌∙◌, subst}
 use Rattle.vfs_files.specs.Values.{name_text}
 use Rattle.vfs_tree.specs.Outcome.{refusal_of}
 use Rattle.vfs_tree.specs.State.{State, node_at}

@@ -1,5 +1,5 @@
 use Rattle.std.proofs.Common.{arith}
-use Rattle.vfs_tree.proofs.Weights.{without_xattr_bytes}
+use Rattle.vfs_nodes.proofs.Weights.{without_xattr_bytes}
 use Rattle.vfs_tree.proofs.fs.TreeFs.remove_xattr.Goals as goal
 
 pub reweigh-requires : goal.reweigh-requires
