@@ -8,7 +8,7 @@ use Rattle.vfs_wire.specs.declared.stat.Statvfs64.{Statvfs64}
 use Rattle.vfs_files.specs.declared.entry.Context.{Context}
 use Rattle.vfs_files.specs.Values.{Item}
 use Rattle.vfs_files.specs.Bytes.{part_of, most_put, fitting}
-use Rattle.vfs_files.specs.Calls.{Call, Init, Lookup, Forget, BatchForget, Getattr, Setattr, Symlink, Readlink, Open, Unlink, Rmdir, Rename, Link, Mknod, Mkdir, Create, Read, Write, Fallocate, Lseek, Statfs, Readdir, Setxattr, Getxattr, Listxattr, Removexattr, Fsync, Flush, Release, Fsyncdir, Releasedir, Destroy, Answer, Options, Opened, Text, Count, Put, Wrote, Done, Offset, Statistics, Handed, default_answer}
+use Rattle.vfs_files.specs.Calls.{Call, Init, Lookup, Forget, BatchForget, Getattr, Setattr, Symlink, Readlink, Open, Unlink, Rmdir, Rename, Link, Mknod, Mkdir, Create, Read, Write, Fallocate, Lseek, Statfs, Readdir, Setxattr, Getxattr, Listxattr, Removexattr, Fsync, Release, Fsyncdir, Releasedir, Destroy, Answer, Options, Opened, Text, Count, Put, Wrote, Done, Offset, Statistics, Handed, default_answer}
 use Rattle.vfs_contents.specs.Pages.{reach}
 use Rattle.vfs_contents.specs.Contents.{allocated, punched, data_from, hole_from, lacking, pages_over}
 use Rattle.vfs_nodes.specs.Children.{with_child, without_child, is_directory, is_file, is_link}
@@ -402,7 +402,6 @@ outcome s (Readdir _ n _ size off) = with_it (node_at s n) (λ node.
     unless (first_of ((not (is_directory node.kind), enotdir) ∷ []))
     (Tried true (Listed (items_behind n node off size)) s))
 outcome s (Fsync _ _ _ _) = done s
-outcome s (Flush _ _ _ _) = done s
 outcome s (Release _ _ _ _ _ _ _) = done s
 outcome s (Fsyncdir _ _ _ _) = done s
 outcome s (Releasedir _ _ _ _) = done s

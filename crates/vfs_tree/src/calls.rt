@@ -332,6 +332,7 @@ impl FileSystem for TreeFs {
         self.remove_xattr(inode, name.to_bytes())
     }
 
+    // Nothing is to be done when a descriptor is closed, and after ENOSYS Linux asks no more.
     fn flush(
         &mut self,
         _ctx: Context,
@@ -339,7 +340,7 @@ impl FileSystem for TreeFs {
         _handle: u64,
         _lock_owner: u64,
     ) -> Result<(), Fault> {
-        Ok(())
+        Err(Some(Errno::ENOSYS))
     }
 
     fn init(&mut self, _capable: FsOptions) -> Result<FsOptions, Fault> {

@@ -700,7 +700,7 @@ module _ (old : State) (P : List (ℕ × ℕ) → TreeReply → State → Type 0
   covered (Fsync c n x h) =
       ((λ a r. refl), q.same (Just Done) refl)
   covered (Flush c n h o) =
-      ((λ a r. refl), q.same (Just Done) refl)
+      ((λ a r. refl), q.same (Just (default_answer (Flush c n h o))) refl)
   covered (Releasedir c n f h) =
       ((λ a r. refl), q.same (Just Done) refl)
   covered (Fsyncdir c n x h) =

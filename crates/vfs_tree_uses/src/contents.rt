@@ -214,6 +214,14 @@ fn no_place_behind_the_end(tree: &mut TreeFs) -> Result<u64, Fault>
     tree.lseek(root(), 2, 0, 5, 3)
 }
 
+/// FLUSH of whatever was opened: ENOSYS, after which Linux sends none, and nothing changes.
+fn flushed(tree: &mut TreeFs, inode: u64, handle: u64) -> Result<(), Fault>
+    ensures refused { result ≡ Err (Some 38) }
+    ensures same { tree.new ≡ tree.old }
+{
+    tree.flush(root(), inode, handle, 0)
+}
+
 /// OPEN: what the client keeps of a file stays true (`FOPEN_KEEP_CACHE`, 2), and nothing changes.
 fn opened(tree: &mut TreeFs) -> Result<(Option<u64>, OpenOptions), Fault>
     requires { tree.old ≡ file_tree wide (codes "hello") }
