@@ -1,37 +1,20 @@
 -- How much a node weighs after a change.
-use Rattle.std.proofs.Common.{◌≡◌, ◌≤◌, ◌+◌, ◌*◌, ◌/◌, ◌==◌, ◌||◌, ℕ, zero, suc, Bool, true, false, not, List, [], ◌∷◌, Option, Some, None, length, take, drop, filter, nat_lt, bit_and, ◌⊎◌, ⊎_elim, if◌then◌else◌, arith}
+use Rattle.std.proofs.Common.{◌≡◌, ◌≤◌, ◌+◌, ◌*◌, ◌/◌, ◌==◌, ◌||◌, ℕ, Bool, true, false, not, List, [], ◌∷◌, Option, length, take, filter, nat_lt, bit_and, ◌⊎◌, ⊎_elim, if◌then◌else◌, arith}
 use Rattle.std.specs.Int.{div_ceil}
-use Rattle.std.specs.List.{position}
-use Rattle.std.proofs.lemmas.List.Sums.{sum_by-append, sum_by-cons, sum_by-take-drop}
 use Rattle.vfs_wire.specs.declared.attributes.SetattrIn.{SetattrIn}
 use Rattle.vfs_contents.specs.Contents.{Contents, resized, punched, pages_over}
 use Rattle.vfs_contents.specs.Pages.{is_outside, reach}
 use Rattle.vfs_contents.proofs.Counts.{held_within}
 use Rattle.vfs_nodes.specs.Node.{weight, capabilities, stripped, set_attr, takes_caps, is_other, truncates, opened, overwritten}
-use Rattle.vfs_nodes.specs.Xattrs.{Xattr, attribute_bytes, is_called, xattr_bytes, without_place, without_xattr}
+use Rattle.vfs_nodes.specs.Xattrs.{Xattr, xattr_bytes, without_xattr}
 use Rattle.vfs_nodes.specs.declared.node.Node.{Node}
 use Rattle.vfs_nodes.specs.declared.node.Time.{Time}
+use Rattle.vfs_nodes.proofs.Attributes.{bytes_removed}
 
 -- extended attributes without one of them take no more bytes
-drop_bytes : (xattrs : List Xattr) (place : ℕ)
-    → xattr_bytes (drop (suc place) xattrs) ≤ xattr_bytes (drop place xattrs)
-drop_bytes [] place = omega arith
-drop_bytes (x ∷ xs) zero = omega (arith, sum_by-cons attribute_bytes x xs)
-drop_bytes (x ∷ xs) (suc place) = drop_bytes xs place
-
-place_bytes : (xattrs : List Xattr) (place : Option ℕ)
-    → xattr_bytes (without_place xattrs place) ≤ xattr_bytes xattrs
-place_bytes xattrs None = omega arith
-place_bytes xattrs (Some place) = omega (
-  arith,
-  sum_by-append attribute_bytes (take place xattrs) (drop (suc place) xattrs),
-  sum_by-take-drop attribute_bytes xattrs place,
-  drop_bytes xattrs place,
-)
-
 pub without_xattr_bytes : (xattrs : List Xattr) (name : List ℕ)
     → xattr_bytes (without_xattr xattrs name) ≤ xattr_bytes xattrs
-without_xattr_bytes xattrs name = place_bytes xattrs (position (is_called name) xattrs)
+without_xattr_bytes xattrs name = omega (arith, bytes_removed xattrs name)
 
 -- nor do those without the capabilities, and so a node without privileges
 pub stripped_bytes : (caps ids : Bool) (node : Node)

@@ -1,54 +1,42 @@
 //! The extended attributes of a node.
 
-ghost use Rattle.std.specs.Prelude.{◌≡◌, ◌≤◌, ◌<◌, ◌++◌, ◌∷◌, [], List, ℕ, length, Some, None, MatchOption, MatchResult, OnOk, IfErr, IfSome, position};
+ghost use Rattle.std.specs.Prelude.{◌≡◌, ◌≤◌, ◌<◌, ◌++◌, ◌∷◌, [], List, ℕ, length, Some, None, MatchOption, MatchResult, OnOk, IfErr, IfSome};
 ghost use Rattle.vfs_flags.specs.Numbers.{enomem};
 ghost use Rattle.vfs_files.specs.Values.{name_text};
-ghost use Rattle.vfs_nodes.specs.Xattrs.{attribute_bytes, xattr_bytes, xattr_named, is_called, with_xattr, without_xattr, name_list};
+ghost use Rattle.vfs_nodes.specs.Xattrs.{AreInOrder, attribute_bytes, xattr_bytes, xattr_named, with_xattr, without_xattr, name_list};
 
 use std::alloc::Global;
+use std::collections::BTreeMap;
 use std::marker::Model;
-use vfs_files::{CStr, CString, copy_of};
+use vfs_files::{CStr, copy_of};
 use vfs_flags::{Errno, Fault};
 
 /// The most bytes that the extended attributes of a node take.
 pub const MOST_BYTES: u64 = 65_536;
 
-/// How many bytes one takes beside those of its name and its value: what its place in the list and two
+/// How many bytes one takes beside those of its name and its value: what its place in the map and two
 /// pieces of memory do.
 const PLACE_BYTES: u64 = 128;
 
-/// An extended attribute.
-#[derive(Drop)]
-pub(crate) struct Xattr {
-    name: CString,
-    value: Vec<u8>,
-}
-
-impl Model for Xattr {
-    ghost use Rattle.vfs_nodes.specs.Xattrs.{Xattr};
-
-    ghost Value = { Xattr };
-
-    ghost view = { λ xattr. record { name = xattr.name; value = xattr.value.items } };
-}
-
-/// The extended attributes of a node, in the order in which they were set.
+/// The extended attributes of a node: values by name.
 #[derive(Drop)]
 pub struct Xattrs {
-    list: Vec<Xattr>,
+    values: BTreeMap<Vec<u8>, Vec<u8>>,
     bytes: u64,
 }
 
 impl Model for Xattrs {
     ghost use Rattle.std.specs.Prelude.{◌≡◌, ◌≤◌, List};
-    ghost use Rattle.vfs_nodes.specs.Xattrs.{Xattr, xattr_bytes};
+    ghost use Rattle.vfs_nodes.specs.Xattrs.{Xattr, AreInOrder, xattr_bytes, xattrs_of};
 
     ghost Value = { List Xattr };
 
-    ghost view = { λ xattrs. xattrs.list.items };
+    ghost view = { λ xattrs. xattrs_of xattrs.values.entries };
 
     ghost invariant = { λ xattrs.
-        (xattrs.bytes ≡ xattr_bytes xattrs.list.items) × (xattrs.bytes ≤ 65536) };
+        AreInOrder (xattrs_of xattrs.values.entries)
+        × (xattrs.bytes ≡ xattr_bytes (xattrs_of xattrs.values.entries))
+        × (xattrs.bytes ≤ 65536) };
 }
 
 impl Xattrs {
@@ -57,7 +45,7 @@ impl Xattrs {
         ensures { result ≡ [] }
     {
         Xattrs {
-            list: Vec::new(alloc),
+            values: BTreeMap::new(alloc),
             bytes: 0,
         }
     }
@@ -77,12 +65,8 @@ impl Xattrs {
             (λ value. xattr_named self.now name.now ≡ Some value.now) }
         ensures most { IfSome result (λ value. length value.now ≤ MOST_BYTES) }
     {
-        match self
-            .list
-            .iter()
-            .find(|xattr| xattr.name.as_c_str().to_bytes() == name)
-        {
-            Some(xattr) => Some(&xattr.value),
+        match self.values.get(name) {
+            Some(value) => Some(value),
             None => None,
         }
     }
@@ -94,11 +78,8 @@ impl Xattrs {
             (λ bytes. (bytes ≡ xattr_bytes (with_xattr self.now name.now value.now))
             × bytes ≤ MOST_BYTES) }
     {
-        let kept = match self.place(name) {
-            Some(place) => self.bytes - self.list[place].bytes(),
-            None => self.bytes,
-        };
-        let bytes = kept
+        let bytes = self
+            .bytes_without(name)
             .checked_add(name.len() as u64)?
             .checked_add(value.len() as u64)?
             .checked_add(PLACE_BYTES)?;
@@ -108,6 +89,18 @@ impl Xattrs {
         Some(bytes)
     }
 
+    // How many bytes the others than this name take.
+    fn bytes_without(&self, name: &[u8]) -> u64
+        ensures bytes { result ≡ xattr_bytes (without_xattr self.now name.now) }
+        ensures most { result ≤ MOST_BYTES }
+        ensures order { AreInOrder self.now }
+    {
+        match self.values.get(name) {
+            Some(value) => self.bytes - bytes_of(name, value),
+            None => self.bytes,
+        }
+    }
+
     /// Gives the value of a name. ENOMEM where there is no memory for it, and all stays.
     pub fn set(&mut self, alloc: Global, name: CStr<'_>, value: &[u8]) -> Result<(), Fault>
         requires { xattr_bytes (with_xattr self.old (name_text name) value.now) ≤ MOST_BYTES }
@@ -115,21 +108,15 @@ impl Xattrs {
             with_xattr self.old (name_text name.entry) value.now) }
         ensures err { IfErr result (λ fault. (fault ≡ Some enomem) × (self.new ≡ self.old)) }
     {
-        let place = self.place(name.to_bytes());
-        let xattr = Xattr {
-            name: CString::new(alloc, name)?,
-            value: copy_of(alloc, value)?,
+        let Some(bytes) = self.bytes_with(name.to_bytes(), value) else {
+            unreachable!()
         };
-        let added = xattr.bytes();
-        match self.list.push(xattr) {
-            Ok(()) => {}
-            Err(_) => return Err(Some(Errno::ENOMEM)),
+        let key = copy_of(alloc, name.to_bytes())?;
+        let value = copy_of(alloc, value)?;
+        if self.values.insert(key, value).is_err() {
+            return Err(Some(Errno::ENOMEM));
         }
-        if let Some(place) = place {
-            let gone = self.list.remove(place);
-            self.bytes -= gone.bytes();
-        }
-        self.bytes += added;
+        self.bytes = bytes;
         Ok(())
     }
 
@@ -137,9 +124,8 @@ impl Xattrs {
     pub fn remove(&mut self, name: &[u8])
         ensures { self.new ≡ without_xattr self.old name.now }
     {
-        if let Some(place) = self.place(name) {
-            let gone = self.list.remove(place);
-            self.bytes -= gone.bytes();
+        if let Some(gone) = self.values.remove(name) {
+            self.bytes -= bytes_of(name, &gone);
         }
     }
 
@@ -149,8 +135,8 @@ impl Xattrs {
         ensures most { result ≤ MOST_BYTES }
     {
         let mut length = 0;
-        for xattr in &self.list {
-            length += xattr.name.as_c_str().to_bytes().len() as u32 + 1;
+        for (name, _) in &self.values {
+            length += name.len() as u32 + 1;
         }
         length
     }
@@ -162,39 +148,27 @@ impl Xattrs {
             (λ fault. fault ≡ Some enomem) }
     {
         let mut names = Vec::new(alloc);
-        for xattr in &self.list {
-            push_name(&mut names, &xattr.name)?;
+        for (name, _) in &self.values {
+            push_name(&mut names, name)?;
         }
         Ok(names)
     }
-
-    // Where the first of this name is.
-    fn place(&self, name: &[u8]) -> Option<usize>
-        ensures place { result ≡ position (is_called name.now) self.now }
-        ensures within { IfSome result (λ place. place < length self.now) }
-    {
-        self.list
-            .iter()
-            .position(|xattr| xattr.name.as_c_str().to_bytes() == name)
-    }
 }
 
-impl Xattr {
-    // How many bytes it takes.
-    fn bytes(&self) -> u64
-        requires { attribute_bytes self.now ≤ MOST_BYTES }
-        ensures { result ≡ attribute_bytes self.now }
-    {
-        self.name.as_c_str().to_bytes().len() as u64 + self.value.len() as u64 + PLACE_BYTES
-    }
+// How many bytes one of this name and this value takes.
+fn bytes_of(name: &[u8], value: &[u8]) -> u64
+    requires { attribute_bytes (name.now, value.now) ≤ MOST_BYTES }
+    ensures { result ≡ attribute_bytes (name.now, value.now) }
+{
+    name.len() as u64 + value.len() as u64 + PLACE_BYTES
 }
 
 // Adds a name, and a 0 behind it.
-fn push_name(names: &mut Vec<u8>, name: &CString) -> Result<(), Fault>
+fn push_name(names: &mut Vec<u8>, name: &[u8]) -> Result<(), Fault>
     ensures ok { OnOk result (names.new.items ≡ names.old.items ++ (name.now ++ 0 ∷ [])) }
     ensures err { IfErr result (λ fault. fault ≡ Some enomem) }
 {
-    match names.extend_from_slice(name.as_c_str().to_bytes()) {
+    match names.extend_from_slice(name) {
         Ok(()) => {}
         Err(_) => return Err(Some(Errno::ENOMEM)),
     }

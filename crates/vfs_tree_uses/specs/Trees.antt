@@ -109,7 +109,11 @@ attribute_tree limits xattrs = tree_of limits (record empty_file { xattrs = xatt
 
 -- the attribute `user.a`, with this value
 abbrev pub user_a : (value : List ℕ) → Xattr
-user_a value = record { name = codes "user.a"; value = value }
+user_a value = (codes "user.a", value)
+
+-- and `user.b`
+abbrev pub user_b : (value : List ℕ) → Xattr
+user_b value = (codes "user.b", value)
 
 -- the attribute that has the capabilities of a program, with some value
 abbrev pub capability : Xattr

@@ -1,8 +1,8 @@
-//! Extended attributes: they are set, told, listed and taken away, in three namespaces.
+//! Extended attributes: they are set, told, listed and taken away, by their names, in three namespaces.
 
 ghost use Rattle.std.specs.Prelude.{◌≡◌, ◌++◌, [], ◌∷◌, codes, Ok, Err, Some, MatchResult, ⊤};
 ghost use Rattle.vfs_files.specs.Answers.{Text, Count, value_or_count, names_or_count};
-ghost use Rattle.vfs_tree_uses.specs.Trees.{attribute_tree, user_a, wide};
+ghost use Rattle.vfs_tree_uses.specs.Trees.{attribute_tree, user_a, user_b, wide};
 
 use crate::support::root;
 use bitflags::Flags;
@@ -25,6 +25,17 @@ fn set(tree: &mut TreeFs, flags: u32) -> Result<(), Fault>
 {
     let name = CStr::before_nul(b"user.a\0", 6);
     tree.setxattr(root(), 2, name, b"on", flags, SetxattrFlags::empty())
+}
+
+/// SETXATTR of `user.a` where `user.b` is there: its place is before, by its name.
+fn set_before(tree: &mut TreeFs) -> Result<(), Fault>
+    requires { tree.old ≡ attribute_tree wide (user_b (codes "off") ∷ []) }
+    ensures { MatchResult result
+        (λ _. tree.new ≡ attribute_tree wide (user_a (codes "on") ∷ user_b (codes "off") ∷ []))
+        (λ fault. (fault ≡ Some 12) × (tree.new ≡ tree.old)) }
+{
+    let name = CStr::before_nul(b"user.a\0", 6);
+    tree.setxattr(root(), 2, name, b"on", 0, SetxattrFlags::empty())
 }
 
 /// SETXATTR of a name of another namespace, as that of an access control list: EOPNOTSUPP; of a name
@@ -67,6 +78,20 @@ fn value(tree: &mut TreeFs, size: u32) -> Result<GetxattrReply, Fault>
     ensures same { tree.new ≡ tree.old }
 {
     tree.getxattr(root(), 2, CStr::before_nul(b"user.a\0", 6), size)
+}
+
+/// GETXATTR and REMOVEXATTR find the second of two by its name.
+fn second_of_two(tree: &mut TreeFs) -> (Result<GetxattrReply, Fault>, Result<(), Fault>)
+    requires { tree.old ≡
+        attribute_tree wide (user_a (codes "on") ∷ user_b (codes "off") ∷ []) }
+    ensures value { MatchResult result.0
+        (λ reply. value_or_count reply ≡ Text (codes "off")) (λ fault. fault ≡ Some 12) }
+    ensures removed { result.1 ≡ Ok tt }
+    ensures left { tree.new ≡ attribute_tree wide (user_a (codes "on") ∷ []) }
+{
+    let name = CStr::before_nul(b"user.b\0", 6);
+    let value = tree.getxattr(root(), 2, name, 9);
+    (value, tree.removexattr(root(), 2, name))
 }
 
 /// GETXATTR of a name that is not there: ENODATA.

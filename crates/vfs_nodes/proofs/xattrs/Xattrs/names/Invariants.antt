@@ -1,6 +1,6 @@
-use Rattle.std.proofs.Common.{◌≡◌, take}
-use Rattle.vfs_nodes.specs.Xattrs.{name_list}
+use Rattle.std.proofs.Common.{◌≡◌, ◌++◌}
+use Rattle.vfs_nodes.specs.Xattrs.{name_list, xattrs_of}
 use Rattle.vfs_nodes.proofs.xattrs.Xattrs.names.Given as goal
 
-abbrev pub invariant-loop-xattr : goal.invariant-loop-xattr
-invariant-loop-xattr l = l.names.items ≡ name_list (take l.xattr-index l.xattr-items)
+abbrev pub invariant-loop-name : goal.invariant-loop-name
+invariant-loop-name l = l.names.items ++ name_list (xattrs_of l.name-iterator) ≡ name_list l.self

@@ -1,6 +1,6 @@
-use Rattle.std.proofs.Common.{◌≡◌, length, take}
-use Rattle.vfs_nodes.specs.Xattrs.{name_list}
+use Rattle.std.proofs.Common.{◌≡◌, ◌+◌, length}
+use Rattle.vfs_nodes.specs.Xattrs.{name_list, xattrs_of}
 use Rattle.vfs_nodes.proofs.xattrs.Xattrs.names_len.Given as goal
 
-abbrev pub invariant-loop-xattr : goal.invariant-loop-xattr
-invariant-loop-xattr l = l.length ≡ length (name_list (take l.xattr-index l.xattr-items))
+abbrev pub invariant-loop-name : goal.invariant-loop-name
+invariant-loop-name l = l.length + length (name_list (xattrs_of l.name-iterator)) ≡ length (name_list l.self)
