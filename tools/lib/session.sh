@@ -222,6 +222,18 @@ else
     skipped 'a hundred thousand names, without python3'
 fi
 
+# RENAME_WHITEOUT leaves a device in place of the old name, as overlayfs wants it.
+if [ -n "$shared" ]; then
+    skipped 'a whiteout, which not each host has'
+elif command -v python3 > /dev/null; then
+    works '0' 'echo w > w && python3 -c "import ctypes
+print(ctypes.CDLL(None).renameat2(-100, b\"w\", -100, b\"v\", 4))"'
+    works 'w
+character special file 0 0 0 1' 'cat v && stat -c "%F %t %T %a %h" w && rm v w'
+else
+    skipped 'a whiteout, without python3'
+fi
+
 # A repository, where there is git.
 if command -v git > /dev/null; then
     works '' 'git init -q "$other/from" && cd "$other/from" && seq 5000 > file && git add file &&

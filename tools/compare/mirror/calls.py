@@ -146,8 +146,9 @@ class Side:
 
         def act():
             self.rename2(path, other, WHITEOUT_NEW)
-            return as_root(lambda: (stat.S_ISCHR(os.lstat(self.at(path)).st_mode), os.unlink(self.at(path)),
-                                    os.rename(self.at(other), self.at(path))))
+            shown = as_root(lambda: self.stat(path))
+            as_root(lambda: (os.unlink(self.at(path)), os.rename(self.at(other), self.at(path))))
+            return shown["mode"], shown["rdev"], shown["nlink"]
         return self.unchanged(act, os.path.dirname(path), os.path.dirname(other))
 
     def chmod(self, path, mode):

@@ -46,7 +46,7 @@ def generate(random):
         "MKDIR": lambda: (node("d"), word(), random.choice(MODES) & 0o1777),
         "SYMLINK": lambda: (node("d"), word(), random.choice([b"a", b"/x/y", b"t" * 200, b"u" * 4095])),
         "LINK": lambda: (node("fls", 0.85), node("d"), word()),
-        "RENAME": lambda: (node("d"), word(), node("d"), word(), random.choice([0, 0, 0, 0, 1, 2, 2, 3])),
+        "RENAME": lambda: (node("d"), word(), node("d"), word(), random.choice([0, 0, 0, 0, 1, 2, 2, 3, 4, 4, 5, 6])),
         "SETATTR": lambda: (node("dfls"), random.choice(["mode", "owner", "size", "size", "size", "times", "now"]),
                             random.choice(MODES),
                             random.choice([0, 1, 5, 100, 4095, 4096, 4097, 70000, random.randrange(9000)]),
