@@ -114,7 +114,7 @@ abbrev pub moved_into : State → (number directory : ℕ) → State
 moved_into s n directory =
     change s n (λ node. record node { parent = directory; ctime = s.now })
 
--- a whiteout, made in this directory by this owner: a character device of number 0 that may be used by none.
+-- a whiteout, made in this directory by this owner: a character device of number 0, with no permission bits.
 -- No lookup of it is held
 abbrev pub whiteout : (now : Time) → (uid gid directory : ℕ) → Node
 whiteout now uid gid directory =
