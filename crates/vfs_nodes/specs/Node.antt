@@ -82,12 +82,20 @@ attr_of number node =
 abbrev pub IsDay : Duration → Type 0
 IsDay time = as_nanos time ≡ 86400 * 1000000000
 
+-- whether a node is a file that may lose set-user-ID or set-group-ID
+abbrev pub may_lose : Node → Bool
+may_lose node = is_file node.kind && not (bit_and node.permissions 0o6000 == 0)
+
+-- a day, and no time for the attributes of a file that may lose these: an OPEN takes them, and tells none
+abbrev pub Lasts : Node → Duration → Type 0
+Lasts node time = as_nanos time ≡ (if may_lose node then 0 else 86400) * 1000000000
+
 -- its entry
 pub record IsEntryOf (number : ℕ) (node : Node) (entry : Entry) : Type 0 where
   pub inode : entry.inode ≡ number
   pub generation : entry.generation ≡ 0
   pub attr : entry.attr ≡ attr_of number node
-  pub attr_timeout : IsDay entry.attr_timeout
+  pub attr_timeout : Lasts node entry.attr_timeout
   pub entry_timeout : IsDay entry.entry_timeout
 
 -- how many bytes of the file system's it takes: those of the pages that are held, of its text and its

@@ -3,7 +3,7 @@
 ghost use Rattle.std.specs.Prelude.{◌≡◌, ℕ, List, take, if◌then◌else◌, Some, MatchResult};
 ghost use Rattle.vfs_flags.specs.Numbers.{enomem};
 ghost use Rattle.vfs_flags.specs.Flags.{setattr_valid_bits};
-ghost use Rattle.vfs_nodes.specs.Node.{attr_of, nlink_of, size_of, IsEntryOf, weight, new_node, opened, set_attr, stripped, is_chown, is_other, takes_ids, truncates, without_set_ids};
+ghost use Rattle.vfs_nodes.specs.Node.{attr_of, nlink_of, size_of, IsEntryOf, weight, new_node, opened, set_attr, stripped, Lasts, is_chown, is_other, takes_ids, truncates, without_set_ids};
 ghost use Rattle.vfs_nodes.specs.Writing.{Overwrites};
 
 use crate::children::Children;
@@ -19,7 +19,7 @@ use vfs_flags::{Fault, GuestGid, GuestUid, SetattrValid};
 use vfs_wire::{Attr, SetattrIn};
 
 /// How long a client may rely on an answer: a day, since nobody else changes what it was told.
-pub const TIMEOUT_SECONDS: u64 = 86_400;
+const TIMEOUT_SECONDS: u64 = 86_400;
 
 /// The flag of `open(2)` that takes the bytes of a file.
 const O_TRUNC: u32 = 0o1000;
@@ -29,6 +29,9 @@ const PAGE: u64 = 4096;
 
 /// How many blocks of 512 bytes it has.
 const PAGE_BLOCKS: u64 = 8;
+
+/// The permission bits by which a file is run as its user and its group.
+const SET_IDS: u32 = 0o6000;
 
 /// The permission bit by which the group may run a file.
 const GROUP_RUNS: u32 = 0o10;
@@ -171,6 +174,17 @@ impl Node {
         }
     }
 
+    /// How long a client may rely on its attributes.
+    pub fn attr_timeout(&self) -> Duration
+        ensures { Lasts self.now result }
+    {
+        if self.kind.is_file() && self.permissions & SET_IDS != 0 {
+            Duration::from_secs(0)
+        } else {
+            Duration::from_secs(TIMEOUT_SECONDS)
+        }
+    }
+
     /// Its entry.
     pub fn entry(&self, number: u64) -> Entry
         ensures { IsEntryOf number self.now result }
@@ -179,7 +193,7 @@ impl Node {
             inode: number,
             generation: 0,
             attr: self.attr(number),
-            attr_timeout: Duration::from_secs(TIMEOUT_SECONDS),
+            attr_timeout: self.attr_timeout(),
             entry_timeout: Duration::from_secs(TIMEOUT_SECONDS),
         }
     }

@@ -3,7 +3,7 @@ use Rattle.std.specs.Prelude.{◌≡◌, ℕ, Bool, List, [], ◌∷◌, IsTrue,
 use Rattle.vfs_flags.specs.Numbers.{enoent, enomem}
 use Rattle.vfs_files.specs.Values.{Item}
 use Rattle.vfs_files.specs.Calls.{Answer, Done, Failed, Found, Created, Attributes, Handed, Plain, Iterator}
-use Rattle.vfs_nodes.specs.Node.{attr_of, IsDay, IsEntryOf}
+use Rattle.vfs_nodes.specs.Node.{attr_of, Lasts, IsEntryOf}
 use Rattle.vfs_nodes.specs.declared.node.Node.{Node}
 use Rattle.vfs_tree.specs.State.{State}
 
@@ -27,7 +27,7 @@ Replies (EntryOf n node) (Plain (Found entry)) = IsEntryOf n node entry
 Replies (EntryOf n node) (Plain (Created entry handle options)) =
     IsEntryOf n node entry × (handle ≡ None) × (options ≡ 0)
 Replies (AttrOf n node) (Plain (Attributes found timeout)) =
-    (found ≡ attr_of n node) × IsDay timeout
+    (found ≡ attr_of n node) × Lasts node timeout
 Replies (Listed items) (Iterator given) = given ≡ items
 Replies _ _ = ⊥
 

@@ -18,7 +18,7 @@ use vfs_files::{
     ZeroCopyReader, ZeroCopyWriter, defaults,
 };
 use vfs_flags::{Errno, Fault, FsOptions, OpenOptions, SetattrValid, SetxattrFlags};
-use vfs_nodes::{Kind, TIMEOUT_SECONDS, entries_behind};
+use vfs_nodes::{Kind, entries_behind};
 use vfs_wire::{Attr, SetattrIn, Statvfs64};
 
 /// The most bytes of a text that is answered: with the 16 of a header they are below 2 ^ 32.
@@ -67,7 +67,7 @@ impl FileSystem for TreeFs {
             (Plain (attr_answer result)) self.new }
     {
         match self.nodes.get(&inode) {
-            Some(node) => Ok((node.attr(inode), Duration::from_secs(TIMEOUT_SECONDS))),
+            Some(node) => Ok((node.attr(inode), node.attr_timeout())),
             None => Err(Some(Errno::ENOENT)),
         }
     }
@@ -91,9 +91,9 @@ impl FileSystem for TreeFs {
         let before = node.weight();
         node.set_attr(now, attr, handle, valid);
         let after = node.weight();
-        let attr = node.attr(inode);
+        let (attr, timeout) = (node.attr(inode), node.attr_timeout());
         self.reweigh(before, after);
-        Ok((attr, Duration::from_secs(TIMEOUT_SECONDS)))
+        Ok((attr, timeout))
     }
 
     fn readlink(&mut self, _ctx: Context, inode: u64) -> Result<Vec<u8>, Fault> {

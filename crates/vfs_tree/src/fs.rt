@@ -137,6 +137,7 @@ impl TreeFs {
     fn is_full(&self, above: &Node, size: u64) -> bool
         ensures full { result ≡ is_full self.entry.now (Some above.now) size }
         ensures inodes { result ≡ false → self.entry.now.inodes < 2 ^ 64 - 1 }
+        ensures number { result ≡ false → self.entry.now.next < 2 ^ 64 - 1 }
     {
         self.inodes >= self.limits.nodes
             || self.next == u64::MAX
@@ -148,6 +149,7 @@ impl TreeFs {
     fn check_make(&self, parent: u64, name: &[u8], size: u64) -> Result<(), Errno>
         ensures ok { OnOk result (make_refusal self.entry.now parent name.now size ≡ None) }
         ensures inodes { OnOk result (self.entry.now.inodes < 2 ^ 64 - 1) }
+        ensures number { OnOk result (self.entry.now.next < 2 ^ 64 - 1) }
         ensures err { IfErr result (λ errno.
             make_refusal self.entry.now parent name.now size ≡ Some errno) }
     {

@@ -1,6 +1,7 @@
 //! What a program has of the file that it is run from: a change of the file takes it.
 
 ghost use Rattle.std.specs.Prelude.{◌≡◌, ◌++◌, [], ◌∷◌, false, true, codes, Ok, Some, MatchResult};
+ghost use Rattle.std.specs.Duration.{as_nanos};
 ghost use Rattle.vfs_tree_uses.specs.Trees.{capability, directory_tree, program, program_tree, tree_of, user_a, wide};
 
 use crate::support::root;
@@ -117,6 +118,15 @@ fn mode_given(tree: &mut TreeFs, kill_priv: bool) -> Result<(Attr, Duration), Fa
         SetattrValid::empty()
     };
     tree.setattr(root(), 2, wanted, None, SetattrValid::MODE | asked)
+}
+
+/// GETATTR of a file with set-user-ID: a client may not rely on what it is told, since an OPEN may take that.
+fn told_for_no_time(tree: &mut TreeFs) -> Result<(Attr, Duration), Fault>
+    requires { tree.old ≡ program_tree 0o4755 [] (codes "hello") }
+    ensures { MatchResult result
+        (λ reply. (reply.0.mode ≡ 0o104755) × (as_nanos reply.1 ≡ 0)) (λ _. ⊥) }
+{
+    tree.getattr(root(), 2, None)
 }
 
 /// FALLOCATE of bytes (mode 0), or of a hole in place of them (3), takes the capabilities.
