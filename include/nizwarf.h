@@ -86,12 +86,18 @@ typedef struct {
 	uint32_t nanoseconds;
 	/* Who the root belongs to, and its permission bits. */
 	uint32_t uid, gid, mode;
+	/* NIZWARF_WRITEBACK, or 0. */
+	uint64_t flags;
 } nizwarf_settings;
 
+/* The kernel is asked to keep what is written and to write it later (FUSE_WRITEBACK_CACHE). What there is
+ * no space for is told by fsync or close then, not by write. */
+#define NIZWARF_WRITEBACK 1
+
 /* A million nodes and 4 GiB of memory, and files as long as Linux allows; a root of user and group 0, which
- * they alone may write; no time yet. */
+ * they alone may write; no time yet; no flags. */
 #define NIZWARF_SETTINGS \
-	{ 0, UINT64_C(1) << 20, UINT64_C(1) << 32, INT64_MAX, 0, 0, 0, 0755 }
+	{ 0, UINT64_C(1) << 20, UINT64_C(1) << 32, INT64_MAX, 0, 0, 0, 0755, 0 }
 
 /* What a call came to. After each of the first eleven, the request is completed with `*len` bytes, and
  * the session goes on. */

@@ -7,11 +7,12 @@
 # `umount FOLDER` or Ctrl-C unmounts it, and what was written there is gone. The library is crates/NAME, which
 # tools/new-library.sh makes; vfs_c where none is named. Options are those of other file systems, with commas
 # between them: allow_other, ro, rw, noexec, nosuid, nodev, fsname=NAME, max_read=BYTES, and for the tree in
-# memory size=BYTES, nr_inodes=N (k, m, g), mode=OCTAL, uid=N, gid=N. With --trace each request and each reply
-# is printed, or their bytes go to a new FILE for vfs_decode.
+# memory size=BYTES, nr_inodes=N (k, m, g), mode=OCTAL, uid=N, gid=N, writeback, by which the kernel keeps what
+# is written and writes it later. With --trace each request and each reply is printed, or their bytes go to a new
+# FILE for vfs_decode.
 #
 # With --check it is mounted on a folder of its own: tools/lib/session.sh does there what a person does, memory
-# goes back that was written and cut, and it is unmounted; then it is mounted again, with other options, and
+# goes back that was written and cut, and it is unmounted; then so with writeback; with other options, where it
 # ends by a signal; and once more, with limits, which bound the server's memory. It wants python3 then.
 #
 # It wants root, /dev/fuse, a C compiler and the Rattle toolchain. It links the proved library where that
@@ -172,6 +173,11 @@ status=0
 cut_files || status=1
 umount "$folder"
 ended "Unmounted"
+start -o allow_other,writeback
+"$here/tools/lib/session.sh" "$folder" || status=1
+cut_files || status=1
+umount "$folder"
+ended "Unmounted, with writeback"
 start -o ro,size=1m,nr_inodes=10,mode=711,uid=7,gid=8,fsname=check
 shown="$(df -T "$folder" | awk 'END { print $1, $2, $3 }') $(df -i "$folder" | awk 'END { print $2 }')"
 [ "$shown $(stat -c '%A %u %g' "$folder")" = "check fuse.nizwarf 1024 10 drwx--x--x 7 8" ] || {

@@ -31,6 +31,7 @@ static const char usage[] =
 	"  size=N, nr_inodes=N     the most bytes, and files and directories; N may end in k, m or g\n"
 	"  mode=N, uid=N, gid=N    the root's permission bits in octal, its user and its group\n"
 	"  fsname=NAME             what df shows in place of nizwarf\n"
+	"  writeback               the kernel keeps what is written, and writes it later\n"
 	"  max_read=N              the most bytes of one read\n";
 
 /* What the options say. */
@@ -89,6 +90,8 @@ static void take_option(const char *key, char *value)
 		}
 	if (!value && !strcmp(key, "allow_other"))
 		allow_other = ",allow_other";
+	else if (!value && !strcmp(key, "writeback"))
+		settings.flags |= NIZWARF_WRITEBACK;
 	else if (value && *value && !strcmp(key, "fsname"))
 		name = value;
 	else if (!strcmp(key, "size"))

@@ -147,7 +147,7 @@ static void settings(void)
 	nizwarf_server server = NIZWARF_NONE;
 	size_t len;
 
-	CHECK(sizeof(set) == 48 && defaults.nodes == 1 << 20 && defaults.bytes == UINT64_C(4) << 30 &&
+	CHECK(sizeof(set) == 56 && defaults.flags == 0 && defaults.nodes == 1 << 20 && defaults.bytes == UINT64_C(4) << 30 &&
 	      defaults.file == INT64_MAX && defaults.mode == 0755);
 	CHECK(nizwarf_new(&server, 4096, 4096, &set) == NIZWARF_OK);
 	getattr.header.nodeid = 1;

@@ -1,6 +1,6 @@
 -- The file system behind the server, as contracts see it. A library over another one has other
 -- values here, and another `src/files.rt`.
-use Rattle.std.specs.Prelude.{ℕ, List, Option}
+use Rattle.std.specs.Prelude.{ℕ, ◌==◌, bit_and, List, Option}
 use Rattle.vfs_files.specs.Values.{Item}
 use Rattle.vfs_files.specs.Calls.{Call, Handed}
 use Rattle.vfs_files.specs.Listing.{GivesFirst}
@@ -12,12 +12,12 @@ use Rattle.vfs_c.specs.declared.files.Settings.{Settings}
 abbrev pub State : Type 0
 State = tree.State
 
--- the state of a new one: a root alone, with the owner, the permissions, the limits and the time that
+-- the state of a new one: a root alone, with the owner, the permissions, the limits, the flag and the time that
 -- were set
 abbrev pub new_state : Settings → State
 new_state set =
     first_state set.uid set.gid set.mode
-    (record { nodes = set.nodes; bytes = set.bytes; file = set.file })
+    (record { nodes = set.nodes; bytes = set.bytes; file = set.file }) (bit_and set.flags 1 == 1)
     (record { seconds = set.seconds; nanoseconds = set.nanoseconds })
 
 -- what is left of a directory that is read

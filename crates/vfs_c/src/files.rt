@@ -32,7 +32,12 @@ pub struct Settings {
     pub gid: u32,
     /// The permission bits of the root: `mode & 0o7777`.
     pub mode: u32,
+    /// [`WRITEBACK`], or 0.
+    pub flags: u64,
 }
+
+/// The flag by which the client is to keep what is written, and to write it later.
+pub const WRITEBACK: u64 = 1;
 
 /// A new one. `None` where there is no memory.
 pub fn new_files(alloc: Global, settings: &Settings) -> Option<Files>
@@ -49,7 +54,8 @@ pub fn new_files(alloc: Global, settings: &Settings) -> Option<Files>
     };
     let uid = GuestUid::from(settings.uid);
     let gid = GuestGid::from(settings.gid);
-    match TreeFs::new(alloc, uid, gid, settings.mode, limits, now) {
+    let writeback = settings.flags & WRITEBACK == WRITEBACK;
+    match TreeFs::new(alloc, uid, gid, settings.mode, limits, writeback, now) {
         Ok(files) => Some(files),
         Err(_) => None,
     }

@@ -35,7 +35,7 @@ const NOW: Time = Time {
 /// A server over a new tree within these limits, whose root is of user and group 0.
 fn new_server(alloc: Global, limits: Capacity) -> Result<Server<TreeFs>, Fail> {
     let (uid, gid) = (GuestUid::from(0), GuestGid::from(0));
-    match TreeFs::new(alloc, uid, gid, 0o755, limits, NOW) {
+    match TreeFs::new(alloc, uid, gid, 0o755, limits, false, NOW) {
         Ok(tree) => Ok(Server::new(tree, 4096)),
         Err(_) => Err(Fail::from("no memory for a tree")),
     }

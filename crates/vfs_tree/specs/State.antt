@@ -1,5 +1,5 @@
 -- The state of the file system: its nodes by number.
-use Rattle.std.specs.Prelude.{ℕ, ◌+◌, ◌-◌, ◌==◌, ◌&&◌, nat_lt, min, List, length, Option, Some, None, if◌then◌else◌}
+use Rattle.std.specs.Prelude.{ℕ, ◌+◌, ◌-◌, ◌==◌, ◌&&◌, nat_lt, min, Bool, List, length, Option, Some, None, if◌then◌else◌}
 use Rattle.std.specs.List.{filter}
 use Rattle.std.specs.Ordering.{nat_cmp}
 use Rattle.std.specs.Map.{lookup, set_value, remove_entry}
@@ -13,13 +13,14 @@ use Rattle.vfs_tree.specs.declared.fs.Capacity.{Capacity}
 
 -- the nodes in order of their numbers, the number of the next one, how many bytes the nodes take, how many
 -- inodes they are counted as (each node as one, and each further name that leads to it as one more), how
--- much there may be at most, and the time
+-- much there may be at most, whether the client is to keep what is written and write it later, and the time
 pub record State : Type 0 where
   pub nodes : List (ℕ × Node)
   pub next : ℕ
   pub used : ℕ
   pub inodes : ℕ
   pub limits : Capacity
+  pub writeback : Bool
   pub now : Time
 
 -- the node of this number

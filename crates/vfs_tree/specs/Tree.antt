@@ -2,7 +2,7 @@
 use Rattle.std.specs.Prelude.{ℕ, ◌==◌, ◌+◌, ◌-◌, ◌*◌, ◌/◌, ◌^◌, ◌||◌, ◌&&◌, nat_eq, nat_le, nat_lt, not, min, Bool, true, false, List, [], ◌∷◌, length, map, take, codes, bit_and, bit_or, Option, Some, None, is_some, is_none, if◌then◌else◌}
 use Rattle.std.specs.List.{starts_with}
 use Rattle.std.specs.Str.{bytes_eq}
-use Rattle.vfs_flags.specs.Numbers.{eperm, enoent, eexist, enotdir, eisdir, einval, enospc, erange, enotempty, enodata, eoverflow, eopnotsupp}
+use Rattle.vfs_flags.specs.Numbers.{eperm, enoent, eexist, enotdir, eisdir, einval, enospc, erange, enotempty, enodata, enosys, eoverflow, eopnotsupp}
 use Rattle.vfs_wire.specs.declared.attributes.SetattrIn.{SetattrIn}
 use Rattle.vfs_wire.specs.declared.stat.Statvfs64.{Statvfs64}
 use Rattle.vfs_files.specs.declared.entry.Context.{Context}
@@ -51,10 +51,16 @@ abbrev pub root_node : (uid gid permissions : ℕ) → Time → Node
 root_node uid gid permissions now =
     record (new_node now uid gid kind.Directory permissions 1 []) { lookups = 0 }
 
-abbrev pub first_state : (uid gid permissions : ℕ) → Capacity → Time → State
-first_state uid gid permissions limits now =
-    let nodes = (1, root_node uid gid permissions now) ∷ [] in
-    record { nodes = nodes; next = 2; used = 0; inodes = 1; limits = limits; now = now }
+abbrev pub first_state : (uid gid permissions : ℕ) → Capacity → (writeback : Bool) → Time → State
+first_state uid gid permissions limits writeback now = record {
+  nodes = (1, root_node uid gid permissions now) ∷ [];
+  next = 2;
+  used = 0;
+  inodes = 1;
+  limits = limits;
+  writeback = writeback;
+  now = now;
+}
 
 -- ---- LOOKUP, FORGET
 
@@ -250,13 +256,15 @@ abbrev pub punches : State → (number off len : ℕ) → Outcome
 punches s n off len = on (node_at s n) (hole_refusal s off len) (λ node.
     done (with_resized s n node (hollowed s.now off len node)))
 
--- LSEEK looks for data (SEEK_DATA, 3) or a hole (SEEK_HOLE, 4) of a file, from a place before its end on
+-- LSEEK looks for data (SEEK_DATA, 3) or a hole (SEEK_HOLE, 4) of a file, from a place before its end on. What
+-- a client has yet to write would be taken for a hole: one that writes later is to look itself
 abbrev pub seeks : State → (number off whence : ℕ) → Outcome
-seeks s n off whence = with_it (node_at s n) (λ node.
+seeks s n off whence =
+    unless (first_of ((s.writeback, enosys) ∷ [])) (with_it (node_at s n) (λ node.
     let at = if whence == 4 then Some (hole_from node.contents off)
     else data_from node.contents off in
     unless (first_of ((not (is_file node.kind) || not (whence == 3 || whence == 4), einval)
-    ∷ (nat_le (length node.contents.bytes) off, enxio) ∷ [])) (at_place s at))
+    ∷ (nat_le (length node.contents.bytes) off, enxio) ∷ [])) (at_place s at)))
 
 -- why not one of so many bytes can be written from off on
 abbrev pub write_refusal : State → (off size : ℕ) → Node → Option ℕ
@@ -348,13 +356,14 @@ tells s size (Some text) =
 
 -- ---- the table
 
--- what INIT asks for: DO_READDIRPLUS, READDIRPLUS_AUTO and HANDLE_KILLPRIV_V2
-abbrev pub wanted_options : ℕ
-wanted_options = 0x10006000
+-- what INIT asks for: DO_READDIRPLUS, READDIRPLUS_AUTO, HANDLE_KILLPRIV_V2, and WRITEBACK_CACHE if the client is
+-- to write later
+abbrev pub wanted_options : (writeback : Bool) → ℕ
+wanted_options writeback = if writeback then 0x10016000 else 0x10006000
 
 -- how a call ends; what has no line has its default answer, and everything stays
 abbrev pub outcome : State → Call → Outcome
-outcome s (Init _) = Answered (Just (Options wanted_options)) (released s)
+outcome s (Init _) = Answered (Just (Options (wanted_options s.writeback))) (released s)
 outcome s Destroy = done (released s)
 outcome s (Lookup _ parent name) = at_name s parent name (λ child node.
     unless (first_of ((node.lookups == 2 ^ 64 - 1, eoverflow) ∷ []))

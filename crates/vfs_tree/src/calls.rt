@@ -344,8 +344,16 @@ impl FileSystem for TreeFs {
     }
 
     fn init(&mut self, _capable: FsOptions) -> Result<FsOptions, Fault> {
+        let always = FsOptions::DO_READDIRPLUS
+            | FsOptions::READDIRPLUS_AUTO
+            | FsOptions::HANDLE_KILLPRIV_V2;
+        let wanted = if self.writeback {
+            always | FsOptions::WRITEBACK_CACHE
+        } else {
+            always
+        };
         self.release();
-        Ok(FsOptions::DO_READDIRPLUS | FsOptions::READDIRPLUS_AUTO | FsOptions::HANDLE_KILLPRIV_V2)
+        Ok(wanted)
     }
 
     fn opendir(

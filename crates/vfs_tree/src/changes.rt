@@ -289,11 +289,15 @@ impl TreeFs {
         Ok(())
     }
 
-    /// The next place in a file, from `offset` on, of data or of a hole.
+    /// The next place in a file, from `offset` on, of data or of a hole. A client that writes later is to
+    /// look itself.
     pub(crate) fn seek(&self, inode: u64, offset: u64, whence: u32) -> Result<u64, Fault>
         ensures { Ends self.entry.now (seeks self.entry.now inode offset whence)
             (Plain (offset_answer result)) self.entry.now }
     {
+        if self.writeback {
+            return Err(Some(Errno::ENOSYS));
+        }
         let Some(node) = self.nodes.get(&inode) else {
             return Err(Some(Errno::ENOENT));
         };

@@ -52,6 +52,7 @@ pub struct TreeFs {
     pub(crate) used: u64,
     pub(crate) inodes: u64,
     pub(crate) limits: Capacity,
+    pub(crate) writeback: bool,
     pub(crate) now: Time,
 }
 
@@ -69,6 +70,7 @@ impl Model for TreeFs {
       used = fs.used;
       inodes = fs.inodes;
       limits = fs.limits;
+      writeback = fs.writeback;
       now = fs.now;
     } };
 
@@ -87,17 +89,19 @@ impl Debug for TreeFs {
 
 impl TreeFs {
     /// A new file system within these limits: a root alone, with these permission bits, which belongs
-    /// to this owner and was made now. ENOMEM where there is no memory for it.
+    /// to this owner and was made now. With `writeback` it asks the client to keep what is written and
+    /// to write it later. ENOMEM where there is no memory for it.
     pub fn new(
         alloc: Global,
         uid: GuestUid,
         gid: GuestGid,
         permissions: u32,
         limits: Capacity,
+        writeback: bool,
         now: Time,
     ) -> Result<TreeFs, Fault>
         ensures { MatchResult result
-            (λ fs. fs ≡ first_state uid gid permissions limits now)
+            (λ fs. fs ≡ first_state uid gid permissions limits writeback now)
             (λ fault. fault ≡ Some enomem) }
     {
         let kind = Kind::Directory;
@@ -112,6 +116,7 @@ impl TreeFs {
                 used: 0,
                 inodes: 1,
                 limits,
+                writeback,
                 now,
             }),
             Err(_) => Err(Some(Errno::ENOMEM)),

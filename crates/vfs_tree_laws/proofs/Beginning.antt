@@ -19,9 +19,9 @@ none_apart : IsDistinct bytes_eq []
 unfolding IsDistinct
 none_apart = tt
 
-module _ (uid gid permissions : ℕ) (limits : Capacity) (now : Time) where
+module _ (uid gid permissions : ℕ) (limits : Capacity) (writeback : Bool) (now : Time) where
   abbrev first : State
-  first = first_state uid gid permissions limits now
+  first = first_state uid gid permissions limits writeback now
 
   abbrev root : Node
   root = root_node uid gid permissions now
@@ -89,7 +89,7 @@ none root is true = is
 none root is false = refl
 
 pub new_ones_are_trees : NewOnesAreTrees
-new_ones_are_trees uid gid permissions limits now = (
-  tree uid gid permissions limits now,
+new_ones_are_trees uid gid permissions limits writeback now = (
+  tree uid gid permissions limits writeback now,
   λ n. none (root_node uid gid permissions now) refl (is_at (nat_cmp n) 1),
 )

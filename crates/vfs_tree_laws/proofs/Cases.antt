@@ -1,7 +1,7 @@
 -- What the calls leave: a fact of all states that are left follows from that fact of each change.
 use Rattle.std.proofs.Common.{◌≡◌, ◌≤◌, ◌+◌, ◌-◌, ◌^◌, ◌==◌, ◌&&◌, ◌||◌, not, nat_lt, nat_le, ℕ, min, max, ◌⊎◌, inl, inr, ⊎_elim, Bool, true, false, List, [], ◌∷◌, ◌++◌, length, take, drop, replicate, Option, Some, None, is_some, is_none, refl, sym, ap, subst, ◌∙◌, arith, if◌then◌else◌, bit_and, length-append, length-take, length-drop}
 use Rattle.vfs_views.specs.Segments.{with_bytes_at}
-use Rattle.vfs_flags.specs.Numbers.{eexist, eisdir, einval, enodata, enospc, enotdir, enotempty, eopnotsupp, eoverflow, erange}
+use Rattle.vfs_flags.specs.Numbers.{eexist, eisdir, einval, enodata, enospc, enosys, enotdir, enotempty, eopnotsupp, eoverflow, erange}
 use Rattle.vfs_files.specs.Bytes.{part_of, most_put, fitting, written, lengthened}
 use Rattle.vfs_files.specs.Values.{Item}
 use Rattle.vfs_files.specs.Calls.{Call, Lookup, Forget, BatchForget, Getattr, Setattr, Symlink, Readlink, Open, Unlink, Rmdir, Rename, Link, Mknod, Mkdir, Create, Read, Write, Fallocate, Setxattr, Getxattr, Listxattr, Removexattr, Statfs, Release, Fsync, Flush, Init, Opendir, Readdir, Releasedir, Fsyncdir, Getlk, Setlk, Setlkw, Access, Bmap, Destroy, Ioctl, Poll, NotifyReply, Lseek, Copyfilerange, Syncfs, Tmpfile, Answer, Done, Failed, Options, Found, Attributes, Created, Text, Count, Put, Wrote, Statistics, Opened, Offset, Handed, Plain, Iterator, default_answer}
@@ -694,7 +694,7 @@ module _ (old : State) (P : List (ℕ × ℕ) → TreeReply → State → Type 0
   covered (Statfs c n) =
       ((λ a r. refl), q.same (Just (Statistics (statistics_of old))) refl)
   covered (Init x) =
-      ((λ a r. refl), q.forgot (held_of old.nodes) (Just (Options wanted_options)) refl)
+      ((λ a r. refl), q.forgot (held_of old.nodes) (Just (Options (wanted_options old.writeback))) refl)
   covered (Release c n f h x y o) =
       ((λ a r. refl), q.same (Just Done) refl)
   covered (Fsync c n x h) =
@@ -733,11 +733,13 @@ module _ (old : State) (P : List (ℕ × ℕ) → TreeReply → State → Type 0
       let none = λ (node : Node).
       first_of ((not (is_file node.kind) || not (w == 3 || w == 4), einval)
       ∷ (nat_le (length node.contents.bytes) off, enxio) ∷ []) in
-      each-with_it (Fails old call) (Leaves call) fails (node_at old n)
-      (λ node. unless (none node) (at_place old (at node)))
+      let last = λ (node : Node). unless (none node) (at_place old (at node)) in
+      each-unless (Fails old call) (Leaves call) fails (first_of ((old.writeback, enosys) ∷ []))
+      (with_it (node_at old n) last)
+      (λ may. each-with_it (Fails old call) (Leaves call) fails (node_at old n) last
       (λ node is. each-unless (Fails old call) (Leaves call) fails (none node) (at_place old (at node))
       (λ free. each-at_place (Fails old call) (Leaves call) fails old (at node)
-      (λ place. ((λ a r. refl), q.same (Just (Offset place)) refl))))
+      (λ place. ((λ a r. refl), q.same (Just (Offset place)) refl)))))
   covered (Copyfilerange c n h o m i p l f) =
       ((λ a r. refl), q.same (Just (default_answer (Copyfilerange c n h o m i p l f))) refl)
   covered (Syncfs c n) =

@@ -165,8 +165,8 @@ held-none false held none = none
 
 pub new_ones_are_kept : HistoriesKeepBooks TreeAllows GivesFirst → HistoriesKeepTrees
     → TellingLeavesLookups → NewOnesAreTrees → NewTreesAreKept
-new_ones_are_kept keep trees telling new_ones uid gid permissions limits now first new ms is h told =
-    let made = new_ones uid gid permissions limits now in
+new_ones_are_kept keep trees telling new_ones uid gid permissions limits writeback now first new ms is h told =
+    let made = new_ones uid gid permissions limits writeback now in
     let turns = turns_in ms in
     let kept = trees first new ms h (only_told telling ms told) (subst IsTree (sym is) made.0) in
     let nothing : (n : ℕ) → held_by_last first.fs turns n ≡ 0 = λ n.

@@ -1,6 +1,6 @@
 -- A tree over the history of its server: requests, in however many calls, and what the tree's owner did
 -- to it between them.
-use Rattle.std.specs.Prelude.{◌≡◌, ◌≢◌, ◌<◌, ℕ, ◌+◌, List, [], ◌∷◌, IsSome, sum_by}
+use Rattle.std.specs.Prelude.{◌≡◌, ◌≢◌, ◌<◌, ℕ, ◌+◌, Bool, List, [], ◌∷◌, IsSome, sum_by}
 use Rattle.vfs_files.specs.Listing.{GivesFirst}
 use Rattle.vfs_grammar.specs.Books.{accepted, delivered, GivesBackWithin, KeepsBooks}
 use Rattle.vfs_grammar.specs.Turn.{Turn}
@@ -60,7 +60,8 @@ pub record IsKept (turns : List Turn) (new : State) : Type 0 where
 -- from a new tree on, over any requests and tellings of the time
 abbrev pub NewTreesAreKept : Type 0
 NewTreesAreKept =
-    (uid gid permissions : ℕ) (limits : Capacity) (now : Time) (first new : ServerState State)
-    (moments : List (Moment State)) → first.fs ≡ first_state uid gid permissions limits now
+    (uid gid permissions : ℕ) (limits : Capacity) (writeback : Bool) (now : Time)
+    (first new : ServerState State) (moments : List (Moment State))
+    → first.fs ≡ first_state uid gid permissions limits writeback now
     → IsHistory TreeAllows GivesFirst first moments new → OnlyTold moments
     → IsKept (turns_in moments) new.fs

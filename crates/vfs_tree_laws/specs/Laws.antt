@@ -1,6 +1,6 @@
 -- What holds of every state of a tree that can be reached, and what a call does to the lookups that are
 -- held.
-use Rattle.std.specs.Prelude.{◌≡◌, ◌≤◌, ◌<◌, ℕ, zero, suc, ◌+◌, ◌==◌, max, true, false, List, [], ◌∷◌, length, map, Option, Some, None, IfSome, sum_by, count_by, if◌then◌else◌}
+use Rattle.std.specs.Prelude.{◌≡◌, ◌≤◌, ◌<◌, ℕ, zero, suc, ◌+◌, ◌==◌, max, Bool, true, false, List, [], ◌∷◌, length, map, Option, Some, None, IfSome, sum_by, count_by, if◌then◌else◌}
 use Rattle.std.specs.List.{All, IsDistinct}
 use Rattle.std.specs.Map.{values_of}
 use Rattle.std.specs.Str.{bytes_eq}
@@ -178,9 +178,9 @@ pub record IsTree (s : State) : Type 0 where
 -- a new one, of which no lookup is held
 abbrev pub NewOnesAreTrees : Type 0
 NewOnesAreTrees =
-    (uid gid permissions : ℕ) (limits : Capacity) (now : Time)
-    → IsTree (first_state uid gid permissions limits now)
-    × ((n : ℕ) → lookups_of (first_state uid gid permissions limits now) n ≡ 0)
+    (uid gid permissions : ℕ) (limits : Capacity) (writeback : Bool) (now : Time)
+    → IsTree (first_state uid gid permissions limits writeback now)
+    × ((n : ℕ) → lookups_of (first_state uid gid permissions limits writeback now) n ≡ 0)
 
 -- a call keeps a tree one, whatever it asks, and its limits, and counts lookups
 abbrev pub CallsKeepTrees : Type 0

@@ -1,5 +1,5 @@
 -- Trees to call, written out.
-use Rattle.std.specs.Prelude.{ℕ, ◌^◌, ◌+◌, ◌-◌, List, [], ◌∷◌, codes}
+use Rattle.std.specs.Prelude.{ℕ, ◌^◌, ◌+◌, ◌-◌, true, false, List, [], ◌∷◌, codes}
 use Rattle.vfs_contents.specs.Contents.{Contents, no_contents}
 use Rattle.vfs_nodes.specs.Children.{Children, Link, no_children}
 use Rattle.vfs_nodes.specs.Node.{weight}
@@ -39,7 +39,7 @@ single = record { nodes = 1; bytes = 900; file = 900 }
 -- a new one, within these limits, at second 7
 abbrev pub small_tree : State
 small_tree =
-    first_state 0 0 0o755 (record { nodes = 100; bytes = 8192; file = 1000 })
+    first_state 0 0 0o755 (record { nodes = 100; bytes = 8192; file = 1000 }) false
     (record { seconds = 7; nanoseconds = 0 })
 
 -- a node of user and group 0, in the root, as it was at second 7: with these names or bytes, and with so
@@ -92,8 +92,13 @@ tree_of limits node =
       used = weight node;
       inodes = 2;
       limits = limits;
+      writeback = false;
       now = second_7;
     }
+
+-- the same, whose client is to write later
+abbrev pub written_later : State → State
+written_later s = record s { writeback = true }
 
 -- the same at second 9
 abbrev pub later : State → State
@@ -151,6 +156,7 @@ tree_of_two f d =
       used = 0;
       inodes = 3;
       limits = wide;
+      writeback = false;
       now = second_7;
     }
 
@@ -180,6 +186,7 @@ whitened_tree f g whiteout =
       used = 0;
       inodes = 3;
       limits = wide;
+      writeback = false;
       now = second_7;
     }
 

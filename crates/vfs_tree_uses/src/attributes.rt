@@ -4,7 +4,7 @@ ghost use Rattle.std.specs.Prelude.{◌≡◌, codes, None, Some, Err, IfOk, Mat
 ghost use Rattle.std.specs.Duration.{as_nanos};
 ghost use Rattle.vfs_flags.specs.Flags.{open_options_bits};
 ghost use Rattle.vfs_files.specs.Answers.{Options, init_answer};
-ghost use Rattle.vfs_tree_uses.specs.Trees.{file_of, file_tree, small_tree, tree_of, wide};
+ghost use Rattle.vfs_tree_uses.specs.Trees.{file_of, file_tree, small_tree, tree_of, wide, written_later};
 
 use crate::support::root;
 use std::time::Duration;
@@ -125,9 +125,11 @@ fn mode_is_set(tree: &mut TreeFs) -> Result<(Attr, Duration), Fault>
 }
 
 /// INIT asks for READDIRPLUS as the client likes, DO_READDIRPLUS and READDIRPLUS_AUTO, and that the tree
-/// takes privileges, HANDLE_KILLPRIV_V2.
+/// takes privileges, HANDLE_KILLPRIV_V2; and of a client that is to write later WRITEBACK_CACHE.
 fn wanted(tree: &mut TreeFs, capable: FsOptions) -> Result<FsOptions, Fault>
-    ensures { init_answer result ≡ Options 0x10006000 }
+    ensures now { tree.old ≡ small_tree → init_answer result ≡ Options 0x10006000 }
+    ensures later { tree.old ≡ written_later small_tree → init_answer result ≡
+        Options 0x10016000 }
 {
     tree.init(capable)
 }

@@ -3,7 +3,7 @@
 ghost use Rattle.std.specs.Prelude.{◌≡◌, [], ◌∷◌, ◌++◌, codes, Ok, Err, Some, None, MatchResult, OnOk};
 ghost use Rattle.std.specs.Duration.{as_nanos};
 ghost use Rattle.vfs_flags.specs.Flags.{open_options_bits};
-ghost use Rattle.vfs_tree_uses.specs.Trees.{empty_file, file_tree, later, narrow, small_tree, tree_of, wide};
+ghost use Rattle.vfs_tree_uses.specs.Trees.{empty_file, file_tree, later, narrow, small_tree, tree_of, wide, written_later};
 
 use crate::support::root;
 use std::time::Duration;
@@ -203,6 +203,15 @@ fn data_and_hole(tree: &mut TreeFs, whence: u32) -> Result<u64, Fault>
     ensures same { tree.new ≡ tree.old }
 {
     tree.lseek(root(), 2, 0, 2, whence)
+}
+
+/// LSEEK by a client that writes later: ENOSYS, so that it looks itself.
+fn no_place_is_known(tree: &mut TreeFs) -> Result<u64, Fault>
+    requires { tree.old ≡ written_later (file_tree wide (codes "hello")) }
+    ensures refused { result ≡ Err (Some 38) }
+    ensures same { tree.new ≡ tree.old }
+{
+    tree.lseek(root(), 2, 0, 0, 3)
 }
 
 /// LSEEK behind the end of a file: ENXIO.

@@ -31,7 +31,7 @@ fn new_tree(alloc: Global) -> Option<TreeFs>
         nanoseconds: 0,
     };
     let (uid, gid) = (GuestUid::from(0), GuestGid::from(0));
-    TreeFs::new(alloc, uid, gid, 0o755, limits, now).ok()
+    TreeFs::new(alloc, uid, gid, 0o755, limits, false, now).ok()
 }
 
 /// Of a new tree no name leads anywhere.

@@ -1,6 +1,6 @@
 //! The limits of a tree, each reached.
 
-ghost use Rattle.std.specs.Prelude.{◌≡◌, codes, Ok, Err, Some};
+ghost use Rattle.std.specs.Prelude.{◌≡◌, false, codes, Ok, Err, Some};
 ghost use Rattle.vfs_tree.specs.Tree.{first_state};
 ghost use Rattle.vfs_tree_uses.specs.Trees.{file_tree, narrow, pair, second_7, short, single};
 
@@ -91,7 +91,7 @@ fn text_without_room(tree: &mut TreeFs) -> Result<Entry, Fault>
 
 /// MKDIR where the root is the only node that there may be: ENOSPC.
 fn no_second_node(tree: &mut TreeFs) -> Result<Entry, Fault>
-    requires { tree.old ≡ first_state 0 0 0o755 single second_7 }
+    requires { tree.old ≡ first_state 0 0 0o755 single false second_7 }
     ensures refused { result ≡ Err (Some 28) }
     ensures same { tree.new ≡ tree.old }
 {

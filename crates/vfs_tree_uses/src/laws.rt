@@ -22,7 +22,7 @@ fn free_tree(alloc: Global, limits: Capacity, now: Time) -> Option<TreeFs>
 {
     new_ones_are_trees();
     let (uid, gid) = (GuestUid::from(0), GuestGid::from(0));
-    match TreeFs::new(alloc, uid, gid, 0o755, limits, now) {
+    match TreeFs::new(alloc, uid, gid, 0o755, limits, false, now) {
         Ok(tree) => Some(tree),
         Err(_) => None,
     }

@@ -180,11 +180,11 @@ fn directory_into_itself(tree: &mut TreeFs) -> Result<(), Fault>
 
 /// MKDIR by user 8 and group 9 in a root of group 5.
 fn made_by_another(tree: &mut TreeFs) -> Result<Entry, Fault>
-    ensures owner { tree.old ≡ first_state 0 5 0o755 wide second_7 →
+    ensures owner { tree.old ≡ first_state 0 5 0o755 wide false second_7 →
         MatchResult result
         (λ made. (made.attr.uid ≡ 8) × (made.attr.gid ≡ 9) × (made.attr.mode ≡ 0o40700))
         (λ fault. (fault ≡ Some 12) × (tree.new ≡ tree.old)) }
-    ensures handed { tree.old ≡ first_state 0 5 0o2755 wide second_7 →
+    ensures handed { tree.old ≡ first_state 0 5 0o2755 wide false second_7 →
         IfOk result
         (λ made. (made.attr.uid ≡ 8) × (made.attr.gid ≡ 5) × (made.attr.mode ≡ 0o42700)) }
 {
@@ -199,7 +199,7 @@ fn made_by_another(tree: &mut TreeFs) -> Result<Entry, Fault>
 
 /// A file that is made in a directory that hands its group down has the group, and not the bit.
 fn file_of_its_group(tree: &mut TreeFs) -> Option<Entry>
-    requires { tree.old ≡ first_state 0 5 0o2755 wide second_7 }
+    requires { tree.old ≡ first_state 0 5 0o2755 wide false second_7 }
     ensures { IfSome result
         (λ made. (made.attr.gid ≡ 5) × (made.attr.mode ≡ 0o100600)) }
 {

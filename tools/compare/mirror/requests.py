@@ -79,7 +79,7 @@ def shown(operation):
 
 class Settings(ctypes.Structure):
     _fields_ = [(name, ctypes.c_uint64) for name in ("seconds", "nodes", "bytes", "file")] + [
-        (name, ctypes.c_uint32) for name in ("nanoseconds", "uid", "gid", "mode")]
+        (name, ctypes.c_uint32) for name in ("nanoseconds", "uid", "gid", "mode")] + [("flags", ctypes.c_uint64)]
 
 
 class Segment(ctypes.Structure):

@@ -44,6 +44,7 @@ returns c =
       used = inside.used;
       inodes = inside.inodes;
       limits = inside.limits;
+      writeback = inside.writeback;
       now = inside.now;
     } in
     linked_ends s c.args.number parent (name_text c.args.name) c.count_link.result
