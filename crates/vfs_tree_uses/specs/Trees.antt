@@ -122,7 +122,7 @@ user_b value = (codes "user.b", value)
 
 -- the attribute that has the capabilities of a program, with some value
 abbrev pub capability : Xattr
-capability = record { name = codes "security.capability"; value = codes "c" }
+capability = (codes "security.capability", codes "c")
 
 -- a file with these permission bits, extended attributes and bytes, and a tree with it
 abbrev pub program : (permissions : ℕ) → List Xattr → (bytes : List ℕ) → Node

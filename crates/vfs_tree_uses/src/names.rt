@@ -1,6 +1,6 @@
 //! Names of more than a byte, those that can't be made, and those that are moved and exchanged.
 
-ghost use Rattle.std.specs.Prelude.{◌≡◌, ◌⊎◌, ◌-◌, ◌^◌, [], ◌∷◌, codes, length, Ok, Err, Some, IfOk, IfSome, MatchResult};
+ghost use Rattle.std.specs.Prelude.{◌≡◌, ◌⊎◌, ◌-◌, ◌^◌, [], ◌∷◌, false, codes, length, Ok, Err, Some, IfOk, IfSome, MatchResult};
 ghost use Rattle.vfs_files.specs.Values.{name_text};
 ghost use Rattle.vfs_tree.specs.Tree.{first_state};
 ghost use Rattle.vfs_tree_uses.specs.Trees.{empty_file, second_7, small_tree, to_directory, to_file, to_whiteout, tree_of, tree_of_two, whitened_tree, wide};
