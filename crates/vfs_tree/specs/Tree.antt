@@ -8,7 +8,7 @@ use Rattle.vfs_wire.specs.declared.stat.Statvfs64.{Statvfs64}
 use Rattle.vfs_files.specs.declared.entry.Context.{Context}
 use Rattle.vfs_files.specs.Values.{Item}
 use Rattle.vfs_files.specs.Bytes.{part_of, most_put, fitting}
-use Rattle.vfs_files.specs.Calls.{Call, Init, Lookup, Forget, BatchForget, Getattr, Setattr, Symlink, Readlink, Open, Unlink, Rmdir, Rename, Link, Mknod, Mkdir, Create, Read, Write, Fallocate, Lseek, Statfs, Readdir, Setxattr, Getxattr, Listxattr, Removexattr, Fsync, Release, Fsyncdir, Releasedir, Destroy, Answer, Options, Opened, Text, Count, Put, Wrote, Done, Offset, Statistics, Handed, default_answer}
+use Rattle.vfs_files.specs.Calls.{Call, Init, Lookup, Forget, BatchForget, Getattr, Setattr, Symlink, Readlink, Open, Unlink, Rmdir, Rename, Link, Mknod, Mkdir, Create, Read, Write, Fallocate, Lseek, Statfs, Readdir, Setxattr, Getxattr, Listxattr, Removexattr, Opendir, Fsync, Release, Fsyncdir, Releasedir, Destroy, Answer, Options, Opened, Text, Count, Put, Wrote, Done, Offset, Statistics, Handed, default_answer}
 use Rattle.vfs_contents.specs.Pages.{reach}
 use Rattle.vfs_contents.specs.Contents.{allocated, punched, data_from, hole_from, lacking, pages_over}
 use Rattle.vfs_nodes.specs.Children.{with_child, without_child, is_directory, is_file, is_link}
@@ -361,7 +361,8 @@ tells s size (Some text) =
 abbrev pub wanted_options : (writeback : Bool) → ℕ
 wanted_options writeback = if writeback then 0x10016000 else 0x10006000
 
--- how a call ends; what has no line has its default answer, and everything stays
+-- how a call ends; what has no line has its default answer, and everything stays. What a client reads of a
+-- directory it keeps (CACHE_DIR, KEEP_CACHE): nobody else changes it
 abbrev pub outcome : State → Call → Outcome
 outcome s (Init _) = Answered (Just (Options (wanted_options s.writeback))) (released s)
 outcome s Destroy = done (released s)
@@ -410,6 +411,7 @@ outcome s (Removexattr _ n name) = removes_xattr s n name
 outcome s (Readdir _ n _ size off) = with_it (node_at s n) (λ node.
     unless (first_of ((not (is_directory node.kind), enotdir) ∷ []))
     (Tried true (Listed (items_behind n node off size)) s))
+outcome s (Opendir _ _ _) = Answered (Just (Opened None 10)) s
 outcome s (Fsync _ _ _ _) = done s
 outcome s (Release _ _ _ _ _ _ _) = done s
 outcome s (Fsyncdir _ _ _ _) = done s

@@ -362,7 +362,7 @@ impl FileSystem for TreeFs {
         _inode: u64,
         _flags: u32,
     ) -> Result<(Option<u64>, OpenOptions), Fault> {
-        defaults::opendir::<u64>()
+        Ok((None, OpenOptions::CACHE_DIR | OpenOptions::KEEP_CACHE))
     }
 
     fn readdir(

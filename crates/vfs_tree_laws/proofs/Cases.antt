@@ -706,7 +706,7 @@ module _ (old : State) (P : List (ℕ × ℕ) → TreeReply → State → Type 0
   covered (Fsyncdir c n x h) =
       ((λ a r. refl), q.same (Just Done) refl)
   covered (Opendir c n f) =
-      ((λ a r. refl), q.same (Just (default_answer (Opendir c n f))) refl)
+      ((λ a r. refl), q.same (Just (Opened None 10)) refl)
   covered Getlk =
       ((λ a r. refl), q.same (Just (default_answer Getlk)) refl)
   covered Setlk =

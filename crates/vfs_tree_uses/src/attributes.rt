@@ -36,6 +36,15 @@ fn entry_for_a_day(tree: &mut TreeFs) -> Result<Entry, Fault>
     tree.lookup(root(), 1, CStr::before_nul(b"f\0", 1))
 }
 
+/// OPENDIR: what is read of a directory may be kept, CACHE_DIR and KEEP_CACHE, and there is no handle.
+fn directory_opened(tree: &mut TreeFs) -> Result<(Option<u64>, OpenOptions), Fault>
+    ensures { MatchResult result
+        (λ opened. (opened.0 ≡ None) × (open_options_bits opened.1 ≡ 10)) (λ _. ⊥) }
+    ensures same { tree.new ≡ tree.old }
+{
+    tree.opendir(root(), 1, 0)
+}
+
 /// CREATE: an entry likewise, with no handle and no options. Memory alone can be wanting.
 fn created(tree: &mut TreeFs) -> Result<(Entry, Option<u64>, OpenOptions), Fault>
     requires { tree.old ≡ small_tree }
