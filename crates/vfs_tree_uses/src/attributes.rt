@@ -38,7 +38,7 @@ fn entry_for_a_day(tree: &mut TreeFs) -> Result<Entry, Fault>
 
 /// OPENDIR: what is read of a directory may be kept, CACHE_DIR and KEEP_CACHE, and there is no handle.
 fn directory_opened(tree: &mut TreeFs) -> Result<(Option<u64>, OpenOptions), Fault>
-    ensures { MatchResult result
+    ensures told { MatchResult result
         (λ opened. (opened.0 ≡ None) × (open_options_bits opened.1 ≡ 10)) (λ _. ⊥) }
     ensures same { tree.new ≡ tree.old }
 {
