@@ -99,7 +99,7 @@ for way in "${ways[@]}"; do
             build_transport mount
             # (no device is opened there either)
             mount -o remount,nodev "$work/tmpfs"
-            mirror_mount fuse.nizwarf "$transport" -o allow_other,size=1g "${words[@]}"
+            mirror_mount "fuse.nizwarf ${words[*]}" "$transport" -o allow_other,size=1g "${words[@]}"
             ;;
         --library)
             echo "Messages to the library over the tree, and system calls on a tmpfs:" >&2

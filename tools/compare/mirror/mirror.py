@@ -18,7 +18,7 @@ MOST = 8
 class Mirror:
     def __init__(self, way, kind, known, places):
         self.way, self.places = {"calls": calls, "requests": requests}[way], places
-        self.known = [line for line in known if fnmatch.fnmatchcase(kind, line[0])]
+        self.known = [line for line in known if any(fnmatch.fnmatchcase(it, line[0]) for it in (kind, kind.split()[0]))]
         self.came, self.unknown = Counter(), {}
         self.sessions = 0
 
