@@ -184,6 +184,7 @@ int main(int count, char **words)
 	char options[80];
 	int device;
 
+	transport_one_heap();
 	if (traces && trace_begin(&by, trace_file))
 		return 1;
 	snprintf(options, sizeof(options), ",default_permissions,max_read=%lu%s", max_read, allow_other);

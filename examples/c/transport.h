@@ -17,6 +17,7 @@
 #ifndef TRANSPORT_H
 #define TRANSPORT_H
 
+#include <malloc.h>
 #include <sys/types.h>
 #include "nizwarf.h"
 
@@ -51,6 +52,16 @@ typedef struct {
 	int32_t (*serve)(void *user, unsigned worker, const nizwarf_segment *request, size_t segments,
 			 const nizwarf_room *room, size_t rooms, size_t *len);
 } transport;
+
+/* For a program whose one worker has the memory, before it serves: all threads have one heap, which grows
+ * by a MiB at least, and shrinks once 64 MiB are free at its end. (One of a worker's own grows by a call of
+ * the kernel for each page.) */
+static inline void transport_one_heap(void)
+{
+	mallopt(M_ARENA_MAX, 1);
+	mallopt(M_TOP_PAD, 1 << 20);
+	mallopt(M_TRIM_THRESHOLD, 64 << 20);
+}
 
 /* Mounts on the folder as `source`, with flags of mount(2). `options` stand behind those that it
  * has itself, each with a comma before it. Answers the device's descriptor, or -1: it said why. */

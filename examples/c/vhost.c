@@ -75,6 +75,7 @@ int main(int count, char **words)
 	}
 	if (trace && trace_begin(&by, *trace ? trace + 1 : NULL))
 		return 1;
+	transport_one_heap();
 	listener = vhost_user_listen(&by, words[1]);
 	if (listener < 0)
 		return -listener;
