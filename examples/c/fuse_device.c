@@ -495,6 +495,7 @@ static enum outcome serve_one(struct worker *w, uint32_t *opcode)
 	}
 	memcpy(&asked, w->request, sizeof(asked));
 	*opcode = asked.opcode;
+	transport_withhold(by, w->request, (size_t)got);
 	room.len = room_for(w, &asked, (size_t)got);
 	call_if_late(w, &asked, room.len);
 	w->header.unique = asked.unique;

@@ -178,8 +178,8 @@ static int32_t serve(void *user, unsigned worker, const nizwarf_segment *request
 
 int main(int count, char **words)
 {
-	transport by = { .program = "mount", .workers = 1, .begin = begin, .end = end,
-			 .serve = serve };
+	transport by = { .program = "mount", .workers = 1, .withheld = FUSE_ATOMIC_O_TRUNC,
+			 .begin = begin, .end = end, .serve = serve };
 	const char *folder = take_words(count, words);
 	char options[80];
 	int device;

@@ -17,7 +17,10 @@
 #ifndef TRANSPORT_H
 #define TRANSPORT_H
 
+#include <linux/fuse.h>
 #include <malloc.h>
+#include <stddef.h>
+#include <string.h>
 #include <sys/types.h>
 #include "nizwarf.h"
 
@@ -35,6 +38,10 @@ typedef struct {
 	/* The payload is at most FUSE_DEVICE_PIPED. Data of a WRITE over /dev/fuse may lack in the
 	 * segment until fuse_device_write_to was called, and those of a READ in the rooms. */
 	int splices;
+	/* Flags of INIT, of the first 32, that a client is taken not to offer: `serve` has its request
+	 * without them. Without FUSE_ATOMIC_O_TRUNC Linux cuts by SETATTR what it opens with O_TRUNC, so
+	 * a file system that has no handles may do without OPEN. */
+	uint32_t withheld;
 	/* Not to print how many requests came to what, once a front end has gone. */
 	int quiet;
 	/* One of /proc/self/fd, by which /dev/fuse is opened again where it has no path; 0: none. */
@@ -52,6 +59,23 @@ typedef struct {
 	int32_t (*serve)(void *user, unsigned worker, const nizwarf_segment *request, size_t segments,
 			 const nizwarf_room *room, size_t rooms, size_t *len);
 } transport;
+
+/* Takes the flags that are withheld out of a request, whose bytes are the transport's own. One without
+ * flags stays as it is: it is no INIT, or too short. */
+static inline void transport_withhold(const transport *by, unsigned char *request, size_t len)
+{
+	const size_t at = sizeof(struct fuse_in_header) + offsetof(struct fuse_init_in, flags);
+	struct fuse_in_header asked;
+	uint32_t flags;
+
+	if (len < at + sizeof(flags))
+		return;
+	memcpy(&asked, request, sizeof(asked));
+	memcpy(&flags, request + at, sizeof(flags));
+	flags &= ~by->withheld;
+	if (asked.opcode == FUSE_INIT)
+		memcpy(request + at, &flags, sizeof(flags));
+}
 
 /* For a program whose one worker has the memory, before it serves: all threads have one heap, which grows
  * by a MiB at least, and shrinks once 64 MiB are free at its end. (One of a worker's own grows by a call of

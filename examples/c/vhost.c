@@ -58,7 +58,8 @@ static int32_t serve(void *user, unsigned worker, const nizwarf_segment *request
 
 int main(int count, char **words)
 {
-	transport by = { .program = "vhost", .workers = 1, .begin = begin, .end = end, .serve = serve };
+	transport by = { .program = "vhost", .workers = 1, .withheld = FUSE_ATOMIC_O_TRUNC,
+			 .begin = begin, .end = end, .serve = serve };
 	const char *trace = NULL;
 	int listener, status;
 

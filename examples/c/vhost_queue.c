@@ -191,6 +191,7 @@ static uint32_t answer(struct worker *w, const struct queue *q, uint16_t head)
 		broken++;
 		return 0;
 	}
+	transport_withhold(by, w->request, w->copied);
 	code = by->serve(by->user, w->number, w->segment, w->segments, w->room, w->rooms, &len);
 	outcomes[code >= 0 && code < OUTCOMES ? code : 0]++;
 	return (uint32_t)len;
