@@ -11,6 +11,8 @@
 # The folders are in memory. CLASS is stat, stat-missing, open-close, create-unlink, readdir, ls-l, write-1m,
 # read-1m, write-4k, read-4k, 'git status', untar or names-100k. With --tree it is the tree as tools/mount.sh mounts
 # it, with these options; a tmpfs itself stands beside it too, and names-100k is a class of all, in three rounds.
+# So is floor, which is stat of a server that does nothing: the tree's transport says again what the tree said, by
+# tools/measure/floor.c. What it takes no server over this transport can win.
 #
 # It wants root, /dev/fuse, git, python3 and a C compiler, and gets passthrough_ll, from libfuse's sources, and
 # bindfs from Debian's packages, by apt-get, into an ignored folder; nothing is installed.
@@ -73,8 +75,10 @@ if [ ! -x "$beside/passthrough_ll" ]; then
 fi
 LD_LIBRARY_PATH=$(dirname "$(find "$beside" -name libfuse3.so.3 -print -quit)")
 export LD_LIBRARY_PATH
-version=
+version='' floor=''
 if [ "$what" = tree ]; then
+    build_transport mount vfs_c "$here/tools/measure/floor.c" -Wl,--wrap=nizwarf_message_at -Wl,--wrap=nizwarf_copy_at
+    floor=$transport
     build_transport mount
 else
     build_transport share vfs_door
@@ -92,6 +96,6 @@ built="built without a proof"
 facts="Begun on $(LC_ALL=C date '+%-d %B %Y'), commit $(git -C "$here" describe --always --dirty), the library $built$version;
 Linux $(uname -r), $(nproc) processors, load $(cut -d ' ' -f 1-3 /proc/loadavg); libfuse and bindfs \
 $(paste -sd ' ' "$beside/versions"), folders in memory."
-python3 -B "$here/tools/measure/share_speed.py" "$what" "$here/out/c/share_speed" "$transport" "$options" \
+python3 -B "$here/tools/measure/share_speed.py" "$what" "$here/out/c/share_speed" "$transport" "$floor" "$options" \
     "$beside/passthrough_ll" "$beside/usr/bin/bindfs" "$here" "$work" "$rounds" "$facts" "${@:2}"
 echo "load $(cut -d ' ' -f 1-3 /proc/loadavg) at the end" >&2

@@ -1,7 +1,8 @@
 """Times nizwarf-share or the tree in memory beside libfuse's passthrough_ll and bindfs, for share-speed.sh.
 
-Usage: share_speed.py share|tree SPEED OURS OPTIONS PASSTHROUGH_LL BINDFS REPOSITORY WORK ROUNDS FACTS [CLASS..]
+Usage: share_speed.py share|tree SPEED OURS FLOOR OPTIONS PASSTHROUGH_LL BINDFS REPOSITORY WORK ROUNDS FACTS [CLASS..]
 Each shares a folder in memory on a mount of its own; the tree has its files itself, and a tmpfs is beside it too.
+FLOOR is the tree's transport that says again what the tree said: the class floor is stat of it.
 In each round each class goes over each of the mounts, one after another, beginning with another one each time. A
 row has the medians of the ratios of the rounds. FACTS are where and of what it is. After the times the system calls
 of each server are counted by strace, if it is there."""
@@ -18,8 +19,10 @@ import time
 
 CLASSES = ("stat", "stat-missing", "open-close", "create-unlink", "readdir", "ls-l", "write-1m", "read-1m", "write-4k",
            "read-4k", "git status", "untar")
+# Those of the tree.
+MORE = ("stat", "floor", *CLASSES[1:], "names-100k")
 JOBS = 1, 4
-SAID = {"stat": "statx of 2,000 files, asked anew", "stat-missing": "stat of 2,000 names that are none",
+SAID = {"stat": "statx of 2,000 files, asked anew", "floor": "the same of the transport alone", "stat-missing": "stat of 2,000 names that are none",
         "open-close": "open and close of 2,000 files", "create-unlink": "create and unlink of 2,000 files",
         "readdir": "readdir of 10,000 names, five times", "ls-l": "readdir and lstat of 10,000",
         "write-1m": "sequential WRITE, 48 MiB by 1 MiB", "read-1m": "sequential READ, 48 MiB by 1 MiB",
@@ -56,7 +59,8 @@ the quicker one. Medians of {rounds} rounds in turns, of 100,000 files three at 
 
 The kernel remembers nothing in the beginning: the tree is filled through its mount, which is then mounted anew, by
 MS_REMOUNT. Then it may remember names and attributes of the tree for a day, since nobody else changes it, and those of
-the others for a second."""
+the others for a second. The second row is what no file system over this transport can win: the first one of a server
+that does nothing, but says again what the tree said to the same LOOKUP and GETATTR."""
 BOTH_HEAD = """\
 passthrough_ll has `cache=auto`, `default_permissions`, and threads by need; of bindfs the quicker one of one thread and
 many is meant. Where a line stands passthrough_ll failed: it holds a descriptor for each file, and could have {most} here.
@@ -149,9 +153,21 @@ class Tree(Server):
     def set_out(self, what, jobs):
         self.begin()
         fill(self.mount, what, jobs)
-        # (the kernel forgets what it remembers of them)
+        self.forget()
+
+    def forget(self):
+        """What the kernel remembers of the files."""
         if ctypes.CDLL(None).mount(None, os.fsencode(self.mount), None, MS_REMOUNT, None):
             sys.exit(f"{self.mount} could not be mounted anew")
+
+
+class Floor(Tree):
+    """The transport alone, once all that it is asked was asked before."""
+
+    def set_out(self, what, jobs):
+        super().set_out(what, jobs)
+        subprocess.run([speed, class_of(what), self.mount, str(jobs), "self"], stdout=subprocess.DEVNULL, check=True)
+        self.forget()
 
 
 class Tmpfs(Tree):
@@ -169,7 +185,7 @@ class Tmpfs(Tree):
 
 def class_of(what):
     """The class of share_speed.c."""
-    return "run" if what in COMMANDS else what
+    return "run" if what in COMMANDS else "stat" if what == "floor" else what
 
 
 def fill(folder, what, jobs):
@@ -233,12 +249,13 @@ def main():
               "bindfs": Server([bindfs, "-f", "{folder}", "{mount}"]),
               "bindfs, threads": Server([bindfs, "-f", "--multithreaded", "{folder}", "{mount}"])}
     if kind == "tree":
-        servers = {"the tree": Tree([ours, "-o", options, "{mount}"]), **others, "tmpfs": Tmpfs([])}
-        head, why, classes = TREE_HEAD, "", (*CLASSES, "names-100k")
+        others["tmpfs"] = Tmpfs([])
+        servers = {"the tree": Tree([ours, "-o", options, "{mount}"]), **others}
+        head, why, classes = TREE_HEAD, "", MORE
     else:
         servers = {"nizwarf-share": Server([ours, "--log-level=error", "{folder}", "{mount}"]), **others}
         head, why, classes = SHARE_HEAD, SHARE_WHY, CLASSES
-    classes = sys.argv[11:] or classes
+    classes = sys.argv[12:] or classes
     most, _ = resource.getrlimit(resource.RLIMIT_NOFILE)
     print(head.format(rounds=rounds, facts=facts, options=options and f" -o {options}"))
     print(BOTH_HEAD.format(most=most))
@@ -246,7 +263,8 @@ def main():
     print("| Class | " + " | ".join(f"{it}, {jobs} job{'s' * (jobs > 1)}" for jobs in JOBS for it in columns) +
           " | quicker, 1 job | quicker, 4 jobs |\n|---" + "|---" * (2 * len(columns) + 2) + "|")
     for what in classes:
-        print(row(servers, what), flush=True)
+        of = {"the floor": Floor([floor, "-o", options, "{mount}"]), **others} if what == "floor" else servers
+        print(row(of, what), flush=True)
     print(why, end="")
     counted = [what for what in classes if what in TIMES]
     if counted and shutil.which("strace"):
@@ -257,6 +275,6 @@ def main():
 
 
 if __name__ == "__main__":
-    kind, speed, ours, options, passthrough_ll, bindfs, repository, work = sys.argv[1:9]
-    rounds, facts = int(sys.argv[9]), sys.argv[10]
+    kind, speed, ours, floor, options, passthrough_ll, bindfs, repository, work = sys.argv[1:10]
+    rounds, facts = int(sys.argv[10]), sys.argv[11]
     main()

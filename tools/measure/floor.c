@@ -1,0 +1,86 @@
+/* Answers LOOKUP and GETATTR by the bytes of an earlier answer, without the library: so a program that is linked
+ * with --wrap=nizwarf_message_at and --wrap=nizwarf_copy_at takes the time of its transport alone. What it has not
+ * asked yet, it asks. It is for files that stay as they are: the class `floor` of share-speed.sh. */
+#include <linux/fuse.h>
+#include <stddef.h>
+#include <string.h>
+#include "nizwarf.h"
+
+int32_t __real_nizwarf_message_at(nizwarf_server *server, const nizwarf_segment *request, size_t segments,
+				  size_t room, size_t *len);
+size_t __real_nizwarf_copy_at(nizwarf_server *server, size_t at, uint8_t *piece, size_t piece_len);
+
+enum { ANSWERS = 1 << 17, TRIES = 64, HEAD = sizeof(struct fuse_out_header) };
+
+struct asked {
+	uint64_t node;
+	uint32_t opcode;
+	char name[20];
+};
+
+static struct answer {
+	struct asked to;
+	size_t len;
+	unsigned char reply[HEAD + sizeof(struct fuse_entry_out)];
+} answers[ANSWERS];
+
+/* What is answered now without the library; NULL: nothing. */
+static const struct answer *now;
+
+/* The place of the answer to a request, which may be empty; NULL: it has none. */
+static struct answer *find(const struct fuse_in_header *header, const char *name)
+{
+	struct asked asked = { .node = header->nodeid, .opcode = header->opcode };
+	uint64_t hash = asked.node * 2 + (asked.opcode == FUSE_LOOKUP);
+
+	if (asked.opcode == FUSE_LOOKUP)
+		for (size_t i = 0; i < sizeof(asked.name) && name[i]; i++)
+			hash = hash * 31 + (unsigned char)(asked.name[i] = name[i]);
+	else if (asked.opcode != FUSE_GETATTR)
+		return NULL;
+	for (int i = 0; i < TRIES; i++) {
+		struct answer *answer = &answers[(hash + (uint64_t)i) % ANSWERS];
+
+		if (!answer->to.opcode)
+			answer->to = asked;
+		if (!memcmp(&answer->to, &asked, sizeof(asked)))
+			return answer;
+	}
+	return NULL;
+}
+
+int32_t __wrap_nizwarf_message_at(nizwarf_server *server, const nizwarf_segment *request, size_t segments,
+				  size_t room, size_t *len)
+{
+	static const struct answer none;
+	const struct fuse_in_header *header = request->at;
+	struct answer *answer = find(header, (const char *)(header + 1));
+	int32_t code;
+
+	/* (the nodes keep their numbers, since none is forgotten) */
+	if (header->opcode == FUSE_FORGET || header->opcode == FUSE_BATCH_FORGET)
+		now = &none;
+	else
+		now = answer && answer->len ? answer : NULL;
+	if (now) {
+		if (now == answer)
+			memcpy(answer->reply + offsetof(struct fuse_out_header, unique), &header->unique, 8);
+		*len = now->len;
+		return NIZWARF_OK;
+	}
+	code = __real_nizwarf_message_at(server, request, segments, room, len);
+	/* (that of an error is a header) */
+	if (answer && code == NIZWARF_OK && *len > HEAD && *len <= sizeof(answer->reply))
+		answer->len = __real_nizwarf_copy_at(server, 0, answer->reply, *len);
+	return code;
+}
+
+size_t __wrap_nizwarf_copy_at(nizwarf_server *server, size_t at, uint8_t *piece, size_t piece_len)
+{
+	if (!now)
+		return __real_nizwarf_copy_at(server, at, piece, piece_len);
+	if (piece_len > now->len - at)
+		piece_len = now->len - at;
+	memcpy(piece, now->reply + at, piece_len);
+	return piece_len;
+}
