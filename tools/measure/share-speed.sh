@@ -3,10 +3,11 @@
 # files over a mount of each, in turns, by one job and by four. It prints the page docs/generated/share.md, or
 # docs/generated/tree.md: a row has the medians of ratios, the time here by that of another, and the same of the
 # servers' processor time; below 1 it is quicker here. Behind them stand the system calls of each, if strace is
-# installed.
+# installed. How far it is stands on standard error.
 #
-# Usage: tools/measure/share-speed.sh [--tree [-o OPTIONS]] [ROUNDS [CLASS..]]
-# Without a word 9 rounds of all classes, which take some ten minutes. Each has the options that it begins with,
+# Usage: tools/measure/share-speed.sh [--tree [-o OPTIONS]] [--page] [ROUNDS [CLASS..]]
+# Without a word 9 rounds of all classes, which take some ten minutes. With --page it writes that page instead of
+# printing it, once all is timed. Each has the options that it begins with,
 # but passthrough_ll `cache=auto`, which is that of nizwarf-share, and `default_permissions`, which the beside have.
 # The folders are in memory. CLASS is stat, stat-missing, open-close, create-unlink, readdir, ls-l, write-1m,
 # read-1m, write-4k, read-4k, 'git status', untar or names-100k. With --tree it is the tree as tools/mount.sh mounts
@@ -24,7 +25,7 @@ set -euo pipefail
 . "$(dirname "$0")/../lib/mounts.sh"
 
 given=("$@")
-what=share options=
+what=share options='' page=''
 if [ "${1:-}" = --tree ]; then
     what=tree
     shift
@@ -33,9 +34,13 @@ if [ "$what ${1:-}" = "tree -o" ] && [ $# -ge 2 ]; then
     options=$2
     shift 2
 fi
+if [ "${1:-}" = --page ]; then
+    page=yes
+    shift
+fi
 rounds=${1:-9}
 if ! [[ $rounds =~ ^[1-9][0-9]*$ ]]; then
-    echo "Usage: tools/measure/share-speed.sh [--tree [-o OPTIONS]] [ROUNDS [CLASS..]]" >&2
+    echo "Usage: tools/measure/share-speed.sh [--tree [-o OPTIONS]] [--page] [ROUNDS [CLASS..]]" >&2
     exit 2
 fi
 if [ "$(id -u)" != 0 ] || [ ! -e /dev/fuse ]; then
@@ -96,6 +101,14 @@ built="built without a proof"
 facts="Begun on $(LC_ALL=C date '+%-d %B %Y'), commit $(git -C "$here" describe --always --dirty), the library $built$version;
 Linux $(uname -r), $(nproc) processors, load $(cut -d ' ' -f 1-3 /proc/loadavg); libfuse and bindfs \
 $(paste -sd ' ' "$beside/versions"), folders in memory."
-python3 -B "$here/tools/measure/share_speed.py" "$what" "$here/out/c/share_speed" "$transport" "$floor" "$options" \
-    "$beside/passthrough_ll" "$beside/usr/bin/bindfs" "$here" "$work" "$rounds" "$facts" "${@:2}"
+measure() {
+    python3 -B "$here/tools/measure/share_speed.py" "$what" "$here/out/c/share_speed" "$transport" "$floor" "$options" \
+        "$beside/passthrough_ll" "$beside/usr/bin/bindfs" "$here" "$work" "$rounds" "$facts" "$@"
+}
+if [ -z "$page" ]; then
+    measure "${@:2}"
+else
+    measure "${@:2}" > "$work/page.md"
+    cp "$work/page.md" "$here/docs/generated/$what.md"
+fi
 echo "load $(cut -d ' ' -f 1-3 /proc/loadavg) at the end" >&2

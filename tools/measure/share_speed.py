@@ -207,6 +207,7 @@ def row(servers, what):
     """The ratios of a class: of each number of jobs by the clock, and of the processor."""
     names, cells, worst = list(servers), [], []
     for jobs in JOBS:
+        print(f"{time.strftime('%H:%M:%S')} {what}, {jobs} job{'s' * (jobs > 1)}", file=sys.stderr)
         times = {name: [] for name in names}
         for turn in range(min(rounds, FEW.get(what, rounds))):
             for i in range(len(names)):
