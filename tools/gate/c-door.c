@@ -431,7 +431,9 @@ static void try_directory(void)
 	begin_with(NIZWARF_OPENDIR, 1, &open, sizeof(open));
 	try_forms();
 	compare(request_len, 0);
-	release.fh = read.fh = node_of_reply();
+	/* (a client that offered to do without is answered by ENOSYS) */
+	if (!u32(theirs + 4))
+		release.fh = read.fh = u64(theirs + 16);
 	begin_with(NIZWARF_READDIR, 1, &read, sizeof(read));
 	try_forms();
 	begin_with(READDIRPLUS, 1, &read, sizeof(read));
