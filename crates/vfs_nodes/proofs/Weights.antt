@@ -1,11 +1,11 @@
 -- How much a node weighs after a change.
-use Rattle.std.proofs.Common.{◌≡◌, ◌≤◌, ◌+◌, ◌*◌, ◌/◌, ◌==◌, ◌||◌, ℕ, Bool, true, false, not, List, [], ◌∷◌, Option, length, take, filter, nat_lt, bit_and, ◌⊎◌, ⊎_elim, if◌then◌else◌, arith}
+use Rattle.std.proofs.Common.{◌≡◌, ◌≤◌, ◌+◌, ◌*◌, ◌/◌, ◌==◌, ◌||◌, ℕ, Bool, true, false, not, List, [], ◌∷◌, Option, length, filter, nat_lt, bit_and, ◌⊎◌, ⊎_elim, if◌then◌else◌, arith}
 use Rattle.std.specs.Int.{div_ceil}
 use Rattle.vfs_wire.specs.declared.attributes.SetattrIn.{SetattrIn}
 use Rattle.vfs_contents.specs.Contents.{Contents, resized, punched, pages_over}
 use Rattle.vfs_contents.specs.Pages.{is_outside, reach}
 use Rattle.vfs_contents.proofs.Counts.{held_within}
-use Rattle.vfs_nodes.specs.Node.{weight, capabilities, stripped, set_attr, takes_caps, is_other, truncates, opened, overwritten}
+use Rattle.vfs_nodes.specs.Node.{weight, capabilities, stripped, rewritten, set_attr, takes_caps, is_other, truncates, opened, overwritten}
 use Rattle.vfs_nodes.specs.Xattrs.{Xattr, xattr_bytes, without_xattr}
 use Rattle.vfs_nodes.specs.declared.node.Node.{Node}
 use Rattle.vfs_nodes.specs.declared.node.Time.{Time}
@@ -69,14 +69,7 @@ pub opened_weighs : (now : Time) (uid : ℕ) (kill : Bool) (node : Node) (flags 
 opened_weighs now uid kill node flags = by (truncates node flags)
   where
     by : (t : Bool)
-        → weight
-        (if t
-        then record (stripped true (kill || is_other uid) node) {
-          contents = resized node.contents 0;
-          mtime = now;
-          ctime = now;
-        }
-        else node)
+        → weight (if t then rewritten now true (kill || is_other uid) node (resized node.contents 0) else node)
         ≤ weight node
     by true = omega (arith, resized_holds node.contents 0, stripped_bytes true true node)
     by false = omega arith

@@ -5,7 +5,7 @@ use Rattle.std.specs.declared.time.Duration.{Duration}
 use Rattle.vfs_wire.specs.declared.attributes.Attr.{Attr}
 use Rattle.vfs_wire.specs.declared.attributes.SetattrIn.{SetattrIn}
 use Rattle.vfs_files.specs.declared.entry.Entry.{Entry}
-use Rattle.vfs_contents.specs.Contents.{no_contents, resized, written}
+use Rattle.vfs_contents.specs.Contents.{Contents, no_contents, resized, written}
 use Rattle.vfs_nodes.specs.Children.{is_directory, is_file, is_link, no_children, directories_in}
 use Rattle.vfs_nodes.specs.Xattrs.{xattr_bytes, without_xattr}
 use Rattle.vfs_nodes.specs.declared.kind.Kind.{Kind}
@@ -143,6 +143,11 @@ stripped caps ids node = record node {
   xattrs = if caps then without_xattr node.xattrs capabilities else node.xattrs;
 }
 
+-- a file with other contents, changed now, without its privileges as far as they go
+abbrev pub rewritten : (now : Time) → (caps ids : Bool) → Node → Contents → Node
+rewritten now caps ids node contents =
+    record (stripped caps ids node) { contents = contents; mtime = now; ctime = now }
+
 -- ---- SETATTR
 
 -- the value that a request gives, where its bit is set, or else the old one
@@ -200,19 +205,11 @@ is_other uid = not (uid == 0 || uid == 2 ^ 32 - 1)
 abbrev pub opened : (now : Time) → (uid : ℕ) → (kill : Bool) → Node → (flags : ℕ) → Node
 opened now uid kill node flags =
     if truncates node flags
-    then record (stripped true (kill || is_other uid) node) {
-      contents = resized node.contents 0;
-      mtime = now;
-      ctime = now;
-    }
-    else node
+    then rewritten now true (kill || is_other uid) node (resized node.contents 0) else node
 
 -- a file with bytes written over its own from off on; it has not changed where there are none. Capabilities go,
 -- but by a delayed write: the client kept its bytes, and saw to them when it got these
 abbrev pub overwritten : (now : Time) → (delayed kill : Bool) → Node → (off : ℕ) → List ℕ → Node
 overwritten now delayed kill node off [] = node
-overwritten now delayed kill node off (b ∷ bs) = record (stripped (not delayed) kill node) {
-  contents = written node.contents off (b ∷ bs);
-  mtime = now;
-  ctime = now;
-}
+overwritten now delayed kill node off (b ∷ bs) =
+    rewritten now (not delayed) kill node (written node.contents off (b ∷ bs))

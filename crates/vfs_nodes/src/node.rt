@@ -3,7 +3,7 @@
 ghost use Rattle.std.specs.Prelude.{◌≡◌, ℕ, List, take, if◌then◌else◌, Some, MatchResult};
 ghost use Rattle.vfs_flags.specs.Numbers.{enomem};
 ghost use Rattle.vfs_flags.specs.Flags.{setattr_valid_bits};
-ghost use Rattle.vfs_nodes.specs.Node.{attr_of, nlink_of, size_of, IsEntryOf, weight, new_node, opened, set_attr, stripped, Lasts, is_chown, is_other, takes_ids, truncates, without_set_ids};
+ghost use Rattle.vfs_nodes.specs.Node.{attr_of, nlink_of, size_of, IsEntryOf, weight, new_node, opened, set_attr, stripped, rewritten, Lasts, is_chown, is_other, takes_ids, truncates, without_set_ids};
 ghost use Rattle.vfs_nodes.specs.Writing.{Overwrites};
 
 use crate::children::Children;
@@ -217,6 +217,15 @@ impl Node {
         self.permissions = pick(ids, left, self.permissions);
     }
 
+    /// Notes that its contents were changed now, which takes its privileges as far as they are to go.
+    pub fn mark_rewritten(&mut self, now: Time, caps: bool, ids: bool)
+        ensures { self.new ≡ rewritten now caps ids self.old self.old.contents }
+    {
+        self.strip(caps, ids);
+        self.mtime = now;
+        self.ctime = now;
+    }
+
     /// Sets the attributes that the request names, and takes the privileges that it costs. A longer
     /// file takes no memory for that, and the size that a file without pages has moves no time, unless
     /// by a handle.
@@ -274,10 +283,8 @@ impl Node {
         ensures { self.new ≡ opened now uid kill_priv self.old flags }
     {
         if self.truncates(flags) {
-            self.strip(true, kill_priv || is_other(uid));
             self.contents.resize(0);
-            self.mtime = now;
-            self.ctime = now;
+            self.mark_rewritten(now, true, kill_priv || is_other(uid));
         }
     }
 
@@ -302,9 +309,7 @@ impl Node {
     {
         let count = self.contents.write_from(alloc, r, size, offset, most)?;
         if count > 0 {
-            self.strip(!delayed, kill_priv);
-            self.mtime = now;
-            self.ctime = now;
+            self.mark_rewritten(now, !delayed, kill_priv);
         }
         Ok(count)
     }
