@@ -11,7 +11,7 @@ use Rattle.std.specs.declared.ops.Bound.TheVariants.{Included, Excluded}
 use Rattle.std.proofs.lemmas.Bool.{both_ways, cases_lt, cond-true, cond-false, and_from, and_left, and_right, le-leb, lt-leb, le-ltb, lt-ltb}
 use Rattle.std.proofs.lemmas.List.{ext_get_or, get_or_append_left, get_or-append_right, get_or-take, get_or-drop, length-replicate}
 use Rattle.vfs_contents.specs.Pages.{Pages, byte_at, byte_over, is_outside}
-use Rattle.vfs_contents.specs.Contents.{bytes_of, contents_of, punched}
+use Rattle.vfs_contents.specs.Contents.{bytes_of, contents_of, punched, zeroed}
 use Rattle.vfs_contents.proofs.Held.{over_in, over_before, over_behind, zeros_at}
 use Rattle.vfs_contents.proofs.Shown.{length-bytes_of, shown, both}
 
@@ -95,6 +95,39 @@ pub record IsZeroed (old new : ℕ → ℕ) (off len : ℕ) : Type 0 where
   pub zeros : (k : ℕ) → off ≤ k → k < off + len → new k ≡ 0
   pub before : (k : ℕ) → k < off → new k ≡ old k
   pub behind : (k : ℕ) → off + len ≤ k → new k ≡ old k
+
+-- so they do where they are written over the bytes, and only there
+pub over_zeroed : (old new : ℕ → ℕ) (off len : ℕ)
+    → ((k : ℕ) → new k ≡ byte_over off (replicate len 0) old k) → IsZeroed old new off len
+over_zeroed old new off len over = record {
+  zeros = λ k from to. over k ∙ zeros_in off len old k from to;
+  before = λ k less. over k ∙ over_before off (replicate len 0) old k less;
+  behind = λ k more. over k ∙ zeros_behind off len old k more;
+}
+
+pub zeroed_over : (old new : ℕ → ℕ) (off len : ℕ) → IsZeroed old new off len
+    → (k : ℕ) → new k ≡ byte_over off (replicate len 0) old k
+zeroed_over old new off len zeroed k =
+    ⊎_elim
+    (λ (less : k < off). zeroed.before k less ∙ sym (over_before off (replicate len 0) old k less))
+    (λ (from : off ≤ k).
+    ⊎_elim (λ (to : k < off + len). zeroed.zeros k from to ∙ sym (zeros_in off len old k from to))
+    (λ (more : off + len ≤ k). zeroed.behind k more ∙ sym (zeros_behind off len old k more))
+    (cases_lt k (off + len)))
+    (cases_lt k off)
+
+-- and where zeros follow on them, so do more
+pub zeroed_more : (old mid new : ℕ → ℕ) (off len at count all : ℕ) → at ≡ off + len → all ≡ len + count
+    → IsZeroed old mid off len → IsZeroed mid new at count → IsZeroed old new off all
+zeroed_more old mid new off len at count all begins sum one two = record {
+  zeros = λ k from to.
+      ⊎_elim (λ (less : k < at). two.before k less ∙ one.zeros k from (omega (arith, begins, less)))
+      (λ (more : at ≤ k). two.zeros k more (omega (arith, begins, sum, to)))
+      (cases_lt k at);
+  before = λ k less. two.before k (omega (arith, begins, less)) ∙ one.before k less;
+  behind = λ k more.
+      two.behind k (omega (arith, begins, sum, more)) ∙ one.behind k (omega (arith, sum, more));
+}
 
 module _ (old cut : ℕ → ℕ) (off len first : ℕ) (begins : first ≡ div_ceil off 4096)
     (kept : (k : ℕ) → cut k ≡ cond (is_outside first ((off + len) / 4096) (k / 4096)) (old k) 0) where
@@ -217,3 +250,9 @@ pub contents_punched : (old new : Pages) (size off len first : ℕ) → first �
 contents_punched old new size off len first begins kept zeroed =
     both _ _ _ _ (bytes_punched old new size off len zeroed)
     (kept ∙ ap (λ f. filter (is_outside f ((off + len) / 4096)) (keys_of old)) begins)
+
+pub contents_zeroed : (old new : Pages) (size off len : ℕ) → keys_of new ≡ keys_of old
+    → ((k : ℕ) → byte_at new k ≡ byte_over off (replicate len 0) (byte_at old) k)
+    → contents_of new size ≡ zeroed (contents_of old size) off len
+contents_zeroed old new size off len kept over =
+    both _ _ _ _ (bytes_punched old new size off len (over_zeroed (byte_at old) (byte_at new) off len over)) kept

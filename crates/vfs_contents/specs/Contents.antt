@@ -1,5 +1,5 @@
 -- The bytes of a file, and which of its pages are held.
-use Rattle.std.specs.Prelude.{◌≡◌, ◌≤◌, ◌<◌, ◌+◌, ◌-◌, ◌*◌, ◌/◌, ℕ, min, max, nat_lt, List, [], ◌∷◌, ◌++◌, length, take, drop, replicate, map, Option, Some, None, Result, Ok, Err, if◌then◌else◌}
+use Rattle.std.specs.Prelude.{◌≡◌, ◌≤◌, ◌<◌, ◌+◌, ◌-◌, ◌*◌, ◌/◌, ◌==◌, bit_and, ℕ, min, max, nat_lt, List, [], ◌∷◌, ◌++◌, length, take, drop, replicate, map, Option, Some, None, Result, Ok, Err, if◌then◌else◌}
 use Rattle.std.specs.List.{filter, range_with_len}
 use Rattle.std.specs.Int.{div_ceil}
 use Rattle.std.specs.Map.{keys_of}
@@ -68,6 +68,18 @@ punched c off len = record {
   bytes = take off c.bytes ++ (replicate (min len (length c.bytes - off)) 0 ++ drop (off + len) c.bytes);
   held = filter (is_outside (div_ceil off 4096) ((off + len) / 4096)) c.held;
 }
+
+-- zeros in place of so many bytes from off on, as far as there are bytes; their pages stay
+abbrev pub zeroed : Contents → (off len : ℕ) → Contents
+zeroed c off len = record c { bytes = (punched c off len).bytes }
+
+-- what FALLOCATE makes of so many bytes from off on: a hole by mode 3 (PUNCH_HOLE with KEEP_SIZE); else their
+-- pages are held, the file reaches to their end, unless by KEEP_SIZE (1), and they are zeros by ZERO_RANGE (16)
+abbrev pub fallocated : (mode off len : ℕ) → Contents → Contents
+fallocated mode off len c =
+    let held = allocated c off len (if bit_and mode 1 == 1 then 0 else off + len) in
+    if mode == 3 then punched c off len
+    else if bit_and mode 16 == 16 then zeroed held off len else held
 
 -- these bytes written from off on, in pages that are held then
 abbrev pub written : Contents → (off : ℕ) → List ℕ → Contents

@@ -1,10 +1,10 @@
 //! The bytes of a file.
 
-ghost use Rattle.std.specs.Prelude.{◌≡◌, ◌<◌, ◌^◌, ◌≤◌, ◌+◌, ◌-◌, ◌*◌, ◌/◌, ℕ, List, [], Some, OnOk, IfErr, length, take};
+ghost use Rattle.std.specs.Prelude.{◌≡◌, ◌≢◌, ◌<◌, ◌^◌, ◌≤◌, ◌+◌, ◌-◌, ◌*◌, ◌/◌, ℕ, List, [], Some, OnOk, IfErr, length, take};
 ghost use Rattle.std.specs.Int.{div_ceil};
 ghost use Rattle.vfs_files.specs.Bytes.{PutsPart};
 ghost use Rattle.vfs_flags.specs.Numbers.{enomem};
-ghost use Rattle.vfs_contents.specs.Contents.{no_contents, resized, allocated, data_from, hole_from, lacking, pages_over, punched, Writes};
+ghost use Rattle.vfs_contents.specs.Contents.{no_contents, resized, allocated, fallocated, data_from, hole_from, lacking, pages_over, punched, zeroed, Writes};
 ghost use Rattle.vfs_contents.specs.Pages.{reach};
 
 use crate::pages::{PAGE, Pages};
@@ -13,6 +13,15 @@ use std::alloc::Global;
 use std::marker::Model;
 use vfs_files::{ZeroCopyReader, ZeroCopyWriter};
 use vfs_flags::{Fault, MAX_REPLY_DATA};
+
+/// The bit of the mode of FALLOCATE by which a file stays as long as it is.
+pub const KEEP_SIZE: u32 = 1;
+
+/// The mode by which it has a hole, and stays as long.
+pub const PUNCH_HOLE: u32 = 3;
+
+/// The bit by which its bytes become zeros.
+pub const ZERO_RANGE: u32 = 16;
 
 /// The bytes of a file.
 #[derive(Drop)]
@@ -137,15 +146,37 @@ impl Contents {
         page.saturating_mul(PAGE as u64).max(offset).min(size)
     }
 
-    /// Holds the pages that so many bytes from `offset` on lie in, and adds zeros where there are fewer
-    /// bytes than `least`. ENOMEM where a page is not held and there is no memory for it, and all stays.
-    pub fn allocate(
+    /// FALLOCATE of so many bytes from `offset` on: makes a hole of them by `PUNCH_HOLE`; else holds their pages,
+    /// makes the file reach to their end, unless by `KEEP_SIZE`, and makes zeros of them by `ZERO_RANGE`.
+    /// ENOMEM where a page is not held and there is no memory for it, and all stays.
+    pub fn fallocate(
         &mut self,
         alloc: Global,
+        mode: u32,
         offset: u64,
         length: u64,
-        least: u64,
     ) -> Result<(), Fault>
+        requires { offset + length < 2 ^ 64 }
+        ensures ok { OnOk result (self.new ≡ fallocated mode offset length self.old) }
+        ensures err { IfErr result (λ fault. (fault ≡ Some enomem) × (self.new ≡ self.old)
+            × (mode ≢ 3) × (0 < lacking self.old offset length)) }
+    {
+        if mode == PUNCH_HOLE {
+            self.punch(offset, length);
+            return Ok(());
+        }
+        let keeps = mode & KEEP_SIZE == KEEP_SIZE;
+        let least = if keeps { 0 } else { offset + length };
+        self.allocate(alloc, offset, length, least)?;
+        if mode & ZERO_RANGE == ZERO_RANGE {
+            self.zero(offset, length);
+        }
+        Ok(())
+    }
+
+    // Holds the pages that so many bytes from `offset` on lie in, and adds zeros where there are fewer
+    // bytes than `least`. ENOMEM where a page is not held and there is no memory for it, and all stays.
+    fn allocate(&mut self, alloc: Global, offset: u64, length: u64, least: u64) -> Result<(), Fault>
         requires { offset + length < 2 ^ 64 }
         ensures ok { OnOk result (self.new ≡ allocated self.old offset length least) }
         ensures err { IfErr result (λ fault. (fault ≡ Some enomem) × (self.new ≡ self.old)
@@ -157,9 +188,9 @@ impl Contents {
         Ok(())
     }
 
-    /// Makes zeros of so many bytes from `offset` on, as far as there are bytes, and lets the pages go
-    /// that lie in them whole.
-    pub fn punch(&mut self, offset: u64, length: u64)
+    // Makes zeros of so many bytes from `offset` on, as far as there are bytes, and lets the pages go
+    // that lie in them whole.
+    fn punch(&mut self, offset: u64, length: u64)
         requires { offset + length < 2 ^ 64 }
         ensures { self.new ≡ punched self.old offset length }
     {
@@ -172,6 +203,14 @@ impl Contents {
         }
         self.pages.zero(offset, first * PAGE as u64 - offset);
         self.pages.zero(last * PAGE as u64, end % PAGE as u64);
+    }
+
+    // Makes zeros of so many bytes from `offset` on, as far as there are bytes. Their pages stay.
+    fn zero(&mut self, offset: u64, length: u64)
+        requires { offset + length < 2 ^ 64 }
+        ensures { self.new ≡ zeroed self.old offset length }
+    {
+        self.pages.zero_all(offset, length);
     }
 
     /// Puts bytes from `offset` on into `w`, at most `size`, and answers how many.

@@ -7,4 +7,4 @@ mod contents;
 mod pages;
 mod transfer;
 
-pub use contents::Contents;
+pub use contents::{Contents, KEEP_SIZE, PUNCH_HOLE, ZERO_RANGE};

@@ -193,6 +193,21 @@ impl Pages {
         }
     }
 
+    /// Writes so many zeros from a place on, whatever pages they lie in.
+    pub(crate) fn zero_all(&mut self, at: u64, count: u64)
+        requires { at + count < 2 ^ 64 }
+        ensures keys { keys_of self.new ≡ keys_of self.old }
+        ensures bytes { (place : ℕ) → byte_at self.new place
+            ≡ byte_over at (replicate count 0) (byte_at self.old) place }
+    {
+        let page_size = PAGE as u64;
+        let end = at + count;
+        'write: for page in at / page_size..end.div_ceil(page_size) {
+            let from = at.max(page * page_size);
+            self.zero(from, (end - from).min(page_size - from % page_size));
+        }
+    }
+
     /// Lets the pages from one on go, as far as one that stays.
     pub(crate) fn cut_out(&mut self, page: u64, end: u64)
         ensures keys { keys_of self.new ≡ filter (is_outside page end) (keys_of self.old) }

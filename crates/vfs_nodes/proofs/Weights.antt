@@ -1,8 +1,8 @@
 -- How much a node weighs after a change.
-use Rattle.std.proofs.Common.{◌≡◌, ◌≤◌, ◌+◌, ◌*◌, ◌/◌, ◌==◌, ◌||◌, ℕ, Bool, true, false, not, List, [], ◌∷◌, Option, length, filter, nat_lt, bit_and, ◌⊎◌, ⊎_elim, if◌then◌else◌, arith}
+use Rattle.std.proofs.Common.{◌≡◌, ◌≤◌, ◌+◌, ◌*◌, ◌/◌, ◌==◌, ◌||◌, ℕ, Bool, true, false, not, List, [], ◌∷◌, Option, length, filter, nat_lt, bit_and, ◌⊎◌, ⊎_elim, if◌then◌else◌, refl, arith}
 use Rattle.std.specs.Int.{div_ceil}
 use Rattle.vfs_wire.specs.declared.attributes.SetattrIn.{SetattrIn}
-use Rattle.vfs_contents.specs.Contents.{Contents, resized, punched, pages_over}
+use Rattle.vfs_contents.specs.Contents.{Contents, resized, allocated, punched, zeroed, fallocated, pages_over}
 use Rattle.vfs_contents.specs.Pages.{is_outside, reach}
 use Rattle.vfs_contents.proofs.Counts.{held_within}
 use Rattle.vfs_nodes.specs.Node.{weight, capabilities, stripped, rewritten, set_attr, takes_caps, is_other, truncates, opened, overwritten}
@@ -43,10 +43,25 @@ resized_holds c size = by (nat_lt (length c.bytes) size)
     by false = length-filter-le (λ n. nat_lt n (div_ceil size 4096)) c.held
 
 -- nor do those with a hole more
-pub punched_holds : (c : Contents) (off len : ℕ)
+punched_holds : (c : Contents) (off len : ℕ)
     → length (punched c off len).held ≤ length c.held
 punched_holds c off len =
     length-filter-le (is_outside (div_ceil off 4096) ((off + len) / 4096)) c.held
+
+-- FALLOCATE has them hold no more than there may be: a hole takes none, other bytes end where pages can be held
+pub fallocated_holds : (c : Contents) (mode off len free size : ℕ)
+    → ((mode == 3) ≡ false → off + len ≤ 4096 * reach c.held free (off / 4096) (pages_over off size))
+    → length (fallocated mode off len c).held ≤ length c.held + free
+fallocated_holds c mode off len free size = by (mode == 3) (bit_and mode 16 == 16)
+  where
+    by : (hole zeros : Bool)
+        → (hole ≡ false → off + len ≤ 4096 * reach c.held free (off / 4096) (pages_over off size))
+        → let held : Contents = allocated c off len (if bit_and mode 1 == 1 then 0 else off + len) in
+        let new : Contents = if hole then punched c off len else if zeros then zeroed held off len else held in
+        length new.held ≤ length c.held + free
+    by true zeros ends = omega (arith, punched_holds c off len)
+    by false true ends = omega (arith, held_within c.held off len free size (ends refl))
+    by false false ends = omega (arith, held_within c.held off len free size (ends refl))
 
 -- SETATTR
 pub set_attr_weighs : (now : Time) (node : Node) (attr : SetattrIn) (handle : Option ℕ) (valid : ℕ)

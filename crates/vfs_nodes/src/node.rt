@@ -205,9 +205,9 @@ impl Node {
         self.contents.held() * PAGE + self.text.len() + self.xattrs.bytes()
     }
 
-    /// Takes its privileges, as far as they are to go: its capabilities, and its set-user-ID and
-    /// set-group-ID bits.
-    pub fn strip(&mut self, caps: bool, ids: bool)
+    // Takes its privileges, as far as they are to go: its capabilities, and its set-user-ID and
+    // set-group-ID bits.
+    fn strip(&mut self, caps: bool, ids: bool)
         ensures { self.new ≡ stripped caps ids self.old }
     {
         if caps {

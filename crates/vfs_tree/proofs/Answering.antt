@@ -26,7 +26,7 @@ created_too old new None n node left entry options none ends = ((ends.0, refl, n
 
 -- ---- refusals
 
-first_false : (b : Bool) (e : ℕ) (rest : List (Bool × ℕ)) → first_of ((b, e) ∷ rest) ≡ None
+pub first_false : (b : Bool) (e : ℕ) (rest : List (Bool × ℕ)) → first_of ((b, e) ∷ rest) ≡ None
     → (b ≡ false) × (first_of rest ≡ None)
 first_false true e rest none = cc none
 first_false false e rest none = (refl, none)

@@ -1,16 +1,20 @@
 -- How many bytes a node takes before and after a change.
-use Rattle.std.proofs.Common.{◌≡◌, Ok, ◌≤◌, ◌-◌, ◌+◌, ◌*◌, ◌/◌, ℕ, Bool, true, false, zero, suc, ◌⊎◌, inl, inr, ⊎_elim, List, [], length, take, refl, ap, arith, length-take}
+use Rattle.std.proofs.Common.{◌≡◌, Ok, ◌≤◌, ◌-◌, ◌+◌, ◌*◌, ◌/◌, ◌==◌, ◌&&◌, not, nat_eq, nat_lt, ℕ, Bool, true, false, zero, suc, ◌⊎◌, inl, inr, ⊎_elim, List, [], ◌∷◌, None, length, take, refl, sym, ap, ◌∙◌, arith, length-take}
+use Rattle.std.specs.List.{list_any}
+use Rattle.std.proofs.lemmas.Bool.{ltb-false}
+use Rattle.vfs_flags.specs.Numbers.{einval, enospc, eopnotsupp}
 use Rattle.vfs_files.specs.Bytes.{fitting}
-use Rattle.vfs_contents.specs.Contents.{pages_over}
+use Rattle.vfs_contents.specs.Contents.{fallocated, pages_over}
 use Rattle.vfs_contents.specs.Pages.{reach}
-use Rattle.vfs_contents.proofs.Counts.{held_within}
-use Rattle.vfs_nodes.specs.Node.{weight, overwritten}
+use Rattle.vfs_nodes.specs.Children.{is_file}
+use Rattle.vfs_nodes.specs.Node.{weight, rewritten, overwritten}
 use Rattle.vfs_nodes.specs.Writing.{Overwrites}
 use Rattle.vfs_nodes.specs.declared.node.Node.{Node}
 use Rattle.vfs_nodes.specs.declared.node.Time.{Time}
-use Rattle.vfs_nodes.proofs.Weights.{overwritten_weighs, stripped_bytes}
+use Rattle.vfs_nodes.proofs.Weights.{overwritten_weighs, fallocated_holds, stripped_bytes}
+use Rattle.vfs_tree.proofs.Answering.{first_false}
 use Rattle.vfs_tree.specs.State.{State, room_of}
-use Rattle.vfs_tree.specs.Tree.{most_size, grown}
+use Rattle.vfs_tree.specs.Tree.{most_size, longest, fallocate_refusal, efbig, enodev}
 
 -- bytes that fit end within a limit, unless none fits
 pub fitting_ends : (most off : ℕ) (bytes : List ℕ)
@@ -45,14 +49,33 @@ overwritten_fits s node new now delayed kill off size most count bytes is wrote 
     let same = ap (λ m. weight (overwritten now delayed kill node off (fitting m off bytes))) is in
     omega (arith, written_fits s node now delayed kill off size bytes, same, ap weight wrote.1)
 
--- so does one that has place for these bytes
-pub grown_fits : (s : State) (node : Node) (now : Time) (mode off len : ℕ)
+-- where FALLOCATE is not refused there is room for its bytes, unless they become a hole
+pub fallocate_room : (s : State) (mode off len : ℕ) (node : Node)
+    → fallocate_refusal s mode off len node ≡ None → (mode == 3) ≡ false
     → off + len ≤ most_size s off len node
-    → weight (grown now mode off len node) ≤ weight node + room_of s
-grown_fits s node now mode off len within =
+fallocate_room s mode off len node none other =
+    let most : ℕ = most_size s off len node in
+    let served : Bool = list_any (nat_eq mode) (0 ∷ 1 ∷ 3 ∷ 16 ∷ 17 ∷ []) in
+    let fifth : List (Bool × ℕ) = (not (mode == 3) && nat_lt most (off + len), enospc) ∷ [] in
+    let fourth : List (Bool × ℕ) = (nat_lt (longest s) (off + len), efbig) ∷ fifth in
+    let third : List (Bool × ℕ) = (not (is_file node.kind), enodev) ∷ fourth in
+    let two = first_false (len == 0) einval ((not served, eopnotsupp) ∷ third) none in
+    let three = first_false (not served) eopnotsupp third two.1 in
+    let four = first_false (not (is_file node.kind)) enodev fourth three.1 in
+    let five = first_false (nat_lt (longest s) (off + len)) efbig fifth four.1 in
+    let last = first_false (not (mode == 3) && nat_lt most (off + len)) enospc [] five.1 in
+    ltb-false most (off + len) (sym (ap (λ t. not t && nat_lt most (off + len)) other) ∙ last.0)
+
+-- so does one after it
+pub fallocated_fits : (s : State) (node : Node) (now : Time) (mode off len : ℕ)
+    → fallocate_refusal s mode off len node ≡ None
+    → weight (rewritten now true false node (fallocated mode off len node.contents))
+    ≤ weight node + room_of s
+fallocated_fits s node now mode off len none =
     let free : ℕ = room_of s / 4096 in
     omega (
       arith,
-      held_within node.contents.held off len free len (omega (arith, within)),
+      fallocated_holds node.contents mode off len free len
+          (λ other. omega (arith, fallocate_room s mode off len node none other)),
       stripped_bytes true false node,
     )

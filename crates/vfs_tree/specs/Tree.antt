@@ -1,6 +1,6 @@
 -- How each call ends.
 use Rattle.std.specs.Prelude.{ℕ, ◌==◌, ◌+◌, ◌-◌, ◌*◌, ◌/◌, ◌^◌, ◌||◌, ◌&&◌, nat_eq, nat_le, nat_lt, not, min, Bool, true, false, List, [], ◌∷◌, length, map, take, codes, bit_and, bit_or, Option, Some, None, is_some, is_none, if◌then◌else◌}
-use Rattle.std.specs.List.{starts_with}
+use Rattle.std.specs.List.{list_any, starts_with}
 use Rattle.std.specs.Str.{bytes_eq}
 use Rattle.vfs_flags.specs.Numbers.{eperm, enoent, eexist, enotdir, eisdir, einval, enospc, erange, enotempty, enodata, enosys, eoverflow, eopnotsupp}
 use Rattle.vfs_wire.specs.declared.attributes.SetattrIn.{SetattrIn}
@@ -10,10 +10,10 @@ use Rattle.vfs_files.specs.Values.{Item}
 use Rattle.vfs_files.specs.Bytes.{part_of, most_put, fitting}
 use Rattle.vfs_files.specs.Calls.{Call, Init, Lookup, Forget, BatchForget, Getattr, Setattr, Symlink, Readlink, Open, Unlink, Rmdir, Rename, Link, Mknod, Mkdir, Create, Read, Write, Fallocate, Lseek, Statfs, Readdir, Setxattr, Getxattr, Listxattr, Removexattr, Opendir, Fsync, Release, Fsyncdir, Releasedir, Destroy, Answer, Options, Opened, Text, Count, Put, Wrote, Done, Offset, Statistics, Handed, default_answer}
 use Rattle.vfs_contents.specs.Pages.{reach}
-use Rattle.vfs_contents.specs.Contents.{allocated, punched, data_from, hole_from, lacking, pages_over}
+use Rattle.vfs_contents.specs.Contents.{fallocated, data_from, hole_from, lacking, pages_over}
 use Rattle.vfs_nodes.specs.Children.{with_child, without_child, is_directory, is_file, is_link}
 use Rattle.vfs_nodes.specs.Listing.{items_behind}
-use Rattle.vfs_nodes.specs.Node.{kind_by_mode, new_node, set_attr, stripped, truncates, opened, overwritten}
+use Rattle.vfs_nodes.specs.Node.{kind_by_mode, new_node, set_attr, rewritten, truncates, opened, overwritten}
 use Rattle.vfs_nodes.specs.Xattrs.{Xattr, xattr_named, xattr_bytes, with_xattr, without_xattr, name_list}
 use Rattle.vfs_nodes.specs.declared.children.Child.{Child}
 use Rattle.vfs_nodes.specs.declared.kind.Kind.{Kind}
@@ -214,47 +214,22 @@ abbrev pub at_place : State → Option ℕ → Outcome
 at_place s None = Refused enxio
 at_place s (Some place) = Answered (Just (Offset place)) s
 
--- why a file can't be made to have place for these bytes; the mode is 0 or 1 (FALLOC_FL_KEEP_SIZE), or 3 for
--- a hole (FALLOC_FL_PUNCH_HOLE too)
+-- why FALLOCATE does nothing: the mode is 0, KEEP_SIZE (1), PUNCH_HOLE with it (3), which takes no room, or
+-- ZERO_RANGE (16) without or with it
 abbrev pub fallocate_refusal : State → (mode off len : ℕ) → Node → Option ℕ
 fallocate_refusal s mode off len node =
-    first_of ((len == 0, einval) ∷ (nat_lt 1 mode, eopnotsupp)
+    first_of ((len == 0, einval)
+    ∷ (not (list_any (nat_eq mode) (0 ∷ 1 ∷ 3 ∷ 16 ∷ 17 ∷ [])), eopnotsupp)
     ∷ (not (is_file node.kind), enodev)
     ∷ (nat_lt (longest s) (off + len), efbig)
-    ∷ (nat_lt (most_size s off len node) (off + len), enospc) ∷ [])
+    ∷ (not (mode == 3) && nat_lt (most_size s off len node) (off + len), enospc) ∷ [])
 
--- how long it is at least then
-abbrev pub least_size : (mode off len : ℕ) → ℕ
-least_size mode off len = if mode == 1 then 0 else off + len
-
--- these bytes lie in pages that are held; it loses its capabilities
-abbrev pub grown : (now : Time) → (mode off len : ℕ) → Node → Node
-grown now mode off len node =
-    let contents = allocated node.contents off len (least_size mode off len) in
-    record (stripped true false node) { contents = contents; mtime = now; ctime = now }
-
-abbrev pub allocates : State → (number mode off len : ℕ) → Outcome
-allocates s n mode off len = on (node_at s n) (fallocate_refusal s mode off len) (λ node.
-    Tried (nat_lt 0 (lacking node.contents off len)) (Just Done)
-    (with_resized s n node (grown s.now mode off len node)))
-
--- why there can be no hole in place of these bytes
-abbrev pub hole_refusal : State → (off len : ℕ) → Node → Option ℕ
-hole_refusal s off len node =
-    first_of ((len == 0, einval) ∷ (not (is_file node.kind), enodev)
-    ∷ (nat_lt (longest s) (off + len), efbig) ∷ [])
-
--- there is one; it takes no memory, and the file loses its capabilities
-abbrev pub hollowed : (now : Time) → (off len : ℕ) → Node → Node
-hollowed now off len node = record (stripped true false node) {
-  contents = punched node.contents off len;
-  mtime = now;
-  ctime = now;
-}
-
-abbrev pub punches : State → (number off len : ℕ) → Outcome
-punches s n off len = on (node_at s n) (hole_refusal s off len) (λ node.
-    done (with_resized s n node (hollowed s.now off len node)))
+-- a file loses its capabilities by it, and memory is needed where its pages are not all held
+abbrev pub fallocates : State → (number mode off len : ℕ) → Outcome
+fallocates s n mode off len = on (node_at s n) (fallocate_refusal s mode off len) (λ node.
+    let new = rewritten s.now true false node (fallocated mode off len node.contents) in
+    Tried (not (mode == 3) && nat_lt 0 (lacking node.contents off len)) (Just Done)
+    (with_resized s n node new))
 
 -- LSEEK looks for data (SEEK_DATA, 3) or a hole (SEEK_HOLE, 4) of a file, from a place before its end on. What
 -- a client has yet to write would be taken for a hole: one that writes later is to look itself
@@ -398,7 +373,7 @@ outcome s (Read _ n _ room size off _ _) =
     (λ node. Answered (Just (Put (part_of node.contents.bytes off (most_put room size)))) s)
 outcome s (Write _ n _ bytes size off _ delayed kill _) =
     on (node_at s n) (write_refusal s off size) (writes s n delayed kill off size bytes)
-outcome s (Fallocate _ n _ mode off len) = if mode == 3 then punches s n off len else allocates s n mode off len
+outcome s (Fallocate _ n _ mode off len) = fallocates s n mode off len
 outcome s (Lseek _ n _ off whence) = seeks s n off whence
 outcome s (Statfs _ _) = Answered (Just (Statistics (statistics_of s))) s
 outcome s (Setxattr _ n name value flags _) = sets_xattr s n name value flags

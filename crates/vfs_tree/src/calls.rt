@@ -8,7 +8,7 @@ ghost use Rattle.vfs_tree.specs.Outcome.{Answered, AttrOf, Ends, with_it};
 ghost use Rattle.vfs_tree.specs.State.{node_at};
 ghost use Rattle.vfs_tree.specs.Tree.{all_forgotten, sets_attr};
 
-use crate::changes::{PAGE, PUNCH_HOLE, check_contents};
+use crate::changes::{PAGE, check_contents};
 use crate::fs::TreeFs;
 use crate::naming::directory;
 use bitflags::Flags;
@@ -468,11 +468,7 @@ impl FileSystem for TreeFs {
         offset: u64,
         length: u64,
     ) -> Result<(), Fault> {
-        if mode == PUNCH_HOLE {
-            self.punch(inode, offset, length)
-        } else {
-            self.allocate(inode, mode, offset, length)
-        }
+        self.allocate(inode, mode, offset, length)
     }
 
     fn lseek(

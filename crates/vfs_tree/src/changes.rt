@@ -1,16 +1,18 @@
 //! Changes of a node: its contents and its extended attributes.
 
-ghost use Rattle.std.specs.Prelude.{◌≡◌, ◌<◌, ◌≤◌, ◌^◌, ◌+◌, ◌-◌, IfSome, Some, None, IfOk, IfErr, OnOk};
+ghost use Rattle.std.specs.Prelude.{◌≡◌, [], ◌∷◌, nat_eq, ◌<◌, ◌≤◌, ◌^◌, ◌+◌, ◌-◌, IfSome, Some, None, IfOk, IfErr, OnOk};
+ghost use Rattle.std.specs.List.{list_any};
 ghost use Rattle.vfs_flags.specs.Flags.{setattr_valid_bits};
 ghost use Rattle.vfs_files.specs.Values.{name_text};
 ghost use Rattle.vfs_files.specs.Calls.{Plain, KeepsTextShort, done_answer, offset_answer, getxattr_answer, listxattr_answer};
 ghost use Rattle.vfs_nodes.specs.Xattrs.{xattr_named, name_list};
 ghost use Rattle.vfs_tree.specs.Outcome.{Ends, refusal_of, unless, with_it};
 ghost use Rattle.vfs_tree.specs.State.{node_at};
-ghost use Rattle.vfs_tree.specs.Tree.{contents_refusal, setattr_refusal, write_refusal, fallocate_refusal, allocates, hole_refusal, punches, seeks, least_size, longest, most_size, setxattr_refusal, is_bare, is_kept, namespace_refusal, sets_xattr, removes_xattr, tells};
+ghost use Rattle.vfs_tree.specs.Tree.{contents_refusal, setattr_refusal, write_refusal, fallocate_refusal, fallocates, seeks, longest, most_size, setxattr_refusal, is_bare, is_kept, namespace_refusal, sets_xattr, removes_xattr, tells};
 
 use crate::fs::TreeFs;
 use bitflags::Flags;
+use vfs_contents::{KEEP_SIZE, PUNCH_HOLE, ZERO_RANGE};
 use vfs_files::{CStr, GetxattrReply, ListxattrReply, copy_of};
 use vfs_flags::{Errno, Fault, SetattrValid};
 use vfs_nodes::Node;
@@ -18,12 +20,6 @@ use vfs_wire::SetattrIn;
 
 /// How many bytes a page of a file's contents has.
 pub(crate) const PAGE: u64 = 4096;
-
-/// The mode of FALLOCATE by which a file stays as long as it is.
-const KEEP_SIZE: u32 = 1;
-
-/// The one by which it has a hole, and stays as long.
-pub(crate) const PUNCH_HOLE: u32 = 3;
 
 /// What LSEEK looks for.
 const SEEK_DATA: u32 = 3;
@@ -108,6 +104,17 @@ fn is_bare(name: &[u8]) -> bool
     name == b"user.".as_slice() || name == b"trusted.".as_slice() || name == b"security.".as_slice()
 }
 
+// Whether FALLOCATE can be done by this mode.
+fn is_served(mode: u32) -> bool
+    ensures { result ≡ list_any (nat_eq mode) (0 ∷ 1 ∷ 3 ∷ 16 ∷ 17 ∷ []) }
+{
+    mode == 0
+        || mode == KEEP_SIZE
+        || mode == PUNCH_HOLE
+        || mode == ZERO_RANGE
+        || mode == ZERO_RANGE | KEEP_SIZE
+}
+
 impl TreeFs {
     /// Whether attributes of a node can be set.
     pub(crate) fn check_set_attr(
@@ -178,8 +185,8 @@ impl TreeFs {
         Ok(most)
     }
 
-    /// Has `length` bytes of a file in pages that are held, and makes it at least `offset + length`
-    /// bytes long, unless the mode keeps it.
+    /// Holds the pages of `length` bytes of a file, or makes a hole or zeros of them, by the mode of
+    /// FALLOCATE.
     pub(crate) fn allocate(
         &mut self,
         inode: u64,
@@ -187,32 +194,27 @@ impl TreeFs {
         offset: u64,
         length: u64,
     ) -> Result<(), Fault>
-        ensures { Ends self.old (allocates self.old inode mode offset length)
+        ensures { Ends self.old (fallocates self.old inode mode offset length)
             (Plain (done_answer result)) self.new }
     {
-        let least = self.check_allocate(inode, mode, offset, length)?;
+        self.check_allocate(inode, mode, offset, length)?;
         let (alloc, now) = (self.alloc, self.now);
         let Some(node) = self.nodes.get_mut(&inode) else {
             unreachable!()
         };
         let before = node.weight();
-        node.contents.allocate(alloc, offset, length, least)?;
-        node.strip(true, false);
-        node.mtime = now;
-        node.ctime = now;
+        node.contents.fallocate(alloc, mode, offset, length)?;
+        node.mark_rewritten(now, true, false);
         let after = node.weight();
         self.reweigh(before, after);
         Ok(())
     }
 
-    // Whether a file can be made so, and how long it is at least then.
-    fn check_allocate(&self, inode: u64, mode: u32, offset: u64, len: u64) -> Result<u64, Errno>
+    // Whether a FALLOCATE of this mode can be done.
+    fn check_allocate(&self, inode: u64, mode: u32, offset: u64, len: u64) -> Result<(), Errno>
         ensures ok { OnOk result (refusal_of (node_at self.entry.now inode)
             (fallocate_refusal self.entry.now mode offset len) ≡ None) }
-        ensures least { IfOk result (λ least. least ≡ least_size mode offset len) }
         ensures end { OnOk result (offset + len < 2 ^ 63) }
-        ensures room { OnOk result (IfSome (node_at self.entry.now inode) (λ node.
-            offset + len ≤ most_size self.entry.now offset len node)) }
         ensures err { IfErr result (λ errno. refusal_of (node_at self.entry.now inode)
             (fallocate_refusal self.entry.now mode offset len) ≡ Some errno) }
     {
@@ -222,7 +224,7 @@ impl TreeFs {
         if len == 0 {
             return Err(Errno::EINVAL);
         }
-        if mode > KEEP_SIZE {
+        if !is_served(mode) {
             return Err(Errno::EOPNOTSUPP);
         }
         if !node.kind.is_file() {
@@ -234,57 +236,8 @@ impl TreeFs {
         if end > self.longest() {
             return Err(too_big());
         }
-        if end > self.most_size(node, offset, len) {
+        if mode != PUNCH_HOLE && end > self.most_size(node, offset, len) {
             return Err(Errno::ENOSPC);
-        }
-        if mode == KEEP_SIZE {
-            return Ok(0);
-        }
-        Ok(end)
-    }
-
-    /// Has a hole in place of `length` bytes of a file, which takes no memory.
-    pub(crate) fn punch(&mut self, inode: u64, offset: u64, length: u64) -> Result<(), Fault>
-        ensures { Ends self.old (punches self.old inode offset length)
-            (Plain (done_answer result)) self.new }
-    {
-        self.check_hole(inode, offset, length)?;
-        let now = self.now;
-        let Some(node) = self.nodes.get_mut(&inode) else {
-            unreachable!()
-        };
-        let before = node.weight();
-        node.contents.punch(offset, length);
-        node.strip(true, false);
-        node.mtime = now;
-        node.ctime = now;
-        let after = node.weight();
-        self.reweigh(before, after);
-        Ok(())
-    }
-
-    // Whether there can be a hole in a file.
-    fn check_hole(&self, inode: u64, offset: u64, len: u64) -> Result<(), Errno>
-        ensures ok { OnOk result (refusal_of (node_at self.entry.now inode)
-            (hole_refusal self.entry.now offset len) ≡ None) }
-        ensures end { OnOk result (offset + len < 2 ^ 63) }
-        ensures err { IfErr result (λ errno. refusal_of (node_at self.entry.now inode)
-            (hole_refusal self.entry.now offset len) ≡ Some errno) }
-    {
-        let Some(node) = self.nodes.get(&inode) else {
-            return Err(Errno::ENOENT);
-        };
-        if len == 0 {
-            return Err(Errno::EINVAL);
-        }
-        if !node.kind.is_file() {
-            return Err(no_device());
-        }
-        let Some(end) = offset.checked_add(len) else {
-            return Err(too_big());
-        };
-        if end > self.longest() {
-            return Err(too_big());
         }
         Ok(())
     }

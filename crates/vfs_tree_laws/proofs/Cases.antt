@@ -10,24 +10,24 @@ use Rattle.vfs_grammar.specs.Books.{entry_node, answered_nodes, forgets_of}
 use Rattle.vfs_wire.specs.declared.attributes.SetattrIn.{SetattrIn}
 use Rattle.std.proofs.lemmas.Bool.{ltb-false, eqb-true, not-false, or_parts}
 use Rattle.std.proofs.lemmas.List.{length-replicate}
-use Rattle.vfs_contents.specs.Contents.{Contents, resized, punched, data_from, hole_from, lacking}
+use Rattle.vfs_contents.specs.Contents.{Contents, resized, allocated, punched, zeroed, fallocated, data_from, hole_from, lacking}
 use Rattle.vfs_tree.specs.Children.{with_child, is_directory, is_file}
 use Rattle.vfs_tree.specs.Listing.{items_behind}
-use Rattle.vfs_tree.specs.Node.{weight, stripped, is_other, truncates, opened, set_attr, overwritten, kind_by_mode, new_node}
+use Rattle.vfs_tree.specs.Node.{weight, stripped, rewritten, is_other, truncates, opened, set_attr, overwritten, kind_by_mode, new_node}
 use Rattle.vfs_tree.specs.Outcome.{TreeReply, Just, EntryOf, AttrOf, Listed, Outcome, Refused, Answered, Tried, Replies, Ends, done, first_of, or_else, unless, with_it, on}
 use Rattle.vfs_tree.specs.Rename.{directory_refusal, rename_refusal, renamed, wants_memory}
 use Rattle.vfs_tree.specs.State.{State, node_at, node_named, room_of, with_node, with_resized, with_names, change, child_at}
 use Rattle.vfs_tree.specs.State as tree
 use Rattle.vfs_tree_laws.specs.Laws.{IsShort}
-use Rattle.vfs_tree.specs.Tree.{opening, held_of, group_in, permissions_in, namespace_refusal, efbig, enodev, enxio, at_place, most_xattr_bytes, TreeAllows, outcome, wanted_options, found, at_name, made, makes, linked, all_forgotten, setattr_refusal, contents_refusal, writes, write_refusal, longest, most_size, grown, fallocate_refusal, hole_refusal, hollowed, punches, allocates, setxattr_refusal, with_xattrs, has_no_text, makes_kind, make_refusal, taken_out, link_refusal, statistics_of, tells}
+use Rattle.vfs_tree.specs.Tree.{opening, held_of, group_in, permissions_in, namespace_refusal, efbig, enodev, enxio, at_place, most_xattr_bytes, TreeAllows, outcome, wanted_options, found, at_name, made, makes, linked, all_forgotten, setattr_refusal, contents_refusal, writes, write_refusal, longest, most_size, fallocate_refusal, setxattr_refusal, with_xattrs, has_no_text, makes_kind, make_refusal, taken_out, link_refusal, statistics_of, tells}
 use Rattle.vfs_tree.specs.Xattrs.{xattr_named, xattr_bytes, with_xattr, without_xattr, name_list}
 use Rattle.vfs_nodes.specs.declared.children.Child.{Child}
 use Rattle.vfs_nodes.specs.declared.kind.Kind.{Kind}
 use Rattle.vfs_nodes.specs.declared.kind.Kind.TheVariants as kind
 use Rattle.vfs_nodes.specs.declared.node.Node.{Node}
 use Rattle.vfs_nodes.specs.declared.node.Time.{Time}
-use Rattle.vfs_nodes.proofs.Weights.{resized_holds, punched_holds, set_attr_weighs, stripped_bytes, without_xattr_bytes}
-use Rattle.vfs_tree.proofs.Weights.{fitting_ends, written_fits, grown_fits}
+use Rattle.vfs_nodes.proofs.Weights.{resized_holds, set_attr_weighs, stripped_bytes, without_xattr_bytes}
+use Rattle.vfs_tree.proofs.Weights.{fitting_ends, written_fits, fallocate_room, fallocated_fits}
 
 -- a node with other contents or extended attributes, for which there is room
 pub record Resizes (s : State) (was now : Node) : Type 0 where
@@ -214,12 +214,7 @@ opened_resizes s uid kill node flags = by (truncates node flags)
   where
     by : (t : Bool)
         → Resizes s node
-        (if t
-        then record (stripped true (kill || is_other uid) node) {
-          contents = resized node.contents 0;
-          mtime = s.now;
-          ctime = s.now;
-        }
+        (if t then rewritten s.now true (kill || is_other uid) node (resized node.contents 0)
         else node)
     by true = record {
       kind = refl;
@@ -270,45 +265,39 @@ overwritten_resizes s delayed kill node off size bytes =
     }
 
 -- FALLOCATE
-grown_resizes : (s : State) (node : Node) (mode off len : ℕ)
+fallocated_resizes : (s : State) (node : Node) (mode off len : ℕ)
     → fallocate_refusal s mode off len node ≡ None
-    → Resizes s node (grown s.now mode off len node)
-grown_resizes s node mode off len none =
-    let most : ℕ = most_size s off len node in
-    let rs : List (Bool × ℕ) = (len == 0, einval) ∷ (nat_lt 1 mode, eopnotsupp)
-    ∷ (not (is_file node.kind), enodev)
-    ∷ (nat_lt (longest s) (off + len), efbig)
-    ∷ (nat_lt most (off + len), enospc) ∷ [] in
-    let fits = are_not rs none in
-    let within : off + len ≤ most = omega (arith, ltb-false most (off + len) fits.1.1.1.1.0) in
-    record {
-      kind = refl;
-      parent = refl;
-      names = refl;
-      lookups = refl;
-      children = refl;
-      room = grown_fits s node s.now mode off len within;
-      file = λ short is. by (mode == 1) within (short is);
-    }
-  where
-    by : (t : Bool) → off + len ≤ most_size s off len node
-        → length node.contents.bytes ≤ s.limits.file
-        → length (lengthened node.contents.bytes (if t then 0 else off + len)) ≤ s.limits.file
-    by true within short = omega (arith, length-lengthened node.contents.bytes 0, short)
-    by false within short =
-        omega (arith, within, length-lengthened node.contents.bytes (off + len), short)
-
-hollowed_resizes : (s : State) (node : Node) (off len : ℕ)
-    → Resizes s node (hollowed s.now off len node)
-hollowed_resizes s node off len = record {
+    → Resizes s node (rewritten s.now true false node (fallocated mode off len node.contents))
+fallocated_resizes s node mode off len none = record {
   kind = refl;
   parent = refl;
   names = refl;
   lookups = refl;
   children = refl;
-  room = omega (arith, punched_holds node.contents off len, stripped_bytes true false node);
-  file = λ short is. omega (arith, length-punched node.contents off len, short is);
+  room = fallocated_fits s node s.now mode off len none;
+  file = λ short is.
+      by (mode == 3) (bit_and mode 16 == 16) (bit_and mode 1 == 1)
+      (fallocate_room s mode off len node none) (short is);
 }
+  where
+    grown : (keeps : Bool) → off + len ≤ most_size s off len node
+        → length node.contents.bytes ≤ s.limits.file
+        → length (lengthened node.contents.bytes (if keeps then 0 else off + len)) ≤ s.limits.file
+    grown true room short = omega (arith, length-lengthened node.contents.bytes 0, short)
+    grown false room short =
+        omega (arith, room, length-lengthened node.contents.bytes (off + len), short)
+
+    by : (hole zeros keeps : Bool) → (hole ≡ false → off + len ≤ most_size s off len node)
+        → length node.contents.bytes ≤ s.limits.file
+        → let held : Contents = allocated node.contents off len (if keeps then 0 else off + len) in
+        let new : Contents = if hole then punched node.contents off len
+        else if zeros then zeroed held off len else held in
+        length new.bytes ≤ s.limits.file
+    by true zeros keeps room short = omega (arith, length-punched node.contents off len, short)
+    by false true keeps room short =
+        let held : Contents = allocated node.contents off len (if keeps then 0 else off + len) in
+        omega (arith, length-punched held off len, grown keeps (room refl) short)
+    by false false keeps room short = grown keeps (room refl) short
 
 -- SETXATTR
 xattr_fits : (s : State) (node : Node) (name value : List ℕ) (flags : ℕ)
@@ -401,10 +390,6 @@ module _ (F : Type 0) (L : TreeReply → State → Type 0) (fails : F) where
       → Each F L (makes_kind s ctx o mode parent name)
   each-kind s ctx None mode parent name more = fails
   each-kind s ctx (Some kind) mode parent name more = more kind
-
-  each-if : (t : Bool) (a b : Outcome) → Each F L a → Each F L b → Each F L (if t then a else b)
-  each-if true a b first second = first
-  each-if false a b first second = second
 
   each-at_place : (s : State) (o : Option ℕ)
       → ((place : ℕ) → L (Just (Offset place)) s) → Each F L (at_place s o)
@@ -623,26 +608,19 @@ module _ (old : State) (P : List (ℕ × ℕ) → TreeReply → State → Type 0
   covered (Fallocate c n h mode off len) =
       let call = (Fallocate c n h mode off len) in
       let fails : Fails old call = (refl, λ e. refl) in
-      let hole = λ (node : Node). hollowed old.now off len node in
-      let last = λ (node : Node). grown old.now mode off len node in
-      each-if (Fails old call) (Leaves call) fails (mode == 3) (punches old n off len)
-      (allocates old n mode off len)
-      (each-on (Fails old call) (Leaves call) fails (node_at old n) (hole_refusal old off len)
-      (λ node. done (with_resized old n node (hole node)))
-      (λ node is free. (
-        (λ a r. refl),
-        q.resizes n node (hole node) (Just Done) refl is (hollowed_resizes old node off len),
-      )))
-      (each-on (Fails old call) (Leaves call) fails (node_at old n) (fallocate_refusal old mode off len)
-      (λ node. Tried (nat_lt 0 (lacking node.contents off len)) (Just Done)
+      let last = λ (node : Node).
+      rewritten old.now true false node (fallocated mode off len node.contents) in
+      each-on (Fails old call) (Leaves call) fails (node_at old n) (fallocate_refusal old mode off len)
+      (λ node. Tried (not (mode == 3) && nat_lt 0 (lacking node.contents off len)) (Just Done)
       (with_resized old n node (last node)))
       (λ node is free. (
         fails,
         (
           (λ a r. refl),
-          q.resizes n node (last node) (Just Done) refl is (grown_resizes old node mode off len free),
+          q.resizes n node (last node) (Just Done) refl is
+              (fallocated_resizes old node mode off len free),
         ),
-      )))
+      ))
   covered (Setxattr c n name value flags e) =
       let call = (Setxattr c n name value flags e) in
       let fails : Fails old call = (refl, λ e. refl) in

@@ -195,6 +195,49 @@ fn hole_in_place_of_a_page(tree: &mut TreeFs) -> Result<(), Fault>
     tree.fallocate(root(), 2, 0, 3, 0, 4096)
 }
 
+/// FALLOCATE of zeros (FALLOC_FL_ZERO_RANGE, 16) in a page that is held: it wants no memory.
+fn zeros_in_a_page(tree: &mut TreeFs) -> Result<(), Fault>
+    requires { tree.old ≡ file_tree wide (codes "hello") }
+    ensures answer { result ≡ Ok tt }
+    ensures bytes { tree.new ≡ file_tree wide (codes "h" ++ (0 ∷ 0 ∷ codes "lo")) }
+{
+    tree.fallocate(root(), 2, 0, 16, 1, 2)
+}
+
+/// FALLOCATE of zeros past the end of a file, which grows, or stays as long (17, with FALLOC_FL_KEEP_SIZE).
+fn zeros_past_the_end(tree: &mut TreeFs, mode: u32) -> Result<(), Fault>
+    requires { tree.old ≡ file_tree wide (codes "hello") }
+    ensures grown { mode ≡ 16 → (result ≡ Ok tt) × (tree.new ≡
+        file_tree wide (codes "hel" ++ (0 ∷ 0 ∷ 0 ∷ 0 ∷ []))) }
+    ensures kept { mode ≡ 17 → (result ≡ Ok tt) × (tree.new ≡
+        file_tree wide (codes "hel" ++ (0 ∷ 0 ∷ []))) }
+{
+    tree.fallocate(root(), 2, 0, mode, 3, 4)
+}
+
+/// FALLOCATE of zeros in place of a hole: they have a page, which takes 8 blocks. Memory for it can be wanting.
+fn zeros_in_place_of_a_hole(tree: &mut TreeFs) -> Result<u64, Fault>
+    requires { tree.old ≡ tree_of narrow (record empty_file {
+      contents = record { bytes = 0 ∷ 0 ∷ 0 ∷ []; held = [] };
+    }) }
+    ensures { MatchResult result
+        (λ blocks. (blocks ≡ 8) × (tree.new ≡ file_tree narrow (0 ∷ 0 ∷ 0 ∷ [])))
+        (λ fault. (fault ≡ Some 12) × (tree.new ≡ tree.old)) }
+{
+    tree.fallocate(root(), 2, 0, 16, 0, 3)?;
+    let (attr, _) = tree.getattr(root(), 2, None)?;
+    Ok(attr.blocks)
+}
+
+/// FALLOCATE that takes bytes out of a file (FALLOC_FL_COLLAPSE_RANGE, 8): EOPNOTSUPP, and nothing changes.
+fn bytes_are_not_taken_out(tree: &mut TreeFs) -> Result<(), Fault>
+    requires { tree.old ≡ file_tree wide (codes "hello") }
+    ensures refused { result ≡ Err (Some 95) }
+    ensures same { tree.new ≡ tree.old }
+{
+    tree.fallocate(root(), 2, 0, 8, 0, 1)
+}
+
 /// LSEEK: where a file has data (SEEK_DATA, 3), and where they end (SEEK_HOLE, 4).
 fn data_and_hole(tree: &mut TreeFs, whence: u32) -> Result<u64, Fault>
     requires { tree.old ≡ file_tree wide (codes "hello") }

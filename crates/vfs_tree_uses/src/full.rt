@@ -73,6 +73,14 @@ fn place_for_a_page(tree: &mut TreeFs) -> Result<(), Fault>
     tree.fallocate(root(), 2, 0, 0, 4096, 1)
 }
 
+/// FALLOCATE of a zero there (FALLOC_FL_ZERO_RANGE and FALLOC_FL_KEEP_SIZE, 17): the same, since it has a page.
+fn zero_for_a_page(tree: &mut TreeFs) -> Result<(), Fault>
+    ensures limit { tree.old ≡ file_tree short (codes "hello") → result ≡ Err (Some 27) }
+    ensures room { tree.old ≡ file_tree narrow (codes "hello") → result ≡ Err (Some 28) }
+{
+    tree.fallocate(root(), 2, 0, 17, 4096, 1)
+}
+
 /// SYMLINK of two bytes, where there is room for one: ENOSPC.
 fn text_without_room(tree: &mut TreeFs) -> Result<Entry, Fault>
     requires { tree.old ≡ file_tree narrow (codes "hello") }

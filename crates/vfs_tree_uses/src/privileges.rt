@@ -129,12 +129,13 @@ fn told_for_no_time(tree: &mut TreeFs) -> Result<(Attr, Duration), Fault>
     tree.getattr(root(), 2, None)
 }
 
-/// FALLOCATE of bytes (mode 0), or of a hole in place of them (3), takes the capabilities.
+/// FALLOCATE of bytes (mode 0), of a hole in place of them (3), or of zeros (16), takes the capabilities.
 fn allocated(tree: &mut TreeFs, mode: u32) -> Result<(), Fault>
     requires { tree.old ≡ program_tree 0o6755 (capability ∷ []) (codes "hello") }
     ensures bytes { mode ≡ 0 → tree.new ≡ program_tree 0o6755 [] (codes "hello" ++ (0 ∷ [])) }
     ensures hole { mode ≡ 3 → (result ≡ Ok tt) × (tree.new ≡
         program_tree 0o6755 [] (codes "hell" ++ (0 ∷ []))) }
+    ensures zeros { mode ≡ 16 → tree.new ≡ program_tree 0o6755 [] (codes "hell" ++ (0 ∷ 0 ∷ [])) }
 {
     tree.fallocate(root(), 2, 0, mode, 4, 2)
 }
