@@ -1,6 +1,7 @@
 -- How each call ends.
 use Rattle.std.specs.Prelude.{ℕ, ◌==◌, ◌+◌, ◌-◌, ◌*◌, ◌/◌, ◌^◌, ◌||◌, ◌&&◌, nat_eq, nat_le, nat_lt, not, min, Bool, true, false, List, [], ◌∷◌, length, map, take, codes, bit_and, bit_or, Option, Some, None, is_some, is_none, if◌then◌else◌}
 use Rattle.std.specs.List.{list_any, starts_with}
+use Rattle.std.specs.Option.{unwrap_or}
 use Rattle.std.specs.Str.{bytes_eq}
 use Rattle.vfs_flags.specs.Numbers.{eperm, enoent, eexist, enotdir, eisdir, einval, enospc, erange, enotempty, enodata, enosys, eoverflow, eopnotsupp}
 use Rattle.vfs_wire.specs.declared.attributes.SetattrIn.{SetattrIn}
@@ -209,11 +210,6 @@ most_size s off len node =
     min (longest s)
     (4096 * reach node.contents.held (room_of s / 4096) (off / 4096) (pages_over off len))
 
--- a place is answered, if there is one
-abbrev pub at_place : State → Option ℕ → Outcome
-at_place s None = Refused enxio
-at_place s (Some place) = Answered (Just (Offset place)) s
-
 -- why FALLOCATE does nothing: the mode is 0, KEEP_SIZE (1), PUNCH_HOLE with it (3), which takes no room, or
 -- ZERO_RANGE (16) without or with it
 abbrev pub fallocate_refusal : State → (mode off len : ℕ) → Node → Option ℕ
@@ -234,12 +230,12 @@ fallocates s n mode off len = on (node_at s n) (fallocate_refusal s mode off len
 -- LSEEK looks for data (SEEK_DATA, 3) or a hole (SEEK_HOLE, 4) of a file, from a place before its end on. What
 -- a client has yet to write would be taken for a hole: one that writes later is to look itself
 abbrev pub seeks : State → (number off whence : ℕ) → Outcome
-seeks s n off whence =
-    unless (first_of ((s.writeback, enosys) ∷ [])) (with_it (node_at s n) (λ node.
+seeks s n off whence = unless (first_of ((s.writeback, enosys) ∷ [])) (with_it (node_at s n) (λ node.
     let at = if whence == 4 then Some (hole_from node.contents off)
     else data_from node.contents off in
     unless (first_of ((not (is_file node.kind) || not (whence == 3 || whence == 4), einval)
-    ∷ (nat_le (length node.contents.bytes) off, enxio) ∷ [])) (at_place s at)))
+    ∷ (nat_le (length node.contents.bytes) off || is_none at, enxio) ∷ []))
+    (Answered (Just (Offset (unwrap_or at 0))) s)))
 
 -- why not one of so many bytes can be written from off on
 abbrev pub write_refusal : State → (off size : ℕ) → Node → Option ℕ

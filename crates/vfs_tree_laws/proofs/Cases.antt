@@ -8,6 +8,7 @@ use Rattle.vfs_files.specs.Calls.{Call, Lookup, Forget, BatchForget, Getattr, Se
 use Rattle.vfs_files.specs.declared.entry.Context.{Context}
 use Rattle.vfs_grammar.specs.Books.{entry_node, answered_nodes, forgets_of}
 use Rattle.vfs_wire.specs.declared.attributes.SetattrIn.{SetattrIn}
+use Rattle.std.specs.Option.{unwrap_or}
 use Rattle.std.proofs.lemmas.Bool.{ltb-false, eqb-true, not-false, or_parts}
 use Rattle.std.proofs.lemmas.List.{length-replicate}
 use Rattle.vfs_contents.specs.Contents.{Contents, resized, allocated, punched, zeroed, fallocated, data_from, hole_from, lacking}
@@ -19,7 +20,7 @@ use Rattle.vfs_tree.specs.Rename.{directory_refusal, rename_refusal, renamed, wa
 use Rattle.vfs_tree.specs.State.{State, node_at, node_named, room_of, with_node, with_resized, with_names, change, child_at}
 use Rattle.vfs_tree.specs.State as tree
 use Rattle.vfs_tree_laws.specs.Laws.{IsShort}
-use Rattle.vfs_tree.specs.Tree.{opening, held_of, group_in, permissions_in, namespace_refusal, efbig, enodev, enxio, at_place, most_xattr_bytes, TreeAllows, outcome, wanted_options, found, at_name, made, makes, linked, all_forgotten, setattr_refusal, contents_refusal, writes, write_refusal, longest, most_size, fallocate_refusal, setxattr_refusal, with_xattrs, has_no_text, makes_kind, make_refusal, taken_out, link_refusal, statistics_of, tells}
+use Rattle.vfs_tree.specs.Tree.{opening, held_of, group_in, permissions_in, namespace_refusal, efbig, enodev, enxio, most_xattr_bytes, TreeAllows, outcome, wanted_options, found, at_name, made, makes, linked, all_forgotten, setattr_refusal, contents_refusal, writes, write_refusal, longest, most_size, fallocate_refusal, setxattr_refusal, with_xattrs, has_no_text, makes_kind, make_refusal, taken_out, link_refusal, statistics_of, tells}
 use Rattle.vfs_tree.specs.Xattrs.{xattr_named, xattr_bytes, with_xattr, without_xattr, name_list}
 use Rattle.vfs_nodes.specs.declared.children.Child.{Child}
 use Rattle.vfs_nodes.specs.declared.kind.Kind.{Kind}
@@ -391,11 +392,6 @@ module _ (F : Type 0) (L : TreeReply → State → Type 0) (fails : F) where
   each-kind s ctx None mode parent name more = fails
   each-kind s ctx (Some kind) mode parent name more = more kind
 
-  each-at_place : (s : State) (o : Option ℕ)
-      → ((place : ℕ) → L (Just (Offset place)) s) → Each F L (at_place s o)
-  each-at_place s None more = fails
-  each-at_place s (Some place) more = more place
-
 -- what is answered has the entry's node
 entry_nodes : (n : ℕ) (node : Node) (answer : Answer) → Replies (EntryOf n node) (Plain answer)
     → entry_node answer ≡ n ∷ []
@@ -710,14 +706,14 @@ module _ (old : State) (P : List (ℕ × ℕ) → TreeReply → State → Type 0
       else data_from node.contents off in
       let none = λ (node : Node).
       first_of ((not (is_file node.kind) || not (w == 3 || w == 4), einval)
-      ∷ (nat_le (length node.contents.bytes) off, enxio) ∷ []) in
-      let last = λ (node : Node). unless (none node) (at_place old (at node)) in
+      ∷ (nat_le (length node.contents.bytes) off || is_none (at node), enxio) ∷ []) in
+      let reply = λ (node : Node). Just (Offset (unwrap_or (at node) 0)) in
+      let last = λ (node : Node). unless (none node) (Answered (reply node) old) in
       each-unless (Fails old call) (Leaves call) fails (first_of ((old.writeback, enosys) ∷ []))
       (with_it (node_at old n) last)
       (λ may. each-with_it (Fails old call) (Leaves call) fails (node_at old n) last
-      (λ node is. each-unless (Fails old call) (Leaves call) fails (none node) (at_place old (at node))
-      (λ free. each-at_place (Fails old call) (Leaves call) fails old (at node)
-      (λ place. ((λ a r. refl), q.same (Just (Offset place)) refl)))))
+      (λ node is. each-unless (Fails old call) (Leaves call) fails (none node) (Answered (reply node) old)
+      (λ free. ((λ a r. refl), q.same (reply node) refl))))
   covered (Copyfilerange c n h o m i p l f) =
       ((λ a r. refl), q.same (Just (default_answer (Copyfilerange c n h o m i p l f))) refl)
   covered (Syncfs c n) =
