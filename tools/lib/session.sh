@@ -112,6 +112,14 @@ works '-rw------- 7 8' 'chmod 600 a && chown 7:8 a && stat -c "%A %u %g" a'
 works '1577836800 946684800' 'touch -m -d "2020-01-01 00:00:00" a && touch -a -d "2000-01-01 00:00:00" a && TZ=UTC stat -c "%Y %X" a'
 works 'now' 'touch a; d=$(( $(date +%s) - $(stat -c %Y a) )); [ "$d" -ge -1 ] && [ "$d" -le 5 ] && echo now'
 
+# Bytes become zeros, up to behind the end, and have a place on the disk; a tmpfs that is shared has no call for it.
+if [ -n "$shared" ] || ! fallocate --help 2>&1 | grep -q zero-range; then
+    skipped 'zeros in place of bytes, of a shared folder or without the fallocate of util-linux'
+else
+    works '68 00 00 00 00 00 00 8' 'echo hello > z && fallocate -z -o 1 -l 6 z && echo $(od -An -tx1 z) $(stat -c %b z)'
+    works '7' 'fallocate -z -n -o 4 -l 60 z && stat -c %s z && rm z'
+fi
+
 # Modes are kept by what copies them: what may not be set is refused, and then the bits are.
 works '644 644' 'cd "$other" && echo p > p && chmod 644 p && cd "$here" && cp -p "$other/p" p && cp -a "$other/p" q &&
     echo $(stat -c %a p q) && rm p q'

@@ -62,7 +62,7 @@ def generate(random):
         "GETXATTR": lambda: (node("fds", 1), random.choice(ATTRIBUTES)), "LISTXATTR": lambda: (node("fds", 1),),
         "REMOVEXATTR": lambda: (node("fds", 1), random.choice(ATTRIBUTES)),
         "FALLOCATE": lambda: (node("f", 1), random.choice([0, 1, 4096, random.randrange(20000)]),
-                              random.choice([0, 1, 100, 5000]), random.choice([0, 0, 0, 1, 3, 16])),
+                              random.choice([0, 1, 100, 5000]), random.choice([0, 0, 0, 1, 3])),
         "LSEEK": lambda: (node("f", 1), random.choice([os.SEEK_DATA, os.SEEK_HOLE]),
                           random.choice([0, 1, 4095, 4096, 4097, random.randrange(80000)])),
         "FORGET": lambda: (node("dfls"), random.random(), random.random() < 0.5), "GETATTR": lambda: (node("dfls"),),
@@ -474,7 +474,7 @@ class Session:
         if self.nodes[node].kind != "f":
             return
         if mode:
-            self.operation += " " + {1: "KEEP_SIZE", 3: "PUNCH_HOLE", 16: "ZERO_RANGE"}[mode]
+            self.operation += " " + {1: "KEEP_SIZE", 3: "PUNCH_HOLE"}[mode]
         if mode < calls.PUNCH_HOLE:
             self.held.add(self.nodes[node].inode)
         before = opened(self.file(node), os.O_RDONLY, lambda file: os.pread(file, 1 << 20, 0))
