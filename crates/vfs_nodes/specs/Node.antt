@@ -1,5 +1,5 @@
 -- What a node shows of itself, and what becomes of it.
-use Rattle.std.specs.Prelude.{◌≡◌, ℕ, ◌+◌, ◌-◌, ◌*◌, ◌^◌, ◌/◌, ◌==◌, ◌&&◌, ◌||◌, not, Bool, true, List, [], ◌∷◌, Option, Some, None, is_none, length, min, codes, bit_or, bit_and, if◌then◌else◌}
+use Rattle.std.specs.Prelude.{◌≡◌, ℕ, ◌+◌, ◌-◌, ◌*◌, ◌^◌, ◌/◌, ◌%◌, ◌==◌, ◌&&◌, ◌||◌, not, nat_lt, nat_le, Bool, true, List, [], ◌∷◌, Option, Some, None, is_none, length, min, codes, bit_or, bit_and, if◌then◌else◌}
 use Rattle.std.specs.Duration.{as_nanos}
 use Rattle.std.specs.declared.time.Duration.{Duration}
 use Rattle.vfs_wire.specs.declared.attributes.Attr.{Attr}
@@ -189,6 +189,28 @@ set_attr now node attr handle valid =
       ctime = picked valid 0x400 (record { seconds = attr.ctime; nanoseconds = attr.ctimensec })
           (if is_idle node attr handle valid then node.ctime else now);
     })
+
+-- ---- READ, READLINK, READDIR
+
+-- the seconds of a time in order: those from 2 ^ 63 on are before 1970, as Linux takes them
+abbrev pub ordered_seconds : Time → ℕ
+ordered_seconds time = (time.seconds + 2 ^ 63) % 2 ^ 64
+
+-- whether a time is no later than another
+abbrev pub is_no_later : (time other : Time) → Bool
+is_no_later time other =
+    nat_lt (ordered_seconds time) (ordered_seconds other)
+    || ordered_seconds time == ordered_seconds other && nat_le time.nanoseconds other.nanoseconds
+
+-- a node that was read now, by Linux's relatime: its time of access moves if that is no later than its last
+-- change, or a day ago
+abbrev pub accessed : (now : Time) → Node → Node
+accessed now node = record node {
+  atime =
+      if is_no_later node.atime node.mtime || is_no_later node.atime node.ctime
+      || nat_le 86400 (ordered_seconds now - ordered_seconds node.atime)
+      then now else node.atime;
+}
 
 -- ---- OPEN, WRITE
 

@@ -3,7 +3,7 @@
 ghost use Rattle.std.specs.Prelude.{◌≡◌, ℕ, List, take, if◌then◌else◌, Some, MatchResult};
 ghost use Rattle.vfs_flags.specs.Numbers.{enomem};
 ghost use Rattle.vfs_flags.specs.Flags.{setattr_valid_bits};
-ghost use Rattle.vfs_nodes.specs.Node.{attr_of, nlink_of, size_of, IsEntryOf, weight, new_node, opened, set_attr, stripped, rewritten, Lasts, is_chown, is_other, takes_ids, truncates, without_set_ids};
+ghost use Rattle.vfs_nodes.specs.Node.{attr_of, nlink_of, size_of, IsEntryOf, weight, new_node, accessed, opened, set_attr, stripped, rewritten, Lasts, is_chown, is_no_later, is_other, ordered_seconds, takes_ids, truncates, without_set_ids};
 ghost use Rattle.vfs_nodes.specs.Writing.{Overwrites};
 
 use crate::children::Children;
@@ -20,6 +20,9 @@ use vfs_wire::{Attr, SetattrIn};
 
 /// How long a client may rely on an answer: a day, since nobody else changes what it was told.
 const TIMEOUT_SECONDS: u64 = 86_400;
+
+/// How old a time of access is that a reading moves, even if nothing was changed since: a day.
+const OLD_SECONDS: u64 = 86_400;
 
 /// The flag of `open(2)` that takes the bytes of a file.
 const O_TRUNC: u32 = 0o1000;
@@ -54,6 +57,23 @@ pub struct Time {
     pub nanoseconds: u32,
 }
 
+impl Time {
+    // Its seconds in order: those from 2^63 on are before 1970, as Linux takes them.
+    fn ordered_seconds(self) -> u64
+        ensures { result ≡ ordered_seconds self }
+    {
+        self.seconds.wrapping_add(1 << 63)
+    }
+
+    // Whether it is no later than another.
+    fn is_no_later(self, other: Time) -> bool
+        ensures { result ≡ is_no_later self other }
+    {
+        let (own, others) = (self.ordered_seconds(), other.ordered_seconds());
+        own < others || own == others && self.nanoseconds <= other.nanoseconds
+    }
+}
+
 /// A node.
 #[derive(Drop)]
 pub struct Node {
@@ -65,7 +85,7 @@ pub struct Node {
     pub uid: GuestUid,
     /// Its group.
     pub gid: GuestGid,
-    /// The time of its last reading that a client set, or of its making: no reading moves it.
+    /// When it was last read, as far as `relatime` goes: see [`touch_atime`](Node::touch_atime).
     pub atime: Time,
     /// When its bytes or names were last changed.
     pub mtime: Time,
@@ -268,6 +288,18 @@ impl Node {
         self.ctime = pick(valid.contains(SetattrValid::CTIME), ctime, changed);
         let ids = takes_ids(self.kind, valid);
         self.strip(ids || resizes, ids);
+    }
+
+    /// Says that it was read now. As with Linux's `relatime`, `atime` moves if it is no later than
+    /// `mtime` or `ctime`, or a day ago.
+    pub fn touch_atime(&mut self, now: Time)
+        ensures { self.new ≡ accessed now self.old }
+    {
+        let old = self.atime;
+        let age = now.ordered_seconds().saturating_sub(old.ordered_seconds());
+        if old.is_no_later(self.mtime) || old.is_no_later(self.ctime) || age >= OLD_SECONDS {
+            self.atime = now;
+        }
     }
 
     /// Whether an opening with these flags takes the bytes of it.
