@@ -182,8 +182,8 @@ static inline int32_t nizwarf_new(nizwarf_server *server, uint32_t page_size, ui
 	return nizwarf_new_at(server, page_size, max_buffer, settings ? settings : &defaults);
 }
 
-/* Tells the file system the time since 1970: what is made or changed from now on bears it. Until then it is
- * that of the settings. */
+/* Tells the file system the time since 1970: what is made, changed or read from now on bears it. Until then it
+ * is that of the settings. */
 static inline int32_t nizwarf_tell_time(nizwarf_server *server, uint64_t seconds, uint32_t nanoseconds)
 {
 	return server ? nizwarf_tell_time_at(server, seconds, nanoseconds) : NIZWARF_NULL;

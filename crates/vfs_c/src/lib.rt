@@ -69,7 +69,7 @@ pub extern "C" fn nizwarf_new_at(
     OK
 }
 
-/// Tells the file system the time since 1970: what is made or changed from now on bears it. It is a
+/// Tells the file system the time since 1970: what is made, changed or read from now on bears it. It is a
 /// moment of the server's history, with no turn. Answers 0, or 11 where the handle has no server.
 #[unsafe(no_mangle)]
 pub extern "C" fn nizwarf_tell_time_at(

@@ -14,7 +14,7 @@ use Rattle.vfs_contents.specs.Pages.{reach}
 use Rattle.vfs_contents.specs.Contents.{fallocated, data_from, hole_from, lacking, pages_over}
 use Rattle.vfs_nodes.specs.Children.{with_child, without_child, is_directory, is_file, is_link}
 use Rattle.vfs_nodes.specs.Listing.{items_behind}
-use Rattle.vfs_nodes.specs.Node.{kind_by_mode, new_node, set_attr, rewritten, truncates, opened, overwritten}
+use Rattle.vfs_nodes.specs.Node.{kind_by_mode, new_node, set_attr, rewritten, truncates, opened, overwritten, stripped, accessed}
 use Rattle.vfs_nodes.specs.Xattrs.{Xattr, xattr_named, xattr_bytes, with_xattr, without_xattr, name_list}
 use Rattle.vfs_nodes.specs.declared.children.Child.{Child}
 use Rattle.vfs_nodes.specs.declared.kind.Kind.{Kind}
@@ -360,13 +360,15 @@ outcome s (Rmdir _ parent name) = at_name s parent name (λ child node.
 outcome s (Rename ctx od on nd nn flags) =
     renames s ctx.uid (group_in (node_at s od) ctx.gid) od on nd nn flags
 outcome s (Readlink _ n) = with_it (node_at s n) (λ node.
-    unless (first_of ((has_no_text node, einval) ∷ [])) (Tried true (Just (Text node.text)) s))
+    unless (first_of ((has_no_text node, einval) ∷ []))
+    (Tried true (Just (Text node.text)) (with_node s n (accessed s.now node))))
 outcome s (Open ctx n kill flags) = with_it (node_at s n) (λ node.
     Answered (Just (opening node flags))
     (with_resized s n node (opened s.now ctx.uid kill node flags)))
 outcome s (Read _ n _ room size off _ _) =
     on (node_at s n) contents_refusal
-    (λ node. Answered (Just (Put (part_of node.contents.bytes off (most_put room size)))) s)
+    (λ node. Answered (Just (Put (part_of node.contents.bytes off (most_put room size))))
+    (if size == 0 then s else with_node s n (accessed s.now node)))
 outcome s (Write _ n _ bytes size off _ delayed kill _) =
     on (node_at s n) (write_refusal s off size) (writes s n delayed kill off size bytes)
 outcome s (Fallocate _ n _ mode off len) = fallocates s n mode off len
@@ -381,7 +383,7 @@ outcome s (Listxattr _ n size) =
 outcome s (Removexattr _ n name) = removes_xattr s n name
 outcome s (Readdir _ n _ size off) = with_it (node_at s n) (λ node.
     unless (first_of ((not (is_directory node.kind), enotdir) ∷ []))
-    (Tried true (Listed (items_behind n node off size)) s))
+    (Tried true (Listed (items_behind n node off size)) (with_node s n (accessed s.now node))))
 outcome s (Opendir _ _ _) = Answered (Just (Opened None 10)) s
 outcome s (Fsync _ _ _ _) = done s
 outcome s (Release _ _ _ _ _ _ _) = done s

@@ -97,13 +97,16 @@ impl FileSystem for TreeFs {
     }
 
     fn readlink(&mut self, _ctx: Context, inode: u64) -> Result<Vec<u8>, Fault> {
-        let Some(node) = self.nodes.get(&inode) else {
+        let (alloc, now) = (self.alloc, self.now);
+        let Some(node) = self.nodes.get_mut(&inode) else {
             return Err(Some(Errno::ENOENT));
         };
         if !node.kind.is_link() || node.text.len() > MOST_TEXT {
             return Err(Some(Errno::EINVAL));
         }
-        node.text.copy(self.alloc)
+        let text = node.text.copy(alloc)?;
+        node.touch_atime(now);
+        Ok(text)
     }
 
     fn symlink(
@@ -234,10 +237,14 @@ impl FileSystem for TreeFs {
         _lock_owner: Option<u64>,
         _flags: u32,
     ) -> Result<usize, Fault> {
-        let Some(node) = self.nodes.get(&inode) else {
+        let now = self.now;
+        let Some(node) = self.nodes.get_mut(&inode) else {
             return Err(Some(Errno::ENOENT));
         };
         check_contents(node)?;
+        if size > 0 {
+            node.touch_atime(now);
+        }
         node.contents.read_into(w, size, offset)
     }
 
@@ -373,13 +380,16 @@ impl FileSystem for TreeFs {
         size: u32,
         offset: u64,
     ) -> Result<EntryList, Fault> {
-        let Some(node) = self.nodes.get(&inode) else {
+        let (alloc, now) = (self.alloc, self.now);
+        let Some(node) = self.nodes.get_mut(&inode) else {
             return Err(Some(Errno::ENOENT));
         };
         if !node.kind.is_directory() {
             return Err(Some(Errno::ENOTDIR));
         }
-        entries_behind(self.alloc, inode, node, offset, size)
+        let entries = entries_behind(alloc, inode, node, offset, size)?;
+        node.touch_atime(now);
+        Ok(entries)
     }
 
     fn releasedir(

@@ -123,7 +123,7 @@ impl TreeFs {
         }
     }
 
-    /// Says what time it is: what is made or changed from now on bears it.
+    /// Says what time it is: what is made, changed or read from now on bears it.
     pub fn set_time(&mut self, now: Time)
         ensures { self.new ≡ record self.old { now = now } }
     {

@@ -14,7 +14,7 @@ use Rattle.std.proofs.lemmas.List.{length-replicate}
 use Rattle.vfs_contents.specs.Contents.{Contents, resized, allocated, punched, zeroed, fallocated, data_from, hole_from, lacking}
 use Rattle.vfs_tree.specs.Children.{with_child, is_directory, is_file}
 use Rattle.vfs_tree.specs.Listing.{items_behind}
-use Rattle.vfs_tree.specs.Node.{weight, stripped, rewritten, is_other, truncates, opened, set_attr, overwritten, kind_by_mode, new_node}
+use Rattle.vfs_tree.specs.Node.{weight, stripped, rewritten, is_other, truncates, opened, set_attr, overwritten, kind_by_mode, new_node, accessed}
 use Rattle.vfs_tree.specs.Outcome.{TreeReply, Just, EntryOf, AttrOf, Listed, Outcome, Refused, Answered, Tried, Replies, Ends, done, first_of, or_else, unless, with_it, on}
 use Rattle.vfs_tree.specs.Rename.{directory_refusal, rename_refusal, renamed, wants_memory}
 use Rattle.vfs_tree.specs.State.{State, node_at, node_named, room_of, with_node, with_resized, with_names, change, child_at}
@@ -63,12 +63,20 @@ IsTold (Just answer) = entry_node answer ≡ []
 IsTold (AttrOf n node) = Unit {0}
 IsTold _ = ⊥
 
+-- what is answered where a node was read: of a directory what it holds, and no entry
+abbrev pub Reads : (number : ℕ) → Node → TreeReply → Type 0
+Reads n node (Just answer) = entry_node answer ≡ []
+Reads n node (Listed items) = (off : ℕ) × (size : ℕ) × (items ≡ items_behind n node off size)
+Reads n node _ = ⊥
+
 -- what a fact holds of: the state itself, and what each change leaves, with the lookups that are taken
 -- back and what is answered
 pub record Covers (old : State) (P : List (ℕ × ℕ) → TreeReply → State → Type 0) : Type 0 where
-  pub same : (reply : TreeReply) → nodes_of reply ≡ [] → P [] reply old
+  pub same : (reply : TreeReply) → IsTold reply → P [] reply old
   pub looked_up : (n : ℕ) (node : Node) → node_at old n ≡ Some node
       → P [] (EntryOf n node) (with_node old n (record node { lookups = node.lookups + 1 }))
+  pub reads : (n : ℕ) (node : Node) (reply : TreeReply) → Reads n node reply
+      → node_at old n ≡ Some node → P [] reply (with_node old n (accessed old.now node))
   pub forgot : (pairs : List (ℕ × ℕ)) (reply : TreeReply) → IsTold reply
       → P pairs reply (all_forgotten old pairs)
   pub resizes : (n : ℕ) (was now : Node) (reply : TreeReply) → IsTold reply → node_at old n ≡ Some was
@@ -450,10 +458,10 @@ module _ (old : State) (P : List (ℕ × ℕ) → TreeReply → State → Type 0
   tells_covered call none gives size None = (gives, λ e. none (Failed e))
   tells_covered call none gives size (Some text) = by (size == 0)
     where
-      quiet : (reply : TreeReply) → nodes_of reply ≡ [] → Leaves call reply old
-      quiet reply is = (
+      quiet : (told : Answer) → entry_node told ≡ [] → Leaves call (Just told) old
+      quiet told is = (
         λ answer r. none answer ∙ sym is,
-        subst (λ pairs. P pairs reply old) (sym gives) (q.same reply is),
+        subst (λ pairs. P pairs (Just told) old) (sym gives) (q.same (Just told) is),
       )
 
       by : (asks : Bool)
@@ -461,12 +469,19 @@ module _ (old : State) (P : List (ℕ × ℕ) → TreeReply → State → Type 0
           (if asks then Answered (Just (Count (length text))) old
           else unless (first_of ((nat_lt size (length text), erange) ∷ []))
           (Tried true (Just (Text text)) old))
-      by true = quiet (Just (Count (length text))) refl
+      by true = quiet (Count (length text)) refl
       by false =
           let fails : Fails old call = (gives, λ e. none (Failed e)) in
           each-unless (Fails old call) (Leaves call) fails
           (first_of ((nat_lt size (length text), erange) ∷ [])) (Tried true (Just (Text text)) old)
-          (λ fits. (fails, quiet (Just (Text text)) refl))
+          (λ fits. (fails, quiet (Text text) refl))
+
+  -- a READ, which moves no time if no byte was asked for
+  some_read : (n : ℕ) (node : Node) (answer : Answer) → entry_node answer ≡ []
+      → node_at old n ≡ Some node → (none : Bool)
+      → P [] (Just answer) (if none then old else with_node old n (accessed old.now node))
+  some_read n node answer quiet is true = q.same (Just answer) quiet
+  some_read n node answer quiet is false = q.reads n node (Just answer) quiet is
 
   pub covered : (call : Call) → Covered call
   covered (Lookup c parent name) =
@@ -489,7 +504,7 @@ module _ (old : State) (P : List (ℕ × ℕ) → TreeReply → State → Type 0
       let call = (Getattr c n h) in
       let fails : Fails old call = (refl, λ e. refl) in
       each-with_it (Fails old call) (Leaves call) fails (node_at old n)
-      (λ node. Answered (AttrOf n node) old) (λ node is. ((λ a r. refl), q.same (AttrOf n node) refl))
+      (λ node. Answered (AttrOf n node) old) (λ node is. ((λ a r. refl), q.same (AttrOf n node) tt))
   covered (Setattr c n attr h valid) =
       let call = (Setattr c n attr h valid) in
       let fails : Fails old call = (refl, λ e. refl) in
@@ -563,12 +578,12 @@ module _ (old : State) (P : List (ℕ × ℕ) → TreeReply → State → Type 0
   covered (Readlink c n) =
       let call = (Readlink c n) in
       let fails : Fails old call = (refl, λ e. refl) in
-      let text = λ (node : Node). Tried true (Just (Text node.text)) old in
+      let text = λ (node : Node). Tried true (Just (Text node.text)) (with_node old n (accessed old.now node)) in
       let none = λ (node : Node). first_of ((has_no_text node, einval) ∷ []) in
       each-with_it (Fails old call) (Leaves call) fails (node_at old n)
       (λ node. unless (none node) (text node))
       (λ node is. each-unless (Fails old call) (Leaves call) fails (none node) (text node)
-      (λ some. (fails, ((λ a r. refl), q.same (Just (Text node.text)) refl))))
+      (λ some. (fails, ((λ a r. refl), q.reads n node (Just (Text node.text)) refl is))))
   covered (Open c n k flags) =
       let call = (Open c n k flags) in
       let fails : Fails old call = (refl, λ e. refl) in
@@ -585,7 +600,12 @@ module _ (old : State) (P : List (ℕ × ℕ) → TreeReply → State → Type 0
       let fails : Fails old call = (refl, λ e. refl) in
       let reply = λ (node : Node). Just (Put (part_of node.contents.bytes off (most_put room size))) in
       each-on (Fails old call) (Leaves call) fails (node_at old n) contents_refusal
-      (λ node. Answered (reply node) old) (λ node is free. ((λ a r. refl), q.same (reply node) refl))
+      (λ node. Answered (reply node)
+      (if size == 0 then old else with_node old n (accessed old.now node)))
+      (λ node is free. (
+        (λ a r. refl),
+        some_read n node (Put (part_of node.contents.bytes off (most_put room size))) refl is (size == 0),
+      ))
   covered (Write c n h bytes size off o d k f) =
       let call = (Write c n h bytes size off o d k f) in
       let fails : Fails old call = (refl, λ e. refl) in
@@ -660,11 +680,13 @@ module _ (old : State) (P : List (ℕ × ℕ) → TreeReply → State → Type 0
       let call = (Readdir c n h size off) in
       let fails : Fails old call = (refl, λ e. refl) in
       let reply = λ (node : Node). Listed (items_behind n node off size) in
+      let last = λ (node : Node). with_node old n (accessed old.now node) in
       let none = λ (node : Node). first_of ((not (is_directory node.kind), enotdir) ∷ []) in
       each-with_it (Fails old call) (Leaves call) fails (node_at old n)
-      (λ node. unless (none node) (Tried true (reply node) old))
-      (λ node is. each-unless (Fails old call) (Leaves call) fails (none node) (Tried true (reply node) old)
-      (λ free. (fails, ((λ a r. refl), q.same (reply node) refl))))
+      (λ node. unless (none node) (Tried true (reply node) (last node)))
+      (λ node is. each-unless (Fails old call) (Leaves call) fails (none node)
+      (Tried true (reply node) (last node))
+      (λ free. (fails, ((λ a r. refl), q.reads n node (reply node) (off, size, refl) is))))
   covered (Statfs c n) =
       ((λ a r. refl), q.same (Just (Statistics (statistics_of old))) refl)
   covered (Init x) =

@@ -8,7 +8,7 @@ use Rattle.vfs_grammar.specs.Books.{answered, sent, answered_by, sent_by, answer
 use Rattle.vfs_grammar.specs.Turn.{Turn, events_in}
 use Rattle.vfs_grammar.proofs.Keeping.{never_below_over}
 use Rattle.vfs_history.specs.History.{NeverBelowHeld}
-use Rattle.vfs_tree_laws.specs.Laws.{IsTree, IsHeld, lookups_in, lookups_of, names_of, CallsKeepTrees, ReadingsChangeNothing}
+use Rattle.vfs_tree_laws.specs.Laws.{IsTree, IsHeld, lookups_in, lookups_of, names_of, CallsKeepTrees, ReadingsMoveATime}
 use Rattle.vfs_files.specs.Listing.{GivesFirst}
 use Rattle.vfs_tree.specs.State.{State, node_at}
 use Rattle.vfs_nodes.specs.declared.node.Node.{Node}
@@ -140,7 +140,7 @@ counted_more old mid new e es first rest = record {
         (rest_enough n (lookups_of old n) (lookups_of mid n) e es enough one) in
         omega (arith, one, others, sent_more n e es, answered_more n e es)
 
-module _ (law : CallsKeepTrees) (readings : ReadingsChangeNothing) where
+module _ (law : CallsKeepTrees) (readings : ReadingsMoveATime) where
   -- a call
   call_counts : (old mid : State) (call : Call) (answer : Answer) → IsTree old
       → TreeAllows old call (Plain answer) mid → (n : ℕ) → Counts old mid (Called call answer) n
@@ -165,10 +165,10 @@ module _ (law : CallsKeepTrees) (readings : ReadingsChangeNothing) where
       (which old call answer)
 
   -- what no call does
-  still_counts : (old mid : State) (e : Event) → takes_all e ≡ false → mid ≡ old
-      → ((n : ℕ) → (sent_by n e ≡ 0) × (answered_by n e ≡ 0)) → (n : ℕ) → Counts old mid e n
+  still_counts : (old mid : State) (e : Event) → takes_all e ≡ false
+      → ((n : ℕ) → lookups_of mid n ≡ lookups_of old n) → ((n : ℕ) → (sent_by n e ≡ 0) × (answered_by n e ≡ 0)) → (n : ℕ) → Counts old mid e n
   still_counts old mid e calm same none n = record {
-    goes_on = λ is within. omega (arith, ap (λ s. lookups_of s n) same, (none n).0, (none n).1);
+    goes_on = λ is within. omega (arith, same n, (none n).0, (none n).1);
     ends = λ is. cc (calm, is);
   }
 
@@ -182,13 +182,13 @@ module _ (law : CallsKeepTrees) (readings : ReadingsChangeNothing) where
       (call_counts old ran.0 call answer tree ran.1)
       (counted it ran.0 new es (law old ran.0 call answer tree ran.1).0 ran.2)
   counted it old new (OpenedDirectory call ∷ es) tree ran =
-      let same = readings old ran.0 call ran.1 ran.2 in
+      let leaves = (readings old ran.0 call ran.1 ran.2).1 in
       counted_more old ran.0 new (OpenedDirectory call) es
-      (still_counts old ran.0 (OpenedDirectory call) refl same (λ n. (refl, refl)))
-      (counted (Some ran.1) ran.0 new es (subst IsTree (sym same) tree) ran.3)
+      (still_counts old ran.0 (OpenedDirectory call) refl leaves.lookups (λ n. (refl, refl)))
+      (counted (Some ran.1) ran.0 new es (leaves.tree tree) ran.3)
   counted it old new (Taken item ∷ es) tree ran =
       counted_more old old new (Taken item) es
-      (still_counts old old (Taken item) refl refl (λ n. (refl, refl)))
+      (still_counts old old (Taken item) refl (λ n. refl) (λ n. (refl, refl)))
       (counted (Some ran.1) old new es tree ran.4)
 
   pub runs_keep_trees : RunsKeepTrees

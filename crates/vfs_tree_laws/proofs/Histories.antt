@@ -14,9 +14,9 @@ use Rattle.vfs_server.specs.Step.{ServerState}
 use Rattle.vfs_history.specs.History.{Moment, Handled, Changed, turns_in, IsHistory, HasTurns, HistoriesKeepBooks, NeverBelowHeld}
 use Rattle.vfs_tree.specs.State.{State}
 use Rattle.vfs_tree.specs.Tree.{TreeAllows}
-use Rattle.vfs_tree_laws.specs.Laws.{IsTree, lookups_of, CallsKeepTrees, NewOnesAreTrees, ReadingsChangeNothing}
+use Rattle.vfs_tree_laws.specs.Laws.{IsTree, lookups_of, LeavesLookups, CallsKeepTrees, NewOnesAreTrees, ReadingsMoveATime}
 use Rattle.vfs_tree_laws.specs.Runs.{takes_all, since, held_before, held_by_last, last_turns}
-use Rattle.vfs_tree_laws.specs.Histories.{LeavesLookups, OwnerLeavesLookups, OnlyTold, HistoriesKeepTrees, NewTreesAreKept, TellingLeavesLookups}
+use Rattle.vfs_tree_laws.specs.Histories.{OwnerLeavesLookups, OnlyTold, HistoriesKeepTrees, NewTreesAreKept, TellingLeavesLookups}
 use Rattle.vfs_tree_laws.proofs.Clients.{none_any, none_since, since_both, last_in_order, last_turns_are}
 use Rattle.vfs_tree_laws.proofs.Counting.{Counted, Holds, counted, keeps_tree, leaves_none}
 
@@ -107,7 +107,7 @@ counted_both old mid new es fs first rest = record {
 
 -- ---- histories
 
-module _ (law : CallsKeepTrees) (readings : ReadingsChangeNothing) where
+module _ (law : CallsKeepTrees) (readings : ReadingsMoveATime) where
   history_counts : (old new : ServerState State) (ms : List (Moment State))
       → IsHistory TreeAllows GivesFirst old ms new → OwnerLeavesLookups ms → IsTree old.fs
       → Counted old.fs new.fs (events_in (turns_in ms))

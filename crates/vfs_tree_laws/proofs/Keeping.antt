@@ -43,7 +43,7 @@ module _ (s : State) (n : ℕ) (f : Node → Node) (plain : IsPlain f) (sound : 
   held_before : (node : Node) → node_at s n ≡ Some node → IsHeld node
   held_before node is = subst (λ o. IfSome o IsHeld) is (sound.held n)
 
-  keeps-with_node : (node : Node) → node_at s n ≡ Some node → Keeps s (with_node s n (f node))
+  pub keeps-with_node : (node : Node) → node_at s n ≡ Some node → Keeps s (with_node s n (f node))
   keeps-with_node node is = record {
     sound = sound-with_node s n node (f node) is sound
         (held_plainly f plain node (held_before node is));

@@ -2,7 +2,7 @@
 use Rattle.std.proofs.Common.{◌≡◌, ◌+◌, ◌-◌, ◌==◌, ◌||◌, if◌then◌else◌, ℕ, Bool, true, false, List, [], ◌∷◌, length, Option, Some, None, refl, sym, ap, ◌∙◌, subst, ⊎_elim, arith}
 use Rattle.std.proofs.lemmas.Bool.{cases_Bool, eqb-true, eqb-false, false≢true, or_from}
 use Rattle.vfs_tree.specs.Children.{Children, is_directory, child_named, with_child}
-use Rattle.vfs_tree.specs.Node.{new_node}
+use Rattle.vfs_tree.specs.Node.{accessed, new_node}
 use Rattle.vfs_tree_laws.specs.Laws.{names_of, IsSound, IsLinked, CallsKeepLinks}
 use Rattle.vfs_tree.specs.Rename.{directory_refusal, place_refusal, replace_refusal, same_node, leaves_whiteout, renamed, renamed_to, moved_over, exchanged, named_anew, whiteout, whited_out, whited_to}
 use Rattle.vfs_tree.specs.State.{State, node_at, with_node, with_resized, with_names, change, child_at, child_of}
@@ -262,10 +262,12 @@ module _ (old : State) (sound : IsSound old) (linked_old : IsLinked old) where
       linked_still old linked_old n (λ x. record x { lookups = x.lookups + 1 })
       (λ x. (refl, refl, refl, refl)) node is
 
-  covers : Covers old (λ taken reply left. IsLinked left)
+  pub covers : Covers old (λ taken reply left. IsLinked left)
   covers = record {
     same = λ reply none. linked_old;
     looked_up = looked_up;
+    reads = λ n node reply read is.
+        linked_still old linked_old n (accessed old.now) (λ x. (refl, refl, refl, refl)) node is;
     forgot = λ pairs reply told. (forgets_all old pairs (record { sound = sound; linked = linked_old })).linked;
     resizes = λ n was now reply told is r. resizes n was now is r;
     makes = makes;

@@ -4,7 +4,7 @@ use Rattle.std.proofs.lemmas.Bool.{both_ways, false≢true, not-false, eqb-false
 use Rattle.std.proofs.lemmas.Option.{none-some, same_Some}
 use Rattle.vfs_flags.specs.Numbers.{eperm, enoent, eexist, enotdir, einval, enospc, eoverflow, enametoolong}
 use Rattle.vfs_tree.specs.Children.{Children, is_directory, with_child, without_child, with_other_child}
-use Rattle.vfs_tree.specs.Node.{new_node}
+use Rattle.vfs_tree.specs.Node.{accessed, new_node}
 use Rattle.vfs_tree_laws.specs.Laws.{IsSound, IsLinked, IsRooted, CallsKeepTheWayUp, above}
 use Rattle.vfs_tree.specs.Outcome.{first_of, or_else}
 use Rattle.vfs_tree.specs.Rename.{is_improper, directory_refusal, is_directory_at, is_nameless, is_crowded, is_below, is_own_child, is_served, keeps_target, leaves_whiteout, same_node, names_refusal, place_refusal, whiteout_refusal, parent_of, rename_refusal, moved_into, moved_over, exchanged, named_anew, whiteout, whited_out, whited_to, renamed, renamed_to}
@@ -655,11 +655,14 @@ module _ (old : State) (sound : IsSound old) (links : IsLinked old) (rooted : Is
         named = λ directory some. absurd (both_ways (is_directory node.kind) none_of directory);
       })))))
 
-  covers : Covers old (λ taken reply left. IsRooted left)
+  pub covers : Covers old (λ taken reply left. IsRooted left)
   covers = record {
     same = λ reply none. rooted;
     looked_up = λ n node is. after _ (follows_stays old _
         (stays-with_node old n node (record node { lookups = node.lookups + 1 }) is
+        (record { kind = refl; parent = refl; named = λ directory some. some })));
+    reads = λ n node reply read is. after _ (follows_stays old _
+        (stays-with_node old n node (accessed old.now node) is
         (record { kind = refl; parent = refl; named = λ directory some. some })));
     forgot = λ pairs reply told. after _ (follows-all_forgotten old pairs sound);
     resizes = λ n was now reply told is r. after _ (follows-with_resized old n was now is

@@ -9,7 +9,7 @@ use Rattle.vfs_files.specs.Values.{Item}
 use Rattle.vfs_files.specs.Calls.{Call, Answer, Handed, Plain, Iterator}
 use Rattle.vfs_grammar.specs.Books.{times, forgotten, answered_nodes}
 use Rattle.vfs_tree.specs.Children.{with_child}
-use Rattle.vfs_tree.specs.Node.{new_node}
+use Rattle.vfs_tree.specs.Node.{accessed, new_node}
 use Rattle.vfs_tree.specs.Outcome.{TreeReply, Just, EntryOf, AttrOf, Listed}
 use Rattle.vfs_tree.specs.State.{State, node_at, with_node, with_resized, with_new, with_names, changed}
 use Rattle.vfs_tree.specs.Tree.{made, linked, all_forgotten, held_of, outcome}
@@ -20,13 +20,13 @@ use Rattle.vfs_tree_laws.specs.Laws.{Ascend, lookups_in, lookups_of, taken_back,
 use Rattle.vfs_tree.proofs.Nodes.{is_at_other}
 use Rattle.vfs_tree_laws.proofs.Ascending.{none_below}
 use Rattle.vfs_tree_laws.proofs.Endings.{IsOrdinary, IsEnding, which}
-use Rattle.vfs_tree_laws.proofs.Cases.{Covers, Fails, IsTold, Leaves, taken_pairs, one_inode_more, covered, left_so, nodes_of}
+use Rattle.vfs_tree_laws.proofs.Cases.{Covers, Fails, IsTold, Reads, Leaves, taken_pairs, one_inode_more, covered, left_so, nodes_of}
 use Rattle.vfs_tree_laws.proofs.Held.{at, sound_counted, lookups_here, lookups_other, none_yet, lookups_new, lookups_new_other, sound-with_node, sound-with_new, settles}
-use Rattle.vfs_tree_laws.proofs.Keeping.{there-change, Keeps, keeps_itself, keeps-with_names, keeps-taken_out, keeps-renamed, keeps-resized}
+use Rattle.vfs_tree_laws.proofs.Keeping.{there-change, Keeps, keeps_itself, keeps-with_node, keeps-with_names, keeps-taken_out, keeps-renamed, keeps-resized}
 
 -- a sound state, in which so many lookups are held as were, with those that were given and without those
 -- that were taken back
-record Counts (old new : State) (taken : List (ℕ × ℕ)) (given : List ℕ) : Type 0 where
+pub record Counts (old new : State) (taken : List (ℕ × ℕ)) (given : List ℕ) : Type 0 where
   pub sound : IsSound new
   pub lookups : (m : ℕ) → forgotten m taken ≤ lookups_of old m
       → lookups_of new m + forgotten m taken ≡ lookups_of old m + times m given
@@ -178,14 +178,24 @@ told_none (AttrOf n node) told = refl
 told_none (EntryOf n node) told = absurd told
 told_none (Listed items) told = absurd told
 
-abbrev Counted : State → List (ℕ × ℕ) → TreeReply → State → Type 0
+read_none : (n : ℕ) (node : Node) (reply : TreeReply) → Reads n node reply → nodes_of reply ≡ []
+read_none n node (Just answer) read = read
+read_none n node (AttrOf m it) read = refl
+read_none n node (EntryOf m it) read = absurd read
+read_none n node (Listed items) read = refl
+
+abbrev pub Counted : State → List (ℕ × ℕ) → TreeReply → State → Type 0
 Counted old taken reply left = Counts old left taken (nodes_of reply)
 
-covers : (old : State) → IsSound old → Covers old (Counted old)
+pub covers : (old : State) → IsSound old → Covers old (Counted old)
 covers old sound = record {
-  same = λ reply none.
-      subst (Counts old old []) (sym none) (quiet old old (keeps_itself old sound));
+  same = λ reply told.
+      subst (Counts old old []) (sym (told_none reply told)) (quiet old old (keeps_itself old sound));
   looked_up = λ n node is. finds old n node is sound;
+  reads = λ n node reply read is.
+      let new = with_node old n (accessed old.now node) in
+      subst (Counts old new []) (sym (read_none n node reply read))
+      (quiet old new (keeps-with_node old n (accessed old.now) (λ node. (refl, refl)) sound node is));
   forgot = λ pairs reply told. let back = forgets_all old pairs sound in record {
     sound = back.sound;
     lookups = λ m within. omega (arith, back.lookups m within, ap (times m) (told_none reply told));

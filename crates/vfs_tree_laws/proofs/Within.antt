@@ -321,7 +321,7 @@ module _ (s : State) (od : ℕ) (on : List ℕ) (nd : ℕ) (nn : List ℕ) where
 -- ---- within the limits
 
 -- the state is within its limits, which are those of another
-record StaysWithin (old new : State) : Type 0 where
+pub record StaysWithin (old new : State) : Type 0 where
   pub within : IsWithin new
   pub limits : new.limits ≡ old.limits
 
@@ -520,10 +520,12 @@ module _ (old : State) (sound : IsSound old) (within : IsWithin old) where
         limits = slims.limits;
       })
 
-  covers : Covers old (λ taken reply left. StaysWithin old left)
+  pub covers : Covers old (λ taken reply left. StaysWithin old left)
   covers = record {
     same = λ reply none. slim old (slims_itself old);
     looked_up = λ n node is.
+        slim _ (slims-with_node old n node _ is (record { same = refl; short = λ most h. h }) refl);
+    reads = λ n node reply read is.
         slim _ (slims-with_node old n node _ is (record { same = refl; short = λ most h. h }) refl);
     forgot = λ pairs reply told. slim _ (slims-all_forgotten old pairs);
     resizes = λ n was now reply told is r. resizes n was now is r;

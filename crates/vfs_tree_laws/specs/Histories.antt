@@ -10,15 +10,10 @@ use Rattle.vfs_tree.specs.State.{State, node_at}
 use Rattle.vfs_tree.specs.Tree.{TreeAllows, first_state}
 use Rattle.vfs_tree.specs.declared.fs.Capacity.{Capacity}
 use Rattle.vfs_nodes.specs.declared.node.Time.{Time}
-use Rattle.vfs_tree_laws.specs.Laws.{IsTree, lookups_of, names_of}
+use Rattle.vfs_tree_laws.specs.Laws.{IsTree, LeavesLookups, lookups_of, names_of}
 use Rattle.vfs_tree_laws.specs.Runs.{last_turns, KeepsTree, LeavesNone}
 
--- a change that keeps a tree one, and the lookups of each node that are held
-pub record LeavesLookups (old new : State) : Type 0 where
-  pub tree : IsTree old → IsTree new
-  pub lookups : (n : ℕ) → lookups_of new n ≡ lookups_of old n
-
--- each change by the owner is such a one
+-- each change by the owner keeps a tree one, and the lookups that are held
 abbrev pub OwnerLeavesLookups : List (Moment State) → Type 0
 OwnerLeavesLookups [] = Unit {0}
 OwnerLeavesLookups (Handled t ∷ moments) = OwnerLeavesLookups moments

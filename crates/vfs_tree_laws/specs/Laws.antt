@@ -8,9 +8,10 @@ use Rattle.vfs_files.specs.Values.{Item}
 use Rattle.vfs_files.specs.Calls.{Call, Init, Destroy, Answer, Plain, Iterator}
 use Rattle.vfs_grammar.specs.Books.{times, forgotten, answered_nodes, forgets_of}
 use Rattle.vfs_tree.specs.Children.{Link, is_directory, is_file}
-use Rattle.vfs_tree.specs.Node.{weight}
+use Rattle.vfs_tree.specs.Listing.{items_behind}
+use Rattle.vfs_tree.specs.Node.{weight, accessed}
 use Rattle.vfs_tree.specs.Rename.{parent_of}
-use Rattle.vfs_tree.specs.State.{State, node_at}
+use Rattle.vfs_tree.specs.State.{State, node_at, with_node}
 use Rattle.vfs_tree.specs.Tree.{TreeAllows, first_state}
 use Rattle.vfs_nodes.specs.declared.children.Child.{Child}
 use Rattle.vfs_tree.specs.declared.fs.Capacity.{Capacity}
@@ -61,12 +62,6 @@ CallsAreSound =
     (old new : State) (call : Call) (answer : Answer)
     → IsSound old → TreeAllows old call (Plain answer) new
     → IsSound new × CountsLookups old call answer new
-
--- a reading that begins changes nothing
-abbrev pub ReadingsChangeNothing : Type 0
-ReadingsChangeNothing =
-    (old new : State) (call : Call) (items : List Item)
-    → TreeAllows old call (Iterator items) new → new ≡ old
 
 -- ---- what is in use
 
@@ -181,6 +176,28 @@ NewOnesAreTrees =
     (uid gid permissions : ℕ) (limits : Capacity) (writeback : Bool) (now : Time)
     → IsTree (first_state uid gid permissions limits writeback now)
     × ((n : ℕ) → lookups_of (first_state uid gid permissions limits writeback now) n ≡ 0)
+
+-- a change that keeps a tree one, and the lookups of each node that are held
+pub record LeavesLookups (old new : State) : Type 0 where
+  pub tree : IsTree old → IsTree new
+  pub lookups : (n : ℕ) → lookups_of new n ≡ lookups_of old n
+
+-- a reading of a directory began: it tells what this holds behind an offset, and but for its time of access,
+-- which moves as in any reading, all is as it was
+pub record BeginsReading (old : State) (items : List Item) (new : State) : Type 0 where
+  pub number : ℕ
+  pub directory : Node
+  pub off : ℕ
+  pub size : ℕ
+  pub there : node_at old number ≡ Some directory
+  pub told : items ≡ items_behind number directory off size
+  pub left : new ≡ with_node old number (accessed old.now directory)
+
+-- a reading that begins does no more, and so keeps a tree one, with its lookups
+abbrev pub ReadingsMoveATime : Type 0
+ReadingsMoveATime =
+    (old new : State) (call : Call) (items : List Item)
+    → TreeAllows old call (Iterator items) new → BeginsReading old items new × LeavesLookups old new
 
 -- a call keeps a tree one, whatever it asks, and its limits, and counts lookups
 abbrev pub CallsKeepTrees : Type 0

@@ -2,7 +2,7 @@
 
 ghost use Rattle.vfs_tree_laws.specs.Histories.{HistoriesKeepTrees, NewTreesAreKept, TellingLeavesLookups};
 
-use crate::laws::{calls_keep_trees, new_ones_are_trees, readings_change_nothing};
+use crate::laws::{calls_keep_trees, new_ones_are_trees, readings_move_a_time};
 use vfs_history::laws::{history_has_turns, history_keeps_books};
 use vfs_server::laws::books::turns_keep_books;
 use vfs_tree::TreeFs;
@@ -16,7 +16,7 @@ pub fn histories_keep_trees()
     ensures { HistoriesKeepTrees }
 {
     calls_keep_trees();
-    readings_change_nothing();
+    readings_move_a_time();
     history_has_turns::<TreeFs>();
     turns_keep_books();
 }

@@ -2,4 +2,4 @@ use Rattle.vfs_tree_laws.proofs.Counting.{runs_keep_trees}
 use Rattle.vfs_tree_laws.proofs.laws.runs_keep_trees.Goals as goal
 
 pub returns : goal.returns
-returns c = runs_keep_trees c.calls_keep_trees.ensures c.readings_change_nothing.ensures
+returns c = runs_keep_trees c.calls_keep_trees.ensures c.readings_move_a_time.ensures
