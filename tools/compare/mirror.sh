@@ -12,8 +12,9 @@
 # same.
 #
 # Calls are those of root and of others, on names, descriptors and maps; requests are those of a kernel. A directory's
-# size, blocks and times of access are not compared. What is known to differ has a row in mirror/known.txt here,
-# and how often it came is printed; each of the two then goes on alike.
+# size and blocks are not compared, nor by calls times of access, since a kernel reads by itself what it keeps. What
+# is known to differ has a row in mirror/known.txt here, and how often it came is printed; each of the two then goes
+# on alike.
 #
 # It wants root, Python 3 and util-linux; but with FOLDER and BESIDE also a C compiler, the Rattle toolchain and, for
 # a mount, /dev/fuse. It links the proved library if that is built and no source is newer; otherwise

@@ -207,7 +207,8 @@ class Session:
 
     def both(self, request, call, watched=()):
         """The answers, if both have one; and whether times moved alike of the nodes that are watched. Within a
-        tick of its clock a tmpfs may leave a time as it was: whether it does is looked at once in a while."""
+        tick of its clock a tmpfs may leave a time as it was: whether it does is looked at once in a while. That
+        of access is looked at where on both sides it is no later than the last change, or on none."""
         watched = [node for node in dict.fromkeys(watched) if node in self.nodes]
         before = [self.times(node) for node in watched]
         if self.is_slow and watched:
@@ -233,7 +234,9 @@ class Session:
             return None
         for node, (ours, theirs) in zip(watched, before):
             now = self.times(node)
-            for at, which in enumerate(("mtime", "ctime")):
+            for at, which in enumerate(("mtime", "ctime", "atime")):
+                if which == "atime" and (ours[2] <= max(ours[:2])) != (theirs[2] <= max(theirs[:2])):
+                    continue
                 moves = now[0][at] != ours[at]
                 if moves != (now[1][at] != theirs[at]) and (self.is_slow or not moves):
                     self.note(f"{which} of {WATCHED[self.nodes[node].kind]} {'moves' if moves else 'does not move'}")
@@ -241,7 +244,8 @@ class Session:
 
     def times(self, node):
         ours, theirs = self.library.getattr(node), os.fstat(self.file(node))
-        return (ours["mtime"], ours["ctime"]), (theirs.st_mtime_ns, theirs.st_ctime_ns)
+        return (tuple(ours[which] for which in ("mtime", "ctime", "atime")),
+                (theirs.st_mtime_ns, theirs.st_ctime_ns, theirs.st_atime_ns))
 
     def compare(self, node, ours=None):
         """Attributes side by side; what differs is then made the same."""
@@ -412,6 +416,7 @@ class Session:
         node = self.pick(of)
         body = struct.pack("<QQIIQII", 0, at, length, 0, 0, 0, 0)
         call = self.on_file(node, os.O_RDONLY, lambda file: os.pread(file, length, at))
+        self.operation += "" if length else " of no byte"
         answers = self.both(lambda: self.library.ask(15, node, body, 16 + length), call, (node,))
         if answers and answers[0] != answers[1]:
             self.note("other bytes")
@@ -528,12 +533,19 @@ class Session:
                 if error.errno != errno.ENOTDIR:
                     self.note(f"{errno.errorcode[error.errno]}, ENOTDIR")
             return []
-        ours = self.pieces(node, plus, size)
-        theirs = [(b".", 4), (b"..", 4)]
-        with os.scandir(way(self.file(node))) as entries:
-            for entry in entries:
-                mode = entry.stat(follow_symlinks=False).st_mode
-                theirs.append((os.fsencode(entry.name), stat.S_IFMT(mode) >> 12))
+
+        def call():
+            found = [(b".", 4), (b"..", 4)]
+            with os.scandir(way(self.file(node))) as entries:
+                for entry in entries:
+                    mode = entry.stat(follow_symlinks=False).st_mode
+                    found.append((os.fsencode(entry.name), stat.S_IFMT(mode) >> 12))
+            return found
+
+        answers = self.both(lambda: self.pieces(node, plus, size), call, (node,))
+        if not answers:
+            return []
+        ours, theirs = answers
         if len(set(ours)) != len(ours):
             self.note("a name twice")
         if sorted(ours) != sorted(theirs):
