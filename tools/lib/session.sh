@@ -120,6 +120,16 @@ else
     works '7' 'fallocate -z -n -o 4 -l 60 z && stat -c %s z && rm z'
 fi
 
+# A reading moves the time of access of what was changed since, and a second one does not. What lies apart in a file
+# is asked for by itself.
+if [ -n "$shared" ]; then
+    skipped 'a time of access, which not each host moves'
+else
+    works 'moved once' 'truncate -s 4000000 r && touch -a -d "2000-01-01 00:00:00" r && head -c 1 r > "$other/r" &&
+        t=$(stat -c %X r) && [ $(($(date +%s) - t)) -lt 3600 ] && sleep 1 && tail -c 1 r > "$other/r" &&
+        [ "$(stat -c %X r)" = "$t" ] && rm r && echo moved once'
+fi
+
 # Modes are kept by what copies them: what may not be set is refused, and then the bits are.
 works '644 644' 'cd "$other" && echo p > p && chmod 644 p && cd "$here" && cp -p "$other/p" p && cp -a "$other/p" q &&
     echo $(stat -c %a p q) && rm p q'

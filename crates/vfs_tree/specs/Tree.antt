@@ -14,7 +14,7 @@ use Rattle.vfs_contents.specs.Pages.{reach}
 use Rattle.vfs_contents.specs.Contents.{fallocated, data_from, hole_from, lacking, pages_over}
 use Rattle.vfs_nodes.specs.Children.{with_child, without_child, is_directory, is_file, is_link}
 use Rattle.vfs_nodes.specs.Listing.{items_behind}
-use Rattle.vfs_nodes.specs.Node.{kind_by_mode, new_node, set_attr, rewritten, truncates, opened, overwritten, stripped, accessed}
+use Rattle.vfs_nodes.specs.Node.{kind_by_mode, new_node, set_attr, rewritten, accessed, truncates, opened, overwritten}
 use Rattle.vfs_nodes.specs.Xattrs.{Xattr, xattr_named, xattr_bytes, with_xattr, without_xattr, name_list}
 use Rattle.vfs_nodes.specs.declared.children.Child.{Child}
 use Rattle.vfs_nodes.specs.declared.kind.Kind.{Kind}
