@@ -104,6 +104,13 @@ written_later s = record s { writeback = true }
 abbrev pub later : State → State
 later s = record s { now = record { seconds = 9; nanoseconds = 0 } }
 
+-- a tree with a file `f` of second 7, which was last read at this second, at that one
+abbrev pub read_tree : (atime now : ℕ) → State
+read_tree atime now =
+    record (tree_of wide (record (file_of (codes "hello")) {
+      atime = record { seconds = atime; nanoseconds = 0 };
+    })) { now = record { seconds = now; nanoseconds = 0 } }
+
 -- a tree with a file `f` of these bytes
 abbrev pub file_tree : Capacity → (bytes : List ℕ) → State
 file_tree limits bytes = tree_of limits (file_of bytes)

@@ -32,7 +32,8 @@ fn written_and_read<R: ZeroCopyReader, W: ZeroCopyWriter>(
     Ok((written, read))
 }
 
-/// READ of a file with more room than it has bytes: all of them. Nothing changes.
+/// READ of a file with more room than it has bytes: all of them. In the second of its last change nothing
+/// changes.
 fn whole_file<W: ZeroCopyWriter>(tree: &mut TreeFs, w: &mut W) -> Result<usize, Fault>
     requires tree { tree.old ≡ file_tree wide (codes "hello") }
     requires room { W.room w.old ≡ 100 }

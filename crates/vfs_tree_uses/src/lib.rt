@@ -5,6 +5,7 @@
 //! that they rest on.
 #![tactic(auto)]
 
+mod accesses;
 mod attributes;
 mod contents;
 mod first;
