@@ -2,7 +2,7 @@
 use Rattle.std.proofs.Common.{◌≡◌, ◌+◌, ◌==◌, ◌||◌, ◌^◌, ◌-◌, ℕ, Bool, true, false, List, ◌∷◌, [], nat_lt, nat_le, not, length, Option, Some, None, IfSome, is_some, is_none, refl, sym, ap, ◌∙◌, subst}
 use Rattle.std.proofs.lemmas.Bool.{not-false}
 use Rattle.std.proofs.lemmas.Option.{same_Some}
-use Rattle.vfs_flags.specs.Numbers.{enoent, einval, eexist, eperm, eoverflow, enospc, enotdir, enametoolong}
+use Rattle.vfs_flags.specs.Numbers.{enoent, einval, eexist, eperm, enosys, eoverflow, enospc, enotdir, enametoolong}
 use Rattle.vfs_files.specs.Calls.{Found, Created, Plain}
 use Rattle.vfs_files.specs.declared.entry.Entry.{Entry}
 use Rattle.vfs_nodes.specs.Children.{with_child, is_directory}
@@ -15,14 +15,16 @@ use Rattle.vfs_tree.specs.State.{State, node_at, child_at, with_node, with_names
 use Rattle.vfs_tree.specs.Tree.{emlink, most_links, link_refusal, linked, links}
 use Rattle.vfs_tree.proofs.Nodes.{kinds_apart}
 
--- where an entry is answered, a file is opened too
-pub created_too : (old new : State) (refusal : Option ℕ) (n : ℕ) (node : Node) (left : State)
-    (entry : Entry) (options : ℕ) → options ≡ 0
+-- where an entry is answered, a file is opened too, of a client that opens files
+pub created_too : (old new : State) (alone : Bool) (refusal : Option ℕ) (n : ℕ) (node : Node)
+    (left : State) (entry : Entry) (options : ℕ) → alone ≡ false → options ≡ 0
     → Ends old (unless refusal (Tried true (EntryOf n node) left)) (Plain (Found entry)) new
-    → Ends old (unless refusal (Tried true (EntryOf n node) left))
+    → Ends old
+    (unless (first_of ((alone, enosys) ∷ [])) (unless refusal (Tried true (EntryOf n node) left)))
     (Plain (Created entry None options)) new
-created_too old new (Some error) n node left entry options none ends = cc (ends.0)
-created_too old new None n node left entry options none ends = ((ends.0, refl, none), ends.1)
+created_too old new true refusal n node left entry options opens none ends = cc opens
+created_too old new false (Some error) n node left entry options opens none ends = cc (ends.0)
+created_too old new false None n node left entry options opens none ends = ((ends.0, refl, none), ends.1)
 
 -- ---- refusals
 

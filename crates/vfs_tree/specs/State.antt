@@ -13,7 +13,8 @@ use Rattle.vfs_tree.specs.declared.fs.Capacity.{Capacity}
 
 -- the nodes in order of their numbers, the number of the next one, how many bytes the nodes take, how many
 -- inodes they are counted as (each node as one, and each further name that leads to it as one more), how
--- much there may be at most, whether the client is to keep what is written and write it later, and the time
+-- much there may be at most, whether the client is to keep what is written and write it later, the options
+-- that it offered in its last INIT, and the time
 pub record State : Type 0 where
   pub nodes : List (ℕ × Node)
   pub next : ℕ
@@ -21,6 +22,7 @@ pub record State : Type 0 where
   pub inodes : ℕ
   pub limits : Capacity
   pub writeback : Bool
+  pub offered : ℕ
   pub now : Time
 
 -- the node of this number

@@ -60,6 +60,7 @@ first_state uid gid permissions limits writeback now = record {
   inodes = 1;
   limits = limits;
   writeback = writeback;
+  offered = 0;
   now = now;
 }
 
@@ -327,15 +328,23 @@ tells s size (Some text) =
 
 -- ---- the table
 
--- what INIT asks for: DO_READDIRPLUS, READDIRPLUS_AUTO, HANDLE_KILLPRIV_V2, and WRITEBACK_CACHE if the client is
--- to write later
-abbrev pub wanted_options : (writeback : Bool) → ℕ
-wanted_options writeback = if writeback then 0x10016000 else 0x10006000
+-- whether a client that offered these opens and makes files without OPEN and CREATE, once they are ENOSYS: it
+-- can (ZERO_MESSAGE_OPEN), and cuts what it opens with O_TRUNC by a SETATTR (no ATOMIC_O_TRUNC)
+abbrev pub opens_nothing : (offered : ℕ) → Bool
+opens_nothing offered = bit_and offered 0x20008 == 0x20000
+
+-- what INIT asks for: DO_READDIRPLUS, READDIRPLUS_AUTO, ZERO_MESSAGE_OPENDIR, HANDLE_KILLPRIV_V2, WRITEBACK_CACHE if
+-- the client is to write later, and ZERO_MESSAGE_OPEN if it opens nothing
+abbrev pub wanted_options : (writeback : Bool) → (offered : ℕ) → ℕ
+wanted_options writeback offered =
+    0x11006000 + (if writeback then 0x10000 else 0) + (if opens_nothing offered then 0x20000 else 0)
 
 -- how a call ends; what has no line has its default answer, and everything stays. What a client reads of a
 -- directory it keeps (CACHE_DIR, KEEP_CACHE): nobody else changes it
 abbrev pub outcome : State → Call → Outcome
-outcome s (Init _) = Answered (Just (Options (wanted_options s.writeback))) (released s)
+outcome s (Init offered) =
+    Answered (Just (Options (wanted_options s.writeback offered)))
+    (record (released s) { offered = offered })
 outcome s Destroy = done (released s)
 outcome s (Lookup _ parent name) = at_name s parent name (λ child node.
     unless (first_of ((node.lookups == 2 ^ 64 - 1, eoverflow) ∷ []))
@@ -344,11 +353,14 @@ outcome s (Lookup _ parent name) = at_name s parent name (λ child node.
 outcome s (Forget _ n count) = done (forgotten s n count (node_at s n))
 outcome s (BatchForget _ requests) = done (all_forgotten s requests)
 outcome s (Getattr _ n _) = with_it (node_at s n) (λ node. Answered (AttrOf n node) s)
-outcome s (Setattr _ n attr handle valid) = sets_attr s n attr handle valid
+outcome s (Setattr _ n attr handle valid) =
+    sets_attr s n attr (if opens_nothing s.offered && attr.size == 0 then Some 0 else handle) valid
 outcome s (Mkdir ctx parent name mode _ _) = makes s ctx kind.Directory mode parent name []
 outcome s (Mknod ctx parent name mode device _ _) =
     makes_kind s ctx (kind_by_mode mode device) mode parent name
-outcome s (Create ctx parent name mode _ _ _ _) = makes s ctx kind.File mode parent name []
+outcome s (Create ctx parent name mode _ _ _ _) =
+    unless (first_of ((opens_nothing s.offered, enosys) ∷ []))
+    (makes s ctx kind.File mode parent name [])
 outcome s (Symlink ctx text parent name _) = makes s ctx kind.Link 0o777 parent name text
 outcome s (Link _ n parent name) = links s n parent name
 outcome s (Unlink _ parent name) = at_name s parent name (λ child node.
@@ -362,9 +374,10 @@ outcome s (Rename ctx od on nd nn flags) =
 outcome s (Readlink _ n) = with_it (node_at s n) (λ node.
     unless (first_of ((has_no_text node, einval) ∷ []))
     (Tried true (Just (Text node.text)) (with_node s n (accessed s.now node))))
-outcome s (Open ctx n kill flags) = with_it (node_at s n) (λ node.
+outcome s (Open ctx n kill flags) =
+    unless (first_of ((opens_nothing s.offered, enosys) ∷ [])) (with_it (node_at s n) (λ node.
     Answered (Just (opening node flags))
-    (with_resized s n node (opened s.now ctx.uid kill node flags)))
+    (with_resized s n node (opened s.now ctx.uid kill node flags))))
 outcome s (Read _ n _ room size off _ _) =
     on (node_at s n) contents_refusal
     (λ node. Answered (Just (Put (part_of node.contents.bytes off (most_put room size))))
@@ -384,7 +397,9 @@ outcome s (Removexattr _ n name) = removes_xattr s n name
 outcome s (Readdir _ n _ size off) = with_it (node_at s n) (λ node.
     unless (first_of ((not (is_directory node.kind), enotdir) ∷ []))
     (Tried true (Listed (items_behind n node off size)) (with_node s n (accessed s.now node))))
-outcome s (Opendir _ _ _) = Answered (Just (Opened None 10)) s
+outcome s (Opendir _ _ _) =
+    unless (first_of ((bit_and s.offered 0x1000000 == 0x1000000, enosys) ∷ []))
+    (Answered (Just (Opened None 10)) s)
 outcome s (Fsync _ _ _ _) = done s
 outcome s (Release _ _ _ _ _ _ _) = done s
 outcome s (Fsyncdir _ _ _ _) = done s

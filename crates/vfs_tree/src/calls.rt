@@ -1,12 +1,12 @@
 //! The calls of the file system, in the trait's order. Those that are not served have their default
 //! answers.
 
-ghost use Rattle.std.specs.Prelude.{◌≡◌, map};
+ghost use Rattle.std.specs.Prelude.{◌≡◌, map, Some, if◌then◌else◌};
 ghost use Rattle.vfs_files.specs.Calls.{Plain, attr_answer};
-ghost use Rattle.vfs_flags.specs.Flags.{setattr_valid_bits};
+ghost use Rattle.vfs_flags.specs.Flags.{fs_options_bits, setattr_valid_bits};
 ghost use Rattle.vfs_tree.specs.Outcome.{Answered, AttrOf, Ends, with_it};
 ghost use Rattle.vfs_tree.specs.State.{node_at};
-ghost use Rattle.vfs_tree.specs.Tree.{all_forgotten, sets_attr};
+ghost use Rattle.vfs_tree.specs.Tree.{all_forgotten, opens_nothing, sets_attr};
 
 use crate::changes::{PAGE, check_contents};
 use crate::fs::TreeFs;
@@ -23,6 +23,15 @@ use vfs_wire::{Attr, SetattrIn, Statvfs64};
 
 /// The most bytes of a text that is answered: with the 16 of a header they are below 2 ^ 32.
 const MOST_TEXT: u64 = 0xffff_ffef;
+
+/// Whether a client that offered these opens and makes files without a request, once OPEN and CREATE
+/// are ENOSYS. One that offered ATOMIC_O_TRUNC leaves it to OPEN to cut a file.
+fn opens_nothing(offered: FsOptions) -> bool
+    ensures { result ≡ opens_nothing (fs_options_bits offered) }
+{
+    let both = FsOptions::ZERO_MESSAGE_OPEN | FsOptions::ATOMIC_O_TRUNC;
+    offered & both == FsOptions::ZERO_MESSAGE_OPEN
+}
 
 impl FileSystem for TreeFs {
     ghost use Rattle.vfs_tree.specs.Tree.{TreeAllows};
@@ -80,11 +89,18 @@ impl FileSystem for TreeFs {
         handle: Option<u64>,
         valid: SetattrValid,
     ) -> Result<(Attr, Duration), Fault>
-        ensures { Ends self.old (sets_attr self.old inode attr handle (setattr_valid_bits valid))
+        ensures { Ends self.old (sets_attr self.old inode attr
+            (if opens_nothing self.old.offered && attr.size == 0 then Some 0 else handle)
+            (setattr_valid_bits valid))
             (Plain (attr_answer result)) self.new }
     {
         self.check_set_attr(inode, &attr, valid)?;
         let now = self.now;
+        let handle = if opens_nothing(self.offered) && attr.size == 0 {
+            Some(0)
+        } else {
+            handle
+        };
         let Some(node) = self.nodes.get_mut(&inode) else {
             unreachable!()
         };
@@ -210,6 +226,9 @@ impl FileSystem for TreeFs {
         kill_priv: bool,
         flags: u32,
     ) -> Result<(Option<u64>, OpenOptions), Fault> {
+        if opens_nothing(self.offered) {
+            return Err(Some(Errno::ENOSYS));
+        }
         let now = self.now;
         let Some(node) = self.nodes.get_mut(&inode) else {
             return Err(Some(Errno::ENOENT));
@@ -350,9 +369,10 @@ impl FileSystem for TreeFs {
         Err(Some(Errno::ENOSYS))
     }
 
-    fn init(&mut self, _capable: FsOptions) -> Result<FsOptions, Fault> {
+    fn init(&mut self, capable: FsOptions) -> Result<FsOptions, Fault> {
         let always = FsOptions::DO_READDIRPLUS
             | FsOptions::READDIRPLUS_AUTO
+            | FsOptions::ZERO_MESSAGE_OPENDIR
             | FsOptions::HANDLE_KILLPRIV_V2;
         let wanted = if self.writeback {
             always | FsOptions::WRITEBACK_CACHE
@@ -360,7 +380,12 @@ impl FileSystem for TreeFs {
             always
         };
         self.release();
-        Ok(wanted)
+        self.offered = capable;
+        if opens_nothing(capable) {
+            Ok(wanted | FsOptions::ZERO_MESSAGE_OPEN)
+        } else {
+            Ok(wanted)
+        }
     }
 
     fn opendir(
@@ -369,6 +394,9 @@ impl FileSystem for TreeFs {
         _inode: u64,
         _flags: u32,
     ) -> Result<(Option<u64>, OpenOptions), Fault> {
+        if self.offered.contains(FsOptions::ZERO_MESSAGE_OPENDIR) {
+            return Err(Some(Errno::ENOSYS));
+        }
         Ok((None, OpenOptions::CACHE_DIR | OpenOptions::KEEP_CACHE))
     }
 
@@ -439,6 +467,9 @@ impl FileSystem for TreeFs {
         _umask: u32,
         _ext: Extensions,
     ) -> Result<(Entry, Option<u64>, OpenOptions), Fault> {
+        if opens_nothing(self.offered) {
+            return Err(Some(Errno::ENOSYS));
+        }
         let entry = self.make(ctx, Kind::File, mode, parent, name, &[])?;
         Ok((entry, None, OpenOptions::empty()))
     }

@@ -15,6 +15,7 @@ ghost use Rattle.vfs_tree.specs.State.{behind, child_at, node_at, reweighed, roo
 ghost use Rattle.vfs_tree.specs.Tree.{makes, make_refusal, first_state, is_full, made, group_in, permissions_in, forgotten, all_forgotten, released};
 
 use crate::naming::{add_name, directory, is_improper};
+use bitflags::Flags;
 use std::alloc::Global;
 use std::collections::BTreeMap;
 use std::collections::btree_map::Range;
@@ -22,7 +23,7 @@ use std::fmt::{self, Debug, Formatter};
 use std::marker::Model;
 use std::ops::Bound;
 use vfs_files::{CStr, Context, Entry};
-use vfs_flags::{Errno, Fault, GuestGid, GuestUid, ROOT_ID};
+use vfs_flags::{Errno, Fault, FsOptions, GuestGid, GuestUid, ROOT_ID};
 use vfs_nodes::{Child, Kind, Node, Time};
 
 /// How much a file system holds at most.
@@ -53,6 +54,7 @@ pub struct TreeFs {
     pub(crate) inodes: u64,
     pub(crate) limits: Capacity,
     pub(crate) writeback: bool,
+    pub(crate) offered: FsOptions,
     pub(crate) now: Time,
 }
 
@@ -60,6 +62,7 @@ impl Model for TreeFs {
     ghost use Rattle.std.specs.Prelude.{◌≡◌, ◌≤◌, ℕ, None};
     ghost use Rattle.std.specs.Ordering.{nat_cmp};
     ghost use Rattle.std.specs.BTreeMap.{get};
+    ghost use Rattle.vfs_flags.specs.Flags.{fs_options_bits};
     ghost use Rattle.vfs_tree.specs.State.{State};
 
     ghost Value = { State };
@@ -71,6 +74,7 @@ impl Model for TreeFs {
       inodes = fs.inodes;
       limits = fs.limits;
       writeback = fs.writeback;
+      offered = fs_options_bits fs.offered;
       now = fs.now;
     } };
 
@@ -117,6 +121,7 @@ impl TreeFs {
                 inodes: 1,
                 limits,
                 writeback,
+                offered: FsOptions::empty(),
                 now,
             }),
             Err(_) => Err(Some(Errno::ENOMEM)),

@@ -20,7 +20,7 @@ use Rattle.vfs_tree.specs.Rename.{directory_refusal, rename_refusal, renamed, wa
 use Rattle.vfs_tree.specs.State.{State, node_at, node_named, room_of, with_node, with_resized, with_names, change, child_at}
 use Rattle.vfs_tree.specs.State as tree
 use Rattle.vfs_tree_laws.specs.Laws.{IsShort}
-use Rattle.vfs_tree.specs.Tree.{opening, held_of, group_in, permissions_in, namespace_refusal, efbig, enodev, enxio, most_xattr_bytes, TreeAllows, outcome, wanted_options, found, at_name, made, makes, linked, all_forgotten, setattr_refusal, contents_refusal, writes, write_refusal, longest, most_size, fallocate_refusal, setxattr_refusal, with_xattrs, has_no_text, makes_kind, make_refusal, taken_out, link_refusal, statistics_of, tells}
+use Rattle.vfs_tree.specs.Tree.{opening, held_of, group_in, permissions_in, namespace_refusal, efbig, enodev, enxio, most_xattr_bytes, TreeAllows, outcome, wanted_options, found, at_name, made, makes, linked, all_forgotten, setattr_refusal, contents_refusal, writes, write_refusal, longest, most_size, fallocate_refusal, setxattr_refusal, with_xattrs, has_no_text, makes_kind, make_refusal, taken_out, link_refusal, statistics_of, tells, opens_nothing}
 use Rattle.vfs_tree.specs.Xattrs.{xattr_named, xattr_bytes, with_xattr, without_xattr, name_list}
 use Rattle.vfs_nodes.specs.declared.children.Child.{Child}
 use Rattle.vfs_nodes.specs.declared.kind.Kind.{Kind}
@@ -79,6 +79,8 @@ pub record Covers (old : State) (P : List (ℕ × ℕ) → TreeReply → State �
       → node_at old n ≡ Some node → P [] reply (with_node old n (accessed old.now node))
   pub forgot : (pairs : List (ℕ × ℕ)) (reply : TreeReply) → IsTold reply
       → P pairs reply (all_forgotten old pairs)
+  pub began : (offered : ℕ) (pairs : List (ℕ × ℕ)) (reply : TreeReply) → IsTold reply
+      → P pairs reply (record (all_forgotten old pairs) { offered = offered })
   pub resizes : (n : ℕ) (was now : Node) (reply : TreeReply) → IsTold reply → node_at old n ≡ Some was
       → Resizes old was now → P [] reply (with_resized old n was now)
   pub makes : (uid gid : ℕ) (kind : Kind) (permissions parent : ℕ) (name text : List ℕ)
@@ -508,18 +510,23 @@ module _ (old : State) (P : List (ℕ × ℕ) → TreeReply → State → Type 0
   covered (Setattr c n attr h valid) =
       let call = (Setattr c n attr h valid) in
       let fails : Fails old call = (refl, λ e. refl) in
-      let set = λ (node : Node). set_attr old.now node attr h valid in
+      let by = if opens_nothing old.offered && attr.size == 0 then Some 0 else h in
+      let set = λ (node : Node). set_attr old.now node attr by valid in
       each-on (Fails old call) (Leaves call) fails (node_at old n) (setattr_refusal old attr valid)
       (λ node. Answered (AttrOf n (set node)) (with_resized old n node (set node)))
       (λ node is free. (
         (λ a r. refl),
         q.resizes n node (set node) (AttrOf n (set node)) tt is
-            (set_attr_resizes old node attr h valid free),
+            (set_attr_resizes old node attr by valid free),
       ))
   covered (Mkdir c parent name mode u e) =
       makes_covered (Mkdir c parent name mode u e) (λ a. refl) refl c kind.Directory mode parent name []
   covered (Create c parent name mode k f u e) =
-      makes_covered (Create c parent name mode k f u e) (λ a. refl) refl c kind.File mode parent name []
+      let call = (Create c parent name mode k f u e) in
+      let fails : Fails old call = (refl, λ e. refl) in
+      each-unless (Fails old call) (Leaves call) fails
+      (first_of ((opens_nothing old.offered, enosys) ∷ [])) (makes old c kind.File mode parent name [])
+      (λ some. makes_covered call (λ a. refl) refl c kind.File mode parent name [])
   covered (Symlink c text parent name e) =
       makes_covered (Symlink c text parent name e) (λ a. refl) refl c kind.Link 0o777 parent name text
   covered (Mknod c parent name mode r u e) =
@@ -589,12 +596,14 @@ module _ (old : State) (P : List (ℕ × ℕ) → TreeReply → State → Type 0
       let fails : Fails old call = (refl, λ e. refl) in
       let last = λ (node : Node). opened old.now c.uid k node flags in
       let reply = λ (node : Node). Just (opening node flags) in
-      each-with_it (Fails old call) (Leaves call) fails (node_at old n)
-      (λ node. Answered (reply node) (with_resized old n node (last node)))
+      let opens = λ (node : Node). Answered (reply node) (with_resized old n node (last node)) in
+      each-unless (Fails old call) (Leaves call) fails
+      (first_of ((opens_nothing old.offered, enosys) ∷ [])) (with_it (node_at old n) opens)
+      (λ some. each-with_it (Fails old call) (Leaves call) fails (node_at old n) opens
       (λ node is. (
         (λ a r. refl),
         q.resizes n node (last node) (reply node) refl is (opened_resizes old c.uid k node flags),
-      ))
+      )))
   covered (Read c n h room size off o f) =
       let call = (Read c n h room size off o f) in
       let fails : Fails old call = (refl, λ e. refl) in
@@ -689,8 +698,9 @@ module _ (old : State) (P : List (ℕ × ℕ) → TreeReply → State → Type 0
       (λ free. (fails, ((λ a r. refl), q.reads n node (reply node) (off, size, refl) is))))
   covered (Statfs c n) =
       ((λ a r. refl), q.same (Just (Statistics (statistics_of old))) refl)
-  covered (Init x) =
-      ((λ a r. refl), q.forgot (held_of old.nodes) (Just (Options (wanted_options old.writeback))) refl)
+  covered (Init offered) =
+      let wanted = Just (Options (wanted_options old.writeback offered)) in
+      ((λ a r. refl), q.began offered (held_of old.nodes) wanted refl)
   covered (Release c n f h x y o) =
       ((λ a r. refl), q.same (Just Done) refl)
   covered (Fsync c n x h) =
@@ -702,7 +712,12 @@ module _ (old : State) (P : List (ℕ × ℕ) → TreeReply → State → Type 0
   covered (Fsyncdir c n x h) =
       ((λ a r. refl), q.same (Just Done) refl)
   covered (Opendir c n f) =
-      ((λ a r. refl), q.same (Just (Opened None 10)) refl)
+      let call = (Opendir c n f) in
+      let fails : Fails old call = (refl, λ e. refl) in
+      each-unless (Fails old call) (Leaves call) fails
+      (first_of ((bit_and old.offered 0x1000000 == 0x1000000, enosys) ∷ []))
+      (Answered (Just (Opened None 10)) old)
+      (λ some. ((λ a r. refl), q.same (Just (Opened None 10)) refl))
   covered Getlk =
       ((λ a r. refl), q.same (Just (default_answer Getlk)) refl)
   covered Setlk =

@@ -17,6 +17,7 @@ use Rattle.vfs_tree_laws.proofs.Refused.{directory_there, has_names, make_takes,
 use Rattle.vfs_tree_laws.proofs.Renaming.{linked-moved_to_free, linked-moved_over, linked-exchanged}
 use Rattle.vfs_tree_laws.proofs.Shapes.{Shape, good_from, counted_from, home_from, linked_from}
 use Rattle.vfs_tree_laws.proofs.Steps.{linked-with_node, linked-settled}
+use Rattle.vfs_tree_laws.proofs.Telling.{told_linked}
 use Rattle.vfs_tree_laws.proofs.Whiteouts.{Ready, ready_free, ready_over, linked-ready}
 
 -- ---- changes of one node that leave its names
@@ -262,13 +263,18 @@ module _ (old : State) (sound : IsSound old) (linked_old : IsLinked old) where
       linked_still old linked_old n (λ x. record x { lookups = x.lookups + 1 })
       (λ x. (refl, refl, refl, refl)) node is
 
+  forgot : (pairs : List (ℕ × ℕ)) → IsLinked (all_forgotten old pairs)
+  forgot pairs = (forgets_all old pairs (record { sound = sound; linked = linked_old })).linked
+
   pub covers : Covers old (λ taken reply left. IsLinked left)
   covers = record {
     same = λ reply none. linked_old;
     looked_up = looked_up;
     reads = λ n node reply read is.
         linked_still old linked_old n (accessed old.now) (λ x. (refl, refl, refl, refl)) node is;
-    forgot = λ pairs reply told. (forgets_all old pairs (record { sound = sound; linked = linked_old })).linked;
+    forgot = λ pairs reply told. forgot pairs;
+    began = λ offered pairs reply told.
+        let left = all_forgotten old pairs in told_linked left left.now offered (forgot pairs);
     resizes = λ n was now reply told is r. resizes n was now is r;
     makes = makes;
     links = links;

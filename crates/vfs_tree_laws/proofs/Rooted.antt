@@ -21,6 +21,7 @@ use Rattle.vfs_tree.proofs.Nodes.{node_at-with_node, node_at-with_node_other, no
 use Rattle.vfs_tree_laws.proofs.WayUp.{IsPlaced, Goes, Avoids, rooted_from, goes_from, placed_from, names_place, name_leads, rooted_ways, goes_still, avoids_from, avoids_still, goes_on}
 use Rattle.vfs_tree_laws.proofs.Linked.{ready}
 use Rattle.vfs_tree_laws.proofs.Refused.{Renames, rename_takes}
+use Rattle.vfs_tree_laws.proofs.Telling.{told_rooted}
 use Rattle.vfs_tree_laws.proofs.Whiteouts.{Ready}
 
 -- ---- directories that lie where they lay
@@ -665,6 +666,9 @@ module _ (old : State) (sound : IsSound old) (links : IsLinked old) (rooted : Is
         (stays-with_node old n node (accessed old.now node) is
         (record { kind = refl; parent = refl; named = λ directory some. some })));
     forgot = λ pairs reply told. after _ (follows-all_forgotten old pairs sound);
+    began = λ offered pairs reply told.
+        let left = all_forgotten old pairs in
+        told_rooted left left.now offered (after left (follows-all_forgotten old pairs sound));
     resizes = λ n was now reply told is r. after _ (follows-with_resized old n was now is
         (record { kind = r.kind; parent = r.parent; named = λ dir some. omega (arith, r.names, some) }));
     makes = makes;

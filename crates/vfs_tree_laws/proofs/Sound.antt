@@ -23,6 +23,7 @@ use Rattle.vfs_tree_laws.proofs.Endings.{IsOrdinary, IsEnding, which}
 use Rattle.vfs_tree_laws.proofs.Cases.{Covers, Fails, IsTold, Reads, Leaves, taken_pairs, one_inode_more, covered, left_so, nodes_of}
 use Rattle.vfs_tree_laws.proofs.Held.{at, sound_counted, lookups_here, lookups_other, none_yet, lookups_new, lookups_new_other, sound-with_node, sound-with_new, settles}
 use Rattle.vfs_tree_laws.proofs.Keeping.{there-change, Keeps, keeps_itself, keeps-with_node, keeps-with_names, keeps-taken_out, keeps-renamed, keeps-resized}
+use Rattle.vfs_tree_laws.proofs.Telling.{told_sound}
 
 -- a sound state, in which so many lookups are held as were, with those that were given and without those
 -- that were taken back
@@ -198,6 +199,10 @@ covers old sound = record {
       (quiet old new (keeps-with_node old n (accessed old.now) (λ node. (refl, refl)) sound node is));
   forgot = λ pairs reply told. let back = forgets_all old pairs sound in record {
     sound = back.sound;
+    lookups = λ m within. omega (arith, back.lookups m within, ap (times m) (told_none reply told));
+  };
+  began = λ offered pairs reply told. let back = forgets_all old pairs sound in record {
+    sound = let left = all_forgotten old pairs in told_sound left left.now offered back.sound;
     lookups = λ m within. omega (arith, back.lookups m within, ap (times m) (told_none reply told));
   };
   resizes = λ n was now reply told is r.

@@ -25,6 +25,7 @@ use Rattle.vfs_tree.proofs.Nodes.{kinds_apart}
 use Rattle.vfs_tree_laws.proofs.Ascending.{ascend_within}
 use Rattle.vfs_tree_laws.proofs.Cases.{Covers, Resizes, one_inode_more, are_not, or_none, calls_covered}
 use Rattle.vfs_tree_laws.proofs.Refused.{link_takes, rename_takes}
+use Rattle.vfs_tree_laws.proofs.Telling.{told_within}
 
 -- what the nodes take together, and how many inodes they are counted as
 abbrev total : State → ℕ
@@ -528,6 +529,12 @@ module _ (old : State) (sound : IsSound old) (within : IsWithin old) where
     reads = λ n node reply read is.
         slim _ (slims-with_node old n node _ is (record { same = refl; short = λ most h. h }) refl);
     forgot = λ pairs reply told. slim _ (slims-all_forgotten old pairs);
+    began = λ offered pairs reply told.
+        let left = all_forgotten old pairs in
+        let stays = slim left (slims-all_forgotten old pairs) in record {
+          within = told_within left left.now offered stays.within;
+          limits = stays.limits;
+        };
     resizes = λ n was now reply told is r. resizes n was now is r;
     makes = makes;
     links = links;

@@ -72,6 +72,11 @@ file_of bytes =
 abbrev pub empty_file : Node
 empty_file = node_in_root kind.File 0o644 no_children no_contents 1 1
 
+-- a file of two bytes, in a hole
+abbrev pub hollow_file : Node
+hollow_file =
+    node_in_root kind.File 0o644 no_children (record { bytes = 0 ∷ 0 ∷ []; held = [] }) 1 1
+
 -- a directory that is empty, likewise
 abbrev pub empty_directory : Node
 empty_directory = node_in_root kind.Directory 0o755 no_children no_contents 1 1
@@ -93,12 +98,17 @@ tree_of limits node =
       inodes = 2;
       limits = limits;
       writeback = false;
+      offered = 0;
       now = second_7;
     }
 
 -- the same, whose client is to write later
 abbrev pub written_later : State → State
 written_later s = record s { writeback = true }
+
+-- the same, whose client offered these options
+abbrev pub of_client : (offered : ℕ) → State → State
+of_client offered s = record s { offered = offered }
 
 -- the same at second 9
 abbrev pub later : State → State
@@ -164,6 +174,7 @@ tree_of_two f d =
       inodes = 3;
       limits = wide;
       writeback = false;
+      offered = 0;
       now = second_7;
     }
 
@@ -194,6 +205,7 @@ whitened_tree f g whiteout =
       inodes = 3;
       limits = wide;
       writeback = false;
+      offered = 0;
       now = second_7;
     }
 

@@ -3,13 +3,12 @@
 ghost use Rattle.std.specs.Prelude.{◌≡◌, codes, None, Some, Err, IfOk, MatchResult};
 ghost use Rattle.std.specs.Duration.{as_nanos};
 ghost use Rattle.vfs_flags.specs.Flags.{open_options_bits};
-ghost use Rattle.vfs_files.specs.Answers.{Options, init_answer};
-ghost use Rattle.vfs_tree_uses.specs.Trees.{file_of, file_tree, small_tree, tree_of, wide, written_later};
+ghost use Rattle.vfs_tree_uses.specs.Trees.{file_of, file_tree, small_tree, tree_of, wide};
 
 use crate::support::root;
 use std::time::Duration;
 use vfs_files::{CStr, Entry, Extensions, FileSystem};
-use vfs_flags::{Fault, FsOptions, GuestGid, GuestUid, OpenOptions, SetattrValid};
+use vfs_flags::{Fault, GuestGid, GuestUid, OpenOptions, SetattrValid};
 use vfs_tree::TreeFs;
 use vfs_wire::{Attr, SetattrIn};
 
@@ -34,15 +33,6 @@ fn entry_for_a_day(tree: &mut TreeFs) -> Result<Entry, Fault>
         × (as_nanos entry.entry_timeout ≡ 86400000000000)) }
 {
     tree.lookup(root(), 1, CStr::before_nul(b"f\0", 1))
-}
-
-/// OPENDIR: what is read of a directory may be kept, CACHE_DIR and KEEP_CACHE, and there is no handle.
-fn directory_opened(tree: &mut TreeFs) -> Result<(Option<u64>, OpenOptions), Fault>
-    ensures told { MatchResult result
-        (λ opened. (opened.0 ≡ None) × (open_options_bits opened.1 ≡ 10)) (λ _. ⊥) }
-    ensures same { tree.new ≡ tree.old }
-{
-    tree.opendir(root(), 1, 0)
 }
 
 /// CREATE: an entry likewise, with no handle and no options. Memory alone can be wanting.
@@ -131,14 +121,4 @@ fn mode_is_set(tree: &mut TreeFs) -> Result<(Attr, Duration), Fault>
         ..SetattrIn::default()
     };
     tree.setattr(root(), 2, wanted, None, SetattrValid::MODE)
-}
-
-/// INIT asks for READDIRPLUS as the client likes, DO_READDIRPLUS and READDIRPLUS_AUTO, and that the tree
-/// takes privileges, HANDLE_KILLPRIV_V2; and of a client that is to write later WRITEBACK_CACHE.
-fn wanted(tree: &mut TreeFs, capable: FsOptions) -> Result<FsOptions, Fault>
-    ensures now { tree.old ≡ small_tree → init_answer result ≡ Options 0x10006000 }
-    ensures later { tree.old ≡ written_later small_tree → init_answer result ≡
-        Options 0x10016000 }
-{
-    tree.init(capable)
 }

@@ -13,6 +13,7 @@ mod full;
 mod laws;
 mod lookups;
 mod names;
+mod opening;
 mod privileges;
 mod support;
 mod xattrs;

@@ -1,4 +1,5 @@
 use Rattle.std.proofs.Common.{◌≡◌, ◌<◌, ◌^◌, ◌-◌, ℕ, List, Option, None, IsSome, IfSome, refl, sym, ◌∙◌, subst}
+use Rattle.vfs_flags.specs.Flags.{fs_options_bits}
 use Rattle.vfs_files.specs.Values.{name_text}
 use Rattle.vfs_tree.specs.Outcome.{refusal_of}
 use Rattle.vfs_tree.specs.State.{State, node_at}
@@ -45,6 +46,7 @@ returns c =
       inodes = inside.inodes;
       limits = inside.limits;
       writeback = inside.writeback;
+      offered = fs_options_bits inside.offered;
       now = inside.now;
     } in
     linked_ends s c.args.number parent (name_text c.args.name) c.count_link.result
