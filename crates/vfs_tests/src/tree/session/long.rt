@@ -392,8 +392,8 @@ static SIZES: [Step; 11] = [
     },
 ];
 
-/// Bytes of which a hole is made.
-static PUNCHED: [Step; 15] = [
+/// Bytes of which a hole is made, and zeros.
+static PUNCHED: [Step; 19] = [
     Step {
         why: "a file",
         message: (35, 1, b"\0\0\0\0\xa4\x01\0\0\0\0\0\0\0\0\0\0f\0"),
@@ -542,6 +542,46 @@ static PUNCHED: [Step; 15] = [
         error: -27,
         length: 16,
         says: &[],
+    },
+    Step {
+        why: "bytes in two pages again",
+        message: (
+            16,
+            2,
+            b"\0\0\0\0\0\0\0\0\xfc\x0f\0\0\0\0\0\0\x08\0\0\0\0\0\0\0\0\0\0\0\0\0\0\0\0\0\0\0\0\0\0\0abcdefgh",
+        ),
+        error: 0,
+        length: 24,
+        says: &[(16, b"\x08\0\0\0")],
+    },
+    Step {
+        why: "zeros in one and the other, past the end",
+        message: (
+            43,
+            2,
+            b"\0\0\0\0\0\0\0\0\xfe\x0f\0\0\0\0\0\0\x10\0\0\0\0\0\0\0\x10\0\0\0\0\0\0\0",
+        ),
+        error: 0,
+        length: 16,
+        says: &[],
+    },
+    Step {
+        why: "which stay, and the file is longer",
+        message: (3, 2, b"\0\0\0\0\0\0\0\0\0\0\0\0\0\0\0\0"),
+        error: 0,
+        length: 120,
+        says: &[(40, b"\x0e\x10\0\0\0\0\0\0"), (48, b"\x10\0\0\0\0\0\0\0")],
+    },
+    Step {
+        why: "zeros in place of bytes again",
+        message: (
+            15,
+            2,
+            b"\0\0\0\0\0\0\0\0\xfa\x0f\0\0\0\0\0\0d\0\0\0\0\0\0\0\0\0\0\0\0\0\0\0\0\0\0\0\0\0\0\0",
+        ),
+        error: 0,
+        length: 36,
+        says: &[(16, b"\0\0ab\0\0\0\0\0\0")],
     },
 ];
 
