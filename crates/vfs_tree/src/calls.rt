@@ -1,7 +1,7 @@
 //! The calls of the file system, in the trait's order. Those that are not served have their default
 //! answers.
 
-ghost use Rattle.std.specs.Prelude.{◌≡◌, map, Some, if◌then◌else◌};
+ghost use Rattle.std.specs.Prelude.{◌≡◌, ◌==◌, ◌&&◌, map, Some, if◌then◌else◌};
 ghost use Rattle.vfs_files.specs.Calls.{Plain, attr_answer};
 ghost use Rattle.vfs_flags.specs.Flags.{fs_options_bits, setattr_valid_bits};
 ghost use Rattle.vfs_tree.specs.Outcome.{Answered, AttrOf, Ends, with_it};
