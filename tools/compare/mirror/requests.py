@@ -20,6 +20,7 @@ GROUPS = [0, 0, 0, 5, 6]
 ATTRIBUTES = [b"user.a", b"user.b", b"trusted.c", b"user." + b"n" * 250, *(b"security.%d" % i for i in range(12))]
 FLAGS = [os.O_RDONLY, os.O_RDWR, os.O_WRONLY | os.O_TRUNC, os.O_RDWR | os.O_TRUNC | os.O_APPEND]
 AT_EMPTY_PATH = 0x1000
+CLOCK_REALTIME_COARSE = 5
 OPERATIONS = {
     "LOOKUP": 8, "CREATE": 8, "MKNOD": 4, "MKDIR": 8, "SYMLINK": 4, "LINK": 7, "UNLINK": 8, "RMDIR": 6, "RENAME": 14,
     "SETATTR": 10, "READ": 6, "WRITE": 10, "OPEN": 4, "READLINK": 2, "READDIR": 4, "SETXATTR": 5, "GETXATTR": 3,
@@ -212,7 +213,7 @@ class Session:
         watched = [node for node in dict.fromkeys(watched) if node in self.nodes]
         before = [self.times(node) for node in watched]
         if self.is_slow and watched:
-            time.sleep(0.011)
+            self.await_tick(before)
         first = second = None
         answers = []
         LIBC.setfsgid(self.library.group)
@@ -241,6 +242,14 @@ class Session:
                 if moves != (now[1][at] != theirs[at]) and (self.is_slow or not moves):
                     self.note(f"{which} of {WATCHED[self.nodes[node].kind]} {'moves' if moves else 'does not move'}")
         return answers[0], second_answer
+
+    @staticmethod
+    def await_tick(before):
+        """Waits until the clock of a tmpfs is past all times of its nodes that aren't to come."""
+        last = max((it for _, theirs in before for it in theirs if it <= time.time_ns()), default=0)
+        time.sleep(0.011)
+        while time.clock_gettime_ns(CLOCK_REALTIME_COARSE) <= last:
+            time.sleep(0.001)
 
     def times(self, node):
         ours, theirs = self.library.getattr(node), os.fstat(self.file(node))
