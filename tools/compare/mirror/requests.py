@@ -551,7 +551,9 @@ class Session:
                     found.append((os.fsencode(entry.name), stat.S_IFMT(mode) >> 12))
             return found
 
-        answers = self.both(lambda: self.pieces(node, plus, size), call, (node,))
+        # (one that was taken out Linux doesn't read, so no time of it moves)
+        watched = (node,) if os.fstat(self.file(node)).st_nlink else ()
+        answers = self.both(lambda: self.pieces(node, plus, size), call, watched)
         if not answers:
             return []
         ours, theirs = answers
