@@ -6,7 +6,7 @@ use Rattle.std.proofs.lemmas.Bool.{cases_Bool, cond-true, cond-false}
 use Rattle.std.proofs.lemmas.List.Elements.{filter-append, filter_agree}
 use Rattle.vfs_files.specs.Values.{Item}
 use Rattle.vfs_nodes.specs.Children.{Link}
-use Rattle.vfs_nodes.specs.Listing.{dot_items, items_in, link_item}
+use Rattle.vfs_nodes.specs.Listing.{dot_items, link_item}
 use Rattle.vfs_nodes.specs.declared.node.Node.{Node}
 
 filter_of_map : {X Y : Type 0} (p : Y → Bool) (f : X → Y) (xs : List X)
@@ -46,6 +46,10 @@ behind_is off links =
               elim (a == b) as (λ t. (is_lt (cond t Equal Greater) && true) ≡ false)
               [ true ↦ refl | false ↦ refl ]
         ]
+
+-- what a directory holds
+abbrev pub items_in : (number : ℕ) → Node → List Item
+items_in n node = dot_items n node.parent ++ map link_item node.children.links
 
 module _ (n off most : ℕ) (directory : Node) where
   abbrev all_behind : List Item

@@ -1,11 +1,11 @@
 -- How much a node weighs after a change.
-use Rattle.std.proofs.Common.{◌≡◌, ◌≤◌, ◌+◌, ◌*◌, ◌/◌, ◌==◌, ◌||◌, ℕ, Bool, true, false, not, List, [], ◌∷◌, Option, length, filter, nat_lt, bit_and, ◌⊎◌, ⊎_elim, if◌then◌else◌, refl, arith}
+use Rattle.std.proofs.Common.{◌≡◌, ◌≤◌, ◌+◌, ◌*◌, ◌/◌, ◌==◌, ◌||◌, ℕ, Bool, true, false, not, List, [], ◌∷◌, Option, length, filter, nat_lt, bit_and, ◌⊎◌, ⊎_elim, if◌then◌else◌, codes, refl, arith}
 use Rattle.std.specs.Int.{div_ceil}
 use Rattle.vfs_wire.specs.declared.attributes.SetattrIn.{SetattrIn}
 use Rattle.vfs_contents.specs.Contents.{Contents, resized, allocated, punched, zeroed, fallocated, pages_over}
 use Rattle.vfs_contents.specs.Pages.{is_outside, reach}
 use Rattle.vfs_contents.proofs.Counts.{held_within}
-use Rattle.vfs_nodes.specs.Node.{weight, capabilities, stripped, rewritten, set_attr, takes_caps, is_other, truncates, opened, overwritten}
+use Rattle.vfs_nodes.specs.Node.{weight, stripped, rewritten, set_attr, takes_caps, is_other, truncates, opened, overwritten}
 use Rattle.vfs_nodes.specs.Xattrs.{Xattr, xattr_bytes, without_xattr}
 use Rattle.vfs_nodes.specs.declared.node.Node.{Node}
 use Rattle.vfs_nodes.specs.declared.node.Time.{Time}
@@ -19,7 +19,7 @@ without_xattr_bytes xattrs name = omega (arith, bytes_removed xattrs name)
 -- nor do those without the capabilities, and so a node without privileges
 pub stripped_bytes : (caps ids : Bool) (node : Node)
     → xattr_bytes (stripped caps ids node).xattrs ≤ xattr_bytes node.xattrs
-stripped_bytes true ids node = without_xattr_bytes node.xattrs capabilities
+stripped_bytes true ids node = without_xattr_bytes node.xattrs (codes "security.capability")
 stripped_bytes false ids node = omega arith
 
 -- of some there are no more

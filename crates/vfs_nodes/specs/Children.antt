@@ -1,5 +1,5 @@
 -- What a directory holds: names in order of their places, and where each of them leads.
-use Rattle.std.specs.Prelude.{ℕ, ◌-◌, ◌^◌, nat_lt, Bool, true, false, not, List, [], ◌∷◌, length, map, Option, option_map, find, if◌then◌else◌}
+use Rattle.std.specs.Prelude.{ℕ, ◌-◌, ◌^◌, Bool, true, false, not, List, [], ◌∷◌, length, map, Option, Some, None, option_map, find, if◌then◌else◌}
 use Rattle.std.specs.List.{filter}
 use Rattle.std.specs.Str.{bytes_eq}
 use Rattle.vfs_nodes.specs.declared.children.Child.{Child}
@@ -34,10 +34,6 @@ pub record Children : Type 0 where
 abbrev pub no_children : Children
 no_children = record { links = []; next = 2 ^ 63 - 1 }
 
--- whether there is a place for one more name: 1 and 2 are those of `.` and `..`
-abbrev pub has_place : Children → Bool
-has_place children = nat_lt 2 children.next
-
 abbrev pub is_named : (name : List ℕ) → (ℕ × Link) → Bool
 is_named name link = bytes_eq link.1.name name
 
@@ -50,26 +46,17 @@ child_named children name =
 abbrev pub directories_of : List (ℕ × Link) → ℕ
 directories_of links = length (filter (λ link. is_directory link.1.child.kind) links)
 
-abbrev pub directories_in : Children → ℕ
-directories_in children = directories_of children.links
-
--- with one name more, before the others
-abbrev pub with_child : Children → (name : List ℕ) → Child → Children
-with_child children name child = record {
-  links = (children.next, record { name = name; child = child }) ∷ children.links;
-  next = children.next - 1;
-}
-
--- without a name
-abbrev pub without_child : Children → (name : List ℕ) → Children
-without_child children name =
-    record children { links = filter (λ link. not (is_named name link)) children.links }
-
 -- where a name leads elsewhere, and keeps its place
 abbrev pub relinked : (name : List ℕ) → Child → (ℕ × Link) → ℕ × Link
 relinked name child link =
     if is_named name link then (link.0, record link.1 { child = child }) else link
 
-abbrev pub with_other_child : Children → (name : List ℕ) → Child → Children
-with_other_child children name child =
-    record children { links = map (relinked name child) children.links }
+-- a name, which is there or not, leads to a node from now on, or nowhere; a new one comes before the others
+abbrev pub leading : (name : List ℕ) → (is_there : Bool) → Option Child → Children → Children
+leading name is_there None c =
+    record c { links = filter (λ link. not (is_named name link)) c.links }
+leading name false (Some child) c = record {
+  links = (c.next, record { name = name; child = child }) ∷ c.links;
+  next = c.next - 1;
+}
+leading name true (Some child) c = record c { links = map (relinked name child) c.links }

@@ -18,11 +18,9 @@ dot_items n parent =
     record { ino = n; offset = 1; type_ = 4; name = codes "." }
     ∷ record { ino = parent; offset = 2; type_ = 4; name = codes ".." } ∷ []
 
--- what a directory holds: itself, the one above, and its names, each at its place
-abbrev pub items_in : (number : ℕ) → Node → List Item
-items_in n node = dot_items n node.parent ++ map link_item node.children.links
-
--- the items behind an offset, at most as many as so many bytes have place for: a record has 24 and more
+-- the items of a directory behind an offset, itself, the one above, and its names, each at its place; at most as
+-- many as so many bytes have place for: a record has 24 and more
 abbrev pub items_behind : (number : ℕ) → Node → (off size : ℕ) → List Item
 items_behind n node off size =
-    take (size / 24 + 1) (filter (λ item. nat_lt off item.offset) (items_in n node))
+    take (size / 24 + 1) (filter (λ item. nat_lt off item.offset)
+    (dot_items n node.parent ++ map link_item node.children.links))

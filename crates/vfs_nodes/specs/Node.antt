@@ -1,12 +1,11 @@
 -- What a node shows of itself, and what becomes of it.
-use Rattle.std.specs.Prelude.{◌≡◌, ℕ, ◌+◌, ◌-◌, ◌*◌, ◌^◌, ◌/◌, ◌%◌, ◌==◌, ◌&&◌, ◌||◌, not, nat_lt, nat_le, Bool, true, List, [], ◌∷◌, Option, Some, None, is_none, length, min, codes, bit_or, bit_and, if◌then◌else◌}
-use Rattle.std.specs.Duration.{as_nanos}
+use Rattle.std.specs.Prelude.{ℕ, ◌+◌, ◌-◌, ◌*◌, ◌^◌, ◌/◌, ◌==◌, ◌&&◌, ◌||◌, not, Bool, true, List, [], ◌∷◌, Option, Some, is_none, find, length, min, codes, bit_or, bit_and, if◌then◌else◌, ◌%◌, nat_lt, nat_le}
 use Rattle.std.specs.declared.time.Duration.{Duration}
 use Rattle.vfs_wire.specs.declared.attributes.Attr.{Attr}
 use Rattle.vfs_wire.specs.declared.attributes.SetattrIn.{SetattrIn}
 use Rattle.vfs_files.specs.declared.entry.Entry.{Entry}
 use Rattle.vfs_contents.specs.Contents.{Contents, no_contents, resized, written}
-use Rattle.vfs_nodes.specs.Children.{is_directory, is_file, is_link, no_children, directories_in}
+use Rattle.vfs_nodes.specs.Children.{is_directory, is_file, is_link, no_children, directories_of}
 use Rattle.vfs_nodes.specs.Xattrs.{xattr_bytes, without_xattr}
 use Rattle.vfs_nodes.specs.declared.kind.Kind.{Kind}
 use Rattle.vfs_nodes.specs.declared.kind.Kind.TheVariants as kind
@@ -33,12 +32,9 @@ device_of _ = 0
 abbrev pub kind_by_mode : (mode device : ℕ) → Option Kind
 kind_by_mode mode device =
     let bits = bit_and mode 0o170000 in
-    if bits == 0 || bits == 0o100000 then Some kind.File
-    else if bits == 0o10000 then Some kind.Fifo
-    else if bits == 0o140000 then Some kind.Socket
-    else if bits == 0o20000 then Some (kind.Character device)
-    else if bits == 0o60000 then Some (kind.Block device)
-    else None
+    if bits == 0 then Some kind.File
+    else find (λ kind. kind_bits kind == bits)
+    (kind.File ∷ kind.Fifo ∷ kind.Socket ∷ kind.Character device ∷ kind.Block device ∷ [])
 
 -- what `readdir(3)` calls a node of this kind
 abbrev pub type_of : Kind → ℕ
@@ -48,8 +44,8 @@ type_of kind = kind_bits kind / 0o10000
 -- one for each directory in it, as far as the field goes
 abbrev pub nlink_of : Node → ℕ
 nlink_of node =
-    if is_directory node.kind
-    then if node.names == 0 then 0 else min (directories_in node.children + 2) (2 ^ 32 - 1)
+    if is_directory node.kind && not (node.names == 0)
+    then min (directories_of node.children.links + 2) (2 ^ 32 - 1)
     else node.names
 
 -- how many bytes a node shows: those of its text, or of its contents, which a file alone has
@@ -58,45 +54,43 @@ size_of node = if is_link node.kind then length node.text else length node.conte
 
 -- its attributes; a page that is held has 8 blocks
 abbrev pub attr_of : (number : ℕ) → Node → Attr
-attr_of number node =
-    record {
-      ino = number;
-      size = size_of node;
-      blocks = length node.contents.held * 8;
-      atime = node.atime.seconds;
-      mtime = node.mtime.seconds;
-      ctime = node.ctime.seconds;
-      atimensec = node.atime.nanoseconds;
-      mtimensec = node.mtime.nanoseconds;
-      ctimensec = node.ctime.nanoseconds;
-      mode = bit_or (kind_bits node.kind) (bit_and node.permissions 0o7777);
-      nlink = nlink_of node;
-      uid = node.uid;
-      gid = node.gid;
-      rdev = device_of node.kind;
-      blksize = 4096;
-      flags = 0;
-    }
-
--- a day: nobody but the client changes what it was told
-abbrev pub IsDay : Duration → Type 0
-IsDay time = as_nanos time ≡ 86400 * 1000000000
+attr_of number node = record {
+  ino = number;
+  size = size_of node;
+  blocks = length node.contents.held * 8;
+  atime = node.atime.seconds;
+  mtime = node.mtime.seconds;
+  ctime = node.ctime.seconds;
+  atimensec = node.atime.nanoseconds;
+  mtimensec = node.mtime.nanoseconds;
+  ctimensec = node.ctime.nanoseconds;
+  mode = bit_or (kind_bits node.kind) (bit_and node.permissions 0o7777);
+  nlink = nlink_of node;
+  uid = node.uid;
+  gid = node.gid;
+  rdev = device_of node.kind;
+  blksize = 4096;
+  flags = 0;
+}
 
 -- whether a node is a file that may lose set-user-ID or set-group-ID
 abbrev pub may_lose : Node → Bool
 may_lose node = is_file node.kind && not (bit_and node.permissions 0o6000 == 0)
 
--- a day, and no time for the attributes of a file that may lose these: an OPEN takes them, and tells none
-abbrev pub Lasts : Node → Duration → Type 0
-Lasts node time = as_nanos time ≡ (if may_lose node then 0 else 86400) * 1000000000
+-- how long a client may rely on its attributes: a day, since nobody else changes them, and no time on those of
+-- a file that may lose these bits: an OPEN takes them, and tells none
+abbrev pub lasting : Node → Duration
+lasting node = record { secs = if may_lose node then 0 else 86400; nanos = 0 }
 
--- its entry
-pub record IsEntryOf (number : ℕ) (node : Node) (entry : Entry) : Type 0 where
-  pub inode : entry.inode ≡ number
-  pub generation : entry.generation ≡ 0
-  pub attr : entry.attr ≡ attr_of number node
-  pub attr_timeout : Lasts node entry.attr_timeout
-  pub entry_timeout : IsDay entry.entry_timeout
+-- its entry, for a day
+abbrev pub entry_of : (number : ℕ) → Node → Entry
+entry_of number node = record {
+  inode = number;
+  generation = 0;
+  attr = attr_of number node;
+  attr_timeout = lasting node;
+  entry_timeout = record { secs = 86400; nanos = 0 };
+}
 
 -- how many bytes of the file system's it takes: those of the pages that are held, of its text and its
 -- extended attributes
@@ -132,15 +126,11 @@ abbrev pub without_set_ids : (permissions : ℕ) → ℕ
 without_set_ids permissions =
     bit_and permissions (if bit_and permissions 0o10 == 0o10 then 0o1777 else 0o3777)
 
--- the attribute that has its capabilities
-abbrev pub capabilities : List ℕ
-capabilities = codes "security.capability"
-
 -- a node without its privileges, as far as they go: its capabilities, and its set-user-ID and set-group-ID
 abbrev pub stripped : (caps ids : Bool) → Node → Node
 stripped caps ids node = record node {
   permissions = if ids then without_set_ids node.permissions else node.permissions;
-  xattrs = if caps then without_xattr node.xattrs capabilities else node.xattrs;
+  xattrs = if caps then without_xattr node.xattrs (codes "security.capability") else node.xattrs;
 }
 
 -- a file with other contents, changed now, without its privileges as far as they go

@@ -1,9 +1,9 @@
 //! The names of a directory.
 
-ghost use Rattle.std.specs.Prelude.{◌≡◌, ◌==◌, ◌<◌, length, Some, None, OnOk, IfErr};
+ghost use Rattle.std.specs.Prelude.{◌≡◌, nat_lt, ◌==◌, ◌<◌, length, true, false, Some, None, OnOk, IfErr};
 ghost use Rattle.vfs_flags.specs.Numbers.{enomem};
 ghost use Rattle.vfs_files.specs.Values.{name_text};
-ghost use Rattle.vfs_nodes.specs.Children.{no_children, has_place, child_named, directories_in, with_child, without_child, with_other_child};
+ghost use Rattle.vfs_nodes.specs.Children.{no_children, child_named, directories_of, leading};
 
 use crate::kind::Kind;
 use std::alloc::Global;
@@ -85,14 +85,14 @@ impl Children {
 
     /// How many of the names are directories'.
     pub(crate) fn directories(&self) -> u64
-        ensures { result ≡ directories_in self.now }
+        ensures { result ≡ directories_of self.now.links }
     {
         self.directories
     }
 
     /// Whether there is a place for one more name.
     pub fn has_place(&self) -> bool
-        ensures { result ≡ has_place self.now }
+        ensures { result ≡ nat_lt 2 self.now.next }
     {
         self.next > LAST_DOT
     }
@@ -119,7 +119,7 @@ impl Children {
     pub fn add(&mut self, alloc: Global, name: CStr<'_>, child: Child) -> Result<(), Fault>
         requires free { child_named self.old (name_text name) ≡ None }
         requires place { 2 < self.old.next }
-        ensures ok { OnOk result (self.new ≡ with_child self.old (name_text name.entry) child) }
+        ensures ok { OnOk result (self.new ≡ leading (name_text name.entry) false (Some child) self.old) }
         ensures err { IfErr result (λ fault. (fault ≡ Some enomem) × (self.new ≡ self.old)) }
     {
         let place = self.next;
@@ -140,9 +140,19 @@ impl Children {
         Ok(())
     }
 
-    /// Takes a name out, if it is there.
-    pub fn remove(&mut self, name: &[u8])
-        ensures { self.new ≡ without_child self.old name.now }
+    /// Lets a name lead elsewhere, if it is there, or nowhere.
+    pub fn set(&mut self, name: &[u8], child: Option<Child>)
+        ensures { self.new ≡ leading name.now true child self.old }
+    {
+        match child {
+            Some(child) => self.replace(name, child),
+            None => self.remove(name),
+        }
+    }
+
+    // Takes a name out, if it is there.
+    fn remove(&mut self, name: &[u8])
+        ensures { self.new ≡ leading name.now true None self.old }
     {
         let Some(place) = self.places.remove(name) else {
             return;
@@ -153,9 +163,9 @@ impl Children {
         self.directories -= u64::from(link.child.kind.is_directory());
     }
 
-    /// Lets a name lead elsewhere, if it is there.
-    pub fn replace(&mut self, name: &[u8], child: Child)
-        ensures { self.new ≡ with_other_child self.old name.now child }
+    // Lets a name lead elsewhere, if it is there.
+    fn replace(&mut self, name: &[u8], child: Child)
+        ensures { self.new ≡ leading name.now true (Some child) self.old }
     {
         let Some(place) = self.places.get(name) else {
             return;

@@ -3,7 +3,7 @@
 ghost use Rattle.std.specs.Prelude.{◌≡◌, ℕ, List, take, if◌then◌else◌, Some, MatchResult};
 ghost use Rattle.vfs_flags.specs.Numbers.{enomem};
 ghost use Rattle.vfs_flags.specs.Flags.{setattr_valid_bits};
-ghost use Rattle.vfs_nodes.specs.Node.{attr_of, nlink_of, size_of, IsEntryOf, weight, new_node, accessed, opened, set_attr, stripped, rewritten, Lasts, is_chown, is_no_later, is_other, ordered_seconds, takes_ids, truncates, without_set_ids};
+ghost use Rattle.vfs_nodes.specs.Node.{attr_of, nlink_of, size_of, entry_of, weight, new_node, opened, set_attr, stripped, rewritten, lasting, is_chown, is_other, takes_ids, truncates, without_set_ids, accessed, is_no_later, ordered_seconds};
 ghost use Rattle.vfs_nodes.specs.Writing.{Overwrites};
 
 use crate::children::Children;
@@ -146,11 +146,8 @@ impl Node {
     pub(crate) fn nlink(&self) -> u32
         ensures { result ≡ nlink_of self.now }
     {
-        if !self.kind.is_directory() {
+        if !self.kind.is_directory() || self.names == 0 {
             return self.names;
-        }
-        if self.names == 0 {
-            return 0;
         }
         // (what it holds and the other two are in one file system's memory)
         match self.children.directories().checked_add(2) {
@@ -196,25 +193,25 @@ impl Node {
 
     /// How long a client may rely on its attributes.
     pub fn attr_timeout(&self) -> Duration
-        ensures { Lasts self.now result }
+        ensures { result ≡ lasting self.now }
     {
         if self.kind.is_file() && self.permissions & SET_IDS != 0 {
-            Duration::from_secs(0)
+            seconds(0)
         } else {
-            Duration::from_secs(TIMEOUT_SECONDS)
+            seconds(TIMEOUT_SECONDS)
         }
     }
 
     /// Its entry.
     pub fn entry(&self, number: u64) -> Entry
-        ensures { IsEntryOf number self.now result }
+        ensures { result ≡ entry_of number self.now }
     {
         Entry {
             inode: number,
             generation: 0,
             attr: self.attr(number),
             attr_timeout: self.attr_timeout(),
-            entry_timeout: Duration::from_secs(TIMEOUT_SECONDS),
+            entry_timeout: seconds(TIMEOUT_SECONDS),
         }
     }
 
@@ -345,6 +342,13 @@ impl Node {
         }
         Ok(count)
     }
+}
+
+// So many seconds.
+fn seconds(count: u64) -> Duration
+    ensures { result ≡ record { secs = count; nanos = 0 } }
+{
+    Duration::from_secs(count)
 }
 
 // Whether this is told, and another user than 0.

@@ -1,39 +1,82 @@
 -- How CREATE and LINK end, by what their steps left.
-use Rattle.std.proofs.Common.{◌≡◌, ◌+◌, ◌==◌, ◌||◌, ◌^◌, ◌-◌, ℕ, Bool, true, false, List, ◌∷◌, [], nat_lt, nat_le, not, length, Option, Some, None, IfSome, is_some, is_none, refl, sym, ap, ◌∙◌, subst}
+use Rattle.std.proofs.Common.{◌≡◌, ◌+◌, ◌==◌, ◌&&◌, ◌||◌, ◌^◌, ◌-◌, ℕ, Bool, true, false, List, ◌∷◌, [], nat_lt, nat_le, not, length, take, Option, Some, None, IfSome, is_some, is_none, if◌then◌else◌, refl, sym, ap, ◌∙◌, subst}
+use Rattle.std.specs.Option.{option_or}
 use Rattle.std.proofs.lemmas.Bool.{not-false}
 use Rattle.std.proofs.lemmas.Option.{same_Some}
 use Rattle.vfs_flags.specs.Numbers.{enoent, einval, eexist, eperm, enosys, eoverflow, enospc, enotdir, enametoolong}
-use Rattle.vfs_files.specs.Calls.{Found, Created, Plain}
+use Rattle.vfs_files.specs.Calls.{Failed, Found, Created, Wrote, Plain}
 use Rattle.vfs_files.specs.declared.entry.Entry.{Entry}
-use Rattle.vfs_nodes.specs.Children.{with_child, is_directory}
-use Rattle.vfs_nodes.specs.Node.{IsEntryOf}
+use Rattle.vfs_nodes.specs.Children.{leading, is_directory}
+use Rattle.vfs_nodes.specs.Node.{entry_of, overwritten}
+use Rattle.vfs_files.specs.Bytes.{fitting}
+use Rattle.vfs_contents.specs.Contents.{lacking}
 use Rattle.vfs_nodes.specs.declared.children.Child.{Child}
 use Rattle.vfs_nodes.specs.declared.node.Node.{Node}
-use Rattle.vfs_tree.specs.Outcome.{EntryOf, Outcome, Tried, Ends, first_of, or_else, unless, refusal_of, on}
-use Rattle.vfs_tree.specs.Rename.{directory_refusal, is_directory_at, is_improper, is_nameless, is_crowded}
-use Rattle.vfs_tree.specs.State.{State, node_at, child_at, with_node, with_names, changed, change}
-use Rattle.vfs_tree.specs.Tree.{emlink, most_links, link_refusal, linked, links}
-use Rattle.vfs_tree.proofs.Nodes.{kinds_apart}
+use Rattle.vfs_tree.specs.Naming.{directory_refusal, is_directory_at, is_improper, is_nameless, is_crowded, name_refusal}
+use Rattle.vfs_tree.specs.Outcome.{Outcome, Refused, Tried, Ends, first_of, unless, refusal_of, on}
+use Rattle.vfs_tree.specs.State.{State, node_at, child_at, with_node, with_resized, lead, change}
+use Rattle.vfs_tree.specs.Tree.{contents_refusal, efbig, emlink, link_refusal, linked, longest, most_size}
+use Rattle.vfs_tree.proofs.Nodes.{changed, kinds_apart}
 
 -- where an entry is answered, a file is opened too, of a client that opens files
-pub created_too : (old new : State) (alone : Bool) (refusal : Option ℕ) (n : ℕ) (node : Node)
-    (left : State) (entry : Entry) (options : ℕ) → alone ≡ false → options ≡ 0
-    → Ends old (unless refusal (Tried true (EntryOf n node) left)) (Plain (Found entry)) new
+pub created_too : (old new : State) (alone : Bool) (refusal : Option ℕ) (made : Entry) (left : State)
+    (entry : Entry) (options : ℕ) → alone ≡ false → options ≡ 0
+    → Ends old (unless refusal (Tried true (Plain (Found made)) left)) (Plain (Found entry)) new
     → Ends old
-    (unless (first_of ((alone, enosys) ∷ [])) (unless refusal (Tried true (EntryOf n node) left)))
+    (if alone then Refused enosys
+    else unless refusal (Tried true (Plain (Created made None 0)) left))
     (Plain (Created entry None options)) new
-created_too old new true refusal n node left entry options opens none ends = cc opens
-created_too old new false (Some error) n node left entry options opens none ends = cc (ends.0)
-created_too old new false None n node left entry options opens none ends = ((ends.0, refl, none), ends.1)
+created_too old new true refusal made left entry options opens none ends = cc opens
+created_too old new false (Some error) made left entry options opens none ends = cc (ends.0)
+created_too old new false None made left entry options opens none ends =
+    let same = ends.0 in
+    let is : entry ≡ made = cc same in
+    (cc (is, none), ends.1)
+
+-- an entry is answered where nothing is refused
+pub made_ends : (s new : State) (refusal : Option ℕ) (entry made : Entry) (left : State)
+    → refusal ≡ None → entry ≡ made → new ≡ left
+    → Ends s (unless refusal (Tried true (Plain (Found made)) left)) (Plain (Found entry)) new
+made_ends s new None entry made left none is leaves = (ap (λ e. Plain (Found e)) is, leaves)
+made_ends s new (Some error) entry made left none is leaves = cc none
 
 -- ---- refusals
+
+-- why WRITE does nothing, and how it ends for a node
+abbrev pub write_refusal : State → (off size : ℕ) → Node → Option ℕ
+write_refusal s off size node =
+    option_or (contents_refusal node)
+    (first_of ((nat_lt 0 size && nat_le (longest s) off, efbig)
+    ∷ (nat_lt 0 size && nat_le (most_size s off size node) off, enospc) ∷ []))
+
+abbrev pub writes :
+    State → (number : ℕ) → (delayed kill : Bool) → (off size : ℕ) → List ℕ → Node → Outcome
+writes s n delayed kill off size bytes node =
+    let fit = fitting (most_size s off size node) off (take size bytes) in
+    Tried (nat_lt 0 (length fit) && nat_lt 0 (lacking node.contents off (length fit)))
+    (Plain (Wrote (length fit)))
+    (with_resized s n node (overwritten s.now delayed kill node off fit))
+
+-- a call of a node that is there is refused
+pub refused_ends : (s : State) (o : Option Node) (refusal : Node → Option ℕ) (f : Node → Outcome)
+    (node : Node) (error : ℕ) → o ≡ Some node → refusal node ≡ Some error
+    → Ends s (on o refusal f) (Plain (Failed (Some error))) s
+refused_ends s None refusal f node error is refused = cc is
+refused_ends s (Some x) refusal f node error is refused =
+    subst (λ (y : Node). Ends s (unless (refusal y) (f y)) (Plain (Failed (Some error))) s)
+    (sym (same_Some x node is)) (by (refusal node) refused)
+  where
+    by : (o : Option ℕ) → o ≡ Some error
+        → Ends s (unless o (f node)) (Plain (Failed (Some error))) s
+    by None same = cc same
+    by (Some e) same = (ap (λ x. Plain (Failed x)) (sym same), refl)
 
 pub first_false : (b : Bool) (e : ℕ) (rest : List (Bool × ℕ)) → first_of ((b, e) ∷ rest) ≡ None
     → (b ≡ false) × (first_of rest ≡ None)
 first_false true e rest none = cc none
 first_false false e rest none = (refl, none)
 
-both_none : (a b : Option ℕ) → or_else a b ≡ None → (a ≡ None) × (b ≡ None)
+both_none : (a b : Option ℕ) → option_or a b ≡ None → (a ≡ None) × (b ≡ None)
 both_none (Some e) b none = cc none
 both_none None b none = (refl, none)
 
@@ -53,19 +96,15 @@ file_linked : (s : State) (parent : ℕ) (name : List ℕ) (node : Node)
 file_linked s parent name node none =
     let above = node_at s parent in
     let last : List (Bool × ℕ) = (node.names == 0, enoent)
-    ∷ (nat_le most_links node.names, emlink)
+    ∷ (nat_le 65000 node.names, emlink)
     ∷ (node.lookups == 2 ^ 64 - 1, eoverflow)
     ∷ (nat_le s.limits.nodes s.inodes || is_crowded above, enospc) ∷ [] in
-    let fourth : List (Bool × ℕ) = (is_directory node.kind, eperm) ∷ last in
-    let third : List (Bool × ℕ) = (is_some (child_at s parent name), eexist) ∷ fourth in
-    let second : List (Bool × ℕ) = (is_improper name, einval) ∷ third in
-    let first : List (Bool × ℕ) = (is_nameless above, enoent) ∷ second in
-    let parts = both_none (directory_refusal above name) (first_of first) none in
-    let one = first_false (is_nameless above) enoent second parts.1 in
-    let two = first_false (is_improper name) einval third one.1 in
-    let three = first_false (is_some (child_at s parent name)) eexist fourth two.1 in (
-      directory_there above name parts.0,
-      (first_false (is_directory node.kind) eperm last three.1).0,
+    let parts = both_none (name_refusal s parent name) (first_of ((is_directory node.kind, eperm) ∷ last))
+    none in
+    let names : List (Bool × ℕ) = (is_nameless above, enoent) ∷ (is_improper name, einval)
+    ∷ (is_some (child_at s parent name), eexist) ∷ [] in (
+      directory_there above name (both_none (directory_refusal above name) (first_of names) parts.0).0,
+      (first_false (is_directory node.kind) eperm last parts.1).0,
     )
 
 -- ---- LINK
@@ -92,39 +131,46 @@ module _ (s : State) (n parent : ℕ) (name : List ℕ) (entry : Entry) (last : 
   -- with one inode more
   abbrev counted : Child → State
   counted child =
-      let named = with_names s parent (λ c. with_child c name child) in
+      let named = lead s parent name false (Some child) in
       record named { inodes = named.inodes + 1 }
+
+  -- how LINK ends
+  abbrev pub links : Outcome
+  links = on (node_at s n) (link_refusal s parent name) (λ node.
+      let child : Child = record { node = n; kind = node.kind } in
+      Tried true (Plain (Found (entry_of n (linked s.now node))))
+      (change (counted child) n (linked s.now)))
 
   -- the node of a state has one name and one lookup more
   abbrev pub IsCounted : State → Option Node → Type 0
-  IsCounted t o = IfSome o (λ node. IsEntryOf n (linked t.now node) entry
+  IsCounted t o = IfSome o (λ node. (entry ≡ entry_of n (linked t.now node))
       × (last ≡ with_node t n (linked t.now node)))
 
   ends : (node : Node) → node_at s n ≡ Some node → link_refusal s parent name node ≡ None
       → IsCounted (counted (record { node = n; kind = node.kind }))
       (node_at (counted (record { node = n; kind = node.kind })) n)
-      → Ends s (links s n parent name) (Plain (Found entry)) last
+      → Ends s links (Plain (Found entry)) last
   ends node is free counts =
       let child : Child = record { node = n; kind = node.kind } in
       let t = counted child in
       let file = file_linked s parent name node free in
       let found : node_at t n ≡ Some node =
-      kinds_apart s n parent (λ c. with_child c name child) (ap is_directory_at is ∙ file.1) file.0
+      kinds_apart s n parent (leading name false (Some child)) (ap is_directory_at is ∙ file.1) file.0
       ∙ is in
       let now : t.now ≡ s.now =
       changed_now s parent
       (λ (x : Node).
-      record x { children = with_child x.children name child; mtime = s.now; ctime = s.now })
+      record x { children = leading name false (Some child) x.children; mtime = s.now; ctime = s.now })
       (node_at s parent) in
       let here : IsCounted t (Some node) = subst (IsCounted t) found counts in
       on_there s last (node_at s n) (link_refusal s parent name)
       (λ node.
       let child : Child = record { node = n; kind = node.kind } in
-      let named = with_names s parent (λ c. with_child c name child) in
-      Tried true (EntryOf n (linked s.now node))
+      let named = lead s parent name false (Some child) in
+      Tried true (Plain (Found (entry_of n (linked s.now node))))
       (change (record named { inodes = named.inodes + 1 }) n (linked s.now)))
       node entry is free (
-        subst (λ k. IsEntryOf n (linked k node) entry) now here.0,
+        ap (λ e. Plain (Found e)) (here.0 ∙ ap (λ k. entry_of n (linked k node)) now),
         here.1 ∙ ap (λ k. with_node t n (linked k node)) now
             ∙ sym (ap (changed t n (linked s.now)) found),
       )
@@ -132,10 +178,10 @@ module _ (s : State) (n parent : ℕ) (name : List ℕ) (entry : Entry) (last : 
   pub linked_ends : (o : Option Node) (child : Child) (named : State) → node_at s n ≡ o
       → IfSome o (λ node. child ≡ record { node = n; kind = node.kind })
       → refusal_of o (link_refusal s parent name) ≡ None
-      → named ≡ with_names s parent (λ c. with_child c name child)
+      → named ≡ lead s parent name false (Some child)
       → let t = record named { inodes = named.inodes + 1 } in
       IsCounted t (node_at t n)
-      → Ends s (links s n parent name) (Plain (Found entry)) last
+      → Ends s links (Plain (Found entry)) last
   linked_ends None child named is same free step counts = cc free
   linked_ends (Some node) child named is same free step counts =
       ends node is free

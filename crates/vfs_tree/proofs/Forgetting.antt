@@ -1,13 +1,13 @@
 -- Lookups of many nodes, taken back one after another.
 use Rattle.std.proofs.Common.{◌≡◌, ◌<◌, ◌+◌, ℕ, suc, List, length, drop, get_or, sym, ap, ◌∙◌, add-one}
 use Rattle.std.proofs.Math.Seq.{drop-cons}
-use Rattle.vfs_tree.specs.State.{State, node_at}
+use Rattle.vfs_tree.specs.State.{State}
 use Rattle.vfs_tree.specs.Tree.{forgotten, all_forgotten}
 
 -- one more is taken back, and the others are left
 pub forgotten_more : (s next all : State) (xs : List (ℕ × ℕ)) (i : ℕ) (d : ℕ × ℕ)
     → i < length xs
-    → next ≡ forgotten s (get_or xs i d).0 (get_or xs i d).1 (node_at s (get_or xs i d).0)
+    → next ≡ forgotten s (get_or xs i d).0 (get_or xs i d).1
     → all_forgotten s (drop i xs) ≡ all
     → all_forgotten next (drop (i + 1) xs) ≡ all
 forgotten_more s next all xs i d within step so_far =

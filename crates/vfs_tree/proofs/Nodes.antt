@@ -4,10 +4,11 @@ use Rattle.std.proofs.lemmas.Cmp.{nat_cmp_total}
 use Rattle.std.proofs.lemmas.Map.Lookups.{exact_unsigned}
 use Rattle.std.specs.BTreeMap.{insert_entry, is_at}
 use Rattle.std.specs.Map.{lookup, remove_entry}
+use Rattle.std.specs.Option.{option_map_or}
 use Rattle.vfs_nodes.specs.Children.{Children}
 use Rattle.vfs_nodes.specs.declared.node.Node.{Node}
-use Rattle.vfs_tree.specs.Rename.{is_directory_at}
-use Rattle.vfs_tree.specs.State.{State, node_at, with_node, with_new, without_node, changed, change, with_names}
+use Rattle.vfs_tree.specs.Naming.{is_directory_at}
+use Rattle.vfs_tree.specs.State.{State, node_at, with_node, with_new, without_node, change, with_names}
 use Rattle.vfs_tree.proofs.Entries.{lookup-set_value_none, lookup-set_value_apart, lookup-remove_entry_apart, lookup-set_value_here, lookup-insert_entry, lookup-insert_entry_apart, remove_entry-insert_entry}
 
 -- ---- numbers
@@ -67,6 +68,10 @@ module _ (s : State) (m : ℕ) (node : Node) where
   pub node_at-with_new_other : m ≢ s.next → node_at (with_new s node) m ≡ node_at s m
   node_at-with_new_other apart =
       lookup-insert_entry_apart nat_cmp_total s.next node m (is_at_other m s.next apart) s.nodes
+
+-- what a change leaves, by the node that it finds
+abbrev pub changed : State → (number : ℕ) → (Node → Node) → Option Node → State
+changed s n f o = option_map_or (λ node. with_node s n (f node)) o s
 
 -- what is found at another number than that of the node that is changed
 changed_other : (s : State) (n m : ℕ) (f : Node → Node) (o : Option Node) → m ≢ n

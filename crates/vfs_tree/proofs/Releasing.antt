@@ -1,6 +1,7 @@
 -- Lookups of all nodes, taken back one node after another.
 use Rattle.std.proofs.Common.{◌≡◌, ◌<◌, ◌≤◌, ◌+◌, ◌-◌, ◌==◌, ◌&&◌, if◌then◌else◌, ℕ, true, false, cond, nat_lt, List, [], ◌∷◌, length, map, Option, Some, None, MatchOption, Less, Equal, Greater, is_lt, refl, sym, ap, ◌∙◌, subst, arith, nat_cmp, ⊎_elim}
 use Rattle.std.specs.List.{AllByRecursion}
+use Rattle.std.specs.Option.{option_map_or}
 use Rattle.std.specs.List.Sorted.{IsStrictlySortedBy}
 use Rattle.std.specs.Ordering.{MatchOrdering}
 use Rattle.std.specs.Cmp.{ranks}
@@ -13,7 +14,7 @@ use Rattle.std.proofs.lemmas.Bool.{cases_Bool, cond-true, cond-false, ltb-true, 
 use Rattle.std.proofs.lemmas.Map.Keys.{sorted_head, sorted_tail}
 use Rattle.vfs_nodes.specs.declared.node.Node.{Node}
 use Rattle.vfs_tree.specs.State.{State, behind, node_at, settled, with_node, without_node}
-use Rattle.vfs_tree.specs.Tree.{forgotten, all_forgotten, held_of, released}
+use Rattle.vfs_tree.specs.Tree.{forgotten, all_forgotten, released}
 use Rattle.vfs_tree.proofs.Nodes.{is_at_same}
 
 -- ---- numbers
@@ -200,11 +201,20 @@ behind-settled s n node =
     ≡ behind (Some n) s.nodes)
     [ true ↦ behind-remove_entry n s.nodes | false ↦ behind-set_value n s.nodes node ]
 
-behind-forgotten : (s : State) (n count : ℕ) (o : Option Node)
-    → behind (Some n) (forgotten s n count o).nodes ≡ behind (Some n) s.nodes
-behind-forgotten s n count None = refl
-behind-forgotten s n count (Some node) =
-    behind-settled s n (record node { lookups = node.lookups - count })
+behind-forgotten : (s : State) (n count : ℕ)
+    → behind (Some n) (forgotten s n count).nodes ≡ behind (Some n) s.nodes
+behind-forgotten s n count = by (node_at s n)
+  where
+    by : (o : Option Node)
+        → behind (Some n) (option_map_or
+        (λ (node : Node). settled s n (record node { lookups = node.lookups - count })) o s).nodes
+        ≡ behind (Some n) s.nodes
+    by None = refl
+    by (Some node) = behind-settled s n (record node { lookups = node.lookups - count })
+
+-- the lookups of these nodes
+abbrev pub held_of : List (ℕ × Node) → List (ℕ × ℕ)
+held_of nodes = map (λ e. (e.0, e.1.lookups)) nodes
 
 -- ---- the loop
 
@@ -216,18 +226,18 @@ pub record IsLeft (first s : State) (at : Option ℕ) : Type 0 where
 pub done_more : (first s next : State) (at : Option ℕ) (n count : ℕ) (node : Node)
     → IsLeft first s at → count ≡ node.lookups
     → behind at s.nodes ≡ (n, node) ∷ behind (Some n) s.nodes
-    → next ≡ forgotten s n count (node_at s n)
+    → next ≡ forgotten s n count
     → IsLeft first next (Some n)
     × (length (behind (Some n) next.nodes) + 1 ≡ length (behind at s.nodes))
 done_more first s next at n count node left counted is step =
     let same : behind (Some n) next.nodes ≡ behind (Some n) s.nodes =
-    ap (λ (t : State). behind (Some n) t.nodes) step ∙ behind-forgotten s n count (node_at s n) in
-    let went : forgotten s n count (node_at s n) ≡ next = sym step in (
+    ap (λ (t : State). behind (Some n) t.nodes) step ∙ behind-forgotten s n count in
+    let went : forgotten s n count ≡ next = sym step in (
       record {
         rest =
             ap (λ es. all_forgotten next (held_of es)) same
             ∙ ap (λ (t : State). all_forgotten t (held_of (behind (Some n) s.nodes))) step
-            ∙ ap (λ c. all_forgotten (forgotten s n c (node_at s n))
+            ∙ ap (λ c. all_forgotten (forgotten s n c)
             (held_of (behind (Some n) s.nodes))) counted
             ∙ sym (ap (λ es. all_forgotten s (held_of es)) is) ∙ left.rest;
       },

@@ -1,10 +1,11 @@
 -- The state of the file system: its nodes by number.
-use Rattle.std.specs.Prelude.{ℕ, ◌+◌, ◌-◌, ◌==◌, ◌&&◌, nat_lt, min, Bool, List, length, Option, Some, None, if◌then◌else◌}
+use Rattle.std.specs.Prelude.{ℕ, ◌+◌, ◌-◌, ◌==◌, ◌&&◌, nat_lt, min, Bool, List, Option, Some, None, option_and_then, if◌then◌else◌}
+use Rattle.std.specs.Option.{option_map_or}
 use Rattle.std.specs.List.{filter}
 use Rattle.std.specs.Ordering.{nat_cmp}
 use Rattle.std.specs.Map.{lookup, set_value, remove_entry}
 use Rattle.std.specs.BTreeMap.{insert_entry, is_at}
-use Rattle.vfs_nodes.specs.Children.{Children, child_named}
+use Rattle.vfs_nodes.specs.Children.{Children, child_named, leading}
 use Rattle.vfs_nodes.specs.Node.{weight}
 use Rattle.vfs_nodes.specs.declared.children.Child.{Child}
 use Rattle.vfs_nodes.specs.declared.node.Node.{Node}
@@ -34,10 +35,6 @@ abbrev pub behind : (number : Option ℕ) → List (ℕ × Node) → List (ℕ �
 behind None nodes = nodes
 behind (Some n) nodes = filter (λ e. nat_lt n e.0) nodes
 
--- how many nodes there are
-abbrev pub count_of : State → ℕ
-count_of s = length s.nodes
-
 -- how many more bytes the nodes may take
 abbrev pub room_of : State → ℕ
 room_of s = s.limits.bytes - s.used
@@ -46,14 +43,10 @@ room_of s = s.limits.bytes - s.used
 abbrev pub with_node : State → (number : ℕ) → Node → State
 with_node s n node = record s { nodes = set_value (is_at (nat_cmp n)) s.nodes node }
 
--- so many bytes, where one node took some and takes others now
-abbrev pub reweighed : (used before after : ℕ) → ℕ
-reweighed used before after = used + (after - before) - (before - after)
-
 -- the node of this number is this one, which may take more bytes or fewer
 abbrev pub with_resized : State → (number : ℕ) → (old new : Node) → State
 with_resized s n old new =
-    record (with_node s n new) { used = reweighed s.used (weight old) (weight new) }
+    record (with_node s n new) { used = s.used + (weight new - weight old) - (weight old - weight new) }
 
 -- one node more, under the next number
 abbrev pub with_new : State → Node → State
@@ -78,37 +71,27 @@ settled s n node =
     if node.names == 0 && node.lookups == 0 then without_node s n node else with_node s n node
 
 -- a node is changed, where there is one
-abbrev pub changed : State → (number : ℕ) → (Node → Node) → Option Node → State
-changed s n change None = s
-changed s n change (Some node) = with_node s n (change node)
-
 abbrev pub change : State → (number : ℕ) → (Node → Node) → State
-change s n f = changed s n f (node_at s n)
+change s n f = option_map_or (λ node. with_node s n (f node)) (node_at s n) s
+
+-- one name less leads to a node; where it had a further one, that is counted no more
+abbrev pub unnamed : State → (number : ℕ) → State
+unnamed s n =
+    option_map_or (λ node. settled (record s { inodes = s.inodes - min (node.names - 1) 1 }) n
+    (record node { names = node.names - 1; ctime = s.now })) (node_at s n) s
 
 -- the names of a directory are changed, now
 abbrev pub with_names : State → (directory : ℕ) → (Children → Children) → State
-with_names s n f =
-    change s n (λ node. record node { children = f node.children; mtime = s.now; ctime = s.now })
+with_names s d f =
+    change s d (λ node. record node { children = f node.children; mtime = s.now; ctime = s.now })
 
--- one name less leads to a node; where it had a further one, that is counted no more
-abbrev pub unnamed : State → (number : ℕ) → Option Node → State
-unnamed s n None = s
-unnamed s n (Some node) =
-    settled (record s { inodes = s.inodes - min (node.names - 1) 1 }) n
-    (record node { names = node.names - 1; ctime = s.now })
+-- a name of a directory, which is there or not, leads to a node from now on, or nowhere
+abbrev pub lead : State → (directory : ℕ) → (name : List ℕ) → (is_there : Bool) → Option Child → State
+lead s d name is_there child = with_names s d (leading name is_there child)
 
 -- where a name of a node leads
-abbrev pub child_of : Option Node → (name : List ℕ) → Option Child
-child_of None name = None
-child_of (Some node) name = child_named node.children name
+abbrev pub child_at : State → (parent : ℕ) → (name : List ℕ) → Option Child
+child_at s parent name = option_and_then (λ node. child_named node.children name) (node_at s parent)
 
 abbrev pub node_of : State → Option Child → Option Node
-node_of s None = None
-node_of s (Some child) = node_at s child.node
-
-abbrev pub child_at : State → (parent : ℕ) → (name : List ℕ) → Option Child
-child_at s parent name = child_of (node_at s parent) name
-
--- the node that a name of a directory leads to
-abbrev pub node_named : State → (parent : ℕ) → (name : List ℕ) → Option Node
-node_named s parent name = node_of s (child_at s parent name)
+node_of s child = option_and_then (λ c. node_at s c.node) child

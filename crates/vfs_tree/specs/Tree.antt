@@ -1,38 +1,34 @@
 -- How each call ends.
-use Rattle.std.specs.Prelude.{ℕ, ◌==◌, ◌+◌, ◌-◌, ◌*◌, ◌/◌, ◌^◌, ◌||◌, ◌&&◌, nat_eq, nat_le, nat_lt, not, min, Bool, true, false, List, [], ◌∷◌, length, map, take, codes, bit_and, bit_or, Option, Some, None, is_some, is_none, if◌then◌else◌}
+use Rattle.std.specs.Prelude.{ℕ, ◌==◌, ◌+◌, ◌-◌, ◌*◌, ◌/◌, ◌^◌, ◌||◌, ◌&&◌, nat_eq, nat_le, nat_lt, not, min, Bool, true, false, List, [], ◌∷◌, length, map, fold, take, codes, bit_and, Option, Some, None, is_some, is_none, if◌then◌else◌}
 use Rattle.std.specs.List.{list_any, starts_with}
-use Rattle.std.specs.Option.{unwrap_or}
+use Rattle.std.specs.Option.{option_map_or, option_or, unwrap_or}
 use Rattle.std.specs.Str.{bytes_eq}
 use Rattle.vfs_flags.specs.Numbers.{eperm, enoent, eexist, enotdir, eisdir, einval, enospc, erange, enotempty, enodata, enosys, eoverflow, eopnotsupp}
 use Rattle.vfs_wire.specs.declared.attributes.SetattrIn.{SetattrIn}
 use Rattle.vfs_wire.specs.declared.stat.Statvfs64.{Statvfs64}
 use Rattle.vfs_files.specs.declared.entry.Context.{Context}
+use Rattle.vfs_files.specs.declared.entry.Entry.{Entry}
 use Rattle.vfs_files.specs.Values.{Item}
 use Rattle.vfs_files.specs.Bytes.{part_of, most_put, fitting}
-use Rattle.vfs_files.specs.Calls.{Call, Init, Lookup, Forget, BatchForget, Getattr, Setattr, Symlink, Readlink, Open, Unlink, Rmdir, Rename, Link, Mknod, Mkdir, Create, Read, Write, Fallocate, Lseek, Statfs, Readdir, Setxattr, Getxattr, Listxattr, Removexattr, Opendir, Fsync, Release, Fsyncdir, Releasedir, Destroy, Answer, Options, Opened, Text, Count, Put, Wrote, Done, Offset, Statistics, Handed, default_answer}
+use Rattle.vfs_files.specs.Calls.{Call, Init, Lookup, Forget, BatchForget, Getattr, Setattr, Symlink, Readlink, Open, Unlink, Rmdir, Rename, Link, Mknod, Mkdir, Create, Read, Write, Fallocate, Lseek, Statfs, Readdir, Setxattr, Getxattr, Listxattr, Removexattr, Opendir, Fsync, Release, Fsyncdir, Releasedir, Destroy, Answer, Options, Found, Created, Attributes, Opened, Text, Count, Put, Wrote, Done, Offset, Statistics, Handed, Plain, Iterator, default_answer}
 use Rattle.vfs_contents.specs.Pages.{reach}
 use Rattle.vfs_contents.specs.Contents.{fallocated, data_from, hole_from, lacking, pages_over}
-use Rattle.vfs_nodes.specs.Children.{with_child, without_child, is_directory, is_file, is_link}
+use Rattle.vfs_nodes.specs.Children.{is_directory, is_file, is_link}
 use Rattle.vfs_nodes.specs.Listing.{items_behind}
-use Rattle.vfs_nodes.specs.Node.{kind_by_mode, new_node, set_attr, rewritten, accessed, truncates, opened, overwritten}
+use Rattle.vfs_nodes.specs.Node.{attr_of, lasting, entry_of, kind_by_mode, new_node, set_attr, rewritten, truncates, opened, overwritten, accessed}
 use Rattle.vfs_nodes.specs.Xattrs.{Xattr, xattr_named, xattr_bytes, with_xattr, without_xattr, name_list}
 use Rattle.vfs_nodes.specs.declared.children.Child.{Child}
 use Rattle.vfs_nodes.specs.declared.kind.Kind.{Kind}
 use Rattle.vfs_nodes.specs.declared.kind.Kind.TheVariants as kind
 use Rattle.vfs_nodes.specs.declared.node.Node.{Node}
 use Rattle.vfs_nodes.specs.declared.node.Time.{Time}
-use Rattle.vfs_tree.specs.Outcome.{Just, EntryOf, AttrOf, Listed, Outcome, Refused, Answered, Tried, Ends, done, first_of, or_else, unless, with_it, on}
-use Rattle.vfs_tree.specs.Rename.{directory_refusal, is_improper, is_nameless, is_crowded, renames}
-use Rattle.vfs_tree.specs.State.{State, node_at, room_of, with_node, with_resized, with_new, settled, change, with_names, unnamed, child_at, node_named}
+use Rattle.vfs_tree.specs.Naming.{directory_refusal, is_crowded, name_refusal, has_no_number, new_in}
+use Rattle.vfs_tree.specs.Outcome.{Outcome, Refused, Answered, Tried, Ends, done, first_of, unless, with_it, on}
+use Rattle.vfs_tree.specs.Rename.{renames}
+use Rattle.vfs_tree.specs.State.{State, node_at, room_of, with_node, with_resized, with_new, settled, change, lead, unnamed, child_at}
 use Rattle.vfs_tree.specs.declared.fs.Capacity.{Capacity}
 
--- the most bytes that a node's extended attributes take, and the most names that lead to a file
-abbrev pub most_xattr_bytes : ℕ
-most_xattr_bytes = 65536
-
-abbrev pub most_links : ℕ
-most_links = 65000
-
+-- numbers of errors
 abbrev pub efbig : ℕ
 efbig = 27
 
@@ -67,96 +63,49 @@ first_state uid gid permissions limits writeback now = record {
 -- ---- LOOKUP, FORGET
 
 -- what is done with the node that a name leads to
-abbrev pub found : Option Child → Option Node → (Child → Node → Outcome) → Outcome
-found (Some child) (Some node) outcome = outcome child node
-found _ _ outcome = Refused enoent
-
 abbrev pub at_name : State → (parent : ℕ) → (name : List ℕ) → (Child → Node → Outcome) → Outcome
 at_name s parent name outcome =
     unless (directory_refusal (node_at s parent) name)
-    (found (child_at s parent name) (node_named s parent name) outcome)
+    (with_it (child_at s parent name) (λ child. with_it (node_at s child.node) (outcome child)))
 
 -- lookups of a node are taken back
-abbrev pub forgotten : State → (number count : ℕ) → Option Node → State
-forgotten s n count None = s
-forgotten s n count (Some node) = settled s n (record node { lookups = node.lookups - count })
+abbrev pub forgotten : State → (number count : ℕ) → State
+forgotten s n count =
+    option_map_or (λ node. settled s n (record node { lookups = node.lookups - count })) (node_at s n) s
 
 -- lookups of many nodes, in order
 abbrev pub all_forgotten : State → List (ℕ × ℕ) → State
-all_forgotten s [] = s
-all_forgotten s (r ∷ rs) = all_forgotten (forgotten s r.0 r.1 (node_at s r.0)) rs
+all_forgotten s requests = fold (λ t r. forgotten t r.0 r.1) s requests
 
 -- every lookup that is held: of a client that has gone away, or a new one that has none yet
-abbrev pub held_of : List (ℕ × Node) → List (ℕ × ℕ)
-held_of nodes = map (λ e. (e.0, e.1.lookups)) nodes
-
 abbrev pub released : State → State
-released s = all_forgotten s (held_of s.nodes)
+released s = all_forgotten s (map (λ e. (e.0, e.1.lookups)) s.nodes)
 
--- ---- MKDIR, MKNOD, CREATE, SYMLINK, LINK
-
--- whether there is no room for one node more with a text of so many bytes, or no place for it in its directory
-abbrev pub is_full : State → (above : Option Node) → (size : ℕ) → Bool
-is_full s above size =
-    nat_le s.limits.nodes s.inodes || s.next == 2 ^ 64 - 1 || is_crowded above
-    || nat_lt (room_of s) size
+-- ---- MKDIR, MKNOD, CREATE, SYMLINK, LINK, UNLINK, RMDIR
 
 -- why nothing of this name, with a text of so many bytes, can be made in this directory
 abbrev pub make_refusal : State → (parent : ℕ) → (name : List ℕ) → (size : ℕ) → Option ℕ
 make_refusal s parent name size =
-    or_else (directory_refusal (node_at s parent) name)
-    (first_of ((is_nameless (node_at s parent), enoent)
-    ∷ (is_improper name, einval)
-    ∷ (is_some (child_at s parent name), eexist)
-    ∷ (is_full s (node_at s parent) size, enospc) ∷ []))
+    option_or (name_refusal s parent name)
+    (first_of ((has_no_number s || is_crowded (node_at s parent), enospc)
+    ∷ (nat_lt (room_of s) size, enospc) ∷ []))
 
--- whether a directory hands its group to what is made in it
-abbrev pub hands_group : Node → Bool
-hands_group node = bit_and node.permissions 0o2000 == 0o2000
-
--- the group of what is made in a directory by this group
-abbrev pub group_in : (above : Option Node) → (gid : ℕ) → ℕ
-group_in None gid = gid
-group_in (Some node) gid = if hands_group node then node.gid else gid
-
--- the permission bits of what is made in it: a directory hands its group down in turn
-abbrev pub permissions_in : (above : Option Node) → Kind → (permissions : ℕ) → ℕ
-permissions_in None kind permissions = permissions
-permissions_in (Some node) kind permissions =
-    if hands_group node && is_directory kind then bit_or permissions 0o2000 else permissions
-
--- a node is there under the next number, and a name that leads to it
-abbrev pub made : State → (parent : ℕ) → (name : List ℕ) → Node → State
-made s parent name node =
-    with_names (with_new s node) parent
-    (λ c. with_child c name (record { node = s.next; kind = node.kind }))
-
--- a node of this kind is made, or refused
+-- a node of this kind is made under the next number, and its entry told so; or that is refused
 abbrev pub makes :
-    State → Context → Kind → (permissions parent : ℕ) → (name text : List ℕ) → Outcome
-makes s ctx kind permissions parent name text =
-    let above = node_at s parent in
-    let node = new_node s.now ctx.uid (group_in above ctx.gid) kind
-    (permissions_in above kind permissions) parent text in
+    State → Context → (Entry → Answer) → Kind → (permissions parent : ℕ) → (name text : List ℕ) → Outcome
+makes s ctx told kind permissions parent name text =
+    let node = new_in s ctx kind permissions parent text in
     unless (make_refusal s parent name (length text))
-    (Tried true (EntryOf s.next node) (made s parent name node))
+    (Tried true (Plain (told (entry_of s.next node)))
+    (lead (with_new s node) parent name false (Some (record { node = s.next; kind = kind }))))
 
--- a node of this kind is, or there is none that MKNOD makes
-abbrev pub makes_kind :
-    State → Context → Option Kind → (permissions parent : ℕ) → (name : List ℕ) → Outcome
-makes_kind s ctx None permissions parent name = Refused eperm
-makes_kind s ctx (Some kind) permissions parent name = makes s ctx kind permissions parent name []
-
--- why no further name can lead to a node
+-- why no further name can lead to a node: not to a directory, nor to a file with 65000 names
 abbrev pub link_refusal : State → (parent : ℕ) → (name : List ℕ) → Node → Option ℕ
 link_refusal s parent name node =
-    or_else (directory_refusal (node_at s parent) name)
-    (first_of ((is_nameless (node_at s parent), enoent)
-    ∷ (is_improper name, einval)
-    ∷ (is_some (child_at s parent name), eexist)
-    ∷ (is_directory node.kind, eperm)
+    option_or (name_refusal s parent name)
+    (first_of ((is_directory node.kind, eperm)
     ∷ (node.names == 0, enoent)
-    ∷ (nat_le most_links node.names, emlink)
+    ∷ (nat_le 65000 node.names, emlink)
     ∷ (node.lookups == 2 ^ 64 - 1, eoverflow)
     ∷ (nat_le s.limits.nodes s.inodes || is_crowded (node_at s parent), enospc) ∷ []))
 
@@ -165,18 +114,9 @@ abbrev pub linked : (now : Time) → Node → Node
 linked now node =
     record node { names = node.names + 1; lookups = node.lookups + 1; ctime = now }
 
-abbrev pub links : State → (number parent : ℕ) → (name : List ℕ) → Outcome
-links s n parent name = on (node_at s n) (link_refusal s parent name) (λ node.
-    let child : Child = record { node = n; kind = node.kind } in
-    let named = with_names s parent (λ c. with_child c name child) in
-    Tried true (EntryOf n (linked s.now node))
-    (change (record named { inodes = named.inodes + 1 }) n (linked s.now)))
-
 -- a name is taken out of a directory, and one name less leads to its node
 abbrev pub taken_out : State → (parent : ℕ) → (name : List ℕ) → Child → State
-taken_out s parent name child =
-    let rest = with_names s parent (λ c. without_child c name) in
-    unnamed rest child.node (node_at rest child.node)
+taken_out s parent name child = unnamed (lead s parent name true None) child.node
 
 -- ---- SETATTR, OPEN, FALLOCATE, READ, WRITE
 
@@ -188,18 +128,6 @@ contents_refusal node =
 -- how many bytes a file may have: a signed number of 64 bits counts them
 abbrev pub longest : State → ℕ
 longest s = min s.limits.file (2 ^ 63 - 1)
-
-abbrev pub setattr_refusal : State → SetattrIn → (valid : ℕ) → Node → Option ℕ
-setattr_refusal s attr valid node =
-    if bit_and valid 8 == 8
-    then or_else (contents_refusal node) (first_of ((nat_lt (longest s) attr.size, efbig) ∷ []))
-    else None
-
--- so SETATTR does, or it is refused; a longer file takes no more memory
-abbrev pub sets_attr : State → (number : ℕ) → SetattrIn → (handle : Option ℕ) → (valid : ℕ) → Outcome
-sets_attr s n attr handle valid = on (node_at s n) (setattr_refusal s attr valid) (λ node.
-    let set = set_attr s.now node attr handle valid in
-    Answered (AttrOf n set) (with_resized s n node set))
 
 -- how an OPEN is answered: what the client keeps of the bytes stays true, unless they were taken
 abbrev pub opening : Node → (flags : ℕ) → Answer
@@ -221,110 +149,34 @@ fallocate_refusal s mode off len node =
     ∷ (nat_lt (longest s) (off + len), efbig)
     ∷ (not (mode == 3) && nat_lt (most_size s off len node) (off + len), enospc) ∷ [])
 
--- a file loses its capabilities by it, and memory is needed where its pages are not all held
-abbrev pub fallocates : State → (number mode off len : ℕ) → Outcome
-fallocates s n mode off len = on (node_at s n) (fallocate_refusal s mode off len) (λ node.
-    let new = rewritten s.now true false node (fallocated mode off len node.contents) in
-    Tried (not (mode == 3) && nat_lt 0 (lacking node.contents off len)) (Just Done)
-    (with_resized s n node new))
-
--- LSEEK looks for data (SEEK_DATA, 3) or a hole (SEEK_HOLE, 4) of a file, from a place before its end on. What
--- a client has yet to write would be taken for a hole: one that writes later is to look itself
-abbrev pub seeks : State → (number off whence : ℕ) → Outcome
-seeks s n off whence = unless (first_of ((s.writeback, enosys) ∷ [])) (with_it (node_at s n) (λ node.
-    let at = if whence == 4 then Some (hole_from node.contents off)
-    else data_from node.contents off in
-    unless (first_of ((not (is_file node.kind) || not (whence == 3 || whence == 4), einval)
-    ∷ (nat_le (length node.contents.bytes) off || is_none at, enxio) ∷ []))
-    (Answered (Just (Offset (unwrap_or at 0))) s)))
-
--- why not one of so many bytes can be written from off on
-abbrev pub write_refusal : State → (off size : ℕ) → Node → Option ℕ
-write_refusal s off size node =
-    or_else (contents_refusal node)
-    (first_of ((nat_lt 0 size && nat_le (longest s) off, efbig)
-    ∷ (nat_lt 0 size && nat_le (most_size s off size node) off, enospc) ∷ []))
-
--- of these bytes those are written that fit; memory is needed where their pages are not all held
-abbrev pub writes :
-    State → (number : ℕ) → (delayed kill : Bool) → (off size : ℕ) → List ℕ → Node → Outcome
-writes s n delayed kill off size bytes node =
-    let fit = fitting (most_size s off size node) off (take size bytes) in
-    Tried (nat_lt 0 (length fit) && nat_lt 0 (lacking node.contents off (length fit)))
-    (Just (Wrote (length fit)))
-    (with_resized s n node (overwritten s.now delayed kill node off fit))
-
 -- ---- READLINK, READDIR, STATFS
 
 -- whether a node has no text that could be answered
 abbrev pub has_no_text : Node → Bool
 has_no_text node = not (is_link node.kind) || nat_lt (2 ^ 32 - 17) (length node.text)
 
--- what the file system holds, in blocks of 4096 bytes, and how much more it may
-abbrev pub statistics_of : State → Statvfs64
-statistics_of s = record {
-  f_bsize = 4096;
-  f_frsize = 4096;
-  f_blocks = s.limits.bytes / 4096;
-  f_bfree = room_of s / 4096;
-  f_bavail = room_of s / 4096;
-  f_files = s.limits.nodes;
-  f_ffree = s.limits.nodes - s.inodes;
-  f_namemax = 255;
-}
-
 -- ---- SETXATTR, GETXATTR, LISTXATTR, REMOVEXATTR
 
--- whether an attribute's name is of a namespace that is kept
-abbrev pub is_kept : (name : List ℕ) → Bool
-is_kept name =
-    starts_with nat_eq name (codes "user.") || starts_with nat_eq name (codes "trusted.")
-    || starts_with nat_eq name (codes "security.")
+-- the namespaces of attributes that are kept. Access control lists are of another: they would have to be obeyed
+abbrev pub namespaces : List (List ℕ)
+namespaces = codes "user." ∷ codes "trusted." ∷ codes "security." ∷ []
 
--- whether it says nothing within it
-abbrev pub is_bare : (name : List ℕ) → Bool
-is_bare name =
-    bytes_eq name (codes "user.") || bytes_eq name (codes "trusted.")
-    || bytes_eq name (codes "security.")
-
--- why there can be no attribute of this name; access control lists are such, which would have to be obeyed
+-- why there can be no attribute of this name: it is of no such namespace, or says nothing within it
 abbrev pub namespace_refusal : (name : List ℕ) → Option ℕ
-namespace_refusal name = first_of ((not (is_kept name), eopnotsupp) ∷ (is_bare name, einval) ∷ [])
+namespace_refusal name =
+    first_of ((not (list_any (starts_with nat_eq name) namespaces), eopnotsupp)
+    ∷ (list_any (bytes_eq name) namespaces, einval) ∷ [])
 
-abbrev pub setxattr_refusal : State → (name value : List ℕ) → (flags : ℕ) → Node → Option ℕ
-setxattr_refusal s name value flags node =
-    let old = xattr_named node.xattrs name in
-    let bytes = xattr_bytes (with_xattr node.xattrs name value) in
-    or_else (namespace_refusal name)
-    (first_of ((bit_and flags 1 == 1 && is_some old, eexist)
-    ∷ (bit_and flags 2 == 2 && is_none old, enodata)
-    ∷ (
-      nat_lt most_xattr_bytes bytes || nat_lt (room_of s) (bytes - xattr_bytes node.xattrs),
-      enospc,
-    )
-    ∷ []))
-
+-- a node with other attributes, of which it has 65536 bytes at most
 abbrev pub with_xattrs : (now : Time) → Node → List Xattr → Node
 with_xattrs now node xattrs = record node { xattrs = xattrs; ctime = now }
-
-abbrev pub sets_xattr : State → (number : ℕ) → (name value : List ℕ) → (flags : ℕ) → Outcome
-sets_xattr s n name value flags = on (node_at s n) (setxattr_refusal s name value flags) (λ node.
-    let set = with_xattrs s.now node (with_xattr node.xattrs name value) in
-    Tried true (Just Done) (with_resized s n node set))
-
-abbrev pub removes_xattr : State → (number : ℕ) → (name : List ℕ) → Outcome
-removes_xattr s n name = with_it (node_at s n) (λ node.
-    unless
-    (or_else (namespace_refusal name)
-    (first_of ((is_none (xattr_named node.xattrs name), enodata) ∷ [])))
-    (done (with_resized s n node (with_xattrs s.now node (without_xattr node.xattrs name)))))
 
 -- a text is answered to one who has place for so many bytes, or its length to one who has none
 abbrev pub tells : State → (size : ℕ) → Option (List ℕ) → Outcome
 tells s size None = Refused enodata
 tells s size (Some text) =
-    if size == 0 then Answered (Just (Count (length text))) s
-    else unless (first_of ((nat_lt size (length text), erange) ∷ [])) (Tried true (Just (Text text)) s)
+    if size == 0 then Answered (Plain (Count (length text))) s
+    else unless (first_of ((nat_lt size (length text), erange) ∷ [])) (Tried true (Plain (Text text)) s)
 
 -- ---- the table
 
@@ -340,29 +192,41 @@ wanted_options writeback offered =
     0x11006000 + (if writeback then 0x10000 else 0) + (if opens_nothing offered then 0x20000 else 0)
 
 -- how a call ends; what has no line has its default answer, and everything stays. What a client reads of a
--- directory it keeps (CACHE_DIR, KEEP_CACHE): nobody else changes it
+-- directory it keeps (CACHE_DIR, KEEP_CACHE): nobody else changes it. LSEEK looks for data (SEEK_DATA, 3) or a
+-- hole (SEEK_HOLE, 4); what a client has yet to write would be taken for a hole, so one that writes later is to
+-- look itself. Where a file's size or pages change, it loses its capabilities
 abbrev pub outcome : State → Call → Outcome
 outcome s (Init offered) =
-    Answered (Just (Options (wanted_options s.writeback offered)))
+    Answered (Plain (Options (wanted_options s.writeback offered)))
     (record (released s) { offered = offered })
 outcome s Destroy = done (released s)
 outcome s (Lookup _ parent name) = at_name s parent name (λ child node.
     unless (first_of ((node.lookups == 2 ^ 64 - 1, eoverflow) ∷ []))
-    (Answered (EntryOf child.node node)
+    (Answered (Plain (Found (entry_of child.node node)))
     (with_node s child.node (record node { lookups = node.lookups + 1 }))))
-outcome s (Forget _ n count) = done (forgotten s n count (node_at s n))
+outcome s (Forget _ n count) = done (forgotten s n count)
 outcome s (BatchForget _ requests) = done (all_forgotten s requests)
-outcome s (Getattr _ n _) = with_it (node_at s n) (λ node. Answered (AttrOf n node) s)
-outcome s (Setattr _ n attr handle valid) =
-    sets_attr s n attr (if opens_nothing s.offered && attr.size == 0 then Some 0 else handle) valid
-outcome s (Mkdir ctx parent name mode _ _) = makes s ctx kind.Directory mode parent name []
+outcome s (Getattr _ n _) =
+    with_it (node_at s n) (λ node. Answered (Plain (Attributes (attr_of n node) (lasting node))) s)
+outcome s (Setattr _ n attr handle valid) = with_it (node_at s n) (λ node.
+    let by = if opens_nothing s.offered && attr.size == 0 then Some 0 else handle in
+    let set = set_attr s.now node attr by valid in
+    unless (if bit_and valid 8 == 8
+    then option_or (contents_refusal node) (first_of ((nat_lt (longest s) attr.size, efbig) ∷ []))
+    else None)
+    (Answered (Plain (Attributes (attr_of n set) (lasting set))) (with_resized s n node set)))
+outcome s (Mkdir ctx parent name mode _ _) = makes s ctx Found kind.Directory mode parent name []
 outcome s (Mknod ctx parent name mode device _ _) =
-    makes_kind s ctx (kind_by_mode mode device) mode parent name
+    option_map_or (λ kind. makes s ctx Found kind mode parent name []) (kind_by_mode mode device)
+    (Refused eperm)
 outcome s (Create ctx parent name mode _ _ _ _) =
-    unless (first_of ((opens_nothing s.offered, enosys) ∷ []))
-    (makes s ctx kind.File mode parent name [])
-outcome s (Symlink ctx text parent name _) = makes s ctx kind.Link 0o777 parent name text
-outcome s (Link _ n parent name) = links s n parent name
+    if opens_nothing s.offered then Refused enosys
+    else makes s ctx (λ entry. Created entry None 0) kind.File mode parent name []
+outcome s (Symlink ctx text parent name _) = makes s ctx Found kind.Link 0o777 parent name text
+outcome s (Link _ n parent name) = on (node_at s n) (link_refusal s parent name) (λ node.
+    let named = lead s parent name false (Some (record { node = n; kind = node.kind })) in
+    Tried true (Plain (Found (entry_of n (linked s.now node))))
+    (change (record named { inodes = named.inodes + 1 }) n (linked s.now)))
 outcome s (Unlink _ parent name) = at_name s parent name (λ child node.
     unless (first_of ((is_directory node.kind, eisdir) ∷ [])) (done (taken_out s parent name child)))
 outcome s (Rmdir _ parent name) = at_name s parent name (λ child node.
@@ -370,41 +234,76 @@ outcome s (Rmdir _ parent name) = at_name s parent name (λ child node.
     ∷ (not (length node.children.links == 0), enotempty) ∷ []))
     (done (taken_out s parent name child)))
 outcome s (Rename ctx od on nd nn flags) =
-    renames s ctx.uid (group_in (node_at s od) ctx.gid) od on nd nn flags
+    renames s ctx od on nd nn flags (child_at s nd nn) (child_at s od on)
 outcome s (Readlink _ n) = with_it (node_at s n) (λ node.
     unless (first_of ((has_no_text node, einval) ∷ []))
-    (Tried true (Just (Text node.text)) (with_node s n (accessed s.now node))))
+    (Tried true (Plain (Text node.text)) (with_node s n (accessed s.now node))))
 outcome s (Open ctx n kill flags) =
-    unless (first_of ((opens_nothing s.offered, enosys) ∷ [])) (with_it (node_at s n) (λ node.
-    Answered (Just (opening node flags))
-    (with_resized s n node (opened s.now ctx.uid kill node flags))))
+    if opens_nothing s.offered then Refused enosys else with_it (node_at s n) (λ node.
+    Answered (Plain (opening node flags))
+    (with_resized s n node (opened s.now ctx.uid kill node flags)))
 outcome s (Read _ n _ room size off _ _) =
     on (node_at s n) contents_refusal
-    (λ node. Answered (Just (Put (part_of node.contents.bytes off (most_put room size))))
+    (λ node. Answered (Plain (Put (part_of node.contents.bytes off (most_put room size))))
     (if size == 0 then s else with_node s n (accessed s.now node)))
-outcome s (Write _ n _ bytes size off _ delayed kill _) =
-    on (node_at s n) (write_refusal s off size) (writes s n delayed kill off size bytes)
-outcome s (Fallocate _ n _ mode off len) = fallocates s n mode off len
-outcome s (Lseek _ n _ off whence) = seeks s n off whence
-outcome s (Statfs _ _) = Answered (Just (Statistics (statistics_of s))) s
-outcome s (Setxattr _ n name value flags _) = sets_xattr s n name value flags
+outcome s (Write _ n _ bytes size off _ delayed kill _) = with_it (node_at s n) (λ node.
+    let most = most_size s off size node in
+    let fit = fitting most off (take size bytes) in
+    unless (option_or (contents_refusal node)
+    (first_of ((nat_lt 0 size && nat_le (longest s) off, efbig)
+    ∷ (nat_lt 0 size && nat_le most off, enospc) ∷ [])))
+    (Tried (nat_lt 0 (length fit) && nat_lt 0 (lacking node.contents off (length fit)))
+    (Plain (Wrote (length fit)))
+    (with_resized s n node (overwritten s.now delayed kill node off fit))))
+outcome s (Fallocate _ n _ mode off len) = on (node_at s n) (fallocate_refusal s mode off len) (λ node.
+    let new = rewritten s.now true false node (fallocated mode off len node.contents) in
+    Tried (not (mode == 3) && nat_lt 0 (lacking node.contents off len)) (Plain Done)
+    (with_resized s n node new))
+outcome s (Lseek _ n _ off whence) = if s.writeback then Refused enosys else with_it (node_at s n) (λ node.
+    let at = if whence == 4 then Some (hole_from node.contents off)
+    else data_from node.contents off in
+    unless (first_of ((not (is_file node.kind) || not (whence == 3 || whence == 4), einval)
+    ∷ (nat_le (length node.contents.bytes) off || is_none at, enxio) ∷ []))
+    (Answered (Plain (Offset (unwrap_or at 0))) s))
+outcome s (Statfs _ _) = Answered (Plain (Statistics (record {
+  f_bsize = 4096;
+  f_frsize = 4096;
+  f_blocks = s.limits.bytes / 4096;
+  f_bfree = room_of s / 4096;
+  f_bavail = room_of s / 4096;
+  f_files = s.limits.nodes;
+  f_ffree = s.limits.nodes - s.inodes;
+  f_namemax = 255;
+}))) s
+outcome s (Setxattr _ n name value flags _) = with_it (node_at s n) (λ node.
+    let old = xattr_named node.xattrs name in
+    let set = with_xattrs s.now node (with_xattr node.xattrs name value) in
+    unless (option_or (namespace_refusal name)
+    (first_of ((bit_and flags 1 == 1 && is_some old, eexist)
+    ∷ (bit_and flags 2 == 2 && is_none old, enodata)
+    ∷ (nat_lt 65536 (xattr_bytes set.xattrs), enospc)
+    ∷ (nat_lt (room_of s) (xattr_bytes set.xattrs - xattr_bytes node.xattrs), enospc) ∷ [])))
+    (Tried true (Plain Done) (with_resized s n node set)))
 outcome s (Getxattr _ n name size) =
     with_it (node_at s n) (λ node.
     unless (namespace_refusal name) (tells s size (xattr_named node.xattrs name)))
 outcome s (Listxattr _ n size) =
     with_it (node_at s n) (λ node. tells s size (Some (name_list node.xattrs)))
-outcome s (Removexattr _ n name) = removes_xattr s n name
+outcome s (Removexattr _ n name) = with_it (node_at s n) (λ node.
+    unless (option_or (namespace_refusal name)
+    (first_of ((is_none (xattr_named node.xattrs name), enodata) ∷ [])))
+    (done (with_resized s n node (with_xattrs s.now node (without_xattr node.xattrs name)))))
 outcome s (Readdir _ n _ size off) = with_it (node_at s n) (λ node.
     unless (first_of ((not (is_directory node.kind), enotdir) ∷ []))
-    (Tried true (Listed (items_behind n node off size)) (with_node s n (accessed s.now node))))
+    (Tried true (Iterator (items_behind n node off size)) (with_node s n (accessed s.now node))))
 outcome s (Opendir _ _ _) =
-    unless (first_of ((bit_and s.offered 0x1000000 == 0x1000000, enosys) ∷ []))
-    (Answered (Just (Opened None 10)) s)
+    if bit_and s.offered 0x1000000 == 0x1000000 then Refused enosys
+    else Answered (Plain (Opened None 10)) s
 outcome s (Fsync _ _ _ _) = done s
 outcome s (Release _ _ _ _ _ _ _) = done s
 outcome s (Fsyncdir _ _ _ _) = done s
 outcome s (Releasedir _ _ _ _) = done s
-outcome s call = Answered (Just (default_answer call)) s
+outcome s call = Answered (Plain (default_answer call)) s
 
 -- from the old state this call may hand this back and leave the new state
 abbrev pub TreeAllows : State → Call → Handed (List Item) → State → Type 0

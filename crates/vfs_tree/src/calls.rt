@@ -1,25 +1,35 @@
 //! The calls of the file system, in the trait's order. Those that are not served have their default
 //! answers.
 
-ghost use Rattle.std.specs.Prelude.{◌≡◌, ◌==◌, ◌&&◌, map, Some, if◌then◌else◌};
-ghost use Rattle.vfs_files.specs.Calls.{Plain, attr_answer};
+ghost use Rattle.std.specs.Prelude.{◌≡◌, map};
+ghost use Rattle.vfs_files.specs.Calls.{Plain, Getattr, Setattr, attr_answer};
 ghost use Rattle.vfs_flags.specs.Flags.{fs_options_bits, setattr_valid_bits};
-ghost use Rattle.vfs_tree.specs.Outcome.{Answered, AttrOf, Ends, with_it};
-ghost use Rattle.vfs_tree.specs.State.{node_at};
-ghost use Rattle.vfs_tree.specs.Tree.{all_forgotten, opens_nothing, sets_attr};
+ghost use Rattle.vfs_tree.specs.Tree.{TreeAllows, all_forgotten, opens_nothing};
 
-use crate::changes::{PAGE, check_contents};
+use crate::changes::{PAGE, check_contents, check_namespace, no_place, too_big};
 use crate::fs::TreeFs;
 use crate::naming::directory;
+use crate::rename::is_same;
 use bitflags::Flags;
 use std::time::Duration;
 use vfs_files::{
     CStr, Context, Entry, EntryList, Extensions, FileSystem, GetxattrReply, ListxattrReply,
-    ZeroCopyReader, ZeroCopyWriter, defaults,
+    ZeroCopyReader, ZeroCopyWriter, copy_of, defaults,
 };
 use vfs_flags::{Errno, Fault, FsOptions, OpenOptions, SetattrValid, SetxattrFlags};
 use vfs_nodes::{Kind, entries_behind};
 use vfs_wire::{Attr, SetattrIn, Statvfs64};
+
+/// What LSEEK looks for.
+const SEEK_DATA: u32 = 3;
+
+const SEEK_HOLE: u32 = 4;
+
+/// The flag by which an extended attribute that is there is not set.
+const XATTR_CREATE: u32 = 1;
+
+/// The flag by which one that is not there is not set.
+const XATTR_REPLACE: u32 = 2;
 
 /// The most bytes of a text that is answered: with the 16 of a header they are below 2 ^ 32.
 const MOST_TEXT: u64 = 0xffff_ffef;
@@ -67,13 +77,12 @@ impl FileSystem for TreeFs {
 
     fn getattr(
         &mut self,
-        _ctx: Context,
+        ctx: Context,
         inode: u64,
-        _handle: Option<u64>,
+        handle: Option<u64>,
     ) -> Result<(Attr, Duration), Fault>
-        ensures { Ends self.old
-            (with_it (node_at self.old inode) (λ node. Answered (AttrOf inode node) self.old))
-            (Plain (attr_answer result)) self.new }
+        ensures { TreeAllows self.old (Getattr ctx inode handle) (Plain (attr_answer result))
+            self.new }
     {
         match self.nodes.get(&inode) {
             Some(node) => Ok((node.attr(inode), node.attr_timeout())),
@@ -81,20 +90,27 @@ impl FileSystem for TreeFs {
         }
     }
 
+    #[tactic(auto, using(std::proofs::lemmas::Map::Steps::set_value_same))]
     fn setattr(
         &mut self,
-        _ctx: Context,
+        ctx: Context,
         inode: u64,
         attr: SetattrIn,
         handle: Option<u64>,
         valid: SetattrValid,
     ) -> Result<(Attr, Duration), Fault>
-        ensures { Ends self.old (sets_attr self.old inode attr
-            (if opens_nothing self.old.offered && attr.size == 0 then Some 0 else handle)
-            (setattr_valid_bits valid))
+        ensures { TreeAllows self.old (Setattr ctx inode attr handle (setattr_valid_bits valid))
             (Plain (attr_answer result)) self.new }
     {
-        self.check_set_attr(inode, &attr, valid)?;
+        let Some(node) = self.nodes.get(&inode) else {
+            return Err(Some(Errno::ENOENT));
+        };
+        if valid.contains(SetattrValid::SIZE) {
+            check_contents(node)?;
+            if attr.size > self.longest() {
+                return Err(Some(too_big()));
+            }
+        }
         let now = self.now;
         let handle = if opens_nothing(self.offered) && attr.size == 0 {
             Some(0)
@@ -175,7 +191,8 @@ impl FileSystem for TreeFs {
         if node.kind.is_directory() {
             return Err(Some(Errno::EISDIR));
         }
-        self.take_out(parent, name.to_bytes(), child);
+        self.lead_name(parent, name.to_bytes(), None);
+        self.lose_name(child.node);
         Ok(())
     }
 
@@ -193,7 +210,8 @@ impl FileSystem for TreeFs {
         if !node.children.is_empty() {
             return Err(Some(Errno::ENOTEMPTY));
         }
-        self.take_out(parent, name.to_bytes(), child);
+        self.lead_name(parent, name.to_bytes(), None);
+        self.lose_name(child.node);
         Ok(())
     }
 
@@ -206,7 +224,18 @@ impl FileSystem for TreeFs {
         newname: CStr<'_>,
         flags: u32,
     ) -> Result<(), Fault> {
-        self.move_name(ctx, olddir, oldname, newdir, newname, flags)
+        let from = directory(&self.nodes, olddir, oldname.to_bytes())?;
+        let to = directory(&self.nodes, newdir, newname.to_bytes())?;
+        let moved = from.children.get(oldname.to_bytes());
+        let target = to.children.get(newname.to_bytes());
+        self.check_rename(olddir, newdir, to, newname.to_bytes(), flags, moved, target)?;
+        let Some(child) = moved else {
+            return Err(Some(Errno::ENOENT));
+        };
+        if is_same(moved, target) {
+            return Ok(());
+        }
+        self.move_child(ctx, olddir, oldname, newdir, newname, flags, child, target)
     }
 
     fn link(
@@ -216,7 +245,10 @@ impl FileSystem for TreeFs {
         newparent: u64,
         newname: CStr<'_>,
     ) -> Result<Entry, Fault> {
-        self.add_link(inode, newparent, newname)
+        let child = self.check_link(inode, newparent, newname.to_bytes())?;
+        self.add_name(newparent, newname, child)?;
+        self.inodes += 1;
+        Ok(self.count_link(inode))
     }
 
     fn open(
@@ -267,6 +299,7 @@ impl FileSystem for TreeFs {
         node.contents.read_into(w, size, offset)
     }
 
+    #[tactic(auto, using(std::proofs::lemmas::Map::Steps::set_value_same))]
     fn write<R: ZeroCopyReader>(
         &mut self,
         _ctx: Context,
@@ -280,7 +313,17 @@ impl FileSystem for TreeFs {
         kill_priv: bool,
         _flags: u32,
     ) -> Result<u32, Fault> {
-        let most = self.check_write(inode, offset, size)?;
+        let Some(node) = self.nodes.get(&inode) else {
+            return Err(Some(Errno::ENOENT));
+        };
+        check_contents(node)?;
+        if size > 0 && offset >= self.longest() {
+            return Err(Some(too_big()));
+        }
+        let most = self.most_size(node, offset, size as u64);
+        if size > 0 && offset >= most {
+            return Err(Some(Errno::ENOSPC));
+        }
         let (alloc, now) = (self.alloc, self.now);
         let Some(node) = self.nodes.get_mut(&inode) else {
             unreachable!()
@@ -328,6 +371,7 @@ impl FileSystem for TreeFs {
         Ok(())
     }
 
+    #[tactic(auto, using(std::proofs::lemmas::Map::Steps::set_value_same))]
     fn setxattr(
         &mut self,
         _ctx: Context,
@@ -337,7 +381,33 @@ impl FileSystem for TreeFs {
         flags: u32,
         _extra: SetxattrFlags,
     ) -> Result<(), Fault> {
-        self.set_xattr(inode, name, value, flags)
+        let Some(node) = self.nodes.get(&inode) else {
+            return Err(Some(Errno::ENOENT));
+        };
+        check_namespace(name.to_bytes())?;
+        let is_there = node.xattrs.get(name.to_bytes()).is_some();
+        if flags & XATTR_CREATE == XATTR_CREATE && is_there {
+            return Err(Some(Errno::EEXIST));
+        }
+        if flags & XATTR_REPLACE == XATTR_REPLACE && !is_there {
+            return Err(Some(Errno::ENODATA));
+        }
+        let Some(bytes) = node.xattrs.bytes_with(name.to_bytes(), value) else {
+            return Err(Some(Errno::ENOSPC));
+        };
+        if bytes.saturating_sub(node.xattrs.bytes()) > self.room() {
+            return Err(Some(Errno::ENOSPC));
+        }
+        let (alloc, now) = (self.alloc, self.now);
+        let Some(node) = self.nodes.get_mut(&inode) else {
+            unreachable!()
+        };
+        let before = node.weight();
+        node.xattrs.set(alloc, name, value)?;
+        node.ctime = now;
+        let after = node.weight();
+        self.reweigh(before, after);
+        Ok(())
     }
 
     fn getxattr(
@@ -347,15 +417,52 @@ impl FileSystem for TreeFs {
         name: CStr<'_>,
         size: u32,
     ) -> Result<GetxattrReply, Fault> {
-        self.xattr(inode, name.to_bytes(), size)
+        let Some(node) = self.nodes.get(&inode) else {
+            return Err(Some(Errno::ENOENT));
+        };
+        check_namespace(name.to_bytes())?;
+        let Some(value) = node.xattrs.get(name.to_bytes()) else {
+            return Err(Some(Errno::ENODATA));
+        };
+        if size == 0 {
+            return Ok(GetxattrReply::Count(value.len() as u32));
+        }
+        if value.len() > size as usize {
+            return Err(Some(Errno::ERANGE));
+        }
+        Ok(GetxattrReply::Value(copy_of(self.alloc, value)?))
     }
 
     fn listxattr(&mut self, _ctx: Context, inode: u64, size: u32) -> Result<ListxattrReply, Fault> {
-        self.xattr_names(inode, size)
+        let Some(node) = self.nodes.get(&inode) else {
+            return Err(Some(Errno::ENOENT));
+        };
+        let length = node.xattrs.names_len();
+        if size == 0 {
+            return Ok(ListxattrReply::Count(length));
+        }
+        if length > size {
+            return Err(Some(Errno::ERANGE));
+        }
+        Ok(ListxattrReply::Names(node.xattrs.names(self.alloc)?))
     }
 
+    #[tactic(auto, using(std::proofs::lemmas::Map::Steps::set_value_same))]
     fn removexattr(&mut self, _ctx: Context, inode: u64, name: CStr<'_>) -> Result<(), Fault> {
-        self.remove_xattr(inode, name.to_bytes())
+        let now = self.now;
+        let Some(node) = self.nodes.get_mut(&inode) else {
+            return Err(Some(Errno::ENOENT));
+        };
+        check_namespace(name.to_bytes())?;
+        if node.xattrs.get(name.to_bytes()).is_none() {
+            return Err(Some(Errno::ENODATA));
+        }
+        let before = node.weight();
+        node.xattrs.remove(name.to_bytes());
+        node.ctime = now;
+        let after = node.weight();
+        self.reweigh(before, after);
+        Ok(())
     }
 
     // Nothing is to be done when a descriptor is closed, and after ENOSYS Linux asks no more.
@@ -509,7 +616,17 @@ impl FileSystem for TreeFs {
         offset: u64,
         length: u64,
     ) -> Result<(), Fault> {
-        self.allocate(inode, mode, offset, length)
+        self.check_allocate(inode, mode, offset, length)?;
+        let (alloc, now) = (self.alloc, self.now);
+        let Some(node) = self.nodes.get_mut(&inode) else {
+            unreachable!()
+        };
+        let before = node.weight();
+        node.contents.fallocate(alloc, mode, offset, length)?;
+        node.mark_rewritten(now, true, false);
+        let after = node.weight();
+        self.reweigh(before, after);
+        Ok(())
     }
 
     fn lseek(
@@ -520,7 +637,25 @@ impl FileSystem for TreeFs {
         offset: u64,
         whence: u32,
     ) -> Result<u64, Fault> {
-        self.seek(inode, offset, whence)
+        if self.writeback {
+            return Err(Some(Errno::ENOSYS));
+        }
+        let Some(node) = self.nodes.get(&inode) else {
+            return Err(Some(Errno::ENOENT));
+        };
+        if !node.kind.is_file() || (whence != SEEK_DATA && whence != SEEK_HOLE) {
+            return Err(Some(Errno::EINVAL));
+        }
+        if offset >= node.contents.len() {
+            return Err(Some(no_place()));
+        }
+        if whence == SEEK_HOLE {
+            return Ok(node.contents.hole_from(offset));
+        }
+        match node.contents.data_from(offset) {
+            Some(place) => Ok(place),
+            None => Err(Some(no_place())),
+        }
     }
 
     fn copyfilerange(

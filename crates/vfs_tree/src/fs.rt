@@ -1,20 +1,21 @@
 //! The file system: its nodes by number.
 
-ghost use Rattle.std.specs.Prelude.{◌≡◌, ◌≤◌, ◌<◌, ◌^◌, ◌-◌, ◌∷◌, [], ℕ, List, false, IsSome, Some, None, IfErr, OnOk, MatchOption, MatchResult};
+ghost use Rattle.std.specs.Prelude.{◌≡◌, ◌≤◌, ◌<◌, ◌^◌, ◌+◌, ◌-◌, ◌==◌, ◌||◌, ◌∷◌, [], ℕ, List, false, not, bit_and, bit_or, option_and_then, IsTrue, IsSome, IfSome, Some, None, is_some, IfErr, OnOk, MatchOption, MatchResult, if◌then◌else◌};
+ghost use Rattle.std.specs.Option.{option_map_or};
 ghost use Rattle.std.specs.Ordering.{nat_cmp};
 ghost use Rattle.std.specs.BTreeMap.{is_at};
 ghost use Rattle.std.specs.Map.{remove_entry};
 ghost use Rattle.vfs_flags.specs.Numbers.{enomem};
 ghost use Rattle.vfs_files.specs.Values.{name_text};
-ghost use Rattle.vfs_files.specs.Calls.{Plain, entry_answer};
+ghost use Rattle.vfs_files.specs.Calls.{Plain, Found, entry_answer};
 ghost use Rattle.vfs_nodes.specs.Node.{weight};
+ghost use Rattle.vfs_tree.specs.Naming.{has_no_number, is_crowded, new_in};
 ghost use Rattle.vfs_tree.specs.Outcome.{Ends};
-ghost use Rattle.vfs_tree.specs.Rename.{is_crowded};
 ghost use Rattle.vfs_nodes.specs.declared.node.Node.{Node};
-ghost use Rattle.vfs_tree.specs.State.{behind, child_at, node_at, reweighed, room_of};
-ghost use Rattle.vfs_tree.specs.Tree.{makes, make_refusal, first_state, is_full, made, group_in, permissions_in, forgotten, all_forgotten, released};
+ghost use Rattle.vfs_tree.specs.State.{behind, child_at, lead, node_at, room_of, with_new};
+ghost use Rattle.vfs_tree.specs.Tree.{makes, make_refusal, first_state, forgotten, all_forgotten, released};
 
-use crate::naming::{add_name, directory, is_improper};
+use crate::naming::add_name;
 use bitflags::Flags;
 use std::alloc::Global;
 use std::collections::BTreeMap;
@@ -142,17 +143,13 @@ impl TreeFs {
         self.limits.bytes.saturating_sub(self.used)
     }
 
-    // Whether there is no room for one node more with a text of so many bytes, or no place for it in this
-    // directory.
-    fn is_full(&self, above: &Node, size: u64) -> bool
-        ensures full { result ≡ is_full self.entry.now (Some above.now) size }
+    /// Whether there is no room for one node more.
+    pub(crate) fn has_no_number(&self) -> bool
+        ensures full { result ≡ has_no_number self.entry.now }
         ensures inodes { result ≡ false → self.entry.now.inodes < 2 ^ 64 - 1 }
         ensures number { result ≡ false → self.entry.now.next < 2 ^ 64 - 1 }
     {
-        self.inodes >= self.limits.nodes
-            || self.next == u64::MAX
-            || !above.children.has_place()
-            || size > self.room()
+        self.inodes >= self.limits.nodes || self.next == u64::MAX
     }
 
     // Whether a node with so many bytes can be made under this name.
@@ -163,17 +160,8 @@ impl TreeFs {
         ensures err { IfErr result (λ errno.
             make_refusal self.entry.now parent name.now size ≡ Some errno) }
     {
-        let above = directory(&self.nodes, parent, name)?;
-        if above.names == 0 {
-            return Err(Errno::ENOENT);
-        }
-        if is_improper(name) {
-            return Err(Errno::EINVAL);
-        }
-        if above.children.get(name).is_some() {
-            return Err(Errno::EEXIST);
-        }
-        if self.is_full(above, size) {
+        let above = self.check_name(parent, name)?;
+        if self.has_no_number() || !above.children.has_place() || size > self.room() {
             return Err(Errno::ENOSPC);
         }
         Ok(())
@@ -190,47 +178,59 @@ impl TreeFs {
         text: &[u8],
     ) -> Result<Entry, Fault>
         ensures { Ends self.old
-            (makes self.old ctx kind permissions parent (name_text name.entry) text.now)
+            (makes self.old ctx Found kind permissions parent (name_text name.entry) text.now)
             (Plain (entry_answer result)) self.new }
     {
         self.check_make(parent, name.to_bytes(), text.len() as u64)?;
-        let (alloc, now) = (self.alloc, self.now);
-        let uid = ctx.uid;
-        let (gid, permissions) = self.handed_down(parent, ctx.gid, kind, permissions);
-        let node = Node::new(alloc, now, uid, gid, kind, permissions, parent, text)?;
-        let entry = node.entry(self.next);
-        self.add(parent, name, node)?;
+        let node = self.new_in(ctx, kind, permissions, parent, text)?;
+        let number = self.next;
+        let entry = node.entry(number);
+        self.add(parent, name, Child { node: number, kind }, node)?;
         Ok(entry)
     }
 
-    /// The group and the permission bits of what is made in a directory.
-    pub(crate) fn handed_down(
+    /// A new node in a directory, which hands down its group where it has set-group-ID, and that to a
+    /// directory too. ENOMEM where there is no memory for its text.
+    pub(crate) fn new_in(
         &self,
-        parent: u64,
-        gid: GuestGid,
+        ctx: Context,
         kind: Kind,
         permissions: u32,
-    ) -> (GuestGid, u32)
-        ensures group { result.0 ≡ group_in (node_at self.entry.now parent) gid }
-        ensures mode { result.1 ≡
-            permissions_in (node_at self.entry.now parent) kind permissions }
+        parent: u64,
+        text: &[u8],
+    ) -> Result<Node, Fault>
+        ensures { MatchResult result
+            (λ node. node ≡ new_in self.entry.now ctx kind permissions parent text.now)
+            (λ fault. fault ≡ Some enomem) }
     {
-        match self.nodes.get(&parent) {
-            Some(above) if above.permissions & SET_GROUP_ID == SET_GROUP_ID => {
-                if kind.is_directory() {
-                    (above.gid, permissions | SET_GROUP_ID)
-                } else {
-                    (above.gid, permissions)
-                }
-            }
-            _ => (gid, permissions),
+        let group = self.handed_group(parent);
+        let permissions = handed_down(group.is_some() && kind.is_directory(), permissions);
+        let (alloc, now, gid) = (self.alloc, self.now, group.unwrap_or(ctx.gid));
+        Node::new(alloc, now, ctx.uid, gid, kind, permissions, parent, text)
+    }
+
+    // The group that a directory hands to what is made in it.
+    fn handed_group(&self, number: u64) -> Option<GuestGid>
+        ensures { result ≡ option_and_then (λ node.
+            if bit_and node.permissions 0o2000 == 0o2000 then Some node.gid else None)
+            (node_at self.entry.now number) }
+    {
+        match self.nodes.get(&number) {
+            Some(node) if node.permissions & SET_GROUP_ID == SET_GROUP_ID => Some(node.gid),
+            _ => None,
         }
     }
 
-    /// Adds a node under the next number, and a name that leads to it. ENOMEM where there is no memory
+    /// Adds a node under the next number, and a name that leads to a node. ENOMEM where there is no memory
     /// for them, and all stays.
     #[tactic(auto, using(crate::proofs::Nodes::remove_entry_new))]
-    pub(crate) fn add(&mut self, parent: u64, name: CStr<'_>, node: Node) -> Result<(), Fault>
+    pub(crate) fn add(
+        &mut self,
+        parent: u64,
+        name: CStr<'_>,
+        child: Child,
+        node: Node,
+    ) -> Result<(), Fault>
         requires directory { IsSome (node_at self.old parent) }
         requires free { child_at self.old parent (name_text name) ≡ None }
         requires place { is_crowded (node_at self.old parent) ≡ false }
@@ -238,14 +238,10 @@ impl TreeFs {
         requires inodes { self.old.inodes < 2 ^ 64 - 1 }
         requires room { weight node ≤ room_of self.old }
         ensures ok { OnOk result (self.new ≡
-            made self.old parent (name_text name.entry) node) }
+            lead (with_new self.old node) parent (name_text name.entry) false (Some child)) }
         ensures err { IfErr result (λ fault. (fault ≡ Some enomem) × (self.new ≡ self.old)) }
     {
         let number = self.next;
-        let child = Child {
-            node: number,
-            kind: node.kind,
-        };
         let weight = node.weight();
         if self.nodes.insert(number, node).is_err() {
             return Err(Some(Errno::ENOMEM));
@@ -260,9 +256,63 @@ impl TreeFs {
         Ok(())
     }
 
+    // Adds a node under the next number. ENOMEM where there is no memory for it, and all stays.
+    fn add_node(&mut self, node: Node) -> Result<(), Fault>
+        requires number { self.old.next < 2 ^ 64 - 1 }
+        requires inodes { self.old.inodes < 2 ^ 64 - 1 }
+        requires room { weight node ≤ room_of self.old }
+        ensures ok { OnOk result (self.new ≡ with_new self.old node) }
+        ensures err { IfErr result (λ fault. (fault ≡ Some enomem) × (self.new ≡ self.old)) }
+    {
+        let weight = node.weight();
+        if self.nodes.insert(self.next, node).is_err() {
+            return Err(Some(Errno::ENOMEM));
+        }
+        self.next += 1;
+        self.used += weight;
+        self.inodes += 1;
+        Ok(())
+    }
+
+    /// Lets a name, which is there or not, lead to a node from now on. Before, a new node is there under the
+    /// next number, where one is given. ENOMEM where there is no memory for that, and all stays.
+    pub(crate) fn lead_to(
+        &mut self,
+        new: Option<Node>,
+        number: u64,
+        name: CStr<'_>,
+        is_there: bool,
+        child: Child,
+    ) -> Result<(), Fault>
+        requires directory { IsSome (node_at self.old number) }
+        requires free { is_there ≡ false → child_at self.old number (name_text name) ≡ None }
+        requires place { is_there ≡ false → is_crowded (node_at self.old number) ≡ false }
+        requires number { IsSome new → self.old.next < 2 ^ 64 - 1 }
+        requires inodes { IsSome new → self.old.inodes < 2 ^ 64 - 1 }
+        requires room { IfSome new (λ node. weight node ≤ room_of self.old) }
+        ensures ok { OnOk result (self.new ≡ lead (option_map_or (with_new self.old) new self.old)
+            number (name_text name.entry) is_there (Some child)) }
+        ensures err { IfErr result (λ fault. (fault ≡ Some enomem) × (self.new ≡ self.old)
+            × IsTrue (not is_there || is_some new)) }
+    {
+        let Some(node) = new else {
+            if !is_there {
+                return self.add_name(number, name, child);
+            }
+            self.lead_name(number, name.to_bytes(), Some(child));
+            return Ok(());
+        };
+        if !is_there {
+            return self.add(number, name, child, node);
+        }
+        self.add_node(node)?;
+        self.lead_name(number, name.to_bytes(), Some(child));
+        Ok(())
+    }
+
     /// Takes back lookups of a node, which is dropped where none is left and no name leads to it.
     pub(crate) fn take_back(&mut self, number: u64, count: u64)
-        ensures { self.new ≡ forgotten self.old number count (node_at self.old number) }
+        ensures { self.new ≡ forgotten self.old number count }
     {
         let Some(node) = self.nodes.get(&number) else {
             return;
@@ -294,7 +344,9 @@ impl TreeFs {
     /// Says that a node that took so many bytes takes others now.
     pub(crate) fn reweigh(&mut self, before: u64, after: u64)
         requires { after - before ≤ room_of self.old }
-        ensures { self.new ≡ record self.old { used = reweighed self.old.used before after } }
+        ensures { self.new ≡ record self.old {
+          used = self.old.used + (after - before) - (before - after);
+        } }
     {
         if before <= after {
             self.used += after - before;
@@ -342,6 +394,17 @@ impl TreeFs {
                     .range((Bound::Excluded(number), Bound::Unbounded)),
             ),
         }
+    }
+}
+
+// Permission bits, with set-group-ID where it is handed down.
+fn handed_down(is_handed: bool, permissions: u32) -> u32
+    ensures { result ≡ (if is_handed then bit_or permissions 0o2000 else permissions) }
+{
+    if is_handed {
+        permissions | SET_GROUP_ID
+    } else {
+        permissions
     }
 }
 

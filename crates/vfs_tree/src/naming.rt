@@ -1,18 +1,18 @@
 //! Names in directories: how they are added, taken out, and made to lead elsewhere.
 
-ghost use Rattle.std.specs.Prelude.{◌≡◌, ℕ, ◌<◌, ◌^◌, ◌-◌, true, false, IsSome, IfSome, Some, None, IfOk, IfErr, OnOk};
+ghost use Rattle.std.specs.Prelude.{◌≡◌, ℕ, ◌<◌, ◌^◌, ◌-◌, true, false, IsSome, IfSome, Some, None, IfOk, IfErr, OnOk, option_and_then};
 ghost use Rattle.std.specs.Ordering.{nat_cmp};
 ghost use Rattle.std.specs.Map.{set_value};
 ghost use Rattle.std.specs.BTreeMap.{get, is_at};
 ghost use Rattle.vfs_flags.specs.Numbers.{enomem};
 ghost use Rattle.vfs_files.specs.Values.{name_text};
-ghost use Rattle.vfs_files.specs.Calls.{Plain, entry_answer};
-ghost use Rattle.vfs_nodes.specs.Children.{with_child, without_child, with_other_child};
-ghost use Rattle.vfs_nodes.specs.Node.{IsEntryOf};
-ghost use Rattle.vfs_tree.specs.Outcome.{Ends, refusal_of};
-ghost use Rattle.vfs_tree.specs.Rename.{directory_refusal, is_directory_at, is_improper, is_crowded, moved_into};
-ghost use Rattle.vfs_tree.specs.State.{child_of, child_at, node_at, with_names, with_node, unnamed};
-ghost use Rattle.vfs_tree.specs.Tree.{link_refusal, linked, links, taken_out};
+ghost use Rattle.vfs_nodes.specs.Children.{child_named, leading};
+ghost use Rattle.vfs_nodes.specs.Node.{entry_of};
+ghost use Rattle.vfs_tree.specs.Naming.{directory_refusal, is_directory_at, is_improper, is_crowded, name_refusal};
+ghost use Rattle.vfs_tree.specs.Outcome.{refusal_of};
+ghost use Rattle.vfs_tree.specs.Rename.{moved_into};
+ghost use Rattle.vfs_tree.specs.State.{child_at, lead, node_at, with_node, unnamed};
+ghost use Rattle.vfs_tree.specs.Tree.{link_refusal, linked};
 
 use crate::fs::TreeFs;
 use std::alloc::Global;
@@ -68,11 +68,12 @@ pub(crate) fn add_name(
     child: Child,
 ) -> Result<(), Fault>
     requires directory { IsSome (get nat_cmp nodes.old number) }
-    requires free { child_of (get nat_cmp nodes.old number) (name_text name) ≡ None }
+    requires free { option_and_then (λ node. child_named node.children (name_text name))
+        (get nat_cmp nodes.old number) ≡ None }
     requires place { is_crowded (get nat_cmp nodes.old number) ≡ false }
     ensures ok { OnOk result (IfSome (get nat_cmp nodes.old number) (λ node.
         nodes.new.entries ≡ set_value (is_at (nat_cmp number)) nodes.old.entries (record node {
-          children = with_child node.children (name_text name.entry) child;
+          children = leading (name_text name.entry) false (Some child) node.children;
           mtime = now;
           ctime = now;
         }))) }
@@ -101,41 +102,28 @@ impl TreeFs {
         requires free { child_at self.old number (name_text name) ≡ None }
         requires place { is_crowded (node_at self.old number) ≡ false }
         ensures ok { OnOk result (self.new ≡
-            with_names self.old number (λ c. with_child c (name_text name.entry) child)) }
+            lead self.old number (name_text name.entry) false (Some child)) }
         ensures err { IfErr result (λ fault. (fault ≡ Some enomem) × (self.new ≡ self.old)) }
     {
         add_name(self.alloc, &mut self.nodes, self.now, number, name, child)
     }
 
-    /// Takes a name out of a directory.
-    pub(crate) fn remove_name(&mut self, number: u64, name: &[u8])
-        ensures { self.new ≡ with_names self.old number (λ c. without_child c name.now) }
+    /// Lets a name of a directory that is there lead elsewhere, or nowhere.
+    pub(crate) fn lead_name(&mut self, number: u64, name: &[u8], child: Option<Child>)
+        ensures { self.new ≡ lead self.old number name.now true child }
     {
         let now = self.now;
         let Some(node) = self.nodes.get_mut(&number) else {
             return;
         };
-        node.children.remove(name);
-        node.mtime = now;
-        node.ctime = now;
-    }
-
-    /// Lets a name of a directory lead elsewhere.
-    pub(crate) fn replace_name(&mut self, number: u64, name: &[u8], child: Child)
-        ensures { self.new ≡ with_names self.old number (λ c. with_other_child c name.now child) }
-    {
-        let now = self.now;
-        let Some(node) = self.nodes.get_mut(&number) else {
-            return;
-        };
-        node.children.replace(name, child);
+        node.children.set(name, child);
         node.mtime = now;
         node.ctime = now;
     }
 
     /// One name less leads to a node, which is dropped where none is left and no lookup is held.
     pub(crate) fn lose_name(&mut self, number: u64)
-        ensures { self.new ≡ unnamed self.old number (node_at self.old number) }
+        ensures { self.new ≡ unnamed self.old number }
     {
         let Some(node) = self.nodes.get(&number) else {
             return;
@@ -165,16 +153,28 @@ impl TreeFs {
         }
     }
 
-    /// Takes a name out of a directory; one name less leads to the node behind it.
-    pub(crate) fn take_out(&mut self, parent: u64, name: &[u8], child: Child)
-        ensures { self.new ≡ taken_out self.old parent name.now child }
+    /// The directory of this number, in which this new name can be made.
+    pub(crate) fn check_name(&self, parent: u64, name: &[u8]) -> Result<&Node, Errno>
+        ensures found { IfOk result (λ node. node_at self.entry.now parent ≡ Some node.now) }
+        ensures ok { OnOk result (name_refusal self.entry.now parent name.now ≡ None) }
+        ensures err { IfErr result (λ errno.
+            name_refusal self.entry.now parent name.now ≡ Some errno) }
     {
-        self.remove_name(parent, name);
-        self.lose_name(child.node);
+        let above = directory(&self.nodes, parent, name)?;
+        if above.names == 0 {
+            return Err(Errno::ENOENT);
+        }
+        if is_improper(name) {
+            return Err(Errno::EINVAL);
+        }
+        if above.children.get(name).is_some() {
+            return Err(Errno::EEXIST);
+        }
+        Ok(above)
     }
 
-    // Whether one more name can lead to a node, and where it leads.
-    fn check_link(&self, number: u64, parent: u64, name: &[u8]) -> Result<Child, Fault>
+    /// Whether one more name can lead to a node, and where it leads.
+    pub(crate) fn check_link(&self, number: u64, parent: u64, name: &[u8]) -> Result<Child, Fault>
         ensures child { IfOk result (λ child. IfSome (node_at self.entry.now number) (λ node.
             child ≡ record { node = number; kind = node.kind })) }
         ensures ok { OnOk result (refusal_of (node_at self.entry.now number)
@@ -196,16 +196,7 @@ impl TreeFs {
         let Some(node) = self.nodes.get(&number) else {
             return Err(Some(Errno::ENOENT));
         };
-        let above = directory(&self.nodes, parent, name)?;
-        if above.names == 0 {
-            return Err(Some(Errno::ENOENT));
-        }
-        if is_improper(name) {
-            return Err(Some(Errno::EINVAL));
-        }
-        if above.children.get(name).is_some() {
-            return Err(Some(Errno::EEXIST));
-        }
+        let above = self.check_name(parent, name)?;
         if node.kind.is_directory() {
             return Err(Some(Errno::EPERM));
         }
@@ -227,29 +218,13 @@ impl TreeFs {
         })
     }
 
-    /// Lets one more name lead to a node, and counts a lookup of it.
-    pub(crate) fn add_link(
-        &mut self,
-        number: u64,
-        parent: u64,
-        name: CStr<'_>,
-    ) -> Result<Entry, Fault>
-        ensures { Ends self.old (links self.old number parent (name_text name.entry))
-            (Plain (entry_answer result)) self.new }
-    {
-        let child = self.check_link(number, parent, name.to_bytes())?;
-        self.add_name(parent, name, child)?;
-        self.inodes += 1;
-        Ok(self.count_link(number))
-    }
-
-    // Counts one name and one lookup more of a node that is there, and gives its entry.
-    fn count_link(&mut self, number: u64) -> Entry
+    /// Counts one name and one lookup more of a node that is there, and gives its entry.
+    pub(crate) fn count_link(&mut self, number: u64) -> Entry
         requires there { IsSome (node_at self.old number) }
         requires names { IfSome (node_at self.old number) (λ node. node.names < MOST_LINKS) }
         requires lookups { IfSome (node_at self.old number) (λ node. node.lookups < 2 ^ 64 - 1) }
         ensures { IfSome (node_at self.old number) (λ node.
-            IsEntryOf number (linked self.old.now node) result
+            (result ≡ entry_of number (linked self.old.now node))
             × (self.new ≡ with_node self.old number (linked self.old.now node))) }
     {
         let now = self.now;

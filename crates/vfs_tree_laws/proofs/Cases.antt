@@ -1,26 +1,27 @@
 -- What the calls leave: a fact of all states that are left follows from that fact of each change.
-use Rattle.std.proofs.Common.{◌≡◌, ◌≤◌, ◌+◌, ◌-◌, ◌^◌, ◌==◌, ◌&&◌, ◌||◌, not, nat_lt, nat_le, ℕ, min, max, ◌⊎◌, inl, inr, ⊎_elim, Bool, true, false, List, [], ◌∷◌, ◌++◌, length, take, drop, replicate, Option, Some, None, is_some, is_none, refl, sym, ap, subst, ◌∙◌, arith, if◌then◌else◌, bit_and, length-append, length-take, length-drop}
+use Rattle.std.proofs.Common.{◌≡◌, ◌≤◌, ◌+◌, ◌-◌, ◌^◌, ◌/◌, ◌==◌, ◌&&◌, ◌||◌, not, nat_lt, nat_le, ℕ, min, max, ◌⊎◌, inl, inr, ⊎_elim, Bool, true, false, List, [], ◌∷◌, ◌++◌, length, take, drop, replicate, Option, Some, None, is_some, is_none, refl, sym, ap, subst, ◌∙◌, arith, if◌then◌else◌, bit_and, length-append, length-take, length-drop}
 use Rattle.vfs_views.specs.Segments.{with_bytes_at}
-use Rattle.vfs_flags.specs.Numbers.{eexist, eisdir, einval, enodata, enospc, enosys, enotdir, enotempty, eopnotsupp, eoverflow, erange}
+use Rattle.vfs_flags.specs.Numbers.{enoent, eperm, eexist, eisdir, einval, enodata, enospc, enosys, enotdir, enotempty, eopnotsupp, eoverflow, erange}
 use Rattle.vfs_files.specs.Bytes.{part_of, most_put, fitting, written, lengthened}
 use Rattle.vfs_files.specs.Values.{Item}
 use Rattle.vfs_files.specs.Calls.{Call, Lookup, Forget, BatchForget, Getattr, Setattr, Symlink, Readlink, Open, Unlink, Rmdir, Rename, Link, Mknod, Mkdir, Create, Read, Write, Fallocate, Setxattr, Getxattr, Listxattr, Removexattr, Statfs, Release, Fsync, Flush, Init, Opendir, Readdir, Releasedir, Fsyncdir, Getlk, Setlk, Setlkw, Access, Bmap, Destroy, Ioctl, Poll, NotifyReply, Lseek, Copyfilerange, Syncfs, Tmpfile, Answer, Done, Failed, Options, Found, Attributes, Created, Text, Count, Put, Wrote, Statistics, Opened, Offset, Handed, Plain, Iterator, default_answer}
 use Rattle.vfs_files.specs.declared.entry.Context.{Context}
+use Rattle.vfs_files.specs.declared.entry.Entry.{Entry}
+use Rattle.vfs_wire.specs.declared.stat.Statvfs64.{Statvfs64}
 use Rattle.vfs_grammar.specs.Books.{entry_node, answered_nodes, forgets_of}
 use Rattle.vfs_wire.specs.declared.attributes.SetattrIn.{SetattrIn}
 use Rattle.std.specs.Option.{unwrap_or}
 use Rattle.std.proofs.lemmas.Bool.{ltb-false, eqb-true, not-false, or_parts}
 use Rattle.std.proofs.lemmas.List.{length-replicate}
 use Rattle.vfs_contents.specs.Contents.{Contents, resized, allocated, punched, zeroed, fallocated, data_from, hole_from, lacking}
-use Rattle.vfs_tree.specs.Children.{with_child, is_directory, is_file}
+use Rattle.vfs_tree.specs.Children.{leading, is_directory, is_file}
 use Rattle.vfs_tree.specs.Listing.{items_behind}
-use Rattle.vfs_tree.specs.Node.{weight, stripped, rewritten, is_other, truncates, opened, set_attr, overwritten, kind_by_mode, new_node, accessed}
-use Rattle.vfs_tree.specs.Outcome.{TreeReply, Just, EntryOf, AttrOf, Listed, Outcome, Refused, Answered, Tried, Replies, Ends, done, first_of, or_else, unless, with_it, on}
-use Rattle.vfs_tree.specs.Rename.{directory_refusal, rename_refusal, renamed, wants_memory}
-use Rattle.vfs_tree.specs.State.{State, node_at, node_named, room_of, with_node, with_resized, with_names, change, child_at}
-use Rattle.vfs_tree.specs.State as tree
+use Rattle.vfs_tree.specs.Node.{attr_of, entry_of, lasting, weight, stripped, rewritten, is_other, truncates, opened, set_attr, overwritten, kind_by_mode, new_node, accessed}
+use Rattle.vfs_tree.specs.Outcome.{Outcome, Refused, Answered, Tried, Ends, done, first_of, unless, with_it, on}
+use Rattle.vfs_tree.specs.Rename.{leaves_whiteout, same_node, rename_refusal, renamed}
+use Rattle.vfs_tree.specs.State.{State, node_at, room_of, with_node, with_resized, with_names, change, child_at}
 use Rattle.vfs_tree_laws.specs.Laws.{IsShort}
-use Rattle.vfs_tree.specs.Tree.{opening, held_of, group_in, permissions_in, namespace_refusal, efbig, enodev, enxio, most_xattr_bytes, TreeAllows, outcome, wanted_options, found, at_name, made, makes, linked, all_forgotten, setattr_refusal, contents_refusal, writes, write_refusal, longest, most_size, fallocate_refusal, setxattr_refusal, with_xattrs, has_no_text, makes_kind, make_refusal, taken_out, link_refusal, statistics_of, tells, opens_nothing}
+use Rattle.vfs_tree.specs.Tree.{opening, namespace_refusal, efbig, enodev, enxio, TreeAllows, outcome, wanted_options, opens_nothing, at_name, makes, linked, all_forgotten, contents_refusal, longest, most_size, fallocate_refusal, with_xattrs, has_no_text, make_refusal, taken_out, link_refusal, tells}
 use Rattle.vfs_tree.specs.Xattrs.{xattr_named, xattr_bytes, with_xattr, without_xattr, name_list}
 use Rattle.vfs_nodes.specs.declared.children.Child.{Child}
 use Rattle.vfs_nodes.specs.declared.kind.Kind.{Kind}
@@ -29,6 +30,10 @@ use Rattle.vfs_nodes.specs.declared.node.Node.{Node}
 use Rattle.vfs_nodes.specs.declared.node.Time.{Time}
 use Rattle.vfs_nodes.proofs.Weights.{resized_holds, set_attr_weighs, stripped_bytes, without_xattr_bytes}
 use Rattle.vfs_tree.proofs.Weights.{fitting_ends, written_fits, fallocate_room, fallocated_fits}
+use Rattle.std.specs.Option.{option_map_or, option_or}
+use Rattle.vfs_tree.specs.Naming.{directory_refusal, new_in}
+use Rattle.vfs_tree_laws.proofs.Changes.{held_of, made}
+use Rattle.vfs_tree_laws.proofs.Refused.{all_false, or_none, Renames, rename_takes}
 
 -- a node with other contents or extended attributes, for which there is room
 pub record Resizes (s : State) (was now : Node) : Type 0 where
@@ -51,78 +56,61 @@ abbrev pub one_inode_more : State → State
 one_inode_more s = record s { inodes = s.inodes + 1 }
 
 -- the node of the entry that is answered, where one is
-abbrev pub nodes_of : TreeReply → List ℕ
-nodes_of (Just answer) = entry_node answer
-nodes_of (EntryOf n node) = n ∷ []
-nodes_of (AttrOf n node) = []
-nodes_of (Listed items) = []
+abbrev pub nodes_of : Handed (List Item) → List ℕ
+nodes_of (Plain answer) = entry_node answer
+nodes_of (Iterator items) = []
+
+-- those that a call's answer gives
+abbrev pub handed_nodes : Call → Handed (List Item) → List ℕ
+handed_nodes call (Plain answer) = answered_nodes call answer
+handed_nodes call (Iterator items) = []
 
 -- neither an entry is answered nor what a directory holds
-abbrev pub IsTold : TreeReply → Type 0
-IsTold (Just answer) = entry_node answer ≡ []
-IsTold (AttrOf n node) = Unit {0}
-IsTold _ = ⊥
+abbrev pub IsTold : Handed (List Item) → Type 0
+IsTold (Plain answer) = entry_node answer ≡ []
+IsTold (Iterator items) = ⊥
 
 -- what is answered where a node was read: of a directory what it holds, and no entry
-abbrev pub Reads : (number : ℕ) → Node → TreeReply → Type 0
-Reads n node (Just answer) = entry_node answer ≡ []
-Reads n node (Listed items) = (off : ℕ) × (size : ℕ) × (items ≡ items_behind n node off size)
-Reads n node _ = ⊥
+abbrev pub Reads : (number : ℕ) → Node → Handed (List Item) → Type 0
+Reads n node (Plain answer) = entry_node answer ≡ []
+Reads n node (Iterator items) = (off : ℕ) × (size : ℕ) × (items ≡ items_behind n node off size)
 
 -- what a fact holds of: the state itself, and what each change leaves, with the lookups that are taken
 -- back and what is answered
-pub record Covers (old : State) (P : List (ℕ × ℕ) → TreeReply → State → Type 0) : Type 0 where
-  pub same : (reply : TreeReply) → IsTold reply → P [] reply old
+pub record Covers
+    (old : State) (P : List (ℕ × ℕ) → Handed (List Item) → State → Type 0)
+    : Type 0 where
+  pub same : (reply : Handed (List Item)) → IsTold reply → P [] reply old
   pub looked_up : (n : ℕ) (node : Node) → node_at old n ≡ Some node
-      → P [] (EntryOf n node) (with_node old n (record node { lookups = node.lookups + 1 }))
-  pub reads : (n : ℕ) (node : Node) (reply : TreeReply) → Reads n node reply
+      → P [] (Plain (Found (entry_of n node))) (with_node old n (record node { lookups = node.lookups + 1 }))
+  pub reads : (n : ℕ) (node : Node) (reply : Handed (List Item)) → Reads n node reply
       → node_at old n ≡ Some node → P [] reply (with_node old n (accessed old.now node))
-  pub forgot : (pairs : List (ℕ × ℕ)) (reply : TreeReply) → IsTold reply
+  pub forgot : (pairs : List (ℕ × ℕ)) (reply : Handed (List Item)) → IsTold reply
       → P pairs reply (all_forgotten old pairs)
-  pub began : (offered : ℕ) (pairs : List (ℕ × ℕ)) (reply : TreeReply) → IsTold reply
+  pub began : (offered : ℕ) (pairs : List (ℕ × ℕ)) (reply : Handed (List Item)) → IsTold reply
       → P pairs reply (record (all_forgotten old pairs) { offered = offered })
-  pub resizes : (n : ℕ) (was now : Node) (reply : TreeReply) → IsTold reply → node_at old n ≡ Some was
+  pub resizes : (n : ℕ) (was now : Node) (reply : Handed (List Item)) → IsTold reply → node_at old n ≡ Some was
       → Resizes old was now → P [] reply (with_resized old n was now)
-  pub makes : (uid gid : ℕ) (kind : Kind) (permissions parent : ℕ) (name text : List ℕ)
+  pub makes : (reply : Handed (List Item)) → nodes_of reply ≡ old.next ∷ []
+      → (uid gid : ℕ) (kind : Kind) (permissions parent : ℕ) (name text : List ℕ)
       → make_refusal old parent name (length text) ≡ None
-      → let node = new_node old.now uid gid kind permissions parent text in
-      P [] (EntryOf old.next node) (made old parent name node)
+      → P [] reply (made old parent name (new_node old.now uid gid kind permissions parent text))
   pub links : (n : ℕ) (node : Node) (parent : ℕ) (name : List ℕ) → node_at old n ≡ Some node
       → link_refusal old parent name node ≡ None
-      → P [] (EntryOf n (linked old.now node))
+      → P [] (Plain (Found (entry_of n (linked old.now node))))
       (change (one_inode_more (with_names old parent
-      (λ c. with_child c name (record { node = n; kind = node.kind })))) n (linked old.now))
+      (leading name false (Some (record { node = n; kind = node.kind }))))) n (linked old.now))
   pub unlinks : (parent : ℕ) (name : List ℕ) (child : Child) (node : Node)
       → directory_refusal (node_at old parent) name ≡ None → child_at old parent name ≡ Some child
       → node_at old child.node ≡ Some node → is_directory node.kind ≡ false
-      → P [] (Just Done) (taken_out old parent name child)
+      → P [] (Plain Done) (taken_out old parent name child)
   pub removes : (parent : ℕ) (name : List ℕ) (child : Child) (node : Node)
       → directory_refusal (node_at old parent) name ≡ None → child_at old parent name ≡ Some child
       → node_at old child.node ≡ Some node → length node.children.links ≡ 0
-      → P [] (Just Done) (taken_out old parent name child)
-  pub renames : (uid gid od : ℕ) (on : List ℕ) (nd : ℕ) (nn : List ℕ) (flags : ℕ)
-      → rename_refusal old od on nd nn flags ≡ None
-      → P [] (Just Done) (renamed old uid gid od on nd nn flags)
-
--- ---- refusals
-
--- none of these holds
-abbrev pub AreNot : List (Bool × ℕ) → Type 0
-AreNot [] = Unit {0}
-AreNot (r ∷ rs) = (r.0 ≡ false) × AreNot rs
-
-pub are_not : (rs : List (Bool × ℕ)) → first_of rs ≡ None → AreNot rs
-are_not [] none = tt
-are_not (r ∷ rs) none = by r.0 none (are_not rs)
-  where
-    by : (b : Bool) → (if b then Some r.1 else first_of rs) ≡ None
-        → (first_of rs ≡ None → AreNot rs) → (b ≡ false) × AreNot rs
-    by true none more = cc
-    by false none more = (refl, more none)
-
-pub or_none : (a b : Option ℕ) → or_else a b ≡ None → (a ≡ None) × (b ≡ None)
-or_none (Some e) b none = cc
-or_none None b none = (refl, none)
+      → P [] (Plain Done) (taken_out old parent name child)
+  pub renames : (ctx : Context) (od : ℕ) (on : List ℕ) (nd : ℕ) (nn : List ℕ) (flags : ℕ) (child : Child)
+      → Renames old od on nd nn flags child
+      → P [] (Plain Done) (renamed old ctx od on nd nn flags (child_at old nd nn) child)
 
 -- ---- contents
 
@@ -193,7 +181,9 @@ length-punched c off len =
 
 -- SETATTR
 set_attr_resizes : (s : State) (node : Node) (attr : SetattrIn) (handle : Option ℕ) (valid : ℕ)
-    → setattr_refusal s attr valid node ≡ None
+    → (if bit_and valid 8 == 8
+    then option_or (contents_refusal node) (first_of ((nat_lt (longest s) attr.size, efbig) ∷ []))
+    else None) ≡ None
     → Resizes s node (set_attr s.now node attr handle valid)
 set_attr_resizes s node attr handle valid none = record {
   kind = refl;
@@ -207,14 +197,14 @@ set_attr_resizes s node attr handle valid none = record {
   where
     by : (t : Bool)
         → (if t
-        then or_else (contents_refusal node) (first_of ((nat_lt (longest s) attr.size, efbig) ∷ []))
+        then option_or (contents_refusal node) (first_of ((nat_lt (longest s) attr.size, efbig) ∷ []))
         else None)
         ≡ None
         → length node.contents.bytes ≤ s.limits.file
         → length (if t then resized node.contents attr.size else node.contents).bytes ≤ s.limits.file
     by true none short =
         let rs : List (Bool × ℕ) = (nat_lt (longest s) attr.size, efbig) ∷ [] in
-        let fits = are_not rs (or_none (contents_refusal node) (first_of rs) none).1 in
+        let fits = all_false rs (or_none (contents_refusal node) (first_of rs) none).1 in
         omega (arith, ltb-false (longest s) attr.size fits.0, length-resized node.contents attr.size)
     by false none short = short
 
@@ -311,28 +301,18 @@ fallocated_resizes s node mode off len none = record {
     by false false keeps room short = grown keeps (room refl) short
 
 -- SETXATTR
-xattr_fits : (s : State) (node : Node) (name value : List ℕ) (flags : ℕ)
-    → setxattr_refusal s name value flags node ≡ None
+xattr_fits : (s : State) (node : Node) (name value : List ℕ)
+    → xattr_bytes (with_xattr node.xattrs name value) - xattr_bytes node.xattrs ≤ room_of s
     → Resizes s node (with_xattrs s.now node (with_xattr node.xattrs name value))
-xattr_fits s node name value flags none =
-    let more = xattr_bytes (with_xattr node.xattrs name value) in
-    let size = xattr_bytes node.xattrs in
-    let is = xattr_named node.xattrs name in
-    let rs : List (Bool × ℕ) = (bit_and flags 1 == 1 && is_some is, eexist)
-    ∷ (bit_and flags 2 == 2 && is_none is, enodata)
-    ∷ (nat_lt most_xattr_bytes more || nat_lt (room_of s) (more - size), enospc) ∷ [] in
-    let fits = are_not rs (or_none (namespace_refusal name) (first_of rs) none).1 in
-    let room = (or_parts (nat_lt most_xattr_bytes more) (nat_lt (room_of s) (more - size))
-    fits.1.1.0).1 in
-    record {
-      kind = refl;
-      parent = refl;
-      names = refl;
-      lookups = refl;
-      children = refl;
-      room = omega (arith, ltb-false (room_of s) (more - size) room);
-      file = λ h. h;
-    }
+xattr_fits s node name value fits = record {
+  kind = refl;
+  parent = refl;
+  names = refl;
+  lookups = refl;
+  children = refl;
+  room = omega (arith, fits);
+  file = λ h. h;
+}
 
 -- REMOVEXATTR
 xattr_leaves : (s : State) (node : Node) (name : List ℕ)
@@ -354,37 +334,27 @@ abbrev pub Fails : State → Call → Type 0
 Fails old call = (taken_pairs old call ≡ []) × ((error : Option ℕ) → answered_nodes call (Failed error) ≡ [])
 
 -- what holds where it is refused, and of each answer and the state then
-abbrev pub Each : Type 0 → (TreeReply → State → Type 0) → Outcome → Type 0
+abbrev pub Each : Type 0 → (Handed (List Item) → State → Type 0) → Outcome → Type 0
 Each F L (Refused error) = F
 Each F L (Answered reply left) = L reply left
 Each F L (Tried needs reply left) = F × L reply left
 
-module _ (F : Type 0) (L : TreeReply → State → Type 0) (fails : F) where
+module _ (F : Type 0) (L : Handed (List Item) → State → Type 0) (fails : F) where
   each-unless : (refusal : Option ℕ) (o : Outcome) → (refusal ≡ None → Each F L o)
       → Each F L (unless refusal o)
   each-unless (Some error) o more = fails
   each-unless None o more = more refl
 
-  each-with_it : (node : Option Node) (f : Node → Outcome)
-      → ((it : Node) → node ≡ Some it → Each F L (f it)) → Each F L (with_it node f)
-  each-with_it None f more = fails
-  each-with_it (Some it) f more = more it refl
+  each-some : {A : Type 0} (error : ℕ) (o : Option A) (f : A → Outcome)
+      → ((it : A) → o ≡ Some it → Each F L (f it)) → Each F L (option_map_or f o (Refused error))
+  each-some error None f more = fails
+  each-some error (Some it) f more = more it refl
 
   each-on : (node : Option Node) (r : Node → Option ℕ) (f : Node → Outcome)
       → ((it : Node) → node ≡ Some it → r it ≡ None → Each F L (f it)) → Each F L (on node r f)
-  each-on None r f more = fails
-  each-on (Some it) r f more = each-unless (r it) (f it) (more it refl)
-
-  each-found : (s : State) (c : Option Child) (f : Child → Node → Outcome)
-      → ((child : Child) (node : Node) → c ≡ Some child → node_at s child.node ≡ Some node
-      → Each F L (f child node))
-      → Each F L (found c (tree.node_of s c) f)
-  each-found s None f more = fails
-  each-found s (Some child) f more = by (node_at s child.node) refl
-    where
-      by : (o : Option Node) → node_at s child.node ≡ o → Each F L (found (Some child) o f)
-      by None is = fails
-      by (Some node) is = more child node refl is
+  each-on node r f more =
+      each-some enoent node (λ it. unless (r it) (f it))
+      (λ it is. each-unless (r it) (f it) (more it is))
 
   each-at_name : (s : State) (parent : ℕ) (name : List ℕ) (f : Child → Node → Outcome)
       → ((child : Child) (node : Node) → directory_refusal (node_at s parent) name ≡ None
@@ -393,64 +363,46 @@ module _ (F : Type 0) (L : TreeReply → State → Type 0) (fails : F) where
       → Each F L (at_name s parent name f)
   each-at_name s parent name f more =
       each-unless (directory_refusal (node_at s parent) name)
-      (found (child_at s parent name) (node_named s parent name) f)
-      (λ free. each-found s (child_at s parent name) f (λ child node is there. more child node free is there))
+      (with_it (child_at s parent name) (λ child. with_it (node_at s child.node) (f child)))
+      (λ free. each-some enoent (child_at s parent name) (λ child. with_it (node_at s child.node) (f child))
+      (λ child is. each-some enoent (node_at s child.node) (f child)
+      (λ node there. more child node free is there)))
 
-  each-kind : (s : State) (ctx : Context) (o : Option Kind) (mode parent : ℕ) (name : List ℕ)
-      → ((kind : Kind) → Each F L (makes s ctx kind mode parent name []))
-      → Each F L (makes_kind s ctx o mode parent name)
-  each-kind s ctx None mode parent name more = fails
-  each-kind s ctx (Some kind) mode parent name more = more kind
-
--- what is answered has the entry's node
-entry_nodes : (n : ℕ) (node : Node) (answer : Answer) → Replies (EntryOf n node) (Plain answer)
-    → entry_node answer ≡ n ∷ []
-entry_nodes n node (Found x) r = ap (λ k. k ∷ []) r.inode
-entry_nodes n node (Created x y z) r = ap (λ k. k ∷ []) r.0.inode
-entry_nodes n node Done r = absurd r
-entry_nodes n node (Failed x) r = absurd r
-entry_nodes n node (Options x) r = absurd r
-entry_nodes n node (Attributes x y) r = absurd r
-entry_nodes n node (Put x) r = absurd r
-entry_nodes n node (Opened x y) r = absurd r
-entry_nodes n node (Statistics x) r = absurd r
-entry_nodes n node (Text x) r = absurd r
-entry_nodes n node (Count x) r = absurd r
-entry_nodes n node (Offset x) r = absurd r
-entry_nodes n node (Wrote x) r = absurd r
+  each-if : (t : Bool) (a b : Outcome) → (t ≡ true → Each F L a) → (t ≡ false → Each F L b)
+      → Each F L (if t then a else b)
+  each-if true a b first second = first refl
+  each-if false a b first second = second refl
 
 -- ---- the table
 
-module _ (old : State) (P : List (ℕ × ℕ) → TreeReply → State → Type 0) (q : Covers old P) where
+module _ (old : State) (P : List (ℕ × ℕ) → Handed (List Item) → State → Type 0) (q : Covers old P) where
   -- a fact of a call's answer and the state then: the answer has the entries that it is to have
-  abbrev pub Leaves : Call → TreeReply → State → Type 0
-  Leaves call reply left =
-      ((answer : Answer) → Replies reply (Plain answer) → answered_nodes call answer ≡ nodes_of reply)
-      × P (taken_pairs old call) reply left
+  abbrev pub Leaves : Call → Handed (List Item) → State → Type 0
+  Leaves call reply left = (handed_nodes call reply ≡ nodes_of reply) × P (taken_pairs old call) reply left
 
   abbrev pub Covered : Call → Type 0
   Covered call = Each (Fails old call) (Leaves call) (outcome old call)
 
   makes_covered : (call : Call)
       → ((answer : Answer) → answered_nodes call answer ≡ entry_node answer)
-      → taken_pairs old call ≡ [] → (ctx : Context) (kind : Kind) (permissions parent : ℕ)
-      (name text : List ℕ)
-      → Each (Fails old call) (Leaves call) (makes old ctx kind permissions parent name text)
-  makes_covered call same none ctx kind permissions parent name text =
-      let above = node_at old parent in
-      let gid = group_in above ctx.gid in
-      let bits = permissions_in above kind permissions in
-      let node = new_node old.now ctx.uid gid kind bits parent text in
+      → taken_pairs old call ≡ [] → (ctx : Context) (told : Entry → Answer)
+      → ((entry : Entry) → entry_node (told entry) ≡ entry.inode ∷ [])
+      → (kind : Kind) (permissions parent : ℕ) (name text : List ℕ)
+      → Each (Fails old call) (Leaves call) (makes old ctx told kind permissions parent name text)
+  makes_covered call same none ctx told tells kind permissions parent name text =
+      let node = new_in old ctx kind permissions parent text in
+      let reply : Handed (List Item) = Plain (told (entry_of old.next node)) in
       let last = made old parent name node in
       let fails : Fails old call = (none, λ error. same (Failed error)) in
       each-unless (Fails old call) (Leaves call) fails (make_refusal old parent name (length text))
-      (Tried true (EntryOf old.next node) last)
+      (Tried true reply last)
       (λ free. (
         fails,
         (
-          λ answer r. same answer ∙ entry_nodes old.next node answer r,
-          subst (λ pairs. P pairs (EntryOf old.next node) last) (sym none)
-              (q.makes ctx.uid gid kind bits parent name text free),
+          same (told (entry_of old.next node)),
+          subst (λ pairs. P pairs reply last) (sym none)
+              (q.makes reply (tells (entry_of old.next node)) ctx.uid node.gid kind node.permissions
+              parent name text free),
         ),
       ))
 
@@ -460,90 +412,149 @@ module _ (old : State) (P : List (ℕ × ℕ) → TreeReply → State → Type 0
   tells_covered call none gives size None = (gives, λ e. none (Failed e))
   tells_covered call none gives size (Some text) = by (size == 0)
     where
-      quiet : (told : Answer) → entry_node told ≡ [] → Leaves call (Just told) old
-      quiet told is = (
-        λ answer r. none answer ∙ sym is,
-        subst (λ pairs. P pairs (Just told) old) (sym gives) (q.same (Just told) is),
+      quiet : (answer : Answer) → entry_node answer ≡ [] → Leaves call (Plain answer) old
+      quiet answer is = (
+        none answer ∙ sym is,
+        subst (λ pairs. P pairs (Plain answer) old) (sym gives) (q.same (Plain answer) is),
       )
 
       by : (asks : Bool)
           → Each (Fails old call) (Leaves call)
-          (if asks then Answered (Just (Count (length text))) old
+          (if asks then Answered (Plain (Count (length text))) old
           else unless (first_of ((nat_lt size (length text), erange) ∷ []))
-          (Tried true (Just (Text text)) old))
+          (Tried true (Plain (Text text)) old))
       by true = quiet (Count (length text)) refl
       by false =
           let fails : Fails old call = (gives, λ e. none (Failed e)) in
           each-unless (Fails old call) (Leaves call) fails
-          (first_of ((nat_lt size (length text), erange) ∷ [])) (Tried true (Just (Text text)) old)
+          (first_of ((nat_lt size (length text), erange) ∷ [])) (Tried true (Plain (Text text)) old)
           (λ fits. (fails, quiet (Text text) refl))
 
   -- a READ, which moves no time if no byte was asked for
   some_read : (n : ℕ) (node : Node) (answer : Answer) → entry_node answer ≡ []
       → node_at old n ≡ Some node → (none : Bool)
-      → P [] (Just answer) (if none then old else with_node old n (accessed old.now node))
-  some_read n node answer quiet is true = q.same (Just answer) quiet
-  some_read n node answer quiet is false = q.reads n node (Just answer) quiet is
+      → P [] (Plain answer) (if none then old else with_node old n (accessed old.now node))
+  some_read n node answer quiet is true = q.same (Plain answer) quiet
+  some_read n node answer quiet is false = q.reads n node (Plain answer) quiet is
+
+  renames_covered : (ctx : Context) (od : ℕ) (on : List ℕ) (nd : ℕ) (nn : List ℕ) (flags : ℕ)
+      → Covered (Rename ctx od on nd nn flags)
+  renames_covered ctx od on nd nn flags =
+      each-unless F L fails
+      (option_or (directory_refusal (node_at old od) on)
+      (option_or (directory_refusal (node_at old nd) nn)
+      (rename_refusal old od nd nn flags moved target))) (with_it moved ends)
+      (λ free.
+      let one = or_none (directory_refusal (node_at old od) on)
+      (option_or (directory_refusal (node_at old nd) nn)
+      (rename_refusal old od nd nn flags moved target)) free in
+      let two = or_none (directory_refusal (node_at old nd) nn)
+      (rename_refusal old od nd nn flags moved target) one.1 in
+      each-some F L fails enoent moved ends
+      (λ child is.
+      each-if F L fails (same_node moved target) (done old) (last child)
+      (λ same. (refl, q.same (Plain Done) refl))
+      (λ apart. (
+        fails,
+        (
+          refl,
+          q.renames ctx od on nd nn flags child
+              (rename_takes old od on nd nn flags child one.0 two.0 is
+              (ap (λ o. same_node o target) (sym is) ∙ apart)
+              (ap (λ o. rename_refusal old od nd nn flags o target) (sym is) ∙ two.1)),
+        ),
+      ))))
+    where
+      moved : Option Child
+      moved = child_at old od on
+
+      target : Option Child
+      target = child_at old nd nn
+
+      F : Type 0
+      F = Fails old (Rename ctx od on nd nn flags)
+
+      L : Handed (List Item) → State → Type 0
+      L = Leaves (Rename ctx od on nd nn flags)
+
+      fails : F
+      fails = (refl, λ e. refl)
+
+      last : Child → Outcome
+      last child =
+          Tried (is_none target || leaves_whiteout flags) (Plain Done)
+          (renamed old ctx od on nd nn flags target child)
+
+      ends : Child → Outcome
+      ends child = if same_node moved target then done old else last child
 
   pub covered : (call : Call) → Covered call
   covered (Lookup c parent name) =
       let call = (Lookup c parent name) in
       let fails : Fails old call = (refl, λ e. refl) in
       let last = λ (child : Child) (node : Node).
-      Answered (EntryOf child.node node)
+      Answered (Plain (Found (entry_of child.node node)))
       (with_node old child.node (record node { lookups = node.lookups + 1 })) in
       let full = λ (node : Node). first_of ((node.lookups == 2 ^ 64 - 1, eoverflow) ∷ []) in
       each-at_name (Fails old call) (Leaves call) fails old parent name
       (λ child node. unless (full node) (last child node))
       (λ child node free is there.
       each-unless (Fails old call) (Leaves call) fails (full node) (last child node)
-      (λ fits. (entry_nodes child.node node, q.looked_up child.node node there)))
+      (λ fits. (refl, q.looked_up child.node node there)))
   covered (Forget c n count) =
-      ((λ a r. refl), q.forgot ((n, count) ∷ []) (Just Done) refl)
+      (refl, q.forgot ((n, count) ∷ []) (Plain Done) refl)
   covered (BatchForget c pairs) =
-      ((λ a r. refl), q.forgot pairs (Just Done) refl)
+      (refl, q.forgot pairs (Plain Done) refl)
   covered (Getattr c n h) =
       let call = (Getattr c n h) in
       let fails : Fails old call = (refl, λ e. refl) in
-      each-with_it (Fails old call) (Leaves call) fails (node_at old n)
-      (λ node. Answered (AttrOf n node) old) (λ node is. ((λ a r. refl), q.same (AttrOf n node) tt))
+      let reply : Node → Handed (List Item) = λ node. Plain (Attributes (attr_of n node) (lasting node)) in
+      each-some (Fails old call) (Leaves call) fails enoent (node_at old n)
+      (λ node. Answered (reply node) old) (λ node is. (refl, q.same (reply node) refl))
   covered (Setattr c n attr h valid) =
       let call = (Setattr c n attr h valid) in
       let fails : Fails old call = (refl, λ e. refl) in
       let by = if opens_nothing old.offered && attr.size == 0 then Some 0 else h in
       let set = λ (node : Node). set_attr old.now node attr by valid in
-      each-on (Fails old call) (Leaves call) fails (node_at old n) (setattr_refusal old attr valid)
-      (λ node. Answered (AttrOf n (set node)) (with_resized old n node (set node)))
+      let reply : Node → Handed (List Item) =
+      λ node. Plain (Attributes (attr_of n (set node)) (lasting (set node))) in
+      let none = λ (node : Node). if bit_and valid 8 == 8
+      then option_or (contents_refusal node) (first_of ((nat_lt (longest old) attr.size, efbig) ∷ []))
+      else None in
+      each-on (Fails old call) (Leaves call) fails (node_at old n) none
+      (λ node. Answered (reply node) (with_resized old n node (set node)))
       (λ node is free. (
-        (λ a r. refl),
-        q.resizes n node (set node) (AttrOf n (set node)) tt is
+        refl,
+        q.resizes n node (set node) (reply node) refl is
             (set_attr_resizes old node attr by valid free),
       ))
   covered (Mkdir c parent name mode u e) =
-      makes_covered (Mkdir c parent name mode u e) (λ a. refl) refl c kind.Directory mode parent name []
+      makes_covered (Mkdir c parent name mode u e) (λ a. refl) refl c Found (λ entry. refl) kind.Directory mode parent name []
   covered (Create c parent name mode k f u e) =
       let call = (Create c parent name mode k f u e) in
       let fails : Fails old call = (refl, λ e. refl) in
-      each-unless (Fails old call) (Leaves call) fails
-      (first_of ((opens_nothing old.offered, enosys) ∷ [])) (makes old c kind.File mode parent name [])
-      (λ some. makes_covered call (λ a. refl) refl c kind.File mode parent name [])
+      let told : Entry → Answer = λ entry. Created entry None 0 in
+      each-if (Fails old call) (Leaves call) fails (opens_nothing old.offered) (Refused enosys)
+      (makes old c told kind.File mode parent name []) (λ none. fails)
+      (λ some. makes_covered call (λ a. refl) refl c told (λ entry. refl) kind.File mode parent name [])
   covered (Symlink c text parent name e) =
-      makes_covered (Symlink c text parent name e) (λ a. refl) refl c kind.Link 0o777 parent name text
+      makes_covered (Symlink c text parent name e) (λ a. refl) refl c Found (λ entry. refl) kind.Link 0o777 parent name text
   covered (Mknod c parent name mode r u e) =
       let call = (Mknod c parent name mode r u e) in
       let fails : Fails old call = (refl, λ e. refl) in
-      each-kind (Fails old call) (Leaves call) fails old c (kind_by_mode mode r) mode parent name
-      (λ kind. makes_covered call (λ a. refl) refl c kind mode parent name [])
+      each-some (Fails old call) (Leaves call) fails eperm (kind_by_mode mode r)
+      (λ kind. makes old c Found kind mode parent name [])
+      (λ kind is. makes_covered call (λ a. refl) refl c Found (λ entry. refl) kind mode parent name [])
   covered (Link c n parent name) =
       let call = (Link c n parent name) in
       let fails : Fails old call = (refl, λ e. refl) in
       each-on (Fails old call) (Leaves call) fails (node_at old n) (link_refusal old parent name)
-      (λ node. Tried true (EntryOf n (linked old.now node))
+      (λ node. Tried true (Plain (Found (entry_of n (linked old.now node))))
       (change (one_inode_more (with_names old parent
-      (λ c. with_child c name (record { node = n; kind = node.kind })))) n (linked old.now)))
+      (leading name false (Some (record { node = n; kind = node.kind }))))) n (linked old.now)))
       (λ node is free. (
         fails,
-        (entry_nodes n (linked old.now node), q.links n node parent name is free),
+        (refl, q.links n node parent name is free),
       ))
   covered (Unlink c parent name) =
       let call = (Unlink c parent name) in
@@ -554,7 +565,7 @@ module _ (old : State) (P : List (ℕ × ℕ) → TreeReply → State → Type 0
       (λ child node. unless (first_of (rs node)) (last child))
       (λ child node free is there.
       each-unless (Fails old call) (Leaves call) fails (first_of (rs node)) (last child)
-      (λ fits. ((λ a r. refl), q.unlinks parent name child node free is there (are_not (rs node) fits).0)))
+      (λ fits. (refl, q.unlinks parent name child node free is there (all_false (rs node) fits).0)))
   covered (Rmdir c parent name) =
       let call = (Rmdir c parent name) in
       let fails : Fails old call = (refl, λ e. refl) in
@@ -567,66 +578,63 @@ module _ (old : State) (P : List (ℕ × ℕ) → TreeReply → State → Type 0
       (λ child node free is there.
       each-unless (Fails old call) (Leaves call) fails (first_of (rs node)) (last child)
       (λ fits. (
-        (λ a r. refl),
+        refl,
         q.removes parent name child node free is there
             (eqb-true (length node.children.links) 0
-            (not-false (empty node) (are_not (rs node) fits).1.0)),
+            (not-false (empty node) (all_false (rs node) fits).1.0)),
       )))
-  covered (Rename c od on nd nn flags) =
-      let call = (Rename c od on nd nn flags) in
-      let fails : Fails old call = (refl, λ e. refl) in
-      each-unless (Fails old call) (Leaves call) fails (rename_refusal old od on nd nn flags)
-      (Tried (wants_memory old od on nd nn flags) (Just Done)
-      (renamed old c.uid (group_in (node_at old od) c.gid) od on nd nn flags))
-      (λ free. (
-        fails,
-        ((λ a r. refl), q.renames c.uid (group_in (node_at old od) c.gid) od on nd nn flags free),
-      ))
+  covered (Rename c od on nd nn flags) = renames_covered c od on nd nn flags
   covered (Readlink c n) =
       let call = (Readlink c n) in
       let fails : Fails old call = (refl, λ e. refl) in
-      let text = λ (node : Node). Tried true (Just (Text node.text)) (with_node old n (accessed old.now node)) in
+      let text = λ (node : Node). Tried true (Plain (Text node.text)) (with_node old n (accessed old.now node)) in
       let none = λ (node : Node). first_of ((has_no_text node, einval) ∷ []) in
-      each-with_it (Fails old call) (Leaves call) fails (node_at old n)
+      each-some (Fails old call) (Leaves call) fails enoent (node_at old n)
       (λ node. unless (none node) (text node))
       (λ node is. each-unless (Fails old call) (Leaves call) fails (none node) (text node)
-      (λ some. (fails, ((λ a r. refl), q.reads n node (Just (Text node.text)) refl is))))
+      (λ some. (fails, (refl, q.reads n node (Plain (Text node.text)) refl is))))
   covered (Open c n k flags) =
       let call = (Open c n k flags) in
       let fails : Fails old call = (refl, λ e. refl) in
       let last = λ (node : Node). opened old.now c.uid k node flags in
-      let reply = λ (node : Node). Just (opening node flags) in
+      let reply : Node → Handed (List Item) = λ node. Plain (opening node flags) in
       let opens = λ (node : Node). Answered (reply node) (with_resized old n node (last node)) in
-      each-unless (Fails old call) (Leaves call) fails
-      (first_of ((opens_nothing old.offered, enosys) ∷ [])) (with_it (node_at old n) opens)
-      (λ some. each-with_it (Fails old call) (Leaves call) fails (node_at old n) opens
+      each-if (Fails old call) (Leaves call) fails (opens_nothing old.offered) (Refused enosys)
+      (with_it (node_at old n) opens) (λ none. fails)
+      (λ some. each-some (Fails old call) (Leaves call) fails enoent (node_at old n) opens
       (λ node is. (
-        (λ a r. refl),
+        refl,
         q.resizes n node (last node) (reply node) refl is (opened_resizes old c.uid k node flags),
       )))
   covered (Read c n h room size off o f) =
       let call = (Read c n h room size off o f) in
       let fails : Fails old call = (refl, λ e. refl) in
-      let reply = λ (node : Node). Just (Put (part_of node.contents.bytes off (most_put room size))) in
+      let reply : Node → Handed (List Item) = λ node. Plain (Put (part_of node.contents.bytes off (most_put room size))) in
       each-on (Fails old call) (Leaves call) fails (node_at old n) contents_refusal
       (λ node. Answered (reply node)
       (if size == 0 then old else with_node old n (accessed old.now node)))
       (λ node is free. (
-        (λ a r. refl),
+        refl,
         some_read n node (Put (part_of node.contents.bytes off (most_put room size))) refl is (size == 0),
       ))
   covered (Write c n h bytes size off o d k f) =
       let call = (Write c n h bytes size off o d k f) in
       let fails : Fails old call = (refl, λ e. refl) in
-      let fit = λ (node : Node). fitting (most_size old off size node) off (take size bytes) in
-      each-on (Fails old call) (Leaves call) fails (node_at old n) (write_refusal old off size)
-      (writes old n d k off size bytes)
+      let most = λ (node : Node). most_size old off size node in
+      let fit = λ (node : Node). fitting (most node) off (take size bytes) in
+      let none = λ (node : Node). option_or (contents_refusal node)
+      (first_of ((nat_lt 0 size && nat_le (longest old) off, efbig)
+      ∷ (nat_lt 0 size && nat_le (most node) off, enospc) ∷ [])) in
+      let last = λ (node : Node). overwritten old.now d k node off (fit node) in
+      let reply : Node → Handed (List Item) = λ node. Plain (Wrote (length (fit node))) in
+      each-on (Fails old call) (Leaves call) fails (node_at old n) none
+      (λ node. Tried (nat_lt 0 (length (fit node)) && nat_lt 0 (lacking node.contents off (length (fit node))))
+      (reply node) (with_resized old n node (last node)))
       (λ node is free. (
         fails,
         (
-          (λ a r. refl),
-          q.resizes n node (overwritten old.now d k node off (fit node))
-              (Just (Wrote (length (fit node)))) refl is
+          refl,
+          q.resizes n node (last node) (reply node) refl is
               (overwritten_resizes old d k node off size (take size bytes)),
         ),
       ))
@@ -636,44 +644,54 @@ module _ (old : State) (P : List (ℕ × ℕ) → TreeReply → State → Type 0
       let last = λ (node : Node).
       rewritten old.now true false node (fallocated mode off len node.contents) in
       each-on (Fails old call) (Leaves call) fails (node_at old n) (fallocate_refusal old mode off len)
-      (λ node. Tried (not (mode == 3) && nat_lt 0 (lacking node.contents off len)) (Just Done)
+      (λ node. Tried (not (mode == 3) && nat_lt 0 (lacking node.contents off len)) (Plain Done)
       (with_resized old n node (last node)))
       (λ node is free. (
         fails,
         (
-          (λ a r. refl),
-          q.resizes n node (last node) (Just Done) refl is
+          refl,
+          q.resizes n node (last node) (Plain Done) refl is
               (fallocated_resizes old node mode off len free),
         ),
       ))
   covered (Setxattr c n name value flags e) =
       let call = (Setxattr c n name value flags e) in
       let fails : Fails old call = (refl, λ e. refl) in
+      let was = λ (node : Node). xattr_named node.xattrs name in
       let last = λ (node : Node). with_xattrs old.now node (with_xattr node.xattrs name value) in
-      each-on (Fails old call) (Leaves call) fails (node_at old n) (setxattr_refusal old name value flags)
-      (λ node. Tried true (Just Done) (with_resized old n node (last node)))
+      let more = λ (node : Node). xattr_bytes (last node).xattrs in
+      let rs : Node → List (Bool × ℕ) = λ node. (bit_and flags 1 == 1 && is_some (was node), eexist)
+      ∷ (bit_and flags 2 == 2 && is_none (was node), enodata)
+      ∷ (nat_lt 65536 (more node), enospc)
+      ∷ (nat_lt (room_of old) (more node - xattr_bytes node.xattrs), enospc) ∷ [] in
+      each-on (Fails old call) (Leaves call) fails (node_at old n)
+      (λ node. option_or (namespace_refusal name) (first_of (rs node)))
+      (λ node. Tried true (Plain Done) (with_resized old n node (last node)))
       (λ node is free. (
         fails,
         (
-          (λ a r. refl),
-          q.resizes n node (last node) (Just Done) refl is (xattr_fits old node name value flags free),
+          refl,
+          q.resizes n node (last node) (Plain Done) refl is
+              (xattr_fits old node name value
+              (ltb-false (room_of old) (more node - xattr_bytes node.xattrs)
+              (all_false (rs node) (or_none (namespace_refusal name) (first_of (rs node)) free).1).1.1.1.0)),
         ),
       ))
   covered (Removexattr c n name) =
       let call = (Removexattr c n name) in
       let fails : Fails old call = (refl, λ e. refl) in
       let last = λ (node : Node). with_xattrs old.now node (without_xattr node.xattrs name) in
-      let none = λ (node : Node). or_else (namespace_refusal name)
+      let none = λ (node : Node). option_or (namespace_refusal name)
       (first_of ((is_none (xattr_named node.xattrs name), enodata) ∷ [])) in
-      each-with_it (Fails old call) (Leaves call) fails (node_at old n)
+      each-some (Fails old call) (Leaves call) fails enoent (node_at old n)
       (λ node. unless (none node) (done (with_resized old n node (last node))))
       (λ node is.
       each-unless (Fails old call) (Leaves call) fails (none node) (done (with_resized old n node (last node)))
-      (λ free. ((λ a r. refl), q.resizes n node (last node) (Just Done) refl is (xattr_leaves old node name))))
+      (λ free. (refl, q.resizes n node (last node) (Plain Done) refl is (xattr_leaves old node name))))
   covered (Getxattr c n name size) =
       let call = (Getxattr c n name size) in
       let fails : Fails old call = (refl, λ e. refl) in
-      each-with_it (Fails old call) (Leaves call) fails (node_at old n)
+      each-some (Fails old call) (Leaves call) fails enoent (node_at old n)
       (λ node. unless (namespace_refusal name) (tells old size (xattr_named node.xattrs name)))
       (λ node is.
       each-unless (Fails old call) (Leaves call) fails (namespace_refusal name)
@@ -682,60 +700,70 @@ module _ (old : State) (P : List (ℕ × ℕ) → TreeReply → State → Type 0
   covered (Listxattr c n size) =
       let call = (Listxattr c n size) in
       let fails : Fails old call = (refl, λ e. refl) in
-      each-with_it (Fails old call) (Leaves call) fails (node_at old n)
+      each-some (Fails old call) (Leaves call) fails enoent (node_at old n)
       (λ node. tells old size (Some (name_list node.xattrs)))
       (λ node is. tells_covered call (λ a. refl) refl size (Some (name_list node.xattrs)))
   covered (Readdir c n h size off) =
       let call = (Readdir c n h size off) in
       let fails : Fails old call = (refl, λ e. refl) in
-      let reply = λ (node : Node). Listed (items_behind n node off size) in
+      let reply : Node → Handed (List Item) = λ node. Iterator (items_behind n node off size) in
       let last = λ (node : Node). with_node old n (accessed old.now node) in
       let none = λ (node : Node). first_of ((not (is_directory node.kind), enotdir) ∷ []) in
-      each-with_it (Fails old call) (Leaves call) fails (node_at old n)
+      each-some (Fails old call) (Leaves call) fails enoent (node_at old n)
       (λ node. unless (none node) (Tried true (reply node) (last node)))
       (λ node is. each-unless (Fails old call) (Leaves call) fails (none node)
       (Tried true (reply node) (last node))
-      (λ free. (fails, ((λ a r. refl), q.reads n node (reply node) (off, size, refl) is))))
+      (λ free. (fails, (refl, q.reads n node (reply node) (off, size, refl) is))))
   covered (Statfs c n) =
-      ((λ a r. refl), q.same (Just (Statistics (statistics_of old))) refl)
-  covered (Init offered) =
-      let wanted = Just (Options (wanted_options old.writeback offered)) in
-      ((λ a r. refl), q.began offered (held_of old.nodes) wanted refl)
+      let statistics : Statvfs64 = record {
+        f_bsize = 4096;
+        f_frsize = 4096;
+        f_blocks = old.limits.bytes / 4096;
+        f_bfree = room_of old / 4096;
+        f_bavail = room_of old / 4096;
+        f_files = old.limits.nodes;
+        f_ffree = old.limits.nodes - old.inodes;
+        f_namemax = 255;
+      } in
+      (refl, q.same (Plain (Statistics statistics)) refl)
+  covered (Init offered) = (
+    refl,
+    q.began offered (held_of old.nodes) (Plain (Options (wanted_options old.writeback offered))) refl,
+  )
   covered (Release c n f h x y o) =
-      ((λ a r. refl), q.same (Just Done) refl)
+      (refl, q.same (Plain Done) refl)
   covered (Fsync c n x h) =
-      ((λ a r. refl), q.same (Just Done) refl)
+      (refl, q.same (Plain Done) refl)
   covered (Flush c n h o) =
-      ((λ a r. refl), q.same (Just (default_answer (Flush c n h o))) refl)
+      (refl, q.same (Plain (default_answer (Flush c n h o))) refl)
   covered (Releasedir c n f h) =
-      ((λ a r. refl), q.same (Just Done) refl)
+      (refl, q.same (Plain Done) refl)
   covered (Fsyncdir c n x h) =
-      ((λ a r. refl), q.same (Just Done) refl)
+      (refl, q.same (Plain Done) refl)
   covered (Opendir c n f) =
       let call = (Opendir c n f) in
       let fails : Fails old call = (refl, λ e. refl) in
-      each-unless (Fails old call) (Leaves call) fails
-      (first_of ((bit_and old.offered 0x1000000 == 0x1000000, enosys) ∷ []))
-      (Answered (Just (Opened None 10)) old)
-      (λ some. ((λ a r. refl), q.same (Just (Opened None 10)) refl))
+      each-if (Fails old call) (Leaves call) fails (bit_and old.offered 0x1000000 == 0x1000000)
+      (Refused enosys) (Answered (Plain (Opened None 10)) old) (λ none. fails)
+      (λ some. (refl, q.same (Plain (Opened None 10)) refl))
   covered Getlk =
-      ((λ a r. refl), q.same (Just (default_answer Getlk)) refl)
+      (refl, q.same (Plain (default_answer Getlk)) refl)
   covered Setlk =
-      ((λ a r. refl), q.same (Just (default_answer Setlk)) refl)
+      (refl, q.same (Plain (default_answer Setlk)) refl)
   covered Setlkw =
-      ((λ a r. refl), q.same (Just (default_answer Setlkw)) refl)
+      (refl, q.same (Plain (default_answer Setlkw)) refl)
   covered (Access c n m) =
-      ((λ a r. refl), q.same (Just (default_answer (Access c n m))) refl)
+      (refl, q.same (Plain (default_answer (Access c n m))) refl)
   covered Bmap =
-      ((λ a r. refl), q.same (Just (default_answer Bmap)) refl)
+      (refl, q.same (Plain (default_answer Bmap)) refl)
   covered Destroy =
-      ((λ a r. refl), q.forgot (held_of old.nodes) (Just Done) refl)
+      (refl, q.forgot (held_of old.nodes) (Plain Done) refl)
   covered Ioctl =
-      ((λ a r. refl), q.same (Just (default_answer Ioctl)) refl)
+      (refl, q.same (Plain (default_answer Ioctl)) refl)
   covered Poll =
-      ((λ a r. refl), q.same (Just (default_answer Poll)) refl)
+      (refl, q.same (Plain (default_answer Poll)) refl)
   covered NotifyReply =
-      ((λ a r. refl), q.same (Just (default_answer NotifyReply)) refl)
+      (refl, q.same (Plain (default_answer NotifyReply)) refl)
   covered (Lseek c n h off w) =
       let call = (Lseek c n h off w) in
       let fails : Fails old call = (refl, λ e. refl) in
@@ -744,27 +772,27 @@ module _ (old : State) (P : List (ℕ × ℕ) → TreeReply → State → Type 0
       let none = λ (node : Node).
       first_of ((not (is_file node.kind) || not (w == 3 || w == 4), einval)
       ∷ (nat_le (length node.contents.bytes) off || is_none (at node), enxio) ∷ []) in
-      let reply = λ (node : Node). Just (Offset (unwrap_or (at node) 0)) in
+      let reply : Node → Handed (List Item) = λ node. Plain (Offset (unwrap_or (at node) 0)) in
       let last = λ (node : Node). unless (none node) (Answered (reply node) old) in
-      each-unless (Fails old call) (Leaves call) fails (first_of ((old.writeback, enosys) ∷ []))
-      (with_it (node_at old n) last)
-      (λ may. each-with_it (Fails old call) (Leaves call) fails (node_at old n) last
+      each-if (Fails old call) (Leaves call) fails old.writeback (Refused enosys)
+      (with_it (node_at old n) last) (λ none. fails)
+      (λ may. each-some (Fails old call) (Leaves call) fails enoent (node_at old n) last
       (λ node is. each-unless (Fails old call) (Leaves call) fails (none node) (Answered (reply node) old)
-      (λ free. ((λ a r. refl), q.same (reply node) refl))))
+      (λ free. (refl, q.same (reply node) refl))))
   covered (Copyfilerange c n h o m i p l f) =
-      ((λ a r. refl), q.same (Just (default_answer (Copyfilerange c n h o m i p l f))) refl)
+      (refl, q.same (Plain (default_answer (Copyfilerange c n h o m i p l f))) refl)
   covered (Syncfs c n) =
-      ((λ a r. refl), q.same (Just (default_answer (Syncfs c n))) refl)
+      (refl, q.same (Plain (default_answer (Syncfs c n))) refl)
   covered Tmpfile =
-      ((λ a r. refl), q.same (Just (default_answer Tmpfile)) refl)
+      (refl, q.same (Plain (default_answer Tmpfile)) refl)
 
 -- ---- what a call leaves
 
 -- a call is refused, and nothing is changed, or this is answered and left
-pub left_so : (old new : State) (F : Type 0) (L : TreeReply → State → Type 0) (o : Outcome)
+pub left_so : (old new : State) (F : Type 0) (L : Handed (List Item) → State → Type 0) (o : Outcome)
     (handed : Handed (List Item)) (C : Type 0)
     → (F → (error : Option ℕ) → handed ≡ Plain (Failed error) → new ≡ old → C)
-    → ((reply : TreeReply) → Replies reply handed → L reply new → C)
+    → ((reply : Handed (List Item)) → handed ≡ reply → L reply new → C)
     → Each F L o → Ends old o handed new → C
 left_so old new F L (Refused error) handed C fails leaves each h =
     fails each (Some error) h.0 h.1
@@ -774,7 +802,7 @@ left_so old new F L (Tried needs reply left) handed C fails leaves each h = by h
   where
     by : (handed : Handed (List Item))
         → (F → (error : Option ℕ) → handed ≡ Plain (Failed error) → new ≡ old → C)
-        → ((reply : TreeReply) → Replies reply handed → L reply new → C)
+        → ((reply : Handed (List Item)) → handed ≡ reply → L reply new → C)
         → Ends old (Tried needs reply left) handed new → C
     by (Plain (Failed x)) fails leaves h = fails each.0 x refl h.1
     by (Iterator x) fails leaves h = leaves reply h.0 (subst (L reply) (sym h.1) each.1)
@@ -797,6 +825,6 @@ pub calls_covered : (old new : State) (Q : State → Type 0) → Covers old (λ 
 calls_covered old new Q q call answer =
     left_so old new (Fails old call) (Leaves old (λ taken reply left. Q left) q call) (outcome old call)
     (Plain answer) (Q new)
-    (λ fails error is same. subst Q (sym same) (q.same (Just Done) refl))
+    (λ fails error is same. subst Q (sym same) (q.same (Plain Done) refl))
     (λ reply replies leaves. leaves.1)
     (covered old (λ taken reply left. Q left) q call)

@@ -2,11 +2,11 @@
 use Rattle.std.proofs.Common.{◌≡◌, ◌≢◌, ◌+◌, ◌-◌, ◌<◌, ◌≤◌, min, ℕ, true, false, List, [], find, Option, Some, None, option_map, refl, sym, ap, ◌∙◌, subst, arith}
 use Rattle.std.proofs.lemmas.Bool.{both_ways, false≢true}
 use Rattle.std.proofs.lemmas.Option.{none-some, same_Some}
-use Rattle.vfs_tree.specs.Children.{Link, Children, is_directory, is_named, child_named, with_child, without_child, with_other_child}
+use Rattle.vfs_tree.specs.Children.{Link, Children, is_directory, is_named, child_named, leading}
 use Rattle.vfs_tree_laws.specs.Laws.{names_in, names_to, names_of, IsSound, IsLinked}
-use Rattle.vfs_tree.specs.Rename.{parent_of, named_anew}
-use Rattle.vfs_tree.specs.State.{State, node_at, with_node, with_new, changed, change, with_names, unnamed}
-use Rattle.vfs_tree.specs.Tree.{made, linked, taken_out}
+use Rattle.vfs_tree.specs.Rename.{parent_of}
+use Rattle.vfs_tree.specs.State.{State, node_at, with_node, with_new, change, with_names}
+use Rattle.vfs_tree.specs.Tree.{linked, taken_out}
 use Rattle.vfs_nodes.specs.declared.children.Child.{Child}
 use Rattle.vfs_nodes.specs.declared.kind.Kind.{Kind}
 use Rattle.vfs_nodes.specs.declared.node.Node.{Node}
@@ -14,10 +14,11 @@ use Rattle.vfs_nodes.proofs.Finds.{every_found}
 use Rattle.vfs_tree_laws.proofs.Held.{at}
 use Rattle.vfs_tree_laws.proofs.Keeping.{keeps-with_names}
 use Rattle.vfs_tree_laws.proofs.NamesIn.{one, one_same, one_other, Apart, names_in-found}
-use Rattle.vfs_tree.proofs.Nodes.{node_at-with_new, node_at-with_new_other}
+use Rattle.vfs_tree.proofs.Nodes.{node_at-with_new, node_at-with_new_other, changed}
 use Rattle.vfs_tree_laws.proofs.Shapes.{Shape, Fits, AllFit, Good, kind_new, kind_new_other, good-with_new, Counted, Home, linked_from, good_from, counted_from, home_from}
 use Rattle.vfs_tree_laws.proofs.Steps.{Step, found_link, none_lost, step-with_child, step-without_child, step-with_other_child, step_home, linked_counted, linked-recounted, linked-with_node, linked-settled}
 use Rattle.vfs_tree_laws.proofs.Tables.{links_in, names_at, kind_in, kind_at, is_dir, names_at_most, names_at_both, names_to-with_new, free_number}
+use Rattle.vfs_tree_laws.proofs.Changes.{unnamed_at, made}
 
 -- ---- what is found
 
@@ -51,30 +52,29 @@ module _ (s : State) (d : ℕ) (node : Node) (is : node_at s d ≡ Some node) (n
       (subst (λ (c : Child). 0 < names_in c.node node.children.links) e.2
       (names_in-found name node.children.links e.0 e.1))
 
--- where as many lead to a directory as it says, that is one at most
-module _ (s : State) (good : Good s) (counted : Counted s) where
+-- where no more names lead to a node than it says
+module _ (s : State) (good : Good s) (most : (m : ℕ) → names_to s m + one m 1 ≤ names_of (node_at s m)) where
+  -- one at most leads to a directory
   single_in : (m : ℕ) (o : Option Node) → node_at s m ≡ o → is_dir (kind_in o) ≡ true
       → names_to s m ≤ 1
   single_in m None is dir = absurd (false≢true dir)
   single_in m (Some node) is dir =
       let few = (good.nodes m node is).shape.single dir in
       let same = ap names_of is in
-      omega (arith, few, same, counted m)
+      omega (arith, few, same, most m)
 
   pub single_at : (m : ℕ) → is_dir (kind_at s m) ≡ true → names_to s m ≤ 1
   single_at m dir = single_in m (node_at s m) refl dir
 
--- no name leads to the root
-module _ (s : State) (linked : IsLinked s) where
+  -- and none to the root
   root_names : (o : Option Node) → node_at s 1 ≡ o → names_to s 1 ≡ 0
   root_names None is =
       let none = ap names_of is in
-      absurd (omega (arith, none, counted_from s linked 1, one_same 1 1 refl))
+      absurd (omega (arith, none, most 1, one_same 1 1 refl))
   root_names (Some node) is =
-      let good = good_from s linked in
       let few = (good.nodes 1 node is).shape.single (good.root node.kind (ap kind_in is)) in
       let same = ap names_of is in
-      omega (arith, few, same, counted_from s linked 1, one_same 1 1 refl)
+      omega (arith, few, same, most 1, one_same 1 1 refl)
 
   pub root_unnamed : (node : Node) (d n : ℕ) → 0 < names_at s d n → 1 ≢ n
   root_unnamed node d n some e =
@@ -127,10 +127,10 @@ module _ (s : State) (sound : IsSound s) (linked : IsLinked s) (parent : ℕ)
       let none = ap names_of free_next in
       omega (arith, none, counted s.next)
 
-  parent_there : parent ≢ s.next
+  pub parent_there : parent ≢ s.next
   parent_there e = none-some above (sym free_next ∙ ap (node_at s) (sym e) ∙ is)
 
-  good_mid : Good mid
+  pub good_mid : Good mid
   good_mid =
       good-with_new s node sound root_there good
       (record {
@@ -158,121 +158,60 @@ module _ (s : State) (sound : IsSound s) (linked : IsLinked s) (parent : ℕ)
       ∙ sym (ap (λ o. names_in m (links_in o)) free_next)))
       (λ apart. ap (λ o. names_in m (links_in o)) (node_at-with_new_other s e node apart))
 
-  -- a name of the directory leads to it, which led nowhere or elsewhere
-  module _ (new : State) (lost : ℕ → ℕ) (step : Step mid new parent lost (one s.next))
-      (none_here : lost s.next ≡ 0) where
-    counted_new : (m : ℕ) → names_of (node_at new m) ≡ names_to new m + lost m + one m 1
-    counted_new m =
-        at s.next m (names_of (node_at new m) ≡ names_to new m + lost m + one m 1)
-        (λ e. subst (λ j. names_of (node_at new j) ≡ names_to new j + lost j + one j 1) e
-        (let now = ap names_of (node_at-with_new s s.next node) in
-        let root = one_other s.next 1 (λ e. root_there (sym e)) in
-        omega (
-          arith,
-          step.names s.next,
-          now,
-          first,
-          root,
-          none_here,
-          step.to s.next,
-          one_same s.next s.next refl,
-          same_to s.next,
-          next_none,
-        )))
-        (λ apart.
-        let as_was = ap names_of (node_at-with_new_other s m node apart) in
-        omega (
-          arith,
-          step.names m,
-          as_was,
-          step.to m,
-          one_other s.next m (λ e. apart (sym e)),
-          same_to m,
-          counted m,
-        ))
+  pub counted_mid : (m : ℕ) → names_of (node_at mid m) ≡ names_to mid m + one m 1 + one s.next m
+  counted_mid m =
+      at s.next m (names_of (node_at mid m) ≡ names_to mid m + one m 1 + one s.next m)
+      (λ e. subst (λ j. names_of (node_at mid j) ≡ names_to mid j + one j 1 + one s.next j) e
+      (let now = ap names_of (node_at-with_new s s.next node) in
+      let root = one_other s.next 1 (λ e. root_there (sym e)) in
+      omega (arith, now, first, root, one_same s.next s.next refl, same_to s.next, next_none)))
+      (λ apart.
+      let as_was = ap names_of (node_at-with_new_other s m node apart) in
+      omega (arith, as_was, one_other s.next m (λ e. apart (sym e)), same_to m, counted m))
+
+  pub home_mid : (c : ℕ) → Home mid c
+  home_mid c =
+      at s.next c (Home mid c)
+      (λ e. subst (Home mid) e
+      (λ dir d apart. omega (arith, same_each d s.next, names_at_most s d node s.next, next_none)))
+      (λ apart dir d other.
+      same_each d c
+      ∙ home_from s linked c (sym (ap is_dir (kind_new_other s node sound c apart)) ∙ dir) d
+      (λ same. other (same ∙ sym (ap parent_of (node_at-with_new_other s c node apart)))))
+
+  pub top_mid : parent_of (node_at mid 1) ≡ 1
+  top_mid = ap parent_of (node_at-with_new_other s 1 node root_there) ∙ linked.top
+
+  -- MKDIR and the like: a name of the directory leads to it
+  module _ (name : List ℕ) (dir : is_directory above.kind ≡ true) (named : above.names ≡ 0 → ⊥)
+      (free : child_named above.children name ≡ None) where
+    abbrev new : State
+    new = made s parent name node
+
+    step_made : Step mid new parent none_lost (one s.next)
+    step_made =
+        step-with_child mid parent above (node_at-with_new_other s parent node parent_there ∙ is)
+        good_mid name child_made dir named free (kind_new s node sound)
 
     home_new : (c : ℕ) → Home new c
     home_new c =
         at s.next c (Home new c)
         (λ e. subst (Home new) e
         (λ dir d apart.
-        let is_one = sym (ap is_dir (step.kinds s.next ∙ kind_new s node sound)) ∙ dir in
-        let other : d ≢ parent = λ same. apart (same ∙ sym (step.parents s.next
+        let is_one = sym (ap is_dir (step_made.kinds s.next ∙ kind_new s node sound)) ∙ dir in
+        let other : d ≢ parent = λ same. apart (same ∙ sym (step_made.parents s.next
         ∙ ap parent_of (node_at-with_new s s.next node) ∙ lies is_one)) in
-        let still = ap (λ o. names_in s.next (links_in o)) (step.nodes d other) in
+        let still = ap (λ o. names_in s.next (links_in o)) (step_made.nodes d other) in
         omega (arith, still, same_each d s.next, names_at_most s d node s.next, next_none)))
         (λ apart.
-        step_home mid new parent lost (one s.next) step c
-        (one_other s.next c (λ e. apart (sym e)))
-        (λ dir d other.
-        same_each d c
-        ∙ home_from s linked c (sym (ap is_dir (kind_new_other s node sound c apart)) ∙ dir) d
-        (λ same. other (same ∙ sym (ap parent_of (node_at-with_new_other s c node apart))))))
+        step_home mid new parent none_lost (one s.next) step_made c
+        (one_other s.next c (λ e. apart (sym e))) (home_mid c))
 
-    top_new : parent_of (node_at new 1) ≡ 1
-    top_new =
-        step.parents 1 ∙ ap parent_of (node_at-with_new_other s 1 node root_there) ∙ linked.top
-
-  module _ (name : List ℕ) where
-    -- MKDIR and the like
-    module _ (dir : is_directory above.kind ≡ true) (named : above.names ≡ 0 → ⊥)
-        (free : child_named above.children name ≡ None) where
-      step_made : Step mid (made s parent name node) parent none_lost (one s.next)
-      step_made =
-          step-with_child mid parent above (node_at-with_new_other s parent node parent_there ∙ is)
-          good_mid name child_made dir named free (kind_new s node sound)
-
-      pub linked-made : IsLinked (made s parent name node)
-      linked-made =
-          let new = made s parent name node in
-          linked_from new step_made.good (top_new new none_lost step_made refl)
-          (λ m. omega (arith, counted_new new none_lost step_made refl m))
-          (home_new new none_lost step_made refl)
-
-    -- a whiteout in place of another node
-    module _ (target : Child) (found : child_named above.children name ≡ Some target) (old : Node)
-        (is_old : node_at s target.node ≡ Some old) (bare : old.children.links ≡ []) where
-      abbrev put : State
-      put = with_names mid parent (λ c. with_other_child c name child_made)
-
-      step_put : Step mid put parent (one target.node) (one s.next)
-      step_put =
-          step-with_other_child mid parent above
-          (node_at-with_new_other s parent node parent_there ∙ is)
-          good_mid name child_made target found (kind_new s node sound)
-
-      target_there : target.node ≢ s.next
-      target_there e = none-some old (sym free_next ∙ ap (node_at s) (sym e) ∙ is_old)
-
-      target_below : target.node ≢ parent
-      target_below e =
-          let same = same_Some old above (sym is_old ∙ ap (node_at s) e ∙ is) in
-          empty_finds above.children name target
-          (ap (λ (x : Node). x.children.links) (sym same) ∙ bare) found
-
-      is_put : node_at put target.node ≡ Some old
-      is_put =
-          step_put.nodes target.node target_below
-          ∙ node_at-with_new_other s target.node node target_there ∙ is_old
-
-      abbrev old_left : Node
-      old_left = record old { names = old.names - 1; ctime = put.now }
-
-      pub linked-put : IsSound mid → IsLinked (named_anew s parent name (Some target) node)
-      linked-put there =
-          let none = one_other target.node s.next target_there in
-          let names = ap names_of is_put in
-          let t = target.node in
-          let sums = counted_new put (one target.node) step_put none in
-          subst IsLinked (sym (ap (unnamed put target.node) is_put))
-          (linked-recounted put t old_left (put.inodes - min (old.names - 1) 1)
-          (linked-settled put t old old_left is_put refl refl refl step_put.good
-          (top_new put (one target.node) step_put none)
-          (shape_empty old.kind old.names old.children.links bare (good.nodes t old is_old).shape)
-          (omega (arith, names, sums t, one_same t t refl))
-          (λ m apart. omega (arith, sums m, one_other t m (λ e. apart (sym e))))
-          (home_new put (one target.node) step_put none)
-          (keeps-with_names mid parent (λ c. with_other_child c name child_made) there).sound))
+    pub linked-made : IsLinked new
+    linked-made =
+        linked_from new step_made.good (step_made.parents 1 ∙ top_mid)
+        (λ m. omega (arith, step_made.names m, step_made.to m, counted_mid m))
+        home_new
 
 -- ---- LINK
 
@@ -285,7 +224,7 @@ module _ (s : State) (linked_s : IsLinked s) (n : ℕ) (node : Node)
   child_linked = record { node = n; kind = node.kind }
 
   abbrev mid_linked : State
-  mid_linked = with_names s parent (λ c. with_child c name child_linked)
+  mid_linked = with_names s parent (leading name false (Some child_linked))
 
   good_s : Good s
   good_s = good_from s linked_s
@@ -349,7 +288,7 @@ module _ (s : State) (sound : IsSound s) (linked_s : IsLinked s) (parent : ℕ) 
     (target : Node) (is_target : node_at s child.node ≡ Some target)
     (empty : target.children.links ≡ []) where
   abbrev rest : State
-  rest = with_names s parent (λ c. without_child c name)
+  rest = with_names s parent (leading name true None)
 
   abbrev left : Node
   left = record target { names = target.names - 1; ctime = rest.now }
@@ -371,7 +310,7 @@ module _ (s : State) (sound : IsSound s) (linked_s : IsLinked s) (parent : ℕ) 
       let counted = counted_from s linked_s in
       let old = ((good_from s linked_s).nodes child.node target is_target).shape in
       let names = ap names_of is_target in
-      subst IsLinked (sym (ap (unnamed rest child.node) is_rest))
+      subst IsLinked (sym (ap (unnamed_at rest child.node) is_rest))
       (linked-recounted rest child.node left (rest.inodes - min (target.names - 1) 1)
       (linked-settled rest child.node target left is_rest refl refl refl step_out.good
       (step_out.parents 1 ∙ linked_s.top)
@@ -393,4 +332,4 @@ module _ (s : State) (sound : IsSound s) (linked_s : IsLinked s) (parent : ℕ) 
       ))
       (λ c.
       step_home s rest parent (one child.node) none_lost step_out c refl (home_from s linked_s c))
-      (keeps-with_names s parent (λ c. without_child c name) sound).sound))
+      (keeps-with_names s parent (leading name true None) sound).sound))

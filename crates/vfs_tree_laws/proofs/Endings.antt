@@ -5,10 +5,10 @@ use Rattle.vfs_files.specs.Runs.{Called}
 use Rattle.vfs_grammar.specs.Books.{forgotten, answered_nodes, forgets_of}
 use Rattle.vfs_grammar.specs.Turn.{node_answered}
 use Rattle.vfs_tree.specs.State.{State}
-use Rattle.vfs_tree.specs.Tree.{held_of}
 use Rattle.vfs_tree_laws.specs.Laws.{lookups_of, taken_back}
 use Rattle.vfs_tree_laws.specs.Runs.{takes_all}
 use Rattle.vfs_tree_laws.proofs.Cases.{taken_pairs}
+use Rattle.vfs_tree_laws.proofs.Changes.{held_of}
 
 -- a call that takes back what it says
 pub record IsOrdinary (old : State) (call : Call) (answer : Answer) : Type 0 where

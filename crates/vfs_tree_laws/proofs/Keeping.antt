@@ -1,14 +1,16 @@
 -- Changes that keep a state sound and all lookups that are held.
 use Rattle.std.proofs.Common.{◌≡◌, ◌≢◌, ◌<◌, ◌-◌, ◌==◌, min, ℕ, Bool, true, false, List, Option, Some, None, IsSome, IfSome, is_some, refl, sym, ap, subst, ◌∙◌, arith, if◌then◌else◌}
-use Rattle.vfs_tree.specs.Children.{Children, with_child, without_child, with_other_child}
+use Rattle.vfs_tree.specs.Children.{Children, leading}
 use Rattle.vfs_tree_laws.specs.Laws.{lookups_in, lookups_of, IsHeld, IsSound}
-use Rattle.vfs_tree.specs.Rename.{same_node, leaves_whiteout, moved_into, moved_to_free, moved_over, exchanged, named_anew, whiteout, whited_out, whited_to, renamed, renamed_to}
-use Rattle.vfs_tree.specs.State.{State, node_at, with_node, with_new, with_resized, changed, change, with_names, unnamed, child_at}
+use Rattle.vfs_tree.specs.Rename.{leaves_whiteout, moved_into, whiteout, renamed}
+use Rattle.vfs_tree.specs.State.{State, node_at, with_node, with_new, with_resized, change, with_names, lead}
 use Rattle.vfs_tree.specs.Tree.{taken_out}
 use Rattle.vfs_nodes.specs.declared.children.Child.{Child}
 use Rattle.vfs_nodes.specs.declared.node.Node.{Node}
-use Rattle.vfs_tree.proofs.Nodes.{node_at-with_node, node_at-with_node_other}
+use Rattle.vfs_tree.proofs.Nodes.{node_at-with_node, node_at-with_node_other, changed}
 use Rattle.vfs_tree_laws.proofs.Held.{at, lookups_here, lookups_other, none_yet, lookups_new, lookups_new_other, sound_counted, sound-with_node, sound-with_new, settles}
+use Rattle.vfs_tree_laws.proofs.Changes.{unnamed_at, white_of, begun, back_of, laid, left_with}
+use Rattle.vfs_files.specs.declared.entry.Context.{Context}
 
 pub record Keeps (old new : State) : Type 0 where
   pub sound : IsSound new
@@ -99,10 +101,10 @@ pub keeps-moved_into : (s : State) (n d : ℕ) → IsSound s → Keeps s (moved_
 keeps-moved_into s n d sound = keeps-change s n _ (λ node. (refl, refl)) sound
 
 pub keeps-unnamed : (s : State) (n : ℕ) (o : Option Node) → node_at s n ≡ o → IsSound s
-    → Keeps s (unnamed s n o)
+    → Keeps s (unnamed_at s n o)
 keeps-unnamed s n None is sound = keeps_itself s sound
 keeps-unnamed s n (Some node) is sound =
-    let new = unnamed s n (Some node) in
+    let new = unnamed_at s n (Some node) in
     let less = s.inodes - min (node.names - 1) 1 in
     let left : Node = record node { names = node.names - 1; ctime = s.now } in
     let done = settles (record s { inodes = less }) n node left is (sound_counted s less sound) in
@@ -114,111 +116,58 @@ keeps-unnamed s n (Some node) is sound =
 pub keeps-taken_out : (s : State) (parent : ℕ) (name : List ℕ) (child : Child)
     → IsSound s → Keeps s (taken_out s parent name child)
 keeps-taken_out s parent name child sound =
-    let rest = with_names s parent (λ c. without_child c name) in
+    let rest = with_names s parent (leading name true None) in
     keeps_both s rest (taken_out s parent name child)
     (keeps-with_names s parent _ sound)
     (keeps-unnamed rest child.node (node_at rest child.node) refl)
 
--- ---- a new node that a name leads to, and of which no lookup is held
-
-module _ (s : State) (node : Node) (one : node.names ≡ 1) (unheld : node.lookups ≡ 0)
-    (sound : IsSound s) where
-  keeps-with_new : Keeps s (with_new s node)
-  keeps-with_new = record {
-    sound = sound-with_new s node sound (λ zero. omega (arith, one, zero));
-    lookups = λ m. at s.next m (lookups_of (with_new s node) m ≡ lookups_of s m)
-        (λ e. subst (λ k. lookups_of (with_new s node) k ≡ lookups_of s k) e
-        (lookups_new s node sound ∙ unheld ∙ sym (none_yet s node sound)))
-        (lookups_new_other s node sound m);
-  }
-
-  pub keeps-named_anew : (d : ℕ) (name : List ℕ) (target : Option Child)
-      → Keeps s (named_anew s d name target node)
-  keeps-named_anew d name None =
-      keeps_both s (with_new s node) (named_anew s d name None node) keeps-with_new
-      (keeps-with_names (with_new s node) d _)
-  keeps-named_anew d name (Some target) =
-      let new : Child = record { node = s.next; kind = node.kind } in
-      let named = with_names (with_new s node) d (λ c. with_other_child c name new) in
-      keeps_both s named (named_anew s d name (Some target) node)
-      (keeps_both s (with_new s node) named keeps-with_new (keeps-with_names (with_new s node) d _))
-      (keeps-unnamed named target.node (node_at named target.node) refl)
-
 -- ---- RENAME
 
-module _ (s : State) (od : ℕ) (on : List ℕ) (nd : ℕ) (nn : List ℕ) (sound : IsSound s) where
-  -- two changes of names, and then another of the state
-  keeps_names : (f g : Children → Children) (last : State)
-      → (IsSound (with_names (with_names s nd f) od g)
-      → Keeps (with_names (with_names s nd f) od g) last)
-      → Keeps s last
-  keeps_names f g last more =
-      keeps_both s (with_names (with_names s nd f) od g) last
-      (keeps_both s (with_names s nd f) (with_names (with_names s nd f) od g)
-      (keeps-with_names s nd f sound) (keeps-with_names (with_names s nd f) od g))
-      more
+-- a new node of which no lookup is held
+keeps-with_new : (s : State) (node : Node) → node.names ≡ 1 → node.lookups ≡ 0 → IsSound s
+    → Keeps s (with_new s node)
+keeps-with_new s node one unheld sound = record {
+  sound = sound-with_new s node sound (λ zero. omega (arith, one, zero));
+  lookups = λ m. at s.next m (lookups_of (with_new s node) m ≡ lookups_of s m)
+      (λ e. subst (λ k. lookups_of (with_new s node) k ≡ lookups_of s k) e
+      (lookups_new s node sound ∙ unheld ∙ sym (none_yet s node sound)))
+      (lookups_new_other s node sound m);
+}
 
-  keeps_free : (child : Child) → Keeps s (moved_to_free s od on nd nn child)
-  keeps_free child =
-      keeps_names (λ c. with_child c nn child) (λ c. without_child c on)
-      (moved_to_free s od on nd nn child) (keeps-moved_into _ child.node nd)
+pub keeps-begun : (s : State) (ctx : Context) (od flags : ℕ) → IsSound s
+    → Keeps s (begun s (white_of s ctx od flags))
+keeps-begun s ctx od flags sound = by (leaves_whiteout flags)
+  where
+    by : (t : Bool) → Keeps s (begun s (if t then Some (whiteout s ctx od) else None))
+    by true = keeps-with_new s (whiteout s ctx od) refl refl sound
+    by false = keeps_itself s sound
 
-  keeps_over : (child target : Child) → Keeps s (moved_over s od on nd nn child target)
-  keeps_over child target =
-      keeps_names (λ c. with_other_child c nn child) (λ c. without_child c on)
-      (moved_over s od on nd nn child target)
-      (λ sound. keeps_both _ _ _ (keeps-moved_into _ child.node nd sound)
-      (keeps-unnamed _ target.node _ refl))
+pub keeps-laid : (s : State) (od : ℕ) (on : List ℕ) (nd : ℕ) (nn : List ℕ) (back target : Option Child)
+    (child : Child) → IsSound s → Keeps s (laid s od on nd nn back target child)
+keeps-laid s od on nd nn back target child sound =
+    let first = lead s nd nn (is_some target) (Some child) in
+    let second = lead first od on true back in
+    let last = laid s od on nd nn back target child in
+    keeps_both s first last (keeps-with_names s nd _ sound)
+    (λ one. keeps_both first second last (keeps-with_names first od _ one)
+    (keeps-moved_into second child.node nd))
 
-  keeps_exchange : (child target : Child) → Keeps s (exchanged s od on nd nn child target)
-  keeps_exchange child target =
-      keeps_names (λ c. with_other_child c nn child) (λ c. with_other_child c on target)
-      (exchanged s od on nd nn child target)
-      (λ sound. keeps_both _ _ _ (keeps-moved_into _ child.node nd sound)
-      (keeps-moved_into _ target.node od))
+keeps-left_with : (s : State) (exchanges : Bool) (od : ℕ) (target : Option Child) → IsSound s
+    → Keeps s (left_with s exchanges od target)
+keeps-left_with s exchanges od None sound = keeps_itself s sound
+keeps-left_with s true od (Some old) sound = keeps-moved_into s old.node od sound
+keeps-left_with s false od (Some old) sound =
+    keeps-unnamed s old.node (node_at s old.node) refl sound
 
-  keeps-renamed_to : (flags : ℕ) (moved target : Option Child)
-      → Keeps s (renamed_to s od on nd nn flags moved target)
-  keeps-renamed_to flags None target = keeps_itself s sound
-  keeps-renamed_to flags (Some child) None = keeps_free child
-  keeps-renamed_to flags (Some child) (Some target) =
-      by (child.node == target.node) (flags == 2)
-    where
-      by : (same exchanges : Bool)
-          → Keeps s (if same then s
-          else if exchanges then exchanged s od on nd nn child target
-          else moved_over s od on nd nn child target)
-      by true exchanges = keeps_itself s sound
-      by false true = keeps_exchange child target
-      by false false = keeps_over child target
-
-module _ (s : State) (od : ℕ) (on : List ℕ) (nd : ℕ) (nn : List ℕ) (sound : IsSound s)
-    (uid gid : ℕ) where
-  keeps_whited : (child : Child) (target : Option Child)
-      → Keeps s (whited_out s uid gid od on nd nn child target)
-  keeps_whited child target =
-      let node = whiteout s.now uid gid od in
-      let mid = named_anew s nd nn target node in
-      keeps_both s mid (whited_out s uid gid od on nd nn child target)
-      (keeps-named_anew s node refl refl sound nd nn target)
-      (λ there. keeps_exchange mid od on nd nn there child
-      (record { node = s.next; kind = node.kind }))
-
-  keeps-whited_to : (moved target : Option Child)
-      → Keeps s (whited_to s uid gid od on nd nn moved target)
-  keeps-whited_to None target = keeps_itself s sound
-  keeps-whited_to (Some child) target = by (same_node (Some child) target)
-    where
-      by : (same : Bool)
-          → Keeps s (if same then s else whited_out s uid gid od on nd nn child target)
-      by true = keeps_itself s sound
-      by false = keeps_whited child target
-
-  pub keeps-renamed : (flags : ℕ) → Keeps s (renamed s uid gid od on nd nn flags)
-  keeps-renamed flags = by (leaves_whiteout flags)
-    where
-      by : (leaves : Bool)
-          → Keeps s (if leaves then whited_to s uid gid od on nd nn (child_at s od on) (child_at s nd nn)
-          else renamed_to s od on nd nn flags (child_at s od on) (child_at s nd nn))
-      by true = keeps-whited_to (child_at s od on) (child_at s nd nn)
-      by false = keeps-renamed_to s od on nd nn sound flags (child_at s od on) (child_at s nd nn)
+pub keeps-renamed : (s : State) (ctx : Context) (od : ℕ) (on : List ℕ) (nd : ℕ) (nn : List ℕ)
+    (flags : ℕ) (target : Option Child) (child : Child) → IsSound s
+    → Keeps s (renamed s ctx od on nd nn flags target child)
+keeps-renamed s ctx od on nd nn flags target child sound =
+    let white = white_of s ctx od flags in
+    let mid = begun s white in
+    let back = back_of s (flags == 2) white target in
+    let there = laid mid od on nd nn back target child in
+    let last = left_with there (flags == 2) od target in
+    keeps_both s mid last (keeps-begun s ctx od flags sound)
+    (λ one. keeps_both mid there last (keeps-laid mid od on nd nn back target child one)
+    (keeps-left_with there (flags == 2) od target))

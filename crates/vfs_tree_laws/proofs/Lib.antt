@@ -1,6 +1,7 @@
 mod Ascending
 mod Beginning
 mod Cases
+mod Changes
 mod Clients
 mod Compounds
 mod Counting
@@ -21,5 +22,4 @@ mod Steps
 mod Tables
 mod Telling
 mod WayUp
-mod Whiteouts
 mod Within

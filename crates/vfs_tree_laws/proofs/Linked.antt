@@ -1,24 +1,30 @@
 -- Calls keep links: as many names lead to a node as it says, and each to one that is there.
-use Rattle.std.proofs.Common.{◌≡◌, ◌+◌, ◌-◌, ◌==◌, ◌||◌, if◌then◌else◌, ℕ, Bool, true, false, List, [], ◌∷◌, length, Option, Some, None, refl, sym, ap, ◌∙◌, subst, ⊎_elim, arith}
-use Rattle.std.proofs.lemmas.Bool.{cases_Bool, eqb-true, eqb-false, false≢true, or_from}
-use Rattle.vfs_tree.specs.Children.{Children, is_directory, child_named, with_child}
+use Rattle.std.proofs.Common.{◌≡◌, ◌≢◌, ◌+◌, ◌-◌, ◌==◌, if◌then◌else◌, ℕ, Bool, true, false, List, [], ◌∷◌, length, Option, Some, None, refl, sym, ap, ◌∙◌, subst, ⊎_elim, arith}
+use Rattle.std.proofs.lemmas.Bool.{both_ways, cases_Bool, eqb-true, eqb-false, false≢true}
+use Rattle.std.proofs.lemmas.Option.{none-some, same_Some}
+use Rattle.vfs_files.specs.declared.entry.Context.{Context}
+use Rattle.vfs_tree.proofs.Nodes.{node_at-with_new_other}
+use Rattle.vfs_tree_laws.proofs.NamesIn.{one}
+use Rattle.vfs_tree_laws.proofs.Tables.{kind_in, kind_at, free_number}
+use Rattle.vfs_tree.specs.Children.{Children, is_directory, child_named, leading}
 use Rattle.vfs_tree.specs.Node.{accessed, new_node}
 use Rattle.vfs_tree_laws.specs.Laws.{names_of, IsSound, IsLinked, CallsKeepLinks}
-use Rattle.vfs_tree.specs.Rename.{directory_refusal, place_refusal, replace_refusal, same_node, leaves_whiteout, renamed, renamed_to, moved_over, exchanged, named_anew, whiteout, whited_out, whited_to}
-use Rattle.vfs_tree.specs.State.{State, node_at, with_node, with_resized, with_names, change, child_at, child_of}
-use Rattle.vfs_tree.specs.Tree.{made, linked, forgotten, all_forgotten, make_refusal, link_refusal, taken_out}
+use Rattle.vfs_tree.specs.Rename.{same_node, leaves_whiteout, moved_into, whiteout, renamed}
+use Rattle.vfs_tree.specs.State.{State, node_at, with_node, with_resized, with_new, with_names, change, child_at}
+use Rattle.vfs_tree.specs.Tree.{linked, all_forgotten, make_refusal, link_refusal, taken_out}
 use Rattle.vfs_nodes.specs.declared.children.Child.{Child}
 use Rattle.vfs_nodes.specs.declared.kind.Kind.{Kind}
 use Rattle.vfs_nodes.specs.declared.node.Node.{Node}
 use Rattle.vfs_tree_laws.proofs.Cases.{Covers, Resizes, one_inode_more, calls_covered}
-use Rattle.vfs_tree_laws.proofs.Compounds.{there_is, found_fits, linked-made, linked-linked, linked-taken_out}
-use Rattle.vfs_tree_laws.proofs.Held.{settles}
-use Rattle.vfs_tree_laws.proofs.Refused.{directory_there, has_names, make_takes, link_takes, none_in, replace_takes, Renames, rename_takes}
-use Rattle.vfs_tree_laws.proofs.Renaming.{linked-moved_to_free, linked-moved_over, linked-exchanged}
-use Rattle.vfs_tree_laws.proofs.Shapes.{Shape, good_from, counted_from, home_from, linked_from}
-use Rattle.vfs_tree_laws.proofs.Steps.{linked-with_node, linked-settled}
+use Rattle.vfs_tree_laws.proofs.Compounds.{there_is, found_fits, good_mid, counted_mid, home_mid, top_mid, linked-made, linked-linked, linked-taken_out}
+use Rattle.vfs_tree_laws.proofs.Held.{sound-with_new, settles}
+use Rattle.vfs_tree_laws.proofs.Refused.{directory_there, has_names, make_takes, link_takes, none_in, Renames}
+use Rattle.vfs_tree_laws.proofs.Renaming.{Begins, begins_itself, linked-free, linked-over, linked-exchanged}
+use Rattle.vfs_tree_laws.proofs.Shapes.{Shape, Fits, kind_new, good_from, counted_from, home_from, linked_from}
+use Rattle.vfs_tree_laws.proofs.Steps.{none_lost, one_of, linked-with_node, linked-settled}
+use Rattle.vfs_tree.specs.Naming.{directory_refusal}
+use Rattle.vfs_tree_laws.proofs.Changes.{forgotten_at, made, child_of, begun, back_of, laid, left_with}
 use Rattle.vfs_tree_laws.proofs.Telling.{told_linked}
-use Rattle.vfs_tree_laws.proofs.Whiteouts.{Ready, ready_free, ready_over, linked-ready}
 
 -- ---- changes of one node that leave its names
 
@@ -66,7 +72,7 @@ record Both (s : State) : Type 0 where
   pub linked : IsLinked s
 
 forgets : (s : State) (n count : ℕ) (o : Option Node) → node_at s n ≡ o → Both s
-    → Both (forgotten s n count o)
+    → Both (forgotten_at s n count o)
 forgets s n count None is both = both
 forgets s n count (Some node) is both =
     let left : Node = record node { lookups = node.lookups - count } in
@@ -83,7 +89,7 @@ forgets s n count (Some node) is both =
 forgets_all : (s : State) (pairs : List (ℕ × ℕ)) → Both s → Both (all_forgotten s pairs)
 forgets_all s [] both = both
 forgets_all s (r ∷ rs) both =
-    forgets_all (forgotten s r.0 r.1 (node_at s r.0)) rs
+    forgets_all (forgotten_at s r.0 r.1 (node_at s r.0)) rs
     (forgets s r.0 r.1 (node_at s r.0) refl both)
 
 -- names that are exchanged leave no whiteout
@@ -109,7 +115,7 @@ module _ (old : State) (sound : IsSound old) (linked_old : IsLinked old) where
   links : (n : ℕ) (node : Node) (parent : ℕ) (name : List ℕ) → node_at old n ≡ Some node
       → link_refusal old parent name node ≡ None
       → IsLinked (change (one_inode_more (with_names old parent
-      (λ c. with_child c name (record { node = n; kind = node.kind })))) n (linked old.now))
+      (leading name false (Some (record { node = n; kind = node.kind }))))) n (linked old.now))
   links n node parent name is free =
       let t = link_takes old node parent name free in
       let to = t.0 in
@@ -125,126 +131,129 @@ module _ (old : State) (sound : IsSound old) (linked_old : IsLinked old) where
       linked-taken_out old sound linked_old parent name child above.0 above.1
       (sym (ap (λ o. child_of o name) above.1) ∙ found) target is empty
 
-  module _ (od : ℕ) (on : List ℕ) (nd : ℕ) (nn : List ℕ) (flags : ℕ)
-      (from into : Node) (is_from : node_at old od ≡ Some from)
-      (is_into : node_at old nd ≡ Some into) where
-    -- two names that are there
-    module _ (child target : Child) (found : child_named from.children on ≡ Some child)
-        (found_target : child_named into.children nn ≡ Some target)
-        (place : place_refusal old nd nn flags (Some child) (Some target) ≡ None) where
-      old_target : (x : Node) × (node_at old target.node ≡ Some x)
-      old_target =
-          there_is (node_at old target.node) target.kind
-          (found_fits old nd into is_into nn target found_target (good_from old linked_old))
+  module _ (ctx : Context) (od : ℕ) (on : List ℕ) (nd : ℕ) (nn : List ℕ) (flags : ℕ) (child : Child)
+      (r : Renames old od on nd nn flags child) where
+    from : (node : Node) × (node_at old od ≡ Some node) × (is_directory node.kind ≡ true)
+    from = directory_there (node_at old od) on r.from
 
-      refusal : (t : Bool) → t ≡ false
-          → (if t then None
-          else replace_refusal (node_at old child.node) (node_at old target.node)) ≡ None
-          → replace_refusal (node_at old child.node) (node_at old target.node) ≡ None
-      refusal true is free = cc
-      refusal false is free = free
+    into : (node : Node) × (node_at old nd ≡ Some node) × (is_directory node.kind ≡ true)
+    into = directory_there (node_at old nd) nn r.into
 
-      empty : (child.node == target.node) ≡ false → (flags == 2) ≡ false
-          → old_target.0.children.links ≡ []
-      empty same exchanges =
-          replace_takes (node_at old child.node) old_target.0
-          (ap (replace_refusal (node_at old child.node)) (sym old_target.1)
-          ∙ refusal (flags == 2 || same_node (Some child) (Some target))
-          (or_from (flags == 2) (child.node == target.node) exchanges same) place)
+    named : into.0.names ≡ 0 → ⊥
+    named = has_names (node_at old nd) into.0 into.1 r.named
 
-      renames_by : (same : Bool) → (child.node == target.node) ≡ same
-          → (exchanges : Bool) → (flags == 2) ≡ exchanges
-          → IsLinked (if same then old
-          else if exchanges then exchanged old od on nd nn child target
-          else moved_over old od on nd nn child target)
-      renames_by true same exchanges two = linked_old
-      renames_by false same true two =
-          linked-exchanged old sound linked_old od on nd nn child from into is_from is_into found
-          target found_target (eqb-false child.node target.node same)
-      renames_by false same false two =
-          linked-moved_over old sound linked_old od on nd nn child from into is_from is_into found
-          target found_target (eqb-false child.node target.node same) old_target.0 old_target.1
-          (empty same two)
+    found : child_named from.0.children on ≡ Some child
+    found = sym (ap (λ o. child_of o on) from.1) ∙ r.found
 
-    -- a whiteout takes the new name first
-    readies : (uid gid : ℕ) (child : Child) (target : Option Child)
-        → child_named from.children on ≡ Some child → child_named into.children nn ≡ target
-        → is_directory into.kind ≡ true → (into.names ≡ 0 → ⊥)
-        → same_node (Some child) target ≡ false → (flags == 2) ≡ false
-        → place_refusal old nd nn flags (Some child) target ≡ None
-        → let node = whiteout old.now uid gid od in
-        Ready (named_anew old nd nn target node) od on nd nn child
-        (record { node = old.next; kind = node.kind })
-    readies uid gid child None found at dir named same two place =
-        ready_free old sound linked_old od on nd nn child from into is_from is_into found uid gid
-        dir named at
-    readies uid gid child (Some target) found at dir named same two place =
-        let it = old_target child target found at place in
-        ready_over old sound linked_old od on nd nn child from into is_from is_into found uid gid
-        target at (eqb-false child.node target.node same) it.0 it.1
-        (empty child target found at place same two)
+    -- the node that the new name led to
+    old_node : (t : Child) → child_at old nd nn ≡ Some t → (x : Node) × (node_at old t.node ≡ Some x)
+    old_node t at =
+        there_is (node_at old t.node) t.kind
+        (found_fits old nd into.0 into.1 nn t (sym (ap (λ o. child_of o nn) into.1) ∙ at)
+        (good_from old linked_old))
 
-    renames_to : (moved target : Option Child) → child_at old od on ≡ moved
-        → child_at old nd nn ≡ target → is_directory into.kind ≡ true
-        → (into.names ≡ 0 → ⊥) → place_refusal old nd nn flags moved target ≡ None
-        → IsLinked (renamed_to old od on nd nn flags moved target)
-    renames_to None target is at dir named place = linked_old
-    renames_to (Some child) None is at dir named place =
-        linked-moved_to_free old sound linked_old od on nd nn child from into is_from is_into
-        (sym (ap (λ o. child_of o on) is_from) ∙ is) dir named
-        (sym (ap (λ o. child_of o nn) is_into) ∙ at)
-    renames_to (Some child) (Some target) is at dir named place =
-        renames_by child target (sym (ap (λ o. child_of o on) is_from) ∙ is)
-        (sym (ap (λ o. child_of o nn) is_into) ∙ at) place (child.node == target.node) refl
-        (flags == 2) refl
+    two_nodes : (target : Option Child) → same_node (Some child) target ≡ false → (t : Child)
+        → target ≡ Some t → child.node ≢ t.node
+    two_nodes None same t is = absurd (none-some t is)
+    two_nodes (Some x) same t is =
+        subst (λ (y : Child). child.node ≢ y.node) (same_Some x t is) (eqb-false child.node x.node same)
 
-  module _ (od : ℕ) (on : List ℕ) (nd : ℕ) (nn : List ℕ) (flags : ℕ)
-      (allowed : Renames old od on nd nn flags) where
-    pub ready : (uid gid : ℕ) (child : Child) (target : Option Child)
-        → child_at old od on ≡ Some child → child_at old nd nn ≡ target
-        → same_node (Some child) target ≡ false → leaves_whiteout flags ≡ true
-        → let node = whiteout old.now uid gid od in
-        Ready (named_anew old nd nn target node) od on nd nn child
-        (record { node = old.next; kind = node.kind })
-    ready uid gid child target is at same leaves =
-        let from = directory_there (node_at old od) on allowed.from in
-        let into = directory_there (node_at old nd) nn allowed.into in
-        readies od on nd nn flags from.0 into.0 from.1 into.1 uid gid child target
-        (sym (ap (λ o. child_of o on) from.1) ∙ is) (sym (ap (λ o. child_of o nn) into.1) ∙ at)
-        into.2 (has_names (node_at old nd) into.0 into.1 allowed.named) same
-        (no_exchange flags leaves)
-        (sym (ap (λ m. place_refusal old nd nn flags m target) is)
-        ∙ sym (ap (place_refusal old nd nn flags (child_at old od on)) at) ∙ allowed.place)
+    -- to a state with a new node, or without: the new name leads to the node, and the old one there
+    module _ (b : State) (extra : ℕ → ℕ) (begins : Begins b extra) (back : Option Child)
+        (is_from : node_at b od ≡ Some from.0) (is_into : node_at b nd ≡ Some into.0)
+        (olds : (t : Child) (x : Node) → node_at old t.node ≡ Some x → node_at b t.node ≡ Some x)
+        (back_fits : (new : Child) → back ≡ Some new → Fits b new)
+        (back_apart : (new : Child) → back ≡ Some new → child.node ≢ new.node)
+        (plain : (new : Child) → back ≡ Some new → is_directory new.kind ≡ false)
+        (new_ones : (m : ℕ) → extra m ≡ one_of back m) (two : (flags == 2) ≡ false) where
+      takes_place : (target : Option Child) → child_at old nd nn ≡ target
+          → same_node (Some child) target ≡ false
+          → IsLinked (left_with (laid b od on nd nn back target child) false od target)
+      takes_place None at same =
+          linked-free b extra begins od on nd nn back None child from.0 into.0 is_from is_into found
+          (sym (ap (λ o. child_of o nn) into.1) ∙ at) into.2 named (two_nodes None same)
+          back_fits back_apart plain new_ones refl
+      takes_place (Some t) at same =
+          let it = old_node t at in
+          linked-over b extra begins od on nd nn back (Some t) child from.0 into.0 is_from is_into found
+          (sym (ap (λ o. child_of o nn) into.1) ∙ at) into.2 named (two_nodes (Some t) same)
+          back_fits back_apart plain new_ones t refl it.0 (olds t it.0 it.1) (r.empty two t it.0 at it.1)
 
-    whites_to : (uid gid : ℕ) (moved target : Option Child) → child_at old od on ≡ moved
-        → child_at old nd nn ≡ target → leaves_whiteout flags ≡ true
-        → IsLinked (whited_to old uid gid od on nd nn moved target)
-    whites_to uid gid None target is at leaves = linked_old
-    whites_to uid gid (Some child) target is at leaves = by (same_node (Some child) target) refl
+    abbrev white : Node
+    white = whiteout old ctx od
+
+    -- a whiteout is made first
+    mid_other : (m : ℕ) (x : Node) → node_at old m ≡ Some x
+        → node_at (with_new old white) m ≡ Some x
+    mid_other m x is =
+        node_at-with_new_other old m white
+        (λ e. none-some x (sym (free_number old white sound) ∙ ap (node_at old) (sym e) ∙ is))
+        ∙ is
+
+    begins_white : Begins (with_new old white) (one old.next)
+    begins_white = record {
+      sound = sound-with_new old white sound (λ zero. cc zero);
+      good = good_mid old sound linked_old od white from.0 from.1 refl refl (λ dir. refl);
+      top = top_mid old sound linked_old od white from.0 from.1 refl refl (λ dir. refl);
+      counted = counted_mid old sound linked_old od white from.0 from.1 refl refl (λ dir. refl);
+      home = home_mid old sound linked_old od white from.0 from.1 refl refl (λ dir. refl);
+    }
+
+    whites : (flags == 2) ≡ false
+        → let back : Option Child = Some (record { node = old.next; kind = white.kind }) in
+        IsLinked (left_with (laid (with_new old white) od on nd nn back (child_at old nd nn) child)
+        false od (child_at old nd nn))
+    whites two =
+        let fresh : Child = record { node = old.next; kind = white.kind } in
+        takes_place (with_new old white) (one old.next) begins_white (Some fresh)
+        (mid_other od from.0 from.1) (mid_other nd into.0 into.1)
+        (λ t x is. mid_other t.node x is)
+        (λ new is. subst (Fits (with_new old white)) (same_Some fresh new is)
+        (kind_new old white sound))
+        (λ new is e. none-some child.kind
+        (sym (ap kind_in (free_number old white sound))
+        ∙ ap (kind_at old) (sym (e ∙ sym (ap (λ (c : Child). c.node) (same_Some fresh new is))))
+        ∙ found_fits old od from.0 from.1 on child found (good_from old linked_old)))
+        (λ new is. sym (ap (λ (c : Child). is_directory c.kind) (same_Some fresh new is)))
+        (λ m. refl) two (child_at old nd nn) refl r.apart
+
+    moves_over : (flags == 2) ≡ false
+        → IsLinked (left_with (laid old od on nd nn None (child_at old nd nn) child)
+        false od (child_at old nd nn))
+    moves_over two =
+        takes_place old none_lost (begins_itself old sound linked_old) None from.1 into.1
+        (λ t x is. is) (λ new is. absurd (none-some new is)) (λ new is. absurd (none-some new is)) (λ new is. absurd (none-some new is)) (λ m. refl) two
+        (child_at old nd nn) refl r.apart
+
+    exchanges : (target : Option Child) → child_at old nd nn ≡ target
+        → same_node (Some child) target ≡ false
+        → IsLinked (left_with (laid old od on nd nn target target child) true od target)
+    exchanges None at same =
+        linked-free old none_lost (begins_itself old sound linked_old) od on nd nn None None child
+        from.0 into.0 from.1 into.1 found (sym (ap (λ o. child_of o nn) into.1) ∙ at) into.2 named
+        (two_nodes None same) (λ new is. absurd (none-some new is)) (λ new is. absurd (none-some new is)) (λ new is. absurd (none-some new is)) (λ m. refl) refl
+    exchanges (Some t) at same =
+        let at_into = sym (ap (λ o. child_of o nn) into.1) ∙ at in
+        linked-exchanged old none_lost (begins_itself old sound linked_old) od on nd nn (Some t)
+        (Some t) child from.0 into.0 from.1 into.1 found at_into into.2 named
+        (two_nodes (Some t) same)
+        (λ new is. subst (Fits old) (same_Some t new is)
+        (found_fits old nd into.0 into.1 nn t at_into (good_from old linked_old)))
+        (two_nodes (Some t) same) t refl refl (λ m. refl)
+
+    renames : IsLinked (renamed old ctx od on nd nn flags (child_at old nd nn) child)
+    renames = by (leaves_whiteout flags) refl (flags == 2) refl
       where
-        by : (same : Bool) → same_node (Some child) target ≡ same
-            → IsLinked (if same then old else whited_out old uid gid od on nd nn child target)
-        by true same = linked_old
-        by false same =
-            let node = whiteout old.now uid gid od in
-            linked-ready (named_anew old nd nn target node) od on nd nn child
-            (record { node = old.next; kind = node.kind })
-            (ready uid gid child target is at same leaves)
-
-    renames : (uid gid : ℕ) → IsLinked (renamed old uid gid od on nd nn flags)
-    renames uid gid = by (leaves_whiteout flags) refl
-      where
-        by : (leaves : Bool) → leaves_whiteout flags ≡ leaves
-            → IsLinked (if leaves
-            then whited_to old uid gid od on nd nn (child_at old od on) (child_at old nd nn)
-            else renamed_to old od on nd nn flags (child_at old od on) (child_at old nd nn))
-        by true leaves = whites_to uid gid (child_at old od on) (child_at old nd nn) refl refl leaves
-        by false leaves =
-            let from = directory_there (node_at old od) on allowed.from in
-            let into = directory_there (node_at old nd) nn allowed.into in
-            renames_to od on nd nn flags from.0 into.0 from.1 into.1 (child_at old od on)
-            (child_at old nd nn) refl refl into.2
-            (has_names (node_at old nd) into.0 into.1 allowed.named) allowed.place
+        by : (leaves : Bool) → leaves_whiteout flags ≡ leaves → (exchanged : Bool)
+            → (flags == 2) ≡ exchanged
+            → let white = if leaves then Some (whiteout old ctx od) else None in
+            IsLinked (left_with
+            (laid (begun old white) od on nd nn (back_of old exchanged white (child_at old nd nn))
+            (child_at old nd nn) child) exchanged od (child_at old nd nn))
+        by true leaves true two = absurd (both_ways (flags == 2) (no_exchange flags leaves) two)
+        by true leaves false two = whites two
+        by false leaves true two = exchanges (child_at old nd nn) refl r.apart
+        by false leaves false two = moves_over two
 
   resizes : (n : ℕ) (was now : Node) → node_at old n ≡ Some was → Resizes old was now
       → IsLinked (with_resized old n was now)
@@ -276,15 +285,14 @@ module _ (old : State) (sound : IsSound old) (linked_old : IsLinked old) where
     began = λ offered pairs reply told.
         let left = all_forgotten old pairs in told_linked left left.now offered (forgot pairs);
     resizes = λ n was now reply told is r. resizes n was now is r;
-    makes = makes;
+    makes = λ reply is. makes;
     links = links;
     unlinks = λ parent name child node there found is file.
         takes_out parent name child node there found is
         (((good_from old linked_old).nodes child.node node is).shape.files file);
     removes = λ parent name child node there found is empty.
         takes_out parent name child node there found is (none_in node.children.links empty);
-    renames = λ uid gid od on nd nn flags free.
-        renames od on nd nn flags (rename_takes old od on nd nn flags free) uid gid;
+    renames = renames;
   }
 
 pub calls_keep_links : CallsKeepLinks

@@ -1,14 +1,13 @@
 -- A reading of a directory that begins moves the directory's time of access at most.
 use Rattle.std.proofs.Common.{◌≡◌, ◌∙◌, ℕ, List, [], Some, refl, sym, ap, subst}
 use Rattle.vfs_files.specs.Values.{Item}
-use Rattle.vfs_files.specs.Calls.{Done, Iterator}
+use Rattle.vfs_files.specs.Calls.{Done, Handed, Plain, Iterator}
 use Rattle.vfs_nodes.specs.declared.node.Node.{Node}
 use Rattle.vfs_tree.specs.Node.{accessed}
-use Rattle.vfs_tree.specs.Outcome.{TreeReply, Just, EntryOf, AttrOf, Listed, Replies}
 use Rattle.vfs_tree.specs.State.{State, node_at, with_node, with_resized}
 use Rattle.vfs_tree.specs.Tree.{outcome, all_forgotten}
 use Rattle.vfs_tree_laws.specs.Laws.{IsTree, BeginsReading, LeavesLookups, ReadingsMoveATime, lookups_in, lookups_of}
-use Rattle.vfs_tree_laws.proofs.Cases.{Covers, Fails, IsTold, Leaves, Reads, covered, left_so}
+use Rattle.vfs_tree_laws.proofs.Cases.{Covers, Fails, IsTold, Leaves, Reads, covered, left_so, nodes_of}
 use Rattle.vfs_tree_laws.proofs.Linked as linked
 use Rattle.vfs_tree_laws.proofs.Rooted as rooted
 use Rattle.vfs_tree_laws.proofs.Sound as sound
@@ -16,55 +15,53 @@ use Rattle.vfs_tree_laws.proofs.Steps.{seen-with_node}
 use Rattle.vfs_tree_laws.proofs.Within as within
 
 -- what a directory holds is handed out only where it was read
-abbrev Begins : State → List (ℕ × ℕ) → TreeReply → State → Type 0
-Begins old taken reply left =
-    (items : List Item) → Replies reply (Iterator items) → BeginsReading old items left
+abbrev Begins : State → List (ℕ × ℕ) → Handed (List Item) → State → Type 0
+Begins old taken reply left = (items : List Item) → Iterator items ≡ reply → BeginsReading old items left
 
-told : (old left : State) (reply : TreeReply) → IsTold reply → Begins old [] reply left
-told old left (Just answer) is items read = absurd read
-told old left (AttrOf n node) is items read = absurd read
-told old left (EntryOf n node) is items read = absurd is
-told old left (Listed all) is items read = absurd is
+told : (old left : State) (reply : Handed (List Item)) → IsTold reply → Begins old [] reply left
+told old left (Plain answer) is items read = cc read
+told old left (Iterator all) is items read = absurd is
 
-begun : (old : State) (n : ℕ) (node : Node) (reply : TreeReply) → Reads n node reply
+begun : (old : State) (n : ℕ) (node : Node) (reply : Handed (List Item)) → Reads n node reply
     → node_at old n ≡ Some node → Begins old [] reply (with_node old n (accessed old.now node))
-begun old n node (Just answer) reads is items read = absurd read
-begun old n node (AttrOf m it) reads is items read = absurd reads
-begun old n node (EntryOf m it) reads is items read = absurd reads
-begun old n node (Listed all) reads is items read = record {
-  number = n;
-  directory = node;
-  off = reads.0;
-  size = reads.1;
-  there = is;
-  told = read ∙ reads.2;
-  left = refl;
-}
+begun old n node (Plain answer) reads is items read = cc read
+begun old n node (Iterator all) reads is items read =
+    let same : items ≡ all = cc read in
+    record {
+      number = n;
+      directory = node;
+      off = reads.0;
+      size = reads.1;
+      there = is;
+      told = same ∙ reads.2;
+      left = refl;
+    }
 
 covers : (old : State) → Covers old (Begins old)
 covers old = record {
   same = told old old;
-  looked_up = λ n node is items read. absurd read;
+  looked_up = λ n node is items read. cc read;
   reads = begun old;
   forgot = λ pairs reply is. told old (all_forgotten old pairs) reply is;
   began = λ offered pairs reply is.
       told old (record (all_forgotten old pairs) { offered = offered }) reply is;
   resizes = λ n was now reply is at r. told old (with_resized old n was now) reply is;
-  makes = λ uid gid kind permissions parent name text free items read. absurd read;
-  links = λ n node parent name is free items read. absurd read;
-  unlinks = λ parent name child node there found is file items read. absurd read;
-  removes = λ parent name child node there found is empty items read. absurd read;
-  renames = λ uid gid od on nd nn flags free items read. absurd read;
+  makes = λ reply is uid gid kind permissions parent name text free items read.
+      let none = ap nodes_of read in cc (none, is);
+  links = λ n node parent name is free items read. cc read;
+  unlinks = λ parent name child node there found is file items read. cc read;
+  removes = λ parent name child node there found is empty items read. cc read;
+  renames = λ ctx od on nd nn flags child r items read. cc read;
 }
 
 -- a node that was read leaves a tree one
 tree_read : (old : State) (n : ℕ) (node : Node) → node_at old n ≡ Some node → IsTree old
     → IsTree (with_node old n (accessed old.now node))
 tree_read old n node is tree = record {
-  sound = ((sound.covers old tree.sound).reads n node (Just Done) refl is).sound;
-  within = ((within.covers old tree.sound tree.within).reads n node (Just Done) refl is).within;
-  linked = (linked.covers old tree.sound tree.linked).reads n node (Just Done) refl is;
-  rooted = (rooted.covers old tree.sound tree.linked tree.rooted).reads n node (Just Done) refl is;
+  sound = ((sound.covers old tree.sound).reads n node (Plain Done) refl is).sound;
+  within = ((within.covers old tree.sound tree.within).reads n node (Plain Done) refl is).within;
+  linked = (linked.covers old tree.sound tree.linked).reads n node (Plain Done) refl is;
+  rooted = (rooted.covers old tree.sound tree.linked tree.rooted).reads n node (Plain Done) refl is;
 }
 
 leaves_lookups : (old new : State) (items : List Item) → BeginsReading old items new

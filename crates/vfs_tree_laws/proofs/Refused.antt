@@ -1,22 +1,25 @@
 -- What holds where a call is not refused.
-use Rattle.std.proofs.Common.{◌≡◌, ◌^◌, ◌-◌, ◌==◌, ◌&&◌, ◌||◌, nat_lt, nat_le, ℕ, Bool, true, false, cond, not, List, [], ◌∷◌, length, Option, Some, None, is_some, is_none, refl, sym, ap, ◌∙◌, arith}
+use Rattle.std.proofs.Common.{◌≡◌, ◌^◌, ◌-◌, ◌==◌, ◌&&◌, ◌||◌, nat_lt, nat_le, ℕ, Bool, true, false, cond, not, List, [], ◌∷◌, length, Option, Some, None, is_some, is_none, bit_and, if◌then◌else◌, refl, sym, ap, ◌∙◌, arith}
 use Rattle.std.specs.List.{AllByRecursion}
-use Rattle.std.proofs.lemmas.Bool.{not-false, false≢true, eqb-true, eqb-false}
+use Rattle.std.proofs.lemmas.Bool.{not-false, false≢true, eqb-true, eqb-false, or_parts, or_from}
 use Rattle.std.proofs.lemmas.Option.{none-some}
 use Rattle.vfs_flags.specs.Numbers.{eperm, enoent, eexist, enotdir, eisdir, enospc, enotempty, einval, eoverflow, enametoolong}
 use Rattle.vfs_tree.specs.Children.{is_directory, child_named}
-use Rattle.vfs_tree.specs.Outcome.{first_of, or_else}
-use Rattle.vfs_tree.specs.Rename.{is_improper, is_directory_at, directory_refusal, is_nameless, is_crowded, is_own_child, is_served, keeps_target, replace_refusal, names_refusal, place_refusal, whiteout_refusal, rename_refusal}
-use Rattle.vfs_tree.specs.State.{State, node_at, room_of, child_at, child_of, node_of}
-use Rattle.vfs_tree.specs.Tree.{make_refusal, link_refusal, most_links, emlink}
+use Rattle.vfs_tree.specs.Outcome.{first_of}
+use Rattle.vfs_tree.specs.Rename.{is_own_child, is_served, leaves_whiteout, same_node, rename_refusal}
+use Rattle.vfs_tree.specs.State.{State, node_at, room_of, child_at, node_of}
+use Rattle.vfs_tree.specs.Tree.{make_refusal, link_refusal, emlink}
 use Rattle.vfs_nodes.specs.declared.children.Child.{Child}
 use Rattle.vfs_nodes.specs.declared.node.Node.{Node}
+use Rattle.std.specs.Option.{option_map_or, option_or}
+use Rattle.vfs_tree.specs.Naming.{is_improper, is_directory_at, directory_refusal, is_nameless, is_crowded, name_refusal, has_no_number}
+use Rattle.vfs_tree_laws.proofs.Changes.{child_of}
 
-or_none : (a b : Option ℕ) → or_else a b ≡ None → (a ≡ None) × (b ≡ None)
+pub or_none : (a b : Option ℕ) → option_or a b ≡ None → (a ≡ None) × (b ≡ None)
 or_none (Some error) b is = absurd (none-some error (sym is))
 or_none None b is = (refl, is)
 
-all_false : (rs : List (Bool × ℕ)) → first_of rs ≡ None → AllByRecursion (λ r. r.0 ≡ false) rs
+pub all_false : (rs : List (Bool × ℕ)) → first_of rs ≡ None → AllByRecursion (λ r. r.0 ≡ false) rs
 all_false [] is = tt
 all_false (r ∷ rs) is = by r.0 refl is (all_false rs)
   where
@@ -68,92 +71,108 @@ takes s parent name there named free =
       free = sym (ap (λ o. child_of o name) it.1) ∙ free;
     }
 
-pub make_takes : (s : State) (parent : ℕ) (name : List ℕ) (size : ℕ)
-    → make_refusal s parent name size ≡ None → Takes s parent name
-make_takes s parent name size free =
-    let rs : List (Bool × ℕ) = (is_nameless (node_at s parent), enoent)
-    ∷ (is_improper name, einval)
-    ∷ (is_some (child_at s parent name), eexist)
-    ∷ (
-      nat_le s.limits.nodes s.inodes || s.next == 2 ^ 64 - 1
-          || is_crowded (node_at s parent) || nat_lt (room_of s) size,
-      enospc,
-    )
-    ∷ [] in
+-- where a new name can be made
+name_takes : (s : State) (parent : ℕ) (name : List ℕ) → name_refusal s parent name ≡ None
+    → Takes s parent name
+name_takes s parent name free =
+    let rs : List (Bool × ℕ) = (is_nameless (node_at s parent), enoent) ∷ (is_improper name, einval)
+    ∷ (is_some (child_at s parent name), eexist) ∷ [] in
     let parts = or_none (directory_refusal (node_at s parent) name) (first_of rs) free in
     let each = all_false rs parts.1 in
     takes s parent name parts.0 each.0 (none_there (child_at s parent name) each.1.1.0)
+
+pub make_takes : (s : State) (parent : ℕ) (name : List ℕ) (size : ℕ)
+    → make_refusal s parent name size ≡ None → Takes s parent name
+make_takes s parent name size free =
+    name_takes s parent name
+    (or_none (name_refusal s parent name)
+    (first_of ((has_no_number s || is_crowded (node_at s parent), enospc)
+    ∷ (nat_lt (room_of s) size, enospc) ∷ [])) free).0
 
 pub link_takes : (s : State) (node : Node) (parent : ℕ) (name : List ℕ)
     → link_refusal s parent name node ≡ None
     → Takes s parent name × (is_directory node.kind ≡ false)
 link_takes s node parent name free =
-    let rs : List (Bool × ℕ) = (is_nameless (node_at s parent), enoent)
-    ∷ (is_improper name, einval)
-    ∷ (is_some (child_at s parent name), eexist)
-    ∷ (is_directory node.kind, eperm)
+    let rs : List (Bool × ℕ) = (is_directory node.kind, eperm)
     ∷ (node.names == 0, enoent)
-    ∷ (nat_le most_links node.names, emlink)
+    ∷ (nat_le 65000 node.names, emlink)
     ∷ (node.lookups == 2 ^ 64 - 1, eoverflow)
     ∷ (nat_le s.limits.nodes s.inodes || is_crowded (node_at s parent), enospc) ∷ [] in
-    let parts = or_none (directory_refusal (node_at s parent) name) (first_of rs) free in
-    let each = all_false rs parts.1 in (
-      takes s parent name parts.0 each.0 (none_there (child_at s parent name) each.1.1.0),
-      each.1.1.1.0,
-    )
+    let parts = or_none (name_refusal s parent name) (first_of rs) free in
+    (name_takes s parent name parts.0, (all_false rs parts.1).0)
 
--- RENAME takes the place of an empty node
-pub replace_takes : (moved : Option Node) (target : Node)
-    → replace_refusal moved (Some target) ≡ None → target.children.links ≡ []
-replace_takes moved target free =
-    let each = all_false
-    ((is_directory target.kind && not (is_directory_at moved), eisdir)
-    ∷ (is_directory_at moved && not (is_directory target.kind), enotdir)
-    ∷ (not (length target.children.links == 0), enotempty) ∷ []) free in
-    none_in target.children.links
-    (eqb-true (length target.children.links) 0
-    (not-false (length target.children.links == 0) each.1.1.0))
+-- ---- RENAME
 
-names_take : (s : State) (od nd flags : ℕ) (moved target : Option Child)
-    → names_refusal s od nd flags moved target ≡ None → is_nameless (node_at s nd) ≡ false
-names_take s od nd flags moved target free =
-    let each = all_false
-    ((not (is_served flags), einval)
-    ∷ (is_none (node_of s moved), enoent)
-    ∷ (is_nameless (node_at s nd), enoent)
-    ∷ (keeps_target flags && is_some target, eexist)
-    ∷ (flags == 2 && is_none (node_of s target), enoent)
-    ∷ (is_own_child s moved nd, einval)
-    ∷ (flags == 2 && is_own_child s target od, einval) ∷ []) free in
-    each.1.1.0
+-- whether a node holds names
+abbrev Holds : Option Node → Bool
+Holds o = option_map_or (λ (node : Node). not (length node.children.links == 0)) o false
 
+-- what is known where a name that leads to a node can give it to another, which leads elsewhere
 pub record Renames
-    (s : State) (od : ℕ) (on : List ℕ) (nd : ℕ) (nn : List ℕ) (flags : ℕ)
+    (s : State) (od : ℕ) (on : List ℕ) (nd : ℕ) (nn : List ℕ) (flags : ℕ) (child : Child)
     : Type 0 where
   pub from : directory_refusal (node_at s od) on ≡ None
   pub into : directory_refusal (node_at s nd) nn ≡ None
+  pub found : child_at s od on ≡ Some child
+  pub apart : same_node (Some child) (child_at s nd nn) ≡ false
   pub named : is_nameless (node_at s nd) ≡ false
-  pub place : place_refusal s nd nn flags (child_at s od on) (child_at s nd nn) ≡ None
-  pub room : whiteout_refusal s flags (child_at s od on) (child_at s nd nn) ≡ None
+  pub below : is_own_child s (Some child) nd ≡ false
+  pub back : (flags == 2 && is_own_child s (child_at s nd nn) od) ≡ false
+  pub empty : (flags == 2) ≡ false → (old : Child) (node : Node) → child_at s nd nn ≡ Some old
+      → node_at s old.node ≡ Some node → node.children.links ≡ []
+  pub room : (leaves_whiteout flags && has_no_number s) ≡ false
 
-pub rename_takes : (s : State) (od : ℕ) (on : List ℕ) (nd : ℕ) (nn : List ℕ) (flags : ℕ)
-    → rename_refusal s od on nd nn flags ≡ None → Renames s od on nd nn flags
-rename_takes s od on nd nn flags free =
-    let moved = child_at s od on in
+pub rename_takes : (s : State) (od : ℕ) (on : List ℕ) (nd : ℕ) (nn : List ℕ) (flags : ℕ) (child : Child)
+    → directory_refusal (node_at s od) on ≡ None → directory_refusal (node_at s nd) nn ≡ None
+    → child_at s od on ≡ Some child → same_node (Some child) (child_at s nd nn) ≡ false
+    → rename_refusal s od nd nn flags (Some child) (child_at s nd nn) ≡ None
+    → Renames s od on nd nn flags child
+rename_takes s od on nd nn flags child from into found apart free =
     let target = child_at s nd nn in
-    let place = place_refusal s nd nn flags moved target in
-    let room = whiteout_refusal s flags moved target in
-    let last = or_else place room in
-    let names = names_refusal s od nd flags moved target in
-    let one = or_none (directory_refusal (node_at s od) on)
-    (or_else (directory_refusal (node_at s nd) nn) (or_else names last)) free in
-    let two = or_none (directory_refusal (node_at s nd) nn) (or_else names last) one.1 in
-    let three = or_none names last two.1 in
-    let four = or_none place room three.1 in
+    let it = node_at s child.node in
+    let same = same_node (Some child) target in
+    let old = node_of s (if flags == 2 || same then None else target) in
+    let each = all_false
+    ((not (is_served flags), einval)
+    ∷ (is_none it || is_nameless (node_at s nd), enoent)
+    ∷ (bit_and flags 1 == 1 && is_some target, eexist)
+    ∷ (flags == 2 && is_none (node_of s target), enoent)
+    ∷ (is_own_child s (Some child) nd || (flags == 2 && is_own_child s target od), einval)
+    ∷ (is_none target && is_improper nn, einval)
+    ∷ (is_none target && is_crowded (node_at s nd), enospc)
+    ∷ (is_directory_at old && not (is_directory_at it), eisdir)
+    ∷ (is_directory_at it && is_some old && not (is_directory_at old), enotdir)
+    ∷ (Holds old, enotempty)
+    ∷ (leaves_whiteout flags && not same && has_no_number s, enospc) ∷ []) free in
+    let own = or_parts (is_own_child s (Some child) nd) (flags == 2 && is_own_child s target od)
+    each.1.1.1.1.0 in
     record {
-      from = one.0;
-      into = two.0;
-      named = names_take s od nd flags moved target three.0;
-      place = four.0;
-      room = four.1;
+      from = from;
+      into = into;
+      found = found;
+      apart = apart;
+      named = (or_parts (is_none it) (is_nameless (node_at s nd)) each.1.0).1;
+      below = own.0;
+      back = own.1;
+      empty = λ two t node at is.
+          let holds : Holds (node_of s target) ≡ false =
+          replaces target (flags == 2 || same) (or_from (flags == 2) same two apart)
+          each.1.1.1.1.1.1.1.1.1.0 in
+          let here : Holds (Some node) ≡ false =
+          sym (ap Holds is) ∙ sym (ap (λ o. Holds (node_of s o)) at) ∙ holds in
+          none_in node.children.links
+          (eqb-true (length node.children.links) 0
+          (not-false (length node.children.links == 0) here));
+      room = leaves (leaves_whiteout flags) same apart each.1.1.1.1.1.1.1.1.1.1.0;
     }
+  where
+    replaces : (target : Option Child) (t : Bool) → t ≡ false
+        → Holds (node_of s (if t then None else target)) ≡ false → Holds (node_of s target) ≡ false
+    replaces target true is none = cc is
+    replaces target false is none = none
+
+    leaves : (l t : Bool) → t ≡ false → (l && not t && has_no_number s) ≡ false
+        → (l && has_no_number s) ≡ false
+    leaves true true is none = cc is
+    leaves true false is none = none
+    leaves false t is none = refl

@@ -1,21 +1,23 @@
--- Links after RENAME.
-use Rattle.std.proofs.Common.{min, ◌≡◌, ◌≢◌, ◌+◌, ◌-◌, ◌<◌, ℕ, Bool, true, false, List, [], find, Some, None, option_map, bytes_eq, refl, sym, ap, ◌∙◌, subst, arith}
+-- Links after RENAME, which may make a node first.
+use Rattle.std.proofs.Common.{min, ◌≡◌, ◌≢◌, ◌+◌, ◌-◌, ◌<◌, ◌≤◌, ◌==◌, ℕ, Bool, true, false, List, [], find, Option, Some, None, is_some, option_map, bytes_eq, refl, sym, ap, ◌∙◌, subst, arith}
+use Rattle.std.proofs.lemmas.Bool.{both_ways}
 use Rattle.std.proofs.lemmas.Option.{same_Some}
 use Rattle.vfs_files.proofs.Indexes.{same_name, mapped_none}
-use Rattle.vfs_tree.specs.Children.{Link, Children, is_directory, is_named, child_named, with_child, without_child, with_other_child}
-use Rattle.vfs_tree_laws.specs.Laws.{names_in, names_to, names_of, IsSound, IsLinked}
-use Rattle.vfs_tree.specs.Rename.{parent_of, moved_into, moved_to_free, moved_over, exchanged}
-use Rattle.vfs_tree.specs.State.{State, node_at, changed, with_names, unnamed}
+use Rattle.vfs_nodes.specs.Children.{Link, Children, is_directory, is_named, child_named, leading}
 use Rattle.vfs_nodes.specs.declared.children.Child.{Child}
 use Rattle.vfs_nodes.specs.declared.node.Node.{Node}
-use Rattle.vfs_tree_laws.proofs.Held.{at}
-use Rattle.vfs_tree_laws.proofs.Keeping.{keeps-with_names, keeps-moved_into}
-use Rattle.vfs_tree_laws.proofs.NamesIn.{one, one_same, one_other, find_more_found, find_relinked}
-use Rattle.vfs_tree.proofs.Nodes.{node_at-with_node}
-use Rattle.vfs_tree_laws.proofs.Shapes.{Fits, Good, Counted, Home, linked_from, good_from, counted_from, home_from}
-use Rattle.vfs_tree_laws.proofs.Steps.{Step, found_link, none_lost, step-with_child, step-without_child, step-with_other_child, step_home, Moves, moves, linked-recounted, linked-settled}
-use Rattle.vfs_tree_laws.proofs.Tables.{links_in, names_at, kind_at, is_dir}
+use Rattle.vfs_tree.specs.Rename.{parent_of, moved_into}
+use Rattle.vfs_tree.specs.State.{State, node_at, with_names, lead, unnamed}
+use Rattle.vfs_tree.proofs.Nodes.{changed, node_at-with_node}
+use Rattle.vfs_tree_laws.specs.Laws.{names_in, names_to, names_of, IsSound, IsLinked}
+use Rattle.vfs_tree_laws.proofs.Changes.{unnamed_at, laid}
 use Rattle.vfs_tree_laws.proofs.Compounds.{there_is, empty_finds, shape_empty, found_fits, found_counts, single_at, root_unnamed, arrived_home}
+use Rattle.vfs_tree_laws.proofs.Held.{at}
+use Rattle.vfs_tree_laws.proofs.Keeping.{keeps-laid}
+use Rattle.vfs_tree_laws.proofs.NamesIn.{one, one_same, one_other, find_more_found, find_relinked}
+use Rattle.vfs_tree_laws.proofs.Shapes.{Fits, Good, Home, linked_from, good_from, counted_from, home_from}
+use Rattle.vfs_tree_laws.proofs.Steps.{Step, found_link, none_lost, one_of, step-into, step-from, step_home, Moves, moves, linked-recounted, linked-settled}
+use Rattle.vfs_tree_laws.proofs.Tables.{links_in, names_at, kind_at, is_dir}
 
 -- where a name leads
 pub record Finds (t : State) (d : ℕ) (name : List ℕ) (child : Child) : Type 0 where
@@ -55,385 +57,279 @@ moves_home u v n p moved m apart home dir d other =
     ∙ home (sym (ap is_dir (moved.kinds m)) ∙ dir) d
     (λ e. other (e ∙ sym (ap parent_of (moved.nodes m apart))))
 
--- ---- two steps: a name of nd leads to c, then one of od does no longer
+-- a state in which more names may be said to lead to a node than do
+pub record Begins (s : State) (extra : ℕ → ℕ) : Type 0 where
+  pub sound : IsSound s
+  pub good : Good s
+  pub top : parent_of (node_at s 1) ≡ 1
+  pub counted : (m : ℕ) → names_of (node_at s m) ≡ names_to s m + one m 1 + extra m
+  pub home : (c : ℕ) → Home s c
 
-module _ (s : State) (linked : IsLinked s) (od nd c : ℕ) (t u : State) (lost gained : ℕ → ℕ)
-    (first : Step s t nd lost (one c)) (second : Step t u od (one c) gained)
-    (stays : lost c ≡ 0) (stays_too : gained c ≡ 0) (some : 0 < names_at s od c) where
-  two_kinds : (m : ℕ) → kind_at u m ≡ kind_at s m
-  two_kinds m = second.kinds m ∙ first.kinds m
+pub begins_itself : (s : State) → IsSound s → IsLinked s → Begins s none_lost
+begins_itself s sound linked = record {
+  sound = sound;
+  good = good_from s linked;
+  top = linked.top;
+  counted = λ m. omega (arith, counted_from s linked m);
+  home = home_from s linked;
+}
 
-  two_names : (m : ℕ) → names_of (node_at u m) ≡ names_of (node_at s m)
-  two_names m = second.names m ∙ first.names m
+-- ---- a name of nd leads to the node of one of od, and this one elsewhere, or nowhere
 
-  two_to : (m : ℕ) → names_to u m + lost m ≡ names_to s m + gained m
-  two_to m = omega (arith, first.to m, second.to m)
-
-  arrived : 0 < names_at u nd c
-  arrived =
-      let one_more = one_same c c refl in
-      at od nd (0 < names_at u nd c)
-      (λ e. subst (λ j. 0 < names_at u j c) e
-      (let gain = subst (λ j. names_at t j c + lost c ≡ names_at s j c + one c c) (sym e)
-      (first.here c) in
-      omega (arith, gain, second.here c, one_more, stays, stays_too, some)))
-      (λ apart.
-      let still = ap (λ o. names_in c (links_in o)) (second.nodes nd apart) in
-      omega (arith, still, first.here c, one_more, stays))
-
-  two_home : (m : ℕ) → m ≢ c → gained m ≡ 0 → Home u m
-  two_home m apart none =
-      step_home t u od (one c) gained second m none
-      (step_home s t nd lost (one c) first m (one_other c m (λ e. apart (sym e)))
-      (home_from s linked m))
-
-  -- and it lies in nd then
-  module _ (v : State) (moved : Moves u v c nd) where
-    three_names : (m : ℕ) → names_of (node_at v m) ≡ names_of (node_at s m)
-    three_names m = moved.names m ∙ two_names m
-
-    three_to : (m : ℕ) → names_to v m + lost m ≡ names_to s m + gained m
-    three_to m = omega (arith, moved.to m, two_to m)
-
-    moved_home : (m : ℕ) → m ≢ c → gained m ≡ 0 → Home v m
-    moved_home m apart none = moves_home u v c nd moved m apart (two_home m apart none)
-
-    arrived_there : Node → Home v c
-    arrived_there node =
-        arrived_home v node c nd moved.here
-        (λ dir.
-        let few = single_at s (good_from s linked) (counted_from s linked) c
-        (sym (ap is_dir (moved.kinds c ∙ two_kinds c)) ∙ dir) in
-        omega (arith, few, three_to c, stays_too))
-        (omega (arith, moved.each nd c, arrived))
-
--- ---- what RENAME does
-
-module _ (s : State) (sound : IsSound s) (linked : IsLinked s)
-    (od : ℕ) (on : List ℕ) (nd : ℕ) (nn : List ℕ) (child : Child)
+module _ (s : State) (extra : ℕ → ℕ) (b : Begins s extra)
+    (od : ℕ) (on : List ℕ) (nd : ℕ) (nn : List ℕ) (back target : Option Child) (child : Child)
     (from into : Node) (is_from : node_at s od ≡ Some from) (is_into : node_at s nd ≡ Some into)
-    (found : child_named from.children on ≡ Some child) where
-  good : Good s
-  good = good_from s linked
-
-  counted : Counted s
-  counted = counted_from s linked
+    (found : child_named from.children on ≡ Some child)
+    (found_target : child_named into.children nn ≡ target)
+    (dir : is_directory into.kind ≡ true) (named : into.names ≡ 0 → ⊥)
+    (apart : (old : Child) → target ≡ Some old → child.node ≢ old.node)
+    (back_fits : (new : Child) → back ≡ Some new → Fits s new)
+    (back_apart : (new : Child) → back ≡ Some new → child.node ≢ new.node) where
+  most : (m : ℕ) → names_to s m + one m 1 ≤ names_of (node_at s m)
+  most m = omega (arith, b.counted m)
 
   fits : Fits s child
-  fits = found_fits s od from is_from on child found good
+  fits = found_fits s od from is_from on child found b.good
 
-  counts : 0 < names_at s od child.node
-  counts = found_counts s od from is_from on child found
+  some : 0 < names_at s od child.node
+  some = found_counts s od from is_from on child found
 
   root_apart : 1 ≢ child.node
-  root_apart = root_unnamed s linked from od child.node counts
+  root_apart = root_unnamed s b.good most from od child.node some
 
-  -- to a free name
-  module _ (dir : is_directory into.kind ≡ true) (named : into.names ≡ 0 → ⊥)
-      (free : child_named into.children nn ≡ None) where
-    abbrev free_named : State
-    free_named = with_names s nd (λ c. with_child c nn child)
+  lost_none : (o : Option Child) → ((x : Child) → o ≡ Some x → child.node ≢ x.node)
+      → one_of o child.node ≡ 0
+  lost_none None other = refl
+  lost_none (Some x) other = one_other x.node child.node (λ e. other x refl (sym e))
 
-    abbrev free_left : State
-    free_left = with_names free_named od (λ c. without_child c on)
+  -- where both directories are one, the old name stays beside the new one
+  same_from : nd ≡ od → into ≡ from
+  same_from same = same_Some into from (sym is_into ∙ ap (node_at s) same ∙ is_from)
 
-    free_first : Step s free_named nd none_lost (one child.node)
-    free_first = step-with_child s nd into is_into good nn child dir named free fits
+  differ : (old : Child) → target ≡ Some old → nd ≡ od → (t : Bool) → bytes_eq on nn ≡ t
+      → bytes_eq on nn ≡ false
+  differ old is e false names = names
+  differ old is e true names =
+      let found_too : child_named from.children nn ≡ Some old =
+      ap (λ (x : Node). child_named x.children nn) (sym (same_from e)) ∙ found_target ∙ is in
+      let found_so : child_named from.children nn ≡ Some child =
+      ap (child_named from.children) (sym (same_name on nn names)) ∙ found in
+      absurd (apart old is (ap (λ (c : Child). c.node)
+      (same_Some child old (sym found_so ∙ found_too))))
 
-    -- where both directories are one, the new name is free in it
-    pub free_here : nd ≡ od → find (is_named nn) from.children.links ≡ None
-    free_here same =
-        let one = same_Some into from (sym is_into ∙ ap (node_at s) same ∙ is_from) in
-        mapped_none (λ (link : ℕ × Link). link.1.child) (find (is_named nn) from.children.links)
-        (subst (λ (x : Node). child_named x.children nn ≡ None) one free)
+  beside : (o : Option Child) → target ≡ o → nd ≡ od
+      → child_named (leading nn (is_some o) (Some child) from.children) on ≡ Some child
+  beside None is same =
+      let links = from.children.links in
+      let new : ℕ × Link = (from.children.next, record { name = nn; child = child }) in
+      let e = found_link (find (is_named on) links) child found in
+      let free : find (is_named nn) links ≡ None =
+      mapped_none (λ (link : ℕ × Link). link.1.child) (find (is_named nn) links)
+      (ap (λ (x : Node). child_named x.children nn) (sym (same_from same)) ∙ found_target ∙ is) in
+      ap (option_map (λ (link : ℕ × Link). link.1.child)) (find_more_found on links new e.0 free e.1)
+      ∙ ap (λ (c : Child). Some c) e.2
+  beside (Some old) is same =
+      ap (option_map (λ (link : ℕ × Link). link.1.child))
+      (find_relinked nn on child (differ old is same (bytes_eq on nn) refl) from.children.links)
+      ∙ found
 
-    free_found : Finds free_named od on child
-    free_found =
-        found_after s nd (λ c. with_child c nn child) od from is_from on child found
-        (λ same.
-        let links = from.children.links in
-        let new : ℕ × Link = (from.children.next, record { name = nn; child = child }) in
-        let e = found_link (find (is_named on) links) child found in
-        ap (option_map (λ (link : ℕ × Link). link.1.child))
-        (find_more_found on links new e.0 (free_here same) e.1)
-        ∙ ap (λ (c : Child). Some c) e.2)
-        free_first.nodes
+  -- the first step, and the second
+  abbrev one_led : State
+  one_led = lead s nd nn (is_some target) (Some child)
 
-    free_second : Step free_named free_left od (one child.node) none_lost
-    free_second =
-        step-without_child free_named od free_found.node free_found.is free_first.good on child
-        free_found.found
+  abbrev two_led : State
+  two_led = lead one_led od on true back
 
-    free_there : (x : Node) × (node_at free_left child.node ≡ Some x)
-    free_there =
-        there_is (node_at free_left child.node) child.kind
-        (free_second.kinds child.node ∙ free_first.kinds child.node ∙ fits)
+  abbrev last : State
+  last = laid s od on nd nn back target child
 
-    free_moves : Moves free_left (moved_to_free s od on nd nn child) child.node nd
-    free_moves =
-        moves free_left child.node nd free_there.0 free_there.1 free_second.good
+  first : Step s one_led nd (one_of target) (one child.node)
+  first = step-into s nd into is_into b.good nn child dir named fits target found_target
 
-    pub linked-moved_to_free : IsLinked (moved_to_free s od on nd nn child)
-    linked-moved_to_free =
-        linked_from (moved_to_free s od on nd nn child) free_moves.good
-        (ap parent_of (free_moves.nodes 1 root_apart)
-        ∙ free_second.parents 1 ∙ free_first.parents 1 ∙ linked.top)
-        (λ m.
-        let same = three_names s linked od nd child.node free_named free_left none_lost none_lost
-        free_first free_second refl refl counts (moved_to_free s od on nd nn child) free_moves m in
-        let sum = three_to s linked od nd child.node free_named free_left none_lost none_lost
-        free_first free_second refl refl counts (moved_to_free s od on nd nn child) free_moves m in
-        omega (arith, same, sum, counted m))
-        (λ c.
-        at child.node c (Home (moved_to_free s od on nd nn child) c)
-        (λ e. subst (Home (moved_to_free s od on nd nn child)) e
-        (arrived_there s linked od nd child.node free_named free_left none_lost none_lost
-        free_first free_second refl refl counts (moved_to_free s od on nd nn child) free_moves
-        from))
-        (λ apart.
-        moved_home s linked od nd child.node free_named free_left none_lost none_lost
-        free_first free_second refl refl counts (moved_to_free s od on nd nn child) free_moves c
-        apart refl))
+  still : Finds one_led od on child
+  still =
+      found_after s nd (leading nn (is_some target) (Some child)) od from is_from on child found
+      (beside target refl) first.nodes
 
-  -- over another name
-  module _ (target : Child) (found_target : child_named into.children nn ≡ Some target)
-      (apart : child.node ≢ target.node) where
-    abbrev over_named : State
-    over_named = with_names s nd (λ c. with_other_child c nn child)
+  second : Step one_led two_led od (one child.node) (one_of back)
+  second =
+      step-from one_led od still.node still.is first.good on child still.found back
+      (λ new is. first.kinds new.node ∙ back_fits new is)
 
-    apart_target : target.node ≢ child.node
-    apart_target e = apart (sym e)
+  two_kinds : (m : ℕ) → kind_at two_led m ≡ kind_at s m
+  two_kinds m = second.kinds m ∙ first.kinds m
 
-    over_first : Step s over_named nd (one target.node) (one child.node)
-    over_first = step-with_other_child s nd into is_into good nn child target found_target fits
+  there : (x : Node) × (node_at two_led child.node ≡ Some x)
+  there = there_is (node_at two_led child.node) child.kind (two_kinds child.node ∙ fits)
 
-    -- the names differ where the directories are one
-    pub differ : nd ≡ od → (t : Bool) → bytes_eq on nn ≡ t → bytes_eq on nn ≡ false
-    differ e false is = is
-    differ e true is =
-        let one_node = same_Some into from (sym is_into ∙ ap (node_at s) e ∙ is_from) in
-        let found_too : child_named from.children nn ≡ Some target =
-        ap (λ (x : Node). child_named x.children nn) (sym one_node) ∙ found_target in
-        let found_so : child_named from.children nn ≡ Some child =
-        ap (child_named from.children) (sym (same_name on nn is)) ∙ found in
-        absurd (apart (ap (λ (c : Child). c.node)
-        (same_Some child target (sym found_so ∙ found_too))))
+  moved : Moves two_led last child.node nd
+  moved = moves two_led child.node nd there.0 there.1 second.good
 
-    over_found : Finds over_named od on child
-    over_found =
-        found_after s nd (λ c. with_other_child c nn child) od from is_from on child found
-        (λ e.
-        ap (option_map (λ (link : ℕ × Link). link.1.child))
-        (find_relinked nn on child (differ e (bytes_eq on nn) refl) from.children.links)
-        ∙ found)
-        over_first.nodes
+  -- what they leave
+  kinds : (m : ℕ) → kind_at last m ≡ kind_at s m
+  kinds m = moved.kinds m ∙ two_kinds m
 
-    lost_none : one target.node child.node ≡ 0
-    lost_none = one_other target.node child.node apart_target
+  names : (m : ℕ) → names_of (node_at last m) ≡ names_of (node_at s m)
+  names m = moved.names m ∙ second.names m ∙ first.names m
+
+  to : (m : ℕ) → names_to last m + one_of target m ≡ names_to s m + one_of back m
+  to m = omega (arith, moved.to m, second.to m, first.to m)
+
+  top : parent_of (node_at last 1) ≡ 1
+  top = ap parent_of (moved.nodes 1 root_apart) ∙ second.parents 1 ∙ first.parents 1 ∙ b.top
+
+  sound_last : IsSound last
+  sound_last = (keeps-laid s od on nd nn back target child b.sound).sound
+
+  arrived : 0 < names_at two_led nd child.node
+  arrived =
+      let c = child.node in
+      let one_more = one_same c c refl in
+      let stays = lost_none target apart in
+      let stays_too = lost_none back back_apart in
+      at od nd (0 < names_at two_led nd c)
+      (λ e. subst (λ j. 0 < names_at two_led j c) e
+      (let gain = subst (λ j. names_at one_led j c + one_of target c ≡ names_at s j c + one c c) (sym e)
+      (first.here c) in
+      omega (arith, gain, second.here c, one_more, stays, stays_too, some)))
+      (λ other.
+      let as_was = ap (λ o. names_in c (links_in o)) (second.nodes nd other) in
+      omega (arith, as_was, first.here c, one_more, stays))
+
+  home_child : Home last child.node
+  home_child =
+      arrived_home last from child.node nd moved.here
+      (λ is.
+      let few = single_at s b.good most child.node (sym (ap is_dir (kinds child.node)) ∙ is) in
+      omega (arith, few, to child.node, lost_none back back_apart))
+      (omega (arith, moved.each nd child.node, arrived))
+
+  home_other : (m : ℕ) → m ≢ child.node → one_of back m ≡ 0 → Home last m
+  home_other m other none =
+      moves_home two_led last child.node nd moved m other
+      (step_home one_led two_led od (one child.node) (one_of back) second m none
+      (step_home s one_led nd (one_of target) (one child.node) first m
+      (one_other child.node m (λ e. other (sym e))) (b.home m)))
+
+  -- ---- the old name leads nowhere, or to a new node that is no directory
+
+  module _ (plain : (new : Child) → back ≡ Some new → is_directory new.kind ≡ false)
+      (new_ones : (m : ℕ) → extra m ≡ one_of back m) where
+    home_by : (o : Option Child) → back ≡ o → (m : ℕ) → m ≢ child.node → Home last m
+    home_by None is m other = home_other m other (ap (λ o. one_of o m) is)
+    home_by (Some new) is m other =
+        at new.node m (Home last m)
+        (λ e. subst (Home last) e
+        (λ dir. absurd (both_ways (is_directory new.kind) (plain new is)
+        (sym (ap is_dir (kinds new.node ∙ back_fits new is)) ∙ dir))))
+        (λ another.
+        home_other m other
+        (ap (λ o. one_of o m) is ∙ one_other new.node m (λ e. another (sym e))))
+
+    home_last : (m : ℕ) → Home last m
+    home_last m =
+        at child.node m (Home last m) (λ e. subst (Home last) e home_child) (home_by back refl m)
+
+    counted_last : (m : ℕ) → names_of (node_at last m) ≡ names_to last m + one_of target m + one m 1
+    counted_last m = omega (arith, names m, to m, b.counted m, new_ones m)
+
+    pub linked-free : target ≡ None → IsLinked last
+    linked-free free =
+        linked_from last moved.good top
+        (λ m. omega (arith, counted_last m, ap (λ o. one_of o m) free)) home_last
 
     -- what stood there has one name less
-    module _ (old : Node) (is_old : node_at s target.node ≡ Some old)
+    module _ (t : Child) (is : target ≡ Some t) (old : Node) (is_old : node_at s t.node ≡ Some old)
         (empty : old.children.links ≡ []) where
-      abbrev over_left : State
-      over_left = with_names over_named od (λ c. without_child c on)
+      at_into : child_named into.children nn ≡ Some t
+      at_into = found_target ∙ is
 
-      abbrev over_moved : State
-      over_moved = moved_into over_left child.node nd
-
-      abbrev over_old : Node
-      over_old = record old { names = old.names - 1; ctime = over_moved.now }
-
-      over_second : Step over_named over_left od (one child.node) none_lost
-      over_second =
-          step-without_child over_named od over_found.node over_found.is over_first.good on child
-          over_found.found
-
-      over_there : (x : Node) × (node_at over_left child.node ≡ Some x)
-      over_there =
-          there_is (node_at over_left child.node) child.kind
-          (over_second.kinds child.node ∙ over_first.kinds child.node ∙ fits)
-
-      over_moves : Moves over_left over_moved child.node nd
-      over_moves = moves over_left child.node nd over_there.0 over_there.1 over_second.good
-
-      target_not_into : target.node ≢ nd
-      target_not_into e =
+      not_into : t.node ≢ nd
+      not_into e =
           let same = same_Some old into (sym is_old ∙ ap (node_at s) e ∙ is_into) in
-          empty_finds into.children nn target
-          (ap (λ (x : Node). x.children.links) (sym same) ∙ empty) found_target
+          empty_finds into.children nn t (ap (λ (x : Node). x.children.links) (sym same) ∙ empty) at_into
 
-      target_not_from : target.node ≢ od
-      target_not_from e =
+      not_from : t.node ≢ od
+      not_from e =
           let same = same_Some old from (sym is_old ∙ ap (node_at s) e ∙ is_from) in
           empty_finds from.children on child
           (ap (λ (x : Node). x.children.links) (sym same) ∙ empty) found
 
-      is_moved : node_at over_moved target.node ≡ Some old
-      is_moved =
-          over_moves.nodes target.node apart_target
-          ∙ over_second.nodes target.node target_not_from
-          ∙ over_first.nodes target.node target_not_into ∙ is_old
+      is_last : node_at last t.node ≡ Some old
+      is_last =
+          moved.nodes t.node (λ e. apart t is (sym e)) ∙ second.nodes t.node not_from
+          ∙ first.nodes t.node not_into ∙ is_old
 
-      over_names : (m : ℕ) → names_of (node_at over_moved m) ≡ names_of (node_at s m)
-      over_names =
-          three_names s linked od nd child.node over_named over_left (one target.node) none_lost
-          over_first over_second lost_none refl counts over_moved over_moves
+      abbrev less : Node
+      less = record old { names = old.names - 1; ctime = last.now }
 
-      over_to : (m : ℕ) → names_to over_moved m + one target.node m ≡ names_to s m + 0
-      over_to =
-          three_to s linked od nd child.node over_named over_left (one target.node) none_lost
-          over_first over_second lost_none refl counts over_moved over_moves
-
-      over_home : (m : ℕ) → Home over_moved m
-      over_home m =
-          at child.node m (Home over_moved m)
-          (λ e. subst (Home over_moved) e
-          (arrived_there s linked od nd child.node over_named over_left (one target.node) none_lost
-          over_first over_second lost_none refl counts over_moved over_moves from))
-          (λ other.
-          moved_home s linked od nd child.node over_named over_left (one target.node) none_lost
-          over_first over_second lost_none refl counts over_moved over_moves m other refl)
-
-      over_sound : IsSound over_moved
-      over_sound =
-          let one_step = (keeps-with_names s nd (λ c. with_other_child c nn child) sound).sound in
-          let two_steps =
-          (keeps-with_names over_named od (λ c. without_child c on) one_step).sound in
-          (keeps-moved_into over_left child.node nd two_steps).sound
-
-      pub linked-moved_over : IsLinked (moved_over s od on nd nn child target)
-      linked-moved_over =
-          let names = ap names_of is_old in
-          subst IsLinked (sym (ap (unnamed over_moved target.node) is_moved))
-          (linked-recounted over_moved target.node over_old
-          (over_moved.inodes - min (old.names - 1) 1)
-          (linked-settled over_moved target.node old over_old is_moved refl refl refl
-          over_moves.good
-          (ap parent_of (over_moves.nodes 1 root_apart)
-          ∙ over_second.parents 1 ∙ over_first.parents 1 ∙ linked.top)
+      pub linked-over : IsLinked (unnamed last t.node)
+      linked-over =
+          let all = ap names_of is_last in
+          let lost = λ (m : ℕ). ap (λ o. one_of o m) is in
+          subst IsLinked (sym (ap (unnamed_at last t.node) is_last))
+          (linked-recounted last t.node less (last.inodes - min (old.names - 1) 1)
+          (linked-settled last t.node old less is_last refl refl refl moved.good top
           (shape_empty old.kind old.names old.children.links empty
-          (good.nodes target.node old is_old).shape)
-          (omega (
-            arith,
-            names,
-            counted target.node,
-            over_to target.node,
-            one_same target.node target.node refl,
-          ))
+          (b.good.nodes t.node old is_old).shape)
+          (omega (arith, all, counted_last t.node, lost t.node, one_same t.node t.node refl))
           (λ m other.
-          omega (
-            arith,
-            over_names m,
-            over_to m,
-            counted m,
-            one_other target.node m (λ e. other (sym e)),
-          ))
-          over_home over_sound))
+          omega (arith, counted_last m, lost m, one_other t.node m (λ e. other (sym e))))
+          home_last sound_last))
 
-    -- each name leads where the other did
-    abbrev exchange_left : State
-    exchange_left = with_names over_named od (λ c. with_other_child c on target)
+  -- ---- each name leads where the other did
 
-    abbrev exchange_mid : State
-    exchange_mid = moved_into exchange_left child.node nd
+  module _ (t : Child) (is : target ≡ Some t) (same : back ≡ target)
+      (none_new : (m : ℕ) → extra m ≡ 0) where
+    abbrev both : State
+    both = moved_into last t.node od
 
-    abbrev exchange_last : State
-    exchange_last = exchanged s od on nd nn child target
+    fits_too : kind_at last t.node ≡ Some t.kind
+    fits_too = kinds t.node ∙ back_fits t (same ∙ is)
 
-    target_fits : Fits s target
-    target_fits = found_fits s nd into is_into nn target found_target good
+    there_too : (x : Node) × (node_at last t.node ≡ Some x)
+    there_too = there_is (node_at last t.node) t.kind fits_too
 
-    exchange_second : Step over_named exchange_left od (one child.node) (one target.node)
-    exchange_second =
-        step-with_other_child over_named od over_found.node over_found.is over_first.good on target
-        child over_found.found (over_first.kinds target.node ∙ target_fits)
+    moved_too : Moves last both t.node od
+    moved_too = moves last t.node od there_too.0 there_too.1 moved.good
 
-    exchange_there : (x : Node) × (node_at exchange_left child.node ≡ Some x)
-    exchange_there =
-        there_is (node_at exchange_left child.node) child.kind
-        (exchange_second.kinds child.node ∙ over_first.kinds child.node ∙ fits)
+    as_many : (m : ℕ) → names_to both m ≡ names_to s m
+    as_many m = omega (arith, moved_too.to m, to m, ap (λ o. one_of o m) same)
 
-    exchange_moves : Moves exchange_left exchange_mid child.node nd
-    exchange_moves =
-        moves exchange_left child.node nd exchange_there.0 exchange_there.1 exchange_second.good
-
-    exchange_kinds : (m : ℕ) → kind_at exchange_mid m ≡ kind_at s m
-    exchange_kinds m = exchange_moves.kinds m ∙ exchange_second.kinds m ∙ over_first.kinds m
-
-    exchange_too : (x : Node) × (node_at exchange_mid target.node ≡ Some x)
-    exchange_too =
-        there_is (node_at exchange_mid target.node) target.kind
-        (exchange_kinds target.node ∙ target_fits)
-
-    exchange_moves_too : Moves exchange_mid exchange_last target.node od
-    exchange_moves_too =
-        moves exchange_mid target.node od exchange_too.0 exchange_too.1 exchange_moves.good
-
-    exchange_names : (m : ℕ) → names_of (node_at exchange_mid m) ≡ names_of (node_at s m)
-    exchange_names =
-        three_names s linked od nd child.node over_named exchange_left (one target.node)
-        (one target.node) over_first exchange_second lost_none lost_none counts exchange_mid
-        exchange_moves
-
-    exchange_to : (m : ℕ)
-        → names_to exchange_mid m + one target.node m ≡ names_to s m + one target.node m
-    exchange_to =
-        three_to s linked od nd child.node over_named exchange_left (one target.node)
-        (one target.node) over_first exchange_second lost_none lost_none counts exchange_mid
-        exchange_moves
-
-    exchange_child : Home exchange_last child.node
-    exchange_child =
-        moves_home exchange_mid exchange_last target.node od exchange_moves_too child.node apart
-        (arrived_there s linked od nd child.node over_named exchange_left (one target.node)
-        (one target.node) over_first exchange_second lost_none lost_none counts exchange_mid
-        exchange_moves from)
-
-    exchange_target : Home exchange_last target.node
-    exchange_target =
-        arrived_home exchange_last from target.node od exchange_moves_too.here
+    home_target : Home both t.node
+    home_target =
+        arrived_home both from t.node od moved_too.here
         (λ dir.
-        let few = single_at s good counted target.node
-        (sym (ap is_dir (exchange_moves_too.kinds target.node ∙ exchange_kinds target.node))
-        ∙ dir) in
-        omega (arith, few, exchange_to target.node, exchange_moves_too.to target.node))
+        let few = single_at s b.good most t.node
+        (sym (ap is_dir (moved_too.kinds t.node ∙ kinds t.node)) ∙ dir) in
+        omega (arith, few, as_many t.node))
         (omega (
           arith,
-          exchange_moves_too.each od target.node,
-          exchange_moves.each od target.node,
-          exchange_second.here target.node,
-          one_same target.node target.node refl,
-          one_other child.node target.node apart,
+          moved_too.each od t.node,
+          moved.each od t.node,
+          second.here t.node,
+          ap (λ o. one_of o t.node) (same ∙ is),
+          one_same t.node t.node refl,
+          one_other child.node t.node (apart t is),
         ))
 
-    exchange_home : (m : ℕ) → Home exchange_last m
-    exchange_home m =
-        at child.node m (Home exchange_last m)
-        (λ e. subst (Home exchange_last) e exchange_child)
-        (λ other.
-        at target.node m (Home exchange_last m)
-        (λ e. subst (Home exchange_last) e exchange_target)
+    home_both : (m : ℕ) → Home both m
+    home_both m =
+        at t.node m (Home both m) (λ e. subst (Home both) e home_target)
         (λ another.
-        moves_home exchange_mid exchange_last target.node od exchange_moves_too m another
-        (moved_home s linked od nd child.node over_named exchange_left (one target.node)
-        (one target.node) over_first exchange_second lost_none lost_none counts exchange_mid
-        exchange_moves m other (one_other target.node m (λ e. another (sym e))))))
+        moves_home last both t.node od moved_too m another
+        (at child.node m (Home last m) (λ e. subst (Home last) e home_child)
+        (λ other. home_other m other
+        (ap (λ o. one_of o m) (same ∙ is) ∙ one_other t.node m (λ e. another (sym e))))))
 
-    pub linked-exchanged : IsLinked (exchanged s od on nd nn child target)
+    root_apart_too : 1 ≢ t.node
+    root_apart_too =
+        root_unnamed s b.good most from nd t.node
+        (found_counts s nd into is_into nn t (found_target ∙ is))
+
+    pub linked-exchanged : IsLinked both
     linked-exchanged =
-        linked_from exchange_last exchange_moves_too.good
-        (ap parent_of (exchange_moves_too.nodes 1
-        (root_unnamed s linked from nd target.node
-        (found_counts s nd into is_into nn target found_target)))
-        ∙ ap parent_of (exchange_moves.nodes 1 root_apart)
-        ∙ exchange_second.parents 1 ∙ over_first.parents 1 ∙ linked.top)
-        (λ m.
-        omega (
-          arith,
-          exchange_names m,
-          exchange_moves_too.names m,
-          exchange_to m,
-          exchange_moves_too.to m,
-          counted m,
-        ))
-        exchange_home
+        linked_from both moved_too.good
+        (ap parent_of (moved_too.nodes 1 root_apart_too) ∙ top)
+        (λ m. omega (arith, moved_too.names m, names m, as_many m, b.counted m, none_new m))
+        home_both

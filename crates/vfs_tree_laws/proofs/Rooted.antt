@@ -3,26 +3,28 @@ use Rattle.std.proofs.Common.{min, ◌≡◌, ◌≢◌, ◌<◌, ◌+◌, ◌-�
 use Rattle.std.proofs.lemmas.Bool.{both_ways, false≢true, not-false, eqb-false, and_cases}
 use Rattle.std.proofs.lemmas.Option.{none-some, same_Some}
 use Rattle.vfs_flags.specs.Numbers.{eperm, enoent, eexist, enotdir, einval, enospc, eoverflow, enametoolong}
-use Rattle.vfs_tree.specs.Children.{Children, is_directory, with_child, without_child, with_other_child}
+use Rattle.vfs_tree.specs.Children.{Children, is_directory, leading}
 use Rattle.vfs_tree.specs.Node.{accessed, new_node}
 use Rattle.vfs_tree_laws.specs.Laws.{IsSound, IsLinked, IsRooted, CallsKeepTheWayUp, above}
-use Rattle.vfs_tree.specs.Outcome.{first_of, or_else}
-use Rattle.vfs_tree.specs.Rename.{is_improper, directory_refusal, is_directory_at, is_nameless, is_crowded, is_below, is_own_child, is_served, keeps_target, leaves_whiteout, same_node, names_refusal, place_refusal, whiteout_refusal, parent_of, rename_refusal, moved_into, moved_over, exchanged, named_anew, whiteout, whited_out, whited_to, renamed, renamed_to}
-use Rattle.vfs_tree.specs.State.{State, node_at, node_of, count_of, room_of, with_node, with_resized, with_new, without_node, settled, changed, change, with_names, unnamed, child_at, child_of}
-use Rattle.vfs_tree.specs.Tree.{emlink, most_links, made, linked, forgotten, all_forgotten, taken_out, make_refusal, link_refusal}
+use Rattle.vfs_tree.specs.Outcome.{first_of}
+use Rattle.vfs_tree.specs.Rename.{is_below, is_own_child, leaves_whiteout, same_node, parent_of, moved_into, whiteout, renamed}
+use Rattle.vfs_tree.specs.State.{State, node_at, room_of, with_node, with_resized, with_new, without_node, settled, change, with_names, lead, child_at}
+use Rattle.vfs_tree.specs.Tree.{emlink, linked, all_forgotten, taken_out, make_refusal, link_refusal}
 use Rattle.vfs_nodes.specs.declared.children.Child.{Child}
 use Rattle.vfs_nodes.specs.declared.kind.Kind.{Kind}
 use Rattle.vfs_nodes.specs.declared.node.Node.{Node}
 use Rattle.vfs_tree_laws.proofs.Ascending.{gone-remove_entry, none_from}
-use Rattle.vfs_tree_laws.proofs.Cases.{one_inode_more, Covers, are_not, or_none, calls_covered}
+use Rattle.vfs_tree_laws.proofs.Cases.{one_inode_more, Covers, calls_covered}
 use Rattle.vfs_tree_laws.proofs.Held.{at, sound_counted, sound-with_new, settles}
-use Rattle.vfs_tree_laws.proofs.Keeping.{keeps-with_names, keeps-moved_into, there-change}
-use Rattle.vfs_tree.proofs.Nodes.{node_at-with_node, node_at-with_node_other, node_at-without_node_other, node_at-with_new, node_at-with_new_other, kinds_apart}
+use Rattle.vfs_tree_laws.proofs.Keeping.{keeps-with_names, keeps-begun, keeps-laid, there-change}
+use Rattle.vfs_tree.proofs.Nodes.{node_at-with_node, node_at-with_node_other, node_at-without_node_other, node_at-with_new, node_at-with_new_other, kinds_apart, changed}
 use Rattle.vfs_tree_laws.proofs.WayUp.{IsPlaced, Goes, Avoids, rooted_from, goes_from, placed_from, names_place, name_leads, rooted_ways, goes_still, avoids_from, avoids_still, goes_on}
-use Rattle.vfs_tree_laws.proofs.Linked.{ready}
-use Rattle.vfs_tree_laws.proofs.Refused.{Renames, rename_takes}
+use Rattle.vfs_tree_laws.proofs.Refused.{all_false, or_none, Renames}
+use Rattle.std.specs.Option.{option_or}
+use Rattle.vfs_tree.specs.Naming.{is_improper, directory_refusal, is_directory_at, is_nameless, is_crowded, name_refusal, has_no_number}
+use Rattle.vfs_tree_laws.proofs.Changes.{unnamed_at, forgotten_at, made, white_of, begun, back_of, laid, left_with}
+use Rattle.vfs_files.specs.declared.entry.Context.{Context}
 use Rattle.vfs_tree_laws.proofs.Telling.{told_rooted}
-use Rattle.vfs_tree_laws.proofs.Whiteouts.{Ready}
 
 -- ---- directories that lie where they lay
 
@@ -199,7 +201,7 @@ follows-with_resized s n was node is likes =
     }
 
 follows-unnamed : (s : State) (n : ℕ) (o : Option Node) → node_at s n ≡ o → IsSound s
-    → Follows s (unnamed s n o)
+    → Follows s (unnamed_at s n o)
 follows-unnamed s n None is sound = follows_stays s s (stays_itself s)
 follows-unnamed s n (Some node) is sound =
     let less = s.inodes - min (node.names - 1) 1 in
@@ -217,7 +219,7 @@ follows-all_forgotten s (r ∷ rs) sound =
   where
     by : (o : Option Node) → node_at s r.0 ≡ o
         → ((mid : State) → IsSound mid → Follows mid (all_forgotten mid rs))
-        → Follows s (all_forgotten (forgotten s r.0 r.1 o) rs)
+        → Follows s (all_forgotten (forgotten_at s r.0 r.1 o) rs)
     by None is more = more s sound
     by (Some node) is more =
         let left : Node = record node { lookups = node.lookups - r.1 } in
@@ -230,67 +232,43 @@ follows-all_forgotten s (r ∷ rs) sound =
 follows-taken_out : (s : State) (parent : ℕ) (name : List ℕ) (child : Child) → IsSound s
     → Follows s (taken_out s parent name child)
 follows-taken_out s parent name child sound =
-    let rest = with_names s parent (λ c. without_child c name) in
+    let rest = with_names s parent (leading name true None) in
     follows_both s rest (taken_out s parent name child)
     (follows_stays s rest (stays-with_names s parent _))
     (follows-unnamed rest child.node (node_at rest child.node) refl
-    (keeps-with_names s parent (λ c. without_child c name) sound).sound)
+    (keeps-with_names s parent (leading name true None) sound).sound)
 
 -- ---- refusals
 
 directory_there : (o : Option Node) (name : List ℕ) → directory_refusal o name ≡ None
     → is_directory_at o ≡ true
 directory_there o name none =
-    let facts = are_not ((is_none o, enoent) ∷ (not (is_directory_at o), enotdir)
+    let facts = all_false ((is_none o, enoent) ∷ (not (is_directory_at o), enotdir)
     ∷ (nat_lt 255 (length name), enametoolong) ∷ []) none in
     not-false (is_directory_at o) facts.1.0
 
--- what RENAME has asked of the directories, where it goes on
-record Grants (s : State) (od nd flags : ℕ) (moved target : Option Child) : Type 0 where
-  placed : IsPlaced s nd
-  there : is_own_child s moved nd ≡ false
-  back : (flags == 2 && is_own_child s target od) ≡ false
-
-grants : (s : State) (od : ℕ) (on : List ℕ) (nd : ℕ) (nn : List ℕ) (flags : ℕ)
-    → rename_refusal s od on nd nn flags ≡ None
-    → Grants s od nd flags (child_at s od on) (child_at s nd nn)
-grants s od on nd nn flags none =
-    let moved = child_at s od on in
-    let target = child_at s nd nn in
-    let names = names_refusal s od nd flags moved target in
-    let place = or_else (place_refusal s nd nn flags moved target)
-    (whiteout_refusal s flags moved target) in
-    let first = or_none (directory_refusal (node_at s od) on)
-    (or_else (directory_refusal (node_at s nd) nn) (or_else names place)) none in
-    let second = or_none (directory_refusal (node_at s nd) nn) (or_else names place) first.1 in
-    let facts = are_not
-    ((not (is_served flags), einval)
-    ∷ (is_none (node_of s moved), enoent)
-    ∷ (is_nameless (node_at s nd), enoent)
-    ∷ (keeps_target flags && is_some target, eexist)
-    ∷ (flags == 2 && is_none (node_of s target), enoent)
-    ∷ (is_own_child s moved nd, einval)
-    ∷ (flags == 2 && is_own_child s target od, einval) ∷ [])
-    (or_none names place second.1).0 in
-    record {
-      placed = placed_from s nd (directory_there (node_at s nd) nn second.0) facts.1.1.0;
-      there = facts.1.1.1.1.1.0;
-      back = facts.1.1.1.1.1.1.0;
-    }
+-- a directory with a name, in which a new one can be made
+named_there : (s : State) (parent : ℕ) (name : List ℕ) → name_refusal s parent name ≡ None
+    → (is_directory_at (node_at s parent) ≡ true) × (is_nameless (node_at s parent) ≡ false)
+named_there s parent name none =
+    let rs : List (Bool × ℕ) = (is_nameless (node_at s parent), enoent) ∷ (is_improper name, einval)
+    ∷ (is_some (child_at s parent name), eexist) ∷ [] in
+    let parts = or_none (directory_refusal (node_at s parent) name) (first_of rs) none in
+    (directory_there (node_at s parent) name parts.0, (all_false rs parts.1).0)
 
 not_below : (s : State) (child : Child) (d : ℕ) → is_own_child s (Some child) d ≡ false
-    → IsPlaced s child.node → is_below s (count_of s) child.node d ≡ false
+    → IsPlaced s child.node → is_below s (length s.nodes) child.node d ≡ false
 not_below s child d none there =
     let is_one = is_directory_at (node_at s child.node) in
     ⊎_elim
     (λ no. absurd (both_ways is_one no (ap is_directory_at there.is ∙ there.directory)))
     (λ not. not)
-    (and_cases is_one (is_below s (count_of s) child.node d) none)
+    (and_cases is_one (is_below s (length s.nodes) child.node d) none)
 
 own_way : (s : State) (child : Child) (d : ℕ) → is_own_child s (Some child) d ≡ false
     → IsPlaced s child.node → (j : ℕ) × Avoids s child.node j d
 own_way s child d none there =
-    avoids_from s child.node (count_of s) d (not_below s child d none there)
+    avoids_from s child.node (length s.nodes) d (not_below s child d none there)
 
 -- ---- a node that comes to lie in another directory
 
@@ -329,129 +307,139 @@ module _ (s : State) (sound : IsSound s) (linked : IsLinked s) (new : State) (c 
       let goes = goes_on s new sound linked c d turns (way.0 + 1) way.0 (omega arith) placed way.1 in
       (suc goes.0, ap (above new goes.0) here ∙ goes.1)
 
-module _ (s : State) (od : ℕ) (on : List ℕ) (nd : ℕ) (nn : List ℕ) (sound : IsSound s)
-    (linked : IsLinked s) (rooted : IsRooted s) (placed : IsPlaced s nd) (f g : Children → Children)
-    (child : Child) (leads : child_at s od on ≡ Some child)
+-- directories are where they were, and no others
+record Still (s new : State) : Type 0 where
+  pub from : (m : ℕ) → IsPlaced new m → IsPlaced s m
+  pub parents : (m : ℕ) → IsPlaced s m → parent_of (node_at new m) ≡ parent_of (node_at s m)
+  pub there : (m : ℕ) → IsPlaced s m → IsSome (node_at new m)
+
+still-begun : (s : State) (ctx : Context) (od flags : ℕ) → IsSound s
+    → Still s (begun s (white_of s ctx od flags))
+still-begun s ctx od flags sound = by (leaves_whiteout flags)
+  where
+    white : Node
+    white = whiteout s ctx od
+
+    next_apart : (m : ℕ) → IsPlaced s m → m ≢ s.next
+    next_apart m there e =
+        none-some there.node
+        (sym (none_from 1 s.next s.next s.nodes sound.ordered (omega arith))
+        ∙ ap (node_at s) (sym e) ∙ there.is)
+
+    beside : (m : ℕ) → IsPlaced s m → node_at (with_new s white) m ≡ node_at s m
+    beside m there = node_at-with_new_other s m white (next_apart m there)
+
+    by : (t : Bool) → Still s (begun s (if t then Some white else None))
+    by true = record {
+      from = λ m there. at s.next m (IsPlaced s m)
+          (λ e. absurd (false≢true
+          (placed_at (with_new s white) s.next white (node_at-with_new s s.next white)
+          (subst (λ k. IsPlaced (with_new s white) k) (sym e) there)).0))
+          (λ other. record {
+            node = there.node;
+            is = sym (node_at-with_new_other s m white other) ∙ there.is;
+            directory = there.directory;
+            named = there.named;
+          });
+      parents = λ m there. ap parent_of (beside m there);
+      there = λ m there. ap is_some (beside m there ∙ there.is);
+    }
+    by false = record {
+      from = λ m there. there;
+      parents = λ m there. refl;
+      there = λ m there. ap is_some there.is;
+    }
+
+module _ (s : State) (sound : IsSound s) (linked : IsLinked s) (rooted : IsRooted s) (mid : State)
+    (still : Still s mid) (sound_mid : IsSound mid)
+    (od : ℕ) (on : List ℕ) (nd : ℕ) (nn : List ℕ) (placed : IsPlaced s nd)
+    (back target : Option Child) (child : Child) (leads : child_at s od on ≡ Some child)
     (way : IsPlaced s child.node → (j : ℕ) × Avoids s child.node j nd) where
   -- the names are changed
-  abbrev renames : State
-  renames = with_names (with_names s nd f) od g
+  abbrev first : State
+  first = lead mid nd nn (is_some target) (Some child)
 
-  stays : Stays s renames
-  stays =
-      stays_both s (with_names s nd f) renames
-      (stays-with_names s nd f) (stays-with_names (with_names s nd f) od g)
+  abbrev renames : State
+  renames = lead first od on true back
+
+  stays : Stays mid renames
+  stays = stays_both mid first renames (stays-with_names mid nd _) (stays-with_names first od _)
 
   there : (m : ℕ) → IsPlaced s m → IsSome (node_at renames m)
-  there m placed =
-      there-change (with_names s nd f) od m _ (there-change s nd m _ (there_placed s m placed))
-
-  sound-renames : IsSound renames
-  sound-renames =
-      (keeps-with_names (with_names s nd f) od g (keeps-with_names s nd f sound).sound).sound
+  there m placed = there-change first od m _ (there-change mid nd m _ (still.there m placed))
 
   -- and a node is moved
   abbrev once : State
-  once = moved_into renames child.node nd
+  once = laid mid od on nd nn back target child
 
   moves : Moves renames once child.node nd
   moves = moves-moved_into renames child.node nd
 
+  from_once : (m : ℕ) → IsPlaced once m → IsPlaced s m
+  from_once m there = still.from m (stays.from m (moves.from m there))
+
+  other_once : (m : ℕ) → m ≢ child.node → IsPlaced s m
+      → parent_of (node_at once m) ≡ parent_of (node_at s m)
+  other_once m apart there = moves.other m apart ∙ stays.parents m ∙ still.parents m there
+
   sound-once : IsSound once
-  sound-once = (keeps-moved_into renames child.node nd sound-renames).sound
+  sound-once = (keeps-laid mid od on nd nn back target child sound_mid).sound
 
   rooted-once : IsRooted once
   rooted-once =
       let c = child.node in
-      let other : (m : ℕ) → m ≢ c → parent_of (node_at once m) ≡ parent_of (node_at s m) =
-      λ m apart. moves.other m apart ∙ stays.parents m in
       let goes : IsPlaced s c → Goes once c =
       λ placed_c. goes_moved s sound linked once c nd placed
-      (λ m placed_m root apart. inl (other m apart))
+      (λ m placed_m root apart. inl (other_once m apart placed_m))
       (way placed_c) (moves.here (there c placed_c)) in
       rooted_ways s once sound linked rooted
-      (λ m placed_m. inl (stays.from m (moves.from m placed_m)))
+      (λ m placed_m. inl (from_once m placed_m))
       (λ m placed_m root.
       at c m ((parent_of (node_at once m) ≡ parent_of (node_at s m)) ⊎ Goes once m)
       (λ e. inr (subst (λ k. Goes once k) e (goes (subst (λ k. IsPlaced s k) (sym e) placed_m))))
-      (λ apart. inl (other m apart)))
+      (λ apart. inl (other_once m apart placed_m)))
 
   -- or two are
-  module _ (target : Child) (leads_target : child_at s nd nn ≡ Some target)
-      (way_target : IsPlaced s target.node → (j : ℕ) × Avoids s target.node j od)
-      (two : child.node ≢ target.node) where
+  module _ (t : Child) (leads_target : child_at s nd nn ≡ Some t)
+      (way_target : IsPlaced s t.node → (j : ℕ) × Avoids s t.node j od)
+      (two : child.node ≢ t.node) where
     abbrev twice : State
-    twice = moved_into once target.node od
+    twice = moved_into once t.node od
 
     rooted-twice : IsRooted twice
     rooted-twice =
         let c = child.node in
-        let t = target.node in
-        let more = moves-moved_into once t od in
+        let d = t.node in
+        let more = moves-moved_into once d od in
         let Other : ℕ → Type 0 = λ m. parent_of (node_at twice m) ≡ parent_of (node_at s m) in
-        let other : (m : ℕ) → m ≢ c → m ≢ t → Other m =
-        λ m not_c not_t. more.other m not_t ∙ moves.other m not_c ∙ stays.parents m in
+        let other : (m : ℕ) → IsPlaced s m → m ≢ c → m ≢ d → Other m =
+        λ m placed_m not_c not_d. more.other m not_d ∙ other_once m not_c placed_m in
         let goes_c : IsPlaced s c → Goes twice c =
         λ placed_c. goes_moved s sound linked twice c nd placed
-        (λ m placed_m root not_c. at t m (Other m ⊎ (parent_of (node_at s m) ≡ nd))
+        (λ m placed_m root not_c. at d m (Other m ⊎ (parent_of (node_at s m) ≡ nd))
         (λ e. inr (subst (λ k. parent_of (node_at s k) ≡ nd) e
-        (name_leads s linked nd nn target leads_target
+        (name_leads s linked nd nn t leads_target
         (subst (λ k. IsPlaced s k) (sym e) placed_m))))
-        (λ not_t. inl (other m not_c not_t)))
+        (λ not_d. inl (other m placed_m not_c not_d)))
         (way placed_c)
         (more.other c two ∙ moves.here (there c placed_c)) in
-        let goes_t : IsPlaced s t → Goes twice t =
-        λ placed_t. goes_moved s sound linked twice t od (names_place s linked od on child leads)
-        (λ m placed_m root not_t. at c m (Other m ⊎ (parent_of (node_at s m) ≡ od))
+        let goes_d : IsPlaced s d → Goes twice d =
+        λ placed_d. goes_moved s sound linked twice d od (names_place s linked od on child leads)
+        (λ m placed_m root not_d. at c m (Other m ⊎ (parent_of (node_at s m) ≡ od))
         (λ e. inr (subst (λ k. parent_of (node_at s k) ≡ od) e
         (name_leads s linked od on child leads
         (subst (λ k. IsPlaced s k) (sym e) placed_m))))
-        (λ not_c. inl (other m not_c not_t)))
-        (way_target placed_t)
-        (more.here (there-change renames c t _ (there t placed_t))) in
+        (λ not_c. inl (other m placed_m not_c not_d)))
+        (way_target placed_d)
+        (more.here (there-change renames c d _ (there d placed_d))) in
         rooted_ways s twice sound linked rooted
-        (λ m placed_m. inl (stays.from m (moves.from m (more.from m placed_m))))
+        (λ m placed_m. inl (from_once m (more.from m placed_m)))
         (λ m placed_m root.
         at c m (Other m ⊎ Goes twice m)
         (λ e. inr (subst (λ k. Goes twice k) e (goes_c (subst (λ k. IsPlaced s k) (sym e) placed_m))))
-        (λ not_c. at t m (Other m ⊎ Goes twice m)
-        (λ e. inr (subst (λ k. Goes twice k) e (goes_t (subst (λ k. IsPlaced s k) (sym e) placed_m))))
-        (λ not_t. inl (other m not_c not_t))))
-
-module _ (s : State) (od : ℕ) (on : List ℕ) (nd : ℕ) (nn : List ℕ) (flags : ℕ) (sound : IsSound s)
-    (linked : IsLinked s) (rooted : IsRooted s) where
-  rooted-renamed_to : (moved target : Option Child) → child_at s od on ≡ moved
-      → child_at s nd nn ≡ target → Grants s od nd flags moved target
-      → IsRooted (renamed_to s od on nd nn flags moved target)
-  rooted-renamed_to None target moves_from leads granted = rooted
-  rooted-renamed_to (Some child) None moves_from leads granted =
-      rooted-once s od on nd nn sound linked rooted granted.placed
-      (λ c. with_child c nn child) (λ c. without_child c on) child moves_from
-      (own_way s child nd granted.there)
-  rooted-renamed_to (Some child) (Some target) moves_from leads granted =
-      by (child.node == target.node) refl (flags == 2) granted.back
-    where
-      by : (same : Bool) → (child.node == target.node) ≡ same → (exchanges : Bool)
-          → (exchanges && is_own_child s (Some target) od) ≡ false
-          → IsRooted (if same then s
-          else if exchanges then exchanged s od on nd nn child target
-          else moved_over s od on nd nn child target)
-      by true is exchanges back = rooted
-      by false is true back =
-          rooted-twice s od on nd nn sound linked rooted granted.placed
-          (λ c. with_other_child c nn child) (λ c. with_other_child c on target)
-          child moves_from (own_way s child nd granted.there)
-          target leads (own_way s target od back) (eqb-false child.node target.node is)
-      by false is false back =
-          let f : Children → Children = λ c. with_other_child c nn child in
-          let g : Children → Children = λ c. without_child c on in
-          let mid = moved_into (with_names (with_names s nd f) od g) child.node nd in
-          rooted-follows mid (moved_over s od on nd nn child target)
-          (follows-unnamed mid target.node (node_at mid target.node) refl
-          (sound-once s od on nd nn sound linked rooted granted.placed f g
-          child moves_from (own_way s child nd granted.there)))
-          (rooted-once s od on nd nn sound linked rooted granted.placed f g
-          child moves_from (own_way s child nd granted.there))
+        (λ not_c. at d m (Other m ⊎ Goes twice m)
+        (λ e. inr (subst (λ k. Goes twice k) e (goes_d (subst (λ k. IsPlaced s k) (sym e) placed_m))))
+        (λ not_d. inl (other m placed_m not_c not_d))))
 
 -- ---- the calls
 
@@ -490,114 +478,45 @@ module _ (old : State) (sound : IsSound old) (links : IsLinked old) (rooted : Is
         })))
         other
 
-  -- a whiteout takes the new name, and then the two names are exchanged
-  module _ (uid gid od : ℕ) (on : List ℕ) (nd : ℕ) (nn : List ℕ) (child : Child)
-      (target : Option Child) (leads : child_at old od on ≡ Some child) (placed : IsPlaced old nd)
-      (apart : is_own_child old (Some child) nd ≡ false) where
-    abbrev white : Node
-    white = whiteout old.now uid gid od
+  renames_by : (ctx : Context) (od : ℕ) (on : List ℕ) (nd : ℕ) (nn : List ℕ) (flags : ℕ) (child : Child)
+      → Renames old od on nd nn flags child
+      → IsRooted (renamed old ctx od on nd nn flags (child_at old nd nn) child)
+  renames_by ctx od on nd nn flags child r =
+      by (flags == 2) (child_at old nd nn) refl r.apart r.back
+    where
+      white : Option Node
+      white = white_of old ctx od flags
 
-    abbrev fresh : Child
-    fresh = record { node = old.next; kind = white.kind }
+      still : Still old (begun old white)
+      still = still-begun old ctx od flags sound
 
-    abbrev whitened : State
-    whitened = named_anew old nd nn target white
+      sound_mid : IsSound (begun old white)
+      sound_mid = (keeps-begun old ctx od flags sound).sound
 
-    follows_by : (t : Option Child) → Follows (with_new old white) (named_anew old nd nn t white)
-    follows_by None =
-        follows_stays (with_new old white) (named_anew old nd nn None white)
-        (stays-with_names (with_new old white) nd _)
-    follows_by (Some t) =
-        let f : Children → Children = λ c. with_other_child c nn fresh in
-        let mid = with_new old white in
-        let named = with_names mid nd f in
-        follows_both mid named (named_anew old nd nn (Some t) white)
-        (follows_stays mid named (stays-with_names mid nd _))
-        (follows-unnamed named t.node (node_at named t.node) refl
-        (keeps-with_names mid nd f (sound-with_new old white sound (λ zero. cc zero))).sound)
+      placed : IsPlaced old nd
+      placed = placed_from old nd (directory_there (node_at old nd) nn r.into) r.named
 
-    follows_new : Follows (with_new old white) whitened
-    follows_new = follows_by target
-
-    -- a device is no directory
-    none_placed : IsPlaced whitened old.next → ⊥
-    none_placed there =
-        let facts = placed_at (with_new old white) old.next white
-        (node_at-with_new old old.next white) (follows_new.from old.next there) in
-        false≢true facts.0
-
-    from_old : (m : ℕ) → IsPlaced whitened m → IsPlaced old m
-    from_old m there =
-        let was = follows_new.from m there in
-        at old.next m (IsPlaced old m)
-        (λ e. absurd (none_placed (subst (λ k. IsPlaced whitened k) (sym e) there)))
-        (λ other. record {
-          node = was.node;
-          is = sym (node_at-with_new_other old m white other) ∙ was.is;
-          directory = was.directory;
-          named = was.named;
-        })
-
-    parents_old : (m : ℕ) → IsPlaced old m
-        → (parent_of (node_at whitened m) ≡ parent_of (node_at old m))
-        ⊎ (parent_of (node_at whitened m) ≡ 1)
-    parents_old m there =
-        let same = ap parent_of (node_at-with_new_other old m white
-        (λ e. none-some there.node
-        (sym (none_from 1 old.next old.next old.nodes sound.ordered (omega arith))
-        ∙ ap (node_at old) (sym e) ∙ there.is))) in
-        ⊎_elim (λ stays. inl (stays ∙ same)) (λ root. inr root) (follows_new.parents m)
-
-    rooted-whitened : IsRooted whitened
-    rooted-whitened =
-        rooted-follows (with_new old white) whitened follows_new
-        (rooted-with_new white (names_place old links od on child leads))
-
-    rooted-whited_out : Ready whitened od on nd nn child fresh
-        → IsRooted (whited_out old uid gid od on nd nn child target)
-    rooted-whited_out r =
-        let into : child_at whitened nd nn ≡ Some fresh =
-        ap (λ o. child_of o nn) r.into.is ∙ r.into.found in
-        let from : child_at whitened od on ≡ Some child =
-        ap (λ o. child_of o on) r.from.is ∙ r.from.found in
-        rooted-twice whitened od on nd nn r.sound r.linked rooted-whitened
-        (names_place whitened r.linked nd nn fresh into)
-        (λ c. with_other_child c nn child) (λ c. with_other_child c on fresh) child from
-        (λ there.
-        let way = own_way old child nd apart (from_old child.node there) in
-        avoids_still old whitened sound links child.node parents_old way.0 nd placed way.1)
-        fresh into (λ there. absurd (none_placed there)) r.apart
-
-  module _ (uid gid od : ℕ) (on : List ℕ) (nd : ℕ) (nn : List ℕ) (flags : ℕ)
-      (allowed : Renames old od on nd nn flags) where
-    rooted-whited_to : (moved target : Option Child) → child_at old od on ≡ moved
-        → child_at old nd nn ≡ target → leaves_whiteout flags ≡ true
-        → Grants old od nd flags moved target
-        → IsRooted (whited_to old uid gid od on nd nn moved target)
-    rooted-whited_to None target is at_new leaves granted = rooted
-    rooted-whited_to (Some child) target is at_new leaves granted =
-        by (same_node (Some child) target) refl
-      where
-        by : (same : Bool) → same_node (Some child) target ≡ same
-            → IsRooted (if same then old else whited_out old uid gid od on nd nn child target)
-        by true same = rooted
-        by false same =
-            rooted-whited_out uid gid od on nd nn child target is granted.placed granted.there
-            (ready old sound links od on nd nn flags allowed uid gid child target is at_new same leaves)
-
-    rooted-renamed : Grants old od nd flags (child_at old od on) (child_at old nd nn)
-        → IsRooted (renamed old uid gid od on nd nn flags)
-    rooted-renamed granted = by (leaves_whiteout flags) refl
-      where
-        by : (leaves : Bool) → leaves_whiteout flags ≡ leaves
-            → IsRooted (if leaves
-            then whited_to old uid gid od on nd nn (child_at old od on) (child_at old nd nn)
-            else renamed_to old od on nd nn flags (child_at old od on) (child_at old nd nn))
-        by true leaves =
-            rooted-whited_to (child_at old od on) (child_at old nd nn) refl refl leaves granted
-        by false leaves =
-            rooted-renamed_to old od on nd nn flags sound links rooted
-            (child_at old od on) (child_at old nd nn) refl refl granted
+      by : (exchanges : Bool) (target : Option Child) → child_at old nd nn ≡ target
+          → same_node (Some child) target ≡ false → (exchanges && is_own_child old target od) ≡ false
+          → IsRooted (left_with
+          (laid (begun old white) od on nd nn (back_of old exchanges white target) target child)
+          exchanges od target)
+      by exchanges None is apart back =
+          rooted-once old sound links rooted (begun old white) still sound_mid od on nd nn placed
+          (back_of old exchanges white None) None child r.found (own_way old child nd r.below)
+      by true (Some t) is apart back =
+          rooted-twice old sound links rooted (begun old white) still sound_mid od on nd nn placed
+          (Some t) (Some t) child r.found (own_way old child nd r.below)
+          t is (own_way old t od back) (eqb-false child.node t.node apart)
+      by false (Some t) is apart back =
+          let there = back_of old false white (Some t) in
+          let last = laid (begun old white) od on nd nn there (Some t) child in
+          rooted-follows last (unnamed_at last t.node (node_at last t.node))
+          (follows-unnamed last t.node (node_at last t.node) refl
+          (sound-once old sound links rooted (begun old white) still sound_mid od on nd nn placed
+          there (Some t) child r.found (own_way old child nd r.below)))
+          (rooted-once old sound links rooted (begun old white) still sound_mid od on nd nn placed
+          there (Some t) child r.found (own_way old child nd r.below))
 
   makes : (uid gid : ℕ) (kind : Kind) (permissions parent : ℕ) (name text : List ℕ)
       → make_refusal old parent name (length text) ≡ None
@@ -605,19 +524,11 @@ module _ (old : State) (sound : IsSound old) (links : IsLinked old) (rooted : Is
   makes uid gid kind permissions parent name text none =
       let node = new_node old.now uid gid kind permissions parent text in
       let mid = with_new old node in
-      let rs : List (Bool × ℕ) = (is_nameless (node_at old parent), enoent)
-      ∷ (is_improper name, einval)
-      ∷ (is_some (child_at old parent name), eexist)
-      ∷ (
-        nat_le old.limits.nodes old.inodes || old.next == 2 ^ 64 - 1
-            || is_crowded (node_at old parent) || nat_lt (room_of old) (length text),
-        enospc,
-      )
-      ∷ [] in
-      let parts = or_none (directory_refusal (node_at old parent) name) (first_of rs) none in
+      let rs : List (Bool × ℕ) = (has_no_number old || is_crowded (node_at old parent), enospc)
+      ∷ (nat_lt (room_of old) (length text), enospc) ∷ [] in
+      let names = named_there old parent name (or_none (name_refusal old parent name) (first_of rs) none).0 in
       let above_it : IsPlaced old parent =
-      placed_from old parent (directory_there (node_at old parent) name parts.0)
-      (are_not rs parts.1).0 in
+      placed_from old parent names.0 names.1 in
       rooted-follows mid (made old parent name node)
       (follows_stays mid (made old parent name node) (stays-with_names mid parent _))
       (rooted-with_new node above_it)
@@ -625,25 +536,22 @@ module _ (old : State) (sound : IsSound old) (links : IsLinked old) (rooted : Is
   adds_name : (n : ℕ) (node : Node) (parent : ℕ) (name : List ℕ) → node_at old n ≡ Some node
       → link_refusal old parent name node ≡ None
       → IsRooted (change (one_inode_more (with_names old parent
-      (λ c. with_child c name (record { node = n; kind = node.kind })))) n (linked old.now))
+      (leading name false (Some (record { node = n; kind = node.kind }))))) n (linked old.now))
   adds_name n node parent name is none =
       let child : Child = record { node = n; kind = node.kind } in
-      let f : Children → Children = λ c. with_child c name child in
+      let f : Children → Children = leading name false (Some child) in
       let named = with_names old parent f in
       let mid = one_inode_more named in
-      let rs : List (Bool × ℕ) = (is_nameless (node_at old parent), enoent)
-      ∷ (is_improper name, einval)
-      ∷ (is_some (child_at old parent name), eexist)
-      ∷ (is_directory node.kind, eperm)
+      let rs : List (Bool × ℕ) = (is_directory node.kind, eperm)
       ∷ (node.names == 0, enoent)
-      ∷ (nat_le most_links node.names, emlink)
+      ∷ (nat_le 65000 node.names, emlink)
       ∷ (node.lookups == 2 ^ 64 - 1, eoverflow)
       ∷ (nat_le old.limits.nodes old.inodes || is_crowded (node_at old parent), enospc) ∷ [] in
-      let parts = or_none (directory_refusal (node_at old parent) name) (first_of rs) none in
-      let none_of = (are_not rs parts.1).1.1.1.0 in
+      let parts = or_none (name_refusal old parent name) (first_of rs) none in
+      let none_of = (all_false rs parts.1).0 in
       let found : node_at mid n ≡ Some node =
       kinds_apart old n parent f (ap is_directory_at is ∙ none_of)
-      (directory_there (node_at old parent) name parts.0) ∙ is in
+      (named_there old parent name parts.0).0 ∙ is in
       let last = with_node mid n (linked old.now node) in
       subst IsRooted (sym (ap (changed mid n (linked old.now)) found))
       (after last (follows_stays old last
@@ -671,15 +579,13 @@ module _ (old : State) (sound : IsSound old) (links : IsLinked old) (rooted : Is
         told_rooted left left.now offered (after left (follows-all_forgotten old pairs sound));
     resizes = λ n was now reply told is r. after _ (follows-with_resized old n was now is
         (record { kind = r.kind; parent = r.parent; named = λ dir some. omega (arith, r.names, some) }));
-    makes = makes;
+    makes = λ reply is. makes;
     links = adds_name;
     unlinks = λ parent name child node there found is file.
         after _ (follows-taken_out old parent name child sound);
     removes = λ parent name child node there found is empty.
         after _ (follows-taken_out old parent name child sound);
-    renames = λ uid gid od on nd nn flags none.
-        rooted-renamed uid gid od on nd nn flags (rename_takes old od on nd nn flags none)
-        (grants old od on nd nn flags none);
+    renames = renames_by;
   }
 
 pub calls_keep_the_way_up : CallsKeepTheWayUp

@@ -1,5 +1,5 @@
 -- Calls keep a sound state sound, and count lookups.
-use Rattle.std.proofs.Common.{rules, tests, nat_cmp, is_eq, true, ⊎_elim, ◌≡◌, ◌≢◌, ◌≤◌, ◌+◌, ◌-◌, ◌==◌, ℕ, List, [], ◌∷◌, Option, Some, None, IsSome, is_some, refl, sym, ap, subst, ◌∙◌, arith, if◌then◌else◌}
+use Rattle.std.proofs.Common.{rules, tests, nat_cmp, is_eq, true, false, ⊎_elim, ◌≡◌, ◌≢◌, ◌≤◌, ◌+◌, ◌-◌, ◌==◌, ℕ, List, [], ◌∷◌, Option, Some, None, IsSome, is_some, refl, sym, ap, subst, ◌∙◌, arith, if◌then◌else◌}
 use Rattle.std.specs.BTreeMap.{is_at}
 use Rattle.std.specs.Map.{lookup}
 use Rattle.std.proofs.lemmas.Bool.{cond-true, cond-false}
@@ -8,21 +8,20 @@ use Rattle.std.proofs.lemmas.List.Sums.{sum_by-append}
 use Rattle.vfs_files.specs.Values.{Item}
 use Rattle.vfs_files.specs.Calls.{Call, Answer, Handed, Plain, Iterator}
 use Rattle.vfs_grammar.specs.Books.{times, forgotten, answered_nodes}
-use Rattle.vfs_tree.specs.Children.{with_child}
+use Rattle.vfs_tree.specs.Children.{leading}
 use Rattle.vfs_tree.specs.Node.{accessed, new_node}
-use Rattle.vfs_tree.specs.Outcome.{TreeReply, Just, EntryOf, AttrOf, Listed}
-use Rattle.vfs_tree.specs.State.{State, node_at, with_node, with_resized, with_new, with_names, changed}
-use Rattle.vfs_tree.specs.Tree.{made, linked, all_forgotten, held_of, outcome}
-use Rattle.vfs_tree.specs.Tree as tree
+use Rattle.vfs_tree.specs.State.{State, node_at, child_at, with_node, with_resized, with_new, with_names}
+use Rattle.vfs_tree.specs.Tree.{linked, all_forgotten, outcome}
 use Rattle.vfs_nodes.specs.declared.children.Child.{Child}
 use Rattle.vfs_nodes.specs.declared.node.Node.{Node}
 use Rattle.vfs_tree_laws.specs.Laws.{Ascend, lookups_in, lookups_of, taken_back, IsSound, CountsLookups, CallsAreSound}
-use Rattle.vfs_tree.proofs.Nodes.{is_at_other}
+use Rattle.vfs_tree.proofs.Nodes.{is_at_other, changed}
 use Rattle.vfs_tree_laws.proofs.Ascending.{none_below}
 use Rattle.vfs_tree_laws.proofs.Endings.{IsOrdinary, IsEnding, which}
-use Rattle.vfs_tree_laws.proofs.Cases.{Covers, Fails, IsTold, Reads, Leaves, taken_pairs, one_inode_more, covered, left_so, nodes_of}
+use Rattle.vfs_tree_laws.proofs.Cases.{Covers, Fails, IsTold, Reads, Leaves, taken_pairs, one_inode_more, covered, left_so, nodes_of, handed_nodes}
 use Rattle.vfs_tree_laws.proofs.Held.{at, sound_counted, lookups_here, lookups_other, none_yet, lookups_new, lookups_new_other, sound-with_node, sound-with_new, settles}
 use Rattle.vfs_tree_laws.proofs.Keeping.{there-change, Keeps, keeps_itself, keeps-with_node, keeps-with_names, keeps-taken_out, keeps-renamed, keeps-resized}
+use Rattle.vfs_tree_laws.proofs.Changes.{forgotten_at, made, held_of}
 use Rattle.vfs_tree_laws.proofs.Telling.{told_sound}
 
 -- a sound state, in which so many lookups are held as were, with those that were given and without those
@@ -85,12 +84,12 @@ module _ (s : State) (n : ℕ) (node : Node) (parent : ℕ) (name : List ℕ) (s
   abbrev named : State
   named =
       let child : Child = record { node = n; kind = node.kind } in
-      one_inode_more (with_names s parent (λ c. with_child c name child))
+      one_inode_more (with_names s parent (leading name false (Some child)))
 
   keeps-named : Keeps s named
   keeps-named =
       let child : Child = record { node = n; kind = node.kind } in
-      let mid = with_names s parent (λ c. with_child c name child) in
+      let mid = with_names s parent (leading name false (Some child)) in
       let keeps : Keeps s mid = keeps-with_names s parent _ sound in
       record { sound = sound_counted mid (mid.inodes + 1) keeps.sound; lookups = keeps.lookups }
 
@@ -128,7 +127,7 @@ record TakesBack (old new : State) (pairs : List (ℕ × ℕ)) : Type 0 where
       → lookups_of new m + forgotten m pairs ≡ lookups_of old m
 
 forgets : (s : State) (n count : ℕ) (o : Option Node) → node_at s n ≡ o → IsSound s
-    → TakesBack s (tree.forgotten s n count o) ((n, count) ∷ [])
+    → TakesBack s (forgotten_at s n count o) ((n, count) ∷ [])
 forgets s n count None is sound = record {
   sound = sound;
   lookups = λ m within. at n m (lookups_of s m + forgotten m ((n, count) ∷ []) ≡ lookups_of s m)
@@ -137,7 +136,7 @@ forgets s n count None is sound = record {
       (λ apart. omega (arith, back_other n count m apart));
 }
 forgets s n count (Some node) is sound =
-    let new = tree.forgotten s n count (Some node) in
+    let new = forgotten_at s n count (Some node) in
     let left = record node { lookups = node.lookups - count } in
     let done = settles s n node left is sound in
     record {
@@ -160,7 +159,7 @@ forgets_all : (s : State) (pairs : List (ℕ × ℕ)) → IsSound s
     → TakesBack s (all_forgotten s pairs) pairs
 forgets_all s [] sound = record { sound = sound; lookups = λ m within. omega arith }
 forgets_all s (r ∷ rs) sound =
-    let mid = tree.forgotten s r.0 r.1 (node_at s r.0) in
+    let mid = forgotten_at s r.0 r.1 (node_at s r.0) in
     let first = forgets s r.0 r.1 (node_at s r.0) refl sound in
     let rest = forgets_all mid rs first.sound in
     record {
@@ -173,19 +172,15 @@ forgets_all s (r ∷ rs) sound =
 
 -- ---- calls
 
-told_none : (reply : TreeReply) → IsTold reply → nodes_of reply ≡ []
-told_none (Just answer) told = told
-told_none (AttrOf n node) told = refl
-told_none (EntryOf n node) told = absurd told
-told_none (Listed items) told = absurd told
+told_none : (reply : Handed (List Item)) → IsTold reply → nodes_of reply ≡ []
+told_none (Plain answer) told = told
+told_none (Iterator items) told = absurd told
 
-read_none : (n : ℕ) (node : Node) (reply : TreeReply) → Reads n node reply → nodes_of reply ≡ []
-read_none n node (Just answer) read = read
-read_none n node (AttrOf m it) read = refl
-read_none n node (EntryOf m it) read = absurd read
-read_none n node (Listed items) read = refl
+read_none : (n : ℕ) (node : Node) (reply : Handed (List Item)) → Reads n node reply → nodes_of reply ≡ []
+read_none n node (Plain answer) read = read
+read_none n node (Iterator items) read = refl
 
-abbrev pub Counted : State → List (ℕ × ℕ) → TreeReply → State → Type 0
+abbrev pub Counted : State → List (ℕ × ℕ) → Handed (List Item) → State → Type 0
 Counted old taken reply left = Counts old left taken (nodes_of reply)
 
 pub covers : (old : State) → IsSound old → Covers old (Counted old)
@@ -209,15 +204,16 @@ covers old sound = record {
       subst (Counts old (with_resized old n was now) []) (sym (told_none reply told))
       (quiet old (with_resized old n was now)
       (keeps-resized old n was now r.lookups r.names sound is));
-  makes = λ uid gid kind permissions parent name text none.
-      makes old parent name (new_node old.now uid gid kind permissions parent text) sound refl;
+  makes = λ reply is uid gid kind permissions parent name text none.
+      let node = new_node old.now uid gid kind permissions parent text in
+      subst (Counts old (made old parent name node) []) (sym is) (makes old parent name node sound refl);
   links = λ n node parent name is none. links old n node parent name sound is;
   unlinks = λ parent name child node there found is file.
       quiet old _ (keeps-taken_out old parent name child sound);
   removes = λ parent name child node there found is empty.
       quiet old _ (keeps-taken_out old parent name child sound);
-  renames = λ uid gid od on nd nn flags none.
-      quiet old _ (keeps-renamed old od on nd nn sound uid gid flags);
+  renames = λ ctx od on nd nn flags child r.
+      quiet old _ (keeps-renamed old ctx od on nd nn flags (child_at old nd nn) child sound);
 }
 
 -- the lookups that a sound state holds of a node are those in its list
@@ -250,11 +246,6 @@ taken_same old sound call answer n =
     e.taken n ∙ sym (counts_held 1 old.next n old.nodes sound.ordered) ∙ ap (forgotten n) (sym e.pairs))
     (which old call answer)
 
--- the nodes of what a call hands back
-abbrev handed_nodes : Call → Handed (List Item) → List ℕ
-handed_nodes call (Plain answer) = answered_nodes call answer
-handed_nodes call (Iterator items) = []
-
 pub calls_are_sound : CallsAreSound
 calls_are_sound old new call answer sound =
     left_so old new (Fails old call) (Leaves old (Counted old) (covers old sound) call)
@@ -275,7 +266,7 @@ calls_are_sound old new call answer sound =
         arith,
         leaves.1.lookups n (omega (arith, within, taken_same old sound call answer n)),
         taken_same old sound call answer n,
-        ap (times n) (leaves.0 answer replies),
+        ap (times n) (ap (handed_nodes call) replies ∙ leaves.0),
       ),
     ))
     (covered old (Counted old) (covers old sound) call)

@@ -1,18 +1,19 @@
 -- Names that are added, taken out or lead elsewhere, step by step.
-use Rattle.std.proofs.Common.{◌≡◌, ◌≢◌, ◌+◌, ◌-◌, ◌≤◌, ◌==◌, ◌&&◌, if◌then◌else◌, ℕ, Bool, true, false, not, List, map, filter, find, Option, Some, None, option_map, refl, sym, ap, ◌∙◌, subst, arith}
+use Rattle.std.proofs.Common.{◌≡◌, ◌≢◌, ◌+◌, ◌-◌, ◌≤◌, ◌==◌, ◌&&◌, if◌then◌else◌, ℕ, Bool, true, false, not, List, map, filter, find, Option, Some, None, is_some, option_map, refl, sym, ap, ◌∙◌, subst, arith}
+use Rattle.std.specs.Option.{option_map_or}
 use Rattle.std.proofs.lemmas.Bool.{both_ways, false≢true, and_parts, eqb-true}
 use Rattle.std.proofs.lemmas.Option.{none-some, same_Some}
 use Rattle.vfs_files.proofs.Indexes.{mapped_none}
-use Rattle.vfs_tree.specs.Children.{Link, Children, is_directory, is_named, child_named, with_child, without_child, with_other_child, relinked}
+use Rattle.vfs_tree.specs.Children.{Link, Children, is_directory, is_named, child_named, leading, relinked}
 use Rattle.vfs_tree_laws.specs.Laws.{names_in, names_to, names_of, IsSound, IsLinked}
 use Rattle.vfs_tree.specs.Rename.{parent_of, moved_into}
-use Rattle.vfs_tree.specs.State.{State, node_at, with_node, without_node, settled, changed, with_names}
+use Rattle.vfs_tree.specs.State.{State, node_at, with_node, without_node, settled, with_names, lead}
 use Rattle.vfs_nodes.specs.declared.children.Child.{Child}
 use Rattle.vfs_nodes.specs.declared.node.Node.{Node}
 use Rattle.vfs_nodes.proofs.Finds.{every_filter}
 use Rattle.vfs_tree_laws.proofs.Held.{at}
 use Rattle.vfs_tree_laws.proofs.NamesIn.{one, names_in-cons, names_in-filter, names_in-relinked, apart_more, apart_filter, apart_relinked, every_relinked}
-use Rattle.vfs_tree.proofs.Nodes.{node_at-with_node, node_at-with_node_other, node_at-without_node_other}
+use Rattle.vfs_tree.proofs.Nodes.{node_at-with_node, node_at-with_node_other, node_at-without_node_other, changed}
 use Rattle.vfs_tree_laws.proofs.Shapes.{Shape, Fits, AllFit, Good, good_from, counted_from, home_from, kinds-with_node, good-with_node, kind_left, good-without_node, Counted, Home, linked_from}
 use Rattle.vfs_tree_laws.proofs.Tables.{links_in, names_at, kind_in, kind_at, is_dir, names_to-with_node, names_to-without_node, names_at-without_node, gone_number}
 
@@ -80,6 +81,10 @@ found_link (Some e) child is = (e, refl, same_Some e.1.child child is)
 abbrev pub none_lost : ℕ → ℕ
 none_lost m = 0
 
+-- the name that leads there, if it does
+abbrev pub one_of : Option Child → ℕ → ℕ
+one_of o m = option_map_or (λ (c : Child). one c.node m) o 0
+
 module _ (s : State) (d : ℕ) (node : Node) (is : node_at s d ≡ Some node) (good : Good s)
     (name : List ℕ) (child : Child) where
   shape_before : Shape node.kind node.names node.children.links
@@ -91,11 +96,11 @@ module _ (s : State) (d : ℕ) (node : Node) (is : node_at s d ≡ Some node) (g
   -- one name more
   pub step-with_child : is_directory node.kind ≡ true → (node.names ≡ 0 → ⊥)
       → child_named node.children name ≡ None → Fits s child
-      → Step s (with_names s d (λ c. with_child c name child)) d none_lost (one child.node)
+      → Step s (with_names s d (leading name false (Some child))) d none_lost (one child.node)
   step-with_child dir named free fits =
       let links = node.children.links in
       let new : ℕ × Link = (node.children.next, record { name = name; child = child }) in
-      step-with_names s d node is good (λ c. with_child c name child) none_lost (one child.node)
+      step-with_names s d node is good (leading name false (Some child)) none_lost (one child.node)
       (λ m. omega (arith, names_in-cons m new links))
       (record {
         apart = apart_more links new shape_before.apart
@@ -108,12 +113,12 @@ module _ (s : State) (d : ℕ) (node : Node) (is : node_at s d ≡ Some node) (g
 
   -- one name less
   pub step-without_child : child_named node.children name ≡ Some child
-      → Step s (with_names s d (λ c. without_child c name)) d (one child.node) none_lost
+      → Step s (with_names s d (leading name true None)) d (one child.node) none_lost
   step-without_child found =
       let links = node.children.links in
       let rest = filter (λ link. not (is_named name link)) in
       let e = found_link (find (is_named name) links) child found in
-      step-with_names s d node is good (λ c. without_child c name) (one child.node) none_lost
+      step-with_names s d node is good (leading name true None) (one child.node) none_lost
       (λ m.
       let less = names_in-filter name m links e.0 shape_before.apart e.1 in
       let same = ap (λ (c : Child). one c.node m) e.2 in
@@ -130,12 +135,12 @@ module _ (s : State) (d : ℕ) (node : Node) (is : node_at s d ≡ Some node) (g
   -- a name that leads elsewhere
   pub step-with_other_child : (old : Child) → child_named node.children name ≡ Some old
       → Fits s child
-      → Step s (with_names s d (λ c. with_other_child c name child)) d (one old.node)
+      → Step s (with_names s d (leading name true (Some child))) d (one old.node)
       (one child.node)
   step-with_other_child old found fits =
       let links = node.children.links in
       let e = found_link (find (is_named name) links) old found in
-      step-with_names s d node is good (λ c. with_other_child c name child) (one old.node)
+      step-with_names s d node is good (leading name true (Some child)) (one old.node)
       (one child.node)
       (λ m.
       let sum = names_in-relinked name child m links e.0 shape_before.apart e.1 in
@@ -148,6 +153,23 @@ module _ (s : State) (d : ℕ) (node : Node) (is : node_at s d ≡ Some node) (g
         single = shape_before.single;
       })
       (every_relinked name (Fits s) child fits links fits_before)
+
+  -- a name, which led there or nowhere, leads to a node
+  pub step-into : is_directory node.kind ≡ true → (node.names ≡ 0 → ⊥) → Fits s child
+      → (was : Option Child) → child_named node.children name ≡ was
+      → Step s (lead s d name (is_some was) (Some child)) d (one_of was) (one child.node)
+  step-into dir named fits None free = step-with_child dir named free fits
+  step-into dir named fits (Some old) found = step-with_other_child old found fits
+
+-- a name that led to a node leads there, or nowhere
+pub step-from : (s : State) (d : ℕ) (node : Node) → node_at s d ≡ Some node → Good s
+    → (name : List ℕ) (child : Child) → child_named node.children name ≡ Some child
+    → (now : Option Child) → ((new : Child) → now ≡ Some new → Fits s new)
+    → Step s (lead s d name true now) d (one child.node) (one_of now)
+step-from s d node is good name child found None fits =
+    step-without_child s d node is good name child found
+step-from s d node is good name child found (Some new) fits =
+    step-with_other_child s d node is good name new child found (fits new refl)
 
 -- a node to which no name was gained has no more names in any directory
 module _ (s t : State) (d : ℕ) (lost gained : ℕ → ℕ) (step : Step s t d lost gained) (c : ℕ)

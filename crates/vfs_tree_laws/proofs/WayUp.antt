@@ -11,13 +11,15 @@ use Rattle.std.proofs.lemmas.Map.Entries.{lookup_head, lookup_tail}
 use Rattle.std.proofs.lemmas.Option.{none-some, same_Some}
 use Rattle.vfs_tree.specs.Children.{Link, is_directory, is_named}
 use Rattle.vfs_tree_laws.specs.Laws.{Ascend, IsSound, IsLinked, IsNamed, IsRooted, Leads, above, names_in, names_of}
-use Rattle.vfs_tree.specs.Rename.{is_below, is_directory_at, is_nameless, parent_of}
-use Rattle.vfs_tree.specs.State.{State, node_at, child_at, child_of}
+use Rattle.vfs_tree.specs.Rename.{is_below, parent_of}
+use Rattle.vfs_tree.specs.State.{State, node_at, child_at}
 use Rattle.vfs_nodes.specs.declared.children.Child.{Child}
 use Rattle.vfs_nodes.specs.declared.node.Node.{Node}
 use Rattle.vfs_nodes.proofs.Finds.{every_found}
 use Rattle.vfs_tree_laws.proofs.Held.{at}
 use Rattle.vfs_tree.proofs.Nodes.{is_at_other}
+use Rattle.vfs_tree.specs.Naming.{is_directory_at, is_nameless}
+use Rattle.vfs_tree_laws.proofs.Changes.{child_of}
 
 -- a directory that has a name
 pub record IsPlaced (s : State) (n : ℕ) : Type 0 where

@@ -10,21 +10,24 @@ use Rattle.std.proofs.lemmas.Bool.{ltb-false, leb-false, eqb-true, eqb-false, an
 use Rattle.std.proofs.lemmas.List.Sums.{sum_by-cons}
 use Rattle.std.proofs.lemmas.Map.Entries.{sum_by-set_value, sum_by-remove_entry}
 use Rattle.std.proofs.lemmas.Option.{same_Some}
-use Rattle.vfs_flags.specs.Numbers.{enoent, eexist, einval, enospc, eperm, eoverflow}
-use Rattle.vfs_tree.specs.Children.{Children, with_child, without_child, with_other_child, is_directory}
+use Rattle.vfs_flags.specs.Numbers.{enoent, enospc, eperm, eoverflow}
+use Rattle.vfs_files.specs.declared.entry.Context.{Context}
+use Rattle.vfs_tree.specs.Children.{Children, leading, is_directory}
 use Rattle.vfs_tree_laws.specs.Laws.{Ascend, IsSound, IsWithin, IsShort, AreShort, inodes_of, CallsStayWithin}
 use Rattle.vfs_tree.specs.Node.{weight, new_node}
 use Rattle.vfs_tree.specs.Outcome.{first_of}
-use Rattle.vfs_tree.specs.Rename.{directory_refusal, is_directory_at, is_improper, is_nameless, is_crowded, leaves_whiteout, same_node, moved_into, moved_to_free, moved_over, exchanged, named_anew, whiteout, whited_out, whited_to, rename_refusal, renamed, renamed_to}
-use Rattle.vfs_tree.specs.State.{State, node_at, room_of, with_node, with_resized, with_new, without_node, settled, changed, change, with_names, unnamed, child_at}
-use Rattle.vfs_tree.specs.Tree.{emlink, most_links, made, linked, forgotten, all_forgotten, taken_out, make_refusal, link_refusal}
+use Rattle.vfs_tree.specs.Rename.{leaves_whiteout, moved_into, whiteout, renamed}
+use Rattle.vfs_tree.specs.State.{State, node_at, room_of, with_node, with_resized, with_new, without_node, settled, change, with_names, lead, child_at}
+use Rattle.vfs_tree.specs.Tree.{emlink, linked, all_forgotten, taken_out, make_refusal, link_refusal}
 use Rattle.vfs_nodes.specs.declared.children.Child.{Child}
 use Rattle.vfs_nodes.specs.declared.kind.Kind.{Kind}
 use Rattle.vfs_nodes.specs.declared.node.Node.{Node}
-use Rattle.vfs_tree.proofs.Nodes.{kinds_apart}
+use Rattle.vfs_tree.proofs.Nodes.{kinds_apart, changed}
 use Rattle.vfs_tree_laws.proofs.Ascending.{ascend_within}
-use Rattle.vfs_tree_laws.proofs.Cases.{Covers, Resizes, one_inode_more, are_not, or_none, calls_covered}
-use Rattle.vfs_tree_laws.proofs.Refused.{link_takes, rename_takes}
+use Rattle.vfs_tree_laws.proofs.Cases.{Covers, Resizes, one_inode_more, calls_covered}
+use Rattle.vfs_tree_laws.proofs.Refused.{all_false, or_none, link_takes, Renames}
+use Rattle.vfs_tree.specs.Naming.{is_directory_at, is_crowded, name_refusal, has_no_number}
+use Rattle.vfs_tree_laws.proofs.Changes.{unnamed_at, forgotten_at, made, white_of, begun, back_of, laid, left_with}
 use Rattle.vfs_tree_laws.proofs.Telling.{told_within}
 
 -- what the nodes take together, and how many inodes they are counted as
@@ -251,14 +254,14 @@ slims-moved_into : (s : State) (n d : ℕ) → Slims s (moved_into s n d)
 slims-moved_into s n d =
     slims-change s n _ (λ node. (record { same = refl; short = λ most h. h }, refl))
 
-slims-unnamed : (s : State) (n : ℕ) (o : Option Node) → node_at s n ≡ o → Slims s (unnamed s n o)
+slims-unnamed : (s : State) (n : ℕ) (o : Option Node) → node_at s n ≡ o → Slims s (unnamed_at s n o)
 slims-unnamed s n None is = slims_itself s
 slims-unnamed s n (Some node) is =
     slims-settled_fewer s n node (record node { names = node.names - 1; ctime = s.now }) is
     (record { same = refl; short = λ most h. h }) refl
 
 slims-forgotten : (s : State) (n count : ℕ) (o : Option Node) → node_at s n ≡ o
-    → Slims s (forgotten s n count o)
+    → Slims s (forgotten_at s n count o)
 slims-forgotten s n count None is = slims_itself s
 slims-forgotten s n count (Some node) is =
     slims-settled s n node (record node { lookups = node.lookups - count }) is
@@ -267,57 +270,33 @@ slims-forgotten s n count (Some node) is =
 slims-all_forgotten : (s : State) (pairs : List (ℕ × ℕ)) → Slims s (all_forgotten s pairs)
 slims-all_forgotten s [] = slims_itself s
 slims-all_forgotten s (r ∷ rs) =
-    let mid = forgotten s r.0 r.1 (node_at s r.0) in
+    let mid = forgotten_at s r.0 r.1 (node_at s r.0) in
     slims_both s mid (all_forgotten mid rs)
     (slims-forgotten s r.0 r.1 (node_at s r.0) refl) (slims-all_forgotten mid rs)
 
 slims-taken_out : (s : State) (parent : ℕ) (name : List ℕ) (child : Child)
     → Slims s (taken_out s parent name child)
 slims-taken_out s parent name child =
-    let rest = with_names s parent (λ c. without_child c name) in
+    let rest = with_names s parent (leading name true None) in
     slims_both s rest (taken_out s parent name child)
     (slims-with_names s parent _) (slims-unnamed rest child.node (node_at rest child.node) refl)
 
 -- ---- RENAME
 
-module _ (s : State) (od : ℕ) (on : List ℕ) (nd : ℕ) (nn : List ℕ) where
-  slims_names : (f g : Children → Children) → Slims s (with_names (with_names s nd f) od g)
-  slims_names f g =
-      slims_both s (with_names s nd f) (with_names (with_names s nd f) od g)
-      (slims-with_names s nd f) (slims-with_names (with_names s nd f) od g)
+slims-laid : (s : State) (od : ℕ) (on : List ℕ) (nd : ℕ) (nn : List ℕ) (back target : Option Child)
+    (child : Child) → Slims s (laid s od on nd nn back target child)
+slims-laid s od on nd nn back target child =
+    let first = lead s nd nn (is_some target) (Some child) in
+    let second = lead first od on true back in
+    let last = laid s od on nd nn back target child in
+    slims_both s first last (slims-with_names s nd _)
+    (slims_both first second last (slims-with_names first od _) (slims-moved_into second child.node nd))
 
-  slims_free : (child : Child) → Slims s (moved_to_free s od on nd nn child)
-  slims_free child =
-      slims_both s _ (moved_to_free s od on nd nn child)
-      (slims_names (λ c. with_child c nn child) (λ c. without_child c on))
-      (slims-moved_into _ child.node nd)
-
-  slims_over : (child target : Child) → Slims s (moved_over s od on nd nn child target)
-  slims_over child target =
-      slims_both s _ (moved_over s od on nd nn child target)
-      (slims_names (λ c. with_other_child c nn child) (λ c. without_child c on))
-      (slims_both _ _ _ (slims-moved_into _ child.node nd) (slims-unnamed _ target.node _ refl))
-
-  slims_exchange : (child target : Child) → Slims s (exchanged s od on nd nn child target)
-  slims_exchange child target =
-      slims_both s _ (exchanged s od on nd nn child target)
-      (slims_names (λ c. with_other_child c nn child) (λ c. with_other_child c on target))
-      (slims_both _ _ _ (slims-moved_into _ child.node nd) (slims-moved_into _ target.node od))
-
-  slims-renamed_to : (flags : ℕ) (moved target : Option Child)
-      → Slims s (renamed_to s od on nd nn flags moved target)
-  slims-renamed_to flags None target = slims_itself s
-  slims-renamed_to flags (Some child) None = slims_free child
-  slims-renamed_to flags (Some child) (Some target) =
-      by (child.node == target.node) (flags == 2)
-    where
-      by : (same exchanges : Bool)
-          → Slims s (if same then s
-          else if exchanges then exchanged s od on nd nn child target
-          else moved_over s od on nd nn child target)
-      by true exchanges = slims_itself s
-      by false true = slims_exchange child target
-      by false false = slims_over child target
+slims-left_with : (s : State) (exchanges : Bool) (od : ℕ) (target : Option Child)
+    → Slims s (left_with s exchanges od target)
+slims-left_with s exchanges od None = slims_itself s
+slims-left_with s true od (Some old) = slims-moved_into s old.node od
+slims-left_with s false od (Some old) = slims-unnamed s old.node (node_at s old.node) refl
 
 -- ---- within the limits
 
@@ -392,113 +371,68 @@ module _ (old : State) (sound : IsSound old) (within : IsWithin old) where
   makes uid gid kind permissions parent name text none =
       let node = new_node old.now uid gid kind permissions parent text in
       let crowded = is_crowded (node_at old parent) in
-      let short = nat_lt (room_of old) (length text) in
-      let full = nat_le old.limits.nodes old.inodes in
-      let last = old.next == 2 ^ 64 - 1 in
-      let rs : List (Bool × ℕ) = (is_nameless (node_at old parent), enoent)
-      ∷ (is_improper name, einval)
-      ∷ (is_some (child_at old parent name), eexist)
-      ∷ (full || last || crowded || short, enospc) ∷ [] in
-      let not = are_not rs (or_none (directory_refusal (node_at old parent) name) (first_of rs) none).1 in
-      let parts = or_parts (full || last || crowded) short not.1.1.1.0 in
-      let place = or_parts full last (or_parts (full || last) crowded parts.0).0 in
+      let none_left = has_no_number old in
+      let rs : List (Bool × ℕ) = (none_left || crowded, enospc)
+      ∷ (nat_lt (room_of old) (length text), enospc) ∷ [] in
+      let not = all_false rs (or_none (name_refusal old parent name) (first_of rs) none).1 in
+      let place = or_parts (nat_le old.limits.nodes old.inodes) (old.next == 2 ^ 64 - 1)
+      (or_parts none_left crowded not.0).0 in
       stays-slims old (with_new old node) (made old parent name node)
       (adds node refl (leb-false old.limits.nodes old.inodes place.0)
-      (omega (arith, ltb-false (room_of old) (length text) parts.1))
+      (omega (arith, ltb-false (room_of old) (length text) not.1.0))
       (λ is. omega arith))
       (slims-with_names (with_new old node) parent _)
 
-  -- a name leads to a new node that takes no bytes
-  names_anew : (d : ℕ) (name : List ℕ) (target : Option Child) (node : Node) → node.names ≡ 1
-      → old.inodes < old.limits.nodes → weight node ≤ room_of old → IsShort old.limits.file node
-      → StaysWithin old (named_anew old d name target node)
-  names_anew d name None node one place room short =
-      stays-slims old (with_new old node) (named_anew old d name None node)
-      (adds node one place room short) (slims-with_names (with_new old node) d _)
-  names_anew d name (Some target) node one place room short =
-      let new : Child = record { node = old.next; kind = node.kind } in
-      let named = with_names (with_new old node) d (λ c. with_other_child c name new) in
-      stays-slims old (with_new old node) (named_anew old d name (Some target) node)
-      (adds node one place room short)
-      (slims_both (with_new old node) named (named_anew old d name (Some target) node)
-      (slims-with_names (with_new old node) d _)
-      (slims-unnamed named target.node (node_at named target.node) refl))
+  begins : (ctx : Context) (od flags : ℕ) → (leaves_whiteout flags && has_no_number old) ≡ false
+      → StaysWithin old (begun old (white_of old ctx od flags))
+  begins ctx od flags room = by (leaves_whiteout flags) room
+    where
+      by : (t : Bool) → (t && has_no_number old) ≡ false
+          → StaysWithin old (begun old (if t then Some (whiteout old ctx od) else None))
+      by true room =
+          adds (whiteout old ctx od) refl
+          (leb-false old.limits.nodes old.inodes
+          (or_parts (nat_le old.limits.nodes old.inodes) (old.next == 2 ^ 64 - 1) room).0)
+          (omega arith) (λ is. omega arith)
+      by false room = slim old (slims_itself old)
 
-  module _ (uid gid od : ℕ) (on : List ℕ) (nd : ℕ) (nn : List ℕ) where
-    whites : (child : Child) (target : Option Child) → old.inodes < old.limits.nodes
-        → StaysWithin old (whited_out old uid gid od on nd nn child target)
-    whites child target place =
-        let node = whiteout old.now uid gid od in
-        let mid = named_anew old nd nn target node in
-        stays-slims old mid (whited_out old uid gid od on nd nn child target)
-        (names_anew nd nn target node refl place (omega arith) (λ is. omega arith))
-        (slims_exchange mid od on nd nn child (record { node = old.next; kind = node.kind }))
-
-    whites_to : (moved target : Option Child)
-        → (not (same_node moved target)
-        && (nat_le old.limits.nodes old.inodes || old.next == 2 ^ 64 - 1)) ≡ false
-        → StaysWithin old (whited_to old uid gid od on nd nn moved target)
-    whites_to None target room = slim old (slims_itself old)
-    whites_to (Some child) target room = by (same_node (Some child) target) room
-      where
-        by : (same : Bool)
-            → (not same && (nat_le old.limits.nodes old.inodes || old.next == 2 ^ 64 - 1)) ≡ false
-            → StaysWithin old (if same then old else whited_out old uid gid od on nd nn child target)
-        by true room = slim old (slims_itself old)
-        by false room =
-            whites child target (leb-false old.limits.nodes old.inodes
-            (or_parts (nat_le old.limits.nodes old.inodes) (old.next == 2 ^ 64 - 1) room).0)
-
-    renames : (flags : ℕ) → rename_refusal old od on nd nn flags ≡ None
-        → StaysWithin old (renamed old uid gid od on nd nn flags)
-    renames flags none =
-        let moved = child_at old od on in
-        let target = child_at old nd nn in
-        by (leaves_whiteout flags)
-        (are_not
-        ((
-          leaves_whiteout flags && not (same_node moved target)
-              && (nat_le old.limits.nodes old.inodes || old.next == 2 ^ 64 - 1),
-          enospc,
-        ) ∷ [])
-        (rename_takes old od on nd nn flags none).room).0
-      where
-        by : (leaves : Bool)
-            → (leaves && not (same_node (child_at old od on) (child_at old nd nn))
-            && (nat_le old.limits.nodes old.inodes || old.next == 2 ^ 64 - 1)) ≡ false
-            → StaysWithin old (if leaves
-            then whited_to old uid gid od on nd nn (child_at old od on) (child_at old nd nn)
-            else renamed_to old od on nd nn flags (child_at old od on) (child_at old nd nn))
-        by true room = whites_to (child_at old od on) (child_at old nd nn) room
-        by false room =
-            slim _ (slims-renamed_to old od on nd nn flags (child_at old od on) (child_at old nd nn))
+  renames : (ctx : Context) (od : ℕ) (on : List ℕ) (nd : ℕ) (nn : List ℕ) (flags : ℕ) (child : Child)
+      → Renames old od on nd nn flags child
+      → StaysWithin old (renamed old ctx od on nd nn flags (child_at old nd nn) child)
+  renames ctx od on nd nn flags child r =
+      let target = child_at old nd nn in
+      let white = white_of old ctx od flags in
+      let mid = begun old white in
+      let back = back_of old (flags == 2) white target in
+      let there = laid mid od on nd nn back target child in
+      let last = left_with there (flags == 2) od target in
+      stays-slims old mid last (begins ctx od flags r.room)
+      (slims_both mid there last (slims-laid mid od on nd nn back target child)
+      (slims-left_with there (flags == 2) od target))
 
   links : (n : ℕ) (node : Node) (parent : ℕ) (name : List ℕ) → node_at old n ≡ Some node
       → link_refusal old parent name node ≡ None
       → StaysWithin old (change (one_inode_more (with_names old parent
-      (λ c. with_child c name (record { node = n; kind = node.kind })))) n (linked old.now))
+      (leading name false (Some (record { node = n; kind = node.kind }))))) n (linked old.now))
   links n node parent name is none =
       let child : Child = record { node = n; kind = node.kind } in
-      let f : Children → Children = λ c. with_child c name child in
+      let f : Children → Children = leading name false (Some child) in
       let named = with_names old parent f in
       let mid = one_inode_more named in
       let full = nat_le old.limits.nodes old.inodes in
       let crowded = is_crowded (node_at old parent) in
-      let rs : List (Bool × ℕ) = (is_nameless (node_at old parent), enoent)
-      ∷ (is_improper name, einval)
-      ∷ (is_some (child_at old parent name), eexist)
-      ∷ (is_directory node.kind, eperm)
+      let rs : List (Bool × ℕ) = (is_directory node.kind, eperm)
       ∷ (node.names == 0, enoent)
-      ∷ (nat_le most_links node.names, emlink)
+      ∷ (nat_le 65000 node.names, emlink)
       ∷ (node.lookups == 2 ^ 64 - 1, eoverflow)
       ∷ (full || crowded, enospc) ∷ [] in
-      let not = are_not rs (or_none (directory_refusal (node_at old parent) name) (first_of rs) none).1 in
-      let some : node.names ≢ 0 = eqb-false node.names 0 not.1.1.1.1.0 in
-      let place = leb-false old.limits.nodes old.inodes (or_parts full crowded not.1.1.1.1.1.1.1.0).0 in
+      let not = all_false rs (or_none (name_refusal old parent name) (first_of rs) none).1 in
+      let some : node.names ≢ 0 = eqb-false node.names 0 not.1.0 in
+      let place = leb-false old.limits.nodes old.inodes (or_parts full crowded not.1.1.1.1.0).0 in
       let to = (link_takes old node parent name none).0 in
       let above : is_directory_at (node_at old parent) ≡ true = ap is_directory_at to.is ∙ to.dir in
       let found : node_at mid n ≡ Some node =
-      kinds_apart old n parent f (ap is_directory_at is ∙ not.1.1.1.0) above ∙ is in
+      kinds_apart old n parent f (ap is_directory_at is ∙ not.0) above ∙ is in
       let slims = slims-with_names old parent f in
       let stays = (slim named slims).within in
       let same : named.inodes ≡ old.inodes = changed_inodes old parent
@@ -536,7 +470,7 @@ module _ (old : State) (sound : IsSound old) (within : IsWithin old) where
           limits = stays.limits;
         };
     resizes = λ n was now reply told is r. resizes n was now is r;
-    makes = makes;
+    makes = λ reply is. makes;
     links = links;
     unlinks = λ parent name child node there found is file.
         slim _ (slims-taken_out old parent name child);

@@ -1,5 +1,5 @@
 -- Trees to call, written out.
-use Rattle.std.specs.Prelude.{ℕ, ◌^◌, ◌+◌, ◌-◌, true, false, List, [], ◌∷◌, codes}
+use Rattle.std.specs.Prelude.{ℕ, ◌^◌, ◌+◌, ◌-◌, true, false, List, [], ◌∷◌, codes, Some}
 use Rattle.vfs_contents.specs.Contents.{Contents, no_contents}
 use Rattle.vfs_nodes.specs.Children.{Children, Link, no_children}
 use Rattle.vfs_nodes.specs.Node.{weight}
@@ -9,7 +9,7 @@ use Rattle.vfs_nodes.specs.declared.kind.Kind.{Kind}
 use Rattle.vfs_nodes.specs.declared.kind.Kind.TheVariants as kind
 use Rattle.vfs_nodes.specs.declared.node.Node.{Node}
 use Rattle.vfs_nodes.specs.declared.node.Time.{Time}
-use Rattle.vfs_tree.specs.State.{State}
+use Rattle.vfs_tree.specs.State.{State, lead, with_new}
 use Rattle.vfs_tree.specs.Tree.{first_state}
 use Rattle.vfs_tree.specs.declared.fs.Capacity.{Capacity}
 
@@ -80,6 +80,11 @@ hollow_file =
 -- a directory that is empty, likewise
 abbrev pub empty_directory : Node
 empty_directory = node_in_root kind.Directory 0o755 no_children no_contents 1 1
+
+-- a small tree in which this node was made under this name
+abbrev pub with_one : (name : List ℕ) → Node → State
+with_one name node =
+    lead (with_new small_tree node) 1 name false (Some (record { node = 2; kind = node.kind }))
 
 -- a name that leads to a node of this kind
 abbrev pub link_to : (name : List ℕ) → (node : ℕ) → Kind → Link

@@ -6,8 +6,7 @@ ghost use Rattle.vfs_files.specs.Answers.{Count, value_or_count};
 ghost use Rattle.vfs_nodes.specs.Listing.{dot_items};
 ghost use Rattle.vfs_nodes.specs.Children.{is_directory};
 ghost use Rattle.vfs_tree.specs.State.{node_at};
-ghost use Rattle.vfs_tree.specs.Tree.{made};
-ghost use Rattle.vfs_tree_uses.specs.Trees.{empty_file, small_tree};
+ghost use Rattle.vfs_tree_uses.specs.Trees.{empty_directory, empty_file, small_tree, with_one};
 
 use crate::support::root;
 use bitflags::Flags;
@@ -107,15 +106,24 @@ fn taken_out_and_forgotten(tree: &mut TreeFs) -> Option<bool>
     requires { tree.old ≡ small_tree }
     ensures { IfSome result (λ gone. gone ≡ true) }
 {
+    directory_is_made(tree)?;
+    tree.rmdir(root(), 1, CStr::before_nul(b"d\0", 1)).ok()?;
+    tree.forget(root(), 2, 1);
+    Some(tree.getattr(root(), 2, None).is_err())
+}
+
+/// A directory is made.
+fn directory_is_made(tree: &mut TreeFs) -> Option<()>
+    requires { tree.old ≡ small_tree }
+    ensures { IfSome result (λ _. tree.new ≡ with_one (codes "d") empty_directory) }
+{
     let none = Extensions {
         secctx: None,
         sup_gid: None,
     };
-    tree.mkdir(root(), 1, CStr::before_nul(b"d\0", 1), 0o755, 0, none)
-        .ok()?;
-    tree.rmdir(root(), 1, CStr::before_nul(b"d\0", 1)).ok()?;
-    tree.forget(root(), 2, 1);
-    Some(tree.getattr(root(), 2, None).is_err())
+    let name = CStr::before_nul(b"d\0", 1);
+    tree.mkdir(root(), 1, name, 0o755, 0, none).ok()?;
+    Some(())
 }
 
 /// A second name of a file.
@@ -231,7 +239,7 @@ fn name_taken_out(tree: &mut TreeFs) -> Option<()>
 /// A file is made.
 fn file_is_made(tree: &mut TreeFs) -> Option<()>
     requires { tree.old ≡ small_tree }
-    ensures { IfSome result (λ _. tree.new ≡ made small_tree 1 (codes "f") empty_file) }
+    ensures { IfSome result (λ _. tree.new ≡ with_one (codes "f") empty_file) }
 {
     let none = Extensions {
         secctx: None,

@@ -1,5 +1,6 @@
 use Rattle.std.proofs.Common.{◌≡◌, ◌≤◌, ◌++◌, length, map, take, filter, nat_lt}
-use Rattle.vfs_nodes.specs.Listing.{items_in, link_item}
+use Rattle.vfs_nodes.specs.Listing.{link_item}
+use Rattle.vfs_nodes.proofs.Listings.{items_in}
 use Rattle.vfs_nodes.proofs.listing.entries_behind.Given as goal
 
 abbrev pub invariant-loop-place : goal.invariant-loop-place

@@ -1,11 +1,11 @@
-use Rattle.std.proofs.Common.{◌≡◌, ◌+◌, ◌-◌, ℕ, List, Some, None, refl, sym, ap, ◌∙◌, subst, find, arith}
+use Rattle.std.proofs.Common.{◌≡◌, ◌+◌, ◌-◌, ℕ, List, false, Some, None, refl, sym, ap, ◌∙◌, subst, find, arith}
 use Rattle.std.specs.Int.{from_bool}
 use Rattle.std.specs.Cmp.Lexicographic.{slice_cmp}
 use Rattle.std.specs.Ordering.{nat_cmp}
 use Rattle.std.specs.BTreeMap.{UpdatesBy, insert_entry}
 use Rattle.vfs_files.proofs.Indexes.{mapped_none}
 use Rattle.vfs_files.specs.Values.{name_text}
-use Rattle.vfs_nodes.specs.Children.{Children, Link, child_named, with_child, is_named}
+use Rattle.vfs_nodes.specs.Children.{Children, Link, child_named, leading, is_named}
 use Rattle.vfs_nodes.specs.Index.{AreIndexed}
 use Rattle.vfs_nodes.proofs.Index.{one_for}
 use Rattle.vfs_nodes.proofs.Indexed.{directories_fit, indexed_same, indexed_added, link_added, add_undone}
@@ -84,6 +84,6 @@ returns-clause-ok c =
     ap (λ es. record { links = es; next = s.next - 1 })
     (link_added s.links.entries s.places s.next s.directories c.self.invariant link.name link.child
     c.insert.new.self.entries put)
-    ∙ ap (λ n. with_child (record { links = s.links.entries; next = s.next }) n c.args.child)
+    ∙ ap (λ n. leading n false (Some c.args.child) (record { links = s.links.entries; next = s.next }))
     c.in_ok-new.ensures.same
-    ∙ ap (λ (ch : Children). with_child ch (name_text c.args.name) c.args.child) c.self.view_is
+    ∙ ap (leading (name_text c.args.name) false (Some c.args.child)) c.self.view_is

@@ -1,6 +1,6 @@
-use Rattle.std.proofs.Common.{◌≡◌, ◌-◌, sym, ap, ◌∙◌, arith}
+use Rattle.std.proofs.Common.{◌≡◌, ◌-◌, true, None, sym, ap, ◌∙◌, arith}
 use Rattle.std.specs.Int.{from_bool}
-use Rattle.vfs_nodes.specs.Children.{Children, Link, is_directory, without_child}
+use Rattle.vfs_nodes.specs.Children.{Link, is_directory, leading}
 use Rattle.vfs_nodes.proofs.Index.{one_for, none_removed}
 use Rattle.vfs_nodes.proofs.Indexed.{not_indexed, link_missing, link_removed, indexed_removed, link_counted}
 use Rattle.vfs_nodes.proofs.children.Children.remove.Goals as goal
@@ -12,7 +12,7 @@ returns-in_default c =
     (sym (none_removed c.args.name.now s.links.entries
     (not_indexed s.links.entries s.places s.next s.directories c.self.invariant c.args.name.now
     (sym c.in_default.ensures.value))))
-    ∙ ap (λ (children : Children). without_child children c.args.name.now) c.self.view_is
+    ∙ ap (leading c.args.name.now true None) c.self.view_is
 
 pub invariant_of-self-in_default-remove : goal.invariant_of-self-in_default-remove
 invariant_of-self-in_default-remove c =
@@ -62,4 +62,4 @@ returns c =
     (c.remove-2.ensures.entries
     ∙ link_removed s.links.entries s.places s.next s.directories c.self.invariant c.args.name.now
     c.in-Some.place (sym c.in-Some.ensures.value))
-    ∙ ap (λ (children : Children). without_child children c.args.name.now) c.self.view_is
+    ∙ ap (leading c.args.name.now true None) c.self.view_is

@@ -1,9 +1,9 @@
-use Rattle.std.proofs.Common.{◌≡◌, ◌+◌, ◌-◌, sym, ap, ◌∙◌, arith}
+use Rattle.std.proofs.Common.{◌≡◌, ◌+◌, ◌-◌, true, Some, sym, ap, ◌∙◌, arith}
 use Rattle.std.specs.Int.{from_bool}
 use Rattle.std.specs.Ordering.{nat_cmp}
 use Rattle.std.specs.Map.{set_value}
 use Rattle.std.specs.BTreeMap.{is_at}
-use Rattle.vfs_nodes.specs.Children.{Children, Link, is_directory, with_other_child}
+use Rattle.vfs_nodes.specs.Children.{Link, is_directory, leading}
 use Rattle.vfs_nodes.proofs.Index.{one_for, none_relinked}
 use Rattle.vfs_nodes.proofs.Indexed.{not_indexed, link_missing, link_counted, link_replaced, indexed_replaced, directories_replaced}
 use Rattle.vfs_nodes.proofs.children.Children.replace.Goals as goal
@@ -16,8 +16,7 @@ returns-in_default c =
     (sym (none_relinked c.args.name.now c.args.child s.links.entries
     (not_indexed s.links.entries s.places s.next s.directories c.self.invariant c.args.name.now
     (sym c.in_default.ensures.value))))
-    ∙ ap (λ (children : Children). with_other_child children c.args.name.now c.args.child)
-    c.self.view_is
+    ∙ ap (leading c.args.name.now true (Some c.args.child)) c.self.view_is
 
 pub returns-in_default-get_mut : goal.returns-in_default-get_mut
 returns-in_default-get_mut c =
@@ -95,5 +94,4 @@ returns c =
     ∙ link_replaced s.links.entries s.places s.next s.directories c.self.invariant c.args.name.now
     c.in-Some.place.now (sym c.in-Some.ensures.value) c.args.child link
     (sym c.in-Some-get_mut.ensures.value))
-    ∙ ap (λ (children : Children). with_other_child children c.args.name.now c.args.child)
-    c.self.view_is
+    ∙ ap (leading c.args.name.now true (Some c.args.child)) c.self.view_is

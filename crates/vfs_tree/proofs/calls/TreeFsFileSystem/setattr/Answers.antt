@@ -6,6 +6,6 @@ use Rattle.vfs_tree.proofs.calls.TreeFsFileSystem.setattr.Goals as goal
 
 pub reweigh-requires : goal.reweigh-requires
 reweigh-requires c =
-    let fits = set_attr_weighs c.self.inside.now c.in-Some.node.now c.args.attr c.args.handle
+    let fits = set_attr_weighs c.self.inside.now c.in-Some-get_mut.node.now c.args.attr c.args.handle
     (setattr_valid_bits c.args.valid) in
     omega (arith, fits, ap weight c.set_attr.ensures)

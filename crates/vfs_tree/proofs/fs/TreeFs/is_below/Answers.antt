@@ -1,31 +1,31 @@
 use Rattle.std.proofs.Common.{◌≡◌, ◌+◌, ◌-◌, suc, length, sym, ap, ◌∙◌, arith}
 use Rattle.vfs_tree.specs.Rename.{is_below}
-use Rattle.vfs_tree.specs.State.{State, count_of}
+use Rattle.vfs_tree.specs.State.{State}
 use Rattle.vfs_tree.proofs.Below.{below_itself, below_root, below_next}
 use Rattle.vfs_tree.proofs.fs.TreeFs.is_below.Goals as goal
 
 pub loop-init : goal.loop-init
 loop-init c =
     let s = c.args.self.now in
-    let all : count_of s - 0 ≡ count_of s = omega arith in
+    let all : length s.nodes - 0 ≡ length s.nodes = omega arith in
     ap (λ k. is_below s k c.args.number c.args.start) all
 
 pub returns-then-at-number : goal.returns-then-at-number
 returns-then-at-number c =
     let s = c.args.self.now in
     let count = ap (λ (s : State). length s.nodes) c.self.view_is in
-    let left : count_of s - c.loop.counter ≡ suc (count_of s - (c.loop.counter + 1)) =
+    let left : length s.nodes - c.loop.counter ≡ suc (length s.nodes - (c.loop.counter + 1)) =
     omega (arith, count) in
-    sym (below_itself s (count_of s - (c.loop.counter + 1)) c.args.number c.loop.at c.if-at-number.true)
+    sym (below_itself s (length s.nodes - (c.loop.counter + 1)) c.args.number c.loop.at c.if-at-number.true)
     ∙ (rw left at c.loop.invariant)
 
 pub returns-then-at-eq-ROOT_ID : goal.returns-then-at-eq-ROOT_ID
 returns-then-at-eq-ROOT_ID c =
     let s = c.args.self.now in
     let count = ap (λ (s : State). length s.nodes) c.self.view_is in
-    let left : count_of s - c.loop.counter ≡ suc (count_of s - (c.loop.counter + 1)) =
+    let left : length s.nodes - c.loop.counter ≡ suc (length s.nodes - (c.loop.counter + 1)) =
     omega (arith, count) in
-    sym (below_root s (count_of s - (c.loop.counter + 1)) c.args.number c.loop.at
+    sym (below_root s (length s.nodes - (c.loop.counter + 1)) c.args.number c.loop.at
     c.if-at-number.false c.if-at-eq-ROOT_ID.true)
     ∙ (rw left at c.loop.invariant)
 
@@ -33,10 +33,10 @@ pub loop-preserved : goal.loop-preserved
 loop-preserved c =
     let s = c.args.self.now in
     let count = ap (λ (s : State). length s.nodes) c.self.view_is in
-    let left : count_of s - c.loop.counter ≡ suc (count_of s - (c.loop.counter + 1)) =
+    let left : length s.nodes - c.loop.counter ≡ suc (length s.nodes - (c.loop.counter + 1)) =
     omega (arith, count) in
-    ap (is_below s (count_of s - (c.loop.counter + 1)) c.args.number) c.parent_of-at.ensures
-    ∙ sym (below_next s (count_of s - (c.loop.counter + 1)) c.args.number c.loop.at
+    ap (is_below s (length s.nodes - (c.loop.counter + 1)) c.args.number) c.parent_of-at.ensures
+    ∙ sym (below_next s (length s.nodes - (c.loop.counter + 1)) c.args.number c.loop.at
     c.if-at-number.false c.if-at-eq-ROOT_ID.false)
     ∙ (rw left at c.loop.invariant)
 
@@ -44,5 +44,5 @@ pub returns : goal.returns
 returns c =
     let s = c.args.self.now in
     let count = ap (λ (s : State). length s.nodes) c.self.view_is in
-    let none : count_of s - c.loop.counter ≡ 0 = omega (arith, count) in
+    let none : length s.nodes - c.loop.counter ≡ 0 = omega (arith, count) in
     rw none at c.loop.invariant

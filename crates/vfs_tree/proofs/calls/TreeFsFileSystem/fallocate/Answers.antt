@@ -4,7 +4,7 @@ use Rattle.vfs_contents.specs.Contents.{Contents}
 use Rattle.vfs_nodes.specs.Node.{weight}
 use Rattle.vfs_tree.specs.contracts.fs.TreeFs.{the_view}
 use Rattle.vfs_tree.proofs.Weights.{fallocated_fits}
-use Rattle.vfs_tree.proofs.fs.TreeFs.allocate.Goals as goal
+use Rattle.vfs_tree.proofs.calls.TreeFsFileSystem.fallocate.Goals as goal
 
 pub reweigh-requires : goal.reweigh-requires
 reweigh-requires c =

@@ -7,35 +7,35 @@ use Rattle.vfs_tree.specs.Tree.{link_refusal}
 use Rattle.vfs_nodes.specs.declared.node.Node.{Node}
 use Rattle.vfs_tree.proofs.Answering.{linked_ends}
 use Rattle.vfs_tree.proofs.Nodes.{found_still}
-use Rattle.vfs_tree.proofs.fs.TreeFs.add_link.Goals as goal
+use Rattle.vfs_tree.proofs.calls.TreeFsFileSystem.link.Goals as goal
 
 pub add_name-requires-clause-place : goal.add_name-requires-clause-place
 add_name-requires-clause-place c = c.in_ok-child.ensures.place
 
 pub count_link-requires-clause-there : goal.count_link-requires-clause-there
 count_link-requires-clause-there c =
-    subst (λ (o : Option Node). IsSome o) (sym (found_still c.args.self.now _ c.args.number c.args.parent _
+    subst (λ (o : Option Node). IsSome o) (sym (found_still c.args.self.now _ c.args.inode c.args.newparent _
     (c.self.view_is ∙ c.in_ok-add_name.ensures.ok) c.in_ok-child.ensures.file c.in_ok-child.ensures.above))
     c.in_ok-child.ensures.there
 
 pub count_link-requires-clause-names : goal.count_link-requires-clause-names
 count_link-requires-clause-names c =
-    subst (λ (o : Option Node). IfSome o (λ node. node.names < 65000)) (sym (found_still c.args.self.now _ c.args.number c.args.parent _
+    subst (λ (o : Option Node). IfSome o (λ node. node.names < 65000)) (sym (found_still c.args.self.now _ c.args.inode c.args.newparent _
     (c.self.view_is ∙ c.in_ok-add_name.ensures.ok) c.in_ok-child.ensures.file c.in_ok-child.ensures.above))
     c.in_ok-child.ensures.names
 
 pub count_link-requires-clause-lookups : goal.count_link-requires-clause-lookups
 count_link-requires-clause-lookups c =
-    subst (λ (o : Option Node). IfSome o (λ node. node.lookups < 2 ^ 64 - 1)) (sym (found_still c.args.self.now _ c.args.number c.args.parent _
+    subst (λ (o : Option Node). IfSome o (λ node. node.lookups < 2 ^ 64 - 1)) (sym (found_still c.args.self.now _ c.args.inode c.args.newparent _
     (c.self.view_is ∙ c.in_ok-add_name.ensures.ok) c.in_ok-child.ensures.file c.in_ok-child.ensures.above))
     c.in_ok-child.ensures.lookups
 
 pub returns : goal.returns
 returns c =
     let s = c.args.self.now in
-    let parent = c.args.parent in
-    let node = node_at s c.args.number in
-    let free : refusal_of node (link_refusal s parent (name_text c.args.name)) ≡ None =
+    let parent = c.args.newparent in
+    let node = node_at s c.args.inode in
+    let free : refusal_of node (link_refusal s parent (name_text c.args.newname)) ≡ None =
     subst (λ (l : List ℕ). refusal_of node (link_refusal s parent l) ≡ None) c.to_bytes.ensures
     c.in_ok-child.ensures.ok in
     let inside = c.self.inside in
@@ -49,6 +49,6 @@ returns c =
       offered = fs_options_bits inside.offered;
       now = inside.now;
     } in
-    linked_ends s c.args.number parent (name_text c.args.name) c.count_link.result
+    linked_ends s c.args.inode parent (name_text c.args.newname) c.count_link.result
     c.count_link.new.self node c.in_ok-child.child named refl c.in_ok-child.ensures.child free
     (c.self.view_is ∙ c.in_ok-add_name.ensures.ok) c.count_link.ensures
