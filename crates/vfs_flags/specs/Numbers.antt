@@ -112,6 +112,10 @@ enoent = 2
 abbrev pub eio : ℕ
 eio = 5
 
+-- there is nothing there, behind the end of a file say
+abbrev pub enxio : ℕ
+enxio = 6
+
 -- the handle is of no open file
 abbrev pub ebadf : ℕ
 ebadf = 9
@@ -132,6 +136,10 @@ eexist = 17
 abbrev pub exdev : ℕ
 exdev = 18
 
+-- the node has no such operation, being no file
+abbrev pub enodev : ℕ
+enodev = 19
+
 -- the node is no directory
 abbrev pub enotdir : ℕ
 enotdir = 20
@@ -144,6 +152,10 @@ eisdir = 21
 abbrev pub einval : ℕ
 einval = 22
 
+-- a file would be longer than one may be
+abbrev pub efbig : ℕ
+efbig = 27
+
 -- the file system has no room left
 abbrev pub enospc : ℕ
 enospc = 28
@@ -151,6 +163,10 @@ enospc = 28
 -- the file system is mounted to be read only
 abbrev pub erofs : ℕ
 erofs = 30
+
+-- a node has as many names as it may have
+abbrev pub emlink : ℕ
+emlink = 31
 
 -- the value is longer than the room that was left for it
 abbrev pub erange : ℕ

@@ -3,7 +3,7 @@ use Rattle.std.proofs.Common.{◌≡◌, ◌+◌, ◌==◌, ◌&&◌, ◌||◌, 
 use Rattle.std.specs.Option.{option_or}
 use Rattle.std.proofs.lemmas.Bool.{not-false}
 use Rattle.std.proofs.lemmas.Option.{same_Some}
-use Rattle.vfs_flags.specs.Numbers.{enoent, einval, eexist, eperm, enosys, eoverflow, enospc, enotdir, enametoolong}
+use Rattle.vfs_flags.specs.Numbers.{enoent, einval, eexist, eperm, enosys, eoverflow, enospc, enotdir, enametoolong, efbig, emlink}
 use Rattle.vfs_files.specs.Calls.{Failed, Found, Created, Wrote, Plain}
 use Rattle.vfs_files.specs.declared.entry.Entry.{Entry}
 use Rattle.vfs_nodes.specs.Children.{leading, is_directory}
@@ -15,7 +15,7 @@ use Rattle.vfs_nodes.specs.declared.node.Node.{Node}
 use Rattle.vfs_tree.specs.Naming.{directory_refusal, is_directory_at, is_improper, is_nameless, is_crowded, name_refusal}
 use Rattle.vfs_tree.specs.Outcome.{Outcome, Refused, Tried, Ends, first_of, unless, refusal_of, on}
 use Rattle.vfs_tree.specs.State.{State, node_at, child_at, with_node, with_resized, lead, change}
-use Rattle.vfs_tree.specs.Tree.{contents_refusal, efbig, emlink, link_refusal, linked, longest, most_size}
+use Rattle.vfs_tree.specs.Tree.{contents_refusal, link_refusal, linked, longest, most_size}
 use Rattle.vfs_tree.proofs.Nodes.{changed, kinds_apart}
 
 -- where an entry is answered, a file is opened too, of a client that opens files

@@ -2,7 +2,7 @@
 use Rattle.std.proofs.Common.{◌≡◌, Ok, ◌≤◌, ◌-◌, ◌+◌, ◌*◌, ◌/◌, ◌==◌, ◌&&◌, not, nat_eq, nat_lt, ℕ, Bool, true, false, zero, suc, ◌⊎◌, inl, inr, ⊎_elim, List, [], ◌∷◌, None, length, take, refl, sym, ap, ◌∙◌, arith, length-take}
 use Rattle.std.specs.List.{list_any}
 use Rattle.std.proofs.lemmas.Bool.{ltb-false}
-use Rattle.vfs_flags.specs.Numbers.{einval, enospc, eopnotsupp}
+use Rattle.vfs_flags.specs.Numbers.{einval, enospc, eopnotsupp, efbig, enodev}
 use Rattle.vfs_files.specs.Bytes.{fitting}
 use Rattle.vfs_contents.specs.Contents.{fallocated, pages_over}
 use Rattle.vfs_contents.specs.Pages.{reach}
@@ -14,7 +14,7 @@ use Rattle.vfs_nodes.specs.declared.node.Time.{Time}
 use Rattle.vfs_nodes.proofs.Weights.{overwritten_weighs, fallocated_holds, stripped_bytes}
 use Rattle.vfs_tree.proofs.Answering.{first_false}
 use Rattle.vfs_tree.specs.State.{State, room_of}
-use Rattle.vfs_tree.specs.Tree.{most_size, longest, fallocate_refusal, efbig, enodev}
+use Rattle.vfs_tree.specs.Tree.{most_size, longest, fallocate_refusal}
 
 -- bytes that fit end within a limit, unless none fits
 pub fitting_ends : (most off : ℕ) (bytes : List ℕ)

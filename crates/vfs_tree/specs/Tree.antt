@@ -3,7 +3,7 @@ use Rattle.std.specs.Prelude.{ℕ, ◌==◌, ◌+◌, ◌-◌, ◌*◌, ◌/◌,
 use Rattle.std.specs.List.{list_any, starts_with}
 use Rattle.std.specs.Option.{option_map_or, option_or, unwrap_or}
 use Rattle.std.specs.Str.{bytes_eq}
-use Rattle.vfs_flags.specs.Numbers.{eperm, enoent, eexist, enotdir, eisdir, einval, enospc, erange, enotempty, enodata, enosys, eoverflow, eopnotsupp}
+use Rattle.vfs_flags.specs.Numbers.{eperm, enoent, eexist, enotdir, eisdir, einval, enospc, erange, enotempty, enodata, enosys, eoverflow, eopnotsupp, efbig, emlink, enodev, enxio}
 use Rattle.vfs_wire.specs.declared.attributes.SetattrIn.{SetattrIn}
 use Rattle.vfs_wire.specs.declared.stat.Statvfs64.{Statvfs64}
 use Rattle.vfs_files.specs.declared.entry.Context.{Context}
@@ -27,19 +27,6 @@ use Rattle.vfs_tree.specs.Outcome.{Outcome, Refused, Answered, Tried, Ends, done
 use Rattle.vfs_tree.specs.Rename.{renames}
 use Rattle.vfs_tree.specs.State.{State, node_at, room_of, with_node, with_resized, with_new, settled, change, lead, unnamed, child_at}
 use Rattle.vfs_tree.specs.declared.fs.Capacity.{Capacity}
-
--- numbers of errors
-abbrev pub efbig : ℕ
-efbig = 27
-
-abbrev pub emlink : ℕ
-emlink = 31
-
-abbrev pub enodev : ℕ
-enodev = 19
-
-abbrev pub enxio : ℕ
-enxio = 6
 
 -- ---- new nodes
 

@@ -1,7 +1,7 @@
 -- What the calls leave: a fact of all states that are left follows from that fact of each change.
 use Rattle.std.proofs.Common.{◌≡◌, ◌≤◌, ◌+◌, ◌-◌, ◌^◌, ◌/◌, ◌==◌, ◌&&◌, ◌||◌, not, nat_lt, nat_le, ℕ, min, max, ◌⊎◌, inl, inr, ⊎_elim, Bool, true, false, List, [], ◌∷◌, ◌++◌, length, take, drop, replicate, Option, Some, None, is_some, is_none, refl, sym, ap, subst, ◌∙◌, arith, if◌then◌else◌, bit_and, length-append, length-take, length-drop}
 use Rattle.vfs_views.specs.Segments.{with_bytes_at}
-use Rattle.vfs_flags.specs.Numbers.{enoent, eperm, eexist, eisdir, einval, enodata, enospc, enosys, enotdir, enotempty, eopnotsupp, eoverflow, erange}
+use Rattle.vfs_flags.specs.Numbers.{enoent, eperm, eexist, eisdir, einval, enodata, enospc, enosys, enotdir, enotempty, eopnotsupp, eoverflow, erange, efbig, enodev, enxio}
 use Rattle.vfs_files.specs.Bytes.{part_of, most_put, fitting, written, lengthened}
 use Rattle.vfs_files.specs.Values.{Item}
 use Rattle.vfs_files.specs.Calls.{Call, Lookup, Forget, BatchForget, Getattr, Setattr, Symlink, Readlink, Open, Unlink, Rmdir, Rename, Link, Mknod, Mkdir, Create, Read, Write, Fallocate, Setxattr, Getxattr, Listxattr, Removexattr, Statfs, Release, Fsync, Flush, Init, Opendir, Readdir, Releasedir, Fsyncdir, Getlk, Setlk, Setlkw, Access, Bmap, Destroy, Ioctl, Poll, NotifyReply, Lseek, Copyfilerange, Syncfs, Tmpfile, Answer, Done, Failed, Options, Found, Attributes, Created, Text, Count, Put, Wrote, Statistics, Opened, Offset, Handed, Plain, Iterator, default_answer}
@@ -21,7 +21,7 @@ use Rattle.vfs_tree.specs.Outcome.{Outcome, Refused, Answered, Tried, Ends, done
 use Rattle.vfs_tree.specs.Rename.{leaves_whiteout, same_node, rename_refusal, renamed}
 use Rattle.vfs_tree.specs.State.{State, node_at, room_of, with_node, with_resized, with_names, change, child_at}
 use Rattle.vfs_tree_laws.specs.Laws.{IsShort}
-use Rattle.vfs_tree.specs.Tree.{opening, namespace_refusal, efbig, enodev, enxio, TreeAllows, outcome, wanted_options, opens_nothing, at_name, makes, linked, all_forgotten, contents_refusal, longest, most_size, fallocate_refusal, with_xattrs, has_no_text, make_refusal, taken_out, link_refusal, tells}
+use Rattle.vfs_tree.specs.Tree.{opening, namespace_refusal, TreeAllows, outcome, wanted_options, opens_nothing, at_name, makes, linked, all_forgotten, contents_refusal, longest, most_size, fallocate_refusal, with_xattrs, has_no_text, make_refusal, taken_out, link_refusal, tells}
 use Rattle.vfs_tree.specs.Xattrs.{xattr_named, xattr_bytes, with_xattr, without_xattr, name_list}
 use Rattle.vfs_nodes.specs.declared.children.Child.{Child}
 use Rattle.vfs_nodes.specs.declared.kind.Kind.{Kind}

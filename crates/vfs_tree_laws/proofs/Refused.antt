@@ -3,12 +3,12 @@ use Rattle.std.proofs.Common.{◌≡◌, ◌^◌, ◌-◌, ◌==◌, ◌&&◌, �
 use Rattle.std.specs.List.{AllByRecursion}
 use Rattle.std.proofs.lemmas.Bool.{not-false, false≢true, eqb-true, eqb-false, or_parts, or_from}
 use Rattle.std.proofs.lemmas.Option.{none-some}
-use Rattle.vfs_flags.specs.Numbers.{eperm, enoent, eexist, enotdir, eisdir, enospc, enotempty, einval, eoverflow, enametoolong}
+use Rattle.vfs_flags.specs.Numbers.{eperm, enoent, eexist, enotdir, eisdir, enospc, enotempty, einval, eoverflow, enametoolong, emlink}
 use Rattle.vfs_tree.specs.Children.{is_directory, child_named}
 use Rattle.vfs_tree.specs.Outcome.{first_of}
 use Rattle.vfs_tree.specs.Rename.{is_own_child, is_served, leaves_whiteout, same_node, rename_refusal}
 use Rattle.vfs_tree.specs.State.{State, node_at, room_of, child_at, node_of}
-use Rattle.vfs_tree.specs.Tree.{make_refusal, link_refusal, emlink}
+use Rattle.vfs_tree.specs.Tree.{make_refusal, link_refusal}
 use Rattle.vfs_nodes.specs.declared.children.Child.{Child}
 use Rattle.vfs_nodes.specs.declared.node.Node.{Node}
 use Rattle.std.specs.Option.{option_map_or, option_or}

@@ -2,14 +2,14 @@
 use Rattle.std.proofs.Common.{min, ◌≡◌, ◌≢◌, ◌<◌, ◌+◌, ◌-◌, ◌==◌, ◌&&◌, ◌||◌, ◌^◌, nat_le, nat_lt, not, ℕ, zero, suc, Bool, true, false, List, [], ◌∷◌, length, Option, Some, None, IsSome, is_some, is_none, refl, sym, ap, subst, ◌∙◌, arith, if◌then◌else◌, ◌⊎◌, inl, inr, ⊎_elim}
 use Rattle.std.proofs.lemmas.Bool.{both_ways, false≢true, not-false, eqb-false, and_cases}
 use Rattle.std.proofs.lemmas.Option.{none-some, same_Some}
-use Rattle.vfs_flags.specs.Numbers.{eperm, enoent, eexist, enotdir, einval, enospc, eoverflow, enametoolong}
+use Rattle.vfs_flags.specs.Numbers.{eperm, enoent, eexist, enotdir, einval, enospc, eoverflow, enametoolong, emlink}
 use Rattle.vfs_tree.specs.Children.{Children, is_directory, leading}
 use Rattle.vfs_tree.specs.Node.{accessed, new_node}
 use Rattle.vfs_tree_laws.specs.Laws.{IsSound, IsLinked, IsRooted, CallsKeepTheWayUp, above}
 use Rattle.vfs_tree.specs.Outcome.{first_of}
 use Rattle.vfs_tree.specs.Rename.{is_below, is_own_child, leaves_whiteout, same_node, parent_of, moved_into, whiteout, renamed}
 use Rattle.vfs_tree.specs.State.{State, node_at, room_of, with_node, with_resized, with_new, without_node, settled, change, with_names, lead, child_at}
-use Rattle.vfs_tree.specs.Tree.{emlink, linked, all_forgotten, taken_out, make_refusal, link_refusal}
+use Rattle.vfs_tree.specs.Tree.{linked, all_forgotten, taken_out, make_refusal, link_refusal}
 use Rattle.vfs_nodes.specs.declared.children.Child.{Child}
 use Rattle.vfs_nodes.specs.declared.kind.Kind.{Kind}
 use Rattle.vfs_nodes.specs.declared.node.Node.{Node}

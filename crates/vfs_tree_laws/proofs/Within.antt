@@ -10,7 +10,7 @@ use Rattle.std.proofs.lemmas.Bool.{ltb-false, leb-false, eqb-true, eqb-false, an
 use Rattle.std.proofs.lemmas.List.Sums.{sum_by-cons}
 use Rattle.std.proofs.lemmas.Map.Entries.{sum_by-set_value, sum_by-remove_entry}
 use Rattle.std.proofs.lemmas.Option.{same_Some}
-use Rattle.vfs_flags.specs.Numbers.{enoent, enospc, eperm, eoverflow}
+use Rattle.vfs_flags.specs.Numbers.{enoent, enospc, eperm, eoverflow, emlink}
 use Rattle.vfs_files.specs.declared.entry.Context.{Context}
 use Rattle.vfs_tree.specs.Children.{Children, leading, is_directory}
 use Rattle.vfs_tree_laws.specs.Laws.{Ascend, IsSound, IsWithin, IsShort, AreShort, inodes_of, CallsStayWithin}
@@ -18,7 +18,7 @@ use Rattle.vfs_tree.specs.Node.{weight, new_node}
 use Rattle.vfs_tree.specs.Outcome.{first_of}
 use Rattle.vfs_tree.specs.Rename.{leaves_whiteout, moved_into, whiteout, renamed}
 use Rattle.vfs_tree.specs.State.{State, node_at, room_of, with_node, with_resized, with_new, without_node, settled, change, with_names, lead, child_at}
-use Rattle.vfs_tree.specs.Tree.{emlink, linked, all_forgotten, taken_out, make_refusal, link_refusal}
+use Rattle.vfs_tree.specs.Tree.{linked, all_forgotten, taken_out, make_refusal, link_refusal}
 use Rattle.vfs_nodes.specs.declared.children.Child.{Child}
 use Rattle.vfs_nodes.specs.declared.kind.Kind.{Kind}
 use Rattle.vfs_nodes.specs.declared.node.Node.{Node}
