@@ -1,11 +1,11 @@
 -- How much a node weighs after a change.
-use Rattle.std.proofs.Common.{◌≡◌, ◌≤◌, ◌+◌, ◌*◌, ◌/◌, ◌==◌, ◌||◌, ℕ, Bool, true, false, not, List, [], ◌∷◌, Option, length, filter, nat_lt, bit_and, ◌⊎◌, ⊎_elim, if◌then◌else◌, codes, refl, arith}
+use Rattle.std.proofs.Common.{◌≡◌, ◌≤◌, ◌+◌, ◌*◌, ◌/◌, ◌==◌, ◌||◌, ℕ, Bool, true, false, not, List, [], ◌∷◌, length, filter, nat_lt, bit_and, ◌⊎◌, ⊎_elim, if◌then◌else◌, codes, refl, arith}
 use Rattle.std.specs.Int.{div_ceil}
 use Rattle.vfs_wire.specs.declared.attributes.SetattrIn.{SetattrIn}
 use Rattle.vfs_contents.specs.Contents.{Contents, resized, allocated, punched, zeroed, fallocated, pages_over}
 use Rattle.vfs_contents.specs.Pages.{is_outside, reach}
 use Rattle.vfs_contents.proofs.Counts.{held_within}
-use Rattle.vfs_nodes.specs.Node.{weight, stripped, rewritten, set_attr, takes_caps, is_other, truncates, opened, overwritten}
+use Rattle.vfs_nodes.specs.Node.{weight, stripped, rewritten, set_attr, takes_ids, is_other, truncates, opened, overwritten}
 use Rattle.vfs_nodes.specs.Xattrs.{Xattr, xattr_bytes, without_xattr}
 use Rattle.vfs_nodes.specs.declared.node.Node.{Node}
 use Rattle.vfs_nodes.specs.declared.node.Time.{Time}
@@ -64,12 +64,12 @@ fallocated_holds c mode off len free size = by (mode == 3) (bit_and mode 16 == 1
     by false false ends = omega (arith, held_within c.held off len free size (ends refl))
 
 -- SETATTR
-pub set_attr_weighs : (now : Time) (node : Node) (attr : SetattrIn) (handle : Option ℕ) (valid : ℕ)
-    → weight (set_attr now node attr handle valid) ≤ weight node
-set_attr_weighs now node attr handle valid = omega (
+pub set_attr_weighs : (now : Time) (node : Node) (attr : SetattrIn) (is_open : Bool) (valid : ℕ)
+    → weight (set_attr now node attr is_open valid) ≤ weight node
+set_attr_weighs now node attr is_open valid = omega (
   arith,
   by (bit_and valid 8 == 8),
-  stripped_bytes (takes_caps node.kind valid) true node,
+  stripped_bytes (takes_ids node.kind valid || bit_and valid 8 == 8) true node,
 )
   where
     by : (t : Bool)

@@ -2,15 +2,14 @@
 use Rattle.std.specs.Prelude.{ℕ, ◌+◌, ◌/◌, nat_lt, List, [], ◌∷◌, ◌++◌, map, take, codes}
 use Rattle.std.specs.List.{filter}
 use Rattle.vfs_files.specs.Values.{Item}
-use Rattle.vfs_nodes.specs.Children.{Link}
-use Rattle.vfs_nodes.specs.Node.{type_of}
+use Rattle.vfs_nodes.specs.Children.{Link, kind_bits}
 use Rattle.vfs_nodes.specs.declared.node.Node.{Node}
 
--- a name as it is read
+-- a name as it is read, with what `readdir(3)` calls a node of its kind
 abbrev pub link_item : (ℕ × Link) → Item
 link_item link =
     let child = link.1.child in
-    record { ino = child.node; offset = link.0; type_ = type_of child.kind; name = link.1.name }
+    record { ino = child.node; offset = link.0; type_ = kind_bits child.kind / 0o10000; name = link.1.name }
 
 -- a directory itself, and the one above
 abbrev pub dot_items : (number parent : ℕ) → List Item

@@ -1,26 +1,16 @@
 -- What a node shows of itself, and what becomes of it.
-use Rattle.std.specs.Prelude.{ℕ, ◌+◌, ◌-◌, ◌*◌, ◌^◌, ◌/◌, ◌==◌, ◌&&◌, ◌||◌, not, Bool, true, List, [], ◌∷◌, Option, Some, is_none, find, length, min, codes, bit_or, bit_and, if◌then◌else◌, ◌%◌, nat_lt, nat_le}
+use Rattle.std.specs.Prelude.{ℕ, ◌+◌, ◌-◌, ◌*◌, ◌^◌, ◌==◌, ◌&&◌, ◌||◌, not, Bool, true, List, [], ◌∷◌, Option, find, length, min, codes, bit_or, bit_and, if◌then◌else◌, ◌%◌, nat_lt, nat_le}
 use Rattle.std.specs.declared.time.Duration.{Duration}
 use Rattle.vfs_wire.specs.declared.attributes.Attr.{Attr}
 use Rattle.vfs_wire.specs.declared.attributes.SetattrIn.{SetattrIn}
 use Rattle.vfs_files.specs.declared.entry.Entry.{Entry}
 use Rattle.vfs_contents.specs.Contents.{Contents, no_contents, resized, written}
-use Rattle.vfs_nodes.specs.Children.{is_directory, is_file, is_link, no_children, directories_of}
+use Rattle.vfs_nodes.specs.Children.{kind_bits, is_directory, is_file, is_link, no_children, directories_of}
 use Rattle.vfs_nodes.specs.Xattrs.{xattr_bytes, without_xattr}
 use Rattle.vfs_nodes.specs.declared.kind.Kind.{Kind}
 use Rattle.vfs_nodes.specs.declared.kind.Kind.TheVariants as kind
 use Rattle.vfs_nodes.specs.declared.node.Node.{Node}
 use Rattle.vfs_nodes.specs.declared.node.Time.{Time}
-
--- the bits of `mode` that say what a node is
-abbrev pub kind_bits : Kind → ℕ
-kind_bits kind.Directory = 0o40000
-kind_bits kind.File = 0o100000
-kind_bits kind.Link = 0o120000
-kind_bits kind.Fifo = 0o10000
-kind_bits kind.Socket = 0o140000
-kind_bits (kind.Character device) = 0o20000
-kind_bits (kind.Block device) = 0o60000
 
 -- the number of a device, and 0 of what is none
 abbrev pub device_of : Kind → ℕ
@@ -32,31 +22,22 @@ device_of _ = 0
 abbrev pub kind_by_mode : (mode device : ℕ) → Option Kind
 kind_by_mode mode device =
     let bits = bit_and mode 0o170000 in
-    if bits == 0 then Some kind.File
-    else find (λ kind. kind_bits kind == bits)
+    find (λ kind. bits == 0 || kind_bits kind == bits)
     (kind.File ∷ kind.Fifo ∷ kind.Socket ∷ kind.Character device ∷ kind.Block device ∷ [])
-
--- what `readdir(3)` calls a node of this kind
-abbrev pub type_of : Kind → ℕ
-type_of kind = kind_bits kind / 0o10000
 
 -- how many links a node shows: as many as names lead to it, and of a directory that has a name two and
 -- one for each directory in it, as far as the field goes
 abbrev pub nlink_of : Node → ℕ
 nlink_of node =
     if is_directory node.kind && not (node.names == 0)
-    then min (directories_of node.children.links + 2) (2 ^ 32 - 1)
-    else node.names
+    then min (directories_of node.children.links + 2) (2 ^ 32 - 1) else node.names
 
--- how many bytes a node shows: those of its text, or of its contents, which a file alone has
-abbrev pub size_of : Node → ℕ
-size_of node = if is_link node.kind then length node.text else length node.contents.bytes
-
--- its attributes; a page that is held has 8 blocks
+-- its attributes; its bytes are those of its text, or of its contents, which a file alone has; a page that is
+-- held has 8 blocks
 abbrev pub attr_of : (number : ℕ) → Node → Attr
 attr_of number node = record {
   ino = number;
-  size = size_of node;
+  size = if is_link node.kind then length node.text else length node.contents.bytes;
   blocks = length node.contents.held * 8;
   atime = node.atime.seconds;
   mtime = node.mtime.seconds;
@@ -100,8 +81,7 @@ weight node = length node.contents.held * 4096 + length node.text + xattr_bytes 
 -- ---- what a node becomes
 
 -- a new node of this owner: of one name, held by one lookup, and made now
-abbrev pub new_node :
-    (now : Time) → (uid gid : ℕ) → Kind → (permissions parent : ℕ) → (text : List ℕ) → Node
+abbrev pub new_node : (now : Time) → (uid gid : ℕ) → Kind → (permissions parent : ℕ) → (text : List ℕ) → Node
 new_node now uid gid kind permissions parent text = record {
   kind = kind;
   permissions = permissions;
@@ -123,8 +103,7 @@ new_node now uid gid kind permissions parent text = record {
 
 -- permission bits without set-user-ID, and without set-group-ID where the group may run it
 abbrev pub without_set_ids : (permissions : ℕ) → ℕ
-without_set_ids permissions =
-    bit_and permissions (if bit_and permissions 0o10 == 0o10 then 0o1777 else 0o3777)
+without_set_ids permissions = bit_and permissions (if bit_and permissions 0o10 == 0o10 then 0o1777 else 0o3777)
 
 -- a node without its privileges, as far as they go: its capabilities, and its set-user-ID and set-group-ID
 abbrev pub stripped : (caps ids : Bool) → Node → Node
@@ -144,11 +123,10 @@ rewritten now caps ids node contents =
 abbrev pub picked : {A : Type 0} → (valid bit : ℕ) → A → A → A
 picked valid bit new old = if bit_and valid bit == bit then new else old
 
--- whether a request that names no handle sets the size that a file has, which holds no page
-abbrev pub is_idle : Node → SetattrIn → (handle : Option ℕ) → (valid : ℕ) → Bool
-is_idle node attr handle valid =
-    bit_and valid 0x8 == 0x8 && is_none handle && attr.size == length node.contents.bytes
-    && length node.contents.held == 0
+-- whether a request sets the size that a file has, which holds no page, and not of a file that is open
+abbrev pub is_idle : Node → SetattrIn → (is_open : Bool) → (valid : ℕ) → Bool
+is_idle node attr is_open valid = bit_and valid 0x8 == 0x8 && not is_open
+    && attr.size == length node.contents.bytes && length node.contents.held == 0
 
 -- whether a request is a chown: it gives an owner or a group; or it sets no attribute, which Linux sends for
 -- a chown of neither, and before a FALLOCATE by one who is not to leave set-user-ID and set-group-ID
@@ -159,14 +137,12 @@ is_chown valid = not (bit_and valid 0x6 == 0) || bit_and valid 0x1bf == 0
 abbrev pub takes_ids : Kind → (valid : ℕ) → Bool
 takes_ids kind valid = not (is_directory kind) && (is_chown valid || bit_and valid 0x800 == 0x800)
 
--- whether its capabilities go: then too, and with another size
-abbrev pub takes_caps : Kind → (valid : ℕ) → Bool
-takes_caps kind valid = takes_ids kind valid || bit_and valid 0x8 == 0x8
-
--- a node with the attributes that a request sets; its change is now, unless the request says when or is idle
-abbrev pub set_attr : (now : Time) → Node → SetattrIn → (handle : Option ℕ) → (valid : ℕ) → Node
-set_attr now node attr handle valid =
-    stripped (takes_caps node.kind valid) (takes_ids node.kind valid) (record node {
+-- a node with the attributes that a request sets; its change is now, unless the request says when or is idle.
+-- With another size its capabilities go too
+abbrev pub set_attr : (now : Time) → Node → SetattrIn → (is_open : Bool) → (valid : ℕ) → Node
+set_attr now node attr is_open valid =
+    let ids = takes_ids node.kind valid in
+    stripped (ids || bit_and valid 0x8 == 0x8) ids (record node {
       contents = picked valid 0x8 (resized node.contents attr.size) node.contents;
       permissions = picked valid 0x1 attr.mode node.permissions;
       uid = picked valid 0x2 attr.uid node.uid;
@@ -175,9 +151,9 @@ set_attr now node attr handle valid =
           (picked valid 0x10 (record { seconds = attr.atime; nanoseconds = attr.atimensec }) node.atime);
       mtime = picked valid 0x100 now
           (picked valid 0x20 (record { seconds = attr.mtime; nanoseconds = attr.mtimensec })
-          (if is_idle node attr handle valid then node.mtime else picked valid 0x8 now node.mtime));
+          (if is_idle node attr is_open valid then node.mtime else picked valid 0x8 now node.mtime));
       ctime = picked valid 0x400 (record { seconds = attr.ctime; nanoseconds = attr.ctimensec })
-          (if is_idle node attr handle valid then node.ctime else now);
+          (if is_idle node attr is_open valid then node.ctime else now);
     })
 
 -- ---- READ, READLINK, READDIR
@@ -196,8 +172,7 @@ is_no_later time other =
 -- change, or a day ago
 abbrev pub accessed : (now : Time) → Node → Node
 accessed now node = record node {
-  atime =
-      if is_no_later node.atime node.mtime || is_no_later node.atime node.ctime
+  atime = if is_no_later node.atime node.mtime || is_no_later node.atime node.ctime
       || nat_le 86400 (ordered_seconds now - ordered_seconds node.atime)
       then now else node.atime;
 }

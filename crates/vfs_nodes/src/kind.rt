@@ -1,8 +1,8 @@
 //! What a node is.
 
-ghost use Rattle.std.specs.Prelude.{◌≡◌};
-ghost use Rattle.vfs_nodes.specs.Children.{is_directory, is_file, is_link};
-ghost use Rattle.vfs_nodes.specs.Node.{device_of, kind_bits, kind_by_mode, type_of};
+ghost use Rattle.std.specs.Prelude.{◌≡◌, ◌/◌};
+ghost use Rattle.vfs_nodes.specs.Children.{is_directory, is_file, is_link, kind_bits};
+ghost use Rattle.vfs_nodes.specs.Node.{device_of, kind_by_mode};
 
 use vfs_flags::{S_IFBLK, S_IFCHR, S_IFDIR, S_IFIFO, S_IFLNK, S_IFMT, S_IFREG, S_IFSOCK};
 
@@ -68,7 +68,7 @@ impl Kind {
 
     /// What `readdir(3)` calls a node of this kind.
     pub(crate) fn type_(self) -> u32
-        ensures { result ≡ type_of self }
+        ensures { result ≡ kind_bits self / 0o10000 }
     {
         self.bits() / 0o10000
     }

@@ -1,9 +1,10 @@
 //! A node: a directory, a file, a symbolic link, or what `mknod(2)` makes.
 
-ghost use Rattle.std.specs.Prelude.{◌≡◌, ℕ, List, take, if◌then◌else◌, Some, MatchResult};
+ghost use Rattle.std.specs.Prelude.{◌≡◌, ℕ, List, length, take, if◌then◌else◌, Some, MatchResult};
 ghost use Rattle.vfs_flags.specs.Numbers.{enomem};
 ghost use Rattle.vfs_flags.specs.Flags.{setattr_valid_bits};
-ghost use Rattle.vfs_nodes.specs.Node.{attr_of, nlink_of, size_of, entry_of, weight, new_node, opened, set_attr, stripped, rewritten, lasting, is_chown, is_other, takes_ids, truncates, without_set_ids, accessed, is_no_later, ordered_seconds};
+ghost use Rattle.vfs_nodes.specs.Children.{is_link};
+ghost use Rattle.vfs_nodes.specs.Node.{attr_of, nlink_of, entry_of, weight, new_node, opened, set_attr, stripped, rewritten, lasting, is_chown, is_other, takes_ids, truncates, without_set_ids, accessed, is_no_later, ordered_seconds};
 ghost use Rattle.vfs_nodes.specs.Writing.{Overwrites};
 
 use crate::children::Children;
@@ -158,7 +159,8 @@ impl Node {
 
     // How many bytes it shows.
     fn size(&self) -> u64
-        ensures { result ≡ size_of self.now }
+        ensures { result ≡ (if is_link self.now.kind then length self.now.text
+            else length self.now.contents.bytes) }
     {
         if self.kind.is_link() {
             self.text.len()
@@ -245,13 +247,13 @@ impl Node {
 
     /// Sets the attributes that the request names, and takes the privileges that it costs. A longer
     /// file takes no memory for that, and the size that a file without pages has moves no time, unless
-    /// by a handle.
-    pub fn set_attr(&mut self, now: Time, attr: SetattrIn, handle: Option<u64>, valid: SetattrValid)
-        ensures { self.new ≡ set_attr now self.old attr handle (setattr_valid_bits valid) }
+    /// it is set of a file that is open.
+    pub fn set_attr(&mut self, now: Time, attr: SetattrIn, is_open: bool, valid: SetattrValid)
+        ensures { self.new ≡ set_attr now self.old attr is_open (setattr_valid_bits valid) }
     {
         let resizes = valid.contains(SetattrValid::SIZE);
         let idle = resizes
-            && handle.is_none()
+            && !is_open
             && attr.size == self.contents.len()
             && self.contents.held() == 0;
         if resizes {
