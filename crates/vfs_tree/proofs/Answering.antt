@@ -33,6 +33,18 @@ created_too old new false None made left entry options opens none ends =
     let is : entry ≡ made = cc same in
     (cc (is, none), ends.1)
 
+-- where it is refused, or there is no memory, so it is here
+pub failed_too : (old new : State) (alone : Bool) (refusal : Option ℕ) (made : Entry) (left : State)
+    (fault : Option ℕ) → alone ≡ false
+    → Ends old (unless refusal (Tried true (Plain (Found made)) left)) (Plain (Failed fault)) new
+    → Ends old
+    (if alone then Refused enosys
+    else unless refusal (Tried true (Plain (Created made None 0)) left))
+    (Plain (Failed fault)) new
+failed_too old new true refusal made left fault opens ends = cc opens
+failed_too old new false (Some error) made left fault opens ends = ends
+failed_too old new false None made left fault opens ends = ends
+
 -- an entry is answered where nothing is refused
 pub made_ends : (s new : State) (refusal : Option ℕ) (entry made : Entry) (left : State)
     → refusal ≡ None → entry ≡ made → new ≡ left

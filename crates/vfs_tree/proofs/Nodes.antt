@@ -8,7 +8,7 @@ use Rattle.std.specs.Option.{option_map_or}
 use Rattle.vfs_nodes.specs.Children.{Children}
 use Rattle.vfs_nodes.specs.declared.node.Node.{Node}
 use Rattle.vfs_tree.specs.Naming.{is_directory_at}
-use Rattle.vfs_tree.specs.State.{State, node_at, with_node, with_new, without_node, change, with_names}
+use Rattle.vfs_tree.specs.State.{State, node_at, with_node, with_new, without_node, change}
 use Rattle.vfs_tree.proofs.Entries.{lookup-set_value_none, lookup-set_value_apart, lookup-remove_entry_apart, lookup-set_value_here, lookup-insert_entry, lookup-insert_entry_apart, remove_entry-insert_entry}
 
 -- ---- numbers
@@ -82,6 +82,10 @@ changed_other s n m f (Some node) apart = node_at-with_node_other s n m (f node)
 pub node_at-change_other : (s : State) (n m : ℕ) (f : Node → Node) → m ≢ n
     → node_at (change s n f) m ≡ node_at s m
 node_at-change_other s n m f apart = changed_other s n m f (node_at s n) apart
+
+-- the names of a directory are changed, now
+abbrev pub with_names : State → (directory : ℕ) → (Children → Children) → State
+with_names s d f = change s d (λ node. record node { children = f node.children; mtime = s.now; ctime = s.now })
 
 -- a node that is no directory stays as it was where a directory's names are changed
 pub kinds_apart : (s : State) (n parent : ℕ) (f : Children → Children)

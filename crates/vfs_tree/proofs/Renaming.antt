@@ -1,5 +1,5 @@
 -- How RENAME ends, by what its steps left.
-use Rattle.std.proofs.Common.{◌≡◌, ◌==◌, ℕ, Bool, true, false, List, [], ◌∷◌, Option, Some, None, Result, Ok, Err, IsTrue, IfErr, OnOk, is_some, option_map, if◌then◌else◌, refl, sym, ap, ◌∙◌, subst}
+use Rattle.std.proofs.Common.{◌≡◌, ◌==◌, ℕ, Bool, true, false, List, [], ◌∷◌, Option, Some, None, Result, Ok, Err, IsTrue, IfErr, OnOk, is_some, option_map, if◌then◌else◌, refl, sym, ap, ◌∙◌, subst, nat_le}
 use Rattle.std.proofs.lemmas.Option.{same_Some}
 use Rattle.std.specs.List.{AllByRecursion}
 use Rattle.std.specs.Option.{option_map_or, option_or}
@@ -9,7 +9,7 @@ use Rattle.vfs_files.specs.declared.entry.Context.{Context}
 use Rattle.vfs_nodes.specs.declared.children.Child.{Child}
 use Rattle.vfs_nodes.specs.declared.node.Node.{Node}
 use Rattle.vfs_tree.specs.Outcome.{Tried, Ends, done, first_of, unless, with_it}
-use Rattle.vfs_tree.specs.Rename.{leaves_whiteout, moved_into, renamed, whiteout}
+use Rattle.vfs_tree.specs.Rename.{moved_into, renamed, whiteout}
 use Rattle.vfs_tree.specs.State.{State, lead, unnamed, with_new}
 
 -- nothing is refused of which no line holds
@@ -22,7 +22,7 @@ none_of (r ∷ rs) all =
 module _ (s : State) (ctx : Context) (od : ℕ) (on : List ℕ) (nd : ℕ) (nn : List ℕ) (flags : ℕ)
     (target : Option Child) (child : Child) where
   pub renamed_by : (white : Option Node) (back : Option Child) (a b d e : State)
-      → white ≡ (if leaves_whiteout flags then Some (whiteout s ctx od) else None)
+      → white ≡ (if nat_le 4 flags then Some (whiteout s ctx od) else None)
       → back ≡ (if flags == 2 then target
       else option_map (λ (node : Node). record { node = s.next; kind = node.kind }) white)
       → a ≡ lead (option_map_or (with_new s) white s) nd nn (is_some target) (Some child)

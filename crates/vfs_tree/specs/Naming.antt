@@ -49,7 +49,6 @@ has_no_number s = nat_le s.limits.nodes s.inodes || s.next == 2 ^ 64 - 1
 abbrev pub new_in : State → Context → Kind → (permissions parent : ℕ) → (text : List ℕ) → Node
 new_in s ctx kind permissions parent text =
     let group = option_and_then
-    (λ node. if bit_and node.permissions 0o2000 == 0o2000 then Some node.gid else None)
-    (node_at s parent) in
+    (λ node. if bit_and node.permissions 0o2000 == 0o2000 then Some node.gid else None) (node_at s parent) in
     new_node s.now ctx.uid (unwrap_or group ctx.gid) kind
     (if is_some group && is_directory kind then bit_or permissions 0o2000 else permissions) parent text

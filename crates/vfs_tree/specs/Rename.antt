@@ -24,31 +24,26 @@ is_below s (suc k) n directory =
 
 -- whether a directory would come to lie in itself
 abbrev pub is_own_child : State → Option Child → (directory : ℕ) → Bool
-is_own_child s child directory =
-    option_map_or
+is_own_child s child directory = option_map_or
     (λ c. is_directory_at (node_at s c.node) && is_below s (length s.nodes) c.node directory) child false
 
 abbrev pub same_node : Option Child → Option Child → Bool
 same_node (Some a) (Some b) = a.node == b.node
 same_node _ _ = false
 
--- flags: 1 is RENAME_NOREPLACE, 2 RENAME_EXCHANGE, 4 RENAME_WHITEOUT; only the first goes with the last
+-- flags: 1 is RENAME_NOREPLACE, 2 RENAME_EXCHANGE, and those from 4 on have RENAME_WHITEOUT, with which only
+-- the first goes
 abbrev pub is_served : (flags : ℕ) → Bool
 is_served flags = nat_le flags 2 || flags == 4 || flags == 5
 
-abbrev pub leaves_whiteout : (flags : ℕ) → Bool
-leaves_whiteout flags = bit_and flags 4 == 4
-
 -- a node lies in this directory
 abbrev pub moved_into : State → (number directory : ℕ) → State
-moved_into s n directory =
-    change s n (λ node. record node { parent = directory; ctime = s.now })
+moved_into s n directory = change s n (λ node. record node { parent = directory; ctime = s.now })
 
 -- a whiteout, made in this directory: a character device of number 0, with no permission bits. No lookup of it
 -- is held
 abbrev pub whiteout : State → Context → (directory : ℕ) → Node
-whiteout s ctx directory =
-    record (new_in s ctx (kind.Character 0) 0 directory []) { lookups = 0 }
+whiteout s ctx directory = record (new_in s ctx (kind.Character 0) 0 directory []) { lookups = 0 }
 
 -- why RENAME of a name that leads here to one that leads there is refused. A file can't take the place of a
 -- directory, nor a directory that of a file or of a directory that holds names
@@ -67,7 +62,7 @@ rename_refusal s od nd nn flags moved target =
     ∷ (is_directory_at old && not (is_directory_at it), eisdir)
     ∷ (is_directory_at it && is_some old && not (is_directory_at old), enotdir)
     ∷ (option_map_or (λ node. not (length node.children.links == 0)) old false, enotempty)
-    ∷ (leaves_whiteout flags && not (same_node moved target) && has_no_number s, enospc) ∷ [])
+    ∷ (nat_le 4 flags && not (same_node moved target) && has_no_number s, enospc) ∷ [])
 
 -- from a name of one directory to a name of another, which leads there
 module _ (s : State) (ctx : Context) (od : ℕ) (on : List ℕ) (nd : ℕ) (nn : List ℕ) (flags : ℕ)
@@ -76,7 +71,7 @@ module _ (s : State) (ctx : Context) (od : ℕ) (on : List ℕ) (nd : ℕ) (nn :
   -- lies there; or to a whiteout, which is made before. A target that is not exchanged has one name less
   abbrev pub renamed : Child → State
   renamed child =
-      let white = if leaves_whiteout flags then Some (whiteout s ctx od) else None in
+      let white = if nat_le 4 flags then Some (whiteout s ctx od) else None in
       let back = if flags == 2 then target
       else option_map (λ node. record { node = s.next; kind = node.kind }) white in
       let named = lead (option_map_or (with_new s) white s) nd nn (is_some target) (Some child) in
@@ -87,9 +82,7 @@ module _ (s : State) (ctx : Context) (od : ℕ) (on : List ℕ) (nd : ℕ) (nn :
   -- so it ends; where both names lead to one node, nothing is done. Memory is wanted for a new name or node
   abbrev pub renames : (moved : Option Child) → Outcome
   renames moved =
-      unless
-      (option_or (directory_refusal (node_at s od) on)
-      (option_or (directory_refusal (node_at s nd) nn)
+      unless (option_or (directory_refusal (node_at s od) on) (option_or (directory_refusal (node_at s nd) nn)
       (rename_refusal s od nd nn flags moved target)))
       (with_it moved (λ child. if same_node moved target then done s
-      else Tried (is_none target || leaves_whiteout flags) (Plain Done) (renamed child)))
+      else Tried (is_none target || nat_le 4 flags) (Plain Done) (renamed child)))

@@ -5,7 +5,7 @@ use Rattle.std.specs.List.{filter}
 use Rattle.std.specs.Ordering.{nat_cmp}
 use Rattle.std.specs.Map.{lookup, set_value, remove_entry}
 use Rattle.std.specs.BTreeMap.{insert_entry, is_at}
-use Rattle.vfs_nodes.specs.Children.{Children, child_named, leading}
+use Rattle.vfs_nodes.specs.Children.{child_named, leading}
 use Rattle.vfs_nodes.specs.Node.{weight}
 use Rattle.vfs_nodes.specs.declared.children.Child.{Child}
 use Rattle.vfs_nodes.specs.declared.node.Node.{Node}
@@ -80,14 +80,10 @@ unnamed s n =
     option_map_or (λ node. settled (record s { inodes = s.inodes - min (node.names - 1) 1 }) n
     (record node { names = node.names - 1; ctime = s.now })) (node_at s n) s
 
--- the names of a directory are changed, now
-abbrev pub with_names : State → (directory : ℕ) → (Children → Children) → State
-with_names s d f =
-    change s d (λ node. record node { children = f node.children; mtime = s.now; ctime = s.now })
-
 -- a name of a directory, which is there or not, leads to a node from now on, or nowhere
 abbrev pub lead : State → (directory : ℕ) → (name : List ℕ) → (is_there : Bool) → Option Child → State
-lead s d name is_there child = with_names s d (leading name is_there child)
+lead s d name is_there child = change s d (λ node.
+    record node { children = leading name is_there child node.children; mtime = s.now; ctime = s.now })
 
 -- where a name of a node leads
 abbrev pub child_at : State → (parent : ℕ) → (name : List ℕ) → Option Child

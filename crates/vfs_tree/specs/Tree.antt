@@ -15,8 +15,8 @@ use Rattle.vfs_contents.specs.Pages.{reach}
 use Rattle.vfs_contents.specs.Contents.{fallocated, data_from, hole_from, lacking, pages_over}
 use Rattle.vfs_nodes.specs.Children.{is_directory, is_file, is_link}
 use Rattle.vfs_nodes.specs.Listing.{items_behind}
-use Rattle.vfs_nodes.specs.Node.{attr_of, lasting, entry_of, kind_by_mode, new_node, set_attr, rewritten, truncates, opened, overwritten, accessed}
-use Rattle.vfs_nodes.specs.Xattrs.{Xattr, xattr_named, xattr_bytes, with_xattr, without_xattr, name_list}
+use Rattle.vfs_nodes.specs.Node.{attr_of, lasting, entry_of, kind_by_mode, new_node, picked, set_attr, rewritten, truncates, opened, overwritten, accessed}
+use Rattle.vfs_nodes.specs.Xattrs.{xattr_named, xattr_bytes, with_xattr, without_xattr, name_list}
 use Rattle.vfs_nodes.specs.declared.children.Child.{Child}
 use Rattle.vfs_nodes.specs.declared.kind.Kind.{Kind}
 use Rattle.vfs_nodes.specs.declared.kind.Kind.TheVariants as kind
@@ -73,9 +73,8 @@ released s = all_forgotten s (map (λ e. (e.0, e.1.lookups)) s.nodes)
 -- why nothing of this name, with a text of so many bytes, can be made in this directory
 abbrev pub make_refusal : State → (parent : ℕ) → (name : List ℕ) → (size : ℕ) → Option ℕ
 make_refusal s parent name size =
-    option_or (name_refusal s parent name)
-    (first_of ((has_no_number s || is_crowded (node_at s parent), enospc)
-    ∷ (nat_lt (room_of s) size, enospc) ∷ []))
+    option_or (name_refusal s parent name) (first_of
+    ((has_no_number s || is_crowded (node_at s parent) || nat_lt (room_of s) size, enospc) ∷ []))
 
 -- a node of this kind is made under the next number, and its entry told so; or that is refused
 abbrev pub makes :
@@ -98,8 +97,7 @@ link_refusal s parent name node =
 
 -- one name more leads to a node, and one lookup more is held
 abbrev pub linked : (now : Time) → Node → Node
-linked now node =
-    record node { names = node.names + 1; lookups = node.lookups + 1; ctime = now }
+linked now node = record node { names = node.names + 1; lookups = node.lookups + 1; ctime = now }
 
 -- a name is taken out of a directory, and one name less leads to its node
 abbrev pub taken_out : State → (parent : ℕ) → (name : List ℕ) → Child → State
@@ -109,21 +107,15 @@ taken_out s parent name child = unnamed (lead s parent name true None) child.nod
 
 -- why a node has no contents to be read, written or cut
 abbrev pub contents_refusal : Node → Option ℕ
-contents_refusal node =
-    first_of ((is_directory node.kind, eisdir) ∷ (not (is_file node.kind), einval) ∷ [])
+contents_refusal node = first_of ((is_directory node.kind, eisdir) ∷ (not (is_file node.kind), einval) ∷ [])
 
 -- how many bytes a file may have: a signed number of 64 bits counts them
 abbrev pub longest : State → ℕ
 longest s = min s.limits.file (2 ^ 63 - 1)
 
--- how an OPEN is answered: what the client keeps of the bytes stays true, unless they were taken
-abbrev pub opening : Node → (flags : ℕ) → Answer
-opening node flags = Opened None (if truncates node flags then 0 else 2)
-
 -- up to which place a file can have bytes from off on, at most so many, in pages that are held or can be
 abbrev pub most_size : State → (off len : ℕ) → Node → ℕ
-most_size s off len node =
-    min (longest s)
+most_size s off len node = min (longest s)
     (4096 * reach node.contents.held (room_of s / 4096) (off / 4096) (pages_over off len))
 
 -- why FALLOCATE does nothing: the mode is 0, KEEP_SIZE (1), PUNCH_HOLE with it (3), which takes no room, or
@@ -136,27 +128,15 @@ fallocate_refusal s mode off len node =
     ∷ (nat_lt (longest s) (off + len), efbig)
     ∷ (not (mode == 3) && nat_lt (most_size s off len node) (off + len), enospc) ∷ [])
 
--- ---- READLINK, READDIR, STATFS
-
--- whether a node has no text that could be answered
-abbrev pub has_no_text : Node → Bool
-has_no_text node = not (is_link node.kind) || nat_lt (2 ^ 32 - 17) (length node.text)
-
 -- ---- SETXATTR, GETXATTR, LISTXATTR, REMOVEXATTR
 
--- the namespaces of attributes that are kept. Access control lists are of another: they would have to be obeyed
-abbrev pub namespaces : List (List ℕ)
-namespaces = codes "user." ∷ codes "trusted." ∷ codes "security." ∷ []
-
--- why there can be no attribute of this name: it is of no such namespace, or says nothing within it
+-- why there can be no attribute of this name: it is of no namespace that is kept, or says nothing within it.
+-- Access control lists are of another: they would have to be obeyed
 abbrev pub namespace_refusal : (name : List ℕ) → Option ℕ
 namespace_refusal name =
+    let namespaces = codes "user." ∷ codes "trusted." ∷ codes "security." ∷ [] in
     first_of ((not (list_any (starts_with nat_eq name) namespaces), eopnotsupp)
     ∷ (list_any (bytes_eq name) namespaces, einval) ∷ [])
-
--- a node with other attributes, of which it has 65536 bytes at most
-abbrev pub with_xattrs : (now : Time) → Node → List Xattr → Node
-with_xattrs now node xattrs = record node { xattrs = xattrs; ctime = now }
 
 -- a text is answered to one who has place for so many bytes, or its length to one who has none
 abbrev pub tells : State → (size : ℕ) → Option (List ℕ) → Outcome
@@ -181,10 +161,12 @@ wanted_options writeback offered =
 -- how a call ends; what has no line has its default answer, and everything stays. What a client reads of a
 -- directory it keeps (CACHE_DIR, KEEP_CACHE): nobody else changes it. LSEEK looks for data (SEEK_DATA, 3) or a
 -- hole (SEEK_HOLE, 4); what a client has yet to write would be taken for a hole, so one that writes later is to
--- look itself. Where a file's size or pages change, it loses its capabilities
+-- look itself. Where a file's size or pages change, it loses its capabilities; a SETATTR sets the size of a file
+-- that is open by a handle, or, as it may be an O_TRUNC, to 0 for a client without OPEN. What a client keeps of
+-- the bytes stays true at an OPEN (KEEP_CACHE, 2), unless they are taken. A text of more bytes than an answer has
+-- is not read; and a node has 65536 bytes of extended attributes at most
 abbrev pub outcome : State → Call → Outcome
-outcome s (Init offered) =
-    Answered (Plain (Options (wanted_options s.writeback offered)))
+outcome s (Init offered) = Answered (Plain (Options (wanted_options s.writeback offered)))
     (record (released s) { offered = offered })
 outcome s Destroy = done (released s)
 outcome s (Lookup _ parent name) = at_name s parent name (λ child node.
@@ -196,18 +178,15 @@ outcome s (BatchForget _ requests) = done (all_forgotten s requests)
 outcome s (Getattr _ n _) =
     with_it (node_at s n) (λ node. Answered (Plain (Attributes (attr_of n node) (lasting node))) s)
 outcome s (Setattr _ n attr handle valid) = with_it (node_at s n) (λ node.
-    let by = if opens_nothing s.offered && attr.size == 0 then Some 0 else handle in
-    let set = set_attr s.now node attr by valid in
-    unless (if bit_and valid 8 == 8
-    then option_or (contents_refusal node) (first_of ((nat_lt (longest s) attr.size, efbig) ∷ []))
-    else None)
+    let is_open = is_some handle || opens_nothing s.offered && attr.size == 0 in
+    let set = set_attr s.now node attr is_open valid in
+    unless (picked valid 0x8
+    (option_or (contents_refusal node) (first_of ((nat_lt (longest s) attr.size, efbig) ∷ []))) None)
     (Answered (Plain (Attributes (attr_of n set) (lasting set))) (with_resized s n node set)))
 outcome s (Mkdir ctx parent name mode _ _) = makes s ctx Found kind.Directory mode parent name []
-outcome s (Mknod ctx parent name mode device _ _) =
-    option_map_or (λ kind. makes s ctx Found kind mode parent name []) (kind_by_mode mode device)
-    (Refused eperm)
-outcome s (Create ctx parent name mode _ _ _ _) =
-    if opens_nothing s.offered then Refused enosys
+outcome s (Mknod ctx parent name mode device _ _) = option_map_or
+    (λ kind. makes s ctx Found kind mode parent name []) (kind_by_mode mode device) (Refused eperm)
+outcome s (Create ctx parent name mode _ _ _ _) = if opens_nothing s.offered then Refused enosys
     else makes s ctx (λ entry. Created entry None 0) kind.File mode parent name []
 outcome s (Symlink ctx text parent name _) = makes s ctx Found kind.Link 0o777 parent name text
 outcome s (Link _ n parent name) = on (node_at s n) (link_refusal s parent name) (λ node.
@@ -218,20 +197,17 @@ outcome s (Unlink _ parent name) = at_name s parent name (λ child node.
     unless (first_of ((is_directory node.kind, eisdir) ∷ [])) (done (taken_out s parent name child)))
 outcome s (Rmdir _ parent name) = at_name s parent name (λ child node.
     unless (first_of ((not (is_directory node.kind), enotdir)
-    ∷ (not (length node.children.links == 0), enotempty) ∷ []))
-    (done (taken_out s parent name child)))
+    ∷ (not (length node.children.links == 0), enotempty) ∷ [])) (done (taken_out s parent name child)))
 outcome s (Rename ctx od on nd nn flags) =
     renames s ctx od on nd nn flags (child_at s nd nn) (child_at s od on)
 outcome s (Readlink _ n) = with_it (node_at s n) (λ node.
-    unless (first_of ((has_no_text node, einval) ∷ []))
+    unless (first_of ((not (is_link node.kind) || nat_lt (2 ^ 32 - 17) (length node.text), einval) ∷ []))
     (Tried true (Plain (Text node.text)) (with_node s n (accessed s.now node))))
-outcome s (Open ctx n kill flags) =
-    if opens_nothing s.offered then Refused enosys else with_it (node_at s n) (λ node.
-    Answered (Plain (opening node flags))
+outcome s (Open ctx n kill flags) = if opens_nothing s.offered then Refused enosys
+    else with_it (node_at s n) (λ node. Answered (Plain (Opened None (if truncates node flags then 0 else 2)))
     (with_resized s n node (opened s.now ctx.uid kill node flags)))
-outcome s (Read _ n _ room size off _ _) =
-    on (node_at s n) contents_refusal
-    (λ node. Answered (Plain (Put (part_of node.contents.bytes off (most_put room size))))
+outcome s (Read _ n _ room size off _ _) = on (node_at s n) contents_refusal (λ node.
+    Answered (Plain (Put (part_of node.contents.bytes off (most_put room size))))
     (if size == 0 then s else with_node s n (accessed s.now node)))
 outcome s (Write _ n _ bytes size off _ delayed kill _) = with_it (node_at s n) (λ node.
     let most = most_size s off size node in
@@ -240,15 +216,13 @@ outcome s (Write _ n _ bytes size off _ delayed kill _) = with_it (node_at s n) 
     (first_of ((nat_lt 0 size && nat_le (longest s) off, efbig)
     ∷ (nat_lt 0 size && nat_le most off, enospc) ∷ [])))
     (Tried (nat_lt 0 (length fit) && nat_lt 0 (lacking node.contents off (length fit)))
-    (Plain (Wrote (length fit)))
-    (with_resized s n node (overwritten s.now delayed kill node off fit))))
+    (Plain (Wrote (length fit))) (with_resized s n node (overwritten s.now delayed kill node off fit))))
 outcome s (Fallocate _ n _ mode off len) = on (node_at s n) (fallocate_refusal s mode off len) (λ node.
     let new = rewritten s.now true false node (fallocated mode off len node.contents) in
     Tried (not (mode == 3) && nat_lt 0 (lacking node.contents off len)) (Plain Done)
     (with_resized s n node new))
 outcome s (Lseek _ n _ off whence) = if s.writeback then Refused enosys else with_it (node_at s n) (λ node.
-    let at = if whence == 4 then Some (hole_from node.contents off)
-    else data_from node.contents off in
+    let at = if whence == 4 then Some (hole_from node.contents off) else data_from node.contents off in
     unless (first_of ((not (is_file node.kind) || not (whence == 3 || whence == 4), einval)
     ∷ (nat_le (length node.contents.bytes) off || is_none at, enxio) ∷ []))
     (Answered (Plain (Offset (unwrap_or at 0))) s))
@@ -264,27 +238,23 @@ outcome s (Statfs _ _) = Answered (Plain (Statistics (record {
 }))) s
 outcome s (Setxattr _ n name value flags _) = with_it (node_at s n) (λ node.
     let old = xattr_named node.xattrs name in
-    let set = with_xattrs s.now node (with_xattr node.xattrs name value) in
+    let set = record node { xattrs = with_xattr node.xattrs name value; ctime = s.now } in
     unless (option_or (namespace_refusal name)
-    (first_of ((bit_and flags 1 == 1 && is_some old, eexist)
-    ∷ (bit_and flags 2 == 2 && is_none old, enodata)
+    (first_of ((bit_and flags 1 == 1 && is_some old, eexist) ∷ (bit_and flags 2 == 2 && is_none old, enodata)
     ∷ (nat_lt 65536 (xattr_bytes set.xattrs), enospc)
     ∷ (nat_lt (room_of s) (xattr_bytes set.xattrs - xattr_bytes node.xattrs), enospc) ∷ [])))
     (Tried true (Plain Done) (with_resized s n node set)))
-outcome s (Getxattr _ n name size) =
-    with_it (node_at s n) (λ node.
+outcome s (Getxattr _ n name size) = with_it (node_at s n) (λ node.
     unless (namespace_refusal name) (tells s size (xattr_named node.xattrs name)))
-outcome s (Listxattr _ n size) =
-    with_it (node_at s n) (λ node. tells s size (Some (name_list node.xattrs)))
+outcome s (Listxattr _ n size) = with_it (node_at s n) (λ node. tells s size (Some (name_list node.xattrs)))
 outcome s (Removexattr _ n name) = with_it (node_at s n) (λ node.
     unless (option_or (namespace_refusal name)
     (first_of ((is_none (xattr_named node.xattrs name), enodata) ∷ [])))
-    (done (with_resized s n node (with_xattrs s.now node (without_xattr node.xattrs name)))))
+    (done (with_resized s n node (record node { xattrs = without_xattr node.xattrs name; ctime = s.now }))))
 outcome s (Readdir _ n _ size off) = with_it (node_at s n) (λ node.
     unless (first_of ((not (is_directory node.kind), enotdir) ∷ []))
     (Tried true (Iterator (items_behind n node off size)) (with_node s n (accessed s.now node))))
-outcome s (Opendir _ _ _) =
-    if bit_and s.offered 0x1000000 == 0x1000000 then Refused enosys
+outcome s (Opendir _ _ _) = if bit_and s.offered 0x1000000 == 0x1000000 then Refused enosys
     else Answered (Plain (Opened None 10)) s
 outcome s (Fsync _ _ _ _) = done s
 outcome s (Release _ _ _ _ _ _ _) = done s

@@ -112,16 +112,13 @@ impl FileSystem for TreeFs {
             }
         }
         let now = self.now;
-        let handle = if opens_nothing(self.offered) && attr.size == 0 {
-            Some(0)
-        } else {
-            handle
-        };
+        // (a client without OPEN cuts by a SETATTR what it opens with O_TRUNC)
+        let is_open = handle.is_some() || opens_nothing(self.offered) && attr.size == 0;
         let Some(node) = self.nodes.get_mut(&inode) else {
             unreachable!()
         };
         let before = node.weight();
-        node.set_attr(now, attr, handle, valid);
+        node.set_attr(now, attr, is_open, valid);
         let after = node.weight();
         let (attr, timeout) = (node.attr(inode), node.attr_timeout());
         self.reweigh(before, after);

@@ -1,12 +1,12 @@
 //! RENAME: a name leads elsewhere, in one directory or from one to another.
 
-ghost use Rattle.std.specs.Prelude.{◌≡◌, ◌<◌, ◌≤◌, ◌-◌, ◌^◌, ◌&&◌, ◌||◌, ◌==◌, true, false, not, length, IsTrue, IsSome, Some, None, is_none, is_some, option_map, IfErr, IfOk, OnOk, if◌then◌else◌};
+ghost use Rattle.std.specs.Prelude.{◌≡◌, ◌<◌, ◌≤◌, nat_le, ◌-◌, ◌^◌, ◌&&◌, ◌||◌, ◌==◌, true, false, not, length, IsTrue, IsSome, Some, None, is_none, is_some, option_map, IfErr, IfOk, OnOk, if◌then◌else◌};
 ghost use Rattle.std.specs.Option.{option_copied, option_map_or};
 ghost use Rattle.vfs_flags.specs.Numbers.{enomem};
 ghost use Rattle.vfs_files.specs.Values.{name_text};
 ghost use Rattle.vfs_nodes.specs.Node.{weight};
 ghost use Rattle.vfs_tree.specs.Naming.{is_crowded, is_directory_at};
-ghost use Rattle.vfs_tree.specs.Rename.{is_below, is_own_child, is_served, leaves_whiteout, moved_into, parent_of, rename_refusal, renamed, same_node, whiteout};
+ghost use Rattle.vfs_tree.specs.Rename.{is_below, is_own_child, is_served, moved_into, parent_of, rename_refusal, renamed, same_node, whiteout};
 ghost use Rattle.vfs_tree.specs.State.{child_at, lead, node_at, node_of, room_of, unnamed, with_new};
 
 use crate::fs::TreeFs;
@@ -34,9 +34,9 @@ impl TreeFs {
             newname.now flags moved target ≡ Some errno) }
         ensures place { OnOk result (target ≡ None
             → is_crowded (node_at self.entry.now newdir) ≡ false) }
-        ensures number { OnOk result (leaves_whiteout flags ≡ true → same_node moved target ≡ false
+        ensures number { OnOk result (nat_le 4 flags ≡ true → same_node moved target ≡ false
             → self.entry.now.next < 2 ^ 64 - 1) }
-        ensures inodes { OnOk result (leaves_whiteout flags ≡ true → same_node moved target ≡ false
+        ensures inodes { OnOk result (nat_le 4 flags ≡ true → same_node moved target ≡ false
             → self.entry.now.inodes < 2 ^ 64 - 1) }
     {
         let node = self.node_of(moved);
@@ -143,12 +143,12 @@ impl TreeFs {
         requires directory { IsSome (node_at self.old newdir) }
         requires target { child_at self.old newdir (name_text newname) ≡ target }
         requires place { target ≡ None → is_crowded (node_at self.old newdir) ≡ false }
-        requires number { leaves_whiteout flags ≡ true → self.old.next < 2 ^ 64 - 1 }
-        requires inodes { leaves_whiteout flags ≡ true → self.old.inodes < 2 ^ 64 - 1 }
+        requires number { nat_le 4 flags ≡ true → self.old.next < 2 ^ 64 - 1 }
+        requires inodes { nat_le 4 flags ≡ true → self.old.inodes < 2 ^ 64 - 1 }
         ensures ok { OnOk result (self.new ≡ renamed self.old ctx olddir
             (name_text oldname.entry) newdir (name_text newname.entry) flags target child) }
         ensures err { IfErr result (λ fault. (fault ≡ Some enomem) × (self.new ≡ self.old)
-            × IsTrue (is_none target || leaves_whiteout flags)) }
+            × IsTrue (is_none target || nat_le 4 flags)) }
     {
         let white = self.new_whiteout(ctx, olddir, flags)?;
         let back = self.way_back(flags, target, &white);
@@ -162,9 +162,9 @@ impl TreeFs {
     // The whiteout that takes the old name, where one does.
     fn new_whiteout(&self, ctx: Context, olddir: u64, flags: u32) -> Result<Option<Node>, Fault>
         ensures ok { IfOk result (λ white. white ≡
-            (if leaves_whiteout flags then Some (whiteout self.entry.now ctx olddir) else None)) }
+            (if nat_le 4 flags then Some (whiteout self.entry.now ctx olddir) else None)) }
         ensures err { IfErr result (λ fault.
-            (fault ≡ Some enomem) × IsTrue (leaves_whiteout flags)) }
+            (fault ≡ Some enomem) × IsTrue (nat_le 4 flags)) }
     {
         if !leaves_whiteout(flags) {
             return Ok(None);
@@ -218,11 +218,11 @@ fn is_served(flags: u32) -> bool
         || flags == RENAME_WHITEOUT | RENAME_NOREPLACE
 }
 
-// Whether a whiteout takes the old name.
+// Whether a whiteout takes the old name, by flags that RENAME has.
 fn leaves_whiteout(flags: u32) -> bool
-    ensures { result ≡ leaves_whiteout flags }
+    ensures { result ≡ nat_le 4 flags }
 {
-    flags & RENAME_WHITEOUT == RENAME_WHITEOUT
+    flags >= RENAME_WHITEOUT
 }
 
 /// Whether two names lead to one node.

@@ -1,10 +1,10 @@
-use Rattle.std.proofs.Common.{◌≡◌, ◌||◌, false, Option, Some, None, is_none, subst, rules}
+use Rattle.std.proofs.Common.{◌≡◌, ◌||◌, false, Option, Some, None, is_none, subst, rules, nat_le}
 use Rattle.vfs_files.specs.Calls.{Plain, done_answer}
 use Rattle.vfs_files.specs.Values.{name_text}
 use Rattle.vfs_nodes.specs.declared.children.Child.{Child}
 use Rattle.vfs_tree.specs.Naming.{directory_refusal}
 use Rattle.vfs_tree.specs.Outcome.{Ends}
-use Rattle.vfs_tree.specs.Rename.{leaves_whiteout, rename_refusal, renamed, renames, same_node}
+use Rattle.vfs_tree.specs.Rename.{rename_refusal, renamed, renames, same_node}
 use Rattle.vfs_tree.specs.State.{child_at, node_at}
 use Rattle.vfs_tree.proofs.Renaming.{moved_ends}
 use Rattle.vfs_tree.proofs.calls.TreeFsFileSystem.rename.Goals as goal
@@ -27,7 +27,7 @@ returns c =
     let is : moved ≡ Some c.in-Some.child = search rules in
     let apart : same_node moved target ≡ false = search rules in
     let ends = moved_ends s c.move_child.new.self c.in-Some.child target
-    (is_none target || leaves_whiteout flags) (renamed s c.args.ctx od on nd nn flags target)
+    (is_none target || nat_le 4 flags) (renamed s c.args.ctx od on nd nn flags target)
     c.move_child.result c.move_child.ensures.ok c.move_child.ensures.err
     (directory_refusal (node_at s od) on) (directory_refusal (node_at s nd) nn)
     (rename_refusal s od nd nn flags moved target) moved (same_node moved target) one two three is apart in

@@ -1,9 +1,9 @@
-use Rattle.std.proofs.Common.{ℕ, ◌==◌, ◌&&◌, ◌||◌, not, Bool, List, [], ◌∷◌, length, bit_and, None, is_some, is_none, false, if◌then◌else◌, arith}
+use Rattle.std.proofs.Common.{ℕ, ◌==◌, ◌&&◌, ◌||◌, not, Bool, List, [], ◌∷◌, length, bit_and, None, is_some, is_none, false, if◌then◌else◌, arith, nat_le}
 use Rattle.std.proofs.lemmas.Grind.{common_steps}
 use Rattle.std.specs.Option.{option_map_or}
 use Rattle.vfs_flags.specs.Numbers.{enoent, eexist, enotdir, eisdir, enospc, enotempty, einval}
 use Rattle.vfs_tree.specs.Naming.{is_directory_at, is_improper, is_nameless, is_crowded, has_no_number}
-use Rattle.vfs_tree.specs.Rename.{is_own_child, is_served, leaves_whiteout, same_node}
+use Rattle.vfs_tree.specs.Rename.{is_own_child, is_served, same_node}
 use Rattle.vfs_tree.specs.State.{node_at, node_of}
 use Rattle.vfs_tree.proofs.Renaming.{none_of}
 use Rattle.vfs_tree.proofs.fs.TreeFs.check_rename.Goals as goal
@@ -29,7 +29,7 @@ returns-clause-ok c =
     ∷ (is_directory_at old && not (is_directory_at it), eisdir)
     ∷ (is_directory_at it && is_some old && not (is_directory_at old), enotdir)
     ∷ (option_map_or (λ node. not (length node.children.links == 0)) old false, enotempty)
-    ∷ (leaves_whiteout flags && not (same_node moved target) && has_no_number s, enospc) ∷ []) (
+    ∷ (nat_le 4 flags && not (same_node moved target) && has_no_number s, enospc) ∷ []) (
       grind (arith, common_steps),
       (
         grind (arith, common_steps),
