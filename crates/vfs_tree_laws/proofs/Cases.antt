@@ -14,21 +14,22 @@ use Rattle.std.specs.Option.{unwrap_or}
 use Rattle.std.proofs.lemmas.Bool.{ltb-false, eqb-true, not-false, or_parts}
 use Rattle.std.proofs.lemmas.List.{length-replicate}
 use Rattle.vfs_contents.specs.Contents.{Contents, resized, allocated, punched, zeroed, fallocated, data_from, hole_from, lacking}
-use Rattle.vfs_tree.specs.Children.{leading, is_directory, is_file}
+use Rattle.vfs_tree.specs.Children.{leading, is_directory, is_file, is_link}
 use Rattle.vfs_tree.specs.Listing.{items_behind}
 use Rattle.vfs_tree.specs.Node.{attr_of, entry_of, lasting, weight, stripped, rewritten, is_other, truncates, opened, set_attr, overwritten, kind_by_mode, new_node, accessed}
 use Rattle.vfs_tree.specs.Outcome.{Outcome, Refused, Answered, Tried, Ends, done, first_of, unless, with_it, on}
-use Rattle.vfs_tree.specs.Rename.{leaves_whiteout, same_node, rename_refusal, renamed}
-use Rattle.vfs_tree.specs.State.{State, node_at, room_of, with_node, with_resized, with_names, change, child_at}
+use Rattle.vfs_tree.specs.Rename.{same_node, rename_refusal, renamed}
+use Rattle.vfs_tree.specs.State.{State, node_at, room_of, with_node, with_resized, change, child_at}
 use Rattle.vfs_tree_laws.specs.Laws.{IsShort}
-use Rattle.vfs_tree.specs.Tree.{opening, namespace_refusal, TreeAllows, outcome, wanted_options, opens_nothing, at_name, makes, linked, all_forgotten, contents_refusal, longest, most_size, fallocate_refusal, with_xattrs, has_no_text, make_refusal, taken_out, link_refusal, tells}
-use Rattle.vfs_tree.specs.Xattrs.{xattr_named, xattr_bytes, with_xattr, without_xattr, name_list}
+use Rattle.vfs_tree.specs.Tree.{namespace_refusal, TreeAllows, outcome, wanted_options, opens_nothing, at_name, makes, linked, all_forgotten, contents_refusal, longest, most_size, fallocate_refusal, make_refusal, taken_out, link_refusal, tells}
+use Rattle.vfs_tree.specs.Xattrs.{Xattr, xattr_named, xattr_bytes, with_xattr, without_xattr, name_list}
 use Rattle.vfs_nodes.specs.declared.children.Child.{Child}
 use Rattle.vfs_nodes.specs.declared.kind.Kind.{Kind}
 use Rattle.vfs_nodes.specs.declared.kind.Kind.TheVariants as kind
 use Rattle.vfs_nodes.specs.declared.node.Node.{Node}
 use Rattle.vfs_nodes.specs.declared.node.Time.{Time}
 use Rattle.vfs_nodes.proofs.Weights.{resized_holds, set_attr_weighs, stripped_bytes, without_xattr_bytes}
+use Rattle.vfs_tree.proofs.Nodes.{with_names}
 use Rattle.vfs_tree.proofs.Weights.{fitting_ends, written_fits, fallocate_room, fallocated_fits}
 use Rattle.std.specs.Option.{option_map_or, option_or}
 use Rattle.vfs_tree.specs.Naming.{directory_refusal, new_in}
@@ -180,18 +181,18 @@ length-punched c off len =
     )
 
 -- SETATTR
-set_attr_resizes : (s : State) (node : Node) (attr : SetattrIn) (handle : Option ℕ) (valid : ℕ)
+set_attr_resizes : (s : State) (node : Node) (attr : SetattrIn) (is_open : Bool) (valid : ℕ)
     → (if bit_and valid 8 == 8
     then option_or (contents_refusal node) (first_of ((nat_lt (longest s) attr.size, efbig) ∷ []))
     else None) ≡ None
-    → Resizes s node (set_attr s.now node attr handle valid)
-set_attr_resizes s node attr handle valid none = record {
+    → Resizes s node (set_attr s.now node attr is_open valid)
+set_attr_resizes s node attr is_open valid none = record {
   kind = refl;
   parent = refl;
   names = refl;
   lookups = refl;
   children = refl;
-  room = omega (arith, set_attr_weighs s.now node attr handle valid);
+  room = omega (arith, set_attr_weighs s.now node attr is_open valid);
   file = λ short is. by (bit_and valid 8 == 8) none (short is);
 }
   where
@@ -299,6 +300,10 @@ fallocated_resizes s node mode off len none = record {
         let held : Contents = allocated node.contents off len (if keeps then 0 else off + len) in
         omega (arith, length-punched held off len, grown keeps (room refl) short)
     by false false keeps room short = grown keeps (room refl) short
+
+-- a node with other extended attributes
+abbrev with_xattrs : (now : Time) → Node → List Xattr → Node
+with_xattrs now node xattrs = record node { xattrs = xattrs; ctime = now }
 
 -- SETXATTR
 xattr_fits : (s : State) (node : Node) (name value : List ℕ)
@@ -482,7 +487,7 @@ module _ (old : State) (P : List (ℕ × ℕ) → Handed (List Item) → State �
 
       last : Child → Outcome
       last child =
-          Tried (is_none target || leaves_whiteout flags) (Plain Done)
+          Tried (is_none target || nat_le 4 flags) (Plain Done)
           (renamed old ctx od on nd nn flags target child)
 
       ends : Child → Outcome
@@ -514,8 +519,8 @@ module _ (old : State) (P : List (ℕ × ℕ) → Handed (List Item) → State �
   covered (Setattr c n attr h valid) =
       let call = (Setattr c n attr h valid) in
       let fails : Fails old call = (refl, λ e. refl) in
-      let by = if opens_nothing old.offered && attr.size == 0 then Some 0 else h in
-      let set = λ (node : Node). set_attr old.now node attr by valid in
+      let is_open = is_some h || opens_nothing old.offered && attr.size == 0 in
+      let set = λ (node : Node). set_attr old.now node attr is_open valid in
       let reply : Node → Handed (List Item) =
       λ node. Plain (Attributes (attr_of n (set node)) (lasting (set node))) in
       let none = λ (node : Node). if bit_and valid 8 == 8
@@ -526,7 +531,7 @@ module _ (old : State) (P : List (ℕ × ℕ) → Handed (List Item) → State �
       (λ node is free. (
         refl,
         q.resizes n node (set node) (reply node) refl is
-            (set_attr_resizes old node attr by valid free),
+            (set_attr_resizes old node attr is_open valid free),
       ))
   covered (Mkdir c parent name mode u e) =
       makes_covered (Mkdir c parent name mode u e) (λ a. refl) refl c Found (λ entry. refl) kind.Directory mode parent name []
@@ -588,7 +593,8 @@ module _ (old : State) (P : List (ℕ × ℕ) → Handed (List Item) → State �
       let call = (Readlink c n) in
       let fails : Fails old call = (refl, λ e. refl) in
       let text = λ (node : Node). Tried true (Plain (Text node.text)) (with_node old n (accessed old.now node)) in
-      let none = λ (node : Node). first_of ((has_no_text node, einval) ∷ []) in
+      let none = λ (node : Node).
+      first_of ((not (is_link node.kind) || nat_lt (2 ^ 32 - 17) (length node.text), einval) ∷ []) in
       each-some (Fails old call) (Leaves call) fails enoent (node_at old n)
       (λ node. unless (none node) (text node))
       (λ node is. each-unless (Fails old call) (Leaves call) fails (none node) (text node)
@@ -597,7 +603,7 @@ module _ (old : State) (P : List (ℕ × ℕ) → Handed (List Item) → State �
       let call = (Open c n k flags) in
       let fails : Fails old call = (refl, λ e. refl) in
       let last = λ (node : Node). opened old.now c.uid k node flags in
-      let reply : Node → Handed (List Item) = λ node. Plain (opening node flags) in
+      let reply : Node → Handed (List Item) = λ node. Plain (Opened None (if truncates node flags then 0 else 2)) in
       let opens = λ (node : Node). Answered (reply node) (with_resized old n node (last node)) in
       each-if (Fails old call) (Leaves call) fails (opens_nothing old.offered) (Refused enosys)
       (with_it (node_at old n) opens) (λ none. fails)

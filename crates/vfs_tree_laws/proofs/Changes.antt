@@ -1,11 +1,11 @@
 -- Changes of a tree, by the node that each finds.
-use Rattle.std.specs.Prelude.{ℕ, ◌-◌, ◌==◌, min, Bool, true, false, List, map, Option, Some, None, is_some, option_map, option_and_then, if◌then◌else◌}
+use Rattle.std.specs.Prelude.{ℕ, ◌-◌, ◌==◌, nat_le, min, Bool, true, false, List, map, Option, Some, None, is_some, option_map, option_and_then, if◌then◌else◌}
 use Rattle.std.specs.Option.{option_map_or}
 use Rattle.vfs_files.specs.declared.entry.Context.{Context}
 use Rattle.vfs_nodes.specs.Children.{child_named}
 use Rattle.vfs_nodes.specs.declared.children.Child.{Child}
 use Rattle.vfs_nodes.specs.declared.node.Node.{Node}
-use Rattle.vfs_tree.specs.Rename.{leaves_whiteout, moved_into, whiteout}
+use Rattle.vfs_tree.specs.Rename.{moved_into, whiteout}
 use Rattle.vfs_tree.specs.State.{State, lead, settled, unnamed, with_new}
 
 -- one name less leads to this node
@@ -37,7 +37,7 @@ child_of o name = option_and_then (λ (node : Node). child_named node.children n
 
 -- the whiteout that is made first, if there is one
 abbrev pub white_of : State → Context → (od flags : ℕ) → Option Node
-white_of s ctx od flags = if leaves_whiteout flags then Some (whiteout s ctx od) else None
+white_of s ctx od flags = if nat_le 4 flags then Some (whiteout s ctx od) else None
 
 abbrev pub begun : State → (white : Option Node) → State
 begun s white = option_map_or (with_new s) white s

@@ -1,13 +1,13 @@
 -- Changes that keep a state sound and all lookups that are held.
-use Rattle.std.proofs.Common.{◌≡◌, ◌≢◌, ◌<◌, ◌-◌, ◌==◌, min, ℕ, Bool, true, false, List, Option, Some, None, IsSome, IfSome, is_some, refl, sym, ap, subst, ◌∙◌, arith, if◌then◌else◌}
+use Rattle.std.proofs.Common.{◌≡◌, ◌≢◌, ◌<◌, ◌-◌, ◌==◌, min, ℕ, Bool, true, false, List, Option, Some, None, IsSome, IfSome, is_some, refl, sym, ap, subst, ◌∙◌, arith, if◌then◌else◌, nat_le}
 use Rattle.vfs_tree.specs.Children.{Children, leading}
 use Rattle.vfs_tree_laws.specs.Laws.{lookups_in, lookups_of, IsHeld, IsSound}
-use Rattle.vfs_tree.specs.Rename.{leaves_whiteout, moved_into, whiteout, renamed}
-use Rattle.vfs_tree.specs.State.{State, node_at, with_node, with_new, with_resized, change, with_names, lead}
+use Rattle.vfs_tree.specs.Rename.{moved_into, whiteout, renamed}
+use Rattle.vfs_tree.specs.State.{State, node_at, with_node, with_new, with_resized, change, lead}
 use Rattle.vfs_tree.specs.Tree.{taken_out}
 use Rattle.vfs_nodes.specs.declared.children.Child.{Child}
 use Rattle.vfs_nodes.specs.declared.node.Node.{Node}
-use Rattle.vfs_tree.proofs.Nodes.{node_at-with_node, node_at-with_node_other, changed}
+use Rattle.vfs_tree.proofs.Nodes.{node_at-with_node, node_at-with_node_other, changed, with_names}
 use Rattle.vfs_tree_laws.proofs.Held.{at, lookups_here, lookups_other, none_yet, lookups_new, lookups_new_other, sound_counted, sound-with_node, sound-with_new, settles}
 use Rattle.vfs_tree_laws.proofs.Changes.{unnamed_at, white_of, begun, back_of, laid, left_with}
 use Rattle.vfs_files.specs.declared.entry.Context.{Context}
@@ -136,7 +136,7 @@ keeps-with_new s node one unheld sound = record {
 
 pub keeps-begun : (s : State) (ctx : Context) (od flags : ℕ) → IsSound s
     → Keeps s (begun s (white_of s ctx od flags))
-keeps-begun s ctx od flags sound = by (leaves_whiteout flags)
+keeps-begun s ctx od flags sound = by (nat_le 4 flags)
   where
     by : (t : Bool) → Keeps s (begun s (if t then Some (whiteout s ctx od) else None))
     by true = keeps-with_new s (whiteout s ctx od) refl refl sound

@@ -1,16 +1,16 @@
 -- Calls keep links: as many names lead to a node as it says, and each to one that is there.
-use Rattle.std.proofs.Common.{◌≡◌, ◌≢◌, ◌+◌, ◌-◌, ◌==◌, if◌then◌else◌, ℕ, Bool, true, false, List, [], ◌∷◌, length, Option, Some, None, refl, sym, ap, ◌∙◌, subst, ⊎_elim, arith}
+use Rattle.std.proofs.Common.{◌≡◌, ◌≢◌, ◌+◌, ◌-◌, ◌==◌, if◌then◌else◌, ℕ, Bool, true, false, List, [], ◌∷◌, length, Option, Some, None, refl, sym, ap, ◌∙◌, subst, ⊎_elim, arith, nat_le}
 use Rattle.std.proofs.lemmas.Bool.{both_ways, cases_Bool, eqb-true, eqb-false, false≢true}
 use Rattle.std.proofs.lemmas.Option.{none-some, same_Some}
 use Rattle.vfs_files.specs.declared.entry.Context.{Context}
-use Rattle.vfs_tree.proofs.Nodes.{node_at-with_new_other}
+use Rattle.vfs_tree.proofs.Nodes.{node_at-with_new_other, with_names}
 use Rattle.vfs_tree_laws.proofs.NamesIn.{one}
 use Rattle.vfs_tree_laws.proofs.Tables.{kind_in, kind_at, free_number}
 use Rattle.vfs_tree.specs.Children.{Children, is_directory, child_named, leading}
 use Rattle.vfs_tree.specs.Node.{accessed, new_node}
 use Rattle.vfs_tree_laws.specs.Laws.{names_of, IsSound, IsLinked, CallsKeepLinks}
-use Rattle.vfs_tree.specs.Rename.{same_node, leaves_whiteout, moved_into, whiteout, renamed}
-use Rattle.vfs_tree.specs.State.{State, node_at, with_node, with_resized, with_new, with_names, change, child_at}
+use Rattle.vfs_tree.specs.Rename.{same_node, moved_into, whiteout, renamed}
+use Rattle.vfs_tree.specs.State.{State, node_at, with_node, with_resized, with_new, change, child_at}
 use Rattle.vfs_tree.specs.Tree.{linked, all_forgotten, make_refusal, link_refusal, taken_out}
 use Rattle.vfs_nodes.specs.declared.children.Child.{Child}
 use Rattle.vfs_nodes.specs.declared.kind.Kind.{Kind}
@@ -93,10 +93,10 @@ forgets_all s (r ∷ rs) both =
     (forgets s r.0 r.1 (node_at s r.0) refl both)
 
 -- names that are exchanged leave no whiteout
-no_exchange : (flags : ℕ) → leaves_whiteout flags ≡ true → (flags == 2) ≡ false
+no_exchange : (flags : ℕ) → nat_le 4 flags ≡ true → (flags == 2) ≡ false
 no_exchange flags leaves =
     ⊎_elim
-    (λ two. absurd (false≢true (sym (ap leaves_whiteout (eqb-true flags 2 two)) ∙ leaves)))
+    (λ two. absurd (false≢true (sym (ap (nat_le 4) (eqb-true flags 2 two)) ∙ leaves)))
     (λ not. not)
     (cases_Bool (flags == 2))
 
@@ -242,9 +242,9 @@ module _ (old : State) (sound : IsSound old) (linked_old : IsLinked old) where
         (two_nodes (Some t) same) t refl refl (λ m. refl)
 
     renames : IsLinked (renamed old ctx od on nd nn flags (child_at old nd nn) child)
-    renames = by (leaves_whiteout flags) refl (flags == 2) refl
+    renames = by (nat_le 4 flags) refl (flags == 2) refl
       where
-        by : (leaves : Bool) → leaves_whiteout flags ≡ leaves → (exchanged : Bool)
+        by : (leaves : Bool) → nat_le 4 flags ≡ leaves → (exchanged : Bool)
             → (flags == 2) ≡ exchanged
             → let white = if leaves then Some (whiteout old ctx od) else None in
             IsLinked (left_with

@@ -6,7 +6,7 @@ use Rattle.std.proofs.lemmas.Option.{none-some}
 use Rattle.vfs_flags.specs.Numbers.{eperm, enoent, eexist, enotdir, eisdir, enospc, enotempty, einval, eoverflow, enametoolong, emlink}
 use Rattle.vfs_tree.specs.Children.{is_directory, child_named}
 use Rattle.vfs_tree.specs.Outcome.{first_of}
-use Rattle.vfs_tree.specs.Rename.{is_own_child, is_served, leaves_whiteout, same_node, rename_refusal}
+use Rattle.vfs_tree.specs.Rename.{is_own_child, is_served, same_node, rename_refusal}
 use Rattle.vfs_tree.specs.State.{State, node_at, room_of, child_at, node_of}
 use Rattle.vfs_tree.specs.Tree.{make_refusal, link_refusal}
 use Rattle.vfs_nodes.specs.declared.children.Child.{Child}
@@ -86,8 +86,7 @@ pub make_takes : (s : State) (parent : ℕ) (name : List ℕ) (size : ℕ)
 make_takes s parent name size free =
     name_takes s parent name
     (or_none (name_refusal s parent name)
-    (first_of ((has_no_number s || is_crowded (node_at s parent), enospc)
-    ∷ (nat_lt (room_of s) size, enospc) ∷ [])) free).0
+    (first_of ((has_no_number s || is_crowded (node_at s parent) || nat_lt (room_of s) size, enospc) ∷ [])) free).0
 
 pub link_takes : (s : State) (node : Node) (parent : ℕ) (name : List ℕ)
     → link_refusal s parent name node ≡ None
@@ -120,7 +119,7 @@ pub record Renames
   pub back : (flags == 2 && is_own_child s (child_at s nd nn) od) ≡ false
   pub empty : (flags == 2) ≡ false → (old : Child) (node : Node) → child_at s nd nn ≡ Some old
       → node_at s old.node ≡ Some node → node.children.links ≡ []
-  pub room : (leaves_whiteout flags && has_no_number s) ≡ false
+  pub room : (nat_le 4 flags && has_no_number s) ≡ false
 
 pub rename_takes : (s : State) (od : ℕ) (on : List ℕ) (nd : ℕ) (nn : List ℕ) (flags : ℕ) (child : Child)
     → directory_refusal (node_at s od) on ≡ None → directory_refusal (node_at s nd) nn ≡ None
@@ -143,7 +142,7 @@ rename_takes s od on nd nn flags child from into found apart free =
     ∷ (is_directory_at old && not (is_directory_at it), eisdir)
     ∷ (is_directory_at it && is_some old && not (is_directory_at old), enotdir)
     ∷ (Holds old, enotempty)
-    ∷ (leaves_whiteout flags && not same && has_no_number s, enospc) ∷ []) free in
+    ∷ (nat_le 4 flags && not same && has_no_number s, enospc) ∷ []) free in
     let own = or_parts (is_own_child s (Some child) nd) (flags == 2 && is_own_child s target od)
     each.1.1.1.1.0 in
     record {
@@ -163,7 +162,7 @@ rename_takes s od on nd nn flags child from into found apart free =
           none_in node.children.links
           (eqb-true (length node.children.links) 0
           (not-false (length node.children.links == 0) here));
-      room = leaves (leaves_whiteout flags) same apart each.1.1.1.1.1.1.1.1.1.1.0;
+      room = leaves (nat_le 4 flags) same apart each.1.1.1.1.1.1.1.1.1.1.0;
     }
   where
     replaces : (target : Option Child) (t : Bool) → t ≡ false

@@ -7,8 +7,8 @@ use Rattle.vfs_nodes.specs.Children.{Link, Children, is_directory, is_named, chi
 use Rattle.vfs_nodes.specs.declared.children.Child.{Child}
 use Rattle.vfs_nodes.specs.declared.node.Node.{Node}
 use Rattle.vfs_tree.specs.Rename.{parent_of, moved_into}
-use Rattle.vfs_tree.specs.State.{State, node_at, with_names, lead, unnamed}
-use Rattle.vfs_tree.proofs.Nodes.{changed, node_at-with_node}
+use Rattle.vfs_tree.specs.State.{State, node_at, lead, unnamed}
+use Rattle.vfs_tree.proofs.Nodes.{changed, node_at-with_node, with_names}
 use Rattle.vfs_tree_laws.specs.Laws.{names_in, names_to, names_of, IsSound, IsLinked}
 use Rattle.vfs_tree_laws.proofs.Changes.{unnamed_at, laid}
 use Rattle.vfs_tree_laws.proofs.Compounds.{there_is, empty_finds, shape_empty, found_fits, found_counts, single_at, root_unnamed, arrived_home}

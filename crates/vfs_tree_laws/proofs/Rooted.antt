@@ -7,8 +7,8 @@ use Rattle.vfs_tree.specs.Children.{Children, is_directory, leading}
 use Rattle.vfs_tree.specs.Node.{accessed, new_node}
 use Rattle.vfs_tree_laws.specs.Laws.{IsSound, IsLinked, IsRooted, CallsKeepTheWayUp, above}
 use Rattle.vfs_tree.specs.Outcome.{first_of}
-use Rattle.vfs_tree.specs.Rename.{is_below, is_own_child, leaves_whiteout, same_node, parent_of, moved_into, whiteout, renamed}
-use Rattle.vfs_tree.specs.State.{State, node_at, room_of, with_node, with_resized, with_new, without_node, settled, change, with_names, lead, child_at}
+use Rattle.vfs_tree.specs.Rename.{is_below, is_own_child, same_node, parent_of, moved_into, whiteout, renamed}
+use Rattle.vfs_tree.specs.State.{State, node_at, room_of, with_node, with_resized, with_new, without_node, settled, change, lead, child_at}
 use Rattle.vfs_tree.specs.Tree.{linked, all_forgotten, taken_out, make_refusal, link_refusal}
 use Rattle.vfs_nodes.specs.declared.children.Child.{Child}
 use Rattle.vfs_nodes.specs.declared.kind.Kind.{Kind}
@@ -17,7 +17,7 @@ use Rattle.vfs_tree_laws.proofs.Ascending.{gone-remove_entry, none_from}
 use Rattle.vfs_tree_laws.proofs.Cases.{one_inode_more, Covers, calls_covered}
 use Rattle.vfs_tree_laws.proofs.Held.{at, sound_counted, sound-with_new, settles}
 use Rattle.vfs_tree_laws.proofs.Keeping.{keeps-with_names, keeps-begun, keeps-laid, there-change}
-use Rattle.vfs_tree.proofs.Nodes.{node_at-with_node, node_at-with_node_other, node_at-without_node_other, node_at-with_new, node_at-with_new_other, kinds_apart, changed}
+use Rattle.vfs_tree.proofs.Nodes.{node_at-with_node, node_at-with_node_other, node_at-without_node_other, node_at-with_new, node_at-with_new_other, kinds_apart, changed, with_names}
 use Rattle.vfs_tree_laws.proofs.WayUp.{IsPlaced, Goes, Avoids, rooted_from, goes_from, placed_from, names_place, name_leads, rooted_ways, goes_still, avoids_from, avoids_still, goes_on}
 use Rattle.vfs_tree_laws.proofs.Refused.{all_false, or_none, Renames}
 use Rattle.std.specs.Option.{option_or}
@@ -315,7 +315,7 @@ record Still (s new : State) : Type 0 where
 
 still-begun : (s : State) (ctx : Context) (od flags : ℕ) → IsSound s
     → Still s (begun s (white_of s ctx od flags))
-still-begun s ctx od flags sound = by (leaves_whiteout flags)
+still-begun s ctx od flags sound = by (nat_le 4 flags)
   where
     white : Node
     white = whiteout s ctx od
@@ -524,8 +524,11 @@ module _ (old : State) (sound : IsSound old) (links : IsLinked old) (rooted : Is
   makes uid gid kind permissions parent name text none =
       let node = new_node old.now uid gid kind permissions parent text in
       let mid = with_new old node in
-      let rs : List (Bool × ℕ) = (has_no_number old || is_crowded (node_at old parent), enospc)
-      ∷ (nat_lt (room_of old) (length text), enospc) ∷ [] in
+      let rs : List (Bool × ℕ) = (
+        has_no_number old || is_crowded (node_at old parent)
+            || nat_lt (room_of old) (length text),
+        enospc,
+      ) ∷ [] in
       let names = named_there old parent name (or_none (name_refusal old parent name) (first_of rs) none).0 in
       let above_it : IsPlaced old parent =
       placed_from old parent names.0 names.1 in

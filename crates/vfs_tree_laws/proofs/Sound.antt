@@ -10,12 +10,12 @@ use Rattle.vfs_files.specs.Calls.{Call, Answer, Handed, Plain, Iterator}
 use Rattle.vfs_grammar.specs.Books.{times, forgotten, answered_nodes}
 use Rattle.vfs_tree.specs.Children.{leading}
 use Rattle.vfs_tree.specs.Node.{accessed, new_node}
-use Rattle.vfs_tree.specs.State.{State, node_at, child_at, with_node, with_resized, with_new, with_names}
+use Rattle.vfs_tree.specs.State.{State, node_at, child_at, with_node, with_resized, with_new}
 use Rattle.vfs_tree.specs.Tree.{linked, all_forgotten, outcome}
 use Rattle.vfs_nodes.specs.declared.children.Child.{Child}
 use Rattle.vfs_nodes.specs.declared.node.Node.{Node}
 use Rattle.vfs_tree_laws.specs.Laws.{Ascend, lookups_in, lookups_of, taken_back, IsSound, CountsLookups, CallsAreSound}
-use Rattle.vfs_tree.proofs.Nodes.{is_at_other, changed}
+use Rattle.vfs_tree.proofs.Nodes.{is_at_other, changed, with_names}
 use Rattle.vfs_tree_laws.proofs.Ascending.{none_below}
 use Rattle.vfs_tree_laws.proofs.Endings.{IsOrdinary, IsEnding, which}
 use Rattle.vfs_tree_laws.proofs.Cases.{Covers, Fails, IsTold, Reads, Leaves, taken_pairs, one_inode_more, covered, left_so, nodes_of, handed_nodes}

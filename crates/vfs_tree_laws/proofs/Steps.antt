@@ -7,13 +7,13 @@ use Rattle.vfs_files.proofs.Indexes.{mapped_none}
 use Rattle.vfs_tree.specs.Children.{Link, Children, is_directory, is_named, child_named, leading, relinked}
 use Rattle.vfs_tree_laws.specs.Laws.{names_in, names_to, names_of, IsSound, IsLinked}
 use Rattle.vfs_tree.specs.Rename.{parent_of, moved_into}
-use Rattle.vfs_tree.specs.State.{State, node_at, with_node, without_node, settled, with_names, lead}
+use Rattle.vfs_tree.specs.State.{State, node_at, with_node, without_node, settled, lead}
 use Rattle.vfs_nodes.specs.declared.children.Child.{Child}
 use Rattle.vfs_nodes.specs.declared.node.Node.{Node}
 use Rattle.vfs_nodes.proofs.Finds.{every_filter}
 use Rattle.vfs_tree_laws.proofs.Held.{at}
 use Rattle.vfs_tree_laws.proofs.NamesIn.{one, names_in-cons, names_in-filter, names_in-relinked, apart_more, apart_filter, apart_relinked, every_relinked}
-use Rattle.vfs_tree.proofs.Nodes.{node_at-with_node, node_at-with_node_other, node_at-without_node_other, changed}
+use Rattle.vfs_tree.proofs.Nodes.{node_at-with_node, node_at-with_node_other, node_at-without_node_other, changed, with_names}
 use Rattle.vfs_tree_laws.proofs.Shapes.{Shape, Fits, AllFit, Good, good_from, counted_from, home_from, kinds-with_node, good-with_node, kind_left, good-without_node, Counted, Home, linked_from}
 use Rattle.vfs_tree_laws.proofs.Tables.{links_in, names_at, kind_in, kind_at, is_dir, names_to-with_node, names_to-without_node, names_at-without_node, gone_number}
 

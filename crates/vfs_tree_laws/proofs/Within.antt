@@ -16,13 +16,13 @@ use Rattle.vfs_tree.specs.Children.{Children, leading, is_directory}
 use Rattle.vfs_tree_laws.specs.Laws.{Ascend, IsSound, IsWithin, IsShort, AreShort, inodes_of, CallsStayWithin}
 use Rattle.vfs_tree.specs.Node.{weight, new_node}
 use Rattle.vfs_tree.specs.Outcome.{first_of}
-use Rattle.vfs_tree.specs.Rename.{leaves_whiteout, moved_into, whiteout, renamed}
-use Rattle.vfs_tree.specs.State.{State, node_at, room_of, with_node, with_resized, with_new, without_node, settled, change, with_names, lead, child_at}
+use Rattle.vfs_tree.specs.Rename.{moved_into, whiteout, renamed}
+use Rattle.vfs_tree.specs.State.{State, node_at, room_of, with_node, with_resized, with_new, without_node, settled, change, lead, child_at}
 use Rattle.vfs_tree.specs.Tree.{linked, all_forgotten, taken_out, make_refusal, link_refusal}
 use Rattle.vfs_nodes.specs.declared.children.Child.{Child}
 use Rattle.vfs_nodes.specs.declared.kind.Kind.{Kind}
 use Rattle.vfs_nodes.specs.declared.node.Node.{Node}
-use Rattle.vfs_tree.proofs.Nodes.{kinds_apart, changed}
+use Rattle.vfs_tree.proofs.Nodes.{kinds_apart, changed, with_names}
 use Rattle.vfs_tree_laws.proofs.Ascending.{ascend_within}
 use Rattle.vfs_tree_laws.proofs.Cases.{Covers, Resizes, one_inode_more, calls_covered}
 use Rattle.vfs_tree_laws.proofs.Refused.{all_false, or_none, link_takes, Renames}
@@ -372,20 +372,21 @@ module _ (old : State) (sound : IsSound old) (within : IsWithin old) where
       let node = new_node old.now uid gid kind permissions parent text in
       let crowded = is_crowded (node_at old parent) in
       let none_left = has_no_number old in
-      let rs : List (Bool × ℕ) = (none_left || crowded, enospc)
-      ∷ (nat_lt (room_of old) (length text), enospc) ∷ [] in
-      let not = all_false rs (or_none (name_refusal old parent name) (first_of rs) none).1 in
+      let small = nat_lt (room_of old) (length text) in
+      let rs : List (Bool × ℕ) = (none_left || crowded || small, enospc) ∷ [] in
+      let not = or_parts (none_left || crowded) small
+      (all_false rs (or_none (name_refusal old parent name) (first_of rs) none).1).0 in
       let place = or_parts (nat_le old.limits.nodes old.inodes) (old.next == 2 ^ 64 - 1)
       (or_parts none_left crowded not.0).0 in
       stays-slims old (with_new old node) (made old parent name node)
       (adds node refl (leb-false old.limits.nodes old.inodes place.0)
-      (omega (arith, ltb-false (room_of old) (length text) not.1.0))
+      (omega (arith, ltb-false (room_of old) (length text) not.1))
       (λ is. omega arith))
       (slims-with_names (with_new old node) parent _)
 
-  begins : (ctx : Context) (od flags : ℕ) → (leaves_whiteout flags && has_no_number old) ≡ false
+  begins : (ctx : Context) (od flags : ℕ) → (nat_le 4 flags && has_no_number old) ≡ false
       → StaysWithin old (begun old (white_of old ctx od flags))
-  begins ctx od flags room = by (leaves_whiteout flags) room
+  begins ctx od flags room = by (nat_le 4 flags) room
     where
       by : (t : Bool) → (t && has_no_number old) ≡ false
           → StaysWithin old (begun old (if t then Some (whiteout old ctx od) else None))
