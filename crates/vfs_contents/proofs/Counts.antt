@@ -3,7 +3,7 @@ use Rattle.std.proofs.Common.{◌≡◌, ◌≢◌, ◌≤◌, ◌<◌, ◌+◌,
 use Rattle.std.specs.Ordering.{match_ordering}
 use Rattle.std.specs.BTreeMap.{is_at}
 use Rattle.std.specs.BTreeSet.{insert_key}
-use Rattle.std.proofs.lemmas.Bool.{eqb-false}
+use Rattle.std.proofs.lemmas.Bool.{eqb-false, eqb-true}
 use Rattle.vfs_contents.specs.Pages.{holds, with_page, with_pages, missing, reach}
 use Rattle.vfs_contents.specs.Contents.{pages_over}
 use Rattle.vfs_contents.proofs.Held.{is_at_other}
@@ -83,6 +83,22 @@ reach_from held free n (suc k) =
     by true none same fewer = omega (arith, same)
     by false true same fewer = omega arith
     by false false same fewer = omega (arith, fewer)
+
+-- where all can be held it is the one behind them
+pub reach_all : (held : List ℕ) (free n count : ℕ) → count ≤ free
+    → reach held free n count ≡ n + count
+reach_all held free n zero room = omega arith
+reach_all held free n (suc k) room =
+    by (holds held n) (free == 0) refl (reach_all held free (n + 1) k (omega arith))
+    (λ more. reach_all held (free - 1) (n + 1) k more)
+  where
+    by : (there none : Bool) → (free == 0) ≡ none → reach held free (n + 1) k ≡ n + 1 + k
+        → (k ≤ free - 1 → reach held (free - 1) (n + 1) k ≡ n + 1 + k)
+        → cond there (reach held free (n + 1) k)
+        (cond none n (reach held (free - 1) (n + 1) k)) ≡ n + suc k
+    by true none is same fewer = omega (arith, same)
+    by false true is same fewer = absurd (omega (arith, eqb-true free 0 is))
+    by false false is same fewer = omega (arith, fewer (omega arith))
 
 -- up to the first that can't be held no more are missing than can be
 missing_within : (held : List ℕ) (free n count some : ℕ) → n + some ≤ reach held free n count

@@ -97,6 +97,9 @@ impl Contents {
         ensures stop { result ≡ reach self.now.held free first (end - first) }
         ensures within { result ≤ end }
     {
+        if end - first <= free {
+            return end;
+        }
         let mut left = free;
         'go: for page in first..end {
             if self.pages.holds(page) {

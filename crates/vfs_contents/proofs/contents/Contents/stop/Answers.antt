@@ -1,9 +1,16 @@
-use Rattle.std.proofs.Common.{◌≡◌, ◌+◌, ◌-◌, ◌==◌, ℕ, true, false, cond, sym, ap, ◌∙◌}
+use Rattle.std.proofs.Common.{◌≡◌, ◌+◌, ◌-◌, ◌==◌, ℕ, true, false, cond, sym, ap, ◌∙◌, arith}
 use Rattle.std.proofs.lemmas.Bool.{cond-true, cond-false, ne_eqb}
 use Rattle.vfs_contents.specs.Pages.{holds, reach}
 use Rattle.vfs_contents.specs.Contents.{Contents}
+use Rattle.vfs_contents.proofs.Counts.{reach_all}
 use Rattle.vfs_contents.proofs.Held.{reach_more}
 use Rattle.vfs_contents.proofs.contents.Contents.stop.Goals as goal
+
+pub returns-then-end-first-clause-stop : goal.returns-then-end-first-clause-stop
+returns-then-end-first-clause-stop c =
+    let held = c.args.self.now.held in
+    let all = reach_all held c.args.free c.args.first (c.args.end - c.args.first) (omega arith) in
+    omega (arith, all)
 
 pub go-preserved-then-holds : goal.go-preserved-then-holds
 go-preserved-then-holds c =
