@@ -51,6 +51,10 @@ module _ {X : Type 0} where
       by true later = refl
       by false later = later
 
+  pub held_found : (es : List (ℕ × X)) (n : ℕ) (o : Option X)
+      → lookup (is_at (nat_cmp n)) es ≡ o → holds (keys_of es) n ≡ is_some o
+  held_found es n o is = sym (found-any (is_at (nat_cmp n)) es) ∙ ap is_some is
+
   none_found : (o : Option X) → is_some o ≡ false → o ≡ None
   none_found None none = refl
   none_found (Some x) none = cc

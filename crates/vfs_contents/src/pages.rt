@@ -163,10 +163,10 @@ impl Pages {
     }
 
     /// Writes the front of these bytes over those from a place on, as many as its page has, and
-    /// answers how many. The page is held.
+    /// answers how many: none where the page is not held.
     pub(crate) fn put(&mut self, at: u64, bytes: &[u8]) -> usize
-        requires { holds (keys_of self.old) (at / 4096) ≡ true }
-        ensures count { result ≡ min (length bytes.now) (4096 - at % 4096) }
+        ensures count { result ≡ (if holds (keys_of self.old) (at / 4096)
+            then min (length bytes.now) (4096 - at % 4096) else 0) }
         ensures keys { keys_of self.new ≡ keys_of self.old }
         ensures bytes { (place : ℕ) → byte_at self.new place
             ≡ byte_over at (take result bytes.now) (byte_at self.old) place }
@@ -174,7 +174,7 @@ impl Pages {
         let from = (at % PAGE as u64) as usize;
         let count = bytes.len().min(PAGE - from);
         let Some(page) = self.pages.get_mut(&(at / PAGE as u64)) else {
-            unreachable!()
+            return 0;
         };
         page.slice_mut(from..from + count)
             .copy_from_slice(&bytes[..count]);

@@ -6,7 +6,7 @@ ghost use Rattle.std.specs.List.{concat};
 ghost use Rattle.vfs_flags.specs.Numbers.{ebadf};
 ghost use Rattle.vfs_contents.specs.Pages.{byte_at, byte_over, holds};
 
-use crate::pages::{PAGE, Pages};
+use crate::pages::Pages;
 use std::marker::Model;
 use vfs_files::{Bytes, ZeroCopyReader};
 use vfs_flags::{Errno, Fault};
@@ -62,9 +62,6 @@ impl PositionedFile for Pages {
         off: u64,
         _flags: Option<WritevFlags>,
     ) -> Result<usize, Fault> {
-        if !self.holds(off / PAGE as u64) {
-            return Ok(0);
-        }
         Ok(self.put(off, first_piece(view)))
     }
 

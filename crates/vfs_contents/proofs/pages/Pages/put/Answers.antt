@@ -1,20 +1,32 @@
-use Rattle.std.proofs.Common.{◌≡◌, ◌≤◌, ◌+◌, ◌/◌, ◌%◌, ℕ, List, length, take, true, nat_cmp, is_some, sym, ap, ◌∙◌, arith, rules, length-take}
+use Rattle.std.proofs.Common.{◌≡◌, ◌≤◌, ◌+◌, ◌-◌, ◌/◌, ◌%◌, ℕ, List, length, take, min, true, false, Some, None, sym, ap, ◌∙◌, arith, rules, length-take}
 use Rattle.std.specs.Map.{keys_of}
-use Rattle.std.specs.BTreeMap.{is_at}
 use Rattle.std.specs.Vec.{with_items_from}
-use Rattle.std.proofs.lemmas.Bool.{both_ways}
+use Rattle.std.proofs.lemmas.Bool.{cond-true, cond-false}
 use Rattle.vfs_contents.specs.Pages.{Pages, byte_at, byte_over, holds}
-use Rattle.vfs_contents.proofs.Held.{found-any, bytes_put, put_items, whole_at}
+use Rattle.vfs_contents.proofs.Held.{held_found, bytes_put, put_items, whole_at}
 use Rattle.vfs_contents.proofs.pages.Pages.put.Goals as goal
 
-pub unreachable-requires : goal.unreachable-requires
-unreachable-requires c =
-    let s = c.self.inside.pages.entries in
+pub returns-in_default-clause-count : goal.returns-in_default-clause-count
+returns-in_default-clause-count c =
     let n : ℕ = c.args.at / 4096 in
-    let there : holds (keys_of s) n ≡ true =
-    ap (λ (es : Pages). holds (keys_of es) n) c.self.view_is ∙ c.requires in
-    both_ways (holds (keys_of s) n)
-    (sym (found-any (is_at (nat_cmp n)) s) ∙ ap is_some (sym c.in_default.ensures.value)) there
+    let free : holds (keys_of c.args.self.now) n ≡ false =
+    ap (λ (es : Pages). holds (keys_of es) n) (sym c.self.view_is)
+    ∙ held_found c.self.inside.pages.entries n None (sym c.in_default.ensures.value) in
+    sym (cond-false (holds (keys_of c.args.self.now) n)
+    (min (length c.args.bytes.now) (4096 - c.args.at % 4096)) 0 free)
+
+pub returns-clause-count : goal.returns-clause-count
+returns-clause-count c =
+    let n : ℕ = c.args.at / 4096 in
+    let there : holds (keys_of c.args.self.now) n ≡ true =
+    ap (λ (es : Pages). holds (keys_of es) n) (sym c.self.view_is)
+    ∙ held_found c.self.inside.pages.entries n (Some c.in-Some.page.now) (sym c.in-Some.ensures.value) in
+    omega (
+      arith,
+      c.min-count.ensures,
+      cond-true (holds (keys_of c.args.self.now) n)
+          (min (length c.args.bytes.now) (4096 - c.args.at % 4096)) 0 there,
+    )
 
 pub returns-clause-bytes : goal.returns-clause-bytes
 returns-clause-bytes c =
