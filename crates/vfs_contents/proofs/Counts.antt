@@ -32,7 +32,7 @@ length-with_page held n = by (holds held n) (length-insert_key held n)
     by false more = more refl
 
 -- and the others are held as they were
-holds_inserted : (ks : List ℕ) (n m : ℕ) → m ≢ n → holds (insert_key nat_cmp ks n) m ≡ holds ks m
+pub holds_inserted : (ks : List ℕ) (n m : ℕ) → m ≢ n → holds (insert_key nat_cmp ks n) m ≡ holds ks m
 holds_inserted [] n m apart = ap (λ t. t || false) (is_at_other m n apart)
 holds_inserted (k ∷ ks) n m apart = by (nat_cmp n k) (holds_inserted ks n m apart)
   where

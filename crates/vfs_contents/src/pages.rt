@@ -1,6 +1,6 @@
 //! Pages of bytes, by their numbers.
 
-ghost use Rattle.std.specs.Prelude.{◌≡◌, ◌≤◌, ◌<◌, ◌+◌, ◌-◌, ◌/◌, ◌%◌, ◌^◌, min, ℕ, [], ◌∷◌, true, false, nat_lt, length, take, slice_index, replicate, Some, IfErr, OnOk, MatchOption, Vec, if◌then◌else◌};
+ghost use Rattle.std.specs.Prelude.{◌≡◌, ◌≤◌, ◌<◌, ◌+◌, ◌-◌, ◌/◌, ◌%◌, ◌^◌, min, ℕ, [], ◌∷◌, true, false, nat_lt, length, take, slice_index, replicate, is_some, Some, IfErr, OnOk, MatchOption, Vec, if◌then◌else◌};
 ghost use Rattle.std.specs.List.{filter};
 ghost use Rattle.std.specs.Ordering.{nat_cmp};
 ghost use Rattle.std.specs.Map.{keys_of, remove_entry};
@@ -74,6 +74,16 @@ impl Pages {
         first_key(self.pages.range(page..))
     }
 
+    // Whether a page is held from one on.
+    fn holds_from(&self, page: u64) -> bool
+        ensures { result ≡ is_some (first_from (keys_of self.now) page) }
+    {
+        match self.pages.last_key_value() {
+            Some((last, _)) => page <= *last,
+            None => false,
+        }
+    }
+
     /// Holds so many pages from one on, those that were not held with zeros. ENOMEM where there is no
     /// memory for these, and all stays.
     pub(crate) fn hold(&mut self, alloc: Global, page: u64, count: u64) -> Result<(), Fault>
@@ -85,8 +95,9 @@ impl Pages {
             × (0 < missing (keys_of self.old) page count)) }
     {
         let mut added = Vec::new(alloc);
+        let some = self.holds_from(page);
         'hold: for n in page..page + count {
-            if self.holds(n) {
+            if some && self.holds(n) {
                 continue;
             }
             if let Err(fault) = self.add_noted(alloc, n, &mut added) {
