@@ -1,5 +1,5 @@
 -- Pages by their numbers: what is found where some were added, changed or let go.
-use Rattle.std.proofs.Common.{◌≡◌, ◌≢◌, ◌+◌, ◌-◌, ◌/◌, ◌%◌, ◌<◌, ◌≤◌, ℕ, zero, suc, Bool, true, false, cond, ◌||◌, ◌&&◌, ◌==◌, List, [], ◌∷◌, ◌++◌, length, take, drop, filter, nat_le, nat_lt, replicate, length-take, length-drop, length-append, get_or, Option, Some, None, is_some, IsSome, IfSome, is_lt, nat_cmp, is_eq, Ordering, Less, Equal, Greater, refl, sym, ap, ◌∙◌, ⊎_elim, arith, Vec}
+use Rattle.std.proofs.Common.{◌≡◌, ◌≢◌, ◌+◌, ◌-◌, ◌/◌, ◌%◌, ◌<◌, ◌≤◌, ℕ, zero, suc, Bool, true, false, cond, ◌||◌, ◌&&◌, ◌==◌, List, [], ◌∷◌, ◌++◌, length, take, drop, filter, nat_le, nat_lt, replicate, length-take, length-append, get_or, Option, Some, None, is_some, IsSome, IfSome, is_lt, nat_cmp, is_eq, Ordering, Less, Equal, Greater, refl, sym, ap, ◌∙◌, ⊎_elim, arith, Vec}
 use Rattle.std.specs.List.{list_any}
 use Rattle.std.specs.Ordering.{match_ordering}
 use Rattle.std.specs.Cmp.{nat_cmp_is}
@@ -11,10 +11,9 @@ use Rattle.std.proofs.lemmas.Bool.{cases_Bool, cases_eq, cases_lt, cond-true, co
 use Rattle.std.proofs.lemmas.Option.{none-some}
 use Rattle.std.proofs.lemmas.Map.Entries.{lookup-filter-keys}
 use Rattle.std.proofs.lemmas.Cmp.{nat_cmp_total, tied_itself}
-use Rattle.std.proofs.lemmas.List.{get_or_append_left, get_or-append_right, get_or-take, get_or-drop, with_items_is}
-use Rattle.std.specs.Vec.{with_items_from}
+use Rattle.std.proofs.lemmas.List.{get_or_append_left, get_or-append_right, get_or-take, get_or-drop, get_or_past, length-replicate}
 use Rattle.std.proofs.lemmas.Map.Lookups.{exact_unsigned}
-use Rattle.vfs_contents.specs.Pages.{Pages, AreWhole, bytes_in, page_at, byte_at, byte_over, holds, with_page, with_pages, missing, reach, undone}
+use Rattle.vfs_contents.specs.Pages.{Pages, IsPage, ArePages, bytes_in, page_at, byte_at, byte_over, holds, with_page, with_pages, missing, reach, undone}
 
 -- ---- numbers as keys
 
@@ -178,6 +177,39 @@ list_over from bs xs i fits =
     (cases_lt (i - from) (length bs)))
     (cases_lt i from)
 
+-- and where they reach behind its end
+pub list_on : (from : ℕ) (bs xs : List ℕ) (i : ℕ) → length xs < from + length bs
+    → get_or ((take from xs ++ replicate (from - length xs) 0) ++ bs) i 0
+    ≡ byte_over from bs (λ i. get_or xs i 0) i
+list_on from bs xs i past =
+    let k : ℕ = from - length xs in
+    let head = take from xs in
+    let front = head ++ replicate k 0 in
+    let cut = length-take from xs in
+    let long : length front ≡ from =
+    omega (arith, cut, length-append head (replicate k 0), length-replicate {A = ℕ} k 0) in
+    ⊎_elim
+    (λ (before : i < from).
+    get_or_append_left front bs 0 i (omega arith)
+    ∙ ⊎_elim
+    (λ (inside : i < length xs).
+    get_or_append_left head (replicate k 0) 0 i (omega arith) ∙ get_or-take from xs i 0 before)
+    (λ (behind : length xs ≤ i).
+    get_or-append_right head (replicate k 0) (length xs) i 0 (omega arith) behind
+    ∙ zero_at k (i - length xs) 0 ∙ sym (get_or_past xs i 0 behind))
+    (cases_lt i (length xs))
+    ∙ sym (over_before from bs (λ i. get_or xs i 0) i before))
+    (λ (at : from ≤ i).
+    get_or-append_right front bs from i 0 long at
+    ∙ ⊎_elim
+    (λ (within : i - from < length bs).
+    sym (over_in from bs (λ i. get_or xs i 0) i at (omega arith)))
+    (λ (behind : length bs ≤ i - from).
+    get_or_past bs (i - from) 0 behind ∙ sym (get_or_past xs i 0 (omega arith))
+    ∙ sym (over_behind from bs (λ i. get_or xs i 0) i (omega arith)))
+    (cases_lt (i - from) (length bs)))
+    (cases_lt i from)
+
 -- bytes that are written within a page, at its place and at that of the file
 over_moved : (at page from : ℕ) (bs xs : List ℕ) (old : ℕ → ℕ) (place : ℕ)
     → page ≡ at / 4096 → from ≡ at % 4096 → page ≡ place / 4096
@@ -208,17 +240,16 @@ pub bytes_put : (old new : Pages) (at page from : ℕ) (v w : Vec ℕ Global) (b
     → lookup (is_at (nat_cmp page)) new ≡ Some w
     → ((q : ℕ) → is_at (nat_cmp page) q ≡ false
     → lookup (is_at (nat_cmp q)) new ≡ lookup (is_at (nat_cmp q)) old)
-    → page ≡ at / 4096 → from ≡ at % 4096 → length v.items ≡ 4096 → from + length bs ≤ 4096
-    → w.items ≡ take from v.items ++ (bs ++ drop (length bs) (drop from v.items))
+    → page ≡ at / 4096 → from ≡ at % 4096 → from + length bs ≤ 4096
+    → ((i : ℕ) → get_or w.items i 0 ≡ byte_over from bs (λ i. get_or v.items i 0) i)
     → (place : ℕ) → byte_at new place ≡ byte_over at bs (byte_at old) place
 unfolding byte_at
-bytes_put old new at page from v w bs was is others number rest whole fits put place =
+bytes_put old new at page from v w bs was is others number rest fits put place =
     ⊎_elim
     (λ (here : page ≡ place / 4096).
     ap (λ n. get_or (page_at new n) (place % 4096) 0) (sym here)
     ∙ ap (λ o. get_or (bytes_in o) (place % 4096) 0) is
-    ∙ ap (λ (l : List ℕ). get_or l (place % 4096) 0) put
-    ∙ list_over from bs v.items (place % 4096) (omega arith)
+    ∙ put (place % 4096)
     ∙ over_moved at page from bs v.items (byte_at old) place number rest here
     (ap (λ n. get_or (page_at old n) (place % 4096) 0) (sym here)
     ∙ ap (λ o. get_or (bytes_in o) (place % 4096) 0) was))
@@ -311,34 +342,30 @@ bytes_filtered p old new is place =
     by true = refl
     by false = refl
 
--- ---- pages that are whole
+-- ---- what holds of each page
 
-pub whole_at : (pages : Pages) (n : ℕ) (v : Vec ℕ Global) → AreWhole pages
-    → lookup (is_at (nat_cmp n)) pages ≡ Some v → length v.items ≡ 4096
-whole_at pages n v whole is = rw is at (whole n)
-
-pub whole_less : (old new : Pages) (test : ℕ → Bool)
+-- where some are taken out
+pub pages_less : (old new : Pages) (test : ℕ → Bool)
     → ((q : ℕ) → lookup (is_at (nat_cmp q)) new ≡ cond (test q) None (lookup (is_at (nat_cmp q)) old))
-    → AreWhole old → AreWhole new
-whole_less old new test is whole n = by (test n) (is n)
+    → ArePages old → ArePages new
+pages_less old new test is each n = by (test n) (is n)
   where
     by : (t : Bool)
         → lookup (is_at (nat_cmp n)) new ≡ cond t None (lookup (is_at (nat_cmp n)) old)
-        → IfSome (lookup (is_at (nat_cmp n)) new) (λ page. length page.items ≡ 4096)
+        → IfSome (lookup (is_at (nat_cmp n)) new) (λ page. IsPage page)
     by true e = rw e tt
-    by false e = rw e (whole n)
+    by false e = rw e (each n)
 
 -- ---- a part of a page
 
-pub part_read : (pages : Pages) (at from k i : ℕ) (v : Vec ℕ Global)
-    → lookup (is_at (nat_cmp (at / 4096))) pages ≡ Some v → from ≡ at % 4096 → i < k
-    → from + i < 4096 → get_or (take k (drop from v.items)) i 0 ≡ byte_at pages (at + i)
+pub part_read : (pages : Pages) (at i : ℕ) (v : Vec ℕ Global)
+    → lookup (is_at (nat_cmp (at / 4096))) pages ≡ Some v → at % 4096 + i < 4096
+    → get_or v.items (at % 4096 + i) 0 ≡ byte_at pages (at + i)
 unfolding byte_at
-part_read pages at from k i v some rest within fits =
+part_read pages at i v some fits =
     let page : (at + i) / 4096 ≡ at / 4096 = omega arith in
-    let place : (at + i) % 4096 ≡ from + i = omega arith in
-    get_or-take k (drop from v.items) i 0 within ∙ get_or-drop from v.items i 0
-    ∙ ap (λ j. get_or v.items j 0) (sym place)
+    let place : (at + i) % 4096 ≡ at % 4096 + i = omega arith in
+    ap (λ j. get_or v.items j 0) (sym place)
     ∙ sym (ap (λ o. get_or (bytes_in o) ((at + i) % 4096) 0)
     (ap (λ n. lookup (is_at (nat_cmp n)) pages) page ∙ some))
 
@@ -422,23 +449,6 @@ pub none_there : {X Y : Type 0} (es : List X) (o : Option Y) → o ≡ None
 none_there [] o is some = refl
 none_there (e ∷ es) o is some =
     absurd (both_ways (is_some o) (ap is_some is) (some (omega arith)))
-
--- the bytes of a vector where some were written over
-pub put_items : (v : Vec ℕ Global) (from : ℕ) (bs : List ℕ) → from + length bs ≤ length v.items
-    → (with_items_from v from bs).items
-    ≡ take from v.items ++ (bs ++ drop (length bs) (drop from v.items))
-put_items v from bs fits =
-    let rest = drop (length bs) (drop from v.items) in
-    let size = v.ok.0 in
-    with_items_is v (take from v.items ++ (bs ++ rest)) (omega (
-      arith,
-      size,
-      length-append (take from v.items) (bs ++ rest),
-      length-append bs rest,
-      length-take from v.items,
-      length-drop (length bs) (drop from v.items),
-      length-drop from v.items,
-    ))
 
 -- no page, no byte
 pub no_bytes : (place : ℕ) → byte_at [] place ≡ 0

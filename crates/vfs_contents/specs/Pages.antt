@@ -1,5 +1,6 @@
--- Pages of 4096 bytes, by their numbers. One that is not held has zeros.
-use Rattle.std.specs.Prelude.{◌≡◌, ◌≤◌, ◌^◌, ◌+◌, ◌-◌, ◌/◌, ◌%◌, ◌&&◌, ◌==◌, nat_le, nat_lt, not, ℕ, zero, suc, Bool, List, [], ◌∷◌, length, slice_index, Option, Some, None, IfSome, if◌then◌else◌, Vec}
+-- Pages of 4096 bytes, by their numbers. Behind the bytes that one has are zeros, and one that is not held has
+-- none.
+use Rattle.std.specs.Prelude.{◌≤◌, ◌^◌, ◌+◌, ◌-◌, ◌/◌, ◌%◌, ◌&&◌, ◌==◌, nat_le, nat_lt, not, ℕ, zero, suc, Bool, List, [], ◌∷◌, length, slice_index, Option, Some, None, IfSome, if◌then◌else◌, Vec, vec_capacity}
 use Rattle.std.specs.List.{list_any, find}
 use Rattle.std.specs.Ordering.{nat_cmp}
 use Rattle.std.specs.Map.{lookup, remove_entry}
@@ -27,14 +28,17 @@ abbrev pub byte_over : (at : ℕ) → List ℕ → (old : ℕ → ℕ) → (plac
 byte_over at bytes old k =
     if nat_le at k && nat_lt k (at + length bytes) then slice_index bytes (k - at) else old k
 
--- each page that is held has 4096 bytes
-abbrev pub AreWhole : Pages → Type 0
-AreWhole pages =
-    (n : ℕ) → IfSome (lookup (is_at (nat_cmp n)) pages) (λ page. length page.items ≡ 4096)
+-- a page that is held: it has room for 4096 bytes, and behind those that it has are zeros
+pub record IsPage (page : Vec ℕ Global) : Type 0 where
+  pub within : length page.items ≤ 4096
+  pub room : 4096 ≤ vec_capacity page
 
--- what holds of pages: each is whole, and they are not more than so many, which no memory has room for
+abbrev pub ArePages : Pages → Type 0
+ArePages pages = (n : ℕ) → IfSome (lookup (is_at (nat_cmp n)) pages) (λ page. IsPage page)
+
+-- what holds of pages: each is one, and they are not more than so many, which no memory has room for
 pub record AreSound (pages : Pages) : Type 0 where
-  pub whole : AreWhole pages
+  pub each : ArePages pages
   pub few : length pages ≤ 2 ^ 50
 
 -- ---- which are held

@@ -1,6 +1,7 @@
 //! The bytes of a file in memory, in pages: what was never written takes none.
 //!
-//! [`Contents`] is such bytes. A page has 4096 of them; one that isn't held has zeros.
+//! [`Contents`] is such bytes. A page has 4096 of them; those that aren't kept are zeros, as all are of one that
+//! isn't held.
 #![tactic(auto)]
 
 mod contents;

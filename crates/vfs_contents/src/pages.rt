@@ -1,6 +1,6 @@
 //! Pages of bytes, by their numbers.
 
-ghost use Rattle.std.specs.Prelude.{◌≡◌, ◌≤◌, ◌<◌, ◌+◌, ◌-◌, ◌/◌, ◌%◌, ◌^◌, min, ℕ, [], ◌∷◌, true, false, nat_lt, length, take, slice_index, replicate, is_some, Some, IfErr, OnOk, MatchOption, Vec, if◌then◌else◌};
+ghost use Rattle.std.specs.Prelude.{◌≡◌, ◌≤◌, ◌<◌, ◌+◌, ◌-◌, ◌/◌, ◌%◌, ◌^◌, min, max, ℕ, [], ◌∷◌, true, false, nat_lt, length, take, slice_index, replicate, is_some, Some, IfErr, OnOk, MatchOption, Vec, vec_capacity, if◌then◌else◌};
 ghost use Rattle.std.specs.List.{filter};
 ghost use Rattle.std.specs.Ordering.{nat_cmp};
 ghost use Rattle.std.specs.Map.{keys_of, remove_entry};
@@ -14,7 +14,6 @@ use std::alloc::Global;
 use std::collections::BTreeMap;
 use std::collections::btree_map::Range;
 use std::marker::Model;
-use vfs_files::copy_of;
 use vfs_flags::{Errno, Fault};
 
 /// How many bytes a page has.
@@ -139,7 +138,7 @@ impl Pages {
         }
     }
 
-    // Adds a page of zeros that is not held. ENOMEM where there is no memory for it, and all stays.
+    // Adds a page that is not held, with no bytes yet. ENOMEM where there is no memory for it, and all stays.
     fn add(&mut self, alloc: Global, page: u64) -> Result<(), Fault>
         requires { holds (keys_of self.old) page ≡ false }
         ensures keys { OnOk result (keys_of self.new ≡ insert_key nat_cmp (keys_of self.old) page) }
@@ -151,14 +150,16 @@ impl Pages {
         if self.pages.len() >= MOST_PAGES {
             return Err(Some(Errno::ENOMEM));
         }
-        let bytes = copy_of(alloc, zeros(PAGE))?;
+        let Ok(bytes) = Vec::with_capacity(alloc, PAGE) else {
+            return Err(Some(Errno::ENOMEM));
+        };
         match self.pages.insert(page, bytes) {
             Ok(_) => Ok(()),
             Err(_) => Err(Some(Errno::ENOMEM)),
         }
     }
 
-    /// The bytes from a place on, as many as its page has and at most so many.
+    /// The bytes from a place on, of its page and at most so many.
     pub(crate) fn part(&self, at: u64, most: usize) -> &[u8]
         ensures some { 0 < most → 0 < length result.now }
         ensures within { length result.now ≤ most }
@@ -168,7 +169,7 @@ impl Pages {
         let from = (at % PAGE as u64) as usize;
         let count = most.min(PAGE - from);
         match self.pages.get(&(at / PAGE as u64)) {
-            Some(page) => &page[from..from + count],
+            Some(page) => piece(page, from, count),
             None => zeros(count),
         }
     }
@@ -187,8 +188,7 @@ impl Pages {
         let Some(page) = self.pages.get_mut(&(at / PAGE as u64)) else {
             return 0;
         };
-        page.slice_mut(from..from + count)
-            .copy_from_slice(&bytes[..count]);
+        write_over(page, from, &bytes[..count]);
         count
     }
 
@@ -258,6 +258,39 @@ fn first_key(mut pages: Range<'_, u64, Vec<u8>>) -> Option<u64>
         Some((n, _)) => Some(*n),
         None => None,
     }
+}
+
+// The bytes of a page from a place on, at most so many, or zeros where there are none.
+fn piece(page: &[u8], from: usize, most: usize) -> &[u8]
+    requires { most ≤ 4096 }
+    ensures some { 0 < most → 0 < length result.now }
+    ensures within { length result.now ≤ most }
+    ensures bytes { (i : ℕ) → i < length result.now
+        → slice_index result.now i ≡ slice_index page.now (from + i) }
+{
+    if page.len() <= from {
+        return zeros(most);
+    }
+    let count = most.min(page.len() - from);
+    &page[from..from + count]
+}
+
+// Writes these bytes over those of a page from a place on, with zeros before them where it has fewer
+// bytes. It has room for them, so that no memory is needed.
+fn write_over(page: &mut Vec<u8>, from: usize, bytes: &[u8])
+    requires { from + length bytes.now ≤ vec_capacity page.old }
+    ensures bytes { (i : ℕ) → slice_index page.new.items i
+        ≡ byte_over from bytes.now (slice_index page.old.items) i }
+    ensures len { length page.new.items ≡ max (length page.old.items) (from + length bytes.now) }
+    ensures room { vec_capacity page.old ≤ vec_capacity page.new }
+{
+    if from + bytes.len() <= page.len() {
+        page.slice_mut(from..from + bytes.len())
+            .copy_from_slice(bytes);
+        return;
+    }
+    let _ = page.resize(from, 0);
+    let _ = page.extend_from_slice(bytes);
 }
 
 // So many zeros.

@@ -2,7 +2,7 @@ use Rattle.std.proofs.Common.{◌≡◌, [], nat_lt, filter, sym, ap, ◌∙◌,
 use Rattle.std.specs.Map.{keys_of}
 use Rattle.std.proofs.lemmas.Bool.{le-ltb}
 use Rattle.vfs_contents.specs.Pages.{Pages}
-use Rattle.vfs_contents.proofs.Held.{filter_removed, filter_none, keys-filter, bytes_filtered, none_behind, none_there, whole_less}
+use Rattle.vfs_contents.proofs.Held.{filter_removed, filter_none, keys-filter, bytes_filtered, none_behind, none_there, pages_less}
 use Rattle.vfs_contents.proofs.pages.Pages.cut.Goals as goal
 
 pub cut-preserved-else-last-page : goal.cut-preserved-else-last-page
@@ -14,8 +14,8 @@ cut-preserved-else-last-page c =
           ∙ filter_removed (λ n. nat_lt n page) _ (le-ltb _ page c.if-last-page.false) now
           ∙ c.cut.invariant.left;
       sound = record {
-        whole = whole_less now c.remove.new.self.entries _ c.remove.ensures.updates.0
-            c.cut.invariant.sound.whole;
+        each = pages_less now c.remove.new.self.entries _ c.remove.ensures.updates.0
+            c.cut.invariant.sound.each;
         few = omega (arith, c.remove.ensures.len, c.cut.invariant.sound.few);
       };
     }

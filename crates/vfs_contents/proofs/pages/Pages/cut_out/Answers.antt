@@ -2,7 +2,7 @@ use Rattle.std.proofs.Common.{nat_cmp, filter, sym, ap, ◌∙◌, arith}
 use Rattle.std.specs.Map.{keys_of}
 use Rattle.std.specs.BTreeMap.{is_at}
 use Rattle.vfs_contents.specs.Pages.{Pages, is_outside}
-use Rattle.vfs_contents.proofs.Held.{filter_removed, filter_none, keys-filter, bytes_filtered, whole_less}
+use Rattle.vfs_contents.proofs.Held.{filter_removed, filter_none, keys-filter, bytes_filtered, pages_less}
 use Rattle.vfs_contents.proofs.Punch.{between, first_goes, none_goes}
 use Rattle.vfs_contents.proofs.pages.Pages.cut_out.Goals as goal
 
@@ -25,8 +25,8 @@ out-preserved-in-Some c =
       left = ap (filter (λ e. stays e.0)) c.remove.ensures.entries ∙ filter_removed stays n goes now
           ∙ c.out.invariant.left;
       sound = record {
-        whole = whole_less now c.remove.new.self.entries (is_at (nat_cmp n)) c.remove.ensures.updates.0
-            c.out.invariant.sound.whole;
+        each = pages_less now c.remove.new.self.entries (is_at (nat_cmp n)) c.remove.ensures.updates.0
+            c.out.invariant.sound.each;
         few = omega (arith, c.remove.ensures.len, c.out.invariant.sound.few);
       };
     }

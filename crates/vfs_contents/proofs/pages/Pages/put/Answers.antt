@@ -1,9 +1,8 @@
 use Rattle.std.proofs.Common.{◌≡◌, ◌≤◌, ◌+◌, ◌-◌, ◌/◌, ◌%◌, ℕ, List, length, take, min, true, false, Some, None, sym, ap, ◌∙◌, arith, rules, length-take}
 use Rattle.std.specs.Map.{keys_of}
-use Rattle.std.specs.Vec.{with_items_from}
 use Rattle.std.proofs.lemmas.Bool.{cond-true, cond-false}
 use Rattle.vfs_contents.specs.Pages.{Pages, byte_at, byte_over, holds}
-use Rattle.vfs_contents.proofs.Held.{held_found, bytes_put, put_items, whole_at}
+use Rattle.vfs_contents.proofs.Held.{held_found, bytes_put}
 use Rattle.vfs_contents.proofs.pages.Pages.put.Goals as goal
 
 pub returns-in_default-clause-count : goal.returns-in_default-clause-count
@@ -34,17 +33,12 @@ returns-clause-bytes c =
     let s = c.self.inside.pages.entries in
     let from : ℕ = c.args.at % 4096 in
     let v = c.in-Some.page.now in
-    let bs = c.copy_from_slice.new.self in
-    let w = with_items_from v from bs in
-    let same : bs ≡ take c.min-count.result c.args.bytes.now = c.copy_from_slice.ensures.after in
+    let w = c.write_over.new.page in
+    let bs : List ℕ = take c.min-count.result c.args.bytes.now in
     let fits : from + length bs ≤ 4096 =
-    omega (arith, ap length same, length-take c.min-count.result c.args.bytes.now, c.min-count.ensures) in
-    let was = sym c.in-Some.ensures.value in
-    let whole = whole_at s (c.args.at / 4096) v c.self.invariant.whole was in
+    omega (arith, length-take c.min-count.result c.args.bytes.now, c.min-count.ensures) in
     let updates = (c.get_mut.follows.holds w).3 (search rules) in
     bytes_put s (c.get_mut.follows.lender w).entries c.args.at (c.args.at / 4096) from v w bs
-    was updates.1 updates.2 (search rules) (search rules)
-    whole fits (put_items v from bs (omega (arith, whole, fits))) place
-    ∙ ap (λ (l : List ℕ). byte_over c.args.at l (byte_at s) place) same
-    ∙ ap (λ (es : Pages). byte_over c.args.at (take c.min-count.result c.args.bytes.now) (byte_at es) place)
-    c.self.view_is
+    (sym c.in-Some.ensures.value) updates.1 updates.2 (search rules) (search rules)
+    fits c.write_over.ensures.bytes place
+    ∙ ap (λ (es : Pages). byte_over c.args.at bs (byte_at es) place) c.self.view_is

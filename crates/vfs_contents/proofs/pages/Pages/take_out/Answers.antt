@@ -1,7 +1,7 @@
 use Rattle.std.proofs.Common.{ℕ, List, nat_cmp, arith, sym, ap, ◌∙◌}
 use Rattle.std.specs.BTreeMap.{is_at}
 use Rattle.vfs_contents.specs.Pages.{undone}
-use Rattle.vfs_contents.proofs.Held.{undone-append, whole_less}
+use Rattle.vfs_contents.proofs.Held.{undone-append, pages_less}
 use Rattle.vfs_contents.proofs.pages.Pages.take_out.Goals as goal
 
 pub out-preserved : goal.out-preserved
@@ -14,8 +14,8 @@ out-preserved c =
           ∙ ap (λ (ns : List ℕ). undone ns now) (sym c.in-Some.ensures.items)
           ∙ c.out.invariant.undo;
       sound = record {
-        whole = whole_less now c.remove.new.self.entries (is_at (nat_cmp page)) c.remove.ensures.updates.0
-            c.out.invariant.sound.whole;
+        each = pages_less now c.remove.new.self.entries (is_at (nat_cmp page)) c.remove.ensures.updates.0
+            c.out.invariant.sound.each;
         few = omega (arith, c.remove.ensures.len, c.out.invariant.sound.few);
       };
     }
@@ -30,8 +30,8 @@ out-preserved-in-Some c =
           ∙ ap (λ (ns : List ℕ). undone ns now) (sym c.in-Some.ensures.items)
           ∙ c.out.invariant.undo;
       sound = record {
-        whole = whole_less now c.remove.new.self.entries (is_at (nat_cmp page)) c.remove.ensures.updates.0
-            c.out.invariant.sound.whole;
+        each = pages_less now c.remove.new.self.entries (is_at (nat_cmp page)) c.remove.ensures.updates.0
+            c.out.invariant.sound.each;
         few = omega (arith, c.remove.ensures.len, c.out.invariant.sound.few);
       };
     }
