@@ -4,7 +4,8 @@
  * A transport takes a request from its queue, calls nizwarf_message with the segments of the request
  * and of the room for its reply, and completes the request with the length that it is told. Of the
  * library's own functions, at the end, each promise is proved (crates/vfs_c); the ones for a transport
- * look at pointers first, and copy replies into the room by calls of nizwarf_copy_at.
+ * look at pointers first, and copy replies into the room by calls of nizwarf_copy_at. Or it calls
+ * nizwarf_message_take, by which no reply is copied.
  *
  * What holds from nizwarf_new on, whatever requests come, in whatever calls, and whenever the time is told.
  * Each request that nizwarf_message hands to the server is answered as the next one of one session. Over
@@ -16,8 +17,10 @@
  *
  * Who owns what. A nizwarf_server is a variable of yours that begins as NIZWARF_NONE. From then on only
  * the functions here read or write it, and it is not copied: what it points to is the library's, from
- * nizwarf_new up to nizwarf_end. Segments and rooms are yours, and lent for the length of a call; no
- * pointer to them is kept. A server keeps memory as long as the longest room that it was given.
+ * nizwarf_new up to nizwarf_end. So is a nizwarf_taken, from the first call that it is lent to up to
+ * nizwarf_end_taken; it belongs to no server, and what was taken stays after the server's end. Segments and
+ * rooms are yours, and lent for the length of a call; no pointer to them is kept. A server keeps memory as
+ * long as the longest room that it was given, and a nizwarf_taken memory that a server kept.
  *
  * Memory. A segment or a room is `len` bytes at `at`, at most SSIZE_MAX, all of them initialised and
  * aligned in no way; `at` isn't NULL, also where `len` is 0. Segments may overlap one another. Bytes of
@@ -25,9 +28,11 @@
  * may overlap the request, since it is written once the request was read; it overlaps no server and no
  * `*len`. A length that is longer than the memory is a fault that no function can see.
  *
- * Threads. One caller at a time for each server, and each server stays on the thread that made it.
- * Servers on several threads have nothing in common. No function is called from a signal handler, or
- * from the child of a fork of a process with threads.
+ * Threads. One call at a time for each server, on any thread: a call comes after the one before by a lock, by
+ * the start or the end of a thread, or by a sequentially consistent atomic. So it is with a nizwarf_taken,
+ * and with the reply that was taken: it is read while no call has its nizwarf_taken. Two servers, or two
+ * nizwarf_takens, have nothing in common. No function is called from a signal handler, or from the child of
+ * a fork of a process with threads.
  *
  * The heap is malloc, realloc and free of the C library that is linked. A server that refuses a request
  * for want of memory goes on with the next.
@@ -61,6 +66,12 @@ typedef struct {
 	void *at;
 } nizwarf_server;
 
+/* The memory of a reply that was taken out of a server, or none. */
+typedef struct {
+	void *at;
+} nizwarf_taken;
+
+/* Either begins so. */
 #define NIZWARF_NONE { 0 }
 
 /* A piece of a request. */
@@ -74,6 +85,13 @@ typedef struct {
 	void *at;
 	size_t len;
 } nizwarf_room;
+
+/* Where a reply lies that was taken: `len` bytes, from `start` past `at` on. Where `len` is 0, `at` may point
+ * anywhere. */
+typedef struct {
+	const uint8_t *at;
+	size_t start, len;
+} nizwarf_place;
 
 /* What a new file system is, without padding. One over something else than a tree in memory takes of it
  * what it wants. */
@@ -142,6 +160,8 @@ int32_t nizwarf_tell_time_at(nizwarf_server *server, uint64_t seconds, uint32_t 
 int32_t nizwarf_message_at(nizwarf_server *server, const nizwarf_segment *request, size_t segments,
 			   size_t room, size_t *len);
 size_t nizwarf_copy_at(nizwarf_server *server, size_t at, uint8_t *piece, size_t piece_len);
+int32_t nizwarf_take_at(nizwarf_server *server, nizwarf_taken *taken, nizwarf_place *place);
+int32_t nizwarf_end_taken_at(nizwarf_taken *taken);
 uint64_t nizwarf_options_at(nizwarf_server *server);
 uint32_t nizwarf_max_buffer_at(nizwarf_server *server);
 int32_t nizwarf_end_at(nizwarf_server *server);
@@ -219,6 +239,46 @@ static inline int32_t nizwarf_message(nizwarf_server *server,
 		at += copied;
 	}
 	return code;
+}
+
+/* Answers one request as nizwarf_message does, and copies nothing: the reply is taken out of the server. It is
+ * the `*len` bytes at `*reply`, up to the next call with `taken`, whatever becomes of the server meanwhile.
+ * `room` is how many bytes it has at most. Where there is none, `*reply` is NULL and `*len` 0; so it is after
+ * each refusal, also after NIZWARF_ENCODE_MESSAGE. */
+static inline int32_t nizwarf_message_take(nizwarf_server *server,
+					   const nizwarf_segment *request, size_t segments, size_t room,
+					   nizwarf_taken *taken, const void **reply, size_t *len)
+{
+	const nizwarf_segment none = { "", 0 };
+	nizwarf_place place = { NULL, 0, 0 };
+	size_t total;
+	int32_t code;
+
+	if (reply)
+		*reply = NULL;
+	if (len)
+		*len = 0;
+	if (!server || !taken || !reply || !len)
+		return NIZWARF_NULL;
+	code = nizwarf_add_up(request, segments, NULL, 0, &total);
+	if (code != NIZWARF_OK)
+		return code;
+	/* (first without a reply: then `taken` has memory, and none is wanted for the reply that comes) */
+	code = nizwarf_take_at(server, taken, &place);
+	if (code == NIZWARF_OK)
+		code = nizwarf_message_at(server, segments ? request : &none, segments, room, len);
+	if (code != NIZWARF_OK || !*len)
+		return code;
+	code = nizwarf_take_at(server, taken, &place);
+	*len = place.len;
+	*reply = place.at + place.start;
+	return code;
+}
+
+/* Gives the memory back of a reply that was taken, and with it the reply. NIZWARF_NO_SERVER: there was none. */
+static inline int32_t nizwarf_end_taken(nizwarf_taken *taken)
+{
+	return taken ? nizwarf_end_taken_at(taken) : NIZWARF_NULL;
 }
 
 /* The options that the last INIT agreed on: its `flags` are bits 0 to 31, its `flags2` bits 32 to 63. 0

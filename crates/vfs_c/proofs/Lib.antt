@@ -1,4 +1,6 @@
+mod Crosses
 mod Steps
 mod Histories
 mod Calling
 mod NothingFound
+mod NothingTaken

@@ -110,29 +110,33 @@ module _ {A : Type 0} (server : A → ServerState State) (left : A → List ℕ)
       subst (λ (o : Option A). MatchOption o ⊥ (λ t. server t ≡ told_time (server s) 1 0))
       (sym is.1) (tells s)
 
-  -- a new server that was told the time, and asked for the name
-  pub nothing_found : (settings : Settings) (request : List ℕ) (code : ℤ) (len count : ℕ)
-      (piece after : List ℕ) (a b c : Option A)
+  -- what a new server left that was told the time, and asked for the name
+  pub nothing_left : (settings : Settings) (request : List ℕ) (code : ℤ) (len : ℕ) (a b c : Option A)
       → MatchOption a ⊥ (λ s. (server s ≡ new_server 4096 1048576 settings) × (shown s ≡ 0))
       → IfSome a (λ s. MatchOption b ⊥ (λ t. server t ≡ told_time (server s) 1 0))
       → IfSome b (λ s. MatchOption c ⊥ (λ t.
       Answered (server s) request 4096 code len (left t) (shown t) (server t)))
-      → code ≡ ok → request ≡ lookup_of_a → length piece ≡ 16
-      → IfSome c (λ s. count ≡ min (length (part_from 0 (left s) (shown s))) (length piece))
-      → IfSome c (λ s. after ≡ take count (part_from 0 (left s) (shown s)) ++ drop count piece)
-      → after ≡ no_such_name
-  nothing_found settings q code len count piece after None b c made one x is asked long counted copied =
-      absurd made
-  nothing_found settings q code len count piece after (Some s) None c made one x is asked long counted copied =
-      absurd one
-  nothing_found settings q code len count piece after (Some s) (Some t) None made one x is asked long counted copied =
-      absurd x
-  nothing_found settings q code len count piece after (Some s) (Some t) (Some u) made one x is asked long counted copied =
+      → code ≡ ok → request ≡ lookup_of_a
+      → MatchOption c ⊥ (λ u. (shown u ≡ 16) × (take 16 (left u) ≡ no_such_name))
+  nothing_left settings q code len None b c made one x is asked = absurd made
+  nothing_left settings q code len (Some s) None c made one x is asked = absurd one
+  nothing_left settings q code len (Some s) (Some t) None made one x is asked = absurd x
+  nothing_left settings q code len (Some s) (Some t) (Some u) made one x is asked =
       let message : Answered (server t) lookup_of_a 4096 code len (left u) (shown u) (server u) =
       subst (λ (q : List ℕ). Answered (server t) q 4096 code len (left u) (shown u) (server u)) asked x in
       let first = one ∙ ap (λ (z : ServerState State). told_time z 1 0) made.0 in
-      let r = looked_up settings (server t) (server u) code len (left u) (shown u) first
-      (turned (server t) lookup_of_a 4096 code len (left u) (shown u) (server u) message is) is in
+      looked_up settings (server t) (server u) code len (left u) (shown u) first
+      (turned (server t) lookup_of_a 4096 code len (left u) (shown u) (server u) message is) is
+
+  -- what is copied out of it
+  pub nothing_found : (count : ℕ) (piece after : List ℕ) (c : Option A)
+      → MatchOption c ⊥ (λ u. (shown u ≡ 16) × (take 16 (left u) ≡ no_such_name))
+      → length piece ≡ 16
+      → IfSome c (λ s. count ≡ min (length (part_from 0 (left s) (shown s))) (length piece))
+      → IfSome c (λ s. after ≡ take count (part_from 0 (left s) (shown s)) ++ drop count piece)
+      → after ≡ no_such_name
+  nothing_found count piece after None r long counted copied = absurd r
+  nothing_found count piece after (Some u) r long counted copied =
       copied_out (left u) piece after (shown u) count r.0 r.1 long counted copied
 
   -- the state behind a handle that has handled two messages

@@ -1,4 +1,5 @@
-//! The handle that C holds: one pointer, null or a box's. No other module has raw pointers.
+//! The handle of a server that C holds: one pointer, null or a box's. Beside this and the handle of taken
+//! memory, no module has raw pointers, but for the address in a place.
 
 ghost use Rattle.std.specs.Prelude.{◌≡◌};
 ghost use Rattle.std.specs.declared.option.Option.{Option};
@@ -66,6 +67,9 @@ impl Handle {
         drop(old);
     }
 }
+
+// A server is plain data, and any thread may give its memory back.
+unsafe impl Send for Handle {}
 
 impl Drop for Handle {
     fn drop(self) {

@@ -4,9 +4,11 @@ ghost use Rattle.std.specs.Prelude.{◌≡◌, ◌≤◌, ◌-◌, ◌++◌, len
 ghost use Rattle.vfs_flags.specs.declared.constants.TheConstants.{LEAST_MAX_BUFFER, GREATEST_MAX_BUFFER};
 ghost use Rattle.vfs_segments.specs.Segments.{segments_of, contents, flat_bytes, lengths_of};
 ghost use Rattle.vfs_c.specs.Served.{new_server, told_time, ServedInC};
+ghost use Rattle.vfs_c.specs.Taken.{place_of};
 ghost use Rattle.vfs_rooms.specs.Parts.{part_from};
 
 use crate::files::{Files, Settings, new_files, tell_time};
+use crate::memory::{Memory, Place};
 use std::alloc::Global;
 use std::mem;
 use vfs_rooms::codes::{OK, OUT_OF_MEMORY, TOO_LONG, told};
@@ -138,5 +140,25 @@ impl Instance {
             ++ drop result piece.old }
     {
         copy_part(&self.room, self.start, self.shown, at, piece)
+    }
+
+    /// Gives the memory of the last reply away, for other memory in which later ones are put
+    /// together. Answers where the bytes lie that were there to be copied out; none is from then on.
+    pub fn exchange(&mut self, memory: &mut Memory) -> Place
+        ensures server { self.new.server ≡ self.old.server }
+        ensures shown { self.new.shown ≡ 0 }
+        ensures kept { self.new.room ≡ memory.old.room }
+        ensures given { memory.new.room ≡ self.old.room }
+        ensures place { result ≡ place_of self.old }
+    {
+        let place = Place {
+            at: self.room.as_ptr(),
+            start: self.start,
+            len: self.shown.min(self.room.len().saturating_sub(self.start)),
+        };
+        mem::swap(&mut self.room, &mut memory.room);
+        self.start = 0;
+        self.shown = 0;
+        place
     }
 }

@@ -14,6 +14,8 @@ mod files;
 mod handle;
 mod instance;
 mod laws;
+mod memory;
+mod taken;
 mod uses;
 
 ghost use Rattle.std.specs.Prelude.{◌≡◌, ◌≢◌, ◌≤◌, ◌<◌, ◌⊎◌, ◌++◌, length, take, drop, min, IfSome, MatchOption};
@@ -23,11 +25,14 @@ ghost use Rattle.vfs_segments.specs.Segments.{segments_of, flat_bytes};
 ghost use Rattle.vfs_rooms.specs.Codes.{ok, no_memory, no_server, wrong_size};
 ghost use Rattle.vfs_c.specs.History.{Answered, Told};
 ghost use Rattle.vfs_c.specs.Served.{new_server, told_time, ServedInC};
+ghost use Rattle.vfs_c.specs.Taken.{place_of};
 ghost use Rattle.vfs_rooms.specs.Parts.{part_from};
 
 use crate::files::{Files, Settings};
 use crate::handle::Handle;
 use crate::instance::Instance;
+use crate::memory::{Memory, Place};
+use crate::taken::Taken;
 use bitflags::Flags;
 use std::alloc::Global;
 use vfs_flags::{GREATEST_MAX_BUFFER, LEAST_MAX_BUFFER};
@@ -159,6 +164,59 @@ pub extern "C" fn nizwarf_copy_at(
     let count = instance.copy_out(at, piece);
     handle.put(instance);
     count
+}
+
+/// Takes the bytes that the last message left out of the server, with the memory in which they lie,
+/// and says where that is. They are those that [`nizwarf_copy_at`] would copy, and are not there for
+/// it any more. They stay up to the next call with `taken`. What memory `taken` had is the server's
+/// then, so where it had some, none is wanted.
+///
+/// Answers 0; 11 where the handle has no server, and 10 where there is no memory: then all is as it
+/// was.
+#[unsafe(no_mangle)]
+pub extern "C" fn nizwarf_take_at(
+    alloc: Global,
+    handle: &mut Handle,
+    taken: &mut Taken,
+    place: &mut Place,
+) -> i32
+    ensures code { MatchOption handle.old.value (result ≡ no_server) (λ _.
+        MatchOption taken.old.value ((result ≡ ok) ⊎ (result ≡ no_memory)) (λ _. result ≡ ok)) }
+    ensures refused { result ≢ ok → (handle.new.value ≡ handle.old.value)
+        × (taken.new.value ≡ taken.old.value) × (place.new ≡ place.old) }
+    ensures taken { result ≡ ok → IfSome handle.old.value (λ s.
+        MatchOption taken.new.value ⊥ (λ m. m.room ≡ s.room)) }
+    ensures place { result ≡ ok → IfSome handle.old.value (λ s. place.new ≡ place_of s) }
+    ensures server { result ≡ ok → IfSome handle.old.value (λ s.
+        MatchOption handle.new.value ⊥ (λ t. (t.server ≡ s.server) × (t.shown ≡ 0))) }
+    ensures memory { result ≡ ok → IfSome taken.old.value (λ m.
+        MatchOption handle.new.value ⊥ (λ t. t.room ≡ m.room)) }
+{
+    let Some(mut instance) = handle.take(alloc) else {
+        return NO_SERVER;
+    };
+    let Some(mut memory) = taken.take_or_new(alloc) else {
+        handle.put(instance);
+        return OUT_OF_MEMORY;
+    };
+    *place = instance.exchange(&mut memory);
+    handle.put(instance);
+    taken.put(memory);
+    OK
+}
+
+/// Gives the memory back that was taken. There is none from then on. Answers 0, or 11 where there was
+/// none.
+#[unsafe(no_mangle)]
+pub extern "C" fn nizwarf_end_taken_at(alloc: Global, taken: &mut Taken) -> i32
+    ensures ended { taken.new.value ≡ None }
+    ensures code { MatchOption taken.old.value (result ≡ no_server) (λ _. result ≡ ok) }
+{
+    let Some(memory) = taken.take(alloc) else {
+        return NO_SERVER;
+    };
+    drop(memory);
+    OK
 }
 
 /// The options that the last INIT agreed on, as INIT has them: `flags` are bits 0 to 31, `flags2`

@@ -3,22 +3,24 @@ use Rattle.vfs_rooms.specs.Codes.{ok}
 use Rattle.vfs_c.specs.History.{Told}
 use Rattle.vfs_c.specs.Served.{told_time}
 use Rattle.vfs_c.proofs.Calling.{in_a_row}
-use Rattle.vfs_c.proofs.NothingFound.{told_server, nothing_found, last_of}
+use Rattle.vfs_c.proofs.NothingFound.{told_server, nothing_left, nothing_found, last_of}
 use Rattle.vfs_c.proofs.uses.nothing_is_found.Goals as goal
 
 pub returns-clause-bytes : goal.returns-clause-bytes
 returns-clause-bytes c = λ is.
     let made : c.nizwarf_new_at-made.result ≡ ok = search rules in
     let first : c.nizwarf_message_at-first.result ≡ ok = search rules in
-    nothing_found (λ s. s.server) (λ s. drop s.start s.room.items) (λ s. s.shown)
-    _ _ _ _ _ _ _ c.nizwarf_new_at-made.new.handle.value c.nizwarf_tell_time_at.new.handle.value
+    nothing_found (λ s. s.server) (λ s. drop s.start s.room.items) (λ s. s.shown) _ _ _
+    c.nizwarf_message_at-first.new.handle.value
+    (nothing_left (λ s. s.server) (λ s. drop s.start s.room.items) (λ s. s.shown)
+    _ _ _ _ c.nizwarf_new_at-made.new.handle.value c.nizwarf_tell_time_at.new.handle.value
     c.nizwarf_message_at-first.new.handle.value
     (c.nizwarf_new_at-made.ensures.made made)
     (told_server (λ s. s.server) (λ s. drop s.start s.room.items) (λ s. s.shown)
     (λ s. record s { server = told_time s.server 1 0 }) (λ s. refl) _ _ _
     c.nizwarf_tell_time_at.ensures.told)
-    c.nizwarf_message_at-first.ensures.history first c.requires.lookup c.requires.reply
-    c.nizwarf_copy_at.ensures.count c.nizwarf_copy_at.ensures.copied
+    c.nizwarf_message_at-first.ensures.history first c.requires.lookup)
+    c.requires.reply c.nizwarf_copy_at.ensures.count c.nizwarf_copy_at.ensures.copied
 
 pub returns-clause-books : goal.returns-clause-books
 returns-clause-books c = λ is.
