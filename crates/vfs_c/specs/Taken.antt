@@ -1,4 +1,4 @@
--- What a handle of taken memory owns, and where in that memory the bytes lie.
+-- What a handle of taken memory owns, and where in that memory a reply lies.
 use base.Fml.{Fml}
 use base.Stored.{Coded}
 use denote.RawPtr.{Ptr}
@@ -18,7 +18,7 @@ owned = held the_row
 abbrev pub coded : Coded (Option the_row.Denot)
 coded = coded_option the_row.coded
 
--- the bytes that are there to be copied out of a server, in its memory
+-- where the bytes lie that are there to be copied out of a server
 abbrev pub place_of : Instance → Place
 place_of s = record {
   at = vec_ptr s.room;

@@ -17,6 +17,7 @@ mod laws;
 mod memory;
 mod taken;
 mod uses;
+mod uses_taken;
 
 ghost use Rattle.std.specs.Prelude.{◌≡◌, ◌≢◌, ◌≤◌, ◌<◌, ◌⊎◌, ◌++◌, length, take, drop, min, IfSome, MatchOption};
 ghost use Rattle.std.specs.declared.option.Option.TheVariants.{None, Some};

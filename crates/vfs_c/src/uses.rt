@@ -1,7 +1,6 @@
 //! A transport that calls the library in a row, as that of `/dev/fuse` does.
 
-ghost use Rattle.std.specs.Prelude.{◌≡◌, MatchOption, None, drop, length, take};
-ghost use Rattle.std_alloc.specs.Vec.{vec_ptr};
+ghost use Rattle.std.specs.Prelude.{◌≡◌, MatchOption, None, length};
 ghost use Rattle.vfs_grammar.specs.Samples.{lookup_of_a};
 ghost use Rattle.vfs_history.specs.Calls.{forget_of_5};
 ghost use Rattle.vfs_segments.specs.Segments.{segments_of, flat_bytes};
@@ -14,11 +13,8 @@ ghost use Rattle.vfs_server.specs.Step.{ServerState};
 
 use crate::files::{Files, Settings};
 use crate::handle::Handle;
-use crate::memory::Place;
-use crate::taken::Taken;
 use crate::{
-    nizwarf_copy_at, nizwarf_end_at, nizwarf_message_at, nizwarf_new_at, nizwarf_take_at,
-    nizwarf_tell_time_at,
+    nizwarf_copy_at, nizwarf_end_at, nizwarf_message_at, nizwarf_new_at, nizwarf_tell_time_at,
 };
 use std::alloc::Global;
 use vfs_history::laws::history_keeps_books;
@@ -87,39 +83,6 @@ fn nothing_is_found(
     let second = nizwarf_message_at(alloc, handle, forget, 4096, &mut len);
     if second != OK {
         return second;
-    }
-    nizwarf_end_at(alloc, handle)
-}
-
-/// Makes a server, has it look up a name, takes the reply out of it, and ends it. If all is answered, the
-/// reply is still there: these sixteen bytes, in the memory that was taken, at the place that is told.
-fn nothing_is_taken(
-    alloc: Global,
-    handle: &mut Handle,
-    taken: &mut Taken,
-    place: &mut Place,
-    settings: &Settings,
-    lookup: &[&[u8]],
-) -> i32
-    requires lookup { flat_bytes (segments_of lookup.now) ≡ lookup_of_a }
-    ensures reply { result ≡ ok → MatchOption taken.new.value ⊥ (λ m.
-        (take place.new.len (drop place.new.start m.room.items) ≡ no_such_name)
-        × (place.new.at ≡ vec_ptr m.room)) }
-    ensures ended { result ≡ ok → handle.new.value ≡ None }
-{
-    let made = nizwarf_new_at(alloc, handle, 4096, 1_048_576, settings);
-    if made != OK {
-        return made;
-    }
-    let mut len = 0;
-    let _ = nizwarf_tell_time_at(alloc, handle, 1, 0);
-    let first = nizwarf_message_at(alloc, handle, lookup, 4096, &mut len);
-    if first != OK {
-        return first;
-    }
-    let took = nizwarf_take_at(alloc, handle, taken, place);
-    if took != OK {
-        return took;
     }
     nizwarf_end_at(alloc, handle)
 }

@@ -4,7 +4,7 @@ use Rattle.vfs_rooms.specs.Codes.{ok}
 use Rattle.vfs_c.specs.Served.{told_time}
 use Rattle.vfs_c.proofs.NothingFound.{told_server, nothing_left}
 use Rattle.vfs_c.proofs.NothingTaken.{nothing_taken}
-use Rattle.vfs_c.proofs.uses.nothing_is_taken.Goals as goal
+use Rattle.vfs_c.proofs.uses_taken.nothing_is_taken.Goals as goal
 
 pub returns-clause-reply : goal.returns-clause-reply
 returns-clause-reply c = λ is.
