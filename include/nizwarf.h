@@ -28,11 +28,11 @@
  * may overlap the request, since it is written once the request was read; it overlaps no server and no
  * `*len`. A length that is longer than the memory is a fault that no function can see.
  *
- * Threads. One call at a time for each server, on any thread: a call comes after the one before by a lock, by
- * the start or the end of a thread, or by a sequentially consistent atomic. So it is with a nizwarf_taken,
- * and with the reply that was taken: it is read while no call has its nizwarf_taken. Two servers, or two
- * nizwarf_takens, have nothing in common. No function is called from a signal handler, or from the child of
- * a fork of a process with threads.
+ * Threads. One call at a time for each server, on any thread; where that is another than the last call's, a
+ * lock, a thread's start or join, or a sequentially consistent atomic orders the two. So it is with a
+ * nizwarf_taken, and its reply is read while no call has it. Two servers, or two nizwarf_takens, have nothing
+ * in common. No function is called from a signal handler, or from the child of a fork of a process with
+ * threads.
  *
  * The heap is malloc, realloc and free of the C library that is linked. A server that refuses a request
  * for want of memory goes on with the next.
