@@ -11,7 +11,8 @@
 # but passthrough_ll `cache=auto`, which is that of nizwarf-share, and `default_permissions`, which the beside have.
 # The folders are in memory. CLASS is stat, stat-missing, open-close, create-unlink, readdir, ls-l, write-1m,
 # read-1m, write-4k, read-4k, 'git status', untar or names-100k. With --tree it is the tree as tools/mount.sh mounts
-# it, with these options; a tmpfs itself stands beside it too, and names-100k is a class of all, in three rounds.
+# it, with these options; a tmpfs itself stands beside it too, names-100k is a class of all, in three rounds, and so is
+# overwrite-1m.
 # So is floor, which is stat of a server that does nothing: the tree's transport says again what the tree said, by
 # tools/measure/floor.c. What it takes no server over this transport can win.
 #

@@ -220,6 +220,7 @@ static const struct {
 	{ "readdir", make_many, read_names },
 	{ "ls-l", make_many, read_attributes },
 	{ "write-1m", make_nothing, write_large },
+	{ "overwrite-1m", make_large, write_large },
 	{ "read-1m", make_large, read_large },
 	{ "write-4k", make_large, write_blocks },
 	{ "read-4k", make_large, read_blocks },

@@ -20,19 +20,19 @@ import time
 CLASSES = ("stat", "stat-missing", "open-close", "create-unlink", "readdir", "ls-l", "write-1m", "read-1m", "write-4k",
            "read-4k", "git status", "untar")
 # Those of the tree.
-MORE = ("stat", "floor", *CLASSES[1:], "names-100k")
+MORE = ("stat", "floor", *CLASSES[1:7], "overwrite-1m", *CLASSES[7:], "names-100k")
 JOBS = 1, 4
 SAID = {"stat": "statx of 2,000 files, asked anew", "floor": "the same of the transport alone", "stat-missing": "stat of 2,000 names that are none",
         "open-close": "open and close of 2,000 files", "create-unlink": "create and unlink of 2,000 files",
         "readdir": "readdir of 10,000 names, five times", "ls-l": "readdir and lstat of 10,000",
-        "write-1m": "sequential WRITE, 48 MiB by 1 MiB", "read-1m": "sequential READ, 48 MiB by 1 MiB",
+        "write-1m": "sequential WRITE, 48 MiB by 1 MiB", "overwrite-1m": "the same over bytes that are there", "read-1m": "sequential READ, 48 MiB by 1 MiB",
         "write-4k": "random WRITE, 3,000 of 4 KiB", "read-4k": "random READ, 3,000 of 4 KiB",
         "git status": "git status of this repository", "untar": "untar of this repository",
         "names-100k": "create, ls -l, find and rm -r of 100,000 files in all"}
 COMMANDS = {"git status": ["git", "-C", "clone", "status"], "untar": ["tar", "-xf", "../../archive"]}
 # What is done so many times in a class, and what a system call is counted for.
 TIMES = {"stat": (2000, "file"), "stat-missing": (2000, "name"), "open-close": (2000, "file"),
-         "create-unlink": (2000, "file"), "readdir": (5, "listing"), "ls-l": (10000, "name"), "write-1m": (48, "MiB"),
+         "create-unlink": (2000, "file"), "readdir": (5, "listing"), "ls-l": (10000, "name"), "write-1m": (48, "MiB"), "overwrite-1m": (48, "MiB"),
          "read-1m": (48, "MiB"), "write-4k": (3000, "block"), "read-4k": (3000, "block")}
 # What takes long has so many rounds at most.
 FEW = {"names-100k": 3}
@@ -226,6 +226,16 @@ def row(servers, what):
     return "| " + " | ".join([SAID[what], *cells, *worst]) + " |"
 
 
+def appends(server):
+    """How long a WRITE at the end of a file takes beside one over its bytes: the medians of each number of jobs."""
+    cells = []
+    for jobs in JOBS:
+        pairs = [[server.time(what, jobs)[0] for what in ("write-1m", "overwrite-1m")] for _ in range(rounds)]
+        cells.append(statistics.median(one / other for one, other in pairs))
+    return "\nOf the tree, 1 MiB written behind a file's end takes {:.2f} of the time of 1 MiB over bytes that are there; by four\n" \
+        "jobs {:.2f}.".format(*cells)
+
+
 def shown(both, is_alone=False):
     clock, spent = both
     return "-" if not clock else f"{clock:.2f}" if is_alone else f"{clock:.2f} ({spent:.2f})"
@@ -268,6 +278,8 @@ def main():
         of = {"the floor": Floor([floor, "-o", options, "{mount}"]), **others} if what == "floor" else servers
         print(row(of, what), flush=True)
     print(why, end="")
+    if "overwrite-1m" in classes:
+        print(appends(servers["the tree"]), flush=True)
     counted = [what for what in classes if what in TIMES]
     if counted and shutil.which("strace"):
         print(CALLS.format(ours=list(servers)[0]))
