@@ -18,6 +18,7 @@
 #include <sys/mount.h>
 #include <time.h>
 #include <unistd.h>
+#include "heap.h"
 #include "trace.h"
 
 static const char usage[] =
@@ -169,11 +170,14 @@ static int32_t serve(void *user, unsigned worker, const nizwarf_segment *request
 		     const nizwarf_room *room, size_t rooms, size_t *len)
 {
 	struct timespec now;
+	int32_t code;
 
 	(void)user, (void)worker;
 	clock_gettime(CLOCK_REALTIME, &now);
 	nizwarf_tell_time(&server, (uint64_t)now.tv_sec, (uint32_t)now.tv_nsec);
-	return nizwarf_message(&server, request, segments, room, rooms, len);
+	code = nizwarf_message(&server, request, segments, room, rooms, len);
+	heap_look();
+	return code;
 }
 
 int main(int count, char **words)
@@ -184,7 +188,7 @@ int main(int count, char **words)
 	char options[80];
 	int device;
 
-	transport_one_heap();
+	heap_begin();
 	if (traces && trace_begin(&by, trace_file))
 		return 1;
 	snprintf(options, sizeof(options), ",default_permissions,max_read=%lu%s", max_read, allow_other);

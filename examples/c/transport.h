@@ -18,7 +18,6 @@
 #define TRANSPORT_H
 
 #include <linux/fuse.h>
-#include <malloc.h>
 #include <stddef.h>
 #include <string.h>
 #include <sys/types.h>
@@ -75,16 +74,6 @@ static inline void transport_withhold(const transport *by, unsigned char *reques
 	flags &= ~by->withheld;
 	if (asked.opcode == FUSE_INIT)
 		memcpy(request + at, &flags, sizeof(flags));
-}
-
-/* For a program whose one worker has the memory, before it serves: all threads have one heap, which grows
- * by a MiB at least, and shrinks once 64 MiB are free at its end. (One of a worker's own grows by a call of
- * the kernel for each page.) */
-static inline void transport_one_heap(void)
-{
-	mallopt(M_ARENA_MAX, 1);
-	mallopt(M_TOP_PAD, 1 << 20);
-	mallopt(M_TRIM_THRESHOLD, 64 << 20);
 }
 
 /* Mounts on the folder as `source`, with flags of mount(2). `options` stand behind those that it

@@ -12,6 +12,7 @@
 #include <stdio.h>
 #include <time.h>
 #include <unistd.h>
+#include "heap.h"
 #include "trace.h"
 
 static const char usage[] =
@@ -49,11 +50,14 @@ static int32_t serve(void *user, unsigned worker, const nizwarf_segment *request
 		     const nizwarf_room *room, size_t rooms, size_t *len)
 {
 	struct timespec now;
+	int32_t code;
 
 	(void)user, (void)worker;
 	clock_gettime(CLOCK_REALTIME, &now);
 	nizwarf_tell_time(&server, (uint64_t)now.tv_sec, (uint32_t)now.tv_nsec);
-	return nizwarf_message(&server, request, segments, room, rooms, len);
+	code = nizwarf_message(&server, request, segments, room, rooms, len);
+	heap_look();
+	return code;
 }
 
 int main(int count, char **words)
@@ -76,7 +80,7 @@ int main(int count, char **words)
 	}
 	if (trace && trace_begin(&by, *trace ? trace + 1 : NULL))
 		return 1;
-	transport_one_heap();
+	heap_begin();
 	listener = vhost_user_listen(&by, words[1]);
 	if (listener < 0)
 		return -listener;

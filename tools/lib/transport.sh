@@ -40,8 +40,8 @@ build_transport() {
     local sources=("$from/$name.c") links=() flags=("${@:3}")
     find_library "$of"
     case $name in
-        mount) sources+=("$from/trace.c" "$from/fuse_device.c") && link_door ;;
-        vhost) sources+=("$from/trace.c" "$from/vhost_user.c" "$from/vhost_queue.c") && link_door ;;
+        mount) sources+=("$from/trace.c" "$from/heap.c" "$from/fuse_device.c") && link_door ;;
+        vhost) sources+=("$from/trace.c" "$from/heap.c" "$from/vhost_user.c" "$from/vhost_queue.c") && link_door ;;
         share)
             sources+=("$from/trace.c" "$from"/share_*.c "$from"/passthrough*.c "$from/fuse_device.c" "$from/vhost_user.c" "$from/vhost_queue.c")
             if echo '#include <seccomp.h>' | cc -fsyntax-only -x c - 2> /dev/null; then
