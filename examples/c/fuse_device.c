@@ -37,7 +37,7 @@
 #include <sys/stat.h>
 #include <time.h>
 #include <unistd.h>
-#include "transport.h"
+#include "fuse_ring.h"
 
 /* The longest request and reply: a header and its record take less than a page. Before the data of
  * a WRITE stand 80 bytes, and before those of a READ's reply 16. */
@@ -89,6 +89,8 @@ struct device {
 	atomic_int stop, failed;
 	/* How many workers were started: the first one counts the others. */
 	unsigned started;
+	/* Those over io_uring, which the first one starts in place of others; NULL: there are none. */
+	struct fuse_rings *rings;
 	/* How many read now, and how many requests were taken. */
 	atomic_uint readers;
 	atomic_ulong taken;
@@ -117,18 +119,17 @@ static enum outcome failed(const struct worker *w, const char *what)
 }
 
 /* A refused request has no reply of the server's, and the kernel waits for one: it gets an error. Of
- * these three it awaits none. Answers the length of the reply. */
-static size_t refuse(const struct worker *w, const struct fuse_in_header *asked, int32_t code)
+ * these three it awaits none. */
+size_t fuse_device_refuse(const transport *by, const struct fuse_in_header *asked, int32_t code, void *room)
 {
 	struct fuse_out_header reply = { .len = sizeof(reply), .unique = asked->unique };
 
-	fprintf(stderr, "%s: outcome %d of opcode %u\n", w->of->by->program, (int)code,
-		(unsigned)asked->opcode);
+	fprintf(stderr, "%s: outcome %d of opcode %u\n", by->program, (int)code, (unsigned)asked->opcode);
 	if (asked->opcode == FUSE_FORGET || asked->opcode == FUSE_BATCH_FORGET ||
 	    asked->opcode == FUSE_INTERRUPT)
 		return 0;
 	reply.error = code == NIZWARF_OUT_OF_MEMORY ? -ENOMEM : -EIO;
-	memcpy(w->room, &reply, sizeof(reply));
+	memcpy(room, &reply, sizeof(reply));
 	return sizeof(reply);
 }
 
@@ -426,7 +427,7 @@ static int may_look(const struct worker *w)
 {
 	const struct device *d = w->of;
 
-	return atomic_load(&d->wanted) == 1 && atomic_load(&d->readers) == 1 &&
+	return !d->rings && atomic_load(&d->wanted) == 1 && atomic_load(&d->readers) == 1 &&
 	       (w->short_waits || atomic_load(&d->taken) % LOOK_EACH == 0);
 }
 
@@ -448,9 +449,9 @@ static ssize_t read_request(struct worker *w)
 	return got;
 }
 
-/* How much room a reply may want: data, names and attributes have as much as is asked for, others less than
- * a page. (What stands behind may keep as much memory as the longest room.) */
-static size_t room_for(const struct worker *w, const struct fuse_in_header *asked, size_t got)
+/* Data, names and attributes have as much room as is asked for, others less than a page. (What stands behind
+ * may keep as much memory as the longest room.) */
+size_t fuse_device_room(const struct fuse_in_header *asked, const void *record, size_t len)
 {
 	struct fuse_read_in read;
 
@@ -458,9 +459,9 @@ static size_t room_for(const struct worker *w, const struct fuse_in_header *aske
 	case FUSE_READ:
 	case FUSE_READDIR:
 	case FUSE_READDIRPLUS:
-		if (got < sizeof(*asked) + sizeof(read))
+		if (len < sizeof(read))
 			return LONGEST;
-		memcpy(&read, w->request + sizeof(*asked), sizeof(read));
+		memcpy(&read, record, sizeof(read));
 		return read.size < TRANSPORT_PAYLOAD ? sizeof(struct fuse_out_header) + read.size : LONGEST;
 	case FUSE_GETXATTR:
 	case FUSE_LISTXATTR:
@@ -470,6 +471,30 @@ static size_t room_for(const struct worker *w, const struct fuse_in_header *aske
 	default:
 		return PAGE;
 	}
+}
+
+/* Whether a descriptor is that of a device. (A socket would take pages for messages, and has no rings.) */
+static int is_device(int fd)
+{
+	struct stat seen;
+
+	return !fstat(fd, &seen) && S_ISCHR(seen.st_mode);
+}
+
+/* Starts the workers over io_uring, if the INIT that the first one took offers it and its reply can say so. */
+static void start_rings(struct worker *w, size_t got, size_t len)
+{
+	struct device *d = w->of;
+	const struct fuse_ring_calls *ring = d->by->ring;
+	struct fuse_rings *rings;
+
+	if (!ring || d->rings || !is_device(w->fd) ||
+	    !(rings = ring->start(d->by, w->fd, d->over, w->request, got)))
+		return;
+	if (ring->agree(w->room, len))
+		ring->end(rings);
+	else
+		d->rings = rings;
 }
 
 /* Takes a request and answers it. `*opcode` is what was asked, 0 if nothing was. */
@@ -496,16 +521,18 @@ static enum outcome serve_one(struct worker *w, uint32_t *opcode)
 	memcpy(&asked, w->request, sizeof(asked));
 	*opcode = asked.opcode;
 	transport_withhold(by, w->request, (size_t)got);
-	room.len = room_for(w, &asked, (size_t)got);
+	room.len = fuse_device_room(&asked, w->request + sizeof(asked), (size_t)got - sizeof(asked));
 	call_if_late(w, &asked, room.len);
 	w->header.unique = asked.unique;
 	code = by->serve(by->user, w->number, &segment, 1, &room, 1, &len);
 	if (code != NIZWARF_OK)
-		len = refuse(w, &asked, code);
+		len = fuse_device_refuse(by, &asked, code, w->room);
 	if (w->written) {
 		empty_pipe(w, w->request + BEFORE_WRITE, w->written);
 		w->written = 0;
 	}
+	if (asked.opcode == FUSE_INIT && w->number == 0)
+		start_rings(w, (size_t)got, len);
 	w->writes = asked.opcode == FUSE_WRITE && asked.len >= BEFORE_WRITE + LEAST_PIPED;
 	if (!len && w->piped)
 		close_pipe(w);
@@ -516,14 +543,6 @@ static enum outcome serve_one(struct worker *w, uint32_t *opcode)
 }
 
 static void *run(void *given);
-
-/* Whether a descriptor is that of a device. (A socket would take pages for messages.) */
-static int is_device(int fd)
-{
-	struct stat seen;
-
-	return !fstat(fd, &seen) && S_ISCHR(seen.st_mode);
-}
 
 /* Starts the next worker over a descriptor, which is its own then. */
 static int start(struct device *d, int fd)
@@ -587,6 +606,15 @@ static void start_others(struct device *d)
 	}
 }
 
+/* Once the first worker has answered INIT: the others serve too, if there are any. */
+static void begin_others(struct device *d)
+{
+	if (d->rings)
+		d->by->ring->begin(d->rings);
+	else
+		start_others(d);
+}
+
 static void *run(void *given)
 {
 	struct worker *w = given;
@@ -600,11 +628,13 @@ static void *run(void *given)
 			rest(d);
 		do {
 			outcome = serve_one(w, &opcode);
-			if (opcode == FUSE_INIT && w->number == 0)
-				start_others(d);
+			if (outcome == SERVED && opcode == FUSE_INIT && w->number == 0)
+				begin_others(d);
 			if (outcome == SERVED)
 				rest_if_idle(w);
 		} while (outcome == SERVED && !atomic_load(&d->stop));
+		if (w->number == 0 && d->rings && d->by->ring->end(d->rings))
+			outcome = FAILED;
 		if (d->by->end)
 			d->by->end(d->by->user, w->number);
 	}

@@ -12,6 +12,7 @@
 #define _GNU_SOURCE
 #include <errno.h>
 #include <getopt.h>
+#include <pthread.h>
 #include <stdio.h>
 #include <stdlib.h>
 #include <string.h>
@@ -33,13 +34,15 @@ static const char usage[] =
 	"  mode=N, uid=N, gid=N    the root's permission bits in octal, its user and its group\n"
 	"  fsname=NAME             what df shows in place of nizwarf\n"
 	"  writeback               the kernel keeps what is written, and writes it later\n"
-	"  max_read=N              the most bytes of one read\n";
+	"  max_read=N              the most bytes of one read\n"
+	"  io_uring, no_io_uring   requests come by io_uring where Linux offers it, as without a word,\n"
+	"                          or by read and write alone\n";
 
 /* What the options say. */
 static nizwarf_settings settings = NIZWARF_SETTINGS;
 static unsigned long flags = MS_NOSUID | MS_NODEV, max_read = TRANSPORT_PAYLOAD;
 static const char *name = "nizwarf", *allow_other = "", *trace_file;
-static int traces;
+static int traces, by_ring = 1;
 
 /* Ends, since a word or an option can't be. */
 static _Noreturn void refuse_words(const char *why, const char *word)
@@ -93,6 +96,8 @@ static void take_option(const char *key, char *value)
 		allow_other = ",allow_other";
 	else if (!value && !strcmp(key, "writeback"))
 		settings.flags |= NIZWARF_WRITEBACK;
+	else if (!value && (!strcmp(key, "io_uring") || !strcmp(key, "no_io_uring")))
+		by_ring = *key == 'i';
 	else if (value && *value && !strcmp(key, "fsname"))
 		name = value;
 	else if (!strcmp(key, "size"))
@@ -143,13 +148,17 @@ static const char *take_words(int count, char **words)
 	return words[optind];
 }
 
+/* The server, which has one caller at a time. */
 static nizwarf_server server = NIZWARF_NONE;
+static pthread_mutex_t lock = PTHREAD_ADAPTIVE_MUTEX_INITIALIZER_NP;
 
 static int begin(void *user, unsigned worker)
 {
 	struct timespec now;
 
-	(void)user, (void)worker;
+	(void)user;
+	if (worker)
+		return 0;
 	clock_gettime(CLOCK_REALTIME, &now);
 	settings.seconds = (uint64_t)now.tv_sec;
 	settings.nanoseconds = (uint32_t)now.tv_nsec;
@@ -162,8 +171,9 @@ static int begin(void *user, unsigned worker)
 
 static void end(void *user, unsigned worker)
 {
-	(void)user, (void)worker;
-	nizwarf_end(&server);
+	(void)user;
+	if (!worker)
+		nizwarf_end(&server);
 }
 
 static int32_t serve(void *user, unsigned worker, const nizwarf_segment *request, size_t segments,
@@ -173,10 +183,12 @@ static int32_t serve(void *user, unsigned worker, const nizwarf_segment *request
 	int32_t code;
 
 	(void)user, (void)worker;
+	pthread_mutex_lock(&lock);
 	clock_gettime(CLOCK_REALTIME, &now);
 	nizwarf_tell_time(&server, (uint64_t)now.tv_sec, (uint32_t)now.tv_nsec);
 	code = nizwarf_message(&server, request, segments, room, rooms, len);
 	heap_look();
+	pthread_mutex_unlock(&lock);
 	return code;
 }
 
@@ -188,6 +200,7 @@ int main(int count, char **words)
 	char options[80];
 	int device;
 
+	by.ring = by_ring ? &fuse_ring : NULL;
 	heap_begin();
 	if (traces && trace_begin(&by, trace_file))
 		return 1;

@@ -28,6 +28,9 @@ enum { TRANSPORT_PAYLOAD = 1 << 20, TRANSPORT_MOST_WORKERS = 64 };
 /* The largest payload if it may go by a pipe: one that holds it must not take privileges. */
 enum { FUSE_DEVICE_PIPED = 1 << 19 };
 
+struct fuse_ring_calls;
+extern const struct fuse_ring_calls fuse_ring;
+
 typedef struct {
 	/* What messages on standard error begin with. */
 	const char *program;
@@ -43,6 +46,10 @@ typedef struct {
 	uint32_t withheld;
 	/* Not to print how many requests came to what, once a front end has gone. */
 	int quiet;
+	/* Where /dev/fuse is served by io_uring if Linux offers that (`fuse_ring`, of fuse_ring.c), by a worker
+	 * for each processor beside the others: each of them may call `serve`. The worker 0 begins before them,
+	 * and ends after them. NULL: it is served by read(2) and write(2) alone. */
+	const struct fuse_ring_calls *ring;
 	/* One of /proc/self/fd, by which /dev/fuse is opened again where it has no path; 0: none. */
 	int descriptors;
 	/* Is handed to each of the functions. */

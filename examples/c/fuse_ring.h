@@ -1,0 +1,29 @@
+/* Requests of /dev/fuse over io_uring, for fuse_device.c: its first worker takes INIT, and what still comes
+ * by read(2), and these take the others. */
+#ifndef FUSE_RING_H
+#define FUSE_RING_H
+
+#include "transport.h"
+
+struct fuse_rings;
+
+struct fuse_ring_calls {
+	/* Starts the workers for an INIT, if that offers io_uring: they wait. `over` is told by each that
+	 * fails. NULL: it is not offered, or can't be. */
+	struct fuse_rings *(*start)(const transport *by, int device, int over, const unsigned char *request,
+				    size_t len);
+	/* Takes the offer in the bytes of the reply. 0, or -1: that is no reply to take it in. */
+	int (*agree)(unsigned char *reply, size_t len);
+	/* The kernel has the reply: they serve from now on. */
+	void (*begin)(struct fuse_rings *rings);
+	/* Ends the workers, and frees what they had. Answers whether one failed, which said why. */
+	int (*end)(struct fuse_rings *rings);
+};
+
+/* What both have, in fuse_device.c. The first answers the length of a reply to a request that was refused, 0
+ * if none is awaited. The second: how much room a reply may want, at least that of a header; `record` is what
+ * stands behind the header of the request. */
+size_t fuse_device_refuse(const transport *by, const struct fuse_in_header *asked, int32_t code, void *room);
+size_t fuse_device_room(const struct fuse_in_header *asked, const void *record, size_t len);
+
+#endif
