@@ -54,6 +54,8 @@ enum { BULK = 32768, LOOK_EACH = 8, BACKLOGS = 3 };
 /* In nanoseconds: how long a request that didn't wait already takes to come at least, and one that
  * comes soon at most. Behind so many of these more than of others a worker looks before it sleeps. */
 enum { LEAST_WAIT = 1500, SHORT_WAIT = 20000, SHORT_WAITS = 4 };
+/* In nanoseconds: how long what is read beside io_uring gathers. */
+enum { GATHER = 1000000 };
 /* In bytes: how large a pipe is, which has a place for each page; from how many data on to use it takes
  * less than a copy; and how many it holds behind a header, if they don't begin at a page. */
 enum { PIPE = 2 * FUSE_DEVICE_PIPED, LEAST_PIPED = 1 << 16, MOST_PIPED = PIPE - 2 * PAGE };
@@ -103,6 +105,8 @@ struct device {
 	pthread_mutex_t lock;
 	pthread_cond_t call;
 	unsigned resting, called;
+	/* Beside io_uring: whoever reads for the first one. */
+	pthread_mutex_t reading;
 	struct worker worker[TRANSPORT_MOST_WORKERS];
 };
 
@@ -485,11 +489,11 @@ static int is_device(int fd)
 static void start_rings(struct worker *w, size_t got, size_t len)
 {
 	struct device *d = w->of;
+	const struct fuse_ring_start with = { d->by, d, w->fd, d->over };
 	const struct fuse_ring_calls *ring = d->by->ring;
 	struct fuse_rings *rings;
 
-	if (!ring || d->rings || !is_device(w->fd) ||
-	    !(rings = ring->start(d->by, w->fd, d->over, w->request, got)))
+	if (!ring || d->rings || !is_device(w->fd) || !(rings = ring->start(&with, w->request, got)))
 		return;
 	if (ring->agree(w->room, len))
 		ring->end(rings);
@@ -609,10 +613,48 @@ static void start_others(struct device *d)
 /* Once the first worker has answered INIT: the others serve too, if there are any. */
 static void begin_others(struct device *d)
 {
-	if (d->rings)
-		d->by->ring->begin(d->rings);
-	else
+	const int fd = d->worker[0].fd;
+
+	if (!d->rings) {
 		start_others(d);
+		return;
+	}
+	fcntl(fd, F_SETFL, fcntl(fd, F_GETFL) | O_NONBLOCK);
+	d->by->ring->begin(d->rings);
+}
+
+/* Answers what waits to be read beside io_uring. */
+static enum outcome serve_waiting(struct device *d)
+{
+	enum outcome outcome;
+	uint32_t opcode;
+
+	pthread_mutex_lock(&d->reading);
+	do
+		outcome = serve_one(&d->worker[0], &opcode);
+	while (outcome == SERVED && opcode);
+	pthread_mutex_unlock(&d->reading);
+	return outcome;
+}
+
+void fuse_device_drain(struct device *of)
+{
+	if (serve_waiting(of) != FAILED)
+		return;
+	atomic_store(&of->failed, 1);
+	tell(of, of->over);
+}
+
+/* Waits until something is to be read beside io_uring, and answers it. That are FORGETs for the most part, of
+ * which each would wake a worker that waits for the next. So this one lets some gather. */
+static enum outcome serve_beside(struct device *d)
+{
+	const struct timespec pause = { 0, GATHER };
+	struct pollfd device = { d->worker[0].fd, POLLIN, 0 };
+
+	nanosleep(&pause, NULL);
+	poll(&device, 1, -1);
+	return serve_waiting(d);
 }
 
 static void *run(void *given)
@@ -632,6 +674,8 @@ static void *run(void *given)
 				begin_others(d);
 			if (outcome == SERVED)
 				rest_if_idle(w);
+			while (d->rings && outcome == SERVED && !atomic_load(&d->stop))
+				outcome = serve_beside(d);
 		} while (outcome == SERVED && !atomic_load(&d->stop));
 		if (w->number == 0 && d->rings && d->by->ring->end(d->rings))
 			outcome = FAILED;
@@ -800,6 +844,7 @@ int fuse_device_serve(const transport *by, int device, const char *folder)
 		atomic_store(&d->wanted, 1);
 		pthread_mutex_init(&d->lock, NULL);
 		pthread_cond_init(&d->call, NULL);
+		pthread_mutex_init(&d->reading, NULL);
 		is_wrong = serve(d, device, own[0], folder);
 	} else {
 		say(by, "signalfd and eventfd");

@@ -87,8 +87,7 @@ struct worker {
 };
 
 struct fuse_rings {
-	const transport *by;
-	int device, over;
+	struct fuse_ring_start with;
 	unsigned queues, workers, started;
 	/* Where a worker may run that has left its processor. */
 	cpu_set_t anywhere;
@@ -103,7 +102,7 @@ struct fuse_rings {
 
 static int say(const struct fuse_rings *r, int error)
 {
-	fprintf(stderr, "%s: io_uring: %s\n", r->by->program, strerror(error));
+	fprintf(stderr, "%s: io_uring: %s\n", r->with.by->program, strerror(error));
 	return -1;
 }
 
@@ -211,41 +210,55 @@ static void count_bulk(struct worker *w, const struct fuse_in_header *asked, siz
 		roam(w, !w->roams);
 }
 
-/* Answers the request in an entry. 0, or -1: it said why. */
+/* Hands a request to `serve`, whose reply is in two pieces. Answers the length of the reply. */
+static size_t serve_request(struct worker *w, const struct entry *e, const struct fuse_in_header *asked,
+			    size_t record, struct fuse_out_header *reply)
+{
+	const transport *by = w->of->with.by;
+	unsigned char *payload = e->memory[1].iov_base;
+	const size_t wanted = fuse_device_room(asked, e->header->record, record) - HEAD;
+	const nizwarf_segment request[] = { { asked, sizeof(*asked) },
+					    { e->header->record, record },
+					    { payload, e->header->payload } };
+	const nizwarf_room rooms[] = { { reply, HEAD },
+				       { payload, wanted < TRANSPORT_PAYLOAD ? wanted : TRANSPORT_PAYLOAD } };
+	size_t len = 0;
+	int32_t code;
+
+	count_bulk(w, asked, rooms[1].len);
+	code = by->serve(by->user, w->number, request, 3, rooms, 2, &len);
+	return code == NIZWARF_OK ? len : fuse_device_refuse(by, asked, code, reply);
+}
+
+/* Answers the request in an entry. 0, or -1: it said why.
+ *
+ * The space of a file that was removed is free once it was forgotten, which comes by read(2), and who has
+ * removed it counts on that. So that is read before space is told, and before it is said that there is none. */
 static int answer(struct worker *w, unsigned number)
 {
 	const struct entry *e = &w->entries[number];
-	const transport *by = w->of->by;
-	unsigned char *payload = e->memory[1].iov_base;
 	struct header *h = e->header;
+	struct fuse_out_header reply;
 	struct fuse_in_header asked;
-	size_t record, room, len = 0;
-	int32_t code;
+	size_t record, len;
 
 	memcpy(&asked, h->in_out, sizeof(asked));
 	record = asked.len - sizeof(asked) - h->payload;
 	if (asked.len < sizeof(asked) + h->payload || record > sizeof(h->record) || h->payload > TRANSPORT_PAYLOAD)
 		return say(w->of, EPROTO);
-	room = fuse_device_room(&asked, h->record, record) - HEAD;
-	room = room < TRANSPORT_PAYLOAD ? room : TRANSPORT_PAYLOAD;
-	count_bulk(w, &asked, room);
-	{
-		const nizwarf_segment request[] = { { h->in_out, sizeof(asked) },
-						    { h->record, record },
-						    { payload, h->payload } };
-		const nizwarf_room rooms[] = { { h->in_out, HEAD }, { payload, room } };
-
-		code = by->serve(by->user, w->number, request, 3, rooms, 2, &len);
+	if (asked.opcode == FUSE_STATFS)
+		fuse_device_drain(w->of->with.of);
+	len = serve_request(w, e, &asked, record, &reply);
+	if (len == HEAD && reply.error == -ENOSPC) {
+		fuse_device_drain(w->of->with.of);
+		len = serve_request(w, e, &asked, record, &reply);
 	}
-	if (code != NIZWARF_OK)
-		len = fuse_device_refuse(by, &asked, code, h->in_out);
 	if (!len) {
 		/* (the kernel has the entry back by a reply alone) */
-		const struct fuse_out_header none = { .len = HEAD, .unique = asked.unique };
-
-		memcpy(h->in_out, &none, HEAD);
+		reply = (struct fuse_out_header) { .len = HEAD, .unique = asked.unique };
 		len = HEAD;
 	}
+	memcpy(h->in_out, &reply, HEAD);
 	h->payload = (uint32_t)(len - HEAD);
 	put_command(w, number, COMMIT_AND_FETCH);
 	return 0;
@@ -341,18 +354,18 @@ static void fail(struct fuse_rings *r)
 	const uint64_t one = 1;
 
 	atomic_store(&r->failed, 1);
-	if (write(r->over, &one, sizeof(one)) < 0)
+	if (write(r->with.over, &one, sizeof(one)) < 0)
 		say(r, errno);
 }
 
 static void *run(void *given)
 {
 	struct worker *w = given;
-	const transport *by = w->of->by;
+	const transport *by = w->of->with.by;
 	const int begun = !by->begin || !by->begin(by->user, w->number);
 
 	w->ring.fd = -1;
-	if (await_begin(w, begun && !make_entries(w) && !make_ring(&w->ring, w->count, w->of->device)) && serve(w))
+	if (await_begin(w, begun && !make_entries(w) && !make_ring(&w->ring, w->count, w->of->with.device)) && serve(w))
 		fail(w->of);
 	if (begun && by->end)
 		by->end(by->user, w->number);
@@ -443,7 +456,7 @@ static int is_offered(const unsigned char *request, size_t len)
 	return asked.opcode == FUSE_INIT && init.flags & FUSE_INIT_EXT && init.flags2 & OVER_IO_URING;
 }
 
-static struct fuse_rings *start(const transport *by, int device, int over, const unsigned char *request, size_t len)
+static struct fuse_rings *start(const struct fuse_ring_start *with, const unsigned char *request, size_t len)
 {
 	const unsigned queues = is_offered(request, len) ? count_queues() : 0;
 	const unsigned workers = queues < TRANSPORT_MOST_WORKERS ? queues : TRANSPORT_MOST_WORKERS;
@@ -451,9 +464,7 @@ static struct fuse_rings *start(const transport *by, int device, int over, const
 
 	if (!queues || queues > UINT16_MAX || !(r = calloc(1, sizeof(*r) + workers * sizeof(*r->worker))))
 		return NULL;
-	r->by = by;
-	r->device = device;
-	r->over = over;
+	r->with = *with;
 	r->queues = queues;
 	r->workers = workers;
 	sched_getaffinity(0, sizeof(r->anywhere), &r->anywhere);

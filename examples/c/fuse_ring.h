@@ -5,13 +5,20 @@
 
 #include "transport.h"
 
+struct device;
 struct fuse_rings;
 
+/* What they are started with. The event `over` is told by each that fails. */
+struct fuse_ring_start {
+	const transport *by;
+	struct device *of;
+	int device, over;
+};
+
 struct fuse_ring_calls {
-	/* Starts the workers for an INIT, if that offers io_uring: they wait. `over` is told by each that
-	 * fails. NULL: it is not offered, or can't be. */
-	struct fuse_rings *(*start)(const transport *by, int device, int over, const unsigned char *request,
-				    size_t len);
+	/* Starts the workers for an INIT, if that offers io_uring: they wait. NULL: it is not offered, or
+	 * can't be. */
+	struct fuse_rings *(*start)(const struct fuse_ring_start *with, const unsigned char *request, size_t len);
 	/* Takes the offer in the bytes of the reply. 0, or -1: that is no reply to take it in. */
 	int (*agree)(unsigned char *reply, size_t len);
 	/* The kernel has the reply: they serve from now on. */
@@ -19,6 +26,9 @@ struct fuse_ring_calls {
 	/* Ends the workers, and frees what they had. Answers whether one failed, which said why. */
 	int (*end)(struct fuse_rings *rings);
 };
+
+/* Answers what waits to be read. So what was forgotten before a request is gone before that is served. */
+void fuse_device_drain(struct device *of);
 
 /* What both have, in fuse_device.c. The first answers the length of a reply to a request that was refused, 0
  * if none is awaited. The second: how much room a reply may want, at least that of a header; `record` is what

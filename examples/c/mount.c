@@ -148,9 +148,11 @@ static const char *take_words(int count, char **words)
 	return words[optind];
 }
 
+enum { LOOKS = 1000 };
+
 /* The server, which has one caller at a time. */
 static nizwarf_server server = NIZWARF_NONE;
-static pthread_mutex_t lock = PTHREAD_ADAPTIVE_MUTEX_INITIALIZER_NP;
+static pthread_mutex_t lock = PTHREAD_MUTEX_INITIALIZER;
 
 static int begin(void *user, unsigned worker)
 {
@@ -176,6 +178,16 @@ static void end(void *user, unsigned worker)
 		nizwarf_end(&server);
 }
 
+/* Another caller has the server for less time than it takes to sleep and to be woken, unless it copies many
+ * data. So this one looks for a while first. */
+static void take_server(void)
+{
+	for (int i = 0; i < LOOKS; i++)
+		if (!pthread_mutex_trylock(&lock))
+			return;
+	pthread_mutex_lock(&lock);
+}
+
 static int32_t serve(void *user, unsigned worker, const nizwarf_segment *request, size_t segments,
 		     const nizwarf_room *room, size_t rooms, size_t *len)
 {
@@ -183,7 +195,7 @@ static int32_t serve(void *user, unsigned worker, const nizwarf_segment *request
 	int32_t code;
 
 	(void)user, (void)worker;
-	pthread_mutex_lock(&lock);
+	take_server();
 	clock_gettime(CLOCK_REALTIME, &now);
 	nizwarf_tell_time(&server, (uint64_t)now.tv_sec, (uint32_t)now.tv_nsec);
 	code = nizwarf_message(&server, request, segments, room, rooms, len);

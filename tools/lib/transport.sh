@@ -40,7 +40,7 @@ build_transport() {
     local sources=("$from/$name.c") links=() flags=("${@:3}")
     find_library "$of"
     case $name in
-        mount) sources+=("$from/trace.c" "$from/heap.c" "$from/fuse_device.c") && link_door ;;
+        mount) sources+=("$from/trace.c" "$from/heap.c" "$from/fuse_device.c" "$from/fuse_ring.c") && link_door ;;
         vhost) sources+=("$from/trace.c" "$from/heap.c" "$from/vhost_user.c" "$from/vhost_queue.c") && link_door ;;
         share)
             sources+=("$from/trace.c" "$from"/share_*.c "$from"/passthrough*.c "$from/fuse_device.c" "$from/vhost_user.c" "$from/vhost_queue.c")
