@@ -8,12 +8,14 @@
 # tools/new-library.sh makes; vfs_c where none is named. Options are those of other file systems, with commas
 # between them: allow_other, ro, rw, noexec, nosuid, nodev, fsname=NAME, max_read=BYTES, and for the tree in
 # memory size=BYTES, nr_inodes=N (k, m, g), mode=OCTAL, uid=N, gid=N, writeback, by which the kernel keeps what
-# is written and writes it later. With --trace each request and each reply is printed, or their bytes go to a new
+# is written and writes it later, and no_io_uring, by which requests come by read(2) even where Linux offers
+# io_uring. With --trace each request and each reply is printed, or their bytes go to a new
 # FILE for vfs_decode.
 #
 # With --check it is mounted on a folder of its own: tools/lib/session.sh does there what a person does, memory
-# goes back that was written and cut, and it is unmounted; then so with writeback; with other options, where it
-# ends by a signal; and once more, with limits, which bound the server's memory. It wants python3 then.
+# goes back that was written and cut, and it is unmounted; then so with writeback, and with no_io_uring; with
+# other options, where it ends by a signal; and once more, with limits, which bound the server's memory, and hold
+# again once what was there is removed. It wants python3 then.
 #
 # It wants root, /dev/fuse, a C compiler and the Rattle toolchain. It links the proved library where that
 # is built and no source is newer; otherwise tools/lib/unproved.sh builds it without a proof, which takes a
@@ -104,11 +106,21 @@ ended() {
     echo "$1: the server ended, and nothing is mounted."
 }
 
-# How much memory the server has, in KiB. It is the child of `timeout`.
+# The folder of the server in /proc. It is the child of `timeout`.
+own() {
+    grep -ls "^PPid:[[:space:]]*$server\$" /proc/[0-9]*/status | sed -n '1s/status$//p'
+}
+
+# How much memory the server has, in KiB.
 memory() {
-    local own
-    own=$(grep -ls "^PPid:[[:space:]]*$server\$" /proc/[0-9]*/status | sed -n 1p)
-    sed -nE 's/^VmRSS:[[:space:]]*([0-9]+) kB$/\1/p' "$own"
+    sed -nE 's/^VmRSS:[[:space:]]*([0-9]+) kB$/\1/p' "$(own)status"
+}
+
+# How requests come.
+way() {
+    local fds
+    fds=$(ls -l "$(own)fd")
+    [[ $fds == *io_uring* ]] && echo io_uring || echo "read(2)"
 }
 
 # What a file took goes back when it is cut: 300 MiB, six times, and the files stay.
@@ -125,6 +137,22 @@ cut_files() {
         return 1
     fi
     echo "Six files of 300 MiB were cut, and the server has $kib KiB."
+}
+
+# What is removed leaves its space to what is made next: a file of 12 of the 16 MiB, 40 times.
+space_is_free() {
+    python3 - "$folder" << 'PYTHON'
+import os, sys
+
+name = sys.argv[1] + "/most"
+for i in range(40):
+    with open(name, "wb", 0) as file:
+        for _ in range(12 * 16):
+            if file.write(bytes(65536)) < 65536:
+                sys.exit(f"There was no space for file {i}.")
+    os.unlink(name)
+PYTHON
+    echo "40 files of most of the space were made and removed."
 }
 
 # The limits bound memory: names, attributes and bytes are made until there is no space, and after each
@@ -167,17 +195,15 @@ PYTHON
     done
 }
 
-start -o allow_other
 status=0
-"$here/tools/lib/session.sh" "$folder" || status=1
-cut_files || status=1
-umount "$folder"
-ended "Unmounted"
-start -o allow_other,writeback
-"$here/tools/lib/session.sh" "$folder" || status=1
-cut_files || status=1
-umount "$folder"
-ended "Unmounted, with writeback"
+for more in "" ,writeback ,no_io_uring; do
+    start -o "allow_other$more"
+    echo "Requests come by $(way)."
+    "$here/tools/lib/session.sh" "$folder" || status=1
+    cut_files || status=1
+    umount "$folder"
+    ended "Unmounted${more:+, with ${more#,}}"
+done
 start -o ro,size=1m,nr_inodes=10,mode=711,uid=7,gid=8,fsname=check
 shown="$(df -T "$folder" | awk 'END { print $1, $2, $3 }') $(df -i "$folder" | awk 'END { print $2 }')"
 [ "$shown $(stat -c '%A %u %g' "$folder")" = "check fuse.nizwarf 1024 10 drwx--x--x 7 8" ] || {
@@ -191,6 +217,10 @@ fi
 kill -INT "$server"
 ended "Ended by a signal"
 start -o size=16m,nr_inodes=20000
+space_is_free || {
+    echo "FAILED: what was removed has its space." >&2
+    status=1
+}
 limits_hold || {
     echo "FAILED: the limits do not hold." >&2
     status=1

@@ -18,7 +18,10 @@
  *
  * Many data take the way of a pipe, which has references to pages. Those of a READ are copied from the
  * file's pages to the client's, and those of a WRITE from the client's to the file's. A worker takes
- * requests by its pipe as long as each has such data. */
+ * requests by its pipe as long as each has such data.
+ *
+ * Over io_uring other workers have the requests (fuse_ring.c). INIT, FORGET and INTERRUPT come by reads all
+ * the same, and the first worker has them. */
 #define _GNU_SOURCE
 #include <errno.h>
 #include <fcntl.h>

@@ -3,14 +3,14 @@
  *
  * The kernel has a queue for each processor, of the requests that are made there. Here each queue has an
  * entry, which is memory for one request and its reply, and a worker, which has a ring and stays on the
- * processor of the queue. So who asks and who answers are on one processor, and neither waits until another
- * one is woken; and those on several processors wait for one another only where `serve` makes them.
+ * processor of the queue. So who asks and who answers are on one processor, and no other one has to be woken;
+ * and those on several processors wait for one another only in `serve`.
  *
- * A command hands an entry to the kernel, and completes once a request stands in it. The next one has the
- * reply, and hands it back: that takes one system call, which then waits for the next request.
+ * A command hands an entry to the kernel, and completes once a request stands in it. The next one hands it
+ * back, with the reply. One system call does that, and waits for the next request.
  *
- * While many data are asked for, which the kernel then reads ahead of who asks, both have work at once. So a
- * worker leaves its processor as long as that goes on. */
+ * The kernel reads ahead of one who reads many data: then both have work at once. So a worker leaves its
+ * processor as long as many are asked for. */
 #define _GNU_SOURCE
 #include <errno.h>
 #include <linux/io_uring.h>
@@ -238,7 +238,7 @@ static int answer(struct worker *w, unsigned number)
 {
 	const struct entry *e = &w->entries[number];
 	struct header *h = e->header;
-	struct fuse_out_header reply;
+	struct fuse_out_header reply = { 0 };
 	struct fuse_in_header asked;
 	size_t record, len;
 
@@ -459,7 +459,7 @@ static int is_offered(const unsigned char *request, size_t len)
 static struct fuse_rings *start(const struct fuse_ring_start *with, const unsigned char *request, size_t len)
 {
 	const unsigned queues = is_offered(request, len) ? count_queues() : 0;
-	const unsigned workers = queues < TRANSPORT_MOST_WORKERS ? queues : TRANSPORT_MOST_WORKERS;
+	const unsigned most = TRANSPORT_MOST_WORKERS - 1, workers = queues < most ? queues : most;
 	struct fuse_rings *r;
 
 	if (!queues || queues > UINT16_MAX || !(r = calloc(1, sizeof(*r) + workers * sizeof(*r->worker))))

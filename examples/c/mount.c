@@ -4,8 +4,9 @@
  * Usage: mount [-o OPTIONS] [--trace[=FILE]] FOLDER
  *
  * --help lists the options. SIGINT, SIGTERM and SIGHUP unmount. Where the folder is in use then, it
- * goes when the last user does, or at a second signal. The server has one caller, so there is one
- * worker.
+ * goes when the last user does, or at a second signal. The server has one caller at a time, so there is one
+ * worker; but over io_uring there is one for each processor, since what they do beside the server takes
+ * longer.
  *
  * Status 0: it was unmounted; 1: something failed; 2: the words or options can't be. Standard error
  * says what. */
@@ -148,11 +149,15 @@ static const char *take_words(int count, char **words)
 	return words[optind];
 }
 
-enum { LOOKS = 1000 };
-
-/* The server, which has one caller at a time. */
+/* The server, which has one caller at a time: whoever has the lock, and calls what serves then. */
 static nizwarf_server server = NIZWARF_NONE;
 static pthread_mutex_t lock = PTHREAD_MUTEX_INITIALIZER;
+/* With a trace: what is called then. Else the memory of each worker's last reply. */
+static transport traced;
+static nizwarf_taken taken[TRANSPORT_MOST_WORKERS + 1];
+
+/* How often a caller looks for the lock before it sleeps: about as long as it takes to sleep and be woken. */
+enum { LOOKS = 1000 };
 
 static int begin(void *user, unsigned worker)
 {
@@ -174,12 +179,28 @@ static int begin(void *user, unsigned worker)
 static void end(void *user, unsigned worker)
 {
 	(void)user;
+	nizwarf_end_taken(&taken[worker]);
 	if (!worker)
 		nizwarf_end(&server);
 }
 
-/* Another caller has the server for less time than it takes to sleep and to be woken, unless it copies many
- * data. So this one looks for a while first. */
+static void tell_time(void)
+{
+	struct timespec now;
+
+	clock_gettime(CLOCK_REALTIME, &now);
+	nizwarf_tell_time(&server, (uint64_t)now.tv_sec, (uint32_t)now.tv_nsec);
+}
+
+static int32_t serve(void *user, unsigned worker, const nizwarf_segment *request, size_t segments,
+		     const nizwarf_room *room, size_t rooms, size_t *len)
+{
+	(void)user, (void)worker;
+	tell_time();
+	return nizwarf_message(&server, request, segments, room, rooms, len);
+}
+
+/* (Another caller has it for less time than that, unless it copies many data.) */
 static void take_server(void)
 {
 	for (int i = 0; i < LOOKS; i++)
@@ -188,19 +209,49 @@ static void take_server(void)
 	pthread_mutex_lock(&lock);
 }
 
-static int32_t serve(void *user, unsigned worker, const nizwarf_segment *request, size_t segments,
-		     const nizwarf_room *room, size_t rooms, size_t *len)
+static void leave_server(void)
 {
-	struct timespec now;
-	int32_t code;
-
-	(void)user, (void)worker;
-	take_server();
-	clock_gettime(CLOCK_REALTIME, &now);
-	nizwarf_tell_time(&server, (uint64_t)now.tv_sec, (uint32_t)now.tv_nsec);
-	code = nizwarf_message(&server, request, segments, room, rooms, len);
 	heap_look();
 	pthread_mutex_unlock(&lock);
+}
+
+/* The same with a trace, whose order is that of the server. */
+static int32_t serve_traced(void *user, unsigned worker, const nizwarf_segment *request, size_t segments,
+			    const nizwarf_room *room, size_t rooms, size_t *len)
+{
+	int32_t code;
+
+	take_server();
+	code = traced.serve(user, worker, request, segments, room, rooms, len);
+	leave_server();
+	return code;
+}
+
+/* Copies a reply over the first bytes of the rooms, which are as many at least. */
+static void put_reply(const unsigned char *reply, size_t len, const nizwarf_room *room)
+{
+	for (size_t done; len; room++, reply += done, len -= done) {
+		done = len < room->len ? len : room->len;
+		memcpy(room->at, reply, done);
+	}
+}
+
+/* The same, whose reply is copied while another caller has the server. */
+static int32_t serve_apart(void *user, unsigned worker, const nizwarf_segment *request, size_t segments,
+			   const nizwarf_room *room, size_t rooms, size_t *len)
+{
+	const void *reply;
+	size_t space = 0;
+	int32_t code;
+
+	(void)user;
+	for (size_t i = 0; i < rooms; i++)
+		space += room[i].len;
+	take_server();
+	tell_time();
+	code = nizwarf_message_take(&server, request, segments, space, &taken[worker], &reply, len);
+	leave_server();
+	put_reply(reply, *len, room);
 	return code;
 }
 
@@ -216,6 +267,8 @@ int main(int count, char **words)
 	heap_begin();
 	if (traces && trace_begin(&by, trace_file))
 		return 1;
+	traced = by;
+	by.serve = traces ? serve_traced : serve_apart;
 	snprintf(options, sizeof(options), ",default_permissions,max_read=%lu%s", max_read, allow_other);
 	device = fuse_device_mount(&by, name, folder, flags, options);
 	return device < 0 ? 1 : fuse_device_serve(&by, device, folder);

@@ -9,11 +9,13 @@
  * that calls a transport waits for signals: SIGINT, SIGTERM and SIGHUP end it.
  *
  * Requests. /dev/fuse gives each in one segment, with one room, of which the data of a WRITE and
- * those of a READ's reply begin at a page. A virtual machine gives a room in any pieces, right in
- * its memory: the reply is written there, and must not be read back. Its requests are copied into
- * one segment, since it may change its memory at any time. With `writes_in_place` the data of a
- * WRITE are not: they come in segments behind the first, which has the header and the record.
- * Nothing is to be believed of them that is read twice; the door reads none of them. */
+ * those of a READ's reply begin at a page. Over io_uring each is in three segments, the header, the
+ * record and the rest, with two rooms, of which the second is where the rest stands. A virtual
+ * machine gives a room in any pieces, right in its memory: the reply is written there, and must not
+ * be read back. Its requests are copied into one segment, since it may change its memory at any
+ * time. With `writes_in_place` the data of a WRITE are not: they come in segments behind the first,
+ * which has the header and the record. Nothing is to be believed of them that is read twice; the
+ * door reads none of them. */
 #ifndef TRANSPORT_H
 #define TRANSPORT_H
 
