@@ -4,3 +4,4 @@ mod Histories
 mod Calling
 mod NothingFound
 mod NothingTaken
+mod MessageTaken

@@ -1,11 +1,11 @@
 //! A transport that takes a reply out of a server.
 
-ghost use Rattle.std.specs.Prelude.{◌≡◌, MatchOption, None, drop, take};
+ghost use Rattle.std.specs.Prelude.{◌≡◌, IfSome, MatchOption, None, drop, take};
 ghost use Rattle.std_alloc.specs.Vec.{vec_ptr};
 ghost use Rattle.vfs_grammar.specs.Samples.{lookup_of_a};
 ghost use Rattle.vfs_segments.specs.Segments.{segments_of, flat_bytes};
 ghost use Rattle.vfs_rooms.specs.Codes.{ok};
-ghost use Rattle.vfs_c.specs.Uses.{no_such_name};
+ghost use Rattle.vfs_c.specs.Uses.{no_such_name, IsTaken};
 
 use crate::files::Settings;
 use crate::handle::Handle;
@@ -16,6 +16,34 @@ use crate::{
 };
 use std::alloc::Global;
 use vfs_rooms::codes::OK;
+
+/// Answers a request and takes the reply, as `nizwarf_message_take` of the header does: what is taken first,
+/// before the message, sees to it that there is memory. What was answered is the next turn of the server's
+/// history, and no reply is lost.
+fn message_is_taken(
+    alloc: Global,
+    handle: &mut Handle,
+    taken: &mut Taken,
+    place: &mut Place,
+    request: &[&[u8]],
+    room: usize,
+    len: &mut usize,
+) -> i32
+    ensures { result ≡ ok → IfSome handle.old.value (λ s. MatchOption handle.new.value ⊥ (λ t.
+        MatchOption taken.new.value ⊥ (λ m. IsTaken s.server (flat_bytes (segments_of request.now)) room
+        len.new m.room.items (vec_ptr m.room) place.new t.server))) }
+{
+    let ready = nizwarf_take_at(alloc, handle, taken, place);
+    if ready != OK {
+        return ready;
+    }
+    let code = nizwarf_message_at(alloc, handle, request, room, len);
+    if code != OK {
+        return code;
+    }
+    let _ = nizwarf_take_at(alloc, handle, taken, place);
+    code
+}
 
 /// Makes a server, has it look up a name, takes the reply out of it, and ends it. If all is answered, the
 /// reply is still there: these sixteen bytes, in the memory that was taken, at the place that is told.
