@@ -76,14 +76,14 @@ mkdir "crates/$name" "tools/lib/unproved/$name"
 cp -R crates/vfs_c/{src,specs,proofs,must-fail} "crates/$name/"
 cp tools/lib/unproved/vfs_c/* "tools/lib/unproved/$name/"
 grep -rl vfs_c "crates/$name" | xargs sed -i "s/\bvfs_c\b/$name/g"
-# The laws, one edit and the last two small callers, which find no name in a new tree, are those of the tree.
+# The laws, one edit and the small callers that find no name in a new tree or take a reply are of the tree.
 rm -r "crates/$name/src/laws.rt" "crates/$name/specs/Laws.antt" "crates/$name/proofs/laws" \
     "crates/$name/must-fail/the_root_has_the_group_of_its_user.edit" "crates/$name/specs/Uses.antt" \
     "crates/$name/proofs/NothingFound.antt" "crates/$name/proofs/uses/nothing_is_found" \
-    "crates/$name/src/uses_taken.rt" "crates/$name/proofs/NothingTaken.antt" "crates/$name/proofs/uses_taken"
+    "crates/$name/src/uses_taken.rt" "crates/$name/proofs/uses_taken" "crates/$name"/proofs/*Taken.antt
 sed -i '/^mod laws;$/d; /^mod uses_taken;$/d' "crates/$name/src/lib.rt"
 sed -i '/^pub mod Laws$/d; /^pub mod Uses$/d' "crates/$name/specs/Lib.antt"
-sed -i '/^mod NothingFound$/d; /^mod NothingTaken$/d' "crates/$name/proofs/Lib.antt"
+sed -i '/^mod NothingFound$/d; /^mod .*Taken$/d' "crates/$name/proofs/Lib.antt"
 sed -i -e '/^\/\/\/ Makes a server, has it look up a name/,$d' -e '/no_such_name\|lookup_of_a\|forget_of_5/d' \
     -e '/{State}\|{ServerState}/d' -e 's/, None, length}/}/' -e 's/nizwarf_copy_at, nizwarf_end_at, //' \
     "crates/$name/src/uses.rt"
