@@ -1,5 +1,5 @@
 /* Answers LOOKUP and GETATTR by the bytes of an earlier answer, without the library: so a program that is linked
- * with --wrap=nizwarf_message_at and --wrap=nizwarf_copy_at takes the time of its transport alone. What it has not
+ * with --wrap=nizwarf_message_at and --wrap=nizwarf_take_at takes the time of its transport alone. What it has not
  * asked yet, it asks. It is for files that stay as they are: the class `floor` of share-speed.sh. */
 #include <linux/fuse.h>
 #include <stddef.h>
@@ -8,7 +8,7 @@
 
 int32_t __real_nizwarf_message_at(nizwarf_server *server, const nizwarf_segment *request, size_t segments,
 				  size_t room, size_t *len);
-size_t __real_nizwarf_copy_at(nizwarf_server *server, size_t at, uint8_t *piece, size_t piece_len);
+int32_t __real_nizwarf_take_at(nizwarf_server *server, nizwarf_taken *taken, nizwarf_place *place);
 
 enum { ANSWERS = 1 << 17, TRIES = 64, HEAD = sizeof(struct fuse_out_header) };
 
@@ -49,12 +49,19 @@ static struct answer *find(const struct fuse_in_header *header, const char *name
 	return NULL;
 }
 
+/* What stands behind the header of a LOOKUP, in the same piece or in the last one. */
+static const char *name_of(const nizwarf_segment *request, size_t segments)
+{
+	return segments > 1 ? request[segments - 1].at :
+			      (const char *)request->at + sizeof(struct fuse_in_header);
+}
+
 int32_t __wrap_nizwarf_message_at(nizwarf_server *server, const nizwarf_segment *request, size_t segments,
 				  size_t room, size_t *len)
 {
 	static const struct answer none;
 	const struct fuse_in_header *header = request->at;
-	struct answer *answer = find(header, (const char *)(header + 1));
+	struct answer *answer = find(header, name_of(request, segments));
 	int32_t code;
 
 	/* (the nodes keep their numbers, since none is forgotten) */
@@ -71,16 +78,15 @@ int32_t __wrap_nizwarf_message_at(nizwarf_server *server, const nizwarf_segment 
 	code = __real_nizwarf_message_at(server, request, segments, room, len);
 	/* (that of an error is a header) */
 	if (answer && code == NIZWARF_OK && *len > HEAD && *len <= sizeof(answer->reply))
-		answer->len = __real_nizwarf_copy_at(server, 0, answer->reply, *len);
+		answer->len = nizwarf_copy_at(server, 0, answer->reply, *len);
 	return code;
 }
 
-size_t __wrap_nizwarf_copy_at(nizwarf_server *server, size_t at, uint8_t *piece, size_t piece_len)
+int32_t __wrap_nizwarf_take_at(nizwarf_server *server, nizwarf_taken *taken, nizwarf_place *place)
 {
 	if (!now)
-		return __real_nizwarf_copy_at(server, at, piece, piece_len);
-	if (piece_len > now->len - at)
-		piece_len = now->len - at;
-	memcpy(piece, now->reply + at, piece_len);
-	return piece_len;
+		return __real_nizwarf_take_at(server, taken, place);
+	*place = (nizwarf_place) { now->reply, 0, now->len };
+	now = NULL;
+	return NIZWARF_OK;
 }

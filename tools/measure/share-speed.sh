@@ -83,7 +83,7 @@ LD_LIBRARY_PATH=$(dirname "$(find "$beside" -name libfuse3.so.3 -print -quit)")
 export LD_LIBRARY_PATH
 version='' floor=''
 if [ "$what" = tree ]; then
-    build_transport mount vfs_c "$here/tools/measure/floor.c" -Wl,--wrap=nizwarf_message_at -Wl,--wrap=nizwarf_copy_at
+    build_transport mount vfs_c "$here/tools/measure/floor.c" -Wl,--wrap=nizwarf_message_at -Wl,--wrap=nizwarf_take_at
     floor=$transport
     build_transport mount
 else
