@@ -10,7 +10,7 @@
  * back, with the reply. One system call does that, and waits for the next request.
  *
  * The kernel reads ahead of one who reads many data: then both have work at once. So a worker leaves its
- * processor as long as many are asked for. */
+ * processor as long as that goes on, and there alone. */
 #define _GNU_SOURCE
 #include <errno.h>
 #include <linux/io_uring.h>
@@ -53,9 +53,9 @@ struct command {
 };
 
 enum { PAGE = 4096, COMMAND = 128, OWN_PART = 48, HEAD = sizeof(struct fuse_out_header) };
-/* How many bytes are many data, and how many requests with such, more than of others, let a worker leave its
- * processor. */
-enum { BULK = 1 << 16, BULKS = 4 };
+/* How many bytes are many data, and how many requests in turn for such, more than others, let a worker leave
+ * its processor. */
+enum { BULK = 1 << 16, BULKS = 8 };
 
 /* A header, and behind it, a page from its beginning, the payload. */
 struct entry {
@@ -92,6 +92,8 @@ struct fuse_rings {
 	/* Where a worker may run that has left its processor. */
 	cpu_set_t anywhere;
 	atomic_int stop, failed;
+	/* The last worker that was asked for many data. */
+	atomic_uint bulky;
 	/* How many workers are ready to begin, or can't be. */
 	pthread_mutex_t lock;
 	pthread_cond_t change;
@@ -199,13 +201,16 @@ static void roam(struct worker *w, int roams)
 	w->roams = roams;
 }
 
-/* Looks whether many data are asked for. */
+/* Looks whether many data are asked for, and on this processor alone. (Where they are on several, each has
+ * work enough.) */
 static void count_bulk(struct worker *w, const struct fuse_in_header *asked, size_t room)
 {
-	if (asked->opcode == FUSE_READ && room >= BULK)
-		w->bulks += w->bulks < 2 * BULKS;
-	else
+	if (asked->opcode != FUSE_READ || room < BULK)
 		w->bulks -= w->bulks > 0;
+	else if (atomic_exchange(&w->of->bulky, w->number) != w->number)
+		w->bulks = 0;
+	else
+		w->bulks += w->bulks < 2 * BULKS;
 	if (w->roams ? !w->bulks : w->bulks >= BULKS)
 		roam(w, !w->roams);
 }
