@@ -1,5 +1,6 @@
 /* Holds the library for transports in C against its header: a session of INIT, MKDIR, LOOKUP and GETATTR, in
- * which each allocation is refused in turn; codes of what can't be done; settings; what stays in the rooms.
+ * which each allocation is refused in turn; replies that are taken out; codes of what can't be done; settings; what
+ * stays in the rooms.
  *
  * tools/gate/c-example.sh links it with --wrap=malloc, --wrap=realloc and --wrap=free. Status 0: all is as
  * it should be, and no memory is left behind. */
@@ -98,6 +99,56 @@ static void session(void)
 	CHECK(nizwarf_end(&server) == NIZWARF_OK && !server.at && live == 0);
 }
 
+/* Asks with a request in one piece, whose reply is taken out. What is refused for want of memory is asked again. */
+static int take(nizwarf_server *server, void *request, size_t space, nizwarf_taken *taken,
+		const struct fuse_out_header **head, size_t *len)
+{
+	const nizwarf_segment whole = { request, ((struct fuse_in_header *)request)->len };
+	const void *at;
+	int code = nizwarf_message_take(server, &whole, 1, space, taken, &at, len);
+
+	if (code == NIZWARF_OUT_OF_MEMORY) {
+		CHECK(refused && !at && *len == 0);
+		code = nizwarf_message_take(server, &whole, 1, space, taken, &at, len);
+	}
+	CHECK(at ? *len >= sizeof(**head) : *len == 0);
+	*head = at;
+	return code;
+}
+
+/* Replies that are taken out: which they are, what they outlive, and what has none. */
+static void takes(void)
+{
+	static struct {
+		struct fuse_in_header header;
+		struct fuse_forget_in body;
+	} forget = { .header = { .len = sizeof(forget), .opcode = FUSE_FORGET, .nodeid = 2 }, .body = { 1 } };
+	const nizwarf_segment whole = { &init, sizeof(init) };
+	nizwarf_server server = NIZWARF_NONE;
+	nizwarf_taken one = NIZWARF_NONE, other = NIZWARF_NONE;
+	const struct fuse_out_header *first, *second;
+	const void *at = &whole;
+	size_t len = 1, more;
+
+	CHECK(nizwarf_message_take(&server, &whole, 1, 80, &one, &at, &len) == NIZWARF_NO_SERVER && !at && !len);
+	CHECK(nizwarf_message_take(&server, &whole, 1, 80, NULL, &at, &len) == NIZWARF_NULL);
+	CHECK(nizwarf_message_take(&server, &whole, 1, 80, &one, NULL, &len) == NIZWARF_NULL);
+	CHECK(nizwarf_message_take(&server, NULL, 1, 80, &one, &at, &len) == NIZWARF_NULL);
+	CHECK(nizwarf_end_taken(&one) == NIZWARF_NO_SERVER && nizwarf_end_taken(NULL) == NIZWARF_NULL);
+	while (nizwarf_new(&server, 4096, 4096, NULL) != NIZWARF_OK)
+		CHECK(refused && !server.at);
+	CHECK(take(&server, &init, 80, &one, &first, &len) == NIZWARF_OK && len == 80 && first->len == 80);
+	CHECK(take(&server, &lookup, 144, &other, &second, &more) == NIZWARF_OK && more == 16);
+	CHECK(second->error == -ENOENT && second->unique == 2);
+	CHECK(first->len == 80 && first->unique == 1 && ((const struct fuse_init_out *)(first + 1))->major == 7);
+	CHECK(take(&server, &lookup, 15, &other, &second, &more) == NIZWARF_ENCODE_MESSAGE && !second);
+	CHECK(take(&server, &forget, 0, &other, &second, &more) == NIZWARF_OK && !second);
+	CHECK(take(&server, &lookup, 4096, &other, &second, &more) == NIZWARF_OK && more == 16);
+	CHECK(nizwarf_end(&server) == NIZWARF_OK && second->error == -ENOENT && first->len == 80);
+	CHECK(nizwarf_end_taken(&one) == NIZWARF_OK && nizwarf_end_taken(&other) == NIZWARF_OK && live == 0);
+	CHECK(nizwarf_end_taken(&one) == NIZWARF_NO_SERVER);
+}
+
 /* What needs no session: NULL, no server, sizes out of bounds, lengths that sum past SIZE_MAX; a room too
  * small, and one of 8 MiB. */
 static void codes(void)
@@ -170,11 +221,13 @@ int main(void)
 	settings();
 	asked = 0;
 	session();
+	takes();
 	all = asked;
 	for (refused = 1; refused <= all; refused++) {
 		asked = 0;
 		session();
+		takes();
 	}
-	printf("Each of %ld allocations of a session was refused, and each session went on.\n", all);
+	printf("Each of %ld allocations of two sessions was refused, and each session went on.\n", all);
 	return 0;
 }
