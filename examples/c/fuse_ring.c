@@ -187,17 +187,20 @@ static int enter(struct ring *r)
 	return taken >= 0 || errno == EINTR || errno == EAGAIN || errno == EBUSY ? 0 : -1;
 }
 
-/* Has a worker stay on the processors of its queues, where it may run there, or leave them. */
+/* Has a worker stay on the processors of its queues, or leave them to who asks there, as far as it may run so. */
 static void roam(struct worker *w, int roams)
 {
 	const cpu_set_t *anywhere = &w->of->anywhere;
-	cpu_set_t own;
+	cpu_set_t own, there;
 
 	CPU_ZERO(&own);
 	for (unsigned i = 0; i < w->count; i++)
 		CPU_SET(w->entries[i].queue, &own);
 	CPU_AND(&own, &own, anywhere);
-	sched_setaffinity(0, sizeof(own), roams || !CPU_COUNT(&own) ? anywhere : &own);
+	CPU_XOR(&there, &own, anywhere);
+	if (!roams)
+		there = own;
+	sched_setaffinity(0, sizeof(there), CPU_COUNT(&there) ? &there : anywhere);
 	w->roams = roams;
 }
 

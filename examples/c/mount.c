@@ -4,8 +4,8 @@
  * Usage: mount [-o OPTIONS] [--trace[=FILE]] FOLDER
  *
  * --help lists the options. SIGINT, SIGTERM and SIGHUP unmount. Where the folder is in use then, it
- * goes when the last user does, or at a second signal. The server has one caller at a time, so there is one
- * worker; but over io_uring there is one for each processor, since what they do beside the server takes
+ * goes when the last user does, or at a second signal. The server has one caller at a time, so two workers are
+ * enough; but over io_uring there is one for each processor, since what they do beside the server takes
  * longer.
  *
  * Status 0: it was unmounted; 1: something failed; 2: the words or options can't be. Standard error
@@ -149,39 +149,47 @@ static const char *take_words(int count, char **words)
 	return words[optind];
 }
 
-/* The server, which has one caller at a time: whoever has the lock, and calls what serves then. */
+/* The server, which has one caller at a time: whoever has the lock. How many workers there are that may. */
 static nizwarf_server server = NIZWARF_NONE;
 static pthread_mutex_t lock = PTHREAD_MUTEX_INITIALIZER;
+static unsigned callers;
 /* With a trace: what is called then. Else the memory of each worker's last reply. */
 static transport traced;
 static nizwarf_taken taken[TRANSPORT_MOST_WORKERS + 1];
 
-/* How often a caller looks for the lock before it sleeps: about as long as it takes to sleep and be woken. */
-enum { LOOKS = 1000 };
+/* How often a caller looks for the lock before it sleeps: for some 100 microseconds, in which the data of two or
+ * three requests are copied. */
+enum { LOOKS = 5000 };
 
+/* The first worker to begin makes the server, and the last to end ends it. */
 static int begin(void *user, unsigned worker)
 {
+	int32_t code = NIZWARF_OK;
 	struct timespec now;
 
-	(void)user;
-	if (worker)
-		return 0;
-	clock_gettime(CLOCK_REALTIME, &now);
-	settings.seconds = (uint64_t)now.tv_sec;
-	settings.nanoseconds = (uint32_t)now.tv_nsec;
-	if (nizwarf_new(&server, (uint32_t)sysconf(_SC_PAGESIZE), TRANSPORT_PAYLOAD, &settings) ==
-	    NIZWARF_OK)
-		return 0;
-	fprintf(stderr, "mount: there is no server\n");
-	return 1;
+	(void)user, (void)worker;
+	pthread_mutex_lock(&lock);
+	if (!callers) {
+		clock_gettime(CLOCK_REALTIME, &now);
+		settings.seconds = (uint64_t)now.tv_sec;
+		settings.nanoseconds = (uint32_t)now.tv_nsec;
+		code = nizwarf_new(&server, (uint32_t)sysconf(_SC_PAGESIZE), TRANSPORT_PAYLOAD, &settings);
+	}
+	callers += code == NIZWARF_OK;
+	pthread_mutex_unlock(&lock);
+	if (code != NIZWARF_OK)
+		fprintf(stderr, "mount: there is no server\n");
+	return code != NIZWARF_OK;
 }
 
 static void end(void *user, unsigned worker)
 {
 	(void)user;
+	pthread_mutex_lock(&lock);
 	nizwarf_end_taken(&taken[worker]);
-	if (!worker)
+	if (!--callers)
 		nizwarf_end(&server);
+	pthread_mutex_unlock(&lock);
 }
 
 static void tell_time(void)
@@ -257,7 +265,7 @@ static int32_t serve_apart(void *user, unsigned worker, const nizwarf_segment *r
 
 int main(int count, char **words)
 {
-	transport by = { .program = "mount", .workers = 1, .withheld = FUSE_ATOMIC_O_TRUNC,
+	transport by = { .program = "mount", .workers = 2, .withheld = FUSE_ATOMIC_O_TRUNC,
 			 .begin = begin, .end = end, .serve = serve };
 	const char *folder = take_words(count, words);
 	char options[80];

@@ -4,8 +4,8 @@
  * nizwarf_ops.h, or a file system over the door of nizwarf.h.
  *
  * Workers. Each is a thread of its own, which calls `begin` first, then `serve` for one request
- * after another, then `end`. So what may have one caller, as a nizwarf_server, has one worker and
- * is made in `begin`; what stands on the door has any number of them, each with a slot. The thread
+ * after another, then `end`. So what may have one caller at a time, as a nizwarf_server, has one
+ * worker or a lock; what stands on the door has any number of them, each with a slot. The thread
  * that calls a transport waits for signals: SIGINT, SIGTERM and SIGHUP end it.
  *
  * Requests. /dev/fuse gives each in one segment, with one room, of which the data of a WRITE and
