@@ -97,6 +97,9 @@ tidy() {
     rm -rf "$work"
 }
 trap 'tidy 2> /dev/null || true' EXIT
+# Where root has set it to Y, before this, requests of the tree come by io_uring.
+uring=/sys/module/fuse/parameters/enable_uring
+[ "$what" = share ] || version="$version; fuse.enable_uring $(cat "$uring" 2> /dev/null || echo none)"
 built="built without a proof"
 [[ ${library[0]} == */out/unproved/* ]] || built="the proved one"
 facts="Begun on $(LC_ALL=C date '+%-d %B %Y'), commit $(git -C "$here" describe --always --dirty), the library $built$version;

@@ -57,22 +57,23 @@ the quicker one. Medians of {rounds} rounds in turns, of 100,000 files three at 
 `tools/measure/share-speed.sh --tree{options} {rounds}`.
 {facts}
 
-The kernel remembers nothing in the beginning: the tree is filled through its mount, which is then mounted anew, by
-MS_REMOUNT. Then it may remember names and attributes of the tree for a day, since nobody else changes it, and those of
+Where Linux offers it, which its switch here says, requests of the tree come by io_uring, to a worker for each processor;
+the others read and write /dev/fuse. The kernel remembers nothing in the beginning: the tree is filled through its mount,
+which is then mounted anew, by MS_REMOUNT. Then it may remember names and attributes of the tree for a day, since nobody else changes it, and those of
 the others for a second; and it opens files of the tree without a request. The second row is what no file system over
 `/dev/fuse` can win: the first one of a server that does nothing, but says again what the tree said to the same LOOKUP or
 GETATTR."""
 BOTH_HEAD = """\
 passthrough_ll has `cache=auto`, `default_permissions`, and threads by need; of bindfs the quicker one of one thread and
 many is meant. Where a line stands passthrough_ll failed: it holds a descriptor for each file, and could have {most} here.
-With one job it is chance in each round whether client and server come to one processor or to two, by which a small
-request takes two or three times as long; so of few rounds the medians of small requests say little.
+With one job, and read and write, it is chance in each round whether client and server come to one processor or to two, by
+which a small request takes two or three times as long; so of few rounds the medians of small requests say little.
 """
 CALLS = """
 ## System calls
 
 Of the server, for each file, name, listing, MiB or block, by `strace -c`, under which a class takes longer than a second, so
-that names may be looked up again. A request takes a read and a reply a write. Those of less than one in twenty are left out,
+that names may be looked up again. A request takes a read and a reply a write, or both one io_uring_enter. Those of less than one in twenty are left out,
 and what waits: `poll` and `futex`.
 
 | Class | {ours} | passthrough_ll | bindfs |
