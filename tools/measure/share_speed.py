@@ -59,10 +59,10 @@ the quicker one. Medians of {rounds} rounds in turns, of 100,000 files three at 
 
 Where Linux offers it, which its switch here says, requests of the tree come by io_uring, to a worker for each processor;
 the others read and write /dev/fuse. The kernel remembers nothing in the beginning: the tree is filled through its mount,
-which is then mounted anew, by MS_REMOUNT. Then it may remember names and attributes of the tree for a day, since nobody else changes it, and those of
-the others for a second; and it opens files of the tree without a request. The second row is what no file system over
-`/dev/fuse` can win: the first one of a server that does nothing, but says again what the tree said to the same LOOKUP or
-GETATTR."""
+which is then mounted anew, by MS_REMOUNT. Then it may remember names and attributes of the tree for a day, since nobody
+else changes it, and those of the others for a second; and it opens files of the tree without a request. The second row is
+what no file system over `/dev/fuse` can win: the first one of a server that does nothing, but says again what the tree
+said to the same LOOKUP or GETATTR."""
 BOTH_HEAD = """\
 passthrough_ll has `cache=auto`, `default_permissions`, and threads by need; of bindfs the quicker one of one thread and
 many is meant. Where a line stands passthrough_ll failed: it holds a descriptor for each file, and could have {most} here.
