@@ -62,7 +62,7 @@ use Rattle.$tree.specs.$module.{$tables}/" \
         -e "s/^State = .*/State = ReadOnly $type/" \
         -e '/^new_state set =$/,/^$/{/^ /d;s/^new_state set =/& record { tree = record {} }/}' \
         -e "s/^Allows = .*/Allows old call handed new = TreeHands $tables call handed × (new ≡ old)/" \
-        -e '/^told files seconds nanoseconds =$/,${/^ /d;s/=$/= files/}' \
+        -e '/^at_time files seconds nanoseconds =$/,${/^ /d;s/=$/= files/}' \
         -e 's/^-- the state of a new one: .*/-- the state of a new one/; /^-- were set$/d' \
         "crates/$name/specs/Files.antt"
     sed -i "/^$name staticlib:/s/ vfs_tree\\( \\|\$\\)/ vfs_read_only $tree\\1/" crates.txt
