@@ -259,7 +259,8 @@ static int32_t serve_apart(void *user, unsigned worker, const nizwarf_segment *r
 	tell_time();
 	code = nizwarf_message_take(&server, request, segments, space, &taken[worker], &reply, len);
 	leave_server();
-	put_reply(reply, *len, room);
+	if (reply)
+		put_reply(reply, *len, room);
 	return code;
 }
 

@@ -1,5 +1,6 @@
 #!/usr/bin/env bash
-# Holds the sources of nizwarf-share, in examples/c, against clang-tidy and cppcheck: what they find is printed.
+# Holds the sources of nizwarf-share, nizwarf-mount and nizwarf-vhost, in examples/c, against clang-tidy and
+# cppcheck: what they find is printed.
 #
 # Usage: tools/gate/lint.sh
 # It wants clang-tidy and cppcheck, and libseccomp-dev for the sandbox of share.c.
@@ -22,7 +23,7 @@ if echo '#include <seccomp.h>' | cc -fsyntax-only -x c - 2> /dev/null; then
     flags+=(-DWITH_SECCOMP)
 fi
 shopt -s nullglob
-sources=("$here"/examples/c/{share,passthrough,vhost_,fuse_,trace}*.c)
+sources=("$here"/examples/c/{share,passthrough,vhost,mount,heap,fuse_,trace}*.c)
 clang-tidy --quiet --warnings-as-errors='*' "--checks=$(tr -s ' \n' , <<< "$checks")" "${sources[@]}" \
     -- "${flags[@]}" 2> >(grep -v 'warnings generated' >&2)
 cppcheck --std=c11 --quiet --error-exitcode=1 --inline-suppr --enable=warning,performance,portability \
