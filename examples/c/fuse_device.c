@@ -691,15 +691,19 @@ static void *run(void *given)
 	return NULL;
 }
 
-/* Ends a worker, which may wait for a request: a signal interrupts that. */
-static void end(struct worker *w)
+void fuse_device_join(pthread_t thread)
 {
 	const struct timespec pause = { 0, 5000000 };
 
-	while (pthread_tryjoin_np(w->thread, NULL) == EBUSY) {
-		pthread_kill(w->thread, SIGRTMIN);
+	while (pthread_tryjoin_np(thread, NULL) == EBUSY) {
+		pthread_kill(thread, SIGRTMIN);
 		nanosleep(&pause, NULL);
 	}
+}
+
+static void end(struct worker *w)
+{
+	fuse_device_join(w->thread);
 	close_pipe(w);
 	close(w->fd);
 	free(w->memory);

@@ -16,14 +16,12 @@
 #include <linux/io_uring.h>
 #include <pthread.h>
 #include <sched.h>
-#include <signal.h>
 #include <stdatomic.h>
 #include <stdio.h>
 #include <stdlib.h>
 #include <sys/mman.h>
 #include <sys/syscall.h>
 #include <sys/uio.h>
-#include <time.h>
 #include <unistd.h>
 #include "fuse_ring.h"
 
@@ -402,17 +400,6 @@ static unsigned count_queues(void)
 	return count;
 }
 
-/* Ends a worker, which may wait for a request: a signal interrupts that. */
-static void end_worker(struct worker *w)
-{
-	const struct timespec pause = { 0, 5000000 };
-
-	while (pthread_tryjoin_np(w->thread, NULL) == EBUSY) {
-		pthread_kill(w->thread, SIGRTMIN);
-		nanosleep(&pause, NULL);
-	}
-}
-
 static int end(struct fuse_rings *r)
 {
 	int failed;
@@ -422,7 +409,7 @@ static int end(struct fuse_rings *r)
 	pthread_cond_broadcast(&r->change);
 	pthread_mutex_unlock(&r->lock);
 	for (unsigned i = 0; i < r->started; i++)
-		end_worker(&r->worker[i]);
+		fuse_device_join(r->worker[i].thread);
 	failed = atomic_load(&r->failed);
 	pthread_cond_destroy(&r->change);
 	pthread_mutex_destroy(&r->lock);

@@ -3,6 +3,7 @@
 #ifndef FUSE_RING_H
 #define FUSE_RING_H
 
+#include <pthread.h>
 #include "transport.h"
 
 struct device;
@@ -29,6 +30,9 @@ struct fuse_ring_calls {
 
 /* Answers what waits to be read. So what was forgotten before a request is gone before that is served. */
 void fuse_device_drain(struct device *of);
+
+/* Ends a worker that is to stop, and may wait for a request: a signal interrupts that. */
+void fuse_device_join(pthread_t thread);
 
 /* What both have, in fuse_device.c. The first answers the length of a reply to a request that was refused, 0
  * if none is awaited. The second: how much room a reply may want, at least that of a header; `record` is what
