@@ -9,9 +9,9 @@ pub enum Error {
     /// something that has no meaning.
     #[error("the request is cut short, or says what has no meaning")]
     DecodeMessage,
-    /// The reply is longer than the room; the room holds its beginning. Of a READ,
-    /// READDIR or READDIRPLUS also where the room is too small for the header of its reply: then
-    /// nothing was written, and no call was made.
+    /// The reply is longer than the room; the room holds its beginning. Also a READ, or a READDIR
+    /// or READDIRPLUS of no more bytes than the room has, whose room is below the 16 bytes of a
+    /// header: then nothing was written, and no call was made.
     #[error("the reply is longer than the room for it")]
     EncodeMessage,
     /// A writer could not be flushed. It is never answered: flushing never fails.

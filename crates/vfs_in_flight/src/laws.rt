@@ -19,8 +19,10 @@ pub fn asked_and_answered_is_one_turn()
 {}
 
 /// However requests are interleaved, the turns in the order of their answers keep the books: for each
-/// node but 0 they balance, and a client that after each answer has given back no more than was delivered
-/// to it drives no count below zero.
+/// node but 0 they balance, and if after each answer the client has given back no more than was delivered
+/// to it, no count falls below zero in that order. A call that is made before its turn's answer may come
+/// before a call of an earlier turn: a FORGET that a client sends before it was told of the node may reach
+/// the file system before the lookup, which then has to keep its count at 0.
 pub fn turns_in_flight_keep_books()
     ensures { (limits : Limits) (waiting : List Waiting) (moments : List Moment) →
         AreInFlight limits waiting moments → KeepsBooks (turns_answered moments) }

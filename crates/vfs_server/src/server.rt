@@ -172,8 +172,9 @@ impl<F: FileSystem> Server<F> {
     /// cut between two segments, or a context among extensions. After any error but `EncodeMessage`
     /// no call was made, nothing was written, and the options are the old ones.
     /// After `EncodeMessage` the room holds the beginning of a reply that was too long for it; or
-    /// the request was a READ, READDIR or READDIRPLUS and the room too small for a header: then too
-    /// no call was made and nothing was written.
+    /// the room is below the 16 bytes of a header, and the request was a READ, or a READDIR or
+    /// READDIRPLUS of no more bytes than the room has: then too no call was made and nothing was
+    /// written.
     ///
     /// A hold that the caller left on `w` is given up first. What `w` had passed before stays, held
     /// bytes too; where it stands afterwards isn't said.
