@@ -1,0 +1,363 @@
+/* The words of a share, taken and held together: share_words.h. */
+#define _GNU_SOURCE
+#include <errno.h>
+#include <getopt.h>
+#include <limits.h>
+#include <stdio.h>
+#include <stdlib.h>
+#include <string.h>
+#include <strings.h>
+#include <sys/mount.h>
+#include <unistd.h>
+#include "share_sandbox.h"
+#include "share_words.h"
+#include "transport.h"
+
+enum { MOST_FILES = 1000000, WORKERS = 4 };
+
+static const char usage[] =
+	"Usage: nizwarf-share [WORDS] FOLDER MOUNTPOINT\n"
+	"       nizwarf-share [WORDS] --socket-path=SOCKET FOLDER\n"
+	"Mounts the folder on the mount point over /dev/fuse, until it is unmounted or SIGINT or\n"
+	"SIGTERM comes; or serves it on the socket to one virtual machine after another, as a\n"
+	"vhost-user device of virtio-fs.\n"
+	"  -o OPTIONS                with commas between them: allow_other, ro, rw, max_read=N,\n"
+	"                            fsname=NAME, exec, noexec, suid, nosuid, dev, nodev, sync,\n"
+	"                            async, dirsync, atime, noatime, nodiratime, relatime, and\n"
+	"                            entry_timeout=SECONDS, attr_timeout=SECONDS: how long names\n"
+	"                            and attributes are remembered; negative_timeout=SECONDS: how\n"
+	"                            long, that there is no such name (0); xattr, writeback\n"
+	"  --shared-dir=FOLDER       the folder, in place of the word\n"
+	"  --socket-path=SOCKET      listens on a new socket of this path\n"
+	"  --fd=N                    listens on the socket of this descriptor\n"
+	"  --socket-group=GROUP      who may connect to the socket besides its owner\n"
+	"  --cache=WHAT              what may be remembered: never, auto (the default), always,\n"
+	"                            metadata\n"
+	"  --writeback               the client may write later\n"
+	"  --xattr                   extended attributes are served\n"
+	"  --readonly                nothing is changed\n"
+	"  --no-readdirplus          directories are listed without attributes\n"
+	"  --announce-submounts      mounts below the folder are told to be such; with\n"
+	"  --no-announce-submounts   not, as without a word\n"
+	"  --inode-file-handles=HOW  when files are held by handles, and not by descriptors: never,\n"
+	"                            prefer: where they can be, mandatory: what has none is an error,\n"
+	"                            auto (the default): only if descriptors are scarce\n"
+	"  --modcaps=LIST            capabilities that root's server has besides, or lacks, as\n"
+	"                            +sys_admin:-mknod; by +sys_admin attributes of trusted.* are served\n"
+	"  --thread-pool-size=N      how many requests are served at once, 1 to 64 (4)\n"
+	"  --rlimit-nofile=N         the most open files; 0: as it is (1000000, or what may be)\n"
+	"  --sandbox=HOW             namespace (the default), chroot or none: what else than the\n"
+	"                            folder the server sees\n"
+	"  --seccomp=HOW             kill, trap, log or none: what a system call comes to that serving\n"
+	"                            doesn't make (kill if it is built in)\n"
+	"  --log-level=LEVEL         off, error, warn, info (the default), debug\n"
+	"  --trace[=FILE]            prints each request and reply, as --log-level=debug, or writes\n"
+	"                            their bytes to a new FILE for vfs_decode\n"
+	"  --daemonize               goes to the background once it serves\n"
+	"  --print-capabilities      what a vhost-user back end of a machine can, as JSON\n"
+	"  --version, --help\n";
+
+/* What is so without a word. */
+struct share_words words = {
+	.files = { .cache = CACHE_AUTO, .readdirplus = true, .file_handles = HANDLES_IF_SCARCE,
+		   .workers = WORKERS, .entry_time = AS_CACHE_SAYS, .attr_time = AS_CACHE_SAYS },
+	.allow_other = "", .flags = MS_NOSUID | MS_NODEV, .max_read = TRANSPORT_PAYLOAD,
+	.most_files = MOST_FILES, .fd = -1, .sandbox = -1, .filter = -1, .says_more = true,
+};
+
+_Noreturn void refuse(const char *why, const char *word)
+{
+	fprintf(stderr, "nizwarf-share: %s%s\nnizwarf-share --help lists the words.\n", why, word);
+	exit(2);
+}
+
+static unsigned long number(const char *key, const char *value, unsigned long least, unsigned long most)
+{
+	unsigned long n;
+	char *end;
+
+	errno = 0;
+	n = value && *value >= '0' && *value <= '9' ? strtoul(value, &end, 10) : 0;
+	if (!value || *value < '0' || *value > '9' || *end || errno || n < least || n > most)
+		refuse("no number, or one out of bounds, in ", key);
+	return n;
+}
+
+/* Which of the words, which end with NULL, the value is. */
+static int one_of(const char *key, const char *value, const char *const *known)
+{
+	for (int i = 0; known[i]; i++)
+		if (!strcmp(value, known[i]))
+			return i;
+	fprintf(stderr, "nizwarf-share: %s is one of", key);
+	for (int i = 0; known[i]; i++)
+		fprintf(stderr, "%s %s", i ? "," : "", known[i]);
+	fputs(".\n", stderr);
+	refuse("it is not ", value);
+}
+
+/* Seconds, perhaps with digits behind a point, in milliseconds. */
+static uint64_t milliseconds(const char *key, const char *value)
+{
+	double seconds = -1;
+	char *end = NULL;
+
+	if (value && *value >= '0' && *value <= '9' && !strpbrk(value, "xXeEpP"))
+		seconds = strtod(value, &end);
+	if (!end || *end || !(seconds >= 0 && seconds <= 1e9))
+		refuse("no number of seconds, or one out of bounds, in ", key);
+	return (uint64_t)(seconds * 1000 + 0.5);
+}
+
+/* Takes an option of mount(8) that all file systems have. Whether it is one. */
+static bool take_flag(const char *key)
+{
+	static const struct {
+		const char *word;
+		unsigned long set, clear;
+	} known[] = { { "ro", MS_RDONLY, 0 }, { "rw", 0, MS_RDONLY }, { "noexec", MS_NOEXEC, 0 },
+		      { "exec", 0, MS_NOEXEC }, { "nosuid", MS_NOSUID, 0 }, { "suid", 0, MS_NOSUID },
+		      { "nodev", MS_NODEV, 0 }, { "dev", 0, MS_NODEV }, { "sync", MS_SYNCHRONOUS, 0 },
+		      { "async", 0, MS_SYNCHRONOUS }, { "dirsync", MS_DIRSYNC, 0 },
+		      { "noatime", MS_NOATIME, 0 }, { "atime", 0, MS_NOATIME },
+		      { "nodiratime", MS_NODIRATIME, 0 }, { "diratime", 0, MS_NODIRATIME },
+		      { "relatime", MS_RELATIME, 0 }, { "default_permissions", 0, 0 } };
+
+	for (size_t i = 0; i < sizeof(known) / sizeof(*known); i++)
+		if (!strcmp(key, known[i].word)) {
+			words.flags = (words.flags | known[i].set) & ~known[i].clear;
+			return true;
+		}
+	return false;
+}
+
+/* Takes one option of a mount: a word, or KEY=VALUE. */
+static void take_option(const char *key, char *value)
+{
+	if (!value && take_flag(key))
+		return;
+	if (!value && !strcmp(key, "allow_other"))
+		words.allow_other = ",allow_other";
+	else if (!value && !strcmp(key, "xattr"))
+		words.files.xattr = true;
+	else if (!value && !strcmp(key, "writeback"))
+		words.files.writeback = true;
+	else if (value && *value && !strcmp(key, "fsname"))
+		words.source = value;
+	else if (!strcmp(key, "max_read"))
+		words.max_read = number("max_read", value, 4096, TRANSPORT_PAYLOAD);
+	else if (!strcmp(key, "entry_timeout"))
+		words.files.entry_time = milliseconds(key, value);
+	else if (!strcmp(key, "attr_timeout"))
+		words.files.attr_time = milliseconds(key, value);
+	else if (!strcmp(key, "negative_timeout"))
+		words.files.negative_time = milliseconds(key, value);
+	else
+		refuse("there is no such option, or its value can't be: ", key);
+}
+
+static void take_options(char *rest)
+{
+	char *option;
+
+	while ((option = strsep(&rest, ","))) {
+		const char *key = strsep(&option, "=");
+
+		if (*key || option)
+			take_option(key, option);
+	}
+}
+
+enum word {
+	SHARED_DIR = 256, SOCKET_PATH, FD, SOCKET_GROUP, CACHE, WRITEBACK, XATTR, READONLY,
+	NO_READDIRPLUS, ANNOUNCE, NO_ANNOUNCE, FILE_HANDLES, MODCAPS, POOL, NOFILE, SANDBOX, SECCOMP, LOG,
+	TRACE, DAEMONIZE, PRINT, VERSION, HELP
+};
+
+static const struct option known_words[] = {
+	{ "shared-dir", required_argument, NULL, SHARED_DIR },
+	{ "socket-path", required_argument, NULL, SOCKET_PATH },
+	{ "fd", required_argument, NULL, FD },
+	{ "socket-group", required_argument, NULL, SOCKET_GROUP },
+	{ "cache", required_argument, NULL, CACHE },
+	{ "writeback", no_argument, NULL, WRITEBACK },
+	{ "xattr", no_argument, NULL, XATTR },
+	{ "readonly", no_argument, NULL, READONLY },
+	{ "no-readdirplus", no_argument, NULL, NO_READDIRPLUS },
+	{ "announce-submounts", no_argument, NULL, ANNOUNCE },
+	{ "no-announce-submounts", no_argument, NULL, NO_ANNOUNCE },
+	{ "inode-file-handles", required_argument, NULL, FILE_HANDLES },
+	{ "modcaps", required_argument, NULL, MODCAPS },
+	{ "thread-pool-size", required_argument, NULL, POOL },
+	{ "rlimit-nofile", required_argument, NULL, NOFILE },
+	{ "sandbox", required_argument, NULL, SANDBOX },
+	{ "seccomp", required_argument, NULL, SECCOMP },
+	{ "log-level", required_argument, NULL, LOG },
+	{ "trace", optional_argument, NULL, TRACE },
+	{ "daemonize", no_argument, NULL, DAEMONIZE },
+	{ "print-capabilities", no_argument, NULL, PRINT },
+	{ "version", no_argument, NULL, VERSION },
+	{ "help", no_argument, NULL, HELP },
+	{ 0 },
+};
+
+/* What is printed, and all then. */
+static _Noreturn void print(int word)
+{
+	if (word == PRINT)
+		puts("{\n  \"type\": \"fs\",\n  \"features\": [\n    \"separate-options\"\n  ]\n}");
+	else if (word == VERSION)
+		printf("nizwarf-share %d.%d.%d, FUSE 7.38, %s libseccomp\n", NIZWARF_VERSION_MAJOR,
+		       NIZWARF_VERSION_MINOR, NIZWARF_VERSION_PATCH, has_filter ? "with" : "without");
+	else
+		fputs(usage, stdout);
+	exit(fflush(stdout) != 0);
+}
+
+static void take_log_level(const char *value)
+{
+	static const char *const levels[] = { "off", "error", "warn", "info", "debug", "trace", NULL };
+	const int level = one_of("--log-level", value, levels);
+
+	words.is_off = level == 0;
+	words.says_more = level >= 3;
+	words.traces = level >= 4;
+}
+
+/* The number of a capability. */
+static int capability_of(const char *name)
+{
+	/* Those of linux/capability.h, from 0 on. */
+	static const char *const known[] = {
+		"chown", "dac_override", "dac_read_search", "fowner", "fsetid", "kill", "setgid", "setuid",
+		"setpcap", "linux_immutable", "net_bind_service", "net_broadcast", "net_admin", "net_raw",
+		"ipc_lock", "ipc_owner", "sys_module", "sys_rawio", "sys_chroot", "sys_ptrace", "sys_pacct",
+		"sys_admin", "sys_boot", "sys_nice", "sys_resource", "sys_time", "sys_tty_config", "mknod",
+		"lease", "audit_write", "audit_control", "setfcap", "mac_override", "mac_admin", "syslog",
+		"wake_alarm", "block_suspend", "audit_read", "perfmon", "bpf", "checkpoint_restore",
+	};
+
+	for (int i = 0; i < (int)(sizeof(known) / sizeof(*known)); i++)
+		if (!strcasecmp(name, known[i]))
+			return i;
+	refuse("--modcaps: there is no capability ", name);
+}
+
+/* Names with + or - before each, and colons between them. */
+static void take_capabilities(char *rest)
+{
+	char *one;
+
+	while ((one = strsep(&rest, ":"))) {
+		uint64_t bit;
+
+		if (!*one)
+			continue;
+		if (*one != '+' && *one != '-')
+			refuse("--modcaps: + or - is wanted before ", one);
+		bit = UINT64_C(1) << capability_of(one + 1);
+		words.files.more_capabilities &= ~bit;
+		words.files.fewer_capabilities &= ~bit;
+		*(*one == '+' ? &words.files.more_capabilities : &words.files.fewer_capabilities) |= bit;
+	}
+}
+
+static void take_word(int word)
+{
+	static const char *const caches[] = { "never", "auto", "always", "metadata", NULL };
+	static const char *const sandboxes[] = { "none", "chroot", "namespace", NULL };
+	static const char *const filters[] = { "none", "kill", "trap", "log", NULL };
+	static const char *const handles[] = { "never", "auto", "prefer", "mandatory", NULL };
+
+	switch (word) {
+	case 'o': take_options(optarg); break;
+	case SHARED_DIR: words.folder = optarg; break;
+	case SOCKET_PATH: words.socket_path = optarg; break;
+	case FD: words.fd = (int)number("--fd", optarg, 0, INT_MAX); break;
+	case SOCKET_GROUP: words.socket_group = optarg; break;
+	case CACHE:
+		words.files.cache = (enum passthrough_cache)one_of("--cache", optarg, caches);
+		break;
+	case WRITEBACK: words.files.writeback = true; break;
+	case XATTR: words.files.xattr = true; break;
+	case READONLY: words.files.read_only = true; break;
+	case NO_READDIRPLUS: words.files.readdirplus = false; break;
+	case ANNOUNCE: words.files.announce_submounts = true; break;
+	case NO_ANNOUNCE: words.files.announce_submounts = false; break;
+	case FILE_HANDLES:
+		words.files.file_handles =
+			(enum file_handles)one_of("--inode-file-handles", optarg, handles);
+		break;
+	case MODCAPS: take_capabilities(optarg); break;
+	case POOL:
+		words.files.workers = (unsigned)number("--thread-pool-size", optarg, 0,
+						       TRANSPORT_MOST_WORKERS);
+		words.files.workers += !words.files.workers;
+		break;
+	case NOFILE: words.most_files = number("--rlimit-nofile", optarg, 0, INT_MAX); break;
+	case SANDBOX: words.sandbox = one_of("--sandbox", optarg, sandboxes); break;
+	case SECCOMP: words.filter = one_of("--seccomp", optarg, filters); break;
+	case LOG: take_log_level(optarg); break;
+	case TRACE:
+		words.traces = true;
+		words.trace_file = optarg;
+		break;
+	case DAEMONIZE: words.daemonizes = true; break;
+	case 'h': print(HELP);
+	case 'V': print(VERSION);
+	case PRINT:
+	case VERSION:
+	case HELP: print(word);
+	default: refuse("there is no such word, or it lacks its value", "");
+	}
+}
+
+bool is_mount(void)
+{
+	return !words.socket_path && words.fd < 0;
+}
+
+/* Refuses words that can't be together. */
+static void hold_together(void)
+{
+	if (!words.folder)
+		refuse("a folder is wanted", "");
+	if (is_mount() && !words.mount_point)
+		refuse("a mount point is wanted, or --socket-path", "");
+	if (words.socket_path && words.fd >= 0)
+		refuse("--socket-path and --fd are not both wanted", "");
+	if (words.socket_group && !words.socket_path)
+		refuse("--socket-group is of --socket-path", "");
+	if (is_mount() && geteuid() != 0)
+		refuse("only root may mount: run it as root", "");
+	if (words.sandbox == SANDBOX_CHROOT && geteuid() != 0)
+		refuse("root alone has --sandbox=chroot", "");
+	if ((words.files.more_capabilities || words.files.fewer_capabilities) && geteuid() != 0)
+		refuse("root alone has --modcaps", "");
+	if (words.filter > FILTER_NONE && !has_filter)
+		refuse("--seccomp: it was built without libseccomp", "");
+}
+
+void take_words(int count, char **given)
+{
+	int word;
+
+	opterr = 0;
+	while ((word = getopt_long(count, given, "ho:V", known_words, NULL)) != -1)
+		take_word(word);
+	if (!words.folder && optind < count)
+		words.folder = given[optind++];
+	if (is_mount() && optind < count)
+		words.mount_point = given[optind++];
+	if (optind < count)
+		refuse("there is a word too many: ", given[optind]);
+	hold_together();
+	if (words.sandbox < 0)
+		words.sandbox = SANDBOX_NAMESPACE;
+	if (words.filter < 0)
+		words.filter = has_filter ? FILTER_KILL : FILTER_NONE;
+	if (words.files.read_only)
+		words.flags |= MS_RDONLY;
+	if (words.flags & MS_RDONLY)
+		words.files.read_only = true;
+}

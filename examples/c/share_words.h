@@ -1,0 +1,29 @@
+/* The words by which a share is started. */
+#ifndef SHARE_WORDS_H
+#define SHARE_WORDS_H
+
+#include <stdbool.h>
+#include "passthrough.h"
+
+/* What they say. -1: nothing was said. */
+struct share_words {
+	struct passthrough_options files;
+	const char *folder, *mount_point, *socket_path, *socket_group, *source;
+	const char *allow_other, *trace_file;
+	unsigned long flags, max_read, most_files;
+	int fd, sandbox, filter;
+	bool says_more, is_off, daemonizes, traces;
+};
+extern struct share_words words;
+
+/* Takes them, and holds them together. It ends if they can't be, or if one asks for something to be printed
+ * alone. */
+void take_words(int count, char **given);
+
+/* Whether a folder is mounted, and not served on a socket. */
+bool is_mount(void);
+
+/* Ends with status 2, since something that was said can't be, which is named. */
+_Noreturn void refuse(const char *why, const char *word);
+
+#endif
