@@ -11,7 +11,7 @@
 #   files and folders   are there; a part of a path, as `Ask.antt`, in the folder or crate that was
 #                       named last in the same line, else in the crate of the page's first heading
 #   names of code       stand in the sources. DIFFERENCES.md also has those of the Rust
-#   READMEs             each crate that is no example or test has one, by the families of ARCHITECTURE.md
+#   READMEs             each crate has one, and a place in a family of ARCHITECTURE.md
 #   edits               docs/generated/edits.md has just those of the repository
 #   blocks              one of Rust or C stands, as it is, in the file that the comment above it names,
 #                       <!-- FILE -->; of another block with such a comment each line does
@@ -104,7 +104,11 @@ OPCODES, HANDLED = (count(pattern, "crates/vfs_grammar/specs/Ask.antt")
 CALLS = count(r"^    fn ", "crates/vfs_files/src/filesystem.rt")
 RECORDS, MORE_RECORDS = (count(r"impl ByteValued for [A-Z]", f"crates/{crate}/src/")
                          for crate in ("vfs_wire", "vfs_wire_more"))
-REQUESTS = read("crates/vfs_sessions/stdin").split("\n# The generated requests.\n")[1].split("\n# What kernels")[0]
+# The stored requests: worked, generated, and what kernels asked, of which each session begins with one of the first
+# kind, which says what INIT wants.
+WORKED, GENERATED, KERNELS = (len(re.findall(r"^\d", part, re.M)) for part in re.split(
+    r"^# (?:The generated requests|What kernels asked)\..*", read("crates/vfs_sessions/stdin"), flags=re.M))
+SESSIONS = len(re.findall(r"^# (?:Linux|The same)", read("crates/vfs_sessions/stdin").split("# What kernels asked.")[1], re.M))
 # How many forms each hostile message has.
 FORMS = re.findall(r"^.*: (\d+) forms, ", read("crates/vfs_sessions/stdout"), re.M)
 # What a line counts, by the words around the number, and how many there are.
@@ -117,14 +121,17 @@ COUNTS = [
     (rf"{NUMBER} records: headers", RECORDS),
     (rf"{NUMBER} further records", MORE_RECORDS),
     (rf"all {NUMBER} records", RECORDS + MORE_RECORDS),
-    (rf"{NUMBER} generated ones", len(re.findall(r"^(?!#|answer )", REQUESTS, re.M))),
+    (rf"worked, {NUMBER} generated", GENERATED),
+    (rf"{NUMBER} worked", WORKED + SESSIONS),
+    (rf"{NUMBER} (?:of them recorded from|of) kernels", KERNELS - SESSIONS),
+    (rf"{NUMBER} stored requests, [\d,]+ of them recorded", WORKED + GENERATED + KERNELS),
+    (rf"stored lines of `vfs_sessions` hold {NUMBER} requests", WORKED + GENERATED + KERNELS),
     (rf"{NUMBER} messages, at least one for each opcode", len(FORMS)),
     (rf"{NUMBER} hostile forms", sum(map(int, FORMS))),
     (rf"folder `must-fail` has {NUMBER} edits", sum(crate == "example_tree" for crate, _ in edits)),
 ]
 # What several pages count.
-SAME = [rf"{NUMBER}(?: stored)? requests, (?:[\d,]+ of|the generated)", rf"requests, {NUMBER} of (?:them|which)",
-        rf"{NUMBER} hostile requests", rf"{NUMBER} wrong bodies"]
+SAME = [rf"{NUMBER} hostile requests", rf"{NUMBER} wrong bodies"]
 said_of = {}
 
 
@@ -295,10 +302,12 @@ for page in ("README.md", "docs/PROMISE.md"):
         faults.append(f"{page}: tools/measure/statement.sh counts otherwise: {counted}")
 families = re.findall(r"^\| ([a-z][^|]*) \| ([^|]*) \|$",
                       read("docs/ARCHITECTURE.md").split("| Family |")[1].split("\n\n")[0], re.M)
-for family, crates in families:
-    for crate in CODE.findall(crates):
-        if "tests" not in family and not os.path.exists(f"crates/{crate}/README.md"):
-            faults.append(f"crates/{crate}: it has no README.md")
+placed = {crate for _, crates in families for crate in CODE.findall(crates)}
+for crate in sorted(named):
+    if crate not in placed:
+        faults.append(f"docs/ARCHITECTURE.md: no family has {crate}")
+    if not os.path.exists(f"crates/{crate}/README.md"):
+        faults.append(f"crates/{crate}: it has no README.md")
 listed, crate = set(), ""
 for line in read("docs/generated/edits.md").splitlines():
     crate = line[3:] if line.startswith("## ") else crate
