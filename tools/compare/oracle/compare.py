@@ -127,12 +127,12 @@ def differences_of(way, name, text, status, got, wanted):
     bad = wanted.rpartition("\nbad line ")[1] or wanted.startswith("bad line ")
     wanted_status = 2 if bad else 0
     theirs, ours = wanted_blocks(way, wanted), blocks_of(way, got)
-    lines = text.splitlines()
-    before = 1 if lines[0].startswith("limit ") and theirs[0] != "bad line 1\n" else 0
+    asked, lines = sessions.requests_of(text), text.splitlines()
     for at, block in enumerate(theirs):
         mine = ours[at] if at < len(ours) else f"no answer, status {status}\n"
         if mine != block:
-            return [Difference(lines[at + before], way, name, at + before + 1, text, mine, block)]
+            number, line = asked[at] if at < len(asked) else (len(lines), lines[-1])
+            return [Difference(line, way, name, number, text, mine, block)]
     if len(ours) != len(theirs) or status != wanted_status:
         mine = f"{len(ours)} answers, status {status}\n"
         block = f"{len(theirs)} answers, status {wanted_status}\n"
@@ -158,8 +158,7 @@ def work(task):
             compared += len(blocks)
             differences += differences_of(way, name, text, status, got, wanted)
             if name.endswith(".cut") and way != "refusals":
-                lines = text.splitlines()
-                count(counts, lines[len(lines) - len(blocks):] if lines[0].startswith("limit ") else lines, blocks)
+                count(counts, [line for _, line in sessions.requests_of(text)], blocks)
             with done.get_lock():
                 done.value += len(blocks)
     return way, counts, compared, differences

@@ -20,6 +20,7 @@ kinds take turns:
     hostile      bytes without sense, and headers that lead somewhere with bytes without sense behind them
     mutated      requests that a kernel asked, with a byte, a number or a piece of them changed
     full         long runs of one opcode; in memory a thousand files and more
+    told         scripted answers at their extremes: nodes, handles, errors, options, long and odd names of items
     badline      a line that is none, at the end
 
 Beside them stand the sessions that kernels were recorded to ask, in the folder recorded.
@@ -32,7 +33,7 @@ import sys
 HERE = pathlib.Path(__file__).resolve().parent
 
 KINDS = ["valid", "mixed", "truncated", "lengths", "rooms", "cuts", "extensions", "directories", "transfers",
-         "entries", "limits", "hostile", "mutated", "full", "badline"]
+         "entries", "limits", "hostile", "mutated", "full", "told", "badline"]
 # How many requests a session has, and those of other sizes.
 LINES = 320
 SIZES = {"full": 1070, "badline": 6}
@@ -52,6 +53,8 @@ NAMING = [1, 6, 8, 9, 10, 11, 12, 13, 21, 22, 24, 35, 45]
 ANSWERING_ENTRIES = [1, 6, 8, 9, 13, 35]
 EXTENDED = [6, 8, 9, 35]
 DIRECTORY = [28, 44]
+# What makes no call that is answered.
+UNANSWERED = [2, 36, 38, 42]
 NO_OPCODES = [0, 7, 19, 52, 0xffffffff]
 
 
@@ -603,6 +606,58 @@ class Session:
                 body = (bytes(16) if opcode == 35 else b"") + name + b"\0"
                 self.line(self.header(opcode, 40 + len(body), 1, 0) + body, 160, 0)
 
+    def tell(self, answer):
+        """What the next call is answered."""
+        self.answered += len(answer)
+        self.lines.append(f"answer {answer}")
+
+    def told_fault(self):
+        r = self.rng
+        return "fault " + str(r.choice(["none", 1, 2, 133, 134, 135, 511, 512, 4095, 4096, 65535, 65536, (1 << 31) - 2,
+                                        (1 << 31) - 1, r.randrange(1, 1 << 31)]))
+
+    def told_value(self):
+        return self.told_fault() if self.rng.random() < 0.2 else str(self.odd64())
+
+    def told_items(self, long):
+        """Items of a directory, one with a long name if that is wanted, and the bytes of their names."""
+        r = self.rng
+        names = []
+        for _ in range(r.randrange(1, 7)):
+            length = r.choice([0, 1, 2, 3, 7, 8, 9, 255, 256, r.randrange(300), r.randrange(301, 3000)])
+            odd = bytes(r.randrange(1, 256) for _ in range(length))
+            names.append(r.choice([b".", b"..", b"..", b"...", b"..a", b"..\xff", b".a", b"a..", b"/", odd, odd, odd]))
+        if long:
+            names.insert(r.randrange(2), b"n" * r.choice([65535, 65536, 65537]))
+        items = [f"{self.odd64()},{self.odd64()},{self.odd32()},{name.hex()}" for name in names]
+        return r.choice(["items ", "items ", "items ", "endless "]) + " ".join(items), names
+
+    def told_directory(self, long=False):
+        r = self.rng
+        opcode = r.choice(DIRECTORY)
+        answer, names = self.told_items(long)
+        self.tell(answer)
+        fits = sum(24 + len(name) + -len(name) % 8 + (128 if opcode == 44 else 0) for name in names)
+        if opcode == 44:
+            for _ in range(r.choice([0, 1, len(names)])):
+                self.tell(self.told_value())
+        size = fits if long else r.choice([fits, fits, fits - 1, fits + 100, max(0, fits - r.randrange(200))])
+        self.read_directory(opcode, max(0, size), size + 16, 0)
+
+    def told(self):
+        if self.files == "memory":
+            self.mixed()
+            return
+        self.agree()
+        opcodes = [it for it in OPCODES if it not in UNANSWERED + DIRECTORY] + ANSWERING_ENTRIES * 2 + [14, 27, 26] * 2
+        for at in range(40):
+            self.told_directory(long=at == 0 and self.answered < MOST_ANSWERED // 4)
+            opcode = self.rng.choice(opcodes)
+            message, reply = self.message(opcode)
+            self.tell(self.told_value())
+            self.line(message, reply if opcode not in (5, 22, 23) else 600)
+            self.options = 0 if opcode == 26 else self.options
+
     def badline(self):
         r = self.rng
         for _ in range(self.size - 1):
@@ -613,7 +668,9 @@ class Session:
             "16", "", " ", "16  " + good, "16 " + good + " ", "16 " + good[:-1], "16 " + good + "g0", "1a " + good,
             "+16 " + good, "16+ " + good, "16++1 " + good, "00000016 " + good, "2097153 " + good, "2097152+1 " + good,
             "-1 " + good, "16 " + good + "\r", " " + good, "16\t" + good, "16 0x" + good, "16,16 " + good, "limit 8192",
-            "answer", "16 +" + good + "+z", "limit 4095", "Limit 4096",
+            "answer", "16 +" + good + "+z", "limit 4095", "Limit 4096", "answer x", "answer fault 0", "answer fault -1",
+            "answer items 1,2,3", "answer items 1,2,4294967296,61", "answer items 1,2,3,6100", "answer items 1,2,3,6",
+            "answer endless", "answer 18446744073709551616", "answer fault 2147483648",
         ]))
 
     def text(self, kind):
@@ -646,12 +703,19 @@ def numbers(count):
     return found
 
 
+def requests_of(text):
+    """The lines of a session that are answered, each with its number."""
+    lines = text.splitlines()
+    return [(number, line) for number, line in enumerate(lines, 1)
+            if not line.startswith("answer ") and (number > 1 or not line.startswith("limit "))]
+
+
 def flat(text):
     """The same session with each request in one segment and one room."""
     lines = []
     for line in text.splitlines():
         rooms, space, segments = line.partition(" ")
-        if space and rooms != "limit":
+        if space and rooms not in ("limit", "answer"):
             line = f"{sum(map(int, rooms.split('+')))} {segments.replace('+', '')}"
         lines.append(line)
     return "\n".join(lines) + "\n"

@@ -90,3 +90,4 @@ pub mod noted;
 pub mod nullfs;
 pub mod request;
 pub mod seededfs;
+pub mod told;

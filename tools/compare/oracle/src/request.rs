@@ -42,7 +42,7 @@ pub fn parse_limit(line: &[u8]) -> Option<u32> {
     (4096..=134_217_728).contains(&limit).then_some(limit)
 }
 
-fn unhex(text: &[u8]) -> Option<Vec<u8>> {
+pub fn unhex(text: &[u8]) -> Option<Vec<u8>> {
     if text.len() % 2 != 0 {
         return None;
     }

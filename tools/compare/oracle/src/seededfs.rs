@@ -1,10 +1,11 @@
-//! The scripted file system of `vfs_seeded`, written again for virtiofsd's trait, from the rules that
-//! stand at the head of the modules there: each answer is a function of the caller's process.
+//! The scripted file system of `vfs_seeded`, written again for virtiofsd's trait, from the rules at the
+//! head of the modules there: each answer is told, or else a function of the caller's process.
 use crate::file::{File, Positioned};
 use crate::filesystem::*;
 use crate::fuse::{Attr, SetattrIn};
 use crate::noted::Notes;
 use crate::request::hex;
+use crate::told::{Answers, Item, Told};
 use std::ffi::{CStr, CString};
 use std::io;
 use std::sync::atomic::{AtomicU32, Ordering};
@@ -19,7 +20,55 @@ fn os<T>(n: i32) -> io::Result<T> {
 
 pub struct SeededFs {
     word: AtomicU32,
+    answers: Answers,
     notes: Notes,
+}
+
+/// What an answer that is no fault hangs on.
+enum Source {
+    /// A number that a line tells.
+    Told(u64),
+    /// The seed.
+    Seed(u64),
+}
+
+impl Source {
+    /// The seed, or what is told in its place.
+    fn seed(self) -> u64 {
+        match self {
+            Source::Told(value) => value % (1 << 32),
+            Source::Seed(q) => q,
+        }
+    }
+    fn entry(self, name: &CStr, ctx: Context) -> Entry {
+        match self {
+            Source::Told(inode) => bare_entry(inode),
+            Source::Seed(q) => entry(q, name, ctx),
+        }
+    }
+    fn opening(self) -> (Option<u64>, OpenOptions) {
+        match self {
+            Source::Told(handle) => (Some(handle), OpenOptions::empty()),
+            Source::Seed(q) => (handle(q), opts(q)),
+        }
+    }
+    fn creation(self, name: &CStr, ctx: Context) -> (Entry, Option<u64>, OpenOptions) {
+        match self {
+            Source::Told(inode) => (bare_entry(inode), None, OpenOptions::empty()),
+            Source::Seed(q) => (entry(q, name, ctx), handle(q), opts(q)),
+        }
+    }
+}
+
+/// The entry of a node that is told.
+fn bare_entry(inode: u64) -> Entry {
+    Entry {
+        inode,
+        generation: 0,
+        attr: Attr::default(),
+        attr_timeout: Duration::ZERO,
+        entry_timeout: Duration::ZERO,
+    }
 }
 
 fn bytes(q: u64, n: u64) -> Vec<u8> {
@@ -69,6 +118,17 @@ fn handle(q: u64) -> Option<u64> {
 fn opts(q: u64) -> OpenOptions {
     OpenOptions::from_bits_truncate((q % 128) as u32)
 }
+/// The options that INIT wants, by their bits.
+fn wanted(q: u64) -> u64 {
+    match q % 6 {
+        0 => 0,
+        1 => u64::MAX,
+        2 => 1 << 32,
+        3 => 1 << 29,
+        4 => 1 << 29 | 1 << 32,
+        _ => 1 << 13 | 1 << 17 | 1 << 28 | 1 << 29 | 1 << 32,
+    }
+}
 fn fault_of(p: u64) -> io::Result<()> {
     if p % 8 != 7 {
         return Ok(());
@@ -85,18 +145,44 @@ fn fault_of(p: u64) -> io::Result<()> {
 }
 
 impl SeededFs {
-    pub fn new(notes: Notes) -> SeededFs {
-        SeededFs { word: AtomicU32::new(0), notes }
+    pub fn new(answers: Answers, notes: Notes) -> SeededFs {
+        SeededFs { word: AtomicU32::new(0), answers, notes }
     }
-    /// Keeps the word of a call that has a caller, and answers by it.
-    fn q(&self, ctx: Context) -> io::Result<u64> {
+    /// Keeps the word of a call that has a caller.
+    fn keep(&self, ctx: Context) {
         self.word.store(ctx.pid as u32, Ordering::Relaxed);
-        self.plain()
     }
-    fn plain(&self) -> io::Result<u64> {
+    /// The seed by the word, or its fault.
+    fn by_word(&self) -> io::Result<Source> {
         let p = self.word.load(Ordering::Relaxed) as u64;
         fault_of(p)?;
-        Ok(p / 8)
+        Ok(Source::Seed(p / 8))
+    }
+    fn told(&self, told: Told) -> io::Result<Source> {
+        match told {
+            Told::Value(value) => Ok(Source::Told(value)),
+            Told::Fault(Some(number)) => os(number),
+            Told::Fault(None) => none(),
+            Told::Directory(..) => Ok(Source::Told(0)),
+        }
+    }
+    /// What the answer of a call without a caller hangs on.
+    fn source(&self) -> io::Result<Source> {
+        match self.answers.take() {
+            Some(told) => self.told(told),
+            None => self.by_word(),
+        }
+    }
+    /// The same of one that has a caller.
+    fn source_by(&self, ctx: Context) -> io::Result<Source> {
+        self.keep(ctx);
+        self.source()
+    }
+    fn q(&self, ctx: Context) -> io::Result<u64> {
+        Ok(self.source_by(ctx)?.seed())
+    }
+    fn plain(&self) -> io::Result<u64> {
+        Ok(self.source()?.seed())
     }
     fn file(&self, q: u64) -> File {
         File::new(ScriptFile { q, calls: 0, notes: self.notes.clone() })
@@ -168,12 +254,42 @@ impl Positioned for ScriptFile {
     }
 }
 
-pub struct ScriptDir {
+pub enum ScriptDir {
+    Seeded(SeededDir),
+    Told(ToldDir),
+}
+impl DirectoryIterator for ScriptDir {
+    fn next(&mut self) -> Option<DirEntry<'_>> {
+        match self {
+            ScriptDir::Seeded(items) => items.next(),
+            ScriptDir::Told(items) => items.next(),
+        }
+    }
+}
+
+/// A directory whose items are told, whatever the offset.
+pub struct ToldDir {
+    items: Vec<Item>,
+    endless: bool,
+    place: usize,
+}
+impl ToldDir {
+    fn next(&mut self) -> Option<DirEntry<'_>> {
+        if self.endless && self.place == self.items.len() {
+            self.place = 0;
+        }
+        let item = self.items.get(self.place)?;
+        self.place += 1;
+        Some(DirEntry { ino: item.ino, offset: item.offset, type_: item.type_, name: &item.name })
+    }
+}
+
+pub struct SeededDir {
     q: u64,
     k: u64,
     name: CString,
 }
-impl DirectoryIterator for ScriptDir {
+impl SeededDir {
     fn next(&mut self) -> Option<DirEntry<'_>> {
         let (q, k) = (self.q, self.k);
         if q % 31 != 30 && k >= q % 23 {
@@ -202,31 +318,28 @@ impl FileSystem for SeededFs {
     type DirIter = ScriptDir;
 
     fn init(&self, _capable: FsOptions) -> io::Result<FsOptions> {
-        let q = self.plain()?;
-        let want = match q % 6 {
-            0 => 0,
-            1 => u64::MAX,
-            2 => 1 << 32,
-            3 => 1 << 29,
-            4 => 1 << 29 | 1 << 32,
-            _ => 1 << 13 | 1 << 17 | 1 << 28 | 1 << 29 | 1 << 32,
+        let want = match self.source()? {
+            Source::Told(bits) => bits,
+            Source::Seed(q) => wanted(q),
         };
         Ok(FsOptions::from_bits_truncate(want))
     }
     fn destroy(&self) {}
     fn forget(&self, ctx: Context, _inode: u64, _count: u64) {
-        let _ = self.q(ctx);
+        self.keep(ctx);
     }
     fn batch_forget(&self, ctx: Context, _requests: Vec<(u64, u64)>) {
-        let _ = self.q(ctx);
+        self.keep(ctx);
     }
     fn lookup(&self, ctx: Context, _parent: u64, name: &CStr) -> io::Result<Entry> {
-        let q = self.q(ctx);
-        match name.to_bytes().first() {
-            Some(b'x') => os(libc::ENOENT),
-            Some(b'y') => none(),
-            _ => Ok(entry(q?, name, ctx)),
-        }
+        self.keep(ctx);
+        let source = match (self.answers.take(), name.to_bytes().first()) {
+            (Some(told), _) => self.told(told),
+            (None, Some(b'x')) => os(libc::ENOENT),
+            (None, Some(b'y')) => none(),
+            (None, _) => self.by_word(),
+        };
+        Ok(source?.entry(name, ctx))
     }
     fn getattr(&self, ctx: Context, inode: u64, handle: Option<u64>) -> io::Result<(Attr, Duration)> {
         let t = self.q(ctx)? + inode % 1000 + handle.unwrap_or(0) % 7;
@@ -263,7 +376,7 @@ impl FileSystem for SeededFs {
         Ok(bytes(q, q % 300))
     }
     fn symlink(&self, ctx: Context, _link: &CStr, _parent: u64, name: &CStr, _x: Extensions) -> io::Result<Entry> {
-        Ok(entry(self.q(ctx)?, name, ctx))
+        Ok(self.source_by(ctx)?.entry(name, ctx))
     }
     fn mknod(
         &self,
@@ -275,10 +388,10 @@ impl FileSystem for SeededFs {
         _umask: u32,
         _x: Extensions,
     ) -> io::Result<Entry> {
-        Ok(entry(self.q(ctx)?, name, ctx))
+        Ok(self.source_by(ctx)?.entry(name, ctx))
     }
     fn mkdir(&self, ctx: Context, _parent: u64, name: &CStr, _mode: u32, _umask: u32, _x: Extensions) -> io::Result<Entry> {
-        Ok(entry(self.q(ctx)?, name, ctx))
+        Ok(self.source_by(ctx)?.entry(name, ctx))
     }
     fn unlink(&self, ctx: Context, _parent: u64, _name: &CStr) -> io::Result<()> {
         self.q(ctx).map(drop)
@@ -290,11 +403,10 @@ impl FileSystem for SeededFs {
         self.q(ctx).map(drop)
     }
     fn link(&self, ctx: Context, _inode: u64, _parent: u64, name: &CStr) -> io::Result<Entry> {
-        Ok(entry(self.q(ctx)?, name, ctx))
+        Ok(self.source_by(ctx)?.entry(name, ctx))
     }
     fn open(&self, ctx: Context, _inode: u64, _kill_priv: bool, _flags: u32) -> io::Result<(Option<u64>, OpenOptions)> {
-        let q = self.q(ctx)?;
-        Ok((handle(q), opts(q)))
+        Ok(self.source_by(ctx)?.opening())
     }
     fn create(
         &self,
@@ -307,8 +419,7 @@ impl FileSystem for SeededFs {
         _umask: u32,
         _x: Extensions,
     ) -> io::Result<(Entry, Option<u64>, OpenOptions)> {
-        let q = self.q(ctx)?;
-        Ok((entry(q, name, ctx), handle(q), opts(q)))
+        Ok(self.source_by(ctx)?.creation(name, ctx))
     }
     fn read<W: ZeroCopyWriter>(
         &self,
@@ -389,11 +500,18 @@ impl FileSystem for SeededFs {
         self.q(ctx).map(drop)
     }
     fn opendir(&self, ctx: Context, _inode: u64, _flags: u32) -> io::Result<(Option<u64>, OpenOptions)> {
-        let q = self.q(ctx)?;
-        Ok((handle(q), opts(q)))
+        Ok(self.source_by(ctx)?.opening())
     }
     fn readdir(&self, ctx: Context, _inode: u64, _handle: u64, _size: u32, offset: u64) -> io::Result<ScriptDir> {
-        Ok(ScriptDir { q: self.q(ctx)?, k: offset, name: CString::default() })
+        self.keep(ctx);
+        let source = match self.answers.take() {
+            Some(Told::Directory(items, endless)) => {
+                return Ok(ScriptDir::Told(ToldDir { items, endless, place: 0 }));
+            }
+            Some(told) => self.told(told),
+            None => self.by_word(),
+        };
+        Ok(ScriptDir::Seeded(SeededDir { q: source?.seed(), k: offset, name: CString::default() }))
     }
     fn fsyncdir(&self, ctx: Context, _inode: u64, _datasync: bool, _handle: u64) -> io::Result<()> {
         self.q(ctx).map(drop)

@@ -1,6 +1,7 @@
 //! oracle script|memory|rooms [IN OUT]: answers the lines of sessions as virtiofsd's own code does.
 //!
-//! - `script` answers as `vfs_sessions` does, with the calls of the scripted file system below each answer;
+//! - `script` answers as `vfs_sessions` does, with the calls of the scripted file system below each answer,
+//!   which lines `answer ..` may tell what to answer;
 //! - `memory` answers as `vfs_demo` does, over files in memory;
 //! - `rooms` the same files, but for each request its outcome, its whole room and the options that are
 //!   agreed behind it, as `vfs_sessions` does behind its line `refusals`.
@@ -13,6 +14,7 @@ use oracle::noted::{Noted, Notes};
 use oracle::request::{parse_line, serve};
 use oracle::seededfs::SeededFs;
 use oracle::server::Server;
+use oracle::told::{parse_told, Answers};
 use std::fmt::Write as _;
 use std::io::{self, Read, Write as _};
 use std::sync::atomic::Ordering;
@@ -51,11 +53,12 @@ fn main() {
 
 /// The answers to a session's lines, and the status that the program ends with.
 fn session(way: Way, input: &[u8]) -> (String, i32) {
-    let notes = Notes::default();
+    let (answers, notes) = (Answers::default(), Notes::default());
     if way == Way::Script {
-        answer_all(Noted { inner: SeededFs::new(notes.clone()), notes: notes.clone() }, notes, way, input)
+        let inner = SeededFs::new(answers.clone(), notes.clone());
+        answer_all(Noted { inner, notes: notes.clone() }, answers, notes, way, input)
     } else {
-        answer_all(MemFs::default(), notes, way, input)
+        answer_all(MemFs::default(), answers, notes, way, input)
     }
 }
 
@@ -71,7 +74,7 @@ fn set_limit(_line: Option<&&[u8]>) -> bool {
     false
 }
 
-fn answer_all<F: FileSystem + Sync>(fs: F, notes: Notes, way: Way, input: &[u8]) -> (String, i32) {
+fn answer_all<F: FileSystem + Sync>(fs: F, answers: Answers, notes: Notes, way: Way, input: &[u8]) -> (String, i32) {
     let server = Server::new(fs);
     let mut out = String::new();
     let mut lines: Vec<&[u8]> = input.split(|&c| c == b'\n').collect();
@@ -80,6 +83,14 @@ fn answer_all<F: FileSystem + Sync>(fs: F, notes: Notes, way: Way, input: &[u8])
     }
     let before = set_limit(lines.first()) as usize;
     for (i, text) in lines.iter().enumerate().skip(before) {
+        if way == Way::Script && text.starts_with(b"#") {
+            continue;
+        }
+        let told = text.strip_prefix(b"answer ").filter(|_| way == Way::Script);
+        if let Some(told) = told.and_then(parse_told) {
+            answers.add(told);
+            continue;
+        }
         let Some(line) = parse_line(text) else {
             if way != Way::Rooms {
                 writeln!(out, "bad line {}", i + 1).unwrap();
