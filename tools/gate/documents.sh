@@ -12,7 +12,6 @@
 #                       named last in the same line, else in the crate of the page's first heading
 #   names of code       stand in the sources. DIFFERENCES.md also has those of the Rust
 #   READMEs             each crate has one, and a place in a family of ARCHITECTURE.md
-#   edits               docs/generated/edits.md has just those of the repository
 #   blocks              one of Rust or C stands, as it is, in the file that the comment above it names,
 #                       <!-- FILE -->; of another block with such a comment each line does
 #   commands            a path that begins an indented line is a file that can be run
@@ -308,13 +307,6 @@ for crate in sorted(named):
         faults.append(f"docs/ARCHITECTURE.md: no family has {crate}")
     if not os.path.exists(f"crates/{crate}/README.md"):
         faults.append(f"crates/{crate}: it has no README.md")
-listed, crate = set(), ""
-for line in read("docs/generated/edits.md").splitlines():
-    crate = line[3:] if line.startswith("## ") else crate
-    listed |= {(crate, name) for name in re.findall(r"^\| `(\w+)` \|", line)}
-for crate, edit in sorted(edits ^ listed):
-    where = "lacks" if (crate, edit) in edits else "has, and the crate has not,"
-    faults.append(f"docs/generated/edits.md {where} {edit} of {crate}: run tools/gate/edits-table.sh")
 trusted = read("README.md").partition("**Trusted**")[2]
 kit_crates = {name for line in re.findall(r"^\w+.*: (.*)", read("crates.txt"), re.M) for name in line.split()}
 for name in sorted(kit_crates - CRATE_NAMES - {"core", "std_alloc"} - set(CODE.findall(trusted))):

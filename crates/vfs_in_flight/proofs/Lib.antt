@@ -1,3 +1,4 @@
 pub mod Flight
 pub mod Asking
 pub mod OneTurn
+pub mod Telling

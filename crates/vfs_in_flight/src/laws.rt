@@ -9,6 +9,14 @@ ghost use Rattle.vfs_grammar.specs.Turn.{AreTurns};
 ghost use Rattle.vfs_grammar.specs.declared.limits.Limits.{Limits};
 ghost use Rattle.vfs_in_flight.specs.Flight.{Waiting, Moment, turns_answered, AreInFlight, AreAskedInTime};
 ghost use Rattle.vfs_in_flight.specs.OneTurn.{AreOneTurn};
+ghost use Rattle.vfs_in_flight.specs.ToldCall.{ToldIsCall};
+
+/// What is told of a call determines it: the numbers, and the bytes of the request in the ranges
+/// that are told. Of SETATTR, SETXATTR and INIT the sets of flags are of known ones, as those of
+/// requests are.
+pub fn what_is_told_is_the_call()
+    ensures { ToldIsCall }
+{}
 
 /// A request that was asked for its call, and whose call was answered, is one turn of the grammar, under the
 /// options that it was asked with: its call is the one that was told, the answer the one that the data say,

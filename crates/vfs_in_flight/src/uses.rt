@@ -3,16 +3,21 @@
 ghost use Rattle.std.specs.Prelude.{◌≡◌, ℕ, List, [], ◌∷◌, length, IfSome};
 ghost use Rattle.vfs_flags.specs.Flags.{fs_options_bits};
 ghost use Rattle.vfs_messages.specs.Rooms.{with_behind};
+ghost use Rattle.vfs_files.specs.Calls.{Call};
 ghost use Rattle.vfs_grammar.specs.Limits.{AreLimits};
 ghost use Rattle.vfs_grammar.specs.Books.{KeepsBooks};
 ghost use Rattle.vfs_grammar.specs.Turn.{AreTurns, Turn};
 ghost use Rattle.vfs_grammar.specs.declared.limits.Limits.{Limits};
-ghost use Rattle.vfs_ask.specs.Asked.{IsEnough};
+ghost use Rattle.vfs_grammar.specs.Reply.{Echo};
+ghost use Rattle.vfs_calls.specs.declared.call.CallData.{CallData};
+ghost use Rattle.vfs_ask.specs.Asked.{IsEnough, IsTold};
 ghost use Rattle.vfs_in_flight.specs.Flight.{Waiting, IsTurnOf};
 ghost use Rattle.vfs_in_flight.specs.OneTurn.{IsAnsweredTurn};
+ghost use Rattle.vfs_in_flight.specs.ToldCall.{HasKnownSets, told_as_call};
 
 use crate::laws::{
     asked_and_answered_is_one_turn, turns_in_flight_are_in_order, turns_in_flight_keep_books,
+    what_is_told_is_the_call,
 };
 use std::alloc::Global;
 use vfs_answer::{Answered, answer};
@@ -66,4 +71,13 @@ fn one_behind_another()
         (after : ℕ) × AreTurns limits a.options (s ∷ t ∷ []) after }
 {
     turns_in_flight_are_in_order();
+}
+
+/// Two calls that the same data tell, of the same request, are one call.
+fn calls_told_alike()
+    ensures { (request : List ℕ) (options room : ℕ) (one other : Echo) (a b : Call) (told : CallData) →
+        HasKnownSets a → HasKnownSets b → IsTold request options room one a told →
+        IsTold request options room other b told → told_as_call a ≡ told_as_call b }
+{
+    what_is_told_is_the_call();
 }

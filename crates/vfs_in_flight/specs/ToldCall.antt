@@ -1,5 +1,5 @@
--- The call that the data of a call tell, over the bytes of its request.
-use Rattle.std.specs.Prelude.{◌==◌, ℕ, List, Option, None, Some, bit_and, if◌then◌else◌}
+-- The call that the data of a call tell, over the bytes of its request: what is told determines the call.
+use Rattle.std.specs.Prelude.{◌≡◌, ◌==◌, ⊤, ℕ, List, Option, None, Some, bit_and, if◌then◌else◌}
 use Rattle.vfs_flags.specs.Flags.{known_fs_options, known_setattr_valid, known_setxattr_flags}
 use Rattle.vfs_wire.specs.declared.attributes.SetattrIn.{SetattrIn}
 use Rattle.vfs_files.specs.Calls.{Call}
@@ -8,9 +8,10 @@ use Rattle.vfs_files.specs.Values.{ExtensionValues}
 use Rattle.vfs_files.specs.declared.entry.Context.{Context}
 use Rattle.vfs_grammar.specs.Ask.{if_set, has_flag}
 use Rattle.vfs_grammar.specs.Forms.{pairs_of}
+use Rattle.vfs_grammar.specs.Reply.{Echo}
 use Rattle.vfs_calls.specs.declared.call.CallData.{CallData}
 use Rattle.vfs_calls.specs.declared.call.SetattrData.{SetattrData}
-use Rattle.vfs_ask.specs.Asked.{bytes_in}
+use Rattle.vfs_ask.specs.Asked.{IsTold, bytes_in}
 
 -- the bytes of a request in the ranges that are told
 pub record Parts : Type 0 where
@@ -322,3 +323,25 @@ call_by_kind kind told parts =
 -- the call that is told, if one is: the reading of a directory is none
 abbrev pub call_told : (request : List ℕ) → CallData → Option Call
 call_told request told = call_by_kind told.answer told (parts_in request told)
+
+-- ---- what is told determines the call
+
+-- the sets of flags of a call are of known ones
+abbrev pub HasKnownSets : Call → Type 0
+HasKnownSets (call.Setattr ctx inode attr handle valid) = bit_and valid known_setattr_valid ≡ valid
+HasKnownSets (call.Setxattr ctx inode name value flags extra) = bit_and extra known_setxattr_flags ≡ extra
+HasKnownSets (call.Init capable) = bit_and capable known_fs_options ≡ capable
+HasKnownSets call = ⊤
+
+-- the call, unless it is that of a directory, which is told as a reading of it
+abbrev pub told_as_call : Call → Option Call
+told_as_call (call.Readdir ctx inode handle size offset) = None
+told_as_call call = Some call
+
+-- What is told of a call, whose sets of flags are known, is that call, with its names and values from the
+-- request.
+abbrev pub ToldIsCall : Type 0
+ToldIsCall =
+    (request : List ℕ) (options room : ℕ) (echo : Echo) (call : Call) (told : CallData)
+    → HasKnownSets call → IsTold request options room echo call told
+    → call_told request told ≡ told_as_call call

@@ -9,8 +9,7 @@ use Rattle.vfs_grammar.specs.Ask.{if_set, has_flag}
 use Rattle.vfs_calls.specs.Shapes.{bit, bit_of, context_bit}
 use Rattle.vfs_calls.specs.declared.call.CallData.{CallData}
 use Rattle.vfs_ask.specs.Asked.{IsContextPlaced, bytes_in, told_of, without_places}
-use Rattle.vfs_make.specs.Told.{Parts, parts_in, extensions_of, call_by_kind, data_call, quiet_call, done_call, untold_call, want_call, entry_call, attr_call, open_call, create_call, statistics_call, text_call, text_or_count_call, offset_call, written_call, fault_call}
-use Rattle.vfs_make.specs.Asked.{ToldIsCall}
+use Rattle.vfs_in_flight.specs.ToldCall.{Parts, parts_in, extensions_of, call_by_kind, data_call, quiet_call, done_call, untold_call, want_call, entry_call, attr_call, open_call, create_call, statistics_call, text_call, text_or_count_call, offset_call, written_call, fault_call, ToldIsCall}
 
 -- the places are not looked at
 places_aside : (told : CallData) (parts : Parts)
