@@ -56,9 +56,10 @@ static void raise_limit(void)
 		return;
 	limit.rlim_cur = limit.rlim_max;
 	setrlimit(RLIMIT_NOFILE, &limit);
-	if (words.says_more)
-		fprintf(stderr, "nizwarf-share: at most %llu files can be open\n",
-			(unsigned long long)limit.rlim_max);
+	/* (unasked it is as many as may be) */
+	if (words.says_more && words.wants_files)
+		fprintf(stderr, "nizwarf-share: at most %llu files can be open, and not %lu\n",
+			(unsigned long long)limit.rlim_max, words.most_files);
 }
 
 /* Makes the table of descriptors as large as most folders want. To grow it while there are threads
@@ -156,6 +157,26 @@ static void tell_ready(void *user)
 	go_quiet();
 }
 
+/* Gives a new socket to a group. It is named by a descriptor: who may write to its folder may have put a link in
+ * its place. */
+static int give_to_group(const char *path, gid_t group)
+{
+	const int fd = open(path, O_PATH | O_NOFOLLOW | O_CLOEXEC);
+	struct stat is;
+	int why = 0;
+
+	if (fd < 0 || fstat(fd, &is))
+		why = errno;
+	else if (!S_ISSOCK(is.st_mode))
+		why = ENOTSOCK;
+	else if (fchownat(fd, "", (uid_t)-1, group, AT_EMPTY_PATH))
+		why = errno;
+	if (fd >= 0)
+		close(fd);
+	errno = why;
+	return why ? -1 : 0;
+}
+
 /* Listens for the owner, and for the group of those who may connect too. */
 static int listen_on_socket(const transport *of)
 {
@@ -173,13 +194,13 @@ static int listen_on_socket(const transport *of)
 	}
 	if (words.socket_group && !group)
 		refuse("there is no group ", words.socket_group);
-	before = umask(0177);
+	/* (it has its mode as soon as it is there) */
+	before = umask(group ? 0117 : 0177);
 	listener = vhost_user_listen(of, words.socket_path);
 	umask(before);
 	if (listener < 0)
 		exit(-listener);
-	if (group && (chown(words.socket_path, (uid_t)-1, group->gr_gid) ||
-		      chmod(words.socket_path, 0660))) {
+	if (group && give_to_group(words.socket_path, group->gr_gid)) {
 		failed(words.socket_path);
 		unlink(words.socket_path);
 		exit(1);

@@ -26,7 +26,10 @@ static const char usage[] =
 	"                            async, dirsync, atime, noatime, nodiratime, relatime, and\n"
 	"                            entry_timeout=SECONDS, attr_timeout=SECONDS: how long names\n"
 	"                            and attributes are remembered; negative_timeout=SECONDS: how\n"
-	"                            long, that there is no such name (0); xattr, writeback\n"
+	"                            long, that there is no such name (0); or virtiofsd's, as managers\n"
+	"                            of machines write them: source=FOLDER, cache=WHAT, sandbox=HOW,\n"
+	"                            modcaps=LIST, loglevel=LEVEL, xattr, writeback, readdirplus,\n"
+	"                            no_xattr, no_flock ..\n"
 	"  --shared-dir=FOLDER       the folder, in place of the word\n"
 	"  --socket-path=SOCKET      listens on a new socket of this path\n"
 	"  --fd=N                    listens on the socket of this descriptor\n"
@@ -52,10 +55,13 @@ static const char usage[] =
 	"                            doesn't make (kill if it is built in)\n"
 	"  --log-level=LEVEL         off, error, warn, info (the default), debug\n"
 	"  --trace[=FILE]            prints each request and reply, as --log-level=debug, or writes\n"
-	"                            their bytes to a new FILE for vfs_decode\n"
+	"                            their bytes to a new FILE for nizwarf-decode\n"
 	"  --daemonize               goes to the background once it serves\n"
 	"  --print-capabilities      what a vhost-user back end of a machine can, as JSON\n"
-	"  --version, --help\n";
+	"  --version, --help\n"
+	"What a guest's root makes is root's on the host, also set-user-ID files and devices: keep the\n"
+	"folder where local users can't enter, or on a file system mounted with nosuid,nodev. With\n"
+	"--modcaps=-mknod no devices are made.\n";
 
 /* What is so without a word. */
 struct share_words words = {
@@ -109,111 +115,6 @@ static uint64_t milliseconds(const char *key, const char *value)
 	return (uint64_t)(seconds * 1000 + 0.5);
 }
 
-/* Takes an option of mount(8) that all file systems have. Whether it is one. */
-static bool take_flag(const char *key)
-{
-	static const struct {
-		const char *word;
-		unsigned long set, clear;
-	} known[] = { { "ro", MS_RDONLY, 0 }, { "rw", 0, MS_RDONLY }, { "noexec", MS_NOEXEC, 0 },
-		      { "exec", 0, MS_NOEXEC }, { "nosuid", MS_NOSUID, 0 }, { "suid", 0, MS_NOSUID },
-		      { "nodev", MS_NODEV, 0 }, { "dev", 0, MS_NODEV }, { "sync", MS_SYNCHRONOUS, 0 },
-		      { "async", 0, MS_SYNCHRONOUS }, { "dirsync", MS_DIRSYNC, 0 },
-		      { "noatime", MS_NOATIME, 0 }, { "atime", 0, MS_NOATIME },
-		      { "nodiratime", MS_NODIRATIME, 0 }, { "diratime", 0, MS_NODIRATIME },
-		      { "relatime", MS_RELATIME, 0 }, { "default_permissions", 0, 0 } };
-
-	for (size_t i = 0; i < sizeof(known) / sizeof(*known); i++)
-		if (!strcmp(key, known[i].word)) {
-			words.flags = (words.flags | known[i].set) & ~known[i].clear;
-			return true;
-		}
-	return false;
-}
-
-/* Takes one option of a mount: a word, or KEY=VALUE. */
-static void take_option(const char *key, char *value)
-{
-	if (!value && take_flag(key))
-		return;
-	if (!value && !strcmp(key, "allow_other"))
-		words.allow_other = ",allow_other";
-	else if (!value && !strcmp(key, "xattr"))
-		words.files.xattr = true;
-	else if (!value && !strcmp(key, "writeback"))
-		words.files.writeback = true;
-	else if (value && *value && !strcmp(key, "fsname"))
-		words.source = value;
-	else if (!strcmp(key, "max_read"))
-		words.max_read = number("max_read", value, 4096, TRANSPORT_PAYLOAD);
-	else if (!strcmp(key, "entry_timeout"))
-		words.files.entry_time = milliseconds(key, value);
-	else if (!strcmp(key, "attr_timeout"))
-		words.files.attr_time = milliseconds(key, value);
-	else if (!strcmp(key, "negative_timeout"))
-		words.files.negative_time = milliseconds(key, value);
-	else
-		refuse("there is no such option, or its value can't be: ", key);
-}
-
-static void take_options(char *rest)
-{
-	char *option;
-
-	while ((option = strsep(&rest, ","))) {
-		const char *key = strsep(&option, "=");
-
-		if (*key || option)
-			take_option(key, option);
-	}
-}
-
-enum word {
-	SHARED_DIR = 256, SOCKET_PATH, FD, SOCKET_GROUP, CACHE, WRITEBACK, XATTR, READONLY,
-	NO_READDIRPLUS, ANNOUNCE, NO_ANNOUNCE, FILE_HANDLES, MODCAPS, POOL, NOFILE, SANDBOX, SECCOMP, LOG,
-	TRACE, DAEMONIZE, PRINT, VERSION, HELP
-};
-
-static const struct option known_words[] = {
-	{ "shared-dir", required_argument, NULL, SHARED_DIR },
-	{ "socket-path", required_argument, NULL, SOCKET_PATH },
-	{ "fd", required_argument, NULL, FD },
-	{ "socket-group", required_argument, NULL, SOCKET_GROUP },
-	{ "cache", required_argument, NULL, CACHE },
-	{ "writeback", no_argument, NULL, WRITEBACK },
-	{ "xattr", no_argument, NULL, XATTR },
-	{ "readonly", no_argument, NULL, READONLY },
-	{ "no-readdirplus", no_argument, NULL, NO_READDIRPLUS },
-	{ "announce-submounts", no_argument, NULL, ANNOUNCE },
-	{ "no-announce-submounts", no_argument, NULL, NO_ANNOUNCE },
-	{ "inode-file-handles", required_argument, NULL, FILE_HANDLES },
-	{ "modcaps", required_argument, NULL, MODCAPS },
-	{ "thread-pool-size", required_argument, NULL, POOL },
-	{ "rlimit-nofile", required_argument, NULL, NOFILE },
-	{ "sandbox", required_argument, NULL, SANDBOX },
-	{ "seccomp", required_argument, NULL, SECCOMP },
-	{ "log-level", required_argument, NULL, LOG },
-	{ "trace", optional_argument, NULL, TRACE },
-	{ "daemonize", no_argument, NULL, DAEMONIZE },
-	{ "print-capabilities", no_argument, NULL, PRINT },
-	{ "version", no_argument, NULL, VERSION },
-	{ "help", no_argument, NULL, HELP },
-	{ 0 },
-};
-
-/* What is printed, and all then. */
-static _Noreturn void print(int word)
-{
-	if (word == PRINT)
-		puts("{\n  \"type\": \"fs\",\n  \"features\": [\n    \"separate-options\"\n  ]\n}");
-	else if (word == VERSION)
-		printf("nizwarf-share %d.%d.%d, FUSE 7.38, %s libseccomp\n", NIZWARF_VERSION_MAJOR,
-		       NIZWARF_VERSION_MINOR, NIZWARF_VERSION_PATCH, has_filter ? "with" : "without");
-	else
-		fputs(usage, stdout);
-	exit(fflush(stdout) != 0);
-}
-
 static void take_log_level(const char *value)
 {
 	static const char *const levels[] = { "off", "error", "warn", "info", "debug", "trace", NULL };
@@ -262,15 +163,184 @@ static void take_capabilities(char *rest)
 	}
 }
 
+/* Takes an option of mount(8) that all file systems have. Whether it is one. */
+static bool take_flag(const char *key)
+{
+	static const struct {
+		const char *word;
+		unsigned long set, clear;
+	} known[] = { { "ro", MS_RDONLY, 0 }, { "rw", 0, MS_RDONLY }, { "noexec", MS_NOEXEC, 0 },
+		      { "exec", 0, MS_NOEXEC }, { "nosuid", MS_NOSUID, 0 }, { "suid", 0, MS_NOSUID },
+		      { "nodev", MS_NODEV, 0 }, { "dev", 0, MS_NODEV }, { "sync", MS_SYNCHRONOUS, 0 },
+		      { "async", 0, MS_SYNCHRONOUS }, { "dirsync", MS_DIRSYNC, 0 },
+		      { "noatime", MS_NOATIME, 0 }, { "atime", 0, MS_NOATIME },
+		      { "nodiratime", MS_NODIRATIME, 0 }, { "diratime", 0, MS_NODIRATIME },
+		      { "relatime", MS_RELATIME, 0 }, { "default_permissions", 0, 0 } };
+
+	for (size_t i = 0; i < sizeof(known) / sizeof(*known); i++)
+		if (!strcmp(key, known[i].word)) {
+			words.flags = (words.flags | known[i].set) & ~known[i].clear;
+			return true;
+		}
+	return false;
+}
+
+/* Takes a word of virtiofsd's old options. Whether it is one. */
+static bool take_switch(const char *key)
+{
+	static bool nothing;
+	static const struct {
+		const char *word;
+		bool *what, is;
+	} known[] = { { "xattr", &words.files.xattr, true }, { "no_xattr", &words.files.xattr, false },
+		      { "writeback", &words.files.writeback, true },
+		      { "no_writeback", &words.files.writeback, false },
+		      { "readdirplus", &words.files.readdirplus, true },
+		      { "no_readdirplus", &words.files.readdirplus, false },
+		      { "announce_submounts", &words.files.announce_submounts, true },
+		      /* What is so anyhow, or shows nowhere. */
+		      { "killpriv_v2", &nothing, true }, { "no_killpriv_v2", &nothing, false },
+		      { "no_posix_acl", &nothing, false }, { "no_security_label", &nothing, false },
+		      { "no_allow_direct_io", &nothing, false }, { "no_flock", &nothing, false },
+		      { "no_posix_lock", &nothing, false } };
+
+	for (size_t i = 0; i < sizeof(known) / sizeof(*known); i++)
+		if (!strcmp(key, known[i].word)) {
+			*known[i].what = known[i].is;
+			return true;
+		}
+	if (!strcmp(key, "flock") || !strcmp(key, "posix_lock"))
+		refuse("each client's kernel locks files by itself, so there is no option ", key);
+	return false;
+}
+
+static const char *const sandboxes[] = { "none", "chroot", "namespace", NULL };
+
+/* The same of those that have a value. */
+static bool take_setting(const char *key, char *value)
+{
+	static const char *const caches[] = { "never", "auto", "always", "metadata", "none", NULL };
+	int cache;
+
+	if (!strcmp(key, "source")) {
+		words.folder = value;
+	} else if (!strcmp(key, "cache")) {
+		cache = one_of("-o cache", value, caches);
+		words.files.cache = cache <= CACHE_METADATA ? (enum passthrough_cache)cache : CACHE_NEVER;
+	} else if (!strcmp(key, "sandbox")) {
+		words.sandbox = one_of("-o sandbox", value, sandboxes);
+	} else if (!strcmp(key, "loglevel")) {
+		take_log_level(strcmp(value, "err") != 0 ? value : "error");
+	} else if (!strcmp(key, "modcaps")) {
+		take_capabilities(value);
+	} else {
+		return false;
+	}
+	return true;
+}
+
+/* Takes one option: a word, or KEY=VALUE. */
+static void take_option(const char *key, char *value)
+{
+	if (value ? take_setting(key, value) : take_flag(key) || take_switch(key))
+		return;
+	if (!value && !strcmp(key, "allow_other"))
+		words.allow_other = ",allow_other";
+	else if (value && *value && !strcmp(key, "fsname"))
+		words.source = value;
+	else if (!strcmp(key, "max_read"))
+		words.max_read = number("max_read", value, 4096, TRANSPORT_PAYLOAD);
+	else if (!strcmp(key, "entry_timeout"))
+		words.files.entry_time = milliseconds(key, value);
+	else if (!strcmp(key, "attr_timeout"))
+		words.files.attr_time = milliseconds(key, value);
+	else if (!strcmp(key, "negative_timeout"))
+		words.files.negative_time = milliseconds(key, value);
+	else
+		refuse("there is no such option, or its value can't be: ", key);
+}
+
+/* The next option of a list. In the path of a source a comma is doubled. */
+static char *next_option(char **rest)
+{
+	char *option = strsep(rest, ",");
+
+	while (option && !strncmp(option, "source=", 7) && *rest && **rest == ',') {
+		(*rest)[-1] = ',';
+		memmove(*rest, *rest + 1, strlen(*rest));
+		strsep(rest, ",");
+	}
+	return option;
+}
+
+static void take_options(char *rest)
+{
+	char *option;
+
+	while ((option = next_option(&rest))) {
+		const char *key = strsep(&option, "=");
+
+		if (*key || option)
+			take_option(key, option);
+	}
+}
+
+enum word {
+	SHARED_DIR = 256, SOCKET_PATH, FD, SOCKET_GROUP, CACHE, WRITEBACK, XATTR, READONLY,
+	NO_READDIRPLUS, ANNOUNCE, NO_ANNOUNCE, FILE_HANDLES, MODCAPS, POOL, NOFILE, SANDBOX, SECCOMP, LOG,
+	TRACE, DAEMONIZE, PRINT, VERSION, HELP
+};
+
+static const struct option known_words[] = {
+	{ "shared-dir", required_argument, NULL, SHARED_DIR },
+	{ "socket-path", required_argument, NULL, SOCKET_PATH },
+	{ "socket", required_argument, NULL, SOCKET_PATH },
+	{ "fd", required_argument, NULL, FD },
+	{ "socket-group", required_argument, NULL, SOCKET_GROUP },
+	{ "cache", required_argument, NULL, CACHE },
+	{ "writeback", no_argument, NULL, WRITEBACK },
+	{ "xattr", no_argument, NULL, XATTR },
+	{ "readonly", no_argument, NULL, READONLY },
+	{ "no-readdirplus", no_argument, NULL, NO_READDIRPLUS },
+	{ "announce-submounts", no_argument, NULL, ANNOUNCE },
+	{ "no-announce-submounts", no_argument, NULL, NO_ANNOUNCE },
+	{ "inode-file-handles", required_argument, NULL, FILE_HANDLES },
+	{ "modcaps", required_argument, NULL, MODCAPS },
+	{ "thread-pool-size", required_argument, NULL, POOL },
+	{ "rlimit-nofile", required_argument, NULL, NOFILE },
+	{ "sandbox", required_argument, NULL, SANDBOX },
+	{ "seccomp", required_argument, NULL, SECCOMP },
+	{ "log-level", required_argument, NULL, LOG },
+	{ "trace", optional_argument, NULL, TRACE },
+	{ "daemonize", no_argument, NULL, DAEMONIZE },
+	{ "print-capabilities", no_argument, NULL, PRINT },
+	{ "version", no_argument, NULL, VERSION },
+	{ "help", no_argument, NULL, HELP },
+	{ 0 },
+};
+
+/* What is printed, and all then. */
+static _Noreturn void print(int word)
+{
+	if (word == PRINT)
+		puts("{\n  \"type\": \"fs\",\n  \"features\": [\n    \"separate-options\"\n  ]\n}");
+	else if (word == VERSION)
+		printf("nizwarf-share %d.%d.%d, FUSE 7.38, %s libseccomp\n", NIZWARF_VERSION_MAJOR,
+		       NIZWARF_VERSION_MINOR, NIZWARF_VERSION_PATCH, has_filter ? "with" : "without");
+	else
+		fputs(usage, stdout);
+	exit(fflush(stdout) != 0);
+}
+
 static void take_word(int word)
 {
 	static const char *const caches[] = { "never", "auto", "always", "metadata", NULL };
-	static const char *const sandboxes[] = { "none", "chroot", "namespace", NULL };
 	static const char *const filters[] = { "none", "kill", "trap", "log", NULL };
 	static const char *const handles[] = { "never", "auto", "prefer", "mandatory", NULL };
 
 	switch (word) {
 	case 'o': take_options(optarg); break;
+	case 'd': take_log_level("debug"); break;
 	case SHARED_DIR: words.folder = optarg; break;
 	case SOCKET_PATH: words.socket_path = optarg; break;
 	case FD: words.fd = (int)number("--fd", optarg, 0, INT_MAX); break;
@@ -294,7 +364,10 @@ static void take_word(int word)
 						       TRANSPORT_MOST_WORKERS);
 		words.files.workers += !words.files.workers;
 		break;
-	case NOFILE: words.most_files = number("--rlimit-nofile", optarg, 0, INT_MAX); break;
+	case NOFILE:
+		words.most_files = number("--rlimit-nofile", optarg, 0, INT_MAX);
+		words.wants_files = true;
+		break;
 	case SANDBOX: words.sandbox = one_of("--sandbox", optarg, sandboxes); break;
 	case SECCOMP: words.filter = one_of("--seccomp", optarg, filters); break;
 	case LOG: take_log_level(optarg); break;
@@ -308,8 +381,29 @@ static void take_word(int word)
 	case PRINT:
 	case VERSION:
 	case HELP: print(word);
-	default: refuse("there is no such word, or it lacks its value", "");
+	/* (-f, by which virtiofsd stayed in the foreground) */
+	default: break;
 	}
+}
+
+/* Refuses a word that getopt_long found to be none, or took for one whose beginning it is. */
+static _Noreturn void refuse_word(int found, const char *word)
+{
+	const char letter[] = { '-', (char)optopt, 0 };
+
+	if (found == ':')
+		refuse("it wants a value: ", word);
+	if (found == '?' && optopt >= SHARED_DIR)
+		refuse("it takes no value: ", word);
+	refuse("there is no such word: ", found == '?' && optopt ? letter : word);
+}
+
+/* Whether a word is this one as a whole, perhaps with its value. */
+static bool is_whole(const char *word, const char *name)
+{
+	const size_t len = strlen(name);
+
+	return !strncmp(word + 2, name, len) && (!word[2 + len] || word[2 + len] == '=');
 }
 
 bool is_mount(void)
@@ -340,11 +434,15 @@ static void hold_together(void)
 
 void take_words(int count, char **given)
 {
-	int word;
-
 	opterr = 0;
-	while ((word = getopt_long(count, given, "ho:V", known_words, NULL)) != -1)
-		take_word(word);
+	for (int found, i = -1; (found = getopt_long(count, given, ":dfho:V", known_words, &i)) != -1; i = -1) {
+		/* (a value may stand behind it, as a word of its own) */
+		const char *word = given[optind - 1 - (optarg && optarg == given[optind - 1])];
+
+		if (found == '?' || found == ':' || (i >= 0 && !is_whole(word, known_words[i].name)))
+			refuse_word(found, word);
+		take_word(found);
+	}
 	if (!words.folder && optind < count)
 		words.folder = given[optind++];
 	if (is_mount() && optind < count)

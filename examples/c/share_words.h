@@ -13,6 +13,8 @@ struct share_words {
 	unsigned long flags, max_read, most_files;
 	int fd, sandbox, filter;
 	bool says_more, is_off, daemonizes, traces;
+	/* --rlimit-nofile was given. */
+	bool wants_files;
 };
 extern struct share_words words;
 
