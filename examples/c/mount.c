@@ -1,7 +1,7 @@
 /* Mounts the file system behind the library on a folder, over /dev/fuse, and serves it until it is
  * unmounted. It wants root, who may mount, and serves root alone, or all with allow_other.
  *
- * Usage: mount [-o OPTIONS] [--trace[=FILE]] FOLDER
+ * Usage: nizwarf-mount [-o OPTIONS] [--trace[=FILE]] FOLDER
  *
  * --help lists the options. SIGINT, SIGTERM and SIGHUP unmount. Where the folder is in use then, it
  * goes when the last user does, or at a second signal. The server has one caller at a time, so two workers are
@@ -24,9 +24,9 @@
 #include "trace.h"
 
 static const char usage[] =
-	"Usage: mount [-o OPTIONS] [--trace[=FILE]] FOLDER\n"
+	"Usage: nizwarf-mount [-o OPTIONS] [--trace[=FILE]] FOLDER, or nizwarf-mount --version\n"
 	"Mounts the file system on the folder, and serves it until it is unmounted. --trace prints\n"
-	"each request and reply to standard error, or their bytes to a new FILE for vfs_decode.\n"
+	"each request and reply to standard error, or their bytes to a new FILE for nizwarf-decode.\n"
 	"Options, with commas between them; -o may come several times:\n"
 	"  allow_other             all users may use it, as its permissions say, not root alone\n"
 	"  ro, rw                  it is only read, or written too, as without a word\n"
@@ -48,7 +48,7 @@ static int traces, by_ring = 1;
 /* Ends, since a word or an option can't be. */
 static _Noreturn void refuse_words(const char *why, const char *word)
 {
-	fprintf(stderr, "mount: %s%s\n%s", why, word, usage);
+	fprintf(stderr, "nizwarf-mount: %s%s\n%s", why, word, usage);
 	exit(2);
 }
 
@@ -117,33 +117,59 @@ static void take_option(const char *key, char *value)
 		refuse_words("there is no such option: ", key);
 }
 
+static void take_options(char *rest)
+{
+	char *option;
+
+	while ((option = strsep(&rest, ","))) {
+		const char *key = strsep(&option, "=");
+
+		if (*key)
+			take_option(key, option);
+	}
+}
+
+enum word { TRACE = 256, VERSION, HELP };
+
+static const struct option known_words[] = { { "trace", optional_argument, NULL, TRACE },
+					     { "version", no_argument, NULL, VERSION },
+					     { "help", no_argument, NULL, HELP },
+					     { 0 } };
+
+/* Takes one word, which getopt_long found; the beginning of one is none. */
+static void take_word(int found, const char *word, const struct option *known)
+{
+	const char letter[] = { '-', (char)optopt, 0 };
+
+	if (known && strcspn(word, "=") != strlen(known->name) + 2)
+		found = '?';
+	switch (found) {
+	case 'o': take_options(optarg); break;
+	case TRACE:
+		traces = 1;
+		trace_file = optarg;
+		break;
+	case VERSION:
+		printf("nizwarf-mount %d.%d.%d, FUSE 7.38\n", NIZWARF_VERSION_MAJOR, NIZWARF_VERSION_MINOR,
+		       NIZWARF_VERSION_PATCH);
+		exit(fflush(stdout) != 0);
+	case 'h':
+	case HELP:
+		fputs(usage, stdout);
+		exit(fflush(stdout) != 0);
+	case ':': refuse_words("it wants options: ", letter);
+	default:
+		refuse_words("there is no such word, or it takes no value: ",
+			     !known && optopt && optopt < TRACE ? letter : word);
+	}
+}
+
 /* Takes the words, and gives the folder. */
 static const char *take_words(int count, char **words)
 {
-	static const struct option known[] = { { "help", no_argument, NULL, 'h' },
-					       { "trace", optional_argument, NULL, 't' }, { 0 } };
-	char *option, *rest;
-	int word;
-
-	while ((word = getopt_long(count, words, "ho:", known, NULL)) != -1) {
-		if (word == 'h') {
-			fputs(usage, stdout);
-			exit(0);
-		}
-		if (word == 't') {
-			traces = 1;
-			trace_file = optarg;
-			continue;
-		}
-		if (word != 'o')
-			refuse_words("there is no such word", "");
-		for (rest = optarg; (option = strsep(&rest, ","));) {
-			const char *key = strsep(&option, "=");
-
-			if (*key)
-				take_option(key, option);
-		}
-	}
+	opterr = 0;
+	for (int found, i = -1; (found = getopt_long(count, words, ":ho:", known_words, &i)) != -1; i = -1)
+		take_word(found, words[optind - 1], i < 0 ? NULL : &known_words[i]);
 	if (optind != count - 1)
 		refuse_words("one folder is wanted", "");
 	return words[optind];
@@ -178,7 +204,7 @@ static int begin(void *user, unsigned worker)
 	callers += code == NIZWARF_OK;
 	pthread_mutex_unlock(&lock);
 	if (code != NIZWARF_OK)
-		fprintf(stderr, "mount: there is no server\n");
+		fprintf(stderr, "nizwarf-mount: there is no server\n");
 	return code != NIZWARF_OK;
 }
 
@@ -266,7 +292,7 @@ static int32_t serve_apart(void *user, unsigned worker, const nizwarf_segment *r
 
 int main(int count, char **words)
 {
-	transport by = { .program = "mount", .workers = 2, .withheld = FUSE_ATOMIC_O_TRUNC,
+	transport by = { .program = "nizwarf-mount", .workers = 2, .withheld = FUSE_ATOMIC_O_TRUNC,
 			 .begin = begin, .end = end, .serve = serve };
 	const char *folder = take_words(count, words);
 	char options[80];

@@ -175,8 +175,15 @@ static int pivot(const char *folder)
 	if (unshare(CLONE_NEWNS | CLONE_NEWNET | CLONE_NEWIPC | CLONE_NEWUTS) ||
 	    mount(NULL, "/", NULL, MS_REC | MS_SLAVE, NULL) ||
 	    mount(folder, folder, NULL, MS_BIND | MS_REC, NULL) || chdir(folder) ||
-	    syscall(SYS_pivot_root, ".", ".") || umount2(".", MNT_DETACH) || chdir("/"))
-		return failed("--sandbox=namespace");
+	    syscall(SYS_pivot_root, ".", ".") || umount2(".", MNT_DETACH) || chdir("/")) {
+		const bool is_no_mount = errno == EINVAL;
+
+		failed("--sandbox=namespace");
+		if (is_no_mount)
+			fputs("nizwarf-share: its root is no mount point, as in a chroot: --sandbox=chroot or "
+			      "--sandbox=none serves there\n", stderr);
+		return -1;
+	}
 	return 0;
 }
 

@@ -398,14 +398,6 @@ static _Noreturn void refuse_word(int found, const char *word)
 	refuse("there is no such word: ", found == '?' && optopt ? letter : word);
 }
 
-/* Whether a word is this one as a whole, perhaps with its value. */
-static bool is_whole(const char *word, const char *name)
-{
-	const size_t len = strlen(name);
-
-	return !strncmp(word + 2, name, len) && (!word[2 + len] || word[2 + len] == '=');
-}
-
 bool is_mount(void)
 {
 	return !words.socket_path && words.fd < 0;
@@ -439,7 +431,8 @@ void take_words(int count, char **given)
 		/* (a value may stand behind it, as a word of its own) */
 		const char *word = given[optind - 1 - (optarg && optarg == given[optind - 1])];
 
-		if (found == '?' || found == ':' || (i >= 0 && !is_whole(word, known_words[i].name)))
+		if (found == '?' || found == ':' ||
+		    (i >= 0 && strcspn(word, "=") != strlen(known_words[i].name) + 2))
 			refuse_word(found, word);
 		take_word(found);
 	}

@@ -1,6 +1,6 @@
 /* The file system behind the library, for vhost-user: the virtio-fs device of a virtual machine.
  *
- * Usage: vhost [--trace[=FILE]] SOCKET
+ * Usage: nizwarf-vhost [--trace[=FILE]] SOCKET
  *
  * A front end, as QEMU, connects to the socket. When it hangs up the next one is served, over the
  * same files; one that comes earlier waits. SIGINT, SIGTERM and SIGHUP end it. The server has one
@@ -9,17 +9,19 @@
  * Status 0: a signal ended it, and the socket is gone; 1: something failed; 2: it was started
  * wrongly. */
 #define _GNU_SOURCE
+#include <stdbool.h>
 #include <stdio.h>
+#include <string.h>
 #include <time.h>
 #include <unistd.h>
 #include "heap.h"
 #include "trace.h"
 
 static const char usage[] =
-	"Usage: vhost [--trace[=FILE]] SOCKET\n"
+	"Usage: nizwarf-vhost [--trace[=FILE]] SOCKET, or nizwarf-vhost --version\n"
 	"Serves the file system on a new socket of this path as a vhost-user device of virtio-fs,\n"
 	"to one front end, as QEMU, after another, until SIGINT or SIGTERM. --trace prints each request\n"
-	"and reply to standard error, or their bytes to a new FILE for vfs_decode.\n";
+	"and reply to standard error, or their bytes to a new FILE for nizwarf-decode.\n";
 
 static nizwarf_server server = NIZWARF_NONE;
 
@@ -36,7 +38,7 @@ static int begin(void *user, unsigned worker)
 	if (nizwarf_new(&server, (uint32_t)sysconf(_SC_PAGESIZE), TRANSPORT_PAYLOAD, &settings) ==
 	    NIZWARF_OK)
 		return 0;
-	fputs("vhost: the library: there is no server\n", stderr);
+	fputs("nizwarf-vhost: the library: there is no server\n", stderr);
 	return 1;
 }
 
@@ -60,22 +62,39 @@ static int32_t serve(void *user, unsigned worker, const nizwarf_segment *request
 	return code;
 }
 
+/* Prints what a word asks for. Whether it asks for something. */
+static bool prints(const char *word)
+{
+	const bool is_version = !strcmp(word, "--version");
+
+	if (!is_version && strcmp(word, "--help") != 0 && strcmp(word, "-h") != 0)
+		return false;
+	if (is_version)
+		printf("nizwarf-vhost %d.%d.%d, FUSE 7.38\n", NIZWARF_VERSION_MAJOR, NIZWARF_VERSION_MINOR,
+		       NIZWARF_VERSION_PATCH);
+	else
+		fputs(usage, stdout);
+	return true;
+}
+
 int main(int count, char **words)
 {
-	transport by = { .program = "vhost", .workers = 1, .withheld = FUSE_ATOMIC_O_TRUNC,
+	transport by = { .program = "nizwarf-vhost", .workers = 1, .withheld = FUSE_ATOMIC_O_TRUNC,
 			 .begin = begin, .end = end, .serve = serve };
 	const char *trace = NULL;
 	int listener, status;
 
-	if (count == 2 && (!strcmp(words[1], "--help") || !strcmp(words[1], "-h")))
-		return fputs(usage, stdout) < 0;
+	if (count == 2 && prints(words[1]))
+		return fflush(stdout) != 0;
 	if (count > 1 && (!strcmp(words[1], "--trace") || !strncmp(words[1], "--trace=", 8))) {
 		trace = words[1] + strlen("--trace");
 		count--;
 		words++;
 	}
 	if (count != 2 || words[1][0] == '-') {
-		fputs("vhost: one word is wanted: the path of a socket\n", stderr);
+		fprintf(stderr, "nizwarf-vhost: %s%s\n%s",
+			count == 2 ? "there is no such word: " : "one word is wanted: the path of a socket",
+			count == 2 ? words[1] : "", usage);
 		return 2;
 	}
 	if (trace && trace_begin(&by, *trace ? trace + 1 : NULL))
