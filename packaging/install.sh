@@ -72,7 +72,7 @@ done < "$made.files"
 awk -v prefix="$prefix" '/^prefix=/ { $0 = "prefix=" prefix } { print }' lib/pkgconfig/nizwarf.pc \
     > "$root/lib/pkgconfig/nizwarf.pc"
 # A manager of virtual machines finds the program by its full path.
-description=share/qemu/vhost-user/50-nizwarf-share.json
+description=share/qemu/vhost-user/60-nizwarf-share.json
 awk -v prefix="${prefix%/}" '{ sub("/usr/local", prefix) } { print }' "$description" > "$root/$description"
 {
     cat "$made" "$made.files"

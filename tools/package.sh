@@ -7,7 +7,8 @@
 #
 #   libnizwarf0_VERSION_ARCH.deb       the shared library
 #   libnizwarf-dev_VERSION_ARCH.deb    headers, the static library, pages, examples
-#   nizwarf_VERSION_ARCH.deb           the programs that packaging/programs lists, and nizwarf-demo
+#   nizwarf_VERSION_ARCH.deb           the programs that packaging/programs lists, nizwarf-demo and
+#                                      nizwarf-decode
 #   nizwarf-VERSION-linux-ARCH.tar.gz  all of it, with an install.sh
 #
 # The libraries, and the demo's programs, are the proved ones if each is built and no source is newer.
@@ -16,7 +17,7 @@
 #
 #   --check     makes all twice, and compares; lintian must find no error in the packages, and mandoc none in
 #               the pages
-#   --no-demo   leaves out nizwarf-demo
+#   --no-demo   leaves out nizwarf-demo and nizwarf-decode
 #
 # It wants a C compiler with binutils, and the Rattle toolchain. Without dpkg-deb it makes the tarball alone, and
 # says so.
@@ -207,12 +208,19 @@ build_program() {
     strip --remove-section=.comment --remove-section=.note "$folder/$name"
 }
 
-# Puts the demo below a folder, with its programs and its session.
+# Names a program in a folder that has another name in its usage, or another version: misnamed FOLDER NAME SECTION
+# WORDS..
+misnamed() {
+    [ "$3" = - ] || { [[ $("$1/$2" --version) == "$2 $release, "* ]] && [[ $("$1/$2" --help) == "Usage: $2 "* ]]; } ||
+        echo "$2"
+}
+
+# Puts nizwarf-demo and nizwarf-decode below a folder, with their programs and the stored session.
 put_demo() {
     local name
     [ -n "$demo" ] || return 0
     mkdir -p "$1"/{bin,libexec/nizwarf,share/nizwarf}
-    install -m 755 "$packaging/nizwarf-demo" "$1/bin/"
+    install -m 755 "$packaging"/nizwarf-{demo,decode} "$1/bin/"
     for name in vfs_demo vfs_decode; do
         install -m 755 "$(path_of "$name")" "$1/libexec/nizwarf/"
         strip --remove-section=.comment --remove-section=.note "$1/libexec/nizwarf/$name"
@@ -293,6 +301,8 @@ make_tree() {
     install -m 644 "$here"/include/*.h "$tree/include/"
     sed -e "s/@NOTE@/$note/" -e "s/@VERSION@/$release/" "$packaging/nizwarf.pc.in" > "$tree/lib/pkgconfig/nizwarf.pc"
     for_programs build_program "$tree/bin" "$tree/lib/libnizwarf.a"
+    missing=$(for_programs misnamed "$tree/bin")
+    [ -z "$missing" ] || wrong "programs that do not say their own names and the version: $missing"
     put_demo "$tree"
     put_examples "$tree/share/doc/nizwarf/examples"
     for page in "$packaging"/man/*.[1-8]; do
@@ -307,7 +317,7 @@ make_tree() {
     missing=$(for_programs page_missing "$tree/share/man")
     [ -z "$missing" ] || wrong "programs without a page: $missing"
     install -m 644 "$here"/{CHANGELOG.md,NOTICE.md,LICENSE-*} "$tree/share/doc/nizwarf/"
-    install -Dm 644 "$packaging/50-nizwarf-share.json" -t "$tree/share/qemu/vhost-user"
+    install -Dm 644 "$packaging/60-nizwarf-share.json" -t "$tree/share/qemu/vhost-user"
     install -m 755 "$packaging/install.sh" "$tree/"
 }
 
@@ -418,8 +428,8 @@ make_debs() {
     mkdir -p "$root/usr/share"/{man,qemu/vhost-user}
     for_programs build_program "$root/usr/bin" "$tree/lib/$soname"
     put_demo "$root/usr"
-    sed 's,/usr/local/,/usr/,' "$packaging/50-nizwarf-share.json" \
-        > "$root/usr/share/qemu/vhost-user/50-nizwarf-share.json"
+    sed 's,/usr/local/,/usr/,' "$packaging/60-nizwarf-share.json" \
+        > "$root/usr/share/qemu/vhost-user/60-nizwarf-share.json"
     find "$tree/share/man" -mindepth 1 -maxdepth 1 ! -name man3 -exec cp -R {} "$root/usr/share/man/" \;
     make_deb nizwarf "$root" "$out"
 }
