@@ -195,7 +195,24 @@ PYTHON
     done
 }
 
+# What can't be is named, by the name that the program is installed by; a beginning of a word is none.
+refuses_words() {
+    local word said came
+    for word in --vers --no-such-word -x --version=1 "-o none" "-o size=x"; do
+        came=0
+        # shellcheck disable=SC2086
+        said=$(timeout 10 "$transport" "$folder" $word 2>&1) || came=$?
+        word=${word##* }
+        [ "$came" = 2 ] && [[ $said == "nizwarf-mount: "*"${word%=x}"$'\n'* ]] || return 1
+    done
+    [[ $("$transport" --version) == "nizwarf-mount "[0-9]* ]]
+}
+
 status=0
+refuses_words || {
+    echo "FAILED: a word that can't be is not refused by its name." >&2
+    status=1
+}
 for more in "" ,writeback ,no_io_uring; do
     start -o "allow_other$more"
     echo "Requests come by $(way)."

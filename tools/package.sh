@@ -215,6 +215,14 @@ misnamed() {
         echo "$2"
 }
 
+# Names words that --help of a program in a folder lists and its page lacks: unexplained FOLDER NAME SECTION WORDS..
+unexplained() {
+    local word
+    [ "$3" = - ] || for word in $("$1/$2" --help | sed -nE 's/^  ([^ ].*)$/\1/p' | sed 's/  .*//' | grep -oE '[a-z][a-z_-]+'); do
+        sed 's/\\-/-/g' "$packaging/man/$2.$3" | grep -qw -- "$word" || echo "$2: $word"
+    done
+}
+
 # Puts nizwarf-demo and nizwarf-decode below a folder, with their programs and the stored session.
 put_demo() {
     local name
@@ -316,6 +324,8 @@ make_tree() {
         || wrong "a page shows a function in another form than the headers."
     missing=$(for_programs page_missing "$tree/share/man")
     [ -z "$missing" ] || wrong "programs without a page: $missing"
+    missing=$(for_programs unexplained "$tree/bin")
+    [ -z "$missing" ] || wrong "words that --help lists, and no page: $missing"
     install -m 644 "$here"/{CHANGELOG.md,NOTICE.md,LICENSE-*} "$tree/share/doc/nizwarf/"
     install -Dm 644 "$packaging/60-nizwarf-share.json" -t "$tree/share/qemu/vhost-user"
     install -m 755 "$packaging/install.sh" "$tree/"

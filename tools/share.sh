@@ -338,6 +338,20 @@ try_words() {
             wrong "it ended with $came and not with 2 for: $words"
         fi
     done
+    # What can't be is named: a beginning of a word is none.
+    for words in --no-such-word --cach=never --cache --xattr=1 -x "-o no-such-option" "-o flock" "-o loglevel" \
+        "-o sandbox=some"; do
+        # shellcheck disable=SC2086
+        timeout 10 "$share" "$work/folder" "$work/mount" $words > "$work/said" 2>&1 && wrong "it serves with $words"
+        grep -qF -- "${words##*[ =]}" "$work/said" || grep -qF -- ": ${words##* }" "$work/said" ||
+            wrong "$words is not named in: $(cat "$work/said")"
+    done
+    # How many files can be open is said where others were asked for.
+    (ulimit -n 1000 && "$share" --socket-path=/ "$work/folder") > "$work/said" 2>&1 || true
+    ! grep -q "can be open" "$work/said" || wrong "it says how many files can be open unasked"
+    "$share" --rlimit-nofile=2147483647 --socket-path=/ "$work/folder" > "$work/said" 2>&1 || true
+    grep -q "can be open, and not 2147483647" "$work/said" || wrong "it does not say how many files can be open"
+    "$share" --help | grep -q "set-user-ID" || wrong "--help does not say what a guest's root makes"
     "$share" --print-capabilities | python3 -c 'import json, sys; assert json.load(sys.stdin)["type"] == "fs"' ||
         wrong "--print-capabilities"
     # It is mounted as soon as the command has ended, and holds nothing of the caller's.
@@ -368,7 +382,125 @@ PYTHON
     echo "Words that can't be are refused, and it is told when it serves."
 }
 
+# The lines by which libvirt 9.0 and 11 start a daemon, with all that these have words for: each is served.
+try_managers() {
+    rm -rf "$work/a,b"
+    mkdir "$work/a,b"
+    timeout 60 python3 -B - "$here/tools/compare/beside" "$here/out/c/ask" "$share" "$work" << 'PYTHON' || wrong "a line of libvirt"
+import os, socket, struct, subprocess, sys
+beside, ask, share, work = sys.argv[1:]
+sys.path.insert(0, beside)
+from requests import FIRST, line, request
+folder, path = work + "/a,b", work + "/socket"
+doubled = folder.replace(",", ",,")
+for i, words in enumerate((
+        ["-o", f"source={doubled}"],
+        ["-o", f"source={doubled},cache=none,sandbox=chroot,xattr,no_flock,no_posix_lock", "--thread-pool-size=16", "-d"],
+        ["-o", f"source={doubled},cache=always,sandbox=namespace,no_xattr"],
+        ["--shared-dir", folder],
+        ["--shared-dir", folder, "--cache", "never", "--sandbox", "chroot", "--xattr", "--thread-pool-size=16",
+         "--rlimit-nofile=1024", "--log-level", "debug"])):
+    with socket.socket(socket.AF_UNIX) as listening, open(work + "/said", "w") as said:
+        listening.bind(path)
+        listening.listen(1)
+        server = subprocess.Popen([share, f"--fd={listening.fileno()}", *words], pass_fds=[listening.fileno()], stderr=said)
+        listening.close()
+        mkdir = line("16+128", request(9, struct.pack("<II", 0o755, 0) + b"made%d\0" % i))
+        subprocess.run([ask, path], input=f"{FIRST[1]}\n{mkdir}\n", text=True, timeout=20, stdout=subprocess.DEVNULL)
+        server.terminate()
+        assert server.wait(20) == 0, words
+    assert os.path.isdir(f"{folder}/made{i}"), words
+    os.unlink(path)
+PYTHON
+    echo "It is started as libvirt starts a daemon."
+}
+
+# A socket for a group has its mode from the beginning; and what takes its place meanwhile isn't the group's.
+try_group() {
+    local came=0 group
+    group=$(id -gn nobody)
+    touch "$work/target"
+    chmod 600 "$work/target"
+    cc -shared -fPIC -o "$work/swap.so" -x c - << 'C'
+#define _GNU_SOURCE
+#include <dlfcn.h>
+#include <stdlib.h>
+#include <sys/socket.h>
+#include <sys/stat.h>
+#include <sys/un.h>
+#include <unistd.h>
+
+int bind(int fd, const struct sockaddr *to, socklen_t len)
+{
+	int (*own)(int, const struct sockaddr *, socklen_t) =
+		(int (*)(int, const struct sockaddr *, socklen_t))dlsym(RTLD_NEXT, "bind");
+	const char *path = ((const struct sockaddr_un *)to)->sun_path;
+	struct stat is;
+
+	if (own(fd, to, len) || lstat(path, &is) || (is.st_mode & 07777) != 0660)
+		_exit(99);
+	return unlink(path) || symlink(getenv("TARGET"), path);
+}
+C
+    TARGET=$work/target LD_PRELOAD=$work/swap.so timeout 20 "$share" --log-level=error --socket-path="$work/socket" \
+        --socket-group="$group" "$work/folder" 2> "$work/said" || came=$?
+    [ "$came $(stat -c '%a %u %g' "$work/target")" = "1 600 0 0" ] ||
+        wrong "a link in place of a socket: it ended with $came, $(stat -c '%a %u %g' "$work/target"), $(cat "$work/said")"
+    "$share" --log-level=error --socket-path="$work/socket" --socket-group="$group" "$work/folder" &
+    server=$!
+    await_socket "$work/socket"
+    [ "$(stat -c '%a %U %G' "$work/socket")" = "660 root $group" ] || wrong "the socket of a group"
+    kill "$server"
+    wait "$server" || wrong "the server of a group ended with $?"
+    server=
+    echo "A group has the socket, and nothing else."
+}
+
+# Until there is a socket.
+await_socket() {
+    for _ in $(seq 100); do
+        [ ! -S "$1" ] || break
+        sleep 0.05
+    done
+}
+
+# Where the root is no mount point it says which sandbox can be, and that one serves.
+try_chroot() {
+    local came=0 inside=(unshare --mount "$work/inside") way
+    mkdir -p "$work/root/folder"
+    cp "$share" "$work/root/share"
+    cat > "$work/inside" << SCRIPT
+#!/bin/bash
+for folder in /bin /lib /lib64 /usr /proc /dev; do
+    if [ -L "\$folder" ]; then
+        cp -P "\$folder" "$work/root/"
+    elif [ -d "\$folder" ]; then
+        mkdir -p "$work/root\$folder"
+        mount --rbind "\$folder" "$work/root\$folder"
+    fi
+done
+exec chroot "$work/root" /share --log-level=error --socket-path=/socket "\$@" /folder
+SCRIPT
+    chmod +x "$work/inside"
+    timeout 20 "${inside[@]}" 2> "$work/said" || came=$?
+    if [ "$came" != 1 ] || ! grep -q -e --sandbox=chroot "$work/said"; then
+        wrong "in a chroot it ended with $came: $(cat "$work/said")"
+    fi
+    for way in chroot none; do
+        "${inside[@]}" --sandbox="$way" &
+        server=$!
+        await_socket "$work/root/socket"
+        kill "$server"
+        wait "$server" || wrong "in a chroot it ended with $? with --sandbox=$way"
+        server=
+    done
+    echo "In a chroot it serves in another sandbox."
+}
+
 try_words
+try_managers
+try_group
+try_chroot
 try_capabilities
 try_mount --thread-pool-size=1
 try_mount --thread-pool-size=4

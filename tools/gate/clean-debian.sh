@@ -7,7 +7,9 @@
 # apt-get and unpacked, but not configured. In that Debian
 #
 #   - the packages of tools/package.sh are installed, with a C compiler, make and pkg-config;
-#   - nizwarf-demo answers its session, and nizwarf-mount mounts a tree, where a file is written and read;
+#   - nizwarf-demo answers its session, and nizwarf-mount mounts a tree, where a file is written and read, and
+#     nizwarf-decode shows what was asked;
+#   - a manager of virtual machines finds nizwarf-share behind virtiofsd, where that is;
 #   - the example hello.c is built by pkg-config, shared and static, and mounts its file, which is read;
 #   - so does bindings/rust/examples/hello.rs, if it is there, which Debian's cargo builds;
 #   - the packages are removed, and nothing of them is left.
@@ -196,6 +198,21 @@ c" ]
     [ "$(inside cat /mnt/c)" = text ]
 }
 
+# What nizwarf-mount traced.
+decodes() {
+    inside nizwarf-decode /root/trace > "$work/decoded"
+    grep -q "^  .*MKDIR" "$work/decoded"
+    inside sh -c 'nizwarf-decode - < /root/trace' | cmp - "$work/decoded"
+    rm "$root/root/trace"
+}
+
+# By what a manager finds it: managers take the first file of those that are there.
+is_found() {
+    local program
+    program=$(sed -nE 's/.*"binary": *"(.*)".*/\1/p' "$root/usr/share/qemu/vhost-user/60-nizwarf-share.json")
+    [[ $(inside "$program" --print-capabilities) == *'"fs"'* ]]
+}
+
 # Builds the examples that are installed, with words for make.
 build_examples() {
     rm -rf "$root/root/examples"
@@ -256,7 +273,10 @@ echo "$way ${build_tools[*]}" > "$root.made"
 step "no toolchain of Rattle is there" has_no_toolchain
 step "the packages are installed" install_packages
 step "nizwarf-demo answers as is due" inside nizwarf-demo
-step "nizwarf-mount: a file is written and read" mounted writes_and_reads nizwarf-mount
+rm -f "$root/root/trace"
+step "nizwarf-mount: a file is written and read" mounted writes_and_reads nizwarf-mount --trace=/root/trace
+step "nizwarf-decode: what was asked is shown" decodes
+step "nizwarf-share: a manager of machines finds it" is_found
 for words in "" STATIC=yes; do
     # shellcheck disable=SC2086
     step "hello.c is built by pkg-config${words:+, with $words}" build_examples -B hello $words
