@@ -162,19 +162,18 @@ static void tell_ready(void *user)
 static int give_to_group(const char *path, gid_t group)
 {
 	const int fd = open(path, O_PATH | O_NOFOLLOW | O_CLOEXEC);
+	int error = -1, why;
 	struct stat is;
-	int why = 0;
 
-	if (fd < 0 || fstat(fd, &is))
-		why = errno;
-	else if (!S_ISSOCK(is.st_mode))
-		why = ENOTSOCK;
-	else if (fchownat(fd, "", (uid_t)-1, group, AT_EMPTY_PATH))
-		why = errno;
-	if (fd >= 0)
-		close(fd);
+	if (fd < 0)
+		return -1;
+	errno = ENOTSOCK;
+	if (!fstat(fd, &is) && S_ISSOCK(is.st_mode))
+		error = fchownat(fd, "", (uid_t)-1, group, AT_EMPTY_PATH);
+	why = errno;
+	close(fd);
 	errno = why;
-	return why ? -1 : 0;
+	return error;
 }
 
 /* Listens for the owner, and for the group of those who may connect too. */

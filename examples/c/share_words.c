@@ -429,7 +429,7 @@ void take_words(int count, char **given)
 	opterr = 0;
 	for (int found, i = -1; (found = getopt_long(count, given, ":dfho:V", known_words, &i)) != -1; i = -1) {
 		/* (a value may stand behind it, as a word of its own) */
-		const char *word = given[optind - 1 - (optarg && optarg == given[optind - 1])];
+		const char *word = given[optind - 1 - (optarg == given[optind - 1])];
 
 		if (found == '?' || found == ':' ||
 		    (i >= 0 && strcspn(word, "=") != strlen(known_words[i].name) + 2))
