@@ -406,7 +406,7 @@ bool is_mount(void)
 /* Refuses words that can't be together. */
 static void hold_together(void)
 {
-	if (!words.folder)
+	if (!words.folder || !*words.folder)
 		refuse("a folder is wanted", "");
 	if (is_mount() && !words.mount_point)
 		refuse("a mount point is wanted, or --socket-path", "");
