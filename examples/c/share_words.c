@@ -53,7 +53,7 @@ static const char usage[] =
 	"                            folder the server sees\n"
 	"  --seccomp=HOW             kill, trap, log or none: what a system call comes to that serving\n"
 	"                            doesn't make (kill if it is built in)\n"
-	"  --log-level=LEVEL         off, error, warn, info (the default), debug\n"
+	"  --log-level=LEVEL         off, error, warn, info (the default), debug, as -d\n"
 	"  --trace[=FILE]            prints each request and reply, as --log-level=debug, or writes\n"
 	"                            their bytes to a new FILE for nizwarf-decode\n"
 	"  --daemonize               goes to the background once it serves\n"

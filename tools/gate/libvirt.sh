@@ -77,7 +77,7 @@ XML
     fi
     if [ "$came" != "$who" ]; then
         echo "FAILED: a machine is served by $came, and not by $who" >&2
-        cat "$work/came" /var/log/libvirt/qemu/*virtiofsd.log >&2 || true
+        { cat "$work/came" /var/log/libvirt/qemu/*virtiofsd.log || tail -n 3 "$work/said"; } >&2
         status=1
     fi
     echo "A machine with ${3:-no <binary>} is served by $came."
