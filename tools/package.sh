@@ -217,9 +217,11 @@ misnamed() {
 
 # Names words that --help of a program in a folder lists and its page lacks: unexplained FOLDER NAME SECTION WORDS..
 unexplained() {
-    local word
-    [ "$3" = - ] || for word in $("$1/$2" --help | sed -nE 's/^  ([^ ].*)$/\1/p' | sed 's/  .*//' | grep -oE '[a-z][a-z_-]+'); do
-        sed 's/\\-/-/g' "$packaging/man/$2.$3" | grep -qw -- "$word" || echo "$2: $word"
+    local word page
+    [ "$3" != - ] || return 0
+    page=$(sed 's/\\-/-/g' "$packaging/man/$2.$3")
+    for word in $("$1/$2" --help | sed -nE 's/^  ([^ ].*)$/\1/p' | sed 's/  .*//' | grep -oE '[a-z][a-z_-]+'); do
+        grep -qw -- "$word" <<< "$page" || echo "$2: $word"
     done
 }
 

@@ -351,7 +351,7 @@ try_words() {
     ! grep -q "can be open" "$work/said" || wrong "it says how many files can be open unasked"
     "$share" --rlimit-nofile=2147483647 --socket-path=/ "$work/folder" > "$work/said" 2>&1 || true
     grep -q "can be open, and not 2147483647" "$work/said" || wrong "it does not say how many files can be open"
-    "$share" --help | grep -q "set-user-ID" || wrong "--help does not say what a guest's root makes"
+    grep -q "set-user-ID" <<< "$("$share" --help)" || wrong "--help does not say what a guest's root makes"
     "$share" --print-capabilities | python3 -c 'import json, sys; assert json.load(sys.stdin)["type"] == "fs"' ||
         wrong "--print-capabilities"
     # It is mounted as soon as the command has ended, and holds nothing of the caller's.
