@@ -407,6 +407,8 @@ for i, words in enumerate((
         listening.close()
         mkdir = line("16+128", request(9, struct.pack("<II", 0o755, 0) + b"made%d\0" % i))
         subprocess.run([ask, path], input=f"{FIRST[1]}\n{mkdir}\n", text=True, timeout=20, stdout=subprocess.DEVNULL)
+        with open(f"/proc/{server.pid}/cmdline") as seen:
+            assert seen.read().split("\0")[2:-1] == words, words
         server.terminate()
         assert server.wait(20) == 0, words
     assert os.path.isdir(f"{folder}/made{i}"), words

@@ -424,8 +424,32 @@ static void hold_together(void)
 		refuse("--seccomp: it was built without libseccomp", "");
 }
 
+/* Copies of the words, which are taken apart: /proc shows the process as it was started. */
+static char **copies_of(int count, char **given)
+{
+	static char **copies;
+	size_t size = ((size_t)count + 1) * sizeof(*given), len;
+	char *at;
+
+	for (int i = 0; i < count; i++)
+		size += strlen(given[i]) + 1;
+	copies = malloc(size);
+	if (!copies) {
+		fprintf(stderr, "nizwarf-share: %s\n", strerror(errno));
+		exit(1);
+	}
+	at = (char *)(copies + count + 1);
+	for (int i = 0; i < count; i++, at += len) {
+		len = strlen(given[i]) + 1;
+		copies[i] = memcpy(at, given[i], len);
+	}
+	copies[count] = NULL;
+	return copies;
+}
+
 void take_words(int count, char **given)
 {
+	given = copies_of(count, given);
 	opterr = 0;
 	for (int found, i = -1; (found = getopt_long(count, given, ":dfho:V", known_words, &i)) != -1; i = -1) {
 		/* (a value may stand behind it, as a word of its own) */

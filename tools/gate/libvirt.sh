@@ -58,7 +58,7 @@ done
 status=0
 # Starts a machine, and looks at which program serves it: machine WHO FOLDER [BINARY], which is XML.
 machine() {
-    local came process words who=$1
+    local came process words line='' who=$1
     cat > "$work/machine" << XML
 <domain type='qemu'><name>shares</name><memory unit='MiB'>64</memory><vcpu>1</vcpu>
 <os><type arch='x86_64'>hvm</type></os>
@@ -71,7 +71,7 @@ XML
     if timeout 60 virsh create "$work/machine" > "$work/came" 2>&1; then
         for process in /proc/[0-9]*; do
             mapfile -d '' -t words 2> /dev/null < "$process/cmdline" || continue
-            [[ ${words[1]:-} != --fd=* ]] || came=${words[0]}
+            [[ ${words[1]:-} != --fd=* ]] || came=${words[0]} line=${words[*]:2}
         done
         timeout 60 virsh destroy shares > "$work/came" 2>&1 || came="what can't be ended"
     fi
@@ -80,7 +80,7 @@ XML
         { cat "$work/came" /var/log/libvirt/qemu/*virtiofsd.log || tail -n 3 "$work/said"; } >&2
         status=1
     fi
-    echo "A machine with ${3:-no <binary>} is served by $came."
+    echo "${3:-No <binary>}: $came .. $line"
 }
 
 virtiofsd=$(sed -nE 's/.*"binary": *"(.*)".*/\1/p' "$descriptions"/50-*virtiofsd.json | sed -n 1p)
