@@ -14,7 +14,8 @@
 # With --check it refuses words that can't be, and shares folders of its own. Over /dev/fuse
 # tools/lib/session.sh does there what a person does, with one worker, with four, with a cache of what is
 # written later, with file handles, with few descriptors; after each the descriptors of the server are counted.
-# A file that came behind a remembered name is opened by who may alone.
+# A file that came behind a remembered name is opened by who may alone. tools/lib/share_calls.py asks it what it asks a
+# plain folder.
 # Over vhost-user it is asked the hostile requests of tools/compare/beside, and more that are made up, under
 # sanitizers and in its sandbox; a machine that goes away is followed by another. tools/gate/lint.sh holds its
 # sources against clang-tidy and cppcheck, if they are installed. It takes two minutes, and wants python3.
@@ -320,6 +321,14 @@ try_closed() {
     echo "It serves without standard descriptors."
 }
 
+# What is asked of a plain folder too.
+try_calls() {
+    mkdir "$work/calls"
+    timeout 120 python3 -B "$here/tools/lib/share_calls.py" "$share" "$work/calls" || wrong "tools/lib/share_calls.py"
+    umount -lq "$work/calls"/* || true
+    echo "Calls come to what they do on a plain folder."
+}
+
 # Words that can't be, what is printed, and who is told that it serves.
 try_words() {
     local came words
@@ -519,6 +528,7 @@ try_names --sandbox=namespace
 try_names --sandbox=none
 try_late
 try_closed
+try_calls
 try_user
 
 # Asks a server over vhost-user: what it is, its words.
@@ -724,6 +734,16 @@ with open(work + "/log", "w+") as log:
     if os.stat(folder + "/far").st_size:
         faults.append("a WRITE that was refused wrote")
     one.hold("READDIR of a file", line("16+400", transfer(28, 400, b"", 0, node, handle)), ENOTDIR)
+    # Each WRITE says whether it goes to the end, and one of a page that was mapped doesn't.
+    made = one.body(line("16+144", request(35, struct.pack("<IIII", 0o2102, 0o100644, 0, 0) + b"ends\0")))
+    node, handle = struct.unpack_from("<Q", made)[0], struct.unpack_from("<Q", made, 128)[0]
+    for data, cached, flags, wanted in ((b"012345", 0, 0o2002, b"012345"), (b"XYZ", 1, 0o2002, b"XYZ345"),
+                                        (b"AB", 0, 2, b"ABZ345"), (b"CD", 0, 0o2002, b"ABZ345CD")):
+        body = struct.pack("<QQIIQII", handle, 0, len(data), cached, 0, flags, 0) + data
+        one.hold("WRITE of a file with O_APPEND", line("16+8", request(16, body, node=node)), 0)
+        with open(folder + "/ends", "rb") as file:
+            if (came := file.read()) != wanted:
+                faults.append(f"WRITE with the flags {flags}, {cached}: wanted {wanted}, came {came}")
 
     # Requests by chance, always the same: of things that are there and that aren't, cut and made longer.
     chance = random.Random(7)

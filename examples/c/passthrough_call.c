@@ -16,9 +16,6 @@
 /* An option of INIT that older headers lack. */
 #define CREATE_SUPP_GROUP (UINT64_C(1) << 34)
 
-/* The most that is copied at once. */
-enum { COPIED = 1 << 30, PAGE = 4096 };
-
 /* ---- helpers: each that answers a number gives 0 or an error */
 
 int failed(int result)
@@ -175,12 +172,6 @@ static int read_link(const struct call *call)
 
 /* ---- open files */
 
-/* Whether the client writes later. */
-static bool writes_later(const struct call *call)
-{
-	return atomic_load(&call->all->agreed) & FUSE_WRITEBACK_CACHE && call->all->options.writeback;
-}
-
 /* The flags of open(2) that a client may choose. */
 static int flags_of(const struct call *call)
 {
@@ -229,20 +220,21 @@ static void tell_open(const struct call *call, bool is_directory)
 static int open_file(const struct call *call)
 {
 	const bool is_directory = call->asked->call == NIZWARF_OPENDIR;
+	const int flags = is_directory ? O_RDONLY | O_DIRECTORY : flags_of(call);
 	struct nodes *nodes = &call->all->nodes;
 	int fd, error = fd_reserve(nodes, 1);
 
 	if (error)
 		return error;
 	lose_fsetid(call);
-	fd = open_node(call, is_directory ? O_RDONLY | O_DIRECTORY : flags_of(call));
+	fd = open_node(call, flags);
 	error = fd < 0 ? errno : 0;
 	regain_fsetid(call);
 	if (error) {
 		fd_give_back(nodes, 1);
 		return error;
 	}
-	call->answer->handle = file_add(nodes, fd, is_directory);
+	call->answer->handle = file_add(nodes, fd, flags);
 	if (!call->answer->handle) {
 		fd_let_go(nodes, fd);
 		return ENOMEM;
@@ -297,7 +289,7 @@ static int create_file(const struct call *call)
 	if (path < 0)
 		fd_give_back(nodes, 1);
 	if (!error) {
-		answer->handle = file_add(nodes, fd, false);
+		answer->handle = file_add(nodes, fd, flags_of(call));
 		error = answer->handle ? 0 : ENOMEM;
 		if (error)
 			node_forget(nodes, entry->node, 1);
@@ -309,128 +301,6 @@ static int create_file(const struct call *call)
 	}
 	tell_open(call, false);
 	return 0;
-}
-
-/* Leaves out of the pieces what was moved. */
-static void move_on(struct iovec **data, size_t *pieces, size_t moved)
-{
-	while (*pieces && moved >= (*data)->iov_len) {
-		moved -= (*data)->iov_len;
-		(*data)++;
-		(*pieces)--;
-	}
-	if (moved) {
-		(*data)->iov_base = (char *)(*data)->iov_base + moved;
-		(*data)->iov_len -= moved;
-	}
-}
-
-/* READ and WRITE: of all that is there, right from or into the pieces. */
-static int transfer(const struct call *call)
-{
-	const nizwarf_call *asked = call->asked;
-	const bool is_read = asked->call == NIZWARF_READ;
-	const int fd = call->file->counted.fd;
-	struct iovec *data = call->data;
-	size_t pieces = call->pieces, done = 0;
-	ssize_t direct = -1;
-
-	if (asked->offset > INT64_MAX)
-		return is_read ? EINVAL : EFBIG;
-	if (pieces == 1 && is_read)
-		direct = fuse_device_read_from(fd, asked->offset, data->iov_len);
-	if (direct >= 0) {
-		call->answer->count = (uint64_t)direct;
-		return 0;
-	}
-	if (pieces == 1 && !is_read) {
-		direct = fuse_device_write_to(fd, asked->offset, data->iov_len);
-		if (direct < 0)
-			return errno;
-		done = (size_t)direct;
-		move_on(&data, &pieces, done);
-	}
-	while (pieces) {
-		const int most = pieces < IOV_MAX ? (int)pieces : IOV_MAX;
-		const size_t others = pieces - (size_t)most;
-		const off_t at = (off_t)(asked->offset + done);
-		const ssize_t moved = is_read ? preadv(fd, data, most, at) : pwritev(fd, data, most, at);
-
-		if (moved < 0 && errno == EINTR)
-			continue;
-		/* (of what a kernel writes later it doesn't look at how much was written) */
-		if (moved < 0 && (!done || asked->has & NIZWARF_DELAYED))
-			return errno;
-		if (moved <= 0)
-			break;
-		done += (size_t)moved;
-		move_on(&data, &pieces, (size_t)moved);
-		/* (what ends within a page ends with the file, and isn't what an error cut) */
-		if (is_read && pieces > others && (asked->offset + done) % PAGE && is_local(call))
-			break;
-	}
-	call->answer->count = done;
-	return 0;
-}
-
-static int write_file(const struct call *call)
-{
-	int error;
-
-	lose_fsetid(call);
-	error = transfer(call);
-	regain_fsetid(call);
-	return error;
-}
-
-static int allocate(const struct call *call)
-{
-	const nizwarf_call *asked = call->asked;
-	int error;
-
-	if (asked->offset > INT64_MAX || asked->length > INT64_MAX)
-		return EFBIG;
-	lose_fsetid(call);
-	error = failed(fallocate(call->file->counted.fd, (int)asked->mode, (off_t)asked->offset,
-				 (off_t)asked->length));
-	regain_fsetid(call);
-	return error;
-}
-
-static int seek(const struct call *call)
-{
-	const nizwarf_call *asked = call->asked;
-	off_t at;
-
-	if ((asked->more != SEEK_DATA && asked->more != SEEK_HOLE) || call->file->is_directory)
-		return EINVAL;
-	/* What the kernel has yet to write is a hole to the host. Refused once, it answers by the size. */
-	if (writes_later(call))
-		return ENOSYS;
-	at = lseek(call->file->counted.fd, (off_t)asked->offset, (int)asked->more);
-	call->answer->count = (uint64_t)at;
-	return failed(at < 0 ? -1 : 0);
-}
-
-static int copy_range(const struct call *call)
-{
-	const nizwarf_call *asked = call->asked;
-	struct open_file *into = file_get(&call->all->nodes, asked->other_handle);
-	off_t from = (off_t)asked->offset, to = (off_t)asked->other_offset;
-	const size_t length = asked->length < COPIED ? asked->length : COPIED;
-	ssize_t copied;
-	int error;
-
-	if (!into)
-		return EBADF;
-	lose_fsetid(call);
-	copied = from < 0 || to < 0 || asked->lock_owner ? -1 :
-		 copy_file_range(call->file->counted.fd, &from, into->counted.fd, &to, length, 0);
-	error = from < 0 || to < 0 || asked->lock_owner ? EINVAL : failed(copied < 0 ? -1 : 0);
-	regain_fsetid(call);
-	file_put(into);
-	call->answer->count = (uint64_t)copied;
-	return error;
 }
 
 static int sync_all(const struct call *call)
@@ -615,7 +485,7 @@ static int make_of_file(const struct call *call)
 
 	switch (asked->call) {
 	case NIZWARF_READ:
-		return transfer(call);
+		return read_file(call);
 	case NIZWARF_WRITE:
 		return write_file(call);
 	case NIZWARF_FLUSH:

@@ -107,6 +107,15 @@ void become_root(const struct call *call);
 void lose_fsetid(const struct call *call);
 void regain_fsetid(const struct call *call);
 
+/* Whether the client writes later. */
+bool writes_later(const struct call *call);
+/* READ, WRITE, FALLOCATE, LSEEK and COPY_FILE_RANGE of open files: 0, or an error. */
+int read_file(const struct call *call);
+int write_file(const struct call *call);
+int allocate(const struct call *call);
+int seek(const struct call *call);
+int copy_range(const struct call *call);
+
 /* READDIR and READDIRPLUS, and the calls of extended attributes: 0, or an error. */
 int read_directory(const struct call *call);
 int set_xattr(const struct call *call);

@@ -645,7 +645,7 @@ void nodes_end(struct nodes *all)
 
 /* ---- open files */
 
-uint64_t file_add(struct nodes *all, int fd, bool is_directory)
+uint64_t file_add(struct nodes *all, int fd, int flags)
 {
 	struct open_file *file = calloc(1, sizeof(*file));
 	uint64_t number = 0;
@@ -654,8 +654,10 @@ uint64_t file_add(struct nodes *all, int fd, bool is_directory)
 		atomic_init(&file->counted.users, 1);
 		file->counted.of = all;
 		file->counted.fd = fd;
-		file->is_directory = is_directory;
+		file->is_directory = flags & O_DIRECTORY;
+		file->at_end = flags & O_APPEND;
 		pthread_mutex_init(&file->lock, NULL);
+		pthread_rwlock_init(&file->writing, NULL);
 		pthread_rwlock_wrlock(&all->files.lock);
 		/* (behind the lock a client that guesses the number may have released it) */
 		if (add(&all->files, &file->counted))
@@ -680,6 +682,7 @@ void file_put(struct open_file *file)
 		atomic_fetch_sub(&file->counted.of->buffers, 1);
 	fd_let_go(file->counted.of, file->counted.fd);
 	pthread_mutex_destroy(&file->lock);
+	pthread_rwlock_destroy(&file->writing);
 	free(file->buffer);
 	free(file);
 }

@@ -86,6 +86,9 @@ struct node {
 struct open_file {
 	struct counted counted;
 	bool is_directory;
+	/* Of a file: whether its descriptor has O_APPEND, which stays so while that is written by. */
+	bool at_end;
+	pthread_rwlock_t writing;
 	/* Of a directory: what was read and not told yet, and the offset of that. */
 	pthread_mutex_t lock;
 	char *buffer;
@@ -182,9 +185,9 @@ int open_by_name(struct nodes *all, struct node *node, int flags);
 /* Opens what a descriptor is of anew, with these flags; the descriptor, or -1 with errno. */
 int open_again(const struct nodes *all, int fd, int flags);
 
-/* The number of a new open file, which has the descriptor from then on, for which one was reserved; 0:
- * there is no memory, and the descriptor stays the caller's. */
-uint64_t file_add(struct nodes *all, int fd, bool is_directory);
+/* The number of a new open file, which has the descriptor from then on, for which one was reserved, and which
+ * was opened with these flags; 0: there is no memory, and the descriptor stays the caller's. */
+uint64_t file_add(struct nodes *all, int fd, int flags);
 /* Takes an open file in hand, or NULL. */
 struct open_file *file_get(struct nodes *all, uint64_t number);
 void file_put(struct open_file *file);

@@ -1,0 +1,187 @@
+/* The data of a passthrough's open files. */
+#define _GNU_SOURCE
+#include <errno.h>
+#include <fcntl.h>
+#include <limits.h>
+#include <linux/fuse.h>
+#include <sys/uio.h>
+#include <unistd.h>
+#include "passthrough_call.h"
+
+/* The most that is copied at once. */
+enum { COPIED = 1 << 30, PAGE = 4096 };
+
+bool writes_later(const struct call *call)
+{
+	return atomic_load(&call->all->agreed) & FUSE_WRITEBACK_CACHE && call->all->options.writeback;
+}
+
+/* Leaves out of the pieces what was moved. */
+static void move_on(struct iovec **data, size_t *pieces, size_t moved)
+{
+	while (*pieces && moved >= (*data)->iov_len) {
+		moved -= (*data)->iov_len;
+		(*data)++;
+		(*pieces)--;
+	}
+	if (moved) {
+		(*data)->iov_base = (char *)(*data)->iov_base + moved;
+		(*data)->iov_len -= moved;
+	}
+}
+
+/* READ and WRITE: of all that is there, right from or into the pieces. */
+static int transfer(const struct call *call)
+{
+	const nizwarf_call *asked = call->asked;
+	const bool is_read = asked->call == NIZWARF_READ;
+	const int fd = call->file->counted.fd;
+	struct iovec *data = call->data;
+	size_t pieces = call->pieces, done = 0;
+	ssize_t direct = -1;
+
+	if (asked->offset > INT64_MAX)
+		return is_read ? EINVAL : EFBIG;
+	if (pieces == 1 && is_read)
+		direct = fuse_device_read_from(fd, asked->offset, data->iov_len);
+	if (direct >= 0) {
+		call->answer->count = (uint64_t)direct;
+		return 0;
+	}
+	if (pieces == 1 && !is_read) {
+		direct = fuse_device_write_to(fd, asked->offset, data->iov_len);
+		if (direct < 0)
+			return errno;
+		done = (size_t)direct;
+		move_on(&data, &pieces, done);
+	}
+	while (pieces) {
+		const int most = pieces < IOV_MAX ? (int)pieces : IOV_MAX;
+		const size_t others = pieces - (size_t)most;
+		const off_t at = (off_t)(asked->offset + done);
+		const ssize_t moved = is_read ? preadv(fd, data, most, at) : pwritev(fd, data, most, at);
+
+		if (moved < 0 && errno == EINTR)
+			continue;
+		/* (of what a kernel writes later it doesn't look at how much was written) */
+		if (moved < 0 && (!done || asked->has & NIZWARF_DELAYED))
+			return errno;
+		if (moved <= 0)
+			break;
+		done += (size_t)moved;
+		move_on(&data, &pieces, (size_t)moved);
+		/* (what ends within a page ends with the file, and isn't what an error cut) */
+		if (is_read && pieces > others && (asked->offset + done) % PAGE && is_local(call))
+			break;
+	}
+	call->answer->count = done;
+	return 0;
+}
+
+int read_file(const struct call *call)
+{
+	return transfer(call);
+}
+
+/* Has a file written at its end, or not, up to let_write(): as its flags are with who has it open, which may map it,
+ * or change them. 0, or an error: the host lets some files be appended to alone (chattr +a). */
+static int hold_write(struct open_file *file, bool at_end)
+{
+	int flags, error = 0;
+
+	pthread_rwlock_rdlock(&file->writing);
+	if (file->at_end == at_end)
+		return 0;
+	pthread_rwlock_unlock(&file->writing);
+	pthread_rwlock_wrlock(&file->writing);
+	if (file->at_end == at_end)
+		return 0;
+	flags = fcntl(file->counted.fd, F_GETFL);
+	if (flags < 0 || fcntl(file->counted.fd, F_SETFL, at_end ? flags | O_APPEND : flags & ~O_APPEND)) {
+		error = errno;
+		pthread_rwlock_unlock(&file->writing);
+		return error;
+	}
+	file->at_end = at_end;
+	return 0;
+}
+
+static void let_write(struct open_file *file)
+{
+	pthread_rwlock_unlock(&file->writing);
+}
+
+/* Whether a WRITE goes to where its file ends by then, as who writes has it open. What the kernel had in its cache
+ * has a place of its own; and one that writes later knows the end itself. */
+static bool is_append(const struct call *call)
+{
+	const nizwarf_call *asked = call->asked;
+
+	return asked->flags & O_APPEND && !(asked->has & NIZWARF_DELAYED) && !writes_later(call);
+}
+
+int write_file(const struct call *call)
+{
+	int error = hold_write(call->file, is_append(call));
+
+	if (error)
+		return error;
+	lose_fsetid(call);
+	error = transfer(call);
+	regain_fsetid(call);
+	let_write(call->file);
+	return error;
+}
+
+int allocate(const struct call *call)
+{
+	const nizwarf_call *asked = call->asked;
+	int error;
+
+	if (asked->offset > INT64_MAX || asked->length > INT64_MAX)
+		return EFBIG;
+	lose_fsetid(call);
+	error = failed(fallocate(call->file->counted.fd, (int)asked->mode, (off_t)asked->offset,
+				 (off_t)asked->length));
+	regain_fsetid(call);
+	return error;
+}
+
+int seek(const struct call *call)
+{
+	const nizwarf_call *asked = call->asked;
+	off_t at;
+
+	if ((asked->more != SEEK_DATA && asked->more != SEEK_HOLE) || call->file->is_directory)
+		return EINVAL;
+	/* What the kernel has yet to write is a hole to the host. Refused once, it answers by the size. */
+	if (writes_later(call))
+		return ENOSYS;
+	at = lseek(call->file->counted.fd, (off_t)asked->offset, (int)asked->more);
+	call->answer->count = (uint64_t)at;
+	return failed(at < 0 ? -1 : 0);
+}
+
+int copy_range(const struct call *call)
+{
+	const nizwarf_call *asked = call->asked;
+	struct open_file *into = file_get(&call->all->nodes, asked->other_handle);
+	off_t from = (off_t)asked->offset, to = (off_t)asked->other_offset;
+	const size_t length = asked->length < COPIED ? asked->length : COPIED;
+	ssize_t copied;
+	int error;
+
+	if (!into)
+		return EBADF;
+	error = from < 0 || to < 0 || asked->lock_owner ? EINVAL : hold_write(into, false);
+	if (!error) {
+		lose_fsetid(call);
+		copied = copy_file_range(call->file->counted.fd, &from, into->counted.fd, &to, length, 0);
+		error = copied < 0 ? errno : 0;
+		regain_fsetid(call);
+		let_write(into);
+		call->answer->count = (uint64_t)copied;
+	}
+	file_put(into);
+	return error;
+}
