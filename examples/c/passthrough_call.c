@@ -443,8 +443,7 @@ static int make_of_node(const struct call *call)
 	case NIZWARF_RMDIR:
 		return failed(unlinkat(node, name, AT_REMOVEDIR));
 	case NIZWARF_RENAME:
-		return failed(renameat2(node, name, call->other.fd, name_of(call, asked->other_name),
-					asked->flags));
+		return rename_node(call);
 	case NIZWARF_LINK:
 		return link_node(call);
 	case NIZWARF_STATFS:

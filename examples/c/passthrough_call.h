@@ -89,10 +89,11 @@ int look_up_new(const struct call *call, const struct found *found, nizwarf_entr
 /* A name in a node that is in hand. */
 struct found found_in(const struct grip *directory, const char *name);
 
-/* LOOKUP, where that there is no such name may be remembered; SYMLINK, MKNOD and MKDIR; LINK. */
+/* LOOKUP, where that there is no such name may be remembered; SYMLINK, MKNOD and MKDIR; LINK; RENAME. */
 int find_name(const struct call *call, const char *name);
 int make_node(const struct call *call);
 int link_node(const struct call *call);
+int rename_node(const struct call *call);
 /* Takes back a name that was made of a file, unless it leads to another one by now. */
 void unmake_of(int directory, const char *name, int fd);
 
@@ -103,7 +104,7 @@ int begin_as_root(struct worker *w, const struct passthrough_options *options);
 int become(const struct call *call);
 void become_root(const struct call *call);
 /* Between the two the host takes set-user-ID and set-group-ID bits away, if that is asked for, as it
- * does for who lacks CAP_FSETID. */
+ * does for who lacks CAP_FSETID and isn't of the file's group. */
 void lose_fsetid(const struct call *call);
 void regain_fsetid(const struct call *call);
 

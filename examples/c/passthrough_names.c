@@ -3,6 +3,7 @@
 #include <errno.h>
 #include <fcntl.h>
 #include <stdatomic.h>
+#include <stdio.h>
 #include <string.h>
 #include <sys/stat.h>
 #include <unistd.h>
@@ -92,6 +93,21 @@ int make_node(const struct call *call)
 
 		unmake(directory, name, &made);
 	}
+	return error;
+}
+
+/* RENAME_WHITEOUT makes a device, which is who asks' own. */
+int rename_node(const struct call *call)
+{
+	const nizwarf_call *asked = call->asked;
+	const bool makes = asked->flags & RENAME_WHITEOUT;
+	int error = makes ? become(call) : 0;
+
+	if (!error)
+		error = failed(renameat2(call->node.fd, name_of(call, asked->name), call->other.fd,
+					 name_of(call, asked->other_name), asked->flags));
+	if (makes)
+		become_root(call);
 	return error;
 }
 

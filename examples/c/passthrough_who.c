@@ -7,6 +7,9 @@
 #include <unistd.h>
 #include "passthrough_call.h"
 
+/* A group of nobody's. */
+#define NO_GROUP (UINT32_MAX - 1)
+
 static int set_capabilities(uint64_t permitted, uint64_t effective)
 {
 	struct __user_cap_header_struct header = { _LINUX_CAPABILITY_VERSION_3, 0 };
@@ -19,12 +22,13 @@ static int set_capabilities(uint64_t permitted, uint64_t effective)
 }
 
 /* Its kernel has looked at permissions, so the host's don't count; but it is no one who may keep a
- * set-group-ID bit of another group. */
+ * set-group-ID bit of another group. What is renamed may be another's. */
 int become(const struct call *call)
 {
 	const nizwarf_call *asked = call->asked;
 	const struct worker *w = call->worker;
 	const bool has_group = asked->has & NIZWARF_HAS_GROUP;
+	const uint64_t left = asked->call == NIZWARF_RENAME ? UINT64_MAX : UINT64_C(1) << CAP_DAC_OVERRIDE;
 
 	if (!w->is_root || (!asked->uid && !asked->gid && !has_group))
 		return 0;
@@ -36,7 +40,7 @@ int become(const struct call *call)
 	    syscall(SYS_setresgid, -1, asked->gid, -1) || syscall(SYS_setresuid, -1, asked->uid, -1))
 		return errno;
 	if (asked->uid)
-		set_capabilities(w->capabilities, w->capabilities & UINT64_C(1) << CAP_DAC_OVERRIDE);
+		set_capabilities(w->capabilities, w->capabilities & left);
 	return 0;
 }
 
@@ -70,15 +74,21 @@ static bool kills(const struct call *call)
 void lose_fsetid(const struct call *call)
 {
 	const uint64_t all = call->worker->capabilities;
+	const gid_t group = call->asked->gid;
 
-	if (kills(call))
-		set_capabilities(all, all & ~(UINT64_C(1) << CAP_FSETID));
+	if (!kills(call))
+		return;
+	/* (root's group is that of many files; and it isn't always said whose it is who asks) */
+	syscall(SYS_setfsgid, group == UINT32_MAX ? NO_GROUP : group);
+	set_capabilities(all, all & ~(UINT64_C(1) << CAP_FSETID));
 }
 
 void regain_fsetid(const struct call *call)
 {
-	if (kills(call))
-		set_capabilities(call->worker->capabilities, call->worker->capabilities);
+	if (!kills(call))
+		return;
+	set_capabilities(call->worker->capabilities, call->worker->capabilities);
+	syscall(SYS_setfsgid, 0);
 }
 
 /* What files are made, changed, owned and read with, whoever asks. */

@@ -249,7 +249,7 @@ static const char *const calls[] = {
 	"read", "readlinkat", "recvfrom", "recvmsg", "removexattr", "renameat", "renameat2",
 	"restart_syscall", "rseq", "rt_sigaction", "rt_sigprocmask", "rt_sigreturn",
 	"sched_getaffinity", "sched_yield", "sendmsg", "sendto", "set_robust_list", "setgroups",
-	"setresgid", "setresuid", "setsockopt", "setxattr", "sigaltstack", "signalfd4", "splice",
+	"setfsgid", "setresgid", "setresuid", "setsockopt", "setxattr", "sigaltstack", "signalfd4", "splice",
 	"statfs", "statx", "symlinkat", "syncfs", "tgkill", "unlink", "unlinkat", "utimensat", "write",
 	"writev",
 };

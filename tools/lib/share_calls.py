@@ -1,5 +1,5 @@
 """Asks a mount of a share what it asks a plain folder beside it, of what a mirror of random calls doesn't come to: files
-that are appended to. For tools/share.sh --check.
+that are appended to, bits that a write takes, whiteouts. For tools/share.sh --check.
 
     share_calls.py SHARE WORK: the program, and an empty folder
 """
@@ -78,6 +78,11 @@ def open_with(path, flags, act):
         os.close(file)
 
 
+def look(path):
+    is_so = os.lstat(path)
+    return oct(is_so.st_mode), is_so.st_uid, is_so.st_gid
+
+
 def appends(folder):
     """Files that are mapped with O_APPEND, or lose it, or get it, in small pieces and in large ones."""
     path, came = folder + "/file", []
@@ -103,6 +108,43 @@ def appends(folder):
     put(path, b"0123456789")
     put(folder + "/from", b"copied")
     open_with(path, os.O_RDWR | os.O_APPEND, copy)
+    return came
+
+
+def bits(folder):
+    """What a write of another user leaves of set-user-ID and set-group-ID, of a file that isn't its group's."""
+    came = []
+    for mode in (0o2666, 0o2676, 0o4666, 0o6777):
+        for group in (0, 2000):
+            for act in (lambda it: os.write(it, b"w"), lambda it: os.ftruncate(it, 3)):
+                put(folder + "/set", b"set")
+                os.chown(folder + "/set", 0, group)
+                os.chmod(folder + "/set", mode)
+                as_who(1001, 1001, lambda: open_with(folder + "/set", os.O_WRONLY, lambda it: bool(act(it))))
+                came.append((oct(mode), group, look(folder + "/set")))
+    return came
+
+
+def whiteouts(folder):
+    """Of a user in a folder where who owns a name alone removes it; and of a file that another one owns."""
+    sticky, came = folder + "/sticky", []
+    os.mkdir(sticky)
+    os.chmod(sticky, 0o1777)
+
+    def act():
+        put(sticky + "/mine", b"m")
+        done = LIBC.renameat2(-100, os.fsencode(sticky + "/mine"), -100, os.fsencode(sticky + "/moved"), 4)
+        made = os.lstat(sticky + "/mine")
+        shown = [done, oct(made.st_mode), made.st_rdev, made.st_uid, made.st_gid]
+        os.unlink(sticky + "/mine")
+        return shown
+    came.append(as_who(1001, 1002, act))
+    os.mkdir(folder + "/open")
+    os.chmod(folder + "/open", 0o777)
+    put(folder + "/open/another", b"a", 0o600)
+    came.append(as_who(1001, 1002, lambda: LIBC.renameat2(-100, os.fsencode(folder + "/open/another"), -100,
+                                                          os.fsencode(folder + "/open/moved"), 4)))
+    came.append((look(folder + "/open/another"), sorted(os.listdir(folder + "/open"))))
     return came
 
 
@@ -178,6 +220,8 @@ def append_together():
 
 for these in ([], ["--writeback"], ["--cache=always", "--thread-pool-size=1"]):
     beside(appends, *these)
+    beside(bits, *these)
+beside(whiteouts)
 append_alone()
 append_together()
 for fault in faults:
