@@ -1,5 +1,6 @@
 """The same random system calls on two folders, for mirror.py. An operation is who asks, its name and its words."""
 import ctypes
+import fcntl
 import hashlib
 import mmap
 import os
@@ -33,7 +34,7 @@ OPERATIONS = {
     "setxattr": 4, "getxattr": 3, "listxattr": 2, "removexattr": 2, "large attribute": 1, "acl": 1, "fallocate": 3,
     "fallocate other": 2, "utime": 3, "mknod": 2, "mknod special": 3, "open to truncate": 3, "O_TMPFILE": 1, "seek": 2,
     "copy": 3, "map": 2, "access": 2, "open": 4, "fd write": 3, "fd read": 3, "fd stat": 3, "fd truncate": 2,
-    "fd seek": 1, "fd link": 2, "fd chmod": 1, "fd utime": 1, "fsync": 1, "close": 2,
+    "fd seek": 1, "fd link": 2, "fd chmod": 1, "fd append": 2, "fd map": 2, "fd utime": 1, "fsync": 1, "close": 2,
 }
 
 
@@ -79,11 +80,11 @@ def generate(random):
         "open": lambda: (slot, path, random.choice([0, 2, 2 | os.O_CREAT, 2 | os.O_APPEND]), mode),
         "fd seek": lambda: (slot, random.choice(["DATA", "HOLE"]), at),
         "fd write": lambda: (slot, at, length, byte), "fd read": lambda: (slot, at, length + 9),
-        "fd link": lambda: (slot, path),
+        "fd link": lambda: (slot, path), "fd append": lambda: (slot, random.choice([0, os.O_APPEND])),
     }
     if name in words:
         return (random.choice(WHO), name, *words[name]())
-    if name in ("fd stat", "fsync", "close"):
+    if name in ("fd stat", "fd map", "fsync", "close"):
         return (random.choice(WHO), name, slot)
     if name in ("link", "rename", "whiteout"):
         return (random.choice(WHO), name, path, other)
@@ -148,7 +149,7 @@ class Side:
             self.rename2(path, other, WHITEOUT_NEW)
             shown = as_root(lambda: self.stat(path))
             as_root(lambda: (os.unlink(self.at(path)), os.rename(self.at(other), self.at(path))))
-            return shown["mode"], shown["rdev"], shown["nlink"]
+            return shown["mode"], shown["rdev"], shown["nlink"], shown["uid"], shown["gid"]
         return self.unchanged(act, os.path.dirname(path), os.path.dirname(other))
 
     def chmod(self, path, mode):
@@ -296,23 +297,15 @@ class Side:
         return self.bits_after(other, lambda: self.opened(path, os.O_RDONLY, act))
 
     def map(self, path):
-        def act(file):
-            size = os.fstat(file).st_size
-            if size:
-                with mmap.mmap(file, size) as bytes_:
-                    bytes_[0:1] = b"M"
-                    bytes_[size - 1:size] = b"N"
-                    bytes_.flush()
-            return size
-        return self.opened(path, os.O_RDWR, act)
+        return self.opened(path, os.O_RDWR, map_ends)
 
-    def written_as_mapped(self, path):
-        """What a map would have written, if there is none."""
-        def act(file):
-            if size := os.fstat(file).st_size:
-                os.pwrite(file, b"M", 0)
-                os.pwrite(file, b"N", size - 1)
-        self.opened(path, os.O_RDWR, act)
+    def written_as_mapped(self, named):
+        """What a map of a path or a slot would have written, if there is none."""
+        file = os.open(self.at(named) if isinstance(named, str) else f"/proc/self/fd/{self.slots[named]}", os.O_RDWR)
+        if size := os.fstat(file).st_size:
+            os.pwrite(file, b"M", 0)
+            os.pwrite(file, b"N", size - 1)
+        os.close(file)
 
     def access(self, path, how):
         check(LIBC.faccessat(AT_FDCWD, os.fsencode(self.at(path)), how, 0x200))
@@ -333,6 +326,13 @@ class Side:
 
     def fd_read(self, slot, at, length):
         return os.pread(self.held(slot), length, at)
+
+    def fd_append(self, slot, flag):
+        """Has what is written go to the end from now on, or not."""
+        fcntl.fcntl(self.held(slot), fcntl.F_SETFL, flag | os.O_NONBLOCK)
+
+    def fd_map(self, slot):
+        return map_ends(self.held(slot))
 
     def fd_seek(self, slot, whence, at):
         return os.lseek(self.held(slot), at, getattr(os, "SEEK_" + whence))
@@ -380,6 +380,18 @@ class Side:
                                        for key in sorted(os.listxattr(path, follow_symlinks=False))}
                 seen[os.path.relpath(path, self.folder)] = shown
         return seen
+
+
+def map_ends(file):
+    """Writes the first byte of a file and its last one, and answers how many it has."""
+    is_so = os.fstat(file)
+    size = is_so.st_size if stat.S_ISREG(is_so.st_mode) else 0
+    if size:
+        with mmap.mmap(file, size) as bytes_:
+            bytes_[0:1] = b"M"
+            bytes_[size - 1:size] = b"N"
+            bytes_.flush()
+    return size
 
 
 def allocate(file, mode, at, length):
@@ -436,7 +448,7 @@ class Session:
         if operation[1] == "setxattr" and second[0] == "ok":
             # (not all have each kind: then neither has it)
             self.sides[1].removexattr(*operation[2:4])
-        if operation[1] == "map" and second[0] == "ok":
+        if operation[1] in ("map", "fd map") and second[0] == "ok" and second[1]:
             self.sides[0].written_as_mapped(operation[2])
         if first[0] == second[0] == "ok":
             if isinstance(first[1], dict):
