@@ -118,7 +118,8 @@ await_mount() {
 
 # What a person does over a mount with these words.
 try_mount() {
-    local before after
+    local before after lists=()
+    [[ " $* " != *" --posix-acl "* ]] || lists=(--acl)
     rm -rf "$work/folder" "$work/mount"
     mkdir "$work/folder" "$work/mount"
     "$share" -o allow_other --log-level=warn "$@" "$work/folder" "$work/mount" &
@@ -126,7 +127,7 @@ try_mount() {
     await_mount
     ls "$work/mount" > /dev/null
     before=$(descriptors)
-    "$here/tools/lib/session.sh" --shared "$work/mount" > "$work/said" || {
+    "$here/tools/lib/session.sh" --shared "${lists[@]}" "$work/mount" > "$work/said" || {
         grep -A 2 WRONG "$work/said" >&2 || true
         wrong "the session with $*"
     }
@@ -324,7 +325,8 @@ try_closed() {
 # What is asked of a plain folder too.
 try_calls() {
     mkdir "$work/calls"
-    timeout 120 python3 -B "$here/tools/lib/share_calls.py" "$share" "$work/calls" || wrong "tools/lib/share_calls.py"
+    timeout 120 python3 -B "$here/tools/lib/share_calls.py" "$share" "$here/out/c/ask" "$work/calls" ||
+        wrong "tools/lib/share_calls.py"
     umount -lq "$work/calls"/* || true
     echo "Calls come to what they do on a plain folder."
 }
@@ -521,6 +523,7 @@ try_mount --cache=never --no-readdirplus
 try_mount --inode-file-handles=prefer --xattr
 try_mount --inode-file-handles=mandatory -o entry_timeout=0.5,attr_timeout=0 --sandbox=chroot
 try_mount --rlimit-nofile=100
+try_mount --posix-acl
 try_signals --sandbox=namespace
 try_signals --sandbox=none
 try_kill

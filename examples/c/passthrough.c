@@ -176,9 +176,9 @@ int passthrough_begin(void *user, unsigned worker)
 {
 	struct passthrough *all = user;
 
-	if (!begin_as_root(all->worker[worker], &all->options))
+	if (!begin_worker(all->worker[worker], &all->options))
 		return 0;
-	fprintf(stderr, "nizwarf-share: capabilities: %s\n", strerror(errno));
+	fprintf(stderr, "nizwarf-share: a worker: %s\n", strerror(errno));
 	return 1;
 }
 
@@ -196,6 +196,7 @@ void passthrough_parted(void *user)
 
 	nodes_forget_all(&all->nodes);
 	atomic_store(&all->agreed, 0);
+	atomic_store(&all->lacks_lists, false);
 }
 
 /* Looks whether the folder is on a local file system. To such a one it means nothing that a descriptor is

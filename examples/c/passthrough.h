@@ -34,8 +34,9 @@ struct passthrough_options {
 	uint64_t entry_time, attr_time, negative_time;
 	/* The client may write later what it was given to write. */
 	bool writeback;
-	/* Extended attributes are served. */
-	bool xattr;
+	/* Extended attributes are served. With access control lists, which a client must have, the client's kernel goes
+	 * by these, and the host's makes files by those of their directory, or else with the client's umask. */
+	bool xattr, posix_acl;
 	/* What would change something is EROFS. */
 	bool read_only;
 	/* Directories are listed with attributes. */

@@ -13,8 +13,11 @@
 #include <unistd.h>
 #include "passthrough_call.h"
 
-/* An option of INIT that older headers lack. */
+/* Options of INIT that older headers lack. */
+#define SETXATTR_EXT (UINT64_C(1) << 29)
 #define CREATE_SUPP_GROUP (UINT64_C(1) << 34)
+/* What a client has that has access control lists. */
+#define HAS_LISTS (FUSE_POSIX_ACL | FUSE_DONT_MASK | SETXATTR_EXT)
 
 /* ---- helpers: each that answers a number gives 0 or an error */
 
@@ -548,7 +551,26 @@ static uint64_t wanted(const struct passthrough *all)
 		wants |= FUSE_WRITEBACK_CACHE;
 	if (options->announce_submounts)
 		wants |= FUSE_SUBMOUNTS;
+	if (options->posix_acl)
+		wants |= HAS_LISTS;
 	return wants;
+}
+
+/* INIT: of a new client, or of one that began anew. */
+static int agree(const struct call *call)
+{
+	struct passthrough *all = call->all;
+	const uint64_t offered = call->asked->length;
+
+	nodes_forget_all(&all->nodes);
+	/* (it would let in whom they deny) */
+	if (all->options.posix_acl && ~offered & HAS_LISTS) {
+		if (!atomic_exchange(&all->lacks_lists, true))
+			fputs("nizwarf-share: --posix-acl: a client has no access control lists\n", stderr);
+		return EPROTO;
+	}
+	call->answer->count = wanted(all) & offered;
+	return 0;
 }
 
 static void forget_each(const struct call *call)
@@ -569,10 +591,7 @@ int make_call(struct call *call)
 
 	switch (asked->call) {
 	case NIZWARF_INIT:
-		/* It is a new client, or one that began anew. */
-		nodes_forget_all(&all->nodes);
-		call->answer->count = wanted(all) & asked->length;
-		return 0;
+		return agree(call);
 	case NIZWARF_DESTROY:
 		nodes_forget_all(&all->nodes);
 		return 0;

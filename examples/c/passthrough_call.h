@@ -37,6 +37,8 @@ struct passthrough {
 	struct nodes nodes;
 	/* The options that are agreed on with the client. */
 	atomic_ullong agreed;
+	/* It was said that the client has no access control lists. */
+	atomic_bool lacks_lists;
 	/* For how many milliseconds it may remember names and attributes. */
 	uint64_t entry_time, attr_time;
 	/* The device of the folder, if its file system is a local one: ext4, xfs, btrfs or tmpfs. */
@@ -97,10 +99,11 @@ int rename_node(const struct call *call);
 /* Takes back a name that was made of a file, unless it leads to another one by now. */
 void unmake_of(int directory, const char *name, int fd);
 
-/* Leaves the thread of a worker the capabilities that it needs, if it is root: 0, or -1 with
- * errno. */
-int begin_as_root(struct worker *w, const struct passthrough_options *options);
-/* From now on this thread makes files as who asks: 0, or an error. Then it is root again. */
+/* Leaves the thread of a worker the capabilities that it needs, if it is root, and makes it ready for become(): 0,
+ * or -1 with errno. */
+int begin_worker(struct worker *w, const struct passthrough_options *options);
+/* From now on this thread makes files as who asks, with the umask of that if it counts here: 0, or an error.
+ * Then it is root again. */
 int become(const struct call *call);
 void become_root(const struct call *call);
 /* Between the two the host takes set-user-ID and set-group-ID bits away, if that is asked for, as it

@@ -200,8 +200,8 @@ int read_directory(const struct call *call)
 
 /* ---- extended attributes */
 
-/* Access control lists are no attributes: the client would keep them without the host's kernel
- * being asked what they mean. */
+/* Access control lists are no attributes, unless they are agreed on: the client would keep them without looking
+ * at what they mean. */
 static bool is_list(const char *name)
 {
 	return !strncmp(name, "system.posix_acl_", 17);
@@ -212,7 +212,7 @@ static int refused(const struct call *call, const char *name)
 {
 	if (!call->all->options.xattr)
 		return ENOSYS;
-	return name && is_list(name) ? EOPNOTSUPP : 0;
+	return name && is_list(name) && !call->all->options.posix_acl ? EOPNOTSUPP : 0;
 }
 
 int set_xattr(const struct call *call)
@@ -221,10 +221,13 @@ int set_xattr(const struct call *call)
 	const char *name = name_of(call, asked->name);
 	int error = refused(call, name);
 
+	if (error)
+		return error;
+	lose_fsetid(call);
 	/* (the path leads to the node itself: the process is in /proc/self/fd) */
-	if (!error && setxattr(name_fd(call->node.fd).bytes, name, call->request + asked->data.at,
-			       asked->data.len, (int)asked->flags))
-		error = errno;
+	error = failed(setxattr(name_fd(call->node.fd).bytes, name, call->request + asked->data.at,
+				asked->data.len, (int)asked->flags));
+	regain_fsetid(call);
 	return error;
 }
 
@@ -257,10 +260,13 @@ static int tell_text(const struct call *call, ssize_t got)
 int get_xattr(const struct call *call)
 {
 	const char *name = name_of(call, call->asked->name);
-	const int error = refused(call, name);
+	int error = refused(call, name);
 
-	return error ? error : tell_text(call, getxattr(name_fd(call->node.fd).bytes, name,
-							call->worker->text, LONGEST_VALUE));
+	if (!error)
+		error = tell_text(call, getxattr(name_fd(call->node.fd).bytes, name, call->worker->text,
+						 LONGEST_VALUE));
+	/* (where a file system has no lists the mode says who may) */
+	return error == EOPNOTSUPP && is_list(name) && call->all->options.posix_acl ? ENODATA : error;
 }
 
 int list_xattr(const struct call *call)
@@ -278,7 +284,7 @@ int list_xattr(const struct call *call)
 	for (from = 0; from < got;) {
 		const ssize_t len = (ssize_t)strlen(text + from) + 1;
 
-		if (!is_list(text + from)) {
+		if (!refused(call, text + from)) {
 			memmove(text + to, text + from, (size_t)len);
 			to += len;
 		}

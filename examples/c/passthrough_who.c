@@ -2,12 +2,15 @@
 #define _GNU_SOURCE
 #include <errno.h>
 #include <linux/fuse.h>
+#include <sched.h>
 #include <string.h>
+#include <sys/stat.h>
 #include <sys/syscall.h>
 #include <unistd.h>
 #include "passthrough_call.h"
 
-/* A group of nobody's. */
+/* The flag of a SETXATTR of an access control list by who isn't of the file's group; and a group of nobody's. */
+enum { CLEARS_GROUP = 1 };
 #define NO_GROUP (UINT32_MAX - 1)
 
 static int set_capabilities(uint64_t permitted, uint64_t effective)
@@ -30,6 +33,8 @@ int become(const struct call *call)
 	const bool has_group = asked->has & NIZWARF_HAS_GROUP;
 	const uint64_t left = asked->call == NIZWARF_RENAME ? UINT64_MAX : UINT64_C(1) << CAP_DAC_OVERRIDE;
 
+	if (call->all->options.posix_acl)
+		umask(asked->umask & 0777);
 	if (!w->is_root || (!asked->uid && !asked->gid && !has_group))
 		return 0;
 	/* (-1 would leave it who it is) */
@@ -49,6 +54,8 @@ void become_root(const struct call *call)
 	const nizwarf_call *asked = call->asked;
 	const struct worker *w = call->worker;
 
+	if (call->all->options.posix_acl)
+		umask(0);
 	if (!w->is_root || (!asked->uid && !asked->gid && !(asked->has & NIZWARF_HAS_GROUP)))
 		return;
 	syscall(SYS_setresuid, -1, 0, -1);
@@ -68,6 +75,7 @@ static bool kills(const struct call *call)
 	return call->worker->is_root &&
 	       (asked->has & NIZWARF_KILL_PRIV ||
 		(asked->call == NIZWARF_SETATTR && asked->flags & FATTR_KILL_SUIDGID) ||
+		(asked->call == NIZWARF_SETXATTR && asked->more & CLEARS_GROUP) ||
 		((asked->call == NIZWARF_FALLOCATE || asked->call == NIZWARF_COPY) && asked->uid));
 }
 
@@ -123,8 +131,11 @@ int passthrough_limit(const struct passthrough_options *options)
 	return geteuid() == 0 ? limit(&left, options) : 0;
 }
 
-int begin_as_root(struct worker *w, const struct passthrough_options *options)
+int begin_worker(struct worker *w, const struct passthrough_options *options)
 {
+	/* (a umask of its own) */
+	if (options->posix_acl && unshare(CLONE_FS))
+		return -1;
 	w->is_root = geteuid() == 0;
 	return w->is_root && (limit(&w->capabilities, options) || syscall(SYS_setgroups, 0, NULL)) ? -1 : 0;
 }

@@ -337,6 +337,8 @@ int main(int count, char **given)
 	words.files.other_descriptors = is_mount() ? OF_MOUNT + OF_MOUNT_WORKER * by.workers :
 						     OF_SOCKET + OF_SOCKET_WORKER * by.workers;
 	by.quiet = !words.says_more;
+	if (words.says_more && *words.allow_other && is_mount() && !words.files.posix_acl)
+		fputs("nizwarf-share: access control lists of the folder are not looked at: --posix-acl\n", stderr);
 	if (words.traces && trace_begin(&by, words.trace_file))
 		return 1;
 	if ((status = find_places()))

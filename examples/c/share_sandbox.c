@@ -250,7 +250,7 @@ static const char *const calls[] = {
 	"restart_syscall", "rseq", "rt_sigaction", "rt_sigprocmask", "rt_sigreturn",
 	"sched_getaffinity", "sched_yield", "sendmsg", "sendto", "set_robust_list", "setgroups",
 	"setfsgid", "setresgid", "setresuid", "setsockopt", "setxattr", "sigaltstack", "signalfd4", "splice",
-	"statfs", "statx", "symlinkat", "syncfs", "tgkill", "unlink", "unlinkat", "utimensat", "write",
+	"statfs", "statx", "symlinkat", "syncfs", "tgkill", "umask", "unlink", "unlinkat", "utimensat", "write",
 	"writev",
 };
 
@@ -275,6 +275,9 @@ int sandbox_filter(enum calls_filter filter, bool mounts)
 	for (size_t i = 0; i < sizeof(controls) / sizeof(*controls) && !error; i++)
 		error = seccomp_rule_add(rules, SCMP_ACT_ALLOW, SCMP_SYS(ioctl), 1,
 					 SCMP_A1(SCMP_CMP_MASKED_EQ, UINT32_MAX, controls[i]));
+	/* (a worker's umask is its own) */
+	if (!error)
+		error = seccomp_rule_add(rules, SCMP_ACT_ALLOW, SCMP_SYS(unshare), 1, SCMP_A0(SCMP_CMP_EQ, CLONE_FS));
 	if (!error && mounts)
 		error = seccomp_rule_add(rules, SCMP_ACT_ALLOW, SCMP_SYS(umount2), 0);
 	if (!error)

@@ -28,8 +28,8 @@ static const char usage[] =
 	"                            and attributes are remembered; negative_timeout=SECONDS: how\n"
 	"                            long, that there is no such name (0); or virtiofsd's, as managers\n"
 	"                            of machines write them: source=FOLDER, cache=WHAT, sandbox=HOW,\n"
-	"                            modcaps=LIST, loglevel=LEVEL, xattr, writeback, readdirplus,\n"
-	"                            no_xattr, no_flock ..\n"
+	"                            modcaps=LIST, loglevel=LEVEL, xattr, posix_acl, writeback,\n"
+	"                            readdirplus, no_xattr, no_flock ..\n"
 	"  --shared-dir=FOLDER       the folder, in place of the word\n"
 	"  --socket-path=SOCKET      listens on a new socket of this path\n"
 	"  --fd=N                    listens on the socket of this descriptor\n"
@@ -38,6 +38,8 @@ static const char usage[] =
 	"                            metadata\n"
 	"  --writeback               the client may write later\n"
 	"  --xattr                   extended attributes are served\n"
+	"  --posix-acl               so are access control lists, and the client goes by them; without it\n"
+	"                            modes alone say who may, also where a list of the folder denies\n"
 	"  --readonly                nothing is changed\n"
 	"  --no-readdirplus          directories are listed without attributes\n"
 	"  --announce-submounts      mounts below the folder are told to be such; with\n"
@@ -193,6 +195,8 @@ static bool take_switch(const char *key)
 		const char *word;
 		bool *what, is;
 	} known[] = { { "xattr", &words.files.xattr, true }, { "no_xattr", &words.files.xattr, false },
+		      { "posix_acl", &words.files.posix_acl, true },
+		      { "no_posix_acl", &words.files.posix_acl, false },
 		      { "writeback", &words.files.writeback, true },
 		      { "no_writeback", &words.files.writeback, false },
 		      { "readdirplus", &words.files.readdirplus, true },
@@ -200,7 +204,7 @@ static bool take_switch(const char *key)
 		      { "announce_submounts", &words.files.announce_submounts, true },
 		      /* What is so anyhow, or shows nowhere. */
 		      { "killpriv_v2", &nothing, true }, { "no_killpriv_v2", &nothing, false },
-		      { "no_posix_acl", &nothing, false }, { "no_security_label", &nothing, false },
+		      { "no_security_label", &nothing, false },
 		      { "no_allow_direct_io", &nothing, false }, { "no_flock", &nothing, false },
 		      { "no_posix_lock", &nothing, false } };
 
@@ -286,7 +290,7 @@ static void take_options(char *rest)
 }
 
 enum word {
-	SHARED_DIR = 256, SOCKET_PATH, FD, SOCKET_GROUP, CACHE, WRITEBACK, XATTR, READONLY,
+	SHARED_DIR = 256, SOCKET_PATH, FD, SOCKET_GROUP, CACHE, WRITEBACK, XATTR, POSIX_ACL, READONLY,
 	NO_READDIRPLUS, ANNOUNCE, NO_ANNOUNCE, FILE_HANDLES, MODCAPS, POOL, NOFILE, SANDBOX, SECCOMP, LOG,
 	TRACE, DAEMONIZE, PRINT, VERSION, HELP
 };
@@ -300,6 +304,7 @@ static const struct option known_words[] = {
 	{ "cache", required_argument, NULL, CACHE },
 	{ "writeback", no_argument, NULL, WRITEBACK },
 	{ "xattr", no_argument, NULL, XATTR },
+	{ "posix-acl", no_argument, NULL, POSIX_ACL },
 	{ "readonly", no_argument, NULL, READONLY },
 	{ "no-readdirplus", no_argument, NULL, NO_READDIRPLUS },
 	{ "announce-submounts", no_argument, NULL, ANNOUNCE },
@@ -350,6 +355,7 @@ static void take_word(int word)
 		break;
 	case WRITEBACK: words.files.writeback = true; break;
 	case XATTR: words.files.xattr = true; break;
+	case POSIX_ACL: words.files.posix_acl = true; break;
 	case READONLY: words.files.read_only = true; break;
 	case NO_READDIRPLUS: words.files.readdirplus = false; break;
 	case ANNOUNCE: words.files.announce_submounts = true; break;
@@ -471,6 +477,7 @@ void take_words(int count, char **given)
 		words.sandbox = SANDBOX_NAMESPACE;
 	if (words.filter < 0)
 		words.filter = has_filter ? FILTER_KILL : FILTER_NONE;
+	words.files.xattr |= words.files.posix_acl;
 	if (words.files.read_only)
 		words.flags |= MS_RDONLY;
 	if (words.flags & MS_RDONLY)

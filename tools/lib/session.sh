@@ -1,11 +1,12 @@
 #!/bin/sh
 # What a person does with the mounted file system in memory, with what must come of it.
 #
-# Usage: tools/lib/session.sh [--shared] FOLDER
+# Usage: tools/lib/session.sh [--shared] [--acl] FOLDER
 # FOLDER is a mount that nothing was done with. tools/mount.sh runs it, and tools/guest.sh in the guest, by
 # busybox. With --shared it is a mount of a folder of the host, as tools/share.sh makes, where names are not
 # counted. What must come is written by hand, from what POSIX says, and of what that leaves open from what Linux
-# does on a tmpfs; but access control lists are refused. If git is there, a repository is cloned into it too.
+# does on a tmpfs; but access control lists are refused without --acl. If git is there, a repository is cloned into it
+# too.
 # What the machine has no command for is skipped, and so is what another user does if root alone may use the
 # mount. Status 0: each step came to what it must.
 # shellcheck disable=SC2016,SC2034
@@ -20,8 +21,13 @@ if [ "${1:-}" = --shared ]; then
     shared=yes
     shift
 fi
+lists=
+if [ "${1:-}" = --acl ]; then
+    lists=yes
+    shift
+fi
 if [ $# != 1 ] || [ ! -d "$1" ]; then
-    echo "Usage: tools/lib/session.sh [--shared] FOLDER, which is there" >&2
+    echo "Usage: tools/lib/session.sh [--shared] [--acl] FOLDER, which is there" >&2
     exit 2
 fi
 export LC_ALL=C
@@ -134,13 +140,19 @@ fi
 works '644 644' 'cd "$other" && echo p > p && chmod 644 p && cd "$here" && cp -p "$other/p" p && cp -a "$other/p" q &&
     echo $(stat -c %a p q) && rm p q'
 acl=0x0200000001000600ffffffff04000400ffffffff20000400ffffffff
+set_list=
 if command -v setfattr > /dev/null; then
-    fails 'Operation not supported' "setfattr -n system.posix_acl_access -v $acl a"
+    set_list="setfattr -n system.posix_acl_access -v $acl a"
 elif command -v python3 > /dev/null; then
-    fails 'Operation not supported' "python3 -c 'import os
+    set_list="python3 -c 'import os
 os.setxattr(\"a\", \"system.posix_acl_access\", int(\"$acl\", 16).to_bytes(28, \"big\"))'"
-else
+fi
+if [ -z "$set_list" ]; then
     skipped 'an access control list, without setfattr and python3'
+elif [ -n "$lists" ]; then
+    works '-rw-r--r--' "$set_list && stat -c %A a"
+else
+    fails 'Operation not supported' "$set_list"
 fi
 
 # Who truncates a file of another user takes the set-user-ID bit from it.

@@ -1,7 +1,7 @@
 """Asks a mount of a share what it asks a plain folder beside it, of what a mirror of random calls doesn't come to: files
-that are appended to, bits that a write takes, whiteouts. For tools/share.sh --check.
+that are appended to, access control lists, bits that a write takes, whiteouts. For tools/share.sh --check.
 
-    share_calls.py SHARE WORK: the program, and an empty folder
+    share_calls.py SHARE ASK WORK: the programs, and an empty folder on a file system with access control lists
 """
 import ctypes
 import fcntl
@@ -9,14 +9,27 @@ import itertools
 import json
 import mmap
 import os
+import stat
 import struct
 import subprocess
 import sys
 import time
 
 LIBC = ctypes.CDLL(None, use_errno=True)
-SHARE, WORK = sys.argv[1:]
+SHARE, ASK, WORK = sys.argv[1:]
+ACCESS, DEFAULT = "system.posix_acl_access", "system.posix_acl_default"
+NO_ONE = 2**32 - 1
 faults = []
+
+
+def acl(*entries):
+    """One as the kernel has it: of tags, permissions and ids. The tags are those of linux/posix_acl.h."""
+    return struct.pack("<I", 2) + b"".join(struct.pack("<HHI", *entry) for entry in entries)
+
+
+def for_user(user, may, group=0, mask=7):
+    """One by which a user may this, and the group of the file that."""
+    return acl((1, 6, NO_ONE), (2, may, user), (4, group, NO_ONE), (16, mask, NO_ONE), (32, 0, NO_ONE))
 
 
 class Mount:
@@ -81,6 +94,10 @@ def open_with(path, flags, act):
 def look(path):
     is_so = os.lstat(path)
     return oct(is_so.st_mode), is_so.st_uid, is_so.st_gid
+
+
+def look_at_lists(path):
+    return *look(path), {key: os.getxattr(path, key).hex() for key in os.listxattr(path) if "acl" in key}
 
 
 def appends(folder):
@@ -148,6 +165,47 @@ def whiteouts(folder):
     return came
 
 
+def lists(folder):
+    """Access control lists: who may by them, what they make of modes, and what of a umask."""
+    path, came = folder + "/listed", []
+    read = lambda: got(path)
+    put(path, b"secret")
+    os.chown(path, 0, 2000)
+    os.setxattr(path, ACCESS, for_user(1001, 6, mask=6))
+    for who in ((1500, 2000), (1001, 1001), (1002, 1002), (0, 0)):
+        came.append((who, as_who(*who, read)))
+    came.append(look_at_lists(path))
+    os.chmod(path, 0o640)
+    came.append((look_at_lists(path), as_who(1001, 1001, lambda: open_with(path, os.O_WRONLY, lambda it: os.write(it, b"w")))))
+    os.removexattr(path, ACCESS)
+    came.append((look_at_lists(path), as_who(1500, 2000, read), as_who(1001, 1001, read)))
+    came.append(as_who(1500, 2000, lambda: os.setxattr(path, ACCESS, for_user(1500, 7))))
+
+    def make(where):
+        os.umask(0o027)
+        open_with(where + "/file", os.O_WRONLY | os.O_CREAT, lambda _: None)
+        os.mkdir(where + "/directory")
+        os.mknod(where + "/node", stat.S_IFREG | 0o666)
+        os.mkfifo(where + "/pipe")
+        os.symlink("text", where + "/link")
+        return [look_at_lists(f"{where}/{name}") for name in ("file", "directory", "node", "pipe")]
+    for name, list_ in (("plain", None), ("default", for_user(1003, 7, 5, 7)), ("other", for_user(1003, 4, 4, 4))):
+        for who in ((0, 0), (1001, 1001)):
+            where = f"{folder}/{name}{who[0]}"
+            os.mkdir(where)
+            os.chmod(where, 0o2777)
+            if list_:
+                os.setxattr(where, DEFAULT, list_)
+            came.append((name, who, as_who(*who, lambda: make(where))))
+    # Who isn't of a file's group, and sets its list, takes the set-group-ID bit away.
+    for group in (0, 1001, 2000):
+        put(path, b"set")
+        os.chown(path, 1001, group)
+        os.chmod(path, 0o2755)
+        came.append((as_who(1001, 1001, lambda: os.setxattr(path, ACCESS, for_user(1003, 5, 5))), look_at_lists(path)))
+    return came
+
+
 def beside(act, *words):
     """Holds what an act comes to on a mount with these words against what it does on a plain folder."""
     folders = f"{WORK}/plain", f"{WORK}/shared"
@@ -163,6 +221,19 @@ def beside(act, *words):
     for one, other in itertools.zip_longest(wanted, came):
         if one != other:
             faults.append(f"{act.__name__} {' '.join(words)}: wanted {str(one)[:200]}, came {str(other)[:200]}")
+
+
+def without_lists():
+    """Below a mount of a file system that has no list the mode says who may."""
+    below = f"{WORK}/below"
+    os.mkdir(below)
+    subprocess.run(["mount", "-t", "ramfs", "none", below], check=True)
+    put(below + "/file", b"for all")
+    with Mount(below, "-o", "allow_other,posix_acl", "--log-level=warn") as mount:
+        came = as_who(1001, 1001, lambda: got(mount.at + "/file"))
+    subprocess.run(["umount", below], check=True)
+    if came != "for all":
+        faults.append(f"a file system without lists: {came}")
 
 
 def append_alone():
@@ -218,12 +289,48 @@ def append_together():
         faults.append(f"lines that are appended at once: {ended}, {len(text)} bytes")
 
 
+def says():
+    """A mount for others says that it looks at no list, and one that does says nothing."""
+    for words, wanted in ((["-o", "allow_other"], True), (["-o", "allow_other", "--posix-acl"], False), ([], False)):
+        with Mount(f"{WORK}/shared", *words) as mount:
+            pass
+        if ("access control lists" in mount.said) != wanted:
+            faults.append(f"what it says with {words}: {mount.said}")
+
+
+def machines():
+    """A machine that has no lists is refused, and one that has is served, with the umask of who asks."""
+    folder, path = f"{WORK}/machine", f"{WORK}/socket"
+    os.mkdir(folder)
+    asked = []
+    for flags in (0, 1 << 20 | 1 << 6 | 1 << 29):
+        asked.append((26, struct.pack("<IIII", 7, 38, 65536, 1 << 30 | flags) + bytes(48)))
+    asked.append((9, struct.pack("<II", 0o777, 0o027) + b"made\0"))
+    lines = (f"16+128 {struct.pack('<IIQQIIIHH', 40 + len(body), opcode, 1, 1, 0, 0, 1, 0, 0).hex()}{body.hex()}\n"
+             for opcode, body in asked)
+    server = subprocess.Popen([SHARE, "--posix-acl", "--log-level=warn", f"--socket-path={path}", folder],
+                              stderr=subprocess.PIPE, text=True)
+    came = subprocess.run([ASK, path], input="".join(lines), capture_output=True, text=True, timeout=60,
+                          check=False).stdout
+    server.terminate()
+    said = server.communicate()[1]
+    errors = [-struct.unpack_from("<i", bytes.fromhex(line.split()[1]), 4)[0] for line in came.splitlines()]
+    made = [oct(os.stat(it).st_mode) for it in os.scandir(folder)]
+    if errors != [71, 0, 0] or made != ["0o40750"] or "a client has no access control lists" not in said:
+        faults.append(f"machines with lists and without: {errors}, {made}, {said}")
+
+
 for these in ([], ["--writeback"], ["--cache=always", "--thread-pool-size=1"]):
     beside(appends, *these)
     beside(bits, *these)
 beside(whiteouts)
+beside(lists, "--posix-acl")
+beside(lists, "--posix-acl", "--writeback", "--cache=always", "--sandbox=none")
+without_lists()
 append_alone()
 append_together()
+says()
+machines()
 for fault in faults:
     print(fault, file=sys.stderr)
 sys.exit(1 if faults else 0)
