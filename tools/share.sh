@@ -325,10 +325,11 @@ try_closed() {
 # What is asked of a plain folder too.
 try_calls() {
     mkdir "$work/calls"
-    timeout 120 python3 -B "$here/tools/lib/share_calls.py" "$share" "$here/out/c/ask" "$work/calls" ||
-        wrong "tools/lib/share_calls.py"
+    timeout 120 python3 -B "$here/tools/lib/share_calls.py" "$share" "$here/out/c/ask" "$work/calls" "$@" ||
+        wrong "tools/lib/share_calls.py with $*"
     umount -lq "$work/calls"/* || true
-    echo "Calls come to what they do on a plain folder."
+    rm -rf "$work/calls" || true
+    echo "Calls come to what they do on a plain folder${*:+, with $*}."
 }
 
 # Words that can't be, what is printed, and who is told that it serves.
@@ -847,6 +848,7 @@ for sanitizer in address,undefined thread; do
         share=$transport
         ask "under the sanitizers $sanitizer" "$share" --xattr --announce-submounts --sandbox=none --seccomp=none
         try_mount --thread-pool-size=4 --xattr --log-level=error --sandbox=none --seccomp=none
+        try_calls --sandbox=none --seccomp=none
         share=$plain
     fi
 done

@@ -1,7 +1,8 @@
 """Asks a mount of a share what it asks a plain folder beside it, of what a mirror of random calls doesn't come to: files
 that are appended to, access control lists, bits that a write takes, whiteouts. For tools/share.sh --check.
 
-    share_calls.py SHARE ASK WORK: the programs, and an empty folder on a file system with access control lists
+    share_calls.py SHARE ASK WORK [WORDS]: the programs, an empty folder on a file system with access control lists, and
+    further words of the share
 """
 import ctypes
 import fcntl
@@ -16,7 +17,7 @@ import sys
 import time
 
 LIBC = ctypes.CDLL(None, use_errno=True)
-SHARE, ASK, WORK = sys.argv[1:]
+SHARE, ASK, WORK, *WORDS = sys.argv[1:]
 ACCESS, DEFAULT = "system.posix_acl_access", "system.posix_acl_default"
 NO_ONE = 2**32 - 1
 faults = []
@@ -37,7 +38,7 @@ class Mount:
     def __init__(self, folder, *words, name="mount"):
         self.at = f"{WORK}/{name}"
         os.makedirs(self.at, exist_ok=True)
-        self.server = subprocess.Popen([SHARE, *words, folder, self.at], stderr=subprocess.PIPE, text=True)
+        self.server = subprocess.Popen([SHARE, *words, *WORDS, folder, self.at], stderr=subprocess.PIPE, text=True)
         while not os.path.ismount(self.at) and self.server.poll() is None:
             time.sleep(0.02)
 
@@ -308,7 +309,7 @@ def machines():
     asked.append((9, struct.pack("<II", 0o777, 0o027) + b"made\0"))
     lines = (f"16+128 {struct.pack('<IIQQIIIHH', 40 + len(body), opcode, 1, 1, 0, 0, 1, 0, 0).hex()}{body.hex()}\n"
              for opcode, body in asked)
-    server = subprocess.Popen([SHARE, "--posix-acl", "--log-level=warn", f"--socket-path={path}", folder],
+    server = subprocess.Popen([SHARE, "--posix-acl", "--log-level=warn", *WORDS, f"--socket-path={path}", folder],
                               stderr=subprocess.PIPE, text=True)
     came = subprocess.run([ASK, path], input="".join(lines), capture_output=True, text=True, timeout=60,
                           check=False).stdout
