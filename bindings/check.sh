@@ -54,6 +54,20 @@ check_hello() {
     fi
 }
 
+# Runs the lines of Go's README that need no package, in the folder of the repository. The last one mounts.
+follow_readme() {
+    local lines clean=(env -u LD_LIBRARY_PATH -u CGO_CFLAGS -u CGO_LDFLAGS -C "$here")
+    # The block that begins with an export.
+    lines=$(sed -n '/^    export /,/^$/ s/^    //p' "$here/bindings/go/README.md")
+    rm -f "$built/hello"
+    "${clean[@]}" bash -ec "$(grep -v '^sudo ' <<< "$lines")" || return 1
+    if may_mount; then
+        lines=$(grep '^sudo ' <<< "$lines") || return 1
+        lines=${lines#sudo }
+        use_mount "${clean[@]}" bash -ec "${lines/%\/mnt/$folder/mount}"
+    fi
+}
+
 make_shared
 export LD_LIBRARY_PATH=$built${LD_LIBRARY_PATH:+:$LD_LIBRARY_PATH}
 if command -v python3 > /dev/null; then
@@ -77,6 +91,7 @@ if command -v go > /dev/null; then
     esac
     step "Format of hello.go" test -z "$(gofmt -l "$here/bindings/go")"
     step "go vet" go vet "$here/bindings/go/hello.go"
+    step "The README of hello.go" follow_readme
     step "Build of hello.go" go build -o "$built/hello" "$here/bindings/go/hello.go"
     check_hello hello.go "$built/hello"
     for sanitizer in -asan -race; do

@@ -117,7 +117,7 @@ func run(device int) error {
 	items[2].ino = hello
 	for {
 		size, err := syscall.Read(device, unsafe.Slice((*byte)(request), longest))
-		if errors.Is(err, syscall.EINTR) {
+		if errors.Is(err, syscall.EINTR) || errors.Is(err, syscall.ENOENT) { // the request was aborted
 			continue
 		}
 		if size == 0 || errors.Is(err, syscall.ENODEV) { // it was unmounted

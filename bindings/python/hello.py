@@ -105,13 +105,17 @@ def main(words):
     library.nizwarf_answer_at.argtypes = [c_void_p] * 4 + [c_char_p, c_size_t, c_void_p, c_size_t, c_void_p]
     slot, session = c_void_p(), Session(0, 4096, 1 << 20)
     device = int(words[1]) if words[0] == "--fd" else mount_on(words[0])
-    try:
-        while request := os.read(device, LONGEST):
+    while True:
+        try:
+            if not (request := os.read(device, LONGEST)):
+                break
             if reply := serve(library, slot, session, request):
                 os.write(device, reply)
-    except OSError as error:
-        if error.errno != errno.ENODEV:  # it was unmounted
-            raise
+        except OSError as error:
+            if error.errno == errno.ENODEV:  # it was unmounted
+                break
+            if error.errno != errno.ENOENT:  # the request was aborted
+                raise
     library.nizwarf_end_slot_at(byref(slot))
 
 
