@@ -3,7 +3,8 @@
 
 use crate::attr::{Attr, Statvfs};
 use crate::door::{Refusal, Reply};
-use crate::ffi::{number_of, Item, Pending, RawAnswer, RawEntry, Slot};
+use crate::errno::{answered, Errno};
+use crate::ffi::{Item, Pending, RawAnswer, RawCall, RawEntry, Slot};
 use crate::file_system::{Entry, GetxattrReply, ListxattrReply};
 use crate::flags::{FsOptions, OpenOptions};
 use std::fmt;
@@ -139,6 +140,8 @@ pub struct Told<'s> {
     /// How many of the items are in the reply: the first ones.
     pub taken: usize,
     held: Vec<u64>,
+    /// A node of which the answer has an entry, whether the client gets it or not.
+    entry: Option<u64>,
     reply: Reply<'s>,
 }
 
@@ -154,10 +157,19 @@ impl<'s> Told<'s> {
     /// Returns the reply to a call whose answer has no entry.
     ///
     /// # Panics
-    /// If there is a lookup to give back. Use [`give_back`](Self::give_back) for calls that have entries.
+    /// If the answer has an entry of a node, even one that fits: with a smaller buffer, which a client may
+    /// choose, its lookup had to be given back. Use [`give_back`](Self::give_back) for calls that have
+    /// entries.
     #[must_use = "the client waits for the reply"]
     pub fn reply(self) -> Reply<'s> {
-        self.give_back(|node| panic!("a lookup of node {node} is to be given back"))
+        if let Some(node) = self.entry {
+            panic!("the answer has an entry of node {node}: its reply comes from `give_back`");
+        }
+        self.reply
+    }
+
+    fn with_entry(self, node: Option<u64>) -> Self {
+        Told { entry: node, ..self }
     }
 }
 
@@ -178,9 +190,11 @@ impl<K> To<K> {
         usize::try_from(self.pending.call.room).unwrap_or(usize::MAX)
     }
 
-    /// Answers with an error. One without a number becomes EIO. Calls that have no reply get none.
+    /// Answers with an error. One without a number has that of its [`kind`](io::Error::kind), as
+    /// ENOENT for [`NotFound`](io::ErrorKind::NotFound). If there is none, or Linux does not take it, which
+    /// takes 1 to 511, it is EIO. Calls that have no reply get none.
     pub fn fail<'s>(mut self, slot: &'s mut Slot, error: &io::Error) -> Told<'s> {
-        self.pending.answer.error = number_of(error);
+        self.pending.answer.error = answered(error).number();
         tell(self.pending, slot, &[], &[])
     }
 
@@ -218,7 +232,6 @@ fn tell<'s>(
 ) -> Told<'s> {
     const INIT: u32 = 26;
     const DESTROY: u32 = 38;
-    const READDIRPLUS: (u32, u32) = (28, 1 << 9);
     let call = &pending.call;
     let (code, told) = slot.answer_raw(&pending, text, items);
     let taken = usize::try_from(told.taken).unwrap_or(usize::MAX);
@@ -226,7 +239,7 @@ fn tell<'s>(
     if told.give_back != 0 {
         held.push(told.give_back);
     }
-    if (call.call, call.has & READDIRPLUS.1) == READDIRPLUS {
+    if has_lookups(call) {
         held.extend(items.iter().skip(taken).filter_map(Item::held));
     }
     let options =
@@ -237,8 +250,15 @@ fn tell<'s>(
         options,
         taken,
         held,
+        entry: None,
         reply: Reply::new(slot, told.len, told.put),
     }
+}
+
+/// Whether items have lookups: those of a READDIRPLUS do.
+fn has_lookups(call: &RawCall) -> bool {
+    const READDIRPLUS: (u32, u32) = (28, 1 << 9);
+    (call.call, call.has & READDIRPLUS.1) == READDIRPLUS
 }
 
 fn opened(answer: &mut RawAnswer, handle: Option<u64>, options: OpenOptions) {
@@ -305,7 +325,9 @@ impl To<EntryOf> {
     /// Answers with an entry. The client then holds one more lookup of its node, if that is not 0.
     #[inline]
     pub fn answer(self, slot: &mut Slot, result: io::Result<Entry>) -> Told<'_> {
+        let node = result.as_ref().ok().map(|entry| entry.inode).filter(|node| *node != 0);
         self.say(slot, result, |answer, entry| answer.entry = RawEntry::from(&entry))
+            .with_entry(node)
     }
 }
 
@@ -341,10 +363,12 @@ impl To<Created> {
         slot: &mut Slot,
         result: io::Result<(Entry, Option<u64>, OpenOptions)>,
     ) -> Told<'_> {
+        let node = result.as_ref().ok().map(|(entry, ..)| entry.inode).filter(|node| *node != 0);
         self.say(slot, result, |answer, (entry, handle, options)| {
             answer.entry = RawEntry::from(&entry);
             opened(answer, handle, options);
         })
+        .with_entry(node)
     }
 }
 
@@ -357,10 +381,13 @@ impl To<Statistics> {
 }
 
 impl To<Text> {
-    /// Answers with a text, which follows the header of the reply.
+    /// Answers with the target of a symbolic link. One above 4095 bytes, which Linux does not take, is
+    /// answered EIO.
     #[inline]
     pub fn answer<'s>(self, slot: &'s mut Slot, result: io::Result<&[u8]>) -> Told<'s> {
+        const MOST: usize = 4095;
         match result {
+            Ok(text) if text.len() > MOST => self.fail(slot, &Errno::EIO.into()),
             Ok(text) => self.succeed(slot, text, &[]),
             Err(error) => self.fail(slot, &error),
         }
@@ -368,23 +395,31 @@ impl To<Text> {
 }
 
 impl To<TextOrCount> {
-    /// Answers with a text, or with its length if the `size` of the call is 0.
+    /// Answers with a text, or with its length if the `size` of the call is 0: then a text stands for its
+    /// length. What is longer than `size` is answered ERANGE; a length where a text is asked for, EIO.
     #[inline]
     pub fn answer<T: Into<GetxattrReply>>(
         mut self,
         slot: &mut Slot,
         result: io::Result<T>,
     ) -> Told<'_> {
-        match result.map(Into::into) {
-            Ok(GetxattrReply::Value(text)) => {
+        let size = self.pending.call.size as usize;
+        let (count, text) = match result.map(Into::into) {
+            Ok(GetxattrReply::Value(text)) => (text.len(), Some(text)),
+            Ok(GetxattrReply::Count(count)) => (count as usize, None),
+            Err(error) => return self.fail(slot, &error),
+        };
+        match text {
+            _ if size != 0 && count > size => self.fail(slot, &Errno::ERANGE.into()),
+            Some(text) if size != 0 => {
                 self.pending.answer.has_count = 0;
                 self.succeed(slot, &text, &[])
             }
-            Ok(GetxattrReply::Count(count)) => self.say(slot, Ok(count), |answer, count| {
+            None if size != 0 => self.fail(slot, &Errno::EIO.into()),
+            _ => self.say(slot, Ok(count), |answer, count| {
                 answer.has_count = 1;
-                answer.count = count.into();
+                answer.count = count as u64;
             }),
-            Err(error) => self.fail(slot, &error),
         }
     }
 }
@@ -420,7 +455,11 @@ impl To<Directory> {
     #[inline]
     pub fn answer<'s>(self, slot: &'s mut Slot, result: io::Result<&[Item<'_>]>) -> Told<'s> {
         match result {
-            Ok(items) => self.succeed(slot, &[], items),
+            Ok(items) => {
+                let plus = has_lookups(&self.pending.call);
+                let node = if plus { items.iter().find_map(Item::held) } else { None };
+                self.succeed(slot, &[], items).with_entry(node)
+            }
             Err(error) => self.fail(slot, &error),
         }
     }

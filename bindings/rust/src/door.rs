@@ -84,6 +84,37 @@ impl fmt::Display for WrongSize {
 
 impl Error for WrongSize {}
 
+/// Takes options out of an INIT, as if the client did not offer them. Other requests stay as they are.
+///
+/// Some options that are offered are agreed on even if nobody wants them: `ASYNC_READ`, `ATOMIC_O_TRUNC`,
+/// `BIG_WRITES`, `HAS_IOCTL_DIR`, `AUTO_INVAL_DATA`, `ASYNC_DIO`, `PARALLEL_DIROPS`, `MAX_PAGES`, `SUBMOUNTS`,
+/// `INIT_EXT`, `CREATE_SUPP_GROUP` and `ALLOW_IDMAP`. Withhold those that you do not serve:
+///
+/// - With [`ATOMIC_O_TRUNC`](FsOptions::ATOMIC_O_TRUNC) an OPEN has to truncate. Without it Linux sends a
+///   SETATTR.
+/// - With [`ALLOW_IDMAP`](FsOptions::ALLOW_IDMAP) Linux mounts only with `default_permissions`, and says the
+///   user and the group only of calls that make a node.
+///
+/// ```
+/// use nizwarf::{withhold, FsOptions};
+///
+/// // An INIT of version 7.38 that offers `ATOMIC_O_TRUNC` and `BIG_WRITES`.
+/// let mut request = [0; 56];
+/// (request[0], request[4], request[40], request[44], request[52]) = (56, 26, 7, 38, 0x28);
+/// withhold(&mut request, FsOptions::ATOMIC_O_TRUNC);
+/// assert_eq!(request[52], 0x20);
+/// ```
+pub fn withhold(request: &mut [u8], options: FsOptions) {
+    const INIT: u32 = 26;
+    // `flags` and `flags2` of `fuse_init_in`, one after the other.
+    const FLAGS: usize = 52;
+    if request.get(4..8) == Some(&INIT.to_le_bytes()) {
+        for (byte, withheld) in request.iter_mut().skip(FLAGS).zip(options.bits().to_le_bytes()) {
+            *byte &= !withheld;
+        }
+    }
+}
+
 /// Why a request has no reply. The session continues.
 #[non_exhaustive]
 #[derive(Clone, Copy, Debug, PartialEq, Eq, Hash)]

@@ -1,8 +1,9 @@
 //! The structs and functions of libnizwarf, as its header declares them, and safe wrappers. All unsafe
-//! code of the crate is in this file.
+//! code of the crate is in this file and in `system.rs`.
 #![allow(unsafe_code)]
 
 use crate::attr::{Attr, SetattrIn, Statvfs};
+use crate::errno::answered;
 use crate::file_system::Entry;
 use std::ffi::{c_void, CStr};
 use std::fmt;
@@ -346,11 +347,6 @@ impl RawAnswer {
     };
 }
 
-/// The number of an error. One without a number becomes EIO, for which the library takes -1.
-pub(crate) fn number_of(error: &io::Error) -> i32 {
-    error.raw_os_error().filter(|number| *number > 0).unwrap_or(-1)
-}
-
 impl<'a> Item<'a> {
     const NONE: Item<'static> = Item {
         ino: 0,
@@ -378,7 +374,7 @@ impl<'a> Item<'a> {
     pub fn looked_up(self, result: &io::Result<Entry>) -> Self {
         match result {
             Ok(entry) => Item { entry: entry.into(), ..self },
-            Err(error) => Item { error: number_of(error), ..self },
+            Err(error) => Item { error: answered(error).number(), ..self },
         }
     }
 

@@ -2,6 +2,7 @@
 #![forbid(unsafe_code)]
 
 use crate::attr::{Attr, SetattrIn, Statvfs};
+use crate::errno::Errno;
 use crate::flags::{FsOptions, OpenOptions, SetattrValid, SetxattrFlags, WritevFlags};
 use std::ffi::{CStr, CString};
 use std::fs::File;
@@ -20,10 +21,8 @@ pub const DT_LNK: u32 = 10;
 /// An unknown type, there.
 pub const DT_UNKNOWN: u32 = 0;
 
-const ENOSYS: i32 = 38;
-
 fn not_served<T>() -> io::Result<T> {
-    Err(io::Error::from_raw_os_error(ENOSYS))
+    Err(Errno::ENOSYS.into())
 }
 
 /// The result of looking a name up, or of creating it.
@@ -206,7 +205,7 @@ impl<W: ZeroCopyWriter> ZeroCopyWriter for &mut W {
 }
 
 /// A file system. Each method is a call of the protocol, and returns ENOSYS by default, unless it is documented
-/// otherwise. The methods and their arguments are those of the trait of virtiofsd 1.13.2.
+/// otherwise. The methods and their arguments are those of the trait of virtiofsd 1.13.2. [`Errno`] names errors.
 ///
 /// Each entry that is returned, except one of node 0, is a lookup of its node, and [`forget`](Self::forget)
 /// drops lookups. A node must be kept while it has lookups, even if it has no name any more.
@@ -249,12 +248,28 @@ pub trait FileSystem {
 
     /// Begins a session, and returns the options that the file system wants. Those that are not in `capable`
     /// are ignored. By default it wants none.
+    ///
+    /// Two of them are for a file system that knows them:
+    ///
+    /// - With [`ATOMIC_O_TRUNC`](FsOptions::ATOMIC_O_TRUNC) [`open`](Self::open) truncates what it opens with
+    ///   `O_TRUNC`. Without it Linux calls [`setattr`](Self::setattr) for that.
+    /// - With [`ALLOW_IDMAP`](FsOptions::ALLOW_IDMAP) Linux mounts only with `default_permissions`, and the
+    ///   [`Context`] has a user and a group only in calls that make a node: others have 2^32 - 1.
+    ///
+    /// A few others are agreed on without being wanted, unless [`Server::withhold`](crate::Server::withhold)
+    /// declines them: [`withhold`](crate::withhold()) lists them.
     fn init(&self, capable: FsOptions) -> io::Result<FsOptions> {
         Ok(FsOptions::empty())
     }
 
-    /// Ends the session: there are no lookups and no open handles after it. By default it does nothing.
+    /// Ends the session: there are no lookups and no open handles after it. It is called at a DESTROY, or, if
+    /// there was none, when [`Server::serve`](crate::Server::serve) ends. By default it does nothing.
     fn destroy(&self) {}
+
+    /// Is told that nobody waits any more for the request of this number, which is that of its
+    /// [`Context`]: its call may end with EINTR. Another thread may be in that call, or has not begun it, or
+    /// has answered it. By default it does nothing.
+    fn interrupt(&self, unique: u64) {}
 
     /// Looks a name up.
     fn lookup(&self, ctx: Context, parent: Self::Inode, name: &CStr) -> io::Result<Entry> {
@@ -293,7 +308,7 @@ pub trait FileSystem {
         not_served()
     }
 
-    /// Reads a symbolic link.
+    /// Reads a symbolic link: at most 4095 bytes.
     fn readlink(&self, ctx: Context, inode: Self::Inode) -> io::Result<Vec<u8>> {
         not_served()
     }
@@ -371,7 +386,9 @@ pub trait FileSystem {
         not_served()
     }
 
-    /// Opens a file. The flags are those of `open(2)`. By default it succeeds without a handle.
+    /// Opens a file. The flags are those of `open(2)`; `O_TRUNC` is among them only if
+    /// [`init`](Self::init) wanted [`ATOMIC_O_TRUNC`](FsOptions::ATOMIC_O_TRUNC). By default it succeeds
+    /// without a handle.
     fn open(
         &self,
         ctx: Context,
@@ -497,7 +514,8 @@ pub trait FileSystem {
         not_served()
     }
 
-    /// Returns an extended attribute, or its length if `size` is 0.
+    /// Returns an extended attribute, or its length if `size` is 0. A value that is longer than `size` is
+    /// answered ERANGE.
     fn getxattr(
         &self,
         ctx: Context,
@@ -508,7 +526,8 @@ pub trait FileSystem {
         not_served()
     }
 
-    /// Returns the names of all extended attributes, or their length if `size` is 0.
+    /// Returns the names of all extended attributes, or their length if `size` is 0. Names that are longer
+    /// than `size` are answered ERANGE.
     fn listxattr(&self, ctx: Context, inode: Self::Inode, size: u32) -> io::Result<ListxattrReply> {
         not_served()
     }
@@ -601,7 +620,7 @@ pub trait FileSystem {
         not_served()
     }
 
-    /// Tests a lock. There are no arguments, and success has no reply.
+    /// Tests a lock. There are no arguments, and success has no reply: [`Server`](crate::Server) answers EIO.
     fn getlk(&self) -> io::Result<()> {
         not_served()
     }
@@ -631,13 +650,13 @@ pub trait FileSystem {
         not_served()
     }
 
-    /// Answers a notification: as [`getlk`](Self::getlk).
+    /// Answers a notification. There are no arguments, and success has no reply.
     fn notify_reply(&self) -> io::Result<()> {
         not_served()
     }
 
-    /// Creates a file without a name. There are no arguments, and the reply is always an error: if an entry is
-    /// returned, its lookup is given back.
+    /// Creates a file without a name. There are no arguments, and the reply is always an error: if a handle is
+    /// returned, it is released, and the lookup of the entry is given back.
     fn tmpfile(&self) -> io::Result<(Entry, Option<Self::Handle>, OpenOptions)> {
         not_served()
     }

@@ -109,7 +109,7 @@ flags! {
         POSIX_LOCKS = 1;
         /// Requests other than READ and WRITE have handles.
         FILE_OPS = 2;
-        /// OPEN handles `O_TRUNC`.
+        /// OPEN truncates a file with `O_TRUNC`. Without it Linux sends a SETATTR.
         ATOMIC_O_TRUNC = 3;
         /// `.` and `..` can be looked up, as NFS needs it.
         EXPORT_SUPPORT = 4;
@@ -173,7 +173,8 @@ flags! {
         CREATE_SUPP_GROUP = 34;
         /// Files with direct I/O can be mapped.
         DIRECT_IO_ALLOW_MMAP = 36;
-        /// The mount can be ID-mapped.
+        /// The mount can be ID-mapped. Linux then needs `default_permissions`, and says the user and the group
+        /// only of calls that make a node.
         ALLOW_IDMAP = 40;
     }
 }

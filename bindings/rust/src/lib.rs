@@ -55,7 +55,9 @@ mod answer;
 mod attr;
 mod bytes;
 mod call;
+mod device;
 mod door;
+mod errno;
 mod ffi;
 mod file_system;
 mod flags;
@@ -75,7 +77,8 @@ pub use answer::{To, Told};
 pub use attr::{Attr, SetattrIn, Statvfs};
 pub use bytes::{Bytes, Forgets, Pieces};
 pub use call::{Call, PendingCall};
-pub use door::{Asked, Finished, Refusal, Reply, Session, WrongSize};
+pub use door::{withhold, Asked, Finished, Refusal, Reply, Session, WrongSize};
+pub use errno::Errno;
 pub use ffi::{Item, Slot};
 pub use file_system::{
     Context, DirEntry, DirectoryIterator, Entry, Extensions, FileSystem, GetxattrReply,

@@ -1,21 +1,25 @@
 //! A server over a file system.
 #![forbid(unsafe_code)]
 
-use crate::answer::{Directory, Fault, FaultOrSilence, To, Told};
+use crate::answer::{Directory, Fault, FaultOrSilence, To, Told, Want};
 use crate::call::{Call, PendingCall};
-use crate::door::{Asked, Refusal, Session};
+use crate::door::{withhold, Asked, Refusal, Session};
+use crate::errno::Errno;
 use crate::ffi::{Item, Slot};
 use crate::file_system::{Context, DirEntry, DirectoryIterator, Entry, FileSystem};
 use crate::flags::{FsOptions, OpenOptions};
 use crate::transfer::{Reader, Writer};
 use std::ffi::CStr;
-use std::fs::File;
-use std::io::{self, IoSlice, IoSliceMut, Read, Write};
-use std::panic::{catch_unwind, AssertUnwindSafe};
-use std::sync::atomic::{AtomicU64, Ordering};
+use std::io::{self, IoSlice, IoSliceMut};
+use std::panic::{catch_unwind, resume_unwind, AssertUnwindSafe};
+use std::sync::atomic::{AtomicBool, AtomicU64, AtomicUsize, Ordering};
 
 /// The length of the header of a reply.
 const HEADER: usize = 16;
+
+/// Options that are agreed on only if [`FileSystem::init`] wants them.
+const WANTED: FsOptions =
+    FsOptions::from_bits_truncate(FsOptions::ATOMIC_O_TRUNC.bits() | FsOptions::ALLOW_IDMAP.bits());
 
 /// The result of serving a request.
 #[must_use = "the client waits for the reply"]
@@ -68,7 +72,12 @@ pub struct Server<F> {
     file_system: F,
     session: Session,
     options: AtomicU64,
+    withheld: FsOptions,
     catches: bool,
+    /// Whether there was an INIT, and no DESTROY after it.
+    pub(crate) begun: AtomicBool,
+    /// How many threads are in [`serve`](Self::serve).
+    pub(crate) serving: AtomicUsize,
 }
 
 impl<F: FileSystem> Server<F> {
@@ -81,8 +90,15 @@ impl<F: FileSystem> Server<F> {
     /// Creates a server with the sizes of a session, and with its options until the first INIT.
     #[must_use]
     pub fn with_session(file_system: F, session: Session) -> Self {
-        let options = AtomicU64::new(session.options().bits());
-        Server { file_system, session, options, catches: false }
+        Server {
+            file_system,
+            session,
+            options: AtomicU64::new(session.options().bits()),
+            withheld: FsOptions::empty(),
+            catches: false,
+            begun: AtomicBool::new(false),
+            serving: AtomicUsize::new(0),
+        }
     }
 
     /// Sets whether panics of the file system are caught, and answered EIO. If not, which is the default, a
@@ -91,6 +107,14 @@ impl<F: FileSystem> Server<F> {
     #[must_use]
     pub fn catch_panics(self, catches: bool) -> Self {
         Server { catches, ..self }
+    }
+
+    /// Sets options that the client is taken not to offer, as [`withhold`](crate::withhold) has it. By default
+    /// there are none, but `ATOMIC_O_TRUNC` and `ALLOW_IDMAP` are also withheld if [`FileSystem::init`]
+    /// does not want them.
+    #[must_use]
+    pub fn withhold(self, options: FsOptions) -> Self {
+        Server { withheld: options, ..self }
     }
 
     /// Returns the file system.
@@ -115,6 +139,7 @@ impl<F: FileSystem> Server<F> {
 
     /// Ends the session as a DESTROY does, for instance because the device was reset.
     pub fn destroy(&self) {
+        self.begun.store(false, Ordering::Release);
         self.quietly(F::destroy);
         self.set_options(FsOptions::empty());
     }
@@ -133,14 +158,22 @@ impl<F: FileSystem> Server<F> {
     ) -> Served {
         let total = room.iter().map(|piece| piece.len()).sum();
         match slot.ask(&self.session(), request, total) {
-            Asked::Finished(mut done) => Served {
-                len: done.reply.copy_to(room),
-                outcome: done.outcome,
-                interrupts: done.interrupts,
-            },
+            Asked::Finished(mut done) => {
+                if let Some(unique) = done.interrupts {
+                    self.quietly(|files| files.interrupt(unique));
+                }
+                Served {
+                    len: done.reply.copy_to(room),
+                    outcome: done.outcome,
+                    interrupts: done.interrupts,
+                }
+            }
             Asked::Call(pending) => {
                 let context = pending.context;
-                let told = self.make(slot, pending, room);
+                let told = match pending.call {
+                    Call::Init { capable, to, .. } => self.begin(slot, request, capable, to),
+                    call => self.make(slot, PendingCall { context, call }, room),
+                };
                 if let Some(options) = told.options {
                     self.set_options(options);
                 }
@@ -151,39 +184,41 @@ impl<F: FileSystem> Server<F> {
         }
     }
 
-    /// Serves the requests of a device that returns one request for each read, as `/dev/fuse`, until it is
-    /// unmounted, or its other end closed. Any number of threads can do this at once. Interrupts are ignored.
-    ///
-    /// # Errors
-    /// Errors of reading and writing, except for replies that are no longer awaited; and
-    /// [`InvalidData`](io::ErrorKind::InvalidData) if a request is refused, since its caller would wait
-    /// forever.
-    pub fn serve(&self, device: &File) -> io::Result<()> {
-        const ENOENT: i32 = 2;
-        const ENODEV: i32 = 19;
-        let longest = self.session.longest_message();
-        let (mut slot, mut request, mut room) = (Slot::new(), vec![0; longest], vec![0; longest]);
-        let mut device = device;
-        loop {
-            let len = match device.read(&mut request) {
-                Ok(0) => return Ok(()),
-                Ok(len) => len,
-                Err(error) if error.raw_os_error() == Some(ENODEV) => return Ok(()),
-                // The request was aborted while it was read.
-                Err(error) if error.raw_os_error() == Some(ENOENT) => continue,
-                Err(error) if error.kind() == io::ErrorKind::Interrupted => continue,
-                Err(error) => return Err(error),
-            };
-            let slices = [IoSlice::new(&request[..len])];
-            let done = self.serve_one(&mut slot, &slices, &mut [IoSliceMut::new(&mut room)]);
-            done.outcome.map_err(|refusal| io::Error::new(io::ErrorKind::InvalidData, refusal))?;
-            if done.len > 0 {
-                match device.write(&room[..done.len]) {
-                    Err(error) if error.raw_os_error() == Some(ENOENT) => {}
-                    Err(error) => return Err(error),
-                    Ok(_) => {}
-                }
-            }
+    /// Makes an INIT: tells the file system what is offered, and agrees to [`WANTED`] options only if it wants
+    /// them.
+    fn begin<'s>(
+        &self,
+        slot: &'s mut Slot,
+        request: &[IoSlice<'_>],
+        capable: FsOptions,
+        to: To<Want>,
+    ) -> Told<'s> {
+        let mut request: Vec<u8> = request.iter().flat_map(|piece| piece.to_vec()).collect();
+        let (capable, to) = self.offer(slot, &mut request, self.withheld, (capable, to));
+        let want = self.ask(|files| files.init(capable));
+        let (_, to) = match want {
+            Ok(want) => self.offer(slot, &mut request, WANTED - want, (capable, to)),
+            Err(_) => (capable, to),
+        };
+        self.begun.fetch_or(want.is_ok(), Ordering::AcqRel);
+        to.answer(slot, want)
+    }
+
+    /// Asks for the call of an INIT again, without options. If there are none it is the present one.
+    fn offer(
+        &self,
+        slot: &mut Slot,
+        request: &mut [u8],
+        withheld: FsOptions,
+        present: (FsOptions, To<Want>),
+    ) -> (FsOptions, To<Want>) {
+        if (withheld & present.0).is_empty() {
+            return present;
+        }
+        withhold(request, withheld);
+        match slot.ask(&self.session(), &[IoSlice::new(request)], present.1.room()) {
+            Asked::Call(PendingCall { call: Call::Init { capable, to, .. }, .. }) => (capable, to),
+            _ => present, // what has fewer flags is an INIT, too
         }
     }
 
@@ -384,9 +419,7 @@ impl<F: FileSystem> Server<F> {
                 slot,
                 self.ask(|files| files.flush(ctx, node.into(), handle.into(), lock_owner)),
             ),
-            Call::Init { capable, to, .. } => {
-                to.answer(slot, self.ask(|files| files.init(capable)))
-            }
+            Call::Init { to, .. } => to.fail(slot, &no_number()), // `begin` makes it
             Call::Opendir { node, flags, to } => {
                 let result = self.ask(|files| files.opendir(ctx, node.into(), flags).map(opened));
                 let handle = result.as_ref().ok().and_then(|(handle, _)| *handle);
@@ -414,6 +447,7 @@ impl<F: FileSystem> Server<F> {
                 to.answer(slot, self.ask(|files| files.access(ctx, node.into(), mask)))
             }
             Call::Destroy { to } => {
+                self.begun.store(false, Ordering::Release);
                 self.quietly(F::destroy);
                 to.done(slot)
             }
@@ -462,9 +496,9 @@ impl<F: FileSystem> Server<F> {
             Call::Bmap { to } => self.untold(slot, to, F::bmap),
             Call::Ioctl { to } => self.untold(slot, to, F::ioctl),
             Call::Poll { to } => self.untold(slot, to, F::poll),
-            Call::NotifyReply { to } => self.untold(slot, to, F::notify_reply),
+            Call::NotifyReply { to } => to.answer(slot, self.ask(F::notify_reply)),
             Call::Tmpfile { to } => self.make_tmpfile(slot, ctx, to),
-            Call::Unknown { to, .. } => to.fail(slot, &io::Error::from_raw_os_error(38)),
+            Call::Unknown { to, .. } => to.fail(slot, &Errno::ENOSYS.into()),
         }
     }
 
@@ -478,33 +512,37 @@ impl<F: FileSystem> Server<F> {
         flags: u32,
     ) {
         if let (Err(_), Some(handle)) = (told.outcome, handle) {
-            // Nobody can be told of an error.
-            let _ = self.ask(|files| {
-                files.release(ctx, node.into(), flags, handle.into(), false, false, None)
-            });
+            self.release(ctx, node, handle, flags);
         }
     }
 
+    /// Releases a handle. Nobody can be told of an error.
+    fn release(&self, ctx: Context, node: u64, handle: u64, flags: u32) {
+        let _ = self
+            .ask(|files| files.release(ctx, node.into(), flags, handle.into(), false, false, None));
+    }
+
+    /// Makes a call whose only reply is an error: without one the caller would wait forever.
     fn untold<'s>(
         &self,
         slot: &'s mut Slot,
         to: To<FaultOrSilence>,
         call: fn(&F) -> io::Result<()>,
     ) -> Told<'s> {
-        to.answer(slot, self.ask(call))
+        to.answer(slot, self.ask(call).and_then(|()| Err(no_number())))
     }
 
-    /// Makes a TMPFILE, whose reply is always an error: an entry is given back.
+    /// Makes a TMPFILE, whose reply is always an error: a handle is released, and an entry given back.
     fn make_tmpfile<'s>(&self, slot: &'s mut Slot, ctx: Context, to: To<Fault>) -> Told<'s> {
-        let error = match self.ask(F::tmpfile) {
-            Ok((entry, ..)) if entry.inode != 0 => {
-                self.give_back(ctx, entry.inode);
-                no_number()
+        let made = self.ask(F::tmpfile).map(|(entry, handle, _)| {
+            if let Some(handle) = handle {
+                self.release(ctx, entry.inode, handle.into(), 0);
             }
-            Ok(_) => no_number(),
-            Err(error) => error,
-        };
-        to.fail(slot, &error)
+            if entry.inode != 0 {
+                self.give_back(ctx, entry.inode);
+            }
+        });
+        to.fail(slot, &made.err().unwrap_or_else(no_number))
     }
 
     /// Lists a directory: items until one does not fit, or, for a READDIRPLUS, until a lookup fails.
@@ -517,14 +555,22 @@ impl<F: FileSystem> Server<F> {
         };
         let mut listing = Listing::default();
         let most = (size as usize).min(to.room().saturating_sub(HEADER));
-        while let Some(name) = self.take_item(&mut iterator, &mut listing, most, place.plus) {
-            if !place.plus || matches!(name, b"." | b"..") {
-                continue;
+        let list = || {
+            while let Some(name) = self.take_item(&mut iterator, &mut listing, most, place.plus) {
+                let is_dot = matches!(name, b"." | b"..");
+                if place.plus && !is_dot && self.look_up(&mut listing, ctx, node) {
+                    break;
+                }
             }
-            let failed = self.look_up(&mut listing, ctx, node);
-            if failed {
-                break;
-            }
+        };
+        // (a panic comes here only if none are caught)
+        if let Err(panic) = catch_unwind(AssertUnwindSafe(list)) {
+            listing
+                .items()
+                .iter()
+                .filter_map(Item::held)
+                .for_each(|node| self.give_back(ctx, node));
+            resume_unwind(panic);
         }
         to.answer(slot, Ok(&listing.items()))
     }

@@ -180,14 +180,43 @@ fn texts_and_counts() {
 }
 
 #[test]
+fn texts_that_linux_does_not_take_are_faults() {
+    for (len, expected) in [(4000, None), (4095, None), (4096, Some(5)), (1 << 20, Some(5))] {
+        let text = vec![b'x'; len];
+        let request = Request::new(5, 1).done();
+        let made = answer(&request, 1 << 21, |slot, call| match call {
+            Call::Readlink { to, .. } => to.answer(slot, Ok(&text)),
+            other => panic!("{other:?}"),
+        });
+        assert_eq!(made, replied(expected.map_or_else(|| reply(&text), fault)));
+    }
+    let ask = |size, answered| {
+        let request = Request::new(22, 1).u32(size).u32(0).name("a");
+        answers!(request, Getxattr, slot, to => to.answer(slot, Ok(answered)))
+    };
+    let value = || GetxattrReply::Value(b"value".to_vec());
+    assert_eq!(ask(5, value()), replied(reply(b"value")));
+    assert_eq!(ask(4, value()), replied(fault(34)));
+    // A value stands for its length where that is asked for; a length is no value.
+    assert_eq!(ask(0, value()), replied(reply(&words(&[5, 0]))));
+    assert_eq!(ask(9, GetxattrReply::Count(9)), replied(fault(5)));
+    assert_eq!(ask(9, GetxattrReply::Count(10)), replied(fault(34)));
+}
+
+#[test]
 fn faults() {
-    for (number, expected) in [(2, 2), (i32::MAX, i32::MAX), (0, 5), (-2, 5)] {
+    // Linux takes 1 to 511.
+    for (number, expected) in [(2, 2), (511, 511), (512, 5), (i32::MAX, 5), (0, 5), (-2, 5)] {
         let made = answers!(lookup(), Lookup, slot, to => to.answer(slot, os_error(number)));
         assert_eq!(made, replied(fault(expected)));
     }
-    let nameless = io::Error::from(io::ErrorKind::NotFound);
+    // One without a number has that of its kind, if there is one.
+    let nameless = io::Error::from(io::ErrorKind::Other);
     let made = answers!(lookup(), Lookup, slot, to => to.fail(slot, &nameless));
     assert_eq!(made, replied(fault(5)));
+    let made = answers!(lookup(), Lookup, slot, to =>
+        to.answer(slot, Err(io::ErrorKind::NotFound.into())));
+    assert_eq!(made, replied(fault(2)));
     let made = answers!(Request::new(51, 1), Tmpfile, slot, to =>
         to.fail(slot, &io::Error::from_raw_os_error(95)));
     assert_eq!(made, replied(fault(95)));
@@ -293,13 +322,13 @@ fn an_entry_that_does_not_fit_is_given_back() {
 }
 
 #[test]
-#[should_panic(expected = "a lookup of node 9 is to be given back")]
-fn what_is_to_be_given_back_is_not_forgotten() {
+#[should_panic(expected = "an entry of node 9")]
+fn what_may_have_to_be_given_back_is_not_forgotten() {
     let request = lookup().done();
     let slices = [IoSlice::new(&request)];
     let mut slot = Slot::new();
     if let Some(Call::Lookup { to, .. }) =
-        asked(slot.ask(&session(FsOptions::empty()), &slices, 100))
+        asked(slot.ask(&session(FsOptions::empty()), &slices, 4096))
     {
         let _ = to.answer(&mut slot, Ok(entry(9))).reply();
     }

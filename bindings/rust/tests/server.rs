@@ -83,6 +83,10 @@ impl FileSystem for Diary {
         self.write("destroy".into());
     }
 
+    fn interrupt(&self, unique: u64) {
+        self.write(format!("interrupt {unique}"));
+    }
+
     fn lookup(&self, ctx: Context, parent: u64, name: &CStr) -> io::Result<Entry> {
         assert!(!text(name).starts_with("panic"));
         if text(name).starts_with("no") {
@@ -434,7 +438,7 @@ impl FileSystem for Diary {
     }
 
     fn tmpfile(&self) -> io::Result<(Entry, Option<u64>, OpenOptions)> {
-        Ok((self.entry("tmpfile".into())?, None, OpenOptions::empty()))
+        Ok((self.entry("tmpfile".into())?, Some(73), OpenOptions::empty()))
     }
 }
 
@@ -562,9 +566,9 @@ fn each_call() -> Vec<(Request, &'static str, Vec<u8>, Vec<u8>)> {
         (moves(44, 0, 100), "readdir 5 0 100 9", reply(&[]), no.clone()),
         (r(29, 5).u64(8).u32(2).u32(0).u64(0), "releasedir 5 2 8", reply(&[]), no.clone()),
         (r(30, 5).u64(8).u32(0).u32(0), "fsyncdir 5 false 8", reply(&[]), no.clone()),
-        (r(31, 5), "getlk", vec![], no.clone()),
-        (r(32, 5), "setlk", vec![], no.clone()),
-        (r(33, 5), "setlkw", vec![], no.clone()),
+        (r(31, 5), "getlk", fault(5), no.clone()),
+        (r(32, 5), "setlk", fault(5), no.clone()),
+        (r(33, 5), "setlkw", fault(5), no.clone()),
         (r(34, 5).u32(4).u32(0), "access 5 4", reply(&[]), no.clone()),
         (
             r(35, 5).bytes(&words(&[2, 0o600, 0o22, 1])).name("f"),
@@ -572,9 +576,9 @@ fn each_call() -> Vec<(Request, &'static str, Vec<u8>, Vec<u8>)> {
             reply(&[entry(), words(&[71, 0, 0, 0])].concat()),
             no.clone(),
         ),
-        (r(37, 5), "bmap", vec![], no.clone()),
-        (r(39, 5), "ioctl", vec![], no.clone()),
-        (r(40, 5), "poll", vec![], no.clone()),
+        (r(37, 5), "bmap", fault(5), no.clone()),
+        (r(39, 5), "ioctl", fault(5), no.clone()),
+        (r(40, 5), "poll", fault(5), no.clone()),
         (r(41, 5), "notify_reply", vec![], no.clone()),
         (r(42, 0).u32(1).u32(0).u64(5).u64(3), "forget 5 3", vec![], vec![]),
         (
@@ -639,9 +643,10 @@ fn what_the_client_does_not_get_is_given_back() {
     let (done, _) = serve_in(&server, &lookup, 143, 20);
     assert_eq!((done.outcome, done.len), (Err(Refusal::EncodeMessage), 0));
     assert_eq!(server.file_system().take(), ["lookup 1 a 1000 7", "forget 50 1"]);
-    // The reply to a TMPFILE has no entry.
+    // The reply to a TMPFILE has no entry, and no handle.
     assert_eq!(serve(&server, &Request::new(51, 5)), fault(5));
-    assert_eq!(server.file_system().take(), ["tmpfile", "forget 50 1"]);
+    let released = "release 50 0 73 false false None";
+    assert_eq!(server.file_system().take(), ["tmpfile", released, "forget 50 1"]);
 }
 
 #[test]
@@ -799,9 +804,10 @@ fn options_stand_from_init_to_destroy() {
 
 #[test]
 fn an_interrupt_is_told() {
-    let server = Server::new(Nothing);
+    let server = Server::new(Diary::default());
     let (done, _) = serve_in(&server, &Request::new(36, 0).u64(9).done(), 64, 0);
     assert_eq!(done, Served { len: 0, outcome: Ok(()), interrupts: Some(9) });
+    assert_eq!(server.file_system().take(), ["interrupt 9"]);
     let (done, _) = serve_in(&server, &[], 64, 0);
     assert_eq!(done.outcome, Err(Refusal::DecodeMessage));
 }
@@ -813,6 +819,11 @@ fn a_panic_is_a_fault_if_it_is_caught() {
     std::panic::set_hook(Box::new(|_| ()));
     let strict = Server::new(Diary::default());
     assert!(catch_unwind(AssertUnwindSafe(|| serve(&strict, &lookup))).is_err());
+    // The lookups of a listing in which one panics are given back.
+    let listing = moves(44, 4, 4000);
+    assert!(catch_unwind(AssertUnwindSafe(|| serve(&strict, &listing))).is_err());
+    let lines = ["readdir 5 4 4000 9", "lookup 5 a 1000 7", "forget 50 1"];
+    assert_eq!(strict.file_system().take(), lines);
     let server = Server::new(Diary::default()).catch_panics(true);
     assert_eq!(serve(&server, &lookup), fault(5));
     assert_eq!(serve(&server, &forget), []);

@@ -77,7 +77,7 @@ fn ask(slot: &mut Slot, number: u64) -> Result<Later, Vec<u8>> {
 
 fn answer(slot: &mut Slot, asked: Result<Later, Vec<u8>>) -> Vec<u8> {
     match asked {
-        Ok(later) => later(slot).reply().bytes().to_vec(),
+        Ok(later) => later(slot).give_back(|node| panic!("{node}")).bytes().to_vec(),
         Err(reply) => reply,
     }
 }

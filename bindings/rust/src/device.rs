@@ -1,0 +1,108 @@
+//! Serves devices such as `/dev/fuse`.
+#![forbid(unsafe_code)]
+
+use crate::errno::Errno;
+use crate::ffi::Slot;
+use crate::file_system::FileSystem;
+use crate::server::Server;
+use std::fs::File;
+use std::io::{self, IoSlice, IoSliceMut, Read, Write};
+use std::panic::{catch_unwind, resume_unwind, AssertUnwindSafe};
+use std::sync::atomic::Ordering;
+use std::thread;
+
+impl<F: FileSystem> Server<F> {
+    /// Serves the requests of a device that returns one request for each read, as `/dev/fuse`, until it is
+    /// unmounted, or its other end closed. Any number of threads can do this at once. The last of them ends
+    /// the session by [`FileSystem::destroy`], if no DESTROY has.
+    ///
+    /// A request that is refused, or whose reply the kernel refuses, is answered EIO: only its caller is told.
+    /// So is one whose call panics, before the panic unwinds out of this function.
+    ///
+    /// # Errors
+    /// Errors of reading and writing, except for replies that are no longer awaited.
+    pub fn serve(&self, device: &File) -> io::Result<()> {
+        let _ends = Serving::new(self);
+        let longest = self.session().longest_message();
+        let (mut slot, mut request, mut room) = (Slot::new(), vec![0; longest], vec![0; longest]);
+        loop {
+            let mut from = device;
+            let len = match from.read(&mut request) {
+                Ok(0) => return Ok(()),
+                Ok(len) => len,
+                Err(error) if Errno::ENODEV.is(&error) => return Ok(()),
+                // The request was aborted while it was read.
+                Err(error) if Errno::ENOENT.is(&error) || Errno::EINTR.is(&error) => continue,
+                Err(error) => return Err(error),
+            };
+            let request = &request[..len];
+            let serve = || {
+                let room = &mut [IoSliceMut::new(&mut room)];
+                self.serve_one(&mut slot, &[IoSlice::new(request)], room)
+            };
+            // Nothing is used again after a panic.
+            let done = catch_unwind(AssertUnwindSafe(serve)).unwrap_or_else(|panic| {
+                let _ = send_fault(device, request);
+                resume_unwind(panic)
+            });
+            match done.outcome {
+                Ok(()) => send(device, request, &room[..done.len])?,
+                Err(_) => send_fault(device, request)?,
+            }
+        }
+    }
+}
+
+/// A thread that serves. The last one ends the session.
+struct Serving<'a, F: FileSystem>(&'a Server<F>);
+
+impl<'a, F: FileSystem> Serving<'a, F> {
+    fn new(server: &'a Server<F>) -> Self {
+        server.serving.fetch_add(1, Ordering::AcqRel);
+        Serving(server)
+    }
+}
+
+impl<F: FileSystem> Drop for Serving<'_, F> {
+    fn drop(&mut self) {
+        let is_last = self.0.serving.fetch_sub(1, Ordering::AcqRel) == 1;
+        // (a second panic would abort the process)
+        if is_last && !thread::panicking() && self.0.begun.load(Ordering::Acquire) {
+            self.0.destroy();
+        }
+    }
+}
+
+/// Sends a reply, unless it is empty.
+fn send(mut device: &File, request: &[u8], reply: &[u8]) -> io::Result<()> {
+    if reply.is_empty() {
+        return Ok(());
+    }
+    match device.write(reply) {
+        // It is no longer awaited.
+        Err(error) if Errno::ENOENT.is(&error) => Ok(()),
+        Err(error) if Errno::EINVAL.is(&error) => send_fault(device, request),
+        Err(error) => Err(error),
+        Ok(_) => Ok(()),
+    }
+}
+
+/// Answers a request EIO, unless it has no reply, or no number.
+fn send_fault(mut device: &File, request: &[u8]) -> io::Result<()> {
+    const FORGET: [u8; 4] = 2_u32.to_le_bytes();
+    const BATCH_FORGET: [u8; 4] = 42_u32.to_le_bytes();
+    let (opcode, unique) = match (request.get(4..8), request.get(8..16)) {
+        (Some(opcode), Some(unique)) => (opcode, unique),
+        _ => return Ok(()),
+    };
+    if opcode == FORGET || opcode == BATCH_FORGET || unique == [0; 8] {
+        return Ok(());
+    }
+    let len = 16_u32.to_le_bytes();
+    let fault = [&len[..], &(-Errno::EIO.number()).to_le_bytes(), unique].concat();
+    match device.write(&fault) {
+        // It has been answered with this error already.
+        Err(error) if Errno::ENOENT.is(&error) || Errno::EINVAL.is(&error) => Ok(()),
+        sent => sent.map(drop),
+    }
+}
