@@ -3,8 +3,8 @@
 # without other crates, there are no warnings, and its tests, doctests and examples pass.
 #
 # Usage: bindings/rust/check.sh [--msrv]
-# As root, if there is /dev/fuse, the examples are also mounted. The tests also run under the address, leak
-# and thread sanitizers of the compiler, and under valgrind, if they are installed. With --msrv they also run
+# As root, if there is /dev/fuse, the examples are also mounted, and tests/mount.rs mounts; if there is
+# fusermount3, another user mounts, too. The tests also run under the address, leak and thread sanitizers of the compiler, and under valgrind, if they are installed. With --msrv they also run
 # with the rustc of Debian 12, the oldest supported one. It is downloaded and unpacked into out/rust/debian,
 # which takes 400 MB, and not installed.
 #
@@ -47,7 +47,34 @@ passed() {
 }
 
 # The tests that do not replace malloc.
-tests=(--lib --test answers --test calls --test hostile --test refusals --test server --test threads)
+tests=(--lib --test answers --test calls --test hostile --test mount --test refusals --test serve --test server
+    --test threads)
+
+# Mounts hello.rs as another user, who needs fusermount3, and may open the device only in a namespace of mounts.
+mount_as_other() {
+    mkdir -p "$folder/other/dev" "$folder/other/mount"
+    cp "$built/debug/examples/hello" "$folder/other/hello"
+    chmod -R 755 "$folder"
+    chown 65534:65534 "$folder/other/mount"
+    # shellcheck disable=SC2016
+    timeout 60 unshare -m bash -euc '
+        cd "$1"
+        shift
+        mount -t tmpfs none dev
+        mknod -m 666 dev/fuse c 10 229
+        mount --bind dev/fuse /dev/fuse
+        "$@" ./hello mount &
+        server=$!
+        trap "kill $server 2> /dev/null || true" EXIT
+        for _ in $(seq 200); do
+            ! grep -q "$PWD/mount " /proc/self/mountinfo || break
+            sleep 0.05
+        done
+        [ "$("$@" cat mount/hello)" = "Hello, world!" ]
+        "$@" fusermount3 -u mount
+        wait "$server"
+    ' bash "$folder/other" setpriv --reuid=65534 --regid=65534 --clear-groups
+}
 
 # Whether a program that is compiled with these flags runs.
 has_flags() {
@@ -93,6 +120,11 @@ if may_mount; then
     step "hello.rs, mounted" use_mount "$built/debug/examples/hello" "$folder/mount"
     step "check.rs in front of it, mounted" \
         use_mount "$built/debug/examples/check" "$folder/mount" "$built/debug/examples/hello" -
+    if command -v fusermount3 > /dev/null && command -v setpriv > /dev/null; then
+        step "hello.rs, mounted by another user" mount_as_other
+    else
+        echo "No other user mounts: this needs fusermount3 and setpriv." >&2
+    fi
 else
     echo "Nothing is mounted: this needs root, /dev/fuse and mountpoint." >&2
 fi

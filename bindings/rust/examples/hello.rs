@@ -1,10 +1,10 @@
 //! A file system of one file, `hello`.
 #![allow(clippy::wildcard_imports)] // fewer lines
 use nizwarf::*;
-use std::{env, ffi::CStr, fs::File, io::*, os::unix::io::AsFd, process::*, time::Duration};
+use std::{env, ffi::CStr, fs::File, io::*, os::unix::io::AsFd, process::exit, time::Duration};
 
 const TEXT: &[u8] = b"Hello, world!\n";
-const USAGE: &str = "Usage: hello MOUNTPOINT, as root: mounts a file there until it is unmounted.
+const USAGE: &str = "Usage: hello MOUNTPOINT: mounts a file there until it is unmounted.
        hello -: serves it at the socket that is standard input.";
 struct Hello;
 struct Items(u64);
@@ -25,7 +25,7 @@ impl FileSystem for Hello {
     type DirIter = Items;
     fn lookup(&self, ctx: Context, parent: u64, name: &CStr) -> Result<Entry> {
         if parent != ROOT_ID || name.to_bytes() != b"hello" {
-            return Err(Error::from_raw_os_error(2)); // ENOENT
+            return Err(Errno::ENOENT.into());
         }
         let (attr, time) = self.getattr(ctx, 2, None)?;
         Ok(Entry { inode: 2, attr, attr_timeout: time, entry_timeout: time, ..Entry::default() })
@@ -44,17 +44,25 @@ impl FileSystem for Hello {
         w.write_all(data).map(|()| data.len())
     }
 }
-#[rustfmt::skip]
-fn main() -> Result<()> {
-    let word = env::args().nth(1).unwrap_or_default();
-    if word == "--help" { return writeln!(stdout(), "{USAGE}"); }
-    let mut device = File::from(stdin().as_fd().try_clone_to_owned()?);
-    if word.is_empty() || word.starts_with('-') && word != "-" { eprintln!("{USAGE}"); exit(2) }
-    if word != "-" {
-        device = File::options().read(true).write(true).open("/dev/fuse")?;
-        let options = "-ofd=0,rootmode=40000,user_id=0,group_id=0,default_permissions";
-        let words = ["-i", "-tfuse.hello", options, "hello", &word];
-        if !Command::new("mount").args(words).stdin(device.try_clone()?).status()?.success() { exit(1) }
+
+fn main() {
+    let done = match &*env::args().skip(1).collect::<Vec<_>>() {
+        [word] if word == "--help" => writeln!(stdout(), "{USAGE}"),
+        [word] if word == "-" => stdin()
+            .as_fd()
+            .try_clone_to_owned()
+            .and_then(|socket| Server::new(Hello).serve(&File::from(socket))),
+        [folder] if !folder.is_empty() && !folder.starts_with('-') => {
+            let name = MountOption::FSName("hello".into());
+            mount(Hello, folder, &[name, MountOption::DefaultPermissions])
+        }
+        _ => {
+            eprintln!("{USAGE}");
+            exit(2)
+        }
+    };
+    if let Err(error) = done {
+        eprintln!("hello: {error}");
+        exit(1)
     }
-    Server::new(Hello).serve(&device)
 }

@@ -4,11 +4,12 @@
 //! later time. The library then encodes your answer as the reply. It is proved that, for any bytes and any
 //! answer, its calls and replies are those of the protocol.
 //!
-//! There are two interfaces:
+//! There are three interfaces:
 //!
 //! - [`Slot::ask`] returns a [`Call`] with its arguments and a [`To`], whose type determines what the call is
 //!   answered with.
 //! - [`Server`] does this for a [`FileSystem`], a trait with the methods of virtiofsd's.
+//! - [`mount()`] mounts a [`FileSystem`], and serves it.
 //!
 //! ```
 //! use nizwarf::{Asked, Call, Session, Slot};
@@ -61,7 +62,9 @@ mod errno;
 mod ffi;
 mod file_system;
 mod flags;
+mod mount;
 mod server;
+mod system;
 mod text;
 mod transfer;
 
@@ -86,6 +89,7 @@ pub use file_system::{
     DT_UNKNOWN, ROOT_ID,
 };
 pub use flags::{FsOptions, OpenOptions, SetattrValid, SetxattrFlags, WritevFlags};
+pub use mount::{mount, spawn_mount, MountOption, Mounted};
 pub use server::{Served, Server};
 pub use text::{print_reply, print_request, Checked};
 

@@ -1,0 +1,413 @@
+//! Mounts over `/dev/fuse`.
+#![forbid(unsafe_code)]
+
+use crate::errno::Errno;
+use crate::file_system::FileSystem;
+use crate::server::Server;
+use crate::system;
+use std::ffi::{CString, OsStr};
+use std::fs::{canonicalize, metadata, File};
+use std::io::{self, ErrorKind};
+use std::os::unix::ffi::OsStrExt;
+use std::os::unix::fs::MetadataExt;
+use std::os::unix::io::{AsRawFd, OwnedFd};
+use std::os::unix::net::UnixStream;
+use std::panic::resume_unwind;
+use std::path::{Path, PathBuf};
+use std::process::{Command, Output};
+use std::sync::atomic::{AtomicBool, Ordering};
+use std::sync::Arc;
+use std::thread::{self, JoinHandle};
+
+/// An option of a mount. The names are those of the crate fuser, which mean the same there. Without any a mount
+/// is writable, is for the user who mounts, has no devices and no set-user-ID programs, and is served by one
+/// thread.
+#[non_exhaustive]
+#[derive(Clone, Debug, PartialEq, Eq)]
+pub enum MountOption {
+    /// The name of what is mounted, which `mount(8)` lists. It is `nizwarf` by default.
+    FSName(String),
+    /// The type is `fuse.` and this.
+    Subtype(String),
+    /// All users may use the mount. If it is not root who mounts, `/etc/fuse.conf` has to allow this.
+    AllowOther,
+    /// The kernel checks permissions, by the modes and owners of [`Attr`](crate::Attr). Without it the file
+    /// system does.
+    DefaultPermissions,
+    /// Nothing can be written.
+    RO,
+    /// Programs cannot be run.
+    NoExec,
+    /// Reading does not change the time of the last access.
+    NoAtime,
+    /// Devices can be used. Only root may say so.
+    Dev,
+    /// Set-user-ID programs have their effect. Only root may say so.
+    Suid,
+    /// Writes are synchronous.
+    Sync,
+    /// Changes of directories are synchronous.
+    DirSync,
+    /// So many threads serve the mount, at least one.
+    Threads(usize),
+}
+
+impl MountOption {
+    /// Its word of `mount(8)`, and its flag of `mount(2)`.
+    fn flag(&self) -> Option<(&'static str, u64)> {
+        Some(match self {
+            MountOption::RO => ("ro", 1),
+            MountOption::NoExec => ("noexec", 8),
+            MountOption::Sync => ("sync", 16),
+            MountOption::DirSync => ("dirsync", 128),
+            MountOption::NoAtime => ("noatime", 1024),
+            _ => return None,
+        })
+    }
+
+    /// Its word for the kernel's FUSE.
+    fn word(&self) -> Option<&'static str> {
+        match self {
+            MountOption::AllowOther => Some("allow_other"),
+            MountOption::DefaultPermissions => Some("default_permissions"),
+            _ => None,
+        }
+    }
+}
+
+/// Mounts a file system on a folder, or a file, and serves it until it is unmounted: by `umount(8)`, or by
+/// `fusermount3 -u`.
+///
+/// Root mounts by `mount(2)`. Others, and root if that is not permitted, need the program `fusermount3`.
+///
+/// ```no_run
+/// use nizwarf::{mount, FileSystem, MountOption, NoEntries};
+///
+/// struct Nothing;
+///
+/// impl FileSystem for Nothing {
+///     type Inode = u64;
+///     type Handle = u64;
+///     type DirIter = NoEntries;
+/// }
+///
+/// mount(Nothing, "/mnt", &[MountOption::RO, MountOption::FSName("nothing".into())])?;
+/// # Ok::<(), std::io::Error>(())
+/// ```
+///
+/// # Errors
+/// If it cannot be mounted, or as [`Server::serve`].
+///
+/// # Panics
+/// If a call panics: the folder is unmounted then.
+pub fn mount<F: FileSystem + Sync>(
+    file_system: F,
+    folder: impl AsRef<Path>,
+    options: &[MountOption],
+) -> io::Result<()> {
+    Server::new(file_system).mount(folder, options)
+}
+
+/// Mounts a file system as [`mount()`] does, and serves it in the background.
+///
+/// # Errors
+/// If it cannot be mounted.
+pub fn spawn_mount<F: FileSystem + Send + Sync + 'static>(
+    file_system: F,
+    folder: impl AsRef<Path>,
+    options: &[MountOption],
+) -> io::Result<Mounted> {
+    Server::new(file_system).spawn_mount(folder, options)
+}
+
+impl<F: FileSystem + Sync> Server<F> {
+    /// Mounts the file system, and serves it until it is unmounted, as [`mount()`](crate::mount()).
+    ///
+    /// # Errors
+    /// If it cannot be mounted, or as [`serve`](Self::serve).
+    ///
+    /// # Panics
+    /// If a call panics, and [`catch_panics`](Self::catch_panics) is not set: the folder is unmounted then.
+    pub fn mount(&self, folder: impl AsRef<Path>, options: &[MountOption]) -> io::Result<()> {
+        let point = Point::new(folder.as_ref(), options)?;
+        self.serve_at(&point, threads(options))
+    }
+
+    /// Mounts the file system, and serves it in the background, as [`spawn_mount`](crate::spawn_mount).
+    ///
+    /// # Errors
+    /// If it cannot be mounted.
+    pub fn spawn_mount(
+        self,
+        folder: impl AsRef<Path>,
+        options: &[MountOption],
+    ) -> io::Result<Mounted>
+    where
+        F: Send + 'static,
+    {
+        let point = Arc::new(Point::new(folder.as_ref(), options)?);
+        let (at, count) = (Arc::clone(&point), threads(options));
+        let server = thread::Builder::new().spawn(move || self.serve_at(&at, count))?;
+        Ok(Mounted { point, server: Some(server) })
+    }
+
+    /// Serves a mount on so many threads. The first that fails ends it.
+    fn serve_at(&self, point: &Point, count: usize) -> io::Result<()> {
+        let serve = || {
+            let _ends = Ends(point);
+            self.serve(&point.device)
+        };
+        thread::scope(|scope| {
+            let others: Vec<_> = (1..count).map(|_| scope.spawn(serve)).collect();
+            let first = serve();
+            let join = |other: thread::ScopedJoinHandle<'_, _>| {
+                other.join().unwrap_or_else(|panic| resume_unwind(panic))
+            };
+            others.into_iter().map(join).fold(first, Result::and)
+        })
+    }
+}
+
+fn threads(options: &[MountOption]) -> usize {
+    let count = options.iter().rev().find_map(|option| match option {
+        MountOption::Threads(count) => Some(*count),
+        _ => None,
+    });
+    count.unwrap_or(1)
+}
+
+/// A mount that is served in the background. It is unmounted when this is dropped; if it is in use, it goes
+/// with its last user.
+///
+/// ```no_run
+/// # use nizwarf::{FileSystem, NoEntries};
+/// # struct Nothing;
+/// # impl FileSystem for Nothing {
+/// #     type Inode = u64;
+/// #     type Handle = u64;
+/// #     type DirIter = NoEntries;
+/// # }
+/// let mounted = nizwarf::spawn_mount(Nothing, "/mnt", &[])?;
+/// assert!(std::fs::read("/mnt/hello").is_err());
+/// mounted.unmount()?;
+/// # Ok::<(), std::io::Error>(())
+/// ```
+#[must_use = "it is unmounted when this is dropped"]
+#[derive(Debug)]
+pub struct Mounted {
+    point: Arc<Point>,
+    server: Option<JoinHandle<io::Result<()>>>,
+}
+
+impl Mounted {
+    /// Returns the path of the folder.
+    #[must_use]
+    pub fn folder(&self) -> &Path {
+        &self.point.folder
+    }
+
+    /// Waits until somebody unmounts it.
+    ///
+    /// # Errors
+    /// As [`Server::serve`].
+    ///
+    /// # Panics
+    /// If a call panicked.
+    pub fn join(mut self) -> io::Result<()> {
+        self.wait()
+    }
+
+    /// Unmounts it, and waits for its last user.
+    ///
+    /// # Errors
+    /// If it cannot be unmounted, or as [`Server::serve`].
+    ///
+    /// # Panics
+    /// If a call panicked.
+    pub fn unmount(mut self) -> io::Result<()> {
+        self.point.unmount()?;
+        self.wait()
+    }
+
+    fn wait(&mut self) -> io::Result<()> {
+        let ended = self.server.take().map_or(Ok(Ok(())), JoinHandle::join);
+        ended.unwrap_or_else(|panic| resume_unwind(panic))
+    }
+}
+
+impl Drop for Mounted {
+    fn drop(&mut self) {
+        // Nobody can be told of an error.
+        let _ = self.point.unmount();
+    }
+}
+
+/// Unmounts when it is dropped.
+struct Ends<'a>(&'a Point);
+
+impl Drop for Ends<'_> {
+    fn drop(&mut self) {
+        // Nobody can be told of an error.
+        let _ = self.0.unmount();
+    }
+}
+
+/// A folder on which a device is mounted.
+#[derive(Debug)]
+struct Point {
+    folder: PathBuf,
+    device: File,
+    /// The program that mounted it, if it is not root's own mount.
+    helper: Option<&'static str>,
+    is_mounted: AtomicBool,
+}
+
+impl Point {
+    fn new(folder: &Path, options: &[MountOption]) -> io::Result<Self> {
+        let of_folder = |error| named(folder.display(), &error);
+        let whole = canonicalize(folder).map_err(of_folder)?;
+        let mode = metadata(&whole).map_err(of_folder)?.mode();
+        let own = if system::user_and_group().0 == 0 {
+            Some(mount_as_root(&whole, mode, options))
+        } else {
+            None
+        };
+        let (device, helper) = match own {
+            Some(Ok(device)) => (device, None),
+            Some(Err(error)) if !Errno::EPERM.is(&error) => return Err(of_folder(error)),
+            _ => {
+                let (device, helper) = mount_by_helper(&whole, options)?;
+                (device, Some(helper))
+            }
+        };
+        Ok(Point { folder: whole, device, helper, is_mounted: AtomicBool::new(true) })
+    }
+
+    /// Unmounts, once, and only if it is still mounted.
+    fn unmount(&self) -> io::Result<()> {
+        let was_mounted = self.is_mounted.swap(false, Ordering::AcqRel);
+        if !was_mounted || !system::is_connected(&self.device) {
+            return Ok(());
+        }
+        match self.helper {
+            None => system::unmount(&c_string(self.folder.as_os_str().as_bytes())?)
+                .map_err(|error| named(self.folder.display(), &error)),
+            Some(helper) => {
+                let mut command = Command::new(helper);
+                let output = command.args(["-u", "-q", "-z", "--"]).arg(&self.folder).output()?;
+                succeeded(helper, &output)
+            }
+        }
+    }
+}
+
+/// Mounts as root. Returns the device.
+fn mount_as_root(folder: &Path, mode: u32, options: &[MountOption]) -> io::Result<File> {
+    const MS_NOSUID: u64 = 2;
+    const MS_NODEV: u64 = 4;
+    let device = File::options().read(true).write(true).open("/dev/fuse");
+    let device = device.map_err(|error| named("/dev/fuse", &error))?;
+    let (user, group) = system::user_and_group();
+    // (the kernel takes the type of the mode alone)
+    let mut data = format!(
+        "fd={},rootmode={:o},user_id={user},group_id={group}",
+        device.as_raw_fd(),
+        mode & 0o170_000,
+    );
+    for word in options.iter().filter_map(MountOption::word) {
+        data.push(',');
+        data.push_str(word);
+    }
+    let mut flags =
+        options.iter().filter_map(MountOption::flag).fold(0, |all, (_, flag)| all | flag);
+    flags |= if options.contains(&MountOption::Suid) { 0 } else { MS_NOSUID };
+    flags |= if options.contains(&MountOption::Dev) { 0 } else { MS_NODEV };
+    let (source, subtype) = names(options);
+    let kind = subtype.map_or_else(|| "fuse".into(), |subtype| format!("fuse.{subtype}"));
+    system::mount_on(
+        &c_string(source.as_bytes())?,
+        &c_string(folder.as_os_str().as_bytes())?,
+        &c_string(kind.as_bytes())?,
+        flags,
+        &c_string(data.as_bytes())?,
+    )?;
+    Ok(device)
+}
+
+/// Mounts by `fusermount3`, or by an older `fusermount`. Returns the device, which it hands over, and its name.
+fn mount_by_helper(folder: &Path, options: &[MountOption]) -> io::Result<(File, &'static str)> {
+    let mut missing = None;
+    for helper in ["fusermount3", "fusermount"] {
+        let (ours, theirs) = UnixStream::pair()?;
+        let mut command = Command::new(helper);
+        command.arg("-o").arg(helper_words(options)).arg("--").arg(folder);
+        // It finds the other end of the socket at its standard input.
+        command.stdin(OwnedFd::from(theirs)).env("_FUSE_COMMFD", "0");
+        let output = match command.output() {
+            Err(error) if error.kind() == ErrorKind::NotFound => {
+                missing.get_or_insert_with(|| named(helper, &error));
+                continue;
+            }
+            output => output?,
+        };
+        drop(command); // it has their end of the socket
+        succeeded(helper, &output)?;
+        return match system::receive(&ours)? {
+            Some(device) => Ok((device, helper)),
+            None => Err(io::Error::new(ErrorKind::Other, format!("{helper} gave no device"))),
+        };
+    }
+    Err(missing.unwrap_or_else(|| ErrorKind::NotFound.into()))
+}
+
+/// The options as `fusermount3` takes them.
+fn helper_words(options: &[MountOption]) -> String {
+    let (source, subtype) = names(options);
+    let mut words = vec![format!("fsname={}", escaped(source))];
+    words.extend(subtype.map(|subtype| format!("subtype={}", escaped(subtype))));
+    words.extend(options.iter().filter_map(|option| match option {
+        MountOption::Dev => Some("dev".into()),
+        MountOption::Suid => Some("suid".into()),
+        other => other.word().or_else(|| Some(other.flag()?.0)).map(String::from),
+    }));
+    words.join(",")
+}
+
+/// A word in which a comma does not end an option.
+fn escaped(word: &str) -> String {
+    word.replace('\\', "\\\\").replace(',', "\\,")
+}
+
+/// The source, and the subtype.
+fn names(options: &[MountOption]) -> (&str, Option<&str>) {
+    let (mut source, mut subtype) = ("nizwarf", None);
+    for option in options {
+        match option {
+            MountOption::FSName(name) => source = name,
+            MountOption::Subtype(name) => subtype = Some(name.as_str()),
+            _ => {}
+        }
+    }
+    (source, subtype)
+}
+
+/// An error that says what it is of.
+fn named(what: impl std::fmt::Display, error: &io::Error) -> io::Error {
+    io::Error::new(error.kind(), format!("{what}: {error}"))
+}
+
+fn c_string(bytes: &[u8]) -> io::Result<CString> {
+    let of_bytes = || format!("{:?} has a NUL", OsStr::from_bytes(bytes));
+    CString::new(bytes).map_err(|_| io::Error::new(ErrorKind::InvalidInput, of_bytes()))
+}
+
+/// What a program says, if it failed.
+fn succeeded(helper: &str, output: &Output) -> io::Result<()> {
+    if output.status.success() {
+        return Ok(());
+    }
+    let said = String::from_utf8_lossy(&output.stderr);
+    let said = if said.trim().is_empty() { output.status.to_string() } else { said.trim().into() };
+    let said = if said.starts_with(helper) { said } else { format!("{helper}: {said}") };
+    Err(io::Error::new(ErrorKind::Other, said))
+}

@@ -1,0 +1,134 @@
+//! Functions of the C library that `std` does not have, as a mount needs them, and safe wrappers.
+#![allow(unsafe_code)]
+
+use std::ffi::{c_void, CStr};
+use std::fs::File;
+use std::io::{self, IoSliceMut};
+use std::mem::size_of;
+use std::os::raw::{c_char, c_int, c_short, c_ulong};
+use std::os::unix::io::{AsRawFd, FromRawFd};
+use std::os::unix::net::UnixStream;
+use std::ptr;
+
+/// `struct msghdr`.
+#[repr(C)]
+struct Message<'a> {
+    name: *mut c_void,
+    name_len: u32,
+    pieces: *mut IoSliceMut<'a>,
+    pieces_len: usize,
+    control: *mut Control,
+    control_len: usize,
+    flags: c_int,
+}
+
+/// `struct cmsghdr`, and a descriptor after it.
+#[repr(C, align(8))]
+#[derive(Default)]
+struct Control {
+    len: usize,
+    level: c_int,
+    kind: c_int,
+    descriptor: c_int,
+}
+
+/// `struct pollfd`.
+#[repr(C)]
+struct Polled {
+    descriptor: c_int,
+    events: c_short,
+    came: c_short,
+}
+
+extern "C" {
+    fn mount(
+        source: *const c_char,
+        folder: *const c_char,
+        kind: *const c_char,
+        flags: c_ulong,
+        data: *const c_char,
+    ) -> c_int;
+    fn umount2(folder: *const c_char, flags: c_int) -> c_int;
+    fn geteuid() -> u32;
+    fn getegid() -> u32;
+    fn poll(polled: *mut Polled, count: c_ulong, milliseconds: c_int) -> c_int;
+    fn recvmsg(socket: c_int, message: *mut Message<'_>, flags: c_int) -> isize;
+}
+
+/// The effective user and group of this process.
+pub(crate) fn user_and_group() -> (u32, u32) {
+    // SAFETY: both have no arguments, and always succeed.
+    unsafe { (geteuid(), getegid()) }
+}
+
+/// Mounts, as `mount(2)`.
+pub(crate) fn mount_on(
+    source: &CStr,
+    folder: &CStr,
+    kind: &CStr,
+    flags: u64,
+    data: &CStr,
+) -> io::Result<()> {
+    let data = data.as_ptr();
+    // SAFETY: all are strings that end with a NUL, and valid for this call.
+    let failed = unsafe { mount(source.as_ptr(), folder.as_ptr(), kind.as_ptr(), flags, data) };
+    done(failed)
+}
+
+/// Unmounts a folder, which is detached at once, and goes with its last user. A symbolic link is not followed.
+pub(crate) fn unmount(folder: &CStr) -> io::Result<()> {
+    const MNT_DETACH: c_int = 2;
+    const UMOUNT_NOFOLLOW: c_int = 8;
+    // SAFETY: the string ends with a NUL, and is valid for this call.
+    done(unsafe { umount2(folder.as_ptr(), MNT_DETACH | UMOUNT_NOFOLLOW) })
+}
+
+/// Whether the mount that a device of `/dev/fuse` serves is still there.
+pub(crate) fn is_connected(device: &File) -> bool {
+    const POLLERR: c_short = 8;
+    let mut polled = Polled { descriptor: device.as_raw_fd(), events: 0, came: 0 };
+    // SAFETY: there is one struct, which is valid for this call.
+    unsafe { poll(&mut polled, 1, 0) };
+    polled.came & POLLERR == 0
+}
+
+/// Receives a descriptor, if one comes.
+pub(crate) fn receive(socket: &UnixStream) -> io::Result<Option<File>> {
+    const SOL_SOCKET: c_int = 1;
+    const SCM_RIGHTS: c_int = 1;
+    const MSG_CMSG_CLOEXEC: c_int = 0x4000_0000;
+    let (mut byte, mut control) = ([0], Control::default());
+    let mut pieces = [IoSliceMut::new(&mut byte)];
+    let mut message = Message {
+        name: ptr::null_mut(),
+        name_len: 0,
+        pieces: pieces.as_mut_ptr(),
+        pieces_len: 1,
+        control: &mut control,
+        control_len: size_of::<Control>(),
+        flags: 0,
+    };
+    // SAFETY: all pointers are valid for this call, and have these lengths.
+    let len = unsafe { recvmsg(socket.as_raw_fd(), &mut message, MSG_CMSG_CLOEXEC) };
+    if len < 0 {
+        return Err(io::Error::last_os_error());
+    }
+    // The length of a header and one descriptor.
+    let one = size_of::<Control>() - size_of::<c_int>();
+    let is_one = (control.len, control.level, control.kind) == (one, SOL_SOCKET, SCM_RIGHTS);
+    // SAFETY: the kernel made the descriptor for this process, and nothing else owns it.
+    Ok(is_one.then(|| unsafe { File::from_raw_fd(control.descriptor) }))
+}
+
+fn done(failed: c_int) -> io::Result<()> {
+    if failed == 0 {
+        Ok(())
+    } else {
+        Err(io::Error::last_os_error())
+    }
+}
+
+// The sizes that the C library has.
+const _: () = assert!(size_of::<Message<'_>>() == 56);
+const _: () = assert!(size_of::<Control>() == 24);
+const _: () = assert!(size_of::<Polled>() == 8);

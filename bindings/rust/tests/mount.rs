@@ -1,0 +1,327 @@
+//! Mounts. They need root and /dev/fuse: without them nothing is tested, as the output says.
+
+use nizwarf::{
+    mount, spawn_mount, Attr, Context, Entry, Errno, FileSystem, FsOptions, GetxattrReply,
+    ListxattrReply, MountOption, NoEntries, Server, SetattrIn, SetattrValid, ZeroCopyReader,
+    ZeroCopyWriter, ROOT_ID,
+};
+use std::ffi::{c_void, CStr, CString};
+use std::fs::{self, File};
+use std::io;
+use std::os::raw::c_char;
+use std::os::unix::ffi::OsStrExt;
+use std::path::{Path, PathBuf};
+use std::sync::atomic::{AtomicU32, AtomicUsize, Ordering};
+use std::sync::{Arc, Mutex};
+use std::time::Duration;
+
+/// What the file system of a mount knows.
+#[derive(Default)]
+struct State {
+    text: Mutex<Vec<u8>>,
+    /// The user of the last GETATTR.
+    uid: AtomicU32,
+    ended: AtomicUsize,
+}
+
+/// A root with a file, `text`, which can be written, and files that give odd answers. It has no OPEN.
+#[derive(Clone, Default)]
+struct Odd(Arc<State>);
+
+const TEXT: u64 = 2;
+const LINK: u64 = 3;
+const PANIC: u64 = 4;
+/// Reading a file of this and a later number fails with one of these.
+const BROKEN: u64 = 10;
+const NUMBERS: [i32; 6] = [512, 524, 600, 0, -5, i32::MAX];
+
+impl FileSystem for Odd {
+    type Inode = u64;
+    type Handle = u64;
+    type DirIter = NoEntries;
+
+    /// It wants what it is offered, except caches and what it has no method for.
+    fn init(&self, capable: FsOptions) -> io::Result<FsOptions> {
+        Ok(capable & FsOptions::DONT_MASK)
+    }
+
+    fn destroy(&self) {
+        self.0.ended.fetch_add(1, Ordering::Relaxed);
+    }
+
+    fn lookup(&self, ctx: Context, _: u64, name: &CStr) -> io::Result<Entry> {
+        let inode = match name.to_str().unwrap_or_default() {
+            "text" => TEXT,
+            "link" => LINK,
+            "panic" => PANIC,
+            name => name.parse().map_err(|_| Errno::ENOENT)?,
+        };
+        let (attr, _) = self.getattr(ctx, inode, None)?;
+        Ok(Entry { inode, attr, ..Entry::default() })
+    }
+
+    fn getattr(&self, ctx: Context, inode: u64, _: Option<u64>) -> io::Result<(Attr, Duration)> {
+        self.0.uid.store(ctx.uid, Ordering::Relaxed);
+        assert_ne!(inode, PANIC);
+        let (mode, size) = match inode {
+            ROOT_ID => (0o40_777, 0),
+            LINK => (0o120_777, 5000),
+            TEXT => (0o100_666, self.0.text.lock().unwrap().len() as u64),
+            _ => (0o100_666, 10),
+        };
+        Ok((Attr { ino: inode, mode, nlink: 1, size, ..Attr::default() }, Duration::ZERO))
+    }
+
+    fn setattr(
+        &self,
+        ctx: Context,
+        inode: u64,
+        attr: SetattrIn,
+        _: Option<u64>,
+        valid: SetattrValid,
+    ) -> io::Result<(Attr, Duration)> {
+        if valid.contains(SetattrValid::SIZE) {
+            self.0.text.lock().unwrap().resize(usize::try_from(attr.size).unwrap(), 0);
+        }
+        self.getattr(ctx, inode, None)
+    }
+
+    fn readlink(&self, _: Context, _: u64) -> io::Result<Vec<u8>> {
+        Ok(vec![b'x'; 5000])
+    }
+
+    fn read<W: ZeroCopyWriter>(
+        &self,
+        _: Context,
+        inode: u64,
+        _: u64,
+        mut w: W,
+        size: u32,
+        offset: u64,
+        _: Option<u64>,
+        _: u32,
+    ) -> io::Result<usize> {
+        if let Some(number) = usize::try_from(inode - TEXT).ok().filter(|at| *at >= 8) {
+            return Err(io::Error::from_raw_os_error(NUMBERS[number - 8]));
+        }
+        let text = self.0.text.lock().unwrap();
+        let left = text.get(usize::try_from(offset).unwrap()..).unwrap_or_default();
+        let left = &left[..left.len().min(size as usize)];
+        w.write_all(left).map(|()| left.len())
+    }
+
+    fn write<R: ZeroCopyReader>(
+        &self,
+        _: Context,
+        _: u64,
+        _: u64,
+        mut r: R,
+        _: u32,
+        offset: u64,
+        _: Option<u64>,
+        _: bool,
+        _: bool,
+        _: u32,
+    ) -> io::Result<usize> {
+        let (mut text, mut data) = (self.0.text.lock().unwrap(), Vec::new());
+        let at = usize::try_from(offset).unwrap();
+        let len = r.read_to_end(&mut data)?;
+        if text.len() < at + len {
+            text.resize(at + len, 0);
+        }
+        text[at..at + len].copy_from_slice(&data);
+        Ok(len)
+    }
+
+    fn getxattr(&self, _: Context, _: u64, name: &CStr, _: u32) -> io::Result<GetxattrReply> {
+        Ok(match name.to_bytes() {
+            b"user.long" => GetxattrReply::Value(vec![1; 200]),
+            b"user.longest" => GetxattrReply::Value(vec![1; 3 << 20]),
+            b"user.value" => GetxattrReply::Value(b"value".to_vec()),
+            b"user.count" => GetxattrReply::Count(5),
+            _ => return Err(Errno::ENODATA.into()),
+        })
+    }
+
+    fn listxattr(&self, _: Context, _: u64, _: u32) -> io::Result<ListxattrReply> {
+        Ok(ListxattrReply::Names(vec![b'n'; 3 << 20]))
+    }
+}
+
+extern "C" {
+    fn getxattr(path: *const c_char, name: *const c_char, to: *mut c_void, size: usize) -> isize;
+    fn listxattr(path: *const c_char, to: *mut c_char, size: usize) -> isize;
+}
+
+/// The length of an attribute that is asked for with a size, or the number of the error.
+fn attribute(path: &Path, name: &str, size: usize) -> Result<usize, i32> {
+    let path = CString::new(path.as_os_str().as_bytes()).unwrap();
+    let name_of = CString::new(name).unwrap();
+    let mut room = vec![0_u8; size];
+    // SAFETY: the strings end with a NUL, and the room has this size.
+    let len = unsafe {
+        if name.is_empty() {
+            listxattr(path.as_ptr(), room.as_mut_ptr().cast(), size)
+        } else {
+            getxattr(path.as_ptr(), name_of.as_ptr(), room.as_mut_ptr().cast(), size)
+        }
+    };
+    usize::try_from(len).map_err(|_| io::Error::last_os_error().raw_os_error().unwrap())
+}
+
+/// A new folder, which is removed at the end.
+struct Folder(PathBuf);
+
+impl Folder {
+    /// Returns none where nothing can be mounted.
+    fn new(name: &str) -> Option<Self> {
+        if File::options().write(true).open("/dev/fuse").is_err() {
+            eprintln!("{name}: nothing is mounted, since /dev/fuse cannot be opened.");
+            return None;
+        }
+        let path = std::env::temp_dir().join(format!("nizwarf-{name}-{}", std::process::id()));
+        fs::create_dir(&path).unwrap();
+        Some(Folder(path))
+    }
+
+    fn line(&self) -> Option<String> {
+        let lines = fs::read_to_string("/proc/self/mountinfo").unwrap();
+        let at = format!(" {} ", self.0.display());
+        lines.lines().find(|line| line.contains(&at)).map(String::from)
+    }
+}
+
+impl Drop for Folder {
+    fn drop(&mut self) {
+        if self.line().is_some() {
+            let _ = std::process::Command::new("umount").arg("-l").arg(&self.0).status();
+        }
+        let _ = fs::remove_dir(&self.0);
+    }
+}
+
+fn number<T: std::fmt::Debug>(result: io::Result<T>) -> Option<i32> {
+    result.unwrap_err().raw_os_error()
+}
+
+#[test]
+fn no_answer_ends_a_mount() {
+    let folder = match Folder::new("answers") {
+        Some(folder) => folder,
+        None => return,
+    };
+    let files = Odd::default();
+    *files.0.text.lock().unwrap() = b"0123456789".to_vec();
+    let options = [MountOption::Threads(3)];
+    let mounted = spawn_mount(files.clone(), &folder.0, &options).unwrap();
+    let text = mounted.folder().join("text");
+    for (at, answered) in (BROKEN..).zip(NUMBERS) {
+        let read = fs::read(folder.0.join(at.to_string()));
+        assert_eq!(number(read), Some(5), "the error {answered}");
+        assert_eq!(fs::read(&text).unwrap(), b"0123456789");
+    }
+    assert_eq!(number(fs::read_link(folder.0.join("link"))), Some(5));
+    for (name, size, expected) in [
+        ("user.long", 128, Err(34)),
+        ("user.long", 200, Ok(200)),
+        ("user.long", 0, Ok(200)),
+        ("user.longest", 128, Err(34)),
+        // Linux turns ERANGE into E2BIG for the largest size that there is.
+        ("user.longest", 65536, Err(7)),
+        ("user.value", 9, Ok(5)),
+        ("user.count", 0, Ok(5)),
+        ("user.count", 9, Err(5)),
+        ("", 128, Err(34)),
+        ("", 65536, Err(7)),
+        ("user.none", 9, Err(61)),
+    ] {
+        assert_eq!(attribute(&text, name, size), expected, "{name} {size}");
+    }
+    assert_eq!(fs::read(&text).unwrap(), b"0123456789");
+    assert_eq!(files.0.ended.load(Ordering::Relaxed), 0);
+    mounted.unmount().unwrap();
+    assert_eq!(files.0.ended.load(Ordering::Relaxed), 1);
+    assert_eq!(folder.line(), None);
+}
+
+#[test]
+fn without_open_a_file_is_truncated_and_the_caller_is_known() {
+    let folder = match Folder::new("truncation") {
+        Some(folder) => folder,
+        None => return,
+    };
+    let files = Odd::default();
+    *files.0.text.lock().unwrap() = b"0123456789".to_vec();
+    // Without DefaultPermissions, too, Linux mounts it.
+    let mounted = spawn_mount(files.clone(), &folder.0, &[]).unwrap();
+    fs::write(folder.0.join("text"), "ab\n").unwrap();
+    assert_eq!(*files.0.text.lock().unwrap(), b"ab\n");
+    assert_eq!(files.0.uid.load(Ordering::Relaxed), 0);
+    drop(mounted);
+    assert_eq!(folder.line(), None);
+}
+
+#[test]
+fn options_are_those_of_the_mount() {
+    let folder = match Folder::new("options") {
+        Some(folder) => folder,
+        None => return,
+    };
+    for (options, words) in [
+        (vec![], vec!["rw,", "nosuid,nodev,", " - fuse nizwarf "]),
+        (
+            vec![
+                MountOption::FSName("a,b c".into()),
+                MountOption::Subtype("odd".into()),
+                MountOption::RO,
+                MountOption::NoExec,
+                MountOption::NoAtime,
+                MountOption::AllowOther,
+                MountOption::DefaultPermissions,
+            ],
+            vec![
+                "ro,nosuid,nodev,noexec,noatime",
+                " - fuse.odd a,b\\040c ",
+                "allow_other",
+                "default_permissions",
+            ],
+        ),
+        (vec![MountOption::Dev, MountOption::Suid], vec![" rw,relatime "]),
+    ] {
+        let mounted = spawn_mount(Odd::default(), &folder.0, &options).unwrap();
+        let line = folder.line().unwrap();
+        for word in words {
+            assert!(line.contains(word), "{word} is not in {line}");
+        }
+        mounted.unmount().unwrap();
+    }
+    // What can't be mounted says why.
+    let none = folder.0.join("none");
+    let error = mount(Odd::default(), &none, &[]).unwrap_err();
+    assert_eq!(error.kind(), io::ErrorKind::NotFound);
+    assert!(error.to_string().starts_with(&format!("{}: ", none.display())), "{error}");
+    let name = MountOption::FSName("a\0".into());
+    let error = mount(Odd::default(), &folder.0, &[name]).unwrap_err();
+    assert!(error.to_string().contains("has a NUL"), "{error}");
+}
+
+#[test]
+fn a_panic_ends_a_mount_after_its_caller_is_answered() {
+    let folder = match Folder::new("panic") {
+        Some(folder) => folder,
+        None => return,
+    };
+    for catches in [true, false] {
+        let server = Server::new(Odd::default()).catch_panics(catches);
+        let mounted = server.spawn_mount(&folder.0, &[MountOption::Threads(2)]).unwrap();
+        assert_eq!(number(fs::metadata(folder.0.join("panic"))), Some(5));
+        if catches {
+            assert!(fs::metadata(folder.0.join("text")).is_ok());
+            mounted.unmount().unwrap();
+        } else {
+            let ended = std::panic::catch_unwind(std::panic::AssertUnwindSafe(|| mounted.join()));
+            assert!(ended.is_err());
+        }
+        assert_eq!(folder.line(), None);
+    }
+}
