@@ -14,7 +14,7 @@ use std::os::unix::io::{AsRawFd, OwnedFd};
 use std::os::unix::net::UnixStream;
 use std::panic::resume_unwind;
 use std::path::{Path, PathBuf};
-use std::process::{Command, Output};
+use std::process::{Child, Command, Output, Stdio};
 use std::sync::atomic::{AtomicBool, Ordering};
 use std::sync::Arc;
 use std::thread::{self, JoinHandle};
@@ -48,6 +48,8 @@ pub enum MountOption {
     Sync,
     /// Changes of directories are synchronous.
     DirSync,
+    /// It is unmounted when this process ends, however that is: by `fusermount3`, which also root needs then.
+    AutoUnmount,
     /// So many threads serve the mount, at least one.
     Threads(usize),
 }
@@ -158,8 +160,13 @@ impl<F: FileSystem + Sync> Server<F> {
             self.serve(&point.device)
         };
         thread::scope(|scope| {
-            let others: Vec<_> = (1..count).map(|_| scope.spawn(serve)).collect();
-            let first = serve();
+            let begin = |_| thread::Builder::new().spawn_scoped(scope, serve);
+            let others = (1..count).map(begin).collect::<io::Result<Vec<_>>>();
+            if others.is_err() {
+                // Those that have begun end with it.
+                let _ = point.unmount();
+            }
+            let (others, first) = (others?, serve());
             let join = |other: thread::ScopedJoinHandle<'_, _>| {
                 other.join().unwrap_or_else(|panic| resume_unwind(panic))
             };
@@ -257,9 +264,17 @@ impl Drop for Ends<'_> {
 struct Point {
     folder: PathBuf,
     device: File,
-    /// The program that mounted it, if it is not root's own mount.
-    helper: Option<&'static str>,
+    /// What mounted it, if it is not root's own mount.
+    helper: Option<Helper>,
     is_mounted: AtomicBool,
+}
+
+/// The program that mounted.
+#[derive(Debug)]
+struct Helper {
+    name: &'static str,
+    /// If it waits for the end of this process: its process, and the socket whose end it waits for.
+    waits: Option<(Child, UnixStream)>,
 }
 
 impl Point {
@@ -267,7 +282,8 @@ impl Point {
         let of_folder = |error| named(folder.display(), &error);
         let whole = canonicalize(folder).map_err(of_folder)?;
         let mode = metadata(&whole).map_err(of_folder)?.mode();
-        let own = if system::user_and_group().0 == 0 {
+        let is_own = !options.contains(&MountOption::AutoUnmount);
+        let own = if is_own && system::user_and_group().0 == 0 {
             Some(mount_as_root(&whole, mode, options))
         } else {
             None
@@ -289,14 +305,25 @@ impl Point {
         if !was_mounted || !system::is_connected(&self.device) {
             return Ok(());
         }
-        match self.helper {
+        match &self.helper {
             None => system::unmount(&c_string(self.folder.as_os_str().as_bytes())?)
                 .map_err(|error| named(self.folder.display(), &error)),
-            Some(helper) => {
-                let mut command = Command::new(helper);
+            Some(Helper { name, .. }) => {
+                let mut command = Command::new(name);
                 let output = command.args(["-u", "-q", "-z", "--"]).arg(&self.folder).output()?;
-                succeeded(helper, &output)
+                succeeded(name, &output)
             }
+        }
+    }
+}
+
+impl Drop for Point {
+    fn drop(&mut self) {
+        // Nobody can be told of an error.
+        let _ = self.unmount();
+        if let Some((mut helper, socket)) = self.helper.as_mut().and_then(|it| it.waits.take()) {
+            drop(socket);
+            let _ = helper.wait();
         }
     }
 }
@@ -334,27 +361,32 @@ fn mount_as_root(folder: &Path, mode: u32, options: &[MountOption]) -> io::Resul
     Ok(device)
 }
 
-/// Mounts by `fusermount3`, or by an older `fusermount`. Returns the device, which it hands over, and its name.
-fn mount_by_helper(folder: &Path, options: &[MountOption]) -> io::Result<(File, &'static str)> {
+/// Mounts by `fusermount3`, or by an older `fusermount`. Returns the device, which it hands over.
+fn mount_by_helper(folder: &Path, options: &[MountOption]) -> io::Result<(File, Helper)> {
     let mut missing = None;
-    for helper in ["fusermount3", "fusermount"] {
+    for name in ["fusermount3", "fusermount"] {
         let (ours, theirs) = UnixStream::pair()?;
-        let mut command = Command::new(helper);
+        let mut command = Command::new(name);
         command.arg("-o").arg(helper_words(options)).arg("--").arg(folder);
         // It finds the other end of the socket at its standard input.
-        command.stdin(OwnedFd::from(theirs)).env("_FUSE_COMMFD", "0");
-        let output = match command.output() {
+        command.stdin(OwnedFd::from(theirs)).env("_FUSE_COMMFD", "0").stderr(Stdio::piped());
+        let helper = match command.spawn() {
             Err(error) if error.kind() == ErrorKind::NotFound => {
-                missing.get_or_insert_with(|| named(helper, &error));
+                missing.get_or_insert_with(|| named(name, &error));
                 continue;
             }
-            output => output?,
+            helper => helper?,
         };
         drop(command); // it has their end of the socket
-        succeeded(helper, &output)?;
         return match system::receive(&ours)? {
-            Some(device) => Ok((device, helper)),
-            None => Err(io::Error::new(ErrorKind::Other, format!("{helper} gave no device"))),
+            Some(device) if options.contains(&MountOption::AutoUnmount) => {
+                Ok((device, Helper { name, waits: Some((helper, ours)) }))
+            }
+            device => {
+                succeeded(name, &helper.wait_with_output()?)?;
+                let none = || io::Error::new(ErrorKind::Other, format!("{name} gave no device"));
+                Ok((device.ok_or_else(none)?, Helper { name, waits: None }))
+            }
         };
     }
     Err(missing.unwrap_or_else(|| ErrorKind::NotFound.into()))
@@ -368,6 +400,7 @@ fn helper_words(options: &[MountOption]) -> String {
     words.extend(options.iter().filter_map(|option| match option {
         MountOption::Dev => Some("dev".into()),
         MountOption::Suid => Some("suid".into()),
+        MountOption::AutoUnmount => Some("auto_unmount".into()),
         other => other.word().or_else(|| Some(other.flag()?.0)).map(String::from),
     }));
     words.join(",")

@@ -11,8 +11,10 @@ use std::io;
 use std::os::raw::c_char;
 use std::os::unix::ffi::OsStrExt;
 use std::path::{Path, PathBuf};
+use std::process::{Command, Stdio};
 use std::sync::atomic::{AtomicU32, AtomicUsize, Ordering};
 use std::sync::{Arc, Mutex};
+use std::thread;
 use std::time::Duration;
 
 /// What the file system of a mount knows.
@@ -194,7 +196,7 @@ impl Folder {
 impl Drop for Folder {
     fn drop(&mut self) {
         if self.line().is_some() {
-            let _ = std::process::Command::new("umount").arg("-l").arg(&self.0).status();
+            let _ = Command::new("umount").arg("-l").arg(&self.0).status();
         }
         let _ = fs::remove_dir(&self.0);
     }
@@ -323,5 +325,49 @@ fn a_panic_ends_a_mount_after_its_caller_is_answered() {
             assert!(ended.is_err());
         }
         assert_eq!(folder.line(), None);
+    }
+}
+
+/// A word for a second process of this program, which mounts on this folder.
+const MOUNTS: &str = "NIZWARF_MOUNTS";
+
+#[test]
+fn a_mount_ends_with_its_process() {
+    if let Some(folder) = std::env::var_os(MOUNTS) {
+        let options = [MountOption::AutoUnmount, MountOption::FSName("a,b".into())];
+        return mount(Odd::default(), folder, &options).unwrap();
+    }
+    let folder = match Folder::new("process") {
+        Some(folder) => folder,
+        None => return,
+    };
+    if Command::new("fusermount3").arg("-V").output().is_err() {
+        return eprintln!("process: fusermount3 is not installed.");
+    }
+    let wait = |is_mounted: bool| {
+        let is_so = |_| {
+            thread::sleep(Duration::from_millis(20));
+            folder.line().is_some() == is_mounted
+        };
+        assert!((0..500).any(is_so), "it is not {is_mounted} that it is mounted");
+    };
+    for is_killed in [true, false] {
+        let mut command = Command::new(std::env::current_exe().unwrap());
+        let mut process = command
+            .args(["--exact", "a_mount_ends_with_its_process"])
+            .env(MOUNTS, &folder.0)
+            .stdout(Stdio::null())
+            .spawn()
+            .unwrap();
+        wait(true);
+        assert!(folder.line().unwrap().contains(" - fuse a,b "));
+        assert!(fs::metadata(folder.0.join("text")).is_ok());
+        if is_killed {
+            process.kill().unwrap();
+        } else {
+            assert!(Command::new("umount").arg(&folder.0).status().unwrap().success());
+        }
+        assert_eq!(process.wait().unwrap().success(), !is_killed);
+        wait(false);
     }
 }
