@@ -190,9 +190,8 @@ impl<K> To<K> {
         usize::try_from(self.pending.call.room).unwrap_or(usize::MAX)
     }
 
-    /// Answers with an error. One without a number has that of its [`kind`](io::Error::kind), as
-    /// ENOENT for [`NotFound`](io::ErrorKind::NotFound). If there is none, or Linux does not take it, which
-    /// takes 1 to 511, it is EIO. Calls that have no reply get none.
+    /// Answers with an error. One without a number becomes EIO, and so does one that Linux does not take, which
+    /// takes 1 to 511. Calls that have no reply get none.
     pub fn fail<'s>(mut self, slot: &'s mut Slot, error: &io::Error) -> Told<'s> {
         self.pending.answer.error = answered(error).number();
         tell(self.pending, slot, &[], &[])
@@ -314,7 +313,8 @@ impl To<Data> {
 }
 
 impl To<Want> {
-    /// Answers with the options that the file system wants. Those that were not offered are ignored.
+    /// Answers with the options that the file system wants. Those that were not offered are ignored. Some are
+    /// agreed on without being wanted: [`withhold`](crate::withhold()) names and declines them.
     #[inline]
     pub fn answer(self, slot: &mut Slot, result: io::Result<FsOptions>) -> Told<'_> {
         self.say(slot, result, |answer, options| answer.count = options.bits())

@@ -106,3 +106,23 @@ fn send_fault(mut device: &File, request: &[u8]) -> io::Result<()> {
         sent => sent.map(drop),
     }
 }
+
+#[cfg(test)]
+mod tests {
+    use super::*;
+
+    #[test]
+    fn a_reply_that_is_refused_is_no_error() {
+        // The kernel takes a small number there, and answers EINVAL to all else.
+        let device = File::options().write(true).open("/proc/self/oom_score_adj").unwrap();
+        let request = [7; 40];
+        assert!(Errno::EINVAL.is(&(&device).write(&request).unwrap_err()));
+        send(&device, &request, b"a reply").unwrap();
+        send_fault(&device, &request).unwrap();
+        // Other errors are.
+        let closed = File::open("/proc/self/oom_score_adj").unwrap();
+        assert!(Errno::EBADF.is(&send(&closed, &request, b"a reply").unwrap_err()));
+        assert!(send_fault(&closed, &request).is_err());
+        send_fault(&closed, &request[..9]).unwrap();
+    }
+}

@@ -74,13 +74,19 @@ impl From<Errno> for io::Error {
 /// The largest number that Linux takes in a reply.
 const MOST: i32 = 511;
 
-/// The number with which an error is answered. One without a number has that of its kind, if there is one.
-/// EIO stands for all others, and for numbers that Linux does not take.
+/// The number with which an error is answered: EIO for one without a number, and for numbers that Linux does not
+/// take.
 pub(crate) fn answered(error: &io::Error) -> Errno {
-    if let Some(number) = error.raw_os_error() {
-        return if (1..=MOST).contains(&number) { Errno(number) } else { Errno::EIO };
+    let number = error.raw_os_error().filter(|number| (1..=MOST).contains(number));
+    number.map_or(Errno::EIO, Errno)
+}
+
+/// An error with the number of its kind, if it has none and there is one.
+pub(crate) fn numbered(error: io::Error) -> io::Error {
+    if error.raw_os_error().is_some() {
+        return error;
     }
-    match error.kind() {
+    let errno = match error.kind() {
         io::ErrorKind::NotFound => Errno::ENOENT,
         io::ErrorKind::PermissionDenied => Errno::EACCES,
         io::ErrorKind::AlreadyExists => Errno::EEXIST,
@@ -90,8 +96,9 @@ pub(crate) fn answered(error: &io::Error) -> Errno {
         io::ErrorKind::Interrupted => Errno::EINTR,
         io::ErrorKind::Unsupported => Errno::EOPNOTSUPP,
         io::ErrorKind::OutOfMemory => Errno::ENOMEM,
-        _ => Errno::EIO,
-    }
+        _ => return error,
+    };
+    errno.into()
 }
 
 #[cfg(test)]
@@ -106,6 +113,8 @@ mod tests {
             let error = io::Error::from_raw_os_error(number);
             assert_eq!(answered(&error).number(), expected);
         }
+        let number = numbered(io::Error::from_raw_os_error(600));
+        assert_eq!(number.raw_os_error(), Some(600));
         for (kind, expected) in [
             (io::ErrorKind::NotFound, Errno::ENOENT),
             (io::ErrorKind::PermissionDenied, Errno::EACCES),
@@ -113,7 +122,8 @@ mod tests {
             (io::ErrorKind::UnexpectedEof, Errno::EIO),
             (io::ErrorKind::Other, Errno::EIO),
         ] {
-            assert_eq!(answered(&kind.into()), expected);
+            assert_eq!(answered(&numbered(kind.into())), expected);
+            assert_eq!(answered(&kind.into()), Errno::EIO);
         }
     }
 

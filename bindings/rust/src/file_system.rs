@@ -205,7 +205,8 @@ impl<W: ZeroCopyWriter> ZeroCopyWriter for &mut W {
 }
 
 /// A file system. Each method is a call of the protocol, and returns ENOSYS by default, unless it is documented
-/// otherwise. The methods and their arguments are those of the trait of virtiofsd 1.13.2. [`Errno`] names errors.
+/// otherwise. The methods and their arguments are those of the trait of virtiofsd 1.13.2. [`Errno`] names errors;
+/// one without a number has that of its [`kind`](io::Error::kind), as ENOENT for `NotFound`, or else is EIO.
 ///
 /// Each entry that is returned, except one of node 0, is a lookup of its node, and [`forget`](Self::forget)
 /// drops lookups. A node must be kept while it has lookups, even if it has no name any more.

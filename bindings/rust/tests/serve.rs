@@ -25,6 +25,8 @@ struct Plain {
 
 /// A node whose attributes two threads have to ask for at once.
 const MEETING: u64 = 5;
+/// One whose error has a kind, and no number.
+const NAMELESS: u64 = 6;
 
 impl FileSystem for Plain {
     type Inode = u64;
@@ -42,6 +44,9 @@ impl FileSystem for Plain {
 
     fn getattr(&self, _: Context, inode: u64, _: Option<u64>) -> io::Result<(Attr, Duration)> {
         assert_ne!(inode, 666);
+        if inode == NAMELESS {
+            return Err(io::ErrorKind::NotFound.into());
+        }
         if inode == MEETING {
             self.met.fetch_add(1, Ordering::Relaxed);
             while self.met.load(Ordering::Relaxed) < 2 {
@@ -105,6 +110,7 @@ fn a_refused_request_is_answered_and_the_last_thread_ends_the_session() {
         // Both threads serve.
         client.send(&getattr(MEETING)).unwrap();
         replies.extend([ask(&client, &getattr(MEETING)), receive(&client)]);
+        replies.push(ask(&client, &getattr(NAMELESS)));
         // A read of no bytes is the end of one thread.
         client.send(&[]).unwrap();
         while !threads.iter().any(thread::ScopedJoinHandle::is_finished) {
@@ -118,7 +124,7 @@ fn a_refused_request_is_answered_and_the_last_thread_ends_the_session() {
         (replies, before)
     });
     assert_eq!(replies[0].len(), 80);
-    assert_eq!(replies[1..], [fault(5), fault(5), fault(13), fault(13)]);
+    assert_eq!(replies[1..], [fault(5), fault(5), fault(13), fault(13), fault(2)]);
     assert_eq!((before, ended()), (0, 1));
     assert!(server.options().is_empty());
 }
