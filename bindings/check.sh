@@ -49,6 +49,7 @@ check_hello() {
     step "$1 with a client" ask_hello "$2"
     if may_mount; then
         step "$1, mounted" use_mount "$2" "$folder/mount"
+        check_aborted "$1" "$2" "$folder/mount"
     else
         echo "$1 is not mounted: this needs root, /dev/fuse and mountpoint." >&2
     fi

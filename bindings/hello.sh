@@ -38,6 +38,17 @@ use_mount() {
         && ! cat "$folder/mount/none" && ! echo text >> "$hello" && umount "$folder/mount" && wait "$server"
 }
 
+# Does so while each third read of the device fails, as if its request had been aborted:
+# check_aborted NAME PROGRAM WORD..
+check_aborted() {
+    local abort=(strace -f -qq -o "$folder/calls" -P /dev/fuse -e "inject=read:error=ENOENT:when=2+3")
+    if command -v strace > /dev/null; then
+        step "$1, mounted, and requests are aborted" use_mount "${abort[@]}" "${@:2}"
+    else
+        echo "strace is not installed, so no request is aborted: apt-get install strace." >&2
+    fi
+}
+
 # Whether the programs can mount.
 may_mount() {
     [ "$(id -u)" = 0 ] && [ -e /dev/fuse ] && command -v mountpoint > /dev/null

@@ -118,6 +118,7 @@ chmod +x "$folder/hello"
 step "hello.rs with a client" ask_hello "$folder/hello"
 if may_mount; then
     step "hello.rs, mounted" use_mount "$built/debug/examples/hello" "$folder/mount"
+    check_aborted hello.rs "$built/debug/examples/hello" "$folder/mount"
     step "check.rs in front of it, mounted" \
         use_mount "$built/debug/examples/check" "$folder/mount" "$built/debug/examples/hello" -
     if command -v fusermount3 > /dev/null && command -v setpriv > /dev/null; then
