@@ -140,7 +140,8 @@ enum {
 	NIZWARF_INVALID_XATTR_SIZE = 8,
 	/* The security context that was agreed on is missing. */
 	NIZWARF_MISSING_EXTENSION = 9,
-	/* There is no memory. No call of the file system was made. */
+	/* There is no memory. No call of the file system was made, if it isn't nizwarf_reply or
+	 * nizwarf_serve_ops that answers so. */
 	NIZWARF_OUT_OF_MEMORY = 10,
 	/* There is no server. */
 	NIZWARF_NO_SERVER = 11,
@@ -325,6 +326,10 @@ static inline int32_t nizwarf_end(nizwarf_server *server)
  *	}
  *	complete(told.len);
  *
+ * A request that is refused, by whichever of the two, has no reply: a virtual machine's is completed
+ * with 0 bytes. But the kernel behind /dev/fuse waits for a reply to each but FORGET, BATCH_FORGET and
+ * INTERRUPT: write it a header with EIO, or with ENOMEM after NIZWARF_OUT_OF_MEMORY.
+ *
  * Ranges. Names, values and data are told as ranges of the request: `at` counts from the first byte
  * of its header, over its segments as if they were one. A name has no byte 0, and one follows it,
  * so in a request of one segment it is a string of C where it lies. What is not there is { 0, 0 }.
@@ -356,7 +361,8 @@ static inline int32_t nizwarf_end(nizwarf_server *server)
 enum {
 	/* The request asks for a call. Nothing was put. */
 	NIZWARF_ASKED = 15,
-	/* The call is none that was asked, or the room is another one. Nothing was put. */
+	/* The call is none that was asked, or the room is another one; or that of nizwarf_serve_ops
+	 * overlaps the request. Nothing was put. */
 	NIZWARF_NOT_ASKED = 16,
 };
 
@@ -381,7 +387,7 @@ typedef struct {
 
 /* Calls, which fields of a nizwarf_call each has, and in brackets the kind of its answer. A number
  * is that of the opcode, but RENAME2 is told as RENAME, and READDIRPLUS as READDIR. `node` is what
- * the request is about, and a directory where there is a name. All have `unique`, `options`,
+ * the request is about: the directory, where there is a name in one. All have `unique`, `options`,
  * `room`, `call` and `answer`, and the caller, but for INIT, DESTROY and those that are told
  * nothing. What isn't named is 0. */
 enum {
@@ -408,7 +414,7 @@ enum {
 	/* node, name, other_node and other_name: where it goes, flags: RENAME_NOREPLACE ..
 	 * (DONE) */
 	NIZWARF_RENAME = 12,
-	/* node: what gets a name, other_node: the directory, name (ENTRY) */
+	/* node: what gets a name, other_node: the directory that gets it, name (ENTRY) */
 	NIZWARF_LINK = 13,
 	/* node, flags: O_RDONLY .., KILL_PRIV (OPENED) */
 	NIZWARF_OPEN = 14,
@@ -424,8 +430,8 @@ enum {
 	NIZWARF_RELEASE = 18,
 	/* node, handle, DATASYNC (DONE) */
 	NIZWARF_FSYNC = 20,
-	/* node, name, data: the value, flags: XATTR_CREATE .., more: bit 0 clears the set-group-ID
-	 * bit (DONE) */
+	/* node, name: that of an attribute, in these four, data: the value, flags: XATTR_CREATE ..,
+	 * more: bit 0 clears the set-group-ID bit (DONE) */
 	NIZWARF_SETXATTR = 21,
 	/* node, name, size: 0 asks for the length (TEXT_OR_COUNT) */
 	NIZWARF_GETXATTR = 22,
@@ -435,12 +441,15 @@ enum {
 	NIZWARF_REMOVEXATTR = 24,
 	/* node, handle, lock_owner (DONE) */
 	NIZWARF_FLUSH = 25,
-	/* length: the options that are offered, readahead (WANT) */
+	/* length: the options that are offered, readahead (WANT). What you take out of `length` before
+	 * you answer isn't agreed on: ATOMIC_O_TRUNC, without which Linux cuts by SETATTR what it
+	 * opens with O_TRUNC; ALLOW_IDMAP (bit 40), which Linux takes only from a mount with
+	 * default_permissions. It refuses everything else then. */
 	NIZWARF_INIT = 26,
 	/* node, flags (OPENED) */
 	NIZWARF_OPENDIR = 27,
-	/* node, handle, offset: that of the last item before, size: of all records, PLUS
-	 * (DIRECTORY) */
+	/* node, handle, offset: that of the last item before, 0 at the beginning, size: of all
+	 * records, PLUS (DIRECTORY) */
 	NIZWARF_READDIR = 28,
 	/* node, handle, flags (DONE) */
 	NIZWARF_RELEASEDIR = 29,
@@ -508,7 +517,8 @@ enum {
 	NIZWARF_QUIET = 0,
 	/* None. */
 	NIZWARF_DONE = 1,
-	/* None, and there is no reply. */
+	/* None. It is a fault, EIO where `error` is 0, but of a NOTIFY_REPLY: that has no reply then,
+	 * and a kernel waits for none. */
 	NIZWARF_FAULT_OR_SILENCE = 2,
 	/* `count`: how many bytes were put behind the first 16 of the room. At most `size` and
 	 * `length`. */
@@ -581,9 +591,9 @@ typedef struct {
 } nizwarf_statfs;
 
 /* An item of a directory: `ino` and `type` (DT_REG ..) are what readdir(3) tells, `offset` is that
- * of a reading that goes on behind it. `name` ends at its only byte 0, which `name_size` counts: an
- * item with another name ends the reading. With PLUS each but `.` and `..` has an entry, or the
- * `error` of its lookup. */
+ * of a reading that goes on behind it, and isn't 0: that begins anew. `name` ends at its only byte 0,
+ * which `name_size` counts, though no range does: one item with another name, and the answer is EIO.
+ * With PLUS each but `.` and `..` has an entry, or the `error` of its lookup. */
 typedef struct {
 	uint64_t ino, offset;
 	const uint8_t *name;
@@ -593,9 +603,10 @@ typedef struct {
 	int32_t error;
 } nizwarf_item;
 
-/* An answer. `error` is 0; or the number of an error; or below 0, which is replied as EIO. What
- * can't be is replied as EIO too: a `count` above what was asked for by a READ, or of 2^32 and more
- * where the reply has 32 bits. A text of 2^32 - 16 bytes or more is replied as ERANGE. Bits of
+/* An answer. `error` is 0; or the number of an error, from 1 to 511, as Linux takes them; any other is
+ * replied as EIO. What can't be is replied as EIO too: a `count` above what was asked for by a READ,
+ * or of 2^32 and more where the reply has 32 bits. A link is for you to keep within the 4095 bytes
+ * that Linux takes, an attribute within the `size` that is asked for. A text of 2^32 - 16 bytes or more is replied as ERANGE. Bits of
  * `open_flags`, and of options, that the protocol doesn't have are left out. */
 typedef struct {
 	int32_t error;
@@ -610,6 +621,9 @@ typedef struct {
 	const nizwarf_item *items;
 	size_t items_len;
 } nizwarf_answer;
+
+/* The last number of an error that Linux takes. */
+enum { NIZWARF_LAST_ERROR = 511 };
 
 /* The answer EIO, in all fields. */
 #define NIZWARF_NO_ANSWER                                                                       \
@@ -726,17 +740,28 @@ static inline int32_t nizwarf_ask(nizwarf_slot *slot, const nizwarf_session *ses
 	return code;
 }
 
+/* Whether an item can't be told: its name is none, or the number of its error. */
+static inline int nizwarf_is_wrong(const nizwarf_item *item)
+{
+	const uint8_t *end = item->name_size ? item->name + item->name_size - 1 : NULL;
+
+	return !end || memchr(item->name, 0, item->name_size) != end || item->error > NIZWARF_LAST_ERROR;
+}
+
 /* Answers a call. NIZWARF_OK: told->len bytes of the rooms are the reply. NIZWARF_ENCODE_MESSAGE:
- * it does not fit, and there is none. NIZWARF_OUT_OF_MEMORY: there is none; or ask again, and give
- * nothing back yet. Others are faults of yours, and `told` says nothing. */
+ * it does not fit, and there is none. NIZWARF_OUT_OF_MEMORY: there is none. You may answer once more,
+ * with the same arguments, and give nothing back before; or leave it, and give back what is told.
+ * Others are faults of yours, and `told` says nothing. */
 static inline int32_t nizwarf_reply(nizwarf_slot *slot, const nizwarf_session *session,
 				    const nizwarf_call *call, const nizwarf_answer *answer,
 				    const nizwarf_room *room, size_t rooms, nizwarf_told *told)
 {
+	const nizwarf_answer wrong = NIZWARF_NO_ANSWER;
 	const nizwarf_item *items;
 	const uint8_t *text;
 	size_t total, i;
 	int32_t code;
+	int is_wrong;
 
 	if (told)
 		memset(told, 0, sizeof(*told));
@@ -753,11 +778,17 @@ static inline int32_t nizwarf_reply(nizwarf_slot *slot, const nizwarf_session *s
 	items = answer->items_len ? answer->items : (const nizwarf_item *)(const void *)answer;
 	if (!text || !items)
 		return NIZWARF_NULL;
-	for (i = 0; i < answer->items_len; i++)
+	is_wrong = answer->error > NIZWARF_LAST_ERROR ||
+		   (!answer->error && call->answer == NIZWARF_FAULT_OR_SILENCE &&
+		    call->call != NIZWARF_NOTIFY_REPLY);
+	for (i = 0; i < answer->items_len; i++) {
 		if (!items[i].name)
 			return NIZWARF_NULL;
-	code = nizwarf_answer_at(slot, session, call, answer, text, answer->text_len,
-				 items, answer->items_len, told);
+		is_wrong |= nizwarf_is_wrong(&items[i]);
+	}
+	code = nizwarf_answer_at(slot, session, call, is_wrong ? &wrong : answer,
+				 text, is_wrong ? 0 : answer->text_len,
+				 items, is_wrong ? 0 : answer->items_len, told);
 	nizwarf_put(slot, room, rooms, told->put);
 	return code;
 }
@@ -786,8 +817,9 @@ size_t nizwarf_print_reply_at(const uint8_t *request, size_t len, const uint8_t 
 /* Says what a request in one piece is, if there are `room` bytes for a reply. NIZWARF_ASKED: it is whole,
  * and asks for `call`. NIZWARF_OK: it needs no file system, and nizwarf_ask would finish it; of an INTERRUPT
  * `*interrupts` is then the number of the request that it wants to end, else it is 0. Others: it is refused,
- * as nizwarf_ask would. Whether a request has as many bytes as its header's `len` says is not judged, since
- * not all servers do.
+ * as nizwarf_ask would. But an INIT of a later major version, in a room of 16 to 79 bytes, is NIZWARF_OK here,
+ * and NIZWARF_ENCODE_MESSAGE there. Whether a request has as many bytes as its header's `len` says is not
+ * judged, since not all servers do.
  *
  * Memory is allocated only for the pairs of a BATCH_FORGET and for a security context: no other request
  * ends in NIZWARF_OUT_OF_MEMORY. */
@@ -803,12 +835,12 @@ static inline int32_t nizwarf_check(const nizwarf_session *session, const void *
 
 /* Writes a request as a line of text, without a newline, as snprintf(3) writes: at most `size` bytes, the last
  * of them a 0, which may cut the line. Answers how many bytes the whole line has without the 0. The line names
- * the opcode and each field, as in
+ * the opcode and each field; of a record that no call is told of, as GETLK's, only if it is whole. As in
  *
  *	LOOKUP unique=3 node=1 uid=0 gid=0 pid=77 name="a"
  *
- * and it has only printable ASCII: `\x` and two hex digits stand for other bytes of a name. A request that is
- * refused ends in `refused=` and why. `options` are those of the session. `text` is NULL only if `size` is 0,
+ * and it has only printable ASCII: `\x` and two hex digits stand for other bytes of a name. A request that
+ * can't be read, or that is answered ENOSYS or EPROTO without a call, ends in `refused=` and why. `options` are those of the session. `text` is NULL only if `size` is 0,
  * and does not overlap the messages; NULL in place of a message is one of no bytes. Nothing is allocated. */
 static inline size_t nizwarf_print_request(const void *request, size_t len, uint64_t options,
 					   char *text, size_t size)

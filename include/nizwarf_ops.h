@@ -9,13 +9,25 @@
  * without one, INIT, DESTROY and FORGET are too, and STATFS tells of names of 255 bytes. Locks,
  * BMAP, IOCTL, POLL and TMPFILE, of which nothing is told, are answered ENOSYS.
  *
- * Nothing here has a state: any number of threads may serve one client with one table, each with a
- * slot, a request, a room and items of its own.
+ * An answer that Linux refuses comes to who asked as an error, and ends nothing: EIO for the number
+ * of an error below 0 or above 511, a link of more than 4095 bytes, and more bytes read, written or
+ * copied than were asked for; ERANGE for an attribute longer than asked for, or than the room. Times
+ * below 0 are 0.
+ *
+ * Any number of threads may serve one client with one table and one session, each with a slot, a
+ * request, a room and items of its own. Here `session->options` are read and written as atomics, by
+ * nothing else: `req->call->options` are those of a call.
+ *
+ * C11, C++11, or C99.
  */
 #ifndef NIZWARF_OPS_H
 #define NIZWARF_OPS_H
 
 #include <errno.h>
+/* (in strict C99 this one has struct timespec, and time.h has not) */
+#include <sched.h>
+#include <sys/stat.h>
+#include <sys/statvfs.h>
 #include <time.h>
 #include "nizwarf.h"
 
@@ -26,16 +38,18 @@ extern "C" {
 /* What is asked. `user` is yours, `call` has the caller: uid, gid, pid, umask, and what is said of
  * a new node by its extensions. `request` has the bytes that ranges are of.
  *
- * uid and gid are 2^32 - 1 where the kernel does not say them: from 6.12 on Linux says them only in
- * calls that make a node. Mount with default_permissions, which has the kernel check permissions. */
+ * Who checks permissions: the kernel, on a mount with default_permissions, or else you. uid and gid
+ * are 2^32 - 1 where ALLOW_IDMAP is agreed on, but in calls that make a node. */
 typedef struct {
 	void *user;
 	const nizwarf_call *call;
 	const uint8_t *request;
 } nizwarf_req;
 
-/* An open file. `flags` are those of open(2), `fh` is what OPEN or CREATE answered, `open_flags`
- * are FOPEN_KEEP_CACHE .. of linux/fuse.h, which OPEN, OPENDIR and CREATE answer. */
+/* An open file. `fh` is what OPEN or CREATE answered. `flags` are those of open(2), for open,
+ * opendir, create, read, write, release and releasedir; `lock_owner` is for read, write, flush and
+ * release; else they are 0. `open_flags` are FOPEN_KEEP_CACHE .. of linux/fuse.h, which OPEN,
+ * OPENDIR and CREATE answer. */
 typedef struct {
 	uint64_t fh, lock_owner;
 	uint32_t flags, open_flags;
@@ -52,8 +66,12 @@ typedef struct {
 typedef struct nizwarf_dir nizwarf_dir;
 
 typedef struct nizwarf_ops {
-	/* `want` begins as READDIRPLUS, if it is in the table and was offered. */
+	/* `capable` are the options that are offered. `want` begins as those of NIZWARF_WANT_USUAL and
+	 * READDIRPLUS that are offered and served: see nizwarf_served. Take out what you don't want,
+	 * add what you do: just what is wanted, offered and served is agreed on. ALLOW_IDMAP takes
+	 * a mount with default_permissions, or Linux refuses everything (ECONNREFUSED). */
 	int (*init)(const nizwarf_req *req, uint64_t capable, uint64_t *want);
+	/* The client goes, and holds no lookup from then on: see nizwarf_end_ops. */
 	void (*destroy)(const nizwarf_req *req);
 	int (*lookup)(const nizwarf_req *req, uint64_t parent, const char *name,
 		      nizwarf_entry_param *e);
@@ -65,6 +83,7 @@ typedef struct nizwarf_ops {
 	int (*setattr)(const nizwarf_req *req, uint64_t ino, const nizwarf_setattr *set,
 		       uint32_t to_set, const nizwarf_file_info *fi,
 		       nizwarf_attr *attr, struct timespec *attr_timeout);
+	/* `size` is at most 4095, which is the most that Linux takes. */
 	int (*readlink)(const nizwarf_req *req, uint64_t ino,
 			char *link, size_t size, size_t *len);
 	int (*mknod)(const nizwarf_req *req, uint64_t parent, const char *name, uint32_t mode,
@@ -79,6 +98,8 @@ typedef struct nizwarf_ops {
 		      uint64_t newparent, const char *newname, uint32_t flags);
 	int (*link)(const nizwarf_req *req, uint64_t ino, uint64_t newparent, const char *newname,
 		    nizwarf_entry_param *e);
+	/* With O_TRUNC, where ATOMIC_O_TRUNC is agreed on, it cuts the file. Without it, and so
+	 * without this function, Linux cuts it by setattr. */
 	int (*open)(const nizwarf_req *req, uint64_t ino, nizwarf_file_info *fi);
 	int (*read)(const nizwarf_req *req, uint64_t ino, size_t size, uint64_t off,
 		    const nizwarf_file_info *fi, void *buf, size_t *len);
@@ -117,6 +138,9 @@ typedef struct nizwarf_ops {
 			       const nizwarf_file_info *fi_out, uint64_t size, uint64_t flags,
 			       size_t *len);
 	int (*syncfs)(const nizwarf_req *req, uint64_t ino);
+	/* Who waits for the request of this number, `call->unique`, wants no longer to: a call of it that
+	 * goes on may end, by EINTR. It comes on another thread, perhaps before that call, or after. */
+	void (*interrupt)(void *user, uint64_t unique);
 } nizwarf_ops;
 
 struct nizwarf_dir {
@@ -129,8 +153,106 @@ struct nizwarf_dir {
 	size_t left;
 };
 
-/* Options of INIT. */
+/* Options of INIT: FUSE_ASYNC_READ .. of linux/fuse.h, which may lack the last one. */
 enum { NIZWARF_WANT_READDIRPLUS = 3 << 13 };
+#define NIZWARF_WANT_ATOMIC_O_TRUNC (UINT64_C(1) << 3)
+#define NIZWARF_WANT_ALLOW_IDMAP (UINT64_C(1) << 40)
+/* ASYNC_READ, ATOMIC_O_TRUNC, BIG_WRITES, AUTO_INVAL_DATA, ASYNC_DIO, PARALLEL_DIROPS, MAX_PAGES,
+ * SUBMOUNTS, INIT_EXT and CREATE_SUPP_GROUP. */
+#define NIZWARF_WANT_USUAL UINT64_C(0x448449029)
+
+/* The longest link that Linux takes. */
+enum { NIZWARF_LONGEST_LINK = 4095 };
+
+/* What a table serves of options. Of locks and HAS_IOCTL_DIR, and HAS_INODE_DAX, it has no functions;
+ * ATOMIC_O_TRUNC takes `open`, READDIRPLUS `readdirplus`, WRITEBACK_CACHE `write`, and SETXATTR_EXT
+ * `setxattr`. */
+static inline uint64_t nizwarf_served(const nizwarf_ops *ops, uint64_t options)
+{
+	options &= ~(UINT64_C(1) << 1 | UINT64_C(1) << 10 | UINT64_C(1) << 11 | UINT64_C(1) << 33);
+	if (!ops->open)
+		options &= ~NIZWARF_WANT_ATOMIC_O_TRUNC;
+	if (!ops->readdirplus)
+		options &= ~(uint64_t)NIZWARF_WANT_READDIRPLUS;
+	if (!ops->write)
+		options &= ~(UINT64_C(1) << 16);
+	if (!ops->setxattr)
+		options &= ~(UINT64_C(1) << 29);
+	return options;
+}
+
+/* A time of so many seconds: 0, if it is less or no number. */
+static inline struct timespec nizwarf_timeout(double seconds)
+{
+	struct timespec time = { 0, 0 };
+
+	if (seconds >= 9223372036854775808.0) {
+		time.tv_sec = (time_t)INT64_MAX;
+	} else if (seconds > 0) {
+		time.tv_sec = (time_t)seconds;
+		time.tv_nsec = (long)((seconds - (double)time.tv_sec) * 1e9);
+	}
+	return time;
+}
+
+/* Attributes as stat(2) tells them. */
+static inline nizwarf_attr nizwarf_attr_of(const struct stat *st)
+{
+	nizwarf_attr attr;
+
+	memset(&attr, 0, sizeof(attr));
+	attr.ino = st->st_ino;
+	attr.size = (uint64_t)st->st_size;
+	attr.blocks = (uint64_t)st->st_blocks;
+	attr.mode = st->st_mode;
+	attr.nlink = (uint32_t)st->st_nlink;
+	attr.uid = st->st_uid;
+	attr.gid = st->st_gid;
+	attr.rdev = (uint32_t)st->st_rdev;
+	attr.blksize = (uint32_t)st->st_blksize;
+	attr.atime = (uint64_t)st->st_atime;
+	attr.mtime = (uint64_t)st->st_mtime;
+	attr.ctime = (uint64_t)st->st_ctime;
+	/* (before POSIX.1-2008 seconds are fields, and so are nanoseconds) */
+#ifdef st_atime
+	attr.atimensec = (uint32_t)st->st_atim.tv_nsec;
+	attr.mtimensec = (uint32_t)st->st_mtim.tv_nsec;
+	attr.ctimensec = (uint32_t)st->st_ctim.tv_nsec;
+#else
+	attr.atimensec = (uint32_t)st->st_atimensec;
+	attr.mtimensec = (uint32_t)st->st_mtimensec;
+	attr.ctimensec = (uint32_t)st->st_ctimensec;
+#endif
+	return attr;
+}
+
+/* What a file system holds, as statvfs(3) tells it. */
+static inline nizwarf_statfs nizwarf_statfs_of(const struct statvfs *st)
+{
+	nizwarf_statfs statfs;
+
+	statfs.bsize = st->f_bsize;
+	statfs.frsize = st->f_frsize;
+	statfs.blocks = st->f_blocks;
+	statfs.bfree = st->f_bfree;
+	statfs.bavail = st->f_bavail;
+	statfs.files = st->f_files;
+	statfs.ffree = st->f_ffree;
+	statfs.namemax = st->f_namemax;
+	return statfs;
+}
+
+static inline uint64_t nizwarf_seconds_of(struct timespec time)
+{
+	return time.tv_sec < 0 ? 0 : (uint64_t)time.tv_sec;
+}
+
+static inline uint32_t nizwarf_nanoseconds_of(struct timespec time)
+{
+	if (time.tv_sec < 0 || time.tv_nsec < 0)
+		return 0;
+	return time.tv_nsec > 999999999 ? 999999999 : (uint32_t)time.tv_nsec;
+}
 
 static inline int nizwarf_is_dot(const char *name)
 {
@@ -143,10 +265,10 @@ static inline nizwarf_entry nizwarf_entry_of(const nizwarf_entry_param *e)
 
 	entry.node = e->ino;
 	entry.generation = e->generation;
-	entry.entry_seconds = (uint64_t)e->entry_timeout.tv_sec;
-	entry.attr_seconds = (uint64_t)e->attr_timeout.tv_sec;
-	entry.entry_nanoseconds = (uint32_t)e->entry_timeout.tv_nsec;
-	entry.attr_nanoseconds = (uint32_t)e->attr_timeout.tv_nsec;
+	entry.entry_seconds = nizwarf_seconds_of(e->entry_timeout);
+	entry.attr_seconds = nizwarf_seconds_of(e->attr_timeout);
+	entry.entry_nanoseconds = nizwarf_nanoseconds_of(e->entry_timeout);
+	entry.attr_nanoseconds = nizwarf_nanoseconds_of(e->attr_timeout);
 	entry.attr = e->attr;
 	return entry;
 }
@@ -175,8 +297,8 @@ static inline int nizwarf_add_item(nizwarf_dir *dir, const char *name, nizwarf_i
 	return 1;
 }
 
-/* Adds an item for readdir. `type` is DT_REG .., `off` that of a reading that goes on behind it. 0:
- * it wasn't added, since there is no more room. */
+/* Adds an item for readdir. `type` is DT_REG .., `off` that of a reading that goes on behind it, and
+ * not 0, which is that of the beginning. 0: it wasn't added, since there is no more room. */
 static inline int nizwarf_add_direntry(nizwarf_dir *dir, const char *name, uint64_t ino,
 				       uint32_t type, uint64_t off)
 {
@@ -190,7 +312,8 @@ static inline int nizwarf_add_direntry(nizwarf_dir *dir, const char *name, uint6
 }
 
 /* Adds an item for readdirplus, with what a lookup of the name answers; of `.` and `..` only their
- * attributes are looked at. 0: it wasn't added, since there is no more room, and was given back. */
+ * attributes are looked at. 0: it wasn't added, since there is no more room, and was given back: by
+ * `forget`, which is called here. */
 static inline int nizwarf_add_direntry_plus(nizwarf_dir *dir, const char *name,
 					    const nizwarf_entry_param *e, uint64_t off)
 {
@@ -218,8 +341,9 @@ static inline nizwarf_file_info nizwarf_file_of(const nizwarf_call *call)
 	nizwarf_file_info fi;
 
 	fi.fh = call->handle;
-	fi.lock_owner = call->lock_owner;
-	fi.flags = call->flags;
+	/* (of these two calls the fields say something else) */
+	fi.lock_owner = call->call == NIZWARF_COPY ? 0 : call->lock_owner;
+	fi.flags = call->call == NIZWARF_SETATTR ? 0 : call->flags;
 	fi.open_flags = 0;
 	return fi;
 }
@@ -327,8 +451,8 @@ static inline int nizwarf_do_attr(const nizwarf_ops *ops, const nizwarf_req *req
 	else if (c->call == NIZWARF_SETATTR)
 		error = NIZWARF_DO(setattr, c->node, &c->attr, c->flags, open, &answer->entry.attr,
 				   &timeout);
-	answer->entry.attr_seconds = (uint64_t)timeout.tv_sec;
-	answer->entry.attr_nanoseconds = (uint32_t)timeout.tv_nsec;
+	answer->entry.attr_seconds = nizwarf_seconds_of(timeout);
+	answer->entry.attr_nanoseconds = nizwarf_nanoseconds_of(timeout);
 	return error;
 }
 
@@ -361,7 +485,8 @@ static inline int nizwarf_do_data(const nizwarf_ops *ops, const nizwarf_req *req
 {
 	const nizwarf_call *c = req->call;
 	const nizwarf_file_info fi = nizwarf_file_of(c);
-	const size_t size = c->call != NIZWARF_READLINK && c->size < space ? c->size : space;
+	const size_t most = c->call == NIZWARF_READLINK ? (size_t)NIZWARF_LONGEST_LINK : c->size;
+	const size_t size = most < space ? most : space;
 	size_t len = 0;
 	int error = ENOSYS;
 
@@ -386,7 +511,7 @@ static inline int nizwarf_do_data(const nizwarf_ops *ops, const nizwarf_req *req
 	else if (len <= size)
 		answer->text_len = len;
 	else if (!error)
-		error = ERANGE;
+		error = c->answer == NIZWARF_TEXT_OR_COUNT ? ERANGE : EIO;
 	return error;
 }
 
@@ -398,7 +523,9 @@ static inline int nizwarf_do_directory(const nizwarf_ops *ops, const nizwarf_req
 	int error;
 
 	dir->left = c->size < dir->left ? c->size : dir->left;
-	if (c->has & NIZWARF_PLUS)
+	if (!dir->most)
+		error = EIO;
+	else if (c->has & NIZWARF_PLUS)
 		error = NIZWARF_DO(readdirplus, c->node, c->offset, &fi, dir);
 	else
 		error = NIZWARF_DO(readdir, c->node, c->offset, &fi, dir);
@@ -413,18 +540,37 @@ static inline int nizwarf_do_written(const nizwarf_ops *ops, const nizwarf_req *
 	const nizwarf_call *c = req->call;
 	const nizwarf_file_info fi = nizwarf_file_of(c);
 	nizwarf_file_info out = fi;
-	size_t size = c->size < c->data.len ? c->size : (size_t)c->data.len, len = 0;
+	uint64_t size = c->size < c->data.len ? c->size : c->data.len;
+	size_t len = 0;
 	int error = ENOSYS;
 
 	out.fh = c->other_handle;
+	if (c->call == NIZWARF_COPY)
+		size = c->length;
 	if (c->call == NIZWARF_WRITE)
-		error = NIZWARF_DO(write, c->node, req->request + c->data.at, size, c->offset, &fi,
-				   &len);
+		error = NIZWARF_DO(write, c->node, req->request + c->data.at, (size_t)size,
+				   c->offset, &fi, &len);
 	else if (c->call == NIZWARF_COPY)
 		/* (its flags stand where others have the owner of a lock) */
 		error = NIZWARF_DO(copy_file_range, c->node, c->offset, &fi, c->other_node,
-				   c->other_offset, &out, c->length, c->lock_owner, &len);
+				   c->other_offset, &out, size, c->lock_owner, &len);
 	answer->count = len;
+	return !error && len > size ? EIO : error;
+}
+
+/* INIT. `count` is then what is to be agreed on. */
+static inline int nizwarf_do_init(const nizwarf_ops *ops, const nizwarf_req *req,
+				  nizwarf_answer *answer)
+{
+	const uint64_t capable = req->call->length, high = UINT64_C(0xffffffff) << 32;
+	uint64_t want = NIZWARF_WANT_USUAL | NIZWARF_WANT_READDIRPLUS;
+	int error;
+
+	want = capable & nizwarf_served(ops, want);
+	error = ops->init ? ops->init(req, capable, &want) : 0;
+	want = capable & nizwarf_served(ops, want);
+	/* (INIT_EXT says that there are others than the first 32) */
+	answer->count = want & high ? want | (capable & 1 << 30) : want;
 	return error;
 }
 
@@ -436,9 +582,7 @@ static inline int nizwarf_do_others(const nizwarf_ops *ops, const nizwarf_req *r
 
 	switch (c->call) {
 	case NIZWARF_INIT:
-		if (ops->readdirplus)
-			answer->count = c->length & NIZWARF_WANT_READDIRPLUS;
-		return ops->init ? ops->init(req, c->length, &answer->count) : 0;
+		return nizwarf_do_init(ops, req, answer);
 	case NIZWARF_STATFS:
 		answer->statfs.namemax = 255;
 		answer->statfs.bsize = answer->statfs.frsize = 512;
@@ -499,11 +643,64 @@ static inline void nizwarf_do_release(const nizwarf_ops *ops, const nizwarf_req 
 		ops->release(req, c->call == NIZWARF_CREATE ? answer->entry.node : c->node, &fi);
 }
 
+/* A session as it is now. Another thread may serve an INIT meanwhile. */
+static inline nizwarf_session nizwarf_session_now(const nizwarf_session *session)
+{
+	nizwarf_session now;
+
+	now.options = __atomic_load_n(&session->options, __ATOMIC_ACQUIRE);
+	now.page_size = session->page_size;
+	now.max_buffer = session->max_buffer;
+	return now;
+}
+
+static inline int nizwarf_overlap(const void *one, size_t one_len, const void *other, size_t other_len)
+{
+	const uintptr_t a = (uintptr_t)one, b = (uintptr_t)other;
+
+	return one_len && other_len && (a < b ? b - a < one_len : a - b < other_len);
+}
+
+/* Makes the call that a request asked for, and answers it. */
+static inline int32_t nizwarf_answer_ops(const nizwarf_ops *ops, const nizwarf_req *req,
+					 nizwarf_slot *slot, nizwarf_session *session,
+					 nizwarf_call *call, nizwarf_dir *dir,
+					 const nizwarf_room *whole, size_t *reply_len)
+{
+	const nizwarf_session now = nizwarf_session_now(session);
+	nizwarf_answer answer = NIZWARF_NO_ANSWER;
+	nizwarf_told told;
+	int32_t code;
+	size_t i;
+
+	answer.error = nizwarf_make_call(ops, req, dir, &answer);
+	/* (what isn't offered isn't agreed on, whether or not the library serves it by itself) */
+	if (call->call == NIZWARF_INIT)
+		call->length &= answer.count;
+	code = nizwarf_reply(slot, &now, call, &answer, whole, 1, &told);
+	*reply_len = (size_t)told.len;
+	if (call->call == NIZWARF_INIT || call->call == NIZWARF_DESTROY)
+		__atomic_store_n(&session->options,
+				 call->call == NIZWARF_DESTROY ? 0 : told.options,
+				 __ATOMIC_RELEASE);
+	if (code != NIZWARF_OK)
+		nizwarf_do_release(ops, req, &answer);
+	nizwarf_give_back(dir, told.give_back);
+	for (i = (size_t)told.taken; i < dir->len; i++)
+		nizwarf_give_back(dir, dir->items[i].entry.node);
+	return code;
+}
+
 /* Serves one request, of `len` bytes in one piece, with one room. The answer is as that of
  * nizwarf_message: NIZWARF_OK, and the first `*reply_len` bytes of the room are the reply; any
- * other code, and there is none. `session->options` change with INIT and DESTROY. What the client
- * does not get is given back by `forget`, and what was opened for it is released first. `items` are
- * room for the items of a directory: of those that don't fit there the client asks again. */
+ * other code, and there is none. But NIZWARF_OUT_OF_MEMORY may come after the call was made, too.
+ * `session->options` change with INIT and DESTROY. What the client does not get is given back by
+ * `forget`, and what was opened for it is released first. `items` are room for the items of a
+ * directory: of those that don't fit there the client asks again, and where `most` is 0 it gets EIO.
+ *
+ * The room is yours alone, and what is put there is read again: of a guest's take none, but memory
+ * of yours with as many bytes, and copy the reply. It does not overlap the request:
+ * NIZWARF_NOT_ASKED, and nothing was done. */
 static inline int32_t nizwarf_serve_ops(const nizwarf_ops *ops, void *user, nizwarf_slot *slot,
 					nizwarf_session *session, const void *request, size_t len,
 					void *room, size_t room_len, nizwarf_item *items,
@@ -511,17 +708,23 @@ static inline int32_t nizwarf_serve_ops(const nizwarf_ops *ops, void *user, nizw
 {
 	const nizwarf_segment piece = { request, len };
 	const nizwarf_room whole = { room, room_len };
-	nizwarf_answer answer = NIZWARF_NO_ANSWER;
+	nizwarf_session now;
 	nizwarf_call call;
 	nizwarf_told told;
 	nizwarf_dir dir;
 	nizwarf_req req;
 	int32_t code;
-	size_t i;
 
 	*reply_len = 0;
-	code = nizwarf_ask(slot, session, &piece, 1, &whole, 1, &call, &told);
+	if (!session)
+		return NIZWARF_NULL;
+	if (nizwarf_overlap(request, len, room, room_len))
+		return NIZWARF_NOT_ASKED;
+	now = nizwarf_session_now(session);
+	code = nizwarf_ask(slot, &now, &piece, 1, &whole, 1, &call, &told);
 	*reply_len = (size_t)told.len;
+	if (told.interrupts && ops->interrupt)
+		ops->interrupt(user, told.interrupts);
 	if (code != NIZWARF_ASKED)
 		return code;
 	req.user = user;
@@ -534,17 +737,25 @@ static inline int32_t nizwarf_serve_ops(const nizwarf_ops *ops, void *user, nizw
 	dir.most = most;
 	dir.names = (uint8_t *)room + (room_len < 16 ? room_len : 16);
 	dir.left = room_len < 16 ? 0 : room_len - 16;
-	answer.error = nizwarf_make_call(ops, &req, &dir, &answer);
-	code = nizwarf_reply(slot, session, &call, &answer, &whole, 1, &told);
-	*reply_len = (size_t)told.len;
-	if (call.call == NIZWARF_INIT || call.call == NIZWARF_DESTROY)
-		session->options = told.options;
-	if (code != NIZWARF_OK)
-		nizwarf_do_release(ops, &req, &answer);
-	nizwarf_give_back(&dir, told.give_back);
-	for (i = (size_t)told.taken; i < dir.len; i++)
-		nizwarf_give_back(&dir, items[i].entry.node);
-	return code;
+	return nizwarf_answer_ops(ops, &req, slot, session, &call, &dir, &whole, reply_len);
+}
+
+/* Calls `destroy` at the end, where no DESTROY came: Linux sends none as /dev/fuse is unmounted. So it
+ * does nothing before an INIT that agreed on options, after a DESTROY, or a second time. No request is
+ * served meanwhile. */
+static inline void nizwarf_end_ops(const nizwarf_ops *ops, void *user, nizwarf_session *session)
+{
+	nizwarf_call call;
+	nizwarf_req req;
+
+	memset(&call, 0, sizeof(call));
+	call.call = NIZWARF_DESTROY;
+	call.options = __atomic_exchange_n(&session->options, 0, __ATOMIC_ACQ_REL);
+	req.user = user;
+	req.call = &call;
+	req.request = (const uint8_t *)"";
+	if (call.options && ops->destroy)
+		ops->destroy(&req);
 }
 
 #ifdef __cplusplus

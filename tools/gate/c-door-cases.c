@@ -321,17 +321,21 @@ static void counts(void)
 	CHECK(reply(&call, &answer, 0, &told) == NIZWARF_OK && is_error(&told, EIO));
 }
 
-/* Errors: a number, one below 0, and 0 where there must be one. */
+/* Errors: a number that Linux takes, others, and 0 where there must be one. */
 static void errors(void)
 {
-	nizwarf_answer answer = { .error = INT32_MAX };
+	nizwarf_answer answer = { .error = NIZWARF_LAST_ERROR };
 	nizwarf_call call;
 	nizwarf_told told;
 
 	begin(NIZWARF_STATFS, 1);
 	add("", 0);
 	call = ask_call(96, 0);
-	CHECK(reply(&call, &answer, 3, &told) == NIZWARF_OK && is_error(&told, INT32_MAX));
+	CHECK(reply(&call, &answer, 3, &told) == NIZWARF_OK && is_error(&told, NIZWARF_LAST_ERROR));
+	answer.error++;
+	CHECK(reply(&call, &answer, 3, &told) == NIZWARF_OK && is_error(&told, EIO));
+	answer.error = INT32_MAX;
+	CHECK(reply(&call, &answer, 3, &told) == NIZWARF_OK && is_error(&told, EIO));
 	answer.error = -1;
 	CHECK(reply(&call, &answer, 3, &told) == NIZWARF_OK && is_error(&told, EIO));
 	answer.error = INT32_MIN;
@@ -343,10 +347,6 @@ static void errors(void)
 	call = ask_call(16, 0);
 	answer.error = 0;
 	CHECK(reply(&call, &answer, 3, &told) == NIZWARF_OK && is_error(&told, EIO));
-	begin(NIZWARF_IOCTL, 1);
-	add("", 0);
-	call = ask_call(16, 0);
-	CHECK(reply(&call, &answer, 3, &told) == NIZWARF_OK && !told.len && !told.put);
 	begin(NIZWARF_DESTROY, 1);
 	add("", 0);
 	session.options = KNOWN_OPTIONS;
@@ -407,23 +407,58 @@ static void long_answers(void)
 	CHECK(u32(ours + 48) == 999999999 && u32(ours + 52) == 999999999);
 }
 
-/* Names of items that are none: the reading ends there. */
-static void wrong_names(void)
+/* Items that are none, among others: a name that does not end at its only 0, and an error that is no number
+ * of one. All of them are given back. */
+static void wrong_items(void)
 {
-	static const nizwarf_item listed[] = {
+	static const nizwarf_item wrong[] = {
+		{ .name = (const uint8_t *)"b", .name_size = 1 },
+		{ .name = (const uint8_t *)"b", .name_size = 0 },
+		{ .name = (const uint8_t *)"b\0c", .name_size = 4 },
+		{ .name = (const uint8_t *)"b", .name_size = 2, .error = NIZWARF_LAST_ERROR + 1 },
+	};
+	nizwarf_item listed[] = {
 		{ .ino = 2, .offset = 1, .name = (const uint8_t *)"a", .name_size = 2 },
-		{ .ino = 3, .offset = 2, .name = (const uint8_t *)"b", .name_size = 1 },
+		{ .ino = 3, .offset = 2, .name = (const uint8_t *)"b", .name_size = 2 },
 		{ .ino = 4, .offset = 3, .name = (const uint8_t *)"c", .name_size = 2 },
 	};
 	const struct fuse_read_in read = { .size = 4096 };
 	const nizwarf_answer answer = { .items = listed, .items_len = 3 };
 	nizwarf_call call;
 	nizwarf_told told;
+	size_t i;
 
 	begin_with(NIZWARF_READDIR, 1, &read, sizeof(read));
 	call = ask_call(8192, 0);
-	CHECK(reply(&call, &answer, 9, &told) == NIZWARF_OK && told.len == 48 && told.taken == 1);
+	CHECK(reply(&call, &answer, 9, &told) == NIZWARF_OK && told.len == 112 && told.taken == 3);
 	CHECK(u64(ours + 16) == 2 && ours[40] == 'a');
+	for (i = 0; i < sizeof(wrong) / sizeof(*wrong); i++) {
+		listed[1] = wrong[i];
+		CHECK(reply(&call, &answer, 9, &told) == NIZWARF_OK && is_error(&told, EIO));
+		CHECK(!told.taken);
+	}
+}
+
+/* Who waits gets an answer, where nothing is told and no fault is answered. */
+static void silences(void)
+{
+	static const uint32_t untold[] = { NIZWARF_GETLK, NIZWARF_SETLK, NIZWARF_SETLKW,
+					   NIZWARF_BMAP, NIZWARF_IOCTL, NIZWARF_POLL };
+	const nizwarf_answer answer = { .error = 0 };
+	nizwarf_call call;
+	nizwarf_told told;
+	size_t i;
+
+	for (i = 0; i < sizeof(untold) / sizeof(*untold); i++) {
+		begin(untold[i], 1);
+		add("", 0);
+		call = ask_call(ROOM, 0);
+		CHECK(reply(&call, &answer, 9, &told) == NIZWARF_OK && is_error(&told, EIO));
+	}
+	begin(NIZWARF_NOTIFY_REPLY, 1);
+	add("", 0);
+	call = ask_call(ROOM, 0);
+	CHECK(reply(&call, &answer, 9, &told) == NIZWARF_OK && !told.len && !told.put);
 }
 
 /* Items of a READDIRPLUS whose lookup failed, and those that have no entry. */
@@ -606,7 +641,8 @@ int main(void)
 	errors();
 	options();
 	long_answers();
-	wrong_names();
+	wrong_items();
+	silences();
 	entries();
 	give_back();
 	codes();

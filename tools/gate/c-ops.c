@@ -3,6 +3,7 @@
  * back; an empty table answers as the header says.
  *
  * tools/gate/c-example.sh links it with the library. Status 0: all is as it should be. */
+#define _GNU_SOURCE
 #include <fcntl.h>
 #include <stdarg.h>
 #include "nizwarf_ops.h"
@@ -29,9 +30,12 @@ static int say(const char *format, ...)
 #define INO ((void)req, (unsigned)ino)
 #define FH ((unsigned)fi->fh)
 
+/* What `init` takes out, and what it adds. */
+static uint64_t declined, added = FUSE_WRITEBACK_CACHE;
+
 static int note_init(const nizwarf_req *req, uint64_t capable, uint64_t *want)
 {
-	*want |= 1 << 16;
+	*want = (*want & ~declined) | added;
 	return say("init %d %x", req->user == said, (unsigned)capable & 3 << 13);
 }
 
@@ -71,14 +75,20 @@ static int note_getattr(REQ, FI, nizwarf_attr *attr, struct timespec *attr_timeo
 static int note_setattr(REQ, const nizwarf_setattr *set, uint32_t to_set, FI, nizwarf_attr *attr,
 			struct timespec *attr_timeout)
 {
-	(void)attr, (void)attr_timeout;
+	(void)attr;
+	CHECK(!fi || (!fi->flags && !fi->lock_owner));
+	attr_timeout->tv_sec = -1;
+	attr_timeout->tv_nsec = 5;
 	return say("setattr %u %x %o %d", INO, to_set, set->mode, fi ? (int)FH : -1);
 }
+
+/* By how many bytes what is answered is longer than it is. */
+static size_t excess;
 
 static int note_readlink(REQ, char *link, size_t size, size_t *len)
 {
 	memcpy(link, "target", 6);
-	*len = 6;
+	*len = excess ? size + excess : 6;
 	return say("readlink %u %zu", INO, size);
 }
 
@@ -133,13 +143,13 @@ static int note_open(REQ, nizwarf_file_info *fi)
 static int note_read(REQ, size_t size, uint64_t off, FI, void *buf, size_t *len)
 {
 	memcpy(buf, "data", 4);
-	*len = 4;
+	*len = excess ? size + excess : 4;
 	return say("read %u %zu %u %u", INO, size, (unsigned)off, FH);
 }
 
 static int note_write(REQ, const void *buf, size_t size, uint64_t off, FI, size_t *len)
 {
-	*len = size;
+	*len = size + excess;
 	return say("write %u %.*s %u %u", INO, (int)size, (const char *)buf, (unsigned)off, FH);
 }
 
@@ -213,7 +223,7 @@ static int note_getxattr(REQ, const char *name, size_t size, void *value, size_t
 {
 	if (size)
 		memcpy(value, "value", 5);
-	*len = 5;
+	*len = excess ? size + excess : 5;
 	return say("getxattr %u %s %zu", INO, name, size);
 }
 
@@ -221,7 +231,7 @@ static int note_listxattr(REQ, size_t size, char *list, size_t *len)
 {
 	if (size)
 		memcpy(list, "user.a", 7);
-	*len = 7;
+	*len = excess ? size + excess : 7;
 	return say("listxattr %u %zu", INO, size);
 }
 
@@ -257,7 +267,8 @@ static int note_lseek(REQ, uint64_t off, uint32_t whence, FI, uint64_t *found)
 static int note_copy(REQ, uint64_t off_in, FI, uint64_t ino_out, uint64_t off_out,
 		     const nizwarf_file_info *fi_out, uint64_t size, uint64_t flags, size_t *len)
 {
-	*len = 16;
+	CHECK(!fi->lock_owner && !fi->flags && !fi_out->lock_owner && !fi_out->flags);
+	*len = excess ? size + excess : 9;
 	return say("copy %u %u %u %u %u %u %u %u", INO, (unsigned)off_in, FH, (unsigned)ino_out,
 		   (unsigned)off_out, (unsigned)fi_out->fh, (unsigned)size, (unsigned)flags);
 }
@@ -267,13 +278,18 @@ static int note_syncfs(const nizwarf_req *req, uint64_t ino)
 	return say("syncfs %u", INO);
 }
 
+static void note_interrupt(void *user, uint64_t unique)
+{
+	say("interrupt %d %u", user == said, (unsigned)unique);
+}
+
 static const nizwarf_ops ops = {
 	note_init, note_destroy, note_lookup, note_forget, note_getattr, note_setattr,
 	note_readlink, note_mknod, note_mkdir, note_unlink, note_rmdir, note_symlink, note_rename,
 	note_link, note_open, note_read, note_write, note_flush, note_release, note_fsync,
 	note_opendir, note_readdir, note_readdirplus, note_releasedir, note_fsyncdir, note_statfs,
 	note_setxattr, note_getxattr, note_listxattr, note_removexattr, note_access, note_create,
-	note_fallocate, note_lseek, note_copy, note_syncfs,
+	note_fallocate, note_lseek, note_copy, note_syncfs, note_interrupt,
 };
 static const nizwarf_ops no_ops;
 static const nizwarf_ops *table = &ops;
@@ -312,8 +328,8 @@ static void expect_record(uint32_t opcode, const void *record, size_t record_len
 /* The replies of the functions that answer more than that it was done. */
 static void answers(void)
 {
-	const struct fuse_setattr_in set = { .valid = FATTR_MODE | FATTR_FH,
-					     .fh = 3, .mode = 0644 };
+	const struct fuse_setattr_in set = { .valid = FATTR_MODE | FATTR_FH | FATTR_LOCKOWNER,
+					     .fh = 3, .mode = 0644, .lock_owner = 5 };
 	const uint32_t zeros[4] = { 0 }, sizes[] = { 100, 0 }, handle[] = { 1, 0, 7, 0 };
 	const uint32_t open[] = { 2, 0 }, create[] = { 1, 0600, 0, 0 };
 	const uint32_t mknod[] = { 0644, 9, 022, 0 };
@@ -326,7 +342,8 @@ static void answers(void)
 	CHECK(u64(ours + 16) == 8 && u32(ours + 24) == 9 && u64(ours + 40) == 7);
 	expect_record(NIZWARF_GETATTR, handle, 16, NULL, NULL, "getattr 2 7", 120);
 	expect_record(NIZWARF_SETATTR, &set, 88, NULL, NULL, "setattr 2 1 644 3", 120);
-	expect_record(NIZWARF_READLINK, zeros, 0, NULL, NULL, "readlink 2 8176", 22);
+	CHECK(!u64(ours + 16) && !u32(ours + 24));
+	expect_record(NIZWARF_READLINK, zeros, 0, NULL, NULL, "readlink 2 4095", 22);
 	CHECK(!memcmp(ours + 16, "target", 6));
 	expect_record(NIZWARF_MKNOD, mknod, 16, "a", NULL, "mknod 2 a 644 9 22", 144);
 	expect_record(NIZWARF_MKDIR, open, 8, "a", NULL, "mkdir 2 a 2", 144);
@@ -360,7 +377,7 @@ static void done(void)
 
 	expect_record(NIZWARF_FORGET, two, 8, NULL, NULL, " forget 2 3", 0);
 	expect_record(NIZWARF_BATCH_FORGET, pairs, 40, NULL, NULL, " forget 5 1 forget 6 2", 0);
-	expect_record(INTERRUPT, interrupt, 8, NULL, NULL, "", 0);
+	expect_record(INTERRUPT, interrupt, 8, NULL, NULL, "interrupt 1 9", 0);
 	expect_record(NIZWARF_UNLINK, two, 0, "a", NULL, "unlink 2 a", 16);
 	expect_record(NIZWARF_RMDIR, two, 0, "a", NULL, "rmdir 2 a", 16);
 	expect_record(NIZWARF_RENAME, two, 8, "a", "b", "rename 2 a 3 b 0", 16);
@@ -386,7 +403,7 @@ static void data(void)
 	const struct fuse_write_in write = { .fh = 4, .offset = 6, .size = 2 };
 	const struct fuse_lseek_in lseek = { .fh = 4, .offset = 6, .whence = 3 };
 	const struct fuse_fallocate_in allocate = { .fh = 4, .offset = 6, .length = 8, .mode = 1 };
-	const struct fuse_copy_file_range_in copy = { 4, 6, 3, 5, 7, 9, 0 };
+	const struct fuse_copy_file_range_in copy = { 4, 6, 3, 5, 7, 9, 15 };
 
 	expect_record(NIZWARF_READ, &read, 40, NULL, NULL, "read 2 100 6 4", 20);
 	CHECK(!memcmp(ours + 16, "data", 4) && ours[20] == FILL);
@@ -398,8 +415,8 @@ static void data(void)
 	expect_record(NIZWARF_LSEEK, &lseek, 24, NULL, NULL, "lseek 2 6 3 4", 24);
 	CHECK(u64(ours + 16) == 15);
 	expect_record(NIZWARF_FALLOCATE, &allocate, 32, NULL, NULL, "fallocate 2 1 6 8 4", 16);
-	expect_record(NIZWARF_COPY, &copy, 56, NULL, NULL, "copy 2 6 4 3 7 5 9 0", 24);
-	CHECK(u32(ours + 16) == 16);
+	expect_record(NIZWARF_COPY, &copy, 56, NULL, NULL, "copy 2 6 4 3 7 5 9 15", 24);
+	CHECK(u32(ours + 16) == 9);
 	failure = EDOM;
 	expect_record(NIZWARF_READ, &read, 40, NULL, NULL, "read 2 100 6 4", 16);
 	CHECK(u32(ours + 4) == (uint32_t)-EDOM);
@@ -420,9 +437,10 @@ static void directories(void)
 	most = 2;
 	expect_record(READDIRPLUS, &read, 40, NULL, NULL, "readdirplus 2 6 4 forget 6 1 2",
 		      16 + 2 * 160);
+	/* (where there is no room for an item, a directory isn't an empty one) */
 	most = 0;
-	expect_record(READDIRPLUS, &read, 40, NULL, NULL,
-		      "readdirplus 2 6 4 forget 5 1 forget 6 1 0", 16);
+	expect_record(READDIRPLUS, &read, 40, NULL, NULL, "", 16);
+	CHECK(u32(ours + 4) == (uint32_t)-EIO);
 	most = 8;
 	read.size = 2 * 160 + 159;
 	expect_record(READDIRPLUS, &read, 40, NULL, NULL, "readdirplus 2 6 4 forget 6 1 2",
@@ -514,6 +532,160 @@ static void sessions(const char *begins, const char *ends, uint32_t wanted)
 	CHECK(!session.options);
 }
 
+/* INIT with these options offered: just these are agreed on, and told. */
+static void expect_options(uint64_t offered, uint64_t agreed)
+{
+	const struct fuse_init_in init = { .major = 7, .minor = 38, .flags = (uint32_t)offered,
+					   .flags2 = (uint32_t)(offered >> 32) };
+	size_t len;
+
+	begin_with(NIZWARF_INIT, 0, &init, sizeof(init));
+	CHECK(nizwarf_serve_ops(table, said, &slot, &session, request, request_len, ours, space, NULL,
+				0, &len) == NIZWARF_OK && len == 80 && !u32(ours + 4));
+	CHECK(session.options == agreed);
+	CHECK(u32(ours + 28) == (uint32_t)agreed && u32(ours + 48) == agreed >> 32);
+}
+
+/* Just what is wanted, offered, and has its functions is agreed on; the reply is that to one who offers
+ * no more. */
+static void options(void)
+{
+	const uint64_t locks = FUSE_POSIX_LOCKS | FUSE_FLOCK_LOCKS | FUSE_HAS_IOCTL_DIR;
+	const uint64_t usual = NIZWARF_WANT_USUAL | NIZWARF_WANT_READDIRPLUS;
+	const uint64_t trunc = FUSE_ATOMIC_O_TRUNC;
+	static nizwarf_ops some;
+	uint8_t told[80];
+
+	added = 0;
+	expect_options(UINT64_MAX, usual);
+	memcpy(told + 16, ours + 16, 64);
+	expect_options(usual, usual);
+	CHECK(!memcmp(told + 16, ours + 16, 64));
+	declined = trunc | FUSE_MAX_PAGES;
+	expect_options(UINT64_MAX, usual & ~declined);
+	added = NIZWARF_WANT_ALLOW_IDMAP | locks;
+	expect_options(UINT64_MAX, (usual & ~declined) | NIZWARF_WANT_ALLOW_IDMAP);
+	expect_options(usual, usual & ~declined);
+	declined = UINT64_MAX;
+	expect_options(UINT64_MAX, NIZWARF_WANT_ALLOW_IDMAP | FUSE_INIT_EXT);
+	added = 0;
+	expect_options(UINT64_MAX, 0);
+	declined = 0;
+	added = usual | FUSE_WRITEBACK_CACHE | FUSE_SETXATTR_EXT;
+	some.init = note_init;
+	table = &some;
+	expect_options(UINT64_MAX, NIZWARF_WANT_USUAL & ~trunc);
+	some.open = note_open;
+	some.write = note_write;
+	expect_options(UINT64_MAX, NIZWARF_WANT_USUAL | FUSE_WRITEBACK_CACHE);
+	some.setxattr = note_setxattr;
+	some.readdirplus = note_readdirplus;
+	expect_options(UINT64_MAX, usual | FUSE_WRITEBACK_CACHE | FUSE_SETXATTR_EXT);
+	table = &no_ops;
+	expect_options(UINT64_MAX, NIZWARF_WANT_USUAL & ~trunc);
+	table = &ops;
+	added = FUSE_WRITEBACK_CACHE;
+}
+
+/* `destroy` is called once for each INIT, by DESTROY or at the end. */
+static void ends(void)
+{
+	expect_options(UINT64_MAX, NIZWARF_WANT_USUAL | NIZWARF_WANT_READDIRPLUS | added);
+	said[0] = 0;
+	nizwarf_end_ops(&ops, said, &session);
+	CHECK(!strcmp(said, "destroy 1") && !session.options);
+	nizwarf_end_ops(&ops, said, &session);
+	CHECK(!strcmp(said, "destroy 1"));
+	expect_options(FUSE_BIG_WRITES, FUSE_BIG_WRITES);
+	begin(NIZWARF_DESTROY, 0);
+	add("", 0);
+	expect("destroy 1", 0);
+	nizwarf_end_ops(&ops, said, &session);
+	CHECK(!strcmp(said, "destroy 1"));
+}
+
+/* An answer that Linux does not take comes to who asked as an error. */
+static void wrong_answers(void)
+{
+	const struct fuse_read_in read = { .fh = 4, .size = 100 };
+	const struct fuse_write_in write = { .fh = 4, .size = 2 };
+	const struct fuse_copy_file_range_in copy = { .len = 9 };
+	static const int none[] = { 512, 600, INT32_MAX, -1, -ENOENT, INT32_MIN };
+	const uint32_t sizes[] = { 100, 0 };
+	size_t i;
+
+#define EXPECT_FAULT(number, opcode, record, size, name, other, words)          \
+	do {                                                                    \
+		expect_record(opcode, record, size, name, other, words, 16);    \
+		CHECK(u32(ours + 4) == (uint32_t)-(number));                    \
+	} while (0)
+	excess = 1;
+	EXPECT_FAULT(EIO, NIZWARF_READLINK, &read, 0, NULL, NULL, "readlink 2 4095");
+	EXPECT_FAULT(EIO, NIZWARF_READ, &read, 40, NULL, NULL, "read 2 100 0 4");
+	EXPECT_FAULT(EIO, NIZWARF_WRITE, &write, 40, "xyz", NULL, "write 2 xy 0 4");
+	EXPECT_FAULT(EIO, NIZWARF_COPY, &copy, 56, NULL, NULL, "copy 2 0 0 0 0 0 9 0");
+	EXPECT_FAULT(ERANGE, NIZWARF_GETXATTR, sizes, 8, "user.a", NULL, "getxattr 2 user.a 100");
+	EXPECT_FAULT(ERANGE, NIZWARF_LISTXATTR, sizes, 8, NULL, NULL, "listxattr 2 100");
+	space = 66;
+	EXPECT_FAULT(ERANGE, NIZWARF_GETXATTR, sizes, 8, "user.a", NULL, "getxattr 2 user.a 50");
+	space = 8192;
+	excess = 0;
+	for (i = 0; i < sizeof(none) / sizeof(*none); i++) {
+		failure = none[i];
+		EXPECT_FAULT(EIO, NIZWARF_LOOKUP, &read, 0, "a", NULL, "lookup 2 a");
+	}
+	failure = NIZWARF_LAST_ERROR;
+	EXPECT_FAULT(NIZWARF_LAST_ERROR, NIZWARF_LOOKUP, &read, 0, "a", NULL, "lookup 2 a");
+	failure = 0;
+#undef EXPECT_FAULT
+}
+
+/* A room that overlaps the request is refused, and nothing is called. */
+static void overlaps(void)
+{
+	static uint8_t both[300];
+	size_t at, len;
+
+	begin(NIZWARF_LOOKUP, 2);
+	add_name("a");
+	for (at = 0; at <= 200 - request_len; at++) {
+		memcpy(both + at, request, request_len);
+		said[0] = 0;
+		CHECK(nizwarf_serve_ops(&ops, said, &slot, &session, both + at, request_len, both + 50,
+					144, NULL, 0, &len) ==
+		      (at + request_len > 50 ? NIZWARF_NOT_ASKED : NIZWARF_OK));
+		CHECK(!said[0] == (at + request_len > 50));
+	}
+	memcpy(both + 194, request, request_len);
+	CHECK(nizwarf_serve_ops(&ops, said, &slot, &session, both + 194, request_len, both + 50, 144, NULL,
+				0, &len) == NIZWARF_OK);
+}
+
+/* Times, and what stat(2) and statvfs(3) tell. */
+static void conversions(void)
+{
+	const nizwarf_entry_param before = { .attr_timeout = { -1, 5 }, .entry_timeout = { 3, -1 } };
+	const nizwarf_entry entry = nizwarf_entry_of(&before);
+	const struct stat st = { .st_ino = 1, .st_size = 2, .st_blocks = 3, .st_mode = S_IFREG | 0640,
+				 .st_nlink = 4, .st_uid = 5, .st_gid = 6, .st_rdev = 7, .st_blksize = 8,
+				 .st_atim = { -9, 10 }, .st_mtim = { 11, 12 }, .st_ctim = { 13, 14 } };
+	const nizwarf_attr attr = { 1, 2, 3, (uint64_t)-9, 11, 13, 10, 12, 14, 0100640, 4, 5, 6, 7, 8, 0 };
+	const struct statvfs fs = { .f_bsize = 1, .f_frsize = 2, .f_blocks = 3, .f_bfree = 4, .f_bavail = 5,
+				    .f_files = 6, .f_ffree = 7, .f_namemax = 8 };
+	const nizwarf_statfs held = { 1, 2, 3, 4, 5, 6, 7, 8 };
+	const nizwarf_attr got = nizwarf_attr_of(&st);
+	const nizwarf_statfs holds = nizwarf_statfs_of(&fs);
+	const double zero = 0;
+
+	CHECK(!entry.attr_seconds && !entry.attr_nanoseconds);
+	CHECK(entry.entry_seconds == 3 && !entry.entry_nanoseconds);
+	CHECK(!memcmp(&got, &attr, sizeof(attr)) && !memcmp(&holds, &held, sizeof(held)));
+	CHECK(nizwarf_timeout(1.5).tv_sec == 1 && nizwarf_timeout(1.5).tv_nsec == 500000000);
+	CHECK(!nizwarf_timeout(-1.5).tv_sec && !nizwarf_timeout(-1.5).tv_nsec);
+	CHECK(!nizwarf_timeout(zero / zero).tv_sec && nizwarf_timeout(1e300).tv_sec == INT64_MAX);
+	CHECK(nizwarf_timeout(1e15 + 0.5).tv_sec == 1000000000000000);
+}
+
 /* What is answered for functions that are not there. */
 static void empty_table(void)
 {
@@ -568,6 +740,12 @@ int main(void)
 	sessions("init 1 6000", "destroy 1",
 		 FUSE_DO_READDIRPLUS | FUSE_READDIRPLUS_AUTO | FUSE_WRITEBACK_CACHE);
 	empty_table();
+	table = &ops;
+	options();
+	ends();
+	wrong_answers();
+	overlaps();
+	conversions();
 	CHECK(nizwarf_end_slot(&slot) == NIZWARF_OK);
 	puts("Each function of a table was called as it is asked for.");
 	return 0;
