@@ -404,6 +404,22 @@ static ssize_t put_reply(struct worker *w, size_t len)
 	return write(w->fd, w->room, len);
 }
 
+/* Writes a reply. If Linux refuses it, who asked gets EIO, if it still waits, and the others are served. 0, or
+ * -1 with errno. */
+static int put_or_refuse(struct worker *w, const struct fuse_in_header *asked, size_t len)
+{
+	const struct fuse_out_header reply = { sizeof(reply), -EIO, asked->unique };
+
+	if (put_reply(w, len) >= 0)
+		return 0;
+	/* ENOENT: who asked no longer waits. ENODEV: nobody does. */
+	if (errno == ENOENT || errno == ENODEV)
+		return 0;
+	fprintf(stderr, "%s: the reply to opcode %u is refused: %s\n", w->of->by->program,
+		(unsigned)asked->opcode, strerror(errno));
+	return write(w->fd, &reply, sizeof(reply)) < 0 && errno != ENOENT && errno != ENODEV ? -1 : 0;
+}
+
 /* Reads a request, and looks before whether one comes soon. */
 static ssize_t read_alone(struct worker *w)
 {
@@ -543,8 +559,7 @@ static enum outcome serve_one(struct worker *w, uint32_t *opcode)
 	w->writes = asked.opcode == FUSE_WRITE && asked.len >= BEFORE_WRITE + LEAST_PIPED;
 	if (!len && w->piped)
 		close_pipe(w);
-	/* ENOENT: who asked no longer waits. ENODEV: nobody does. */
-	if (len && put_reply(w, len) < 0 && errno != ENOENT && errno != ENODEV)
+	if (len && put_or_refuse(w, &asked, len))
 		return failed(w, "write");
 	return SERVED;
 }

@@ -3,8 +3,9 @@
 # an INIT, a MKDIR and a LOOKUP, and checks the replies. Then tools/gate/c-example.c holds the library against
 # what the header says, also where each allocation is refused in turn. tools/gate/c-hello.c asks a few requests
 # of examples/c/hello.c, a file system over the library vfs_door; tools/gate/c-door.c,
-# tools/gate/c-door-cases.c, tools/gate/c-door-threads.c, tools/gate/c-ops.c and tools/gate/c-text.c hold that
-# library against what the headers say. All that runs under the sanitizers of the compiler too, if it has them.
+# tools/gate/c-door-cases.c, tools/gate/c-door-threads.c, tools/gate/c-ops.c, tools/gate/c-ops-threads.c and
+# tools/gate/c-text.c hold that library against what the headers say; as root tools/gate/c-mounted.c mounts a
+# table of wrong answers. All that runs under the sanitizers of the compiler too, if it has them.
 # All names that the libraries define begin with `nizwarf_`. Last, tools/package.sh packs the libraries, and the
 # examples are built by pkg-config against what is installed of that, shared and static, and do the same.
 #
@@ -56,6 +57,21 @@ counted=(-Wl,--wrap=malloc -Wl,--wrap=realloc -Wl,--wrap=free)
 sanitized=(-g -O1 -fsanitize=address,undefined -fno-sanitize-recover=all)
 threaded=(-g -O1 -fsanitize=thread -pthread)
 
+# Mounts, compiled with these flags, if that can be.
+run_mounted() {
+    local status=0
+    if [ "$(id -u)" != 0 ] || ! [ -w /dev/fuse ]; then
+        echo "Missing: root and /dev/fuse, so nothing is mounted." >&2
+        return
+    fi
+    compile tools/gate/c-mounted.c "$here/examples/c/fuse_device.c" -pthread "$@"
+    timeout -k 5 60 "$folder/program" 2> "$folder/said" || status=$?
+    if [ $status != 0 ]; then
+        cat "$folder/said" >&2
+    fi
+    return $status
+}
+
 # The examples and the tests, compiled with these flags.
 run_all() {
     compile examples/c/serve.c "$@"
@@ -66,8 +82,11 @@ run_all() {
     mv "$folder/program" "$folder/hello"
     compile tools/gate/c-hello.c "$@"
     timeout 60 "$folder/program" "$folder/hello"
+    run_mounted "$@"
     compile tools/gate/c-ops.c "$@"
     "$folder/program"
+    compile tools/gate/c-ops-threads.c "$@" -pthread
+    timeout 60 "$folder/program"
     compile tools/gate/c-door.c "$@"
     "$folder/program" "$folder/recorded"
     compile tools/gate/c-door-cases.c "$@" "${counted[@]}"
@@ -82,6 +101,8 @@ run_all() {
 sed -n '/^# What kernels asked/,/^# The corpus/p' "$here/crates/vfs_sessions/stdin" > "$folder/recorded"
 
 run_all -O2
+echo '#include "nizwarf_ops.h"' \
+    | cc -std=c99 -pedantic -Wall -Wextra -Wconversion -Werror -I "$here/include" -fsyntax-only -x c -
 if command -v c++ > /dev/null; then
     echo '#include "nizwarf_ops.h"' \
         | c++ -std=c++11 -Wall -Wextra -Werror -I "$here/include" -fsyntax-only -x c++ -
@@ -89,8 +110,10 @@ fi
 if has_flags "${sanitized[@]}"; then
     run_all "${sanitized[@]}" > /dev/null
     if has_flags "${threaded[@]}"; then
-        compile tools/gate/c-door-threads.c "${threaded[@]}"
-        timeout 60 "$folder/program" > /dev/null
+        for name in c-door-threads c-ops-threads; do
+            compile tools/gate/$name.c "${threaded[@]}"
+            timeout 60 "$folder/program" > /dev/null
+        done
     fi
     echo "The sanitizers found nothing."
 fi
