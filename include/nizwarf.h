@@ -348,7 +348,8 @@ static inline int32_t nizwarf_end(nizwarf_server *server)
  * Threads. Neither has a state besides its arguments. A slot is lent to one call at a time, and
  * holds nothing from one call to the next. So one slot a thread will do, with any number of
  * requests in flight, and with requests that are answered on another thread. A session is only
- * read; you write its options. No request is in flight beside an INIT or a DESTROY of a kernel.
+ * read; you write its options. No request is in flight beside an INIT or a DESTROY of a kernel, but
+ * one of a guest may be: hand in copies then, of options that are atomic.
  *
  * Memory is that of slots. One is as long as the longest room in which a reply was put together: to ask
  * takes 80 bytes at most, and to answer a READ 16. nizwarf_end_slot gives it back.

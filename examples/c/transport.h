@@ -12,7 +12,7 @@
  * those of a READ's reply begin at a page. Over io_uring each is in three segments, the header, the
  * record and the rest, with two rooms, of which the second is where the rest stands. A virtual
  * machine gives a room in any pieces, right in its memory: the reply is written there, and must not
- * be read back. Its requests are copied into one segment, since it may change its memory at any
+ * be read back. So a table has its reply in memory of yours there, to be copied. Its requests are copied into one segment, since it may change its memory at any
  * time. With `writes_in_place` the data of a WRITE are not: they come in segments behind the first,
  * which has the header and the record. Nothing is to be believed of them that is read twice; the
  * door reads none of them. */
@@ -101,8 +101,9 @@ int fuse_device_unmount(const transport *by, const char *folder);
 /* Serves a device until it is unmounted, and closes it. A first signal unmounts the folder; where
  * that is in use it goes with its last user, or at a second signal. The folder is NULL if somebody
  * else mounted it: a signal ends the serving then. The device may be a socket that keeps messages
- * apart, and is served until the other end is closed. 0: it ended so; 1: it failed, and said
- * why. */
+ * apart, and is served until the other end is closed. A reply that Linux refuses becomes EIO. Linux
+ * sends no DESTROY: end your file system then, as nizwarf_end_ops does. 0: it ended so; 1: it failed,
+ * and said why. */
 int fuse_device_serve(const transport *by, int device, const char *folder);
 
 /* Both move the data of the request that the calling worker serves right between a file and the kernel.

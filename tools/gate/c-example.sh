@@ -83,7 +83,7 @@ run_all() {
     compile tools/gate/c-hello.c "$@"
     timeout 60 "$folder/program" "$folder/hello"
     run_mounted "$@"
-    compile tools/gate/c-ops.c "$@"
+    compile tools/gate/c-ops.c "$@" "${counted[@]}"
     "$folder/program"
     compile tools/gate/c-ops-threads.c "$@" -pthread
     timeout 60 "$folder/program"

@@ -7,6 +7,7 @@
 #include <fcntl.h>
 #include <stdarg.h>
 #include "nizwarf_ops.h"
+#include "c-allocations.h"
 #include "c-door.h"
 
 /* What was called since the last request, and what each function answers. */
@@ -640,6 +641,44 @@ static void wrong_answers(void)
 #undef EXPECT_FAULT
 }
 
+/* Where an allocation is refused, before the call or behind it, the client is left with nothing. */
+static void expect_undone(uint32_t opcode, const void *record, size_t record_len, const char *name,
+			  const char *words)
+{
+	const long kept = live;
+	int32_t code = NIZWARF_OUT_OF_MEMORY;
+	size_t len;
+
+	begin_with(opcode, 2, record, record_len);
+	add(name, strlen(name) + (*name != 0));
+	for (refused = 1; code != NIZWARF_OK; refused++) {
+		nizwarf_slot fresh = NIZWARF_NONE;
+
+		session.options = FUSE_BIG_WRITES;
+		asked = said[0] = 0;
+		code = nizwarf_serve_ops(&ops, said, &fresh, &session, request, request_len, ours, space, NULL,
+					 0, &len);
+		CHECK(code == NIZWARF_OK || (code == NIZWARF_OUT_OF_MEMORY && !len));
+		CHECK(code == NIZWARF_OK || !said[0] || !strcmp(said, words));
+		CHECK((opcode != NIZWARF_DESTROY || !said[0]) == (session.options == FUSE_BIG_WRITES));
+		nizwarf_end_slot(&fresh);
+		CHECK(live == kept);
+	}
+	CHECK(refused > 2);
+	refused = 0;
+	session.options = 0;
+}
+
+static void no_memory(void)
+{
+	const struct fuse_create_in created = { .flags = O_RDWR, .mode = 0644 };
+
+	expect_undone(NIZWARF_LOOKUP, "", 0, "a", "lookup 2 a forget 5 1");
+	expect_undone(NIZWARF_OPENDIR, &created, 8, "", "opendir 2releasedir 2 12");
+	expect_undone(NIZWARF_CREATE, &created, 16, "a", "create 2 a 644 2release 5 14 2 forget 5 1");
+	expect_undone(NIZWARF_DESTROY, "", 0, "", "destroy 1");
+}
+
 /* A room that overlaps the request is refused, and nothing is called. */
 static void overlaps(void)
 {
@@ -744,6 +783,7 @@ int main(void)
 	options();
 	ends();
 	wrong_answers();
+	no_memory();
 	overlaps();
 	conversions();
 	CHECK(nizwarf_end_slot(&slot) == NIZWARF_OK);
