@@ -741,12 +741,13 @@ static inline int32_t nizwarf_ask(nizwarf_slot *slot, const nizwarf_session *ses
 	return code;
 }
 
-/* Whether an item can't be told: its name is none, or the number of its error. */
-static inline int nizwarf_is_wrong(const nizwarf_item *item)
+/* Whether an item can't be told: its name is none, or with PLUS the number of its error. */
+static inline int nizwarf_is_wrong(const nizwarf_item *item, int plus)
 {
 	const uint8_t *end = item->name_size ? item->name + item->name_size - 1 : NULL;
 
-	return !end || memchr(item->name, 0, item->name_size) != end || item->error > NIZWARF_LAST_ERROR;
+	return !end || memchr(item->name, 0, item->name_size) != end ||
+	       (plus && item->error > NIZWARF_LAST_ERROR);
 }
 
 /* Answers a call. NIZWARF_OK: told->len bytes of the rooms are the reply. NIZWARF_ENCODE_MESSAGE:
@@ -757,7 +758,7 @@ static inline int32_t nizwarf_reply(nizwarf_slot *slot, const nizwarf_session *s
 				    const nizwarf_call *call, const nizwarf_answer *answer,
 				    const nizwarf_room *room, size_t rooms, nizwarf_told *told)
 {
-	const nizwarf_answer wrong = NIZWARF_NO_ANSWER;
+	static const nizwarf_answer wrong = NIZWARF_NO_ANSWER;
 	const nizwarf_item *items;
 	const uint8_t *text;
 	size_t total, i;
@@ -785,7 +786,7 @@ static inline int32_t nizwarf_reply(nizwarf_slot *slot, const nizwarf_session *s
 	for (i = 0; i < answer->items_len; i++) {
 		if (!items[i].name)
 			return NIZWARF_NULL;
-		is_wrong |= nizwarf_is_wrong(&items[i]);
+		is_wrong |= nizwarf_is_wrong(&items[i], (call->has & NIZWARF_PLUS) != 0);
 	}
 	code = nizwarf_answer_at(slot, session, call, is_wrong ? &wrong : answer,
 				 text, is_wrong ? 0 : answer->text_len,

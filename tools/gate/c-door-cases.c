@@ -428,15 +428,19 @@ static void wrong_items(void)
 	nizwarf_told told;
 	size_t i;
 
-	begin_with(NIZWARF_READDIR, 1, &read, sizeof(read));
+	begin_with(READDIRPLUS, 1, &read, sizeof(read));
 	call = ask_call(8192, 0);
-	CHECK(reply(&call, &answer, 9, &told) == NIZWARF_OK && told.len == 112 && told.taken == 3);
-	CHECK(u64(ours + 16) == 2 && ours[40] == 'a');
+	CHECK(reply(&call, &answer, 9, &told) == NIZWARF_OK && told.len == 16 + 3 * 160 && told.taken == 3);
 	for (i = 0; i < sizeof(wrong) / sizeof(*wrong); i++) {
 		listed[1] = wrong[i];
 		CHECK(reply(&call, &answer, 9, &told) == NIZWARF_OK && is_error(&told, EIO));
 		CHECK(!told.taken);
 	}
+	/* (without PLUS no error is looked at) */
+	begin_with(NIZWARF_READDIR, 1, &read, sizeof(read));
+	call = ask_call(8192, 0);
+	CHECK(reply(&call, &answer, 9, &told) == NIZWARF_OK && told.len == 112 && told.taken == 3);
+	CHECK(u64(ours + 16) == 2 && ours[40] == 'a');
 }
 
 /* Who waits gets an answer, where nothing is told and no fault is answered. */
