@@ -842,8 +842,9 @@ static inline int32_t nizwarf_check(const nizwarf_session *session, const void *
  *	LOOKUP unique=3 node=1 uid=0 gid=0 pid=77 name="a"
  *
  * and it has only printable ASCII: `\x` and two hex digits stand for other bytes of a name. A request that
- * can't be read, or that is answered ENOSYS or EPROTO without a call, ends in `refused=` and why. `options` are those of the session. `text` is NULL only if `size` is 0,
- * and does not overlap the messages; NULL in place of a message is one of no bytes. Nothing is allocated. */
+ * can't be read, or that is answered ENOSYS or EPROTO without a call, ends in `refused=` and why. `options` are
+ * those of the session. `text` is NULL only if `size` is 0, and does not overlap the messages; NULL in place of
+ * a message is one of no bytes. Nothing is allocated. */
 static inline size_t nizwarf_print_request(const void *request, size_t len, uint64_t options,
 					   char *text, size_t size)
 {

@@ -693,7 +693,8 @@ static inline int32_t nizwarf_answer_ops(const nizwarf_ops *ops, const nizwarf_r
 
 /* Serves one request, of `len` bytes in one piece, with one room. The answer is as that of
  * nizwarf_message: NIZWARF_OK, and the first `*reply_len` bytes of the room are the reply; any
- * other code, and there is none. But NIZWARF_OUT_OF_MEMORY may come after the call was made, too.
+ * other code, and there is none, though the kernel behind /dev/fuse waits for one: write it EIO, as
+ * fuse_device.c does. NIZWARF_OUT_OF_MEMORY may come after the call was made, too.
  * `session->options` change with INIT and DESTROY. What the client does not get is given back by
  * `forget`, and what was opened for it is released first. `items` are room for the items of a
  * directory: of those that don't fit there the client asks again, and where `most` is 0 it gets EIO.
