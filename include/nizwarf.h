@@ -593,7 +593,7 @@ typedef struct {
 
 /* An item of a directory: `ino` and `type` (DT_REG ..) are what readdir(3) tells, `offset` is that
  * of a reading that goes on behind it, and isn't 0: that begins anew. `name` ends at its only byte 0,
- * which `name_size` counts, though no range does: one item with another name, and the answer is EIO.
+ * which `name_size` counts, though no range does: where an item has another name the answer is EIO.
  * With PLUS each but `.` and `..` has an entry, or the `error` of its lookup. */
 typedef struct {
 	uint64_t ino, offset;
@@ -750,6 +750,25 @@ static inline int nizwarf_is_wrong(const nizwarf_item *item, int plus)
 	       (plus && item->error > NIZWARF_LAST_ERROR);
 }
 
+/* Whether a directory was read up to an item that can't be told. */
+static inline int nizwarf_is_cut(const nizwarf_call *call, const nizwarf_answer *answer, uint64_t taken)
+{
+	return call->answer == NIZWARF_DIRECTORY && !answer->error && taken < answer->items_len &&
+	       nizwarf_is_wrong(&answer->items[taken], (call->has & NIZWARF_PLUS) != 0);
+}
+
+/* Answers EIO in place of what can't be told. */
+static inline int32_t nizwarf_answer_fault(nizwarf_slot *slot, const nizwarf_session *session,
+					   const nizwarf_call *call, nizwarf_told *told)
+{
+	static const nizwarf_answer fault = NIZWARF_NO_ANSWER;
+
+	memset(told, 0, sizeof(*told));
+	told->options = call->options;
+	return nizwarf_answer_at(slot, session, call, &fault, (const uint8_t *)&fault, 0,
+				 (const nizwarf_item *)(const void *)&fault, 0, told);
+}
+
 /* Answers a call. NIZWARF_OK: told->len bytes of the rooms are the reply. NIZWARF_ENCODE_MESSAGE:
  * it does not fit, and there is none. NIZWARF_OUT_OF_MEMORY: there is none. You may answer once more,
  * with the same arguments, and give nothing back before; or leave it, and give back what is told.
@@ -758,12 +777,10 @@ static inline int32_t nizwarf_reply(nizwarf_slot *slot, const nizwarf_session *s
 				    const nizwarf_call *call, const nizwarf_answer *answer,
 				    const nizwarf_room *room, size_t rooms, nizwarf_told *told)
 {
-	static const nizwarf_answer wrong = NIZWARF_NO_ANSWER;
 	const nizwarf_item *items;
 	const uint8_t *text;
 	size_t total, i;
 	int32_t code;
-	int is_wrong;
 
 	if (told)
 		memset(told, 0, sizeof(*told));
@@ -780,17 +797,16 @@ static inline int32_t nizwarf_reply(nizwarf_slot *slot, const nizwarf_session *s
 	items = answer->items_len ? answer->items : (const nizwarf_item *)(const void *)answer;
 	if (!text || !items)
 		return NIZWARF_NULL;
-	is_wrong = answer->error > NIZWARF_LAST_ERROR ||
-		   (!answer->error && call->answer == NIZWARF_FAULT_OR_SILENCE &&
-		    call->call != NIZWARF_NOTIFY_REPLY);
-	for (i = 0; i < answer->items_len; i++) {
+	for (i = 0; i < answer->items_len; i++)
 		if (!items[i].name)
 			return NIZWARF_NULL;
-		is_wrong |= nizwarf_is_wrong(&items[i], (call->has & NIZWARF_PLUS) != 0);
-	}
-	code = nizwarf_answer_at(slot, session, call, is_wrong ? &wrong : answer,
-				 text, is_wrong ? 0 : answer->text_len,
-				 items, is_wrong ? 0 : answer->items_len, told);
+	code = nizwarf_answer_at(slot, session, call, answer, text, answer->text_len,
+				 items, answer->items_len, told);
+	if (code == NIZWARF_OK &&
+	    (answer->error > NIZWARF_LAST_ERROR || nizwarf_is_cut(call, answer, told->taken) ||
+	     (!answer->error && call->answer == NIZWARF_FAULT_OR_SILENCE &&
+	      call->call != NIZWARF_NOTIFY_REPLY)))
+		code = nizwarf_answer_fault(slot, session, call, told);
 	nizwarf_put(slot, room, rooms, told->put);
 	return code;
 }

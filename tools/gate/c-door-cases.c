@@ -423,7 +423,7 @@ static void wrong_items(void)
 		{ .ino = 4, .offset = 3, .name = (const uint8_t *)"c", .name_size = 2 },
 	};
 	const struct fuse_read_in read = { .size = 4096 };
-	const nizwarf_answer answer = { .items = listed, .items_len = 3 };
+	nizwarf_answer answer = { .items = listed, .items_len = 3 };
 	nizwarf_call call;
 	nizwarf_told told;
 	size_t i;
@@ -431,16 +431,25 @@ static void wrong_items(void)
 	begin_with(READDIRPLUS, 1, &read, sizeof(read));
 	call = ask_call(8192, 0);
 	CHECK(reply(&call, &answer, 9, &told) == NIZWARF_OK && told.len == 16 + 3 * 160 && told.taken == 3);
-	for (i = 0; i < sizeof(wrong) / sizeof(*wrong); i++) {
-		listed[1] = wrong[i];
+	for (i = 0; i < 3 * sizeof(wrong) / sizeof(*wrong); i++) {
+		const nizwarf_item right = listed[i % 3];
+
+		listed[i % 3] = wrong[i / 3];
 		CHECK(reply(&call, &answer, 9, &told) == NIZWARF_OK && is_error(&told, EIO));
-		CHECK(!told.taken);
+		CHECK(!told.taken && !told.options);
+		listed[i % 3] = right;
 	}
+	listed[0] = wrong[0];
+	answer.error = ENOTDIR;
+	CHECK(reply(&call, &answer, 9, &told) == NIZWARF_OK && is_error(&told, ENOTDIR));
+	answer.error = 0;
+	listed[0] = listed[1];
 	/* (without PLUS no error is looked at) */
+	listed[1].error = NIZWARF_LAST_ERROR + 1;
 	begin_with(NIZWARF_READDIR, 1, &read, sizeof(read));
 	call = ask_call(8192, 0);
 	CHECK(reply(&call, &answer, 9, &told) == NIZWARF_OK && told.len == 112 && told.taken == 3);
-	CHECK(u64(ours + 16) == 2 && ours[40] == 'a');
+	CHECK(u64(ours + 16) == 3 && ours[40] == 'b');
 }
 
 /* Who waits gets an answer, where nothing is told and no fault is answered. */
