@@ -179,29 +179,127 @@ try_kill() {
     ! mountpoint -q "$work/mount" || wrong "a mount is left of a server that was killed"
 }
 
-# Who isn't root has a sandbox too, if the kernel lets users make namespaces.
+# Code that got into the server has no way out of its sandbox: a program has its place, and the server itself is
+# looked at from outside.
+try_escape() {
+    local from=$here/examples/c came sandbox filter seccomp=() links=()
+    ! "$share" --version | grep -q "with libseccomp" || seccomp=(-DWITH_SECCOMP)
+    [ "${#seccomp[@]}" = 0 ] || links=(-lseccomp)
+    cc -std=c11 -O2 -Wall -Wextra -Werror -pthread "${seccomp[@]}" -I "$here/include" -o "$work/escape" \
+        "$here/tools/lib/escape.c" "$from/share_sandbox.c" "$from/share_users.c" "$from/passthrough_who.c" "${links[@]}"
+    mkdir -p "$work/folder"
+    touch "$work/outside"
+    for sandbox in namespace chroot; do
+        for filter in none ${seccomp:+kill}; do
+            came=0
+            timeout 20 "$work/escape" "$sandbox" "$filter" "$work/folder" "$work/outside" > "$work/said" 2>&1 || came=$?
+            # (the filter ends it at the call that opens a handle)
+            if [ "$filter" = kill ] && [ "$(cat "$work/said")" = "nizwarf-share: signal 31 ended the server" ]; then
+                came=0
+                : > "$work/said"
+            elif [ "$filter" = kill ]; then
+                came="$came, and no signal"
+            fi
+            if [ "$came" != 0 ] || [ -s "$work/said" ]; then
+                wrong "a way out of the sandbox $sandbox, with the filter $filter: status $came, $(cat "$work/said")"
+            fi
+        done
+        for filter in never prefer; do
+            hold_server "$filter" "--sandbox=$sandbox" "--inode-file-handles=$filter" || wrong "the server in the sandbox $sandbox, with handles $filter"
+        done
+    done
+    hold_server never || wrong "the server without a word for its sandbox"
+    hold_server never --sandbox=none || wrong "the server without a sandbox"
+    echo "There is no way out of a sandbox, and no capability that isn't wanted."
+}
+
+# What a server has: capabilities, and directories, of which no `..` is another one. HANDLES WORDS
+hold_server() {
+    local came=0
+    "$share" --log-level=error "${@:2}" --socket-path="$work/held" "$work/folder" &
+    server=$!
+    timeout 20 python3 - "$server" "$work/folder" "$work/held" "$@" << 'PYTHON' || came=1
+import os, re, socket, sys, time
+parent, folder, path, handles, *words = sys.argv[1:]
+while not os.path.exists(path):
+    time.sleep(0.02)
+with open(f"/proc/{parent}/task/{parent}/children") as children:
+    server = "/proc/" + (children.read().split() or [parent])[0]
+# CAP_CHOWN, DAC_OVERRIDE, FOWNER, FSETID, SETGID, SETUID, MKNOD and SETFCAP; and by handles DAC_READ_SEARCH.
+may = 0x880000DB | (4 if handles == "prefer" else 0)
+for _ in range(100):
+    with open(server + "/status") as status:
+        has = {name: int(bits, 16) for name, bits in re.findall(r"Cap(\w+):\t(\w+)", status.read())}
+    if has["Prm"] == may:
+        break
+    time.sleep(0.05)
+assert has == {"Inh": 0, "Prm": may, "Eff": may, "Bnd": 0, "Amb": 0}, has
+directories = [server + "/cwd", *(f"{server}/fd/{fd}" for fd in os.listdir(server + "/fd"))]
+for each in directories if "--sandbox=none" not in words else []:
+    # (in a chroot the root's parent is outside, where who is in it doesn't come)
+    if os.path.isdir(each) and not ("--sandbox=chroot" in words and os.path.samefile(each, folder)):
+        assert os.path.samefile(each + "/.", each + "/.."), f"{each}: {os.readlink(each)}"
+PYTHON
+    kill "$server"
+    wait "$server" || came=1
+    server=
+    return "$came"
+}
+
+# Asks for directories, each NAME:UID:GID of who asks, and says what came: ask_directories SOCKET NAME..
+ask_directories() {
+    python3 -B - "$here/tools/compare/beside" "${@:2}" << 'PYTHON' | timeout 60 "$here/out/c/ask" "$1" > "$work/said"
+import struct, sys
+sys.path.insert(0, sys.argv[1])
+from requests import FIRST, line
+print(FIRST[1])
+for made in sys.argv[2:]:
+    name, uid, gid = made.split(":")
+    body = struct.pack("<II", 0o755, 0) + name.encode() + b"\0"
+    header = struct.pack("<IIQQIIIHH", 40 + len(body), 9, 2, 1, int(uid), int(gid), 1, 0, 0)
+    print(line("16+128", header + body))
+PYTHON
+}
+
+# Who isn't root has a sandbox too, if the kernel lets users make namespaces, and is root in it if ids are mapped.
 try_user() {
-    local user=(setpriv --reuid=65534 --regid=65534 --clear-groups)
+    local user=(setpriv --reuid=65534 --regid=65534 --clear-groups) own words wanted
     if ! "${user[@]}" unshare --user true 2> /dev/null; then
         echo "Users can't make namespaces here: a share by one was left out." >&2
         return
     fi
-    mkdir "$work/user"
-    chown 65534 "$work/user"
     cp "$share" "$work/share"
-    "${user[@]}" "$work/share" --log-level=warn --socket-path="$work/user/socket" "$work/user" &
-    server=$!
-    python3 -B - "$here/tools/compare/beside" << 'PYTHON' | timeout 60 "$here/out/c/ask" "$work/user/socket" > "$work/said"
-import struct, sys
-sys.path.insert(0, sys.argv[1])
-from requests import FIRST, line, request
-print(FIRST[1], line("16+128", request(9, struct.pack("<II", 0o755, 0) + b"made\0")), sep="\n")
-PYTHON
-    [ "$(stat -c %u "$work/user/made")" = 65534 ] || wrong "a share by a user: $(cat "$work/said")"
-    kill "$server"
-    wait "$server" || wrong "a share by a user ended with $?"
-    server=
-    echo "A user shares a folder in a sandbox."
+    own="--uid-map=:0:65534:1: --gid-map=+0+65534+1+"
+    for words in "=65534:65534" "$own=65534:65534" "--uid-map=:0:65534:1:=65534:65534" \
+        "$own --uid-map=:1:200000:1000: --gid-map=:1:300000:1000:=65534:65534 200006:300004"; do
+        wanted=${words##*=}
+        if [ "$wanted" != "${wanted% *}" ]; then
+            if ! command -v newuidmap > /dev/null || [ ! -e /etc/subuid ] || [ ! -e /etc/subgid ]; then
+                echo "There is no newuidmap here: ids by subuid(5) were left out. \`apt-get install uidmap\` has it." >&2
+                continue
+            fi
+            # (this namespace of mounts is the script's own)
+            echo nobody:200000:1000 > "$work/subuid"
+            echo nobody:300000:1000 > "$work/subgid"
+            mount --bind "$work/subuid" /etc/subuid
+            mount --bind "$work/subgid" /etc/subgid
+        fi
+        rm -rf "$work/user"
+        mkdir "$work/user"
+        chown 65534:65534 "$work/user"
+        # shellcheck disable=SC2086
+        "${user[@]}" "$work/share" --log-level=warn ${words%=*} --socket-path="$work/user/socket" "$work/user" &
+        server=$!
+        ask_directories "$work/user/socket" made1:0:0 made2:7:5 || true
+        [ "$(stat -c %u:%g "$work/user"/made* | sort -u | xargs)" = "$(echo "$wanted" | xargs -n1 | sort -u | xargs)" ] ||
+            wrong "a share by a user, with ${words%=*}: $(stat -c "%n %u:%g" "$work/user"/made*) $(cat "$work/said")"
+        kill "$server"
+        wait "$server" || wrong "a share by a user ended with $?, with ${words%=*}"
+        server=
+        [ ! -e "$work/user/socket" ] || wrong "the socket of a user is left, with ${words%=*}"
+    done
+    umount -q /etc/subuid /etc/subgid || true
+    echo "A user shares a folder in a sandbox, also as root of its own ids."
 }
 
 # By the capability for it attributes of trusted.* are served, and not without. What a server lacks it can't do.
@@ -342,6 +440,7 @@ try_words() {
         "--thread-pool-size=65 $work/folder $work/mount" "-o no-such-option $work/folder $work/mount" \
         "-o attr_timeout=0x1 $work/folder $work/mount" "--inode-file-handles=always $work/folder $work/mount" \
         "--modcaps=sys_admin $work/folder $work/mount" "--modcaps=+some $work/folder $work/mount" \
+        "--inode-file-handles=auto $work/folder $work/mount" "--uid-map=:0:1:1: $work/folder $work/mount" \
         "--socket-path= $work/folder" "-o =5 $work/folder $work/mount" "-o fsname= $work/folder $work/mount"; do
         came=0
         # shellcheck disable=SC2086
@@ -516,6 +615,7 @@ try_managers
 try_group
 try_chroot
 try_capabilities
+try_escape
 try_mount --thread-pool-size=1
 try_mount --thread-pool-size=4
 try_mount --thread-pool-size=4 --writeback
@@ -523,7 +623,7 @@ try_mount --cache=always --xattr --sandbox=none --seccomp=none
 try_mount --cache=never --no-readdirplus
 try_mount --inode-file-handles=prefer --xattr
 try_mount --inode-file-handles=mandatory -o entry_timeout=0.5,attr_timeout=0 --sandbox=chroot
-try_mount --rlimit-nofile=100
+try_mount --inode-file-handles=prefer --rlimit-nofile=100
 try_mount --posix-acl
 try_signals --sandbox=namespace
 try_signals --sandbox=none

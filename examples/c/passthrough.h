@@ -48,6 +48,8 @@ struct passthrough_options {
 	/* No device can be opened in the file system of the folder: a file may be opened by its name, which
 	 * takes less, and is looked at then. */
 	bool no_devices;
+	/* The namespace of users lets no one change groups. */
+	bool keeps_groups;
 	/* The capabilities that root's workers have besides, and those that they lack, by bits. */
 	uint64_t more_capabilities, fewer_capabilities;
 	unsigned workers;

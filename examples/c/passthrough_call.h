@@ -15,9 +15,11 @@ enum { WANTED = STATX_BASIC_STATS | STATX_MNT_ID };
 /* What a worker uses again from one call to the next. */
 struct worker {
 	nizwarf_slot slot;
-	/* Whether it is root, with which capabilities, by bits. */
-	bool is_root;
+	/* Whether it is root, with which capabilities, by bits, and of which group; and whether it has its other
+	 * groups for good. */
+	bool is_root, keeps_groups;
 	uint64_t capabilities;
+	gid_t gid;
 	/* The last name that was looked up is of a file that wasn't known. */
 	bool expects_new;
 	/* A text, as that of a symbolic link. */

@@ -624,8 +624,6 @@ int nodes_begin(struct nodes *all, int root, int proc, enum file_handles handles
 	all->handles_alone = handles == HANDLES_ALONE;
 	if (handles == HANDLES_PREFERRED || handles == HANDLES_ALONE)
 		all->handles_from = 0;
-	else if (handles == HANDLES_IF_SCARCE)
-		all->handles_from = all->most_kept / 4 * 3;
 	return 0;
 }
 

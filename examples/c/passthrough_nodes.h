@@ -3,7 +3,7 @@
  * likes.
  *
  * A node is a file of the host, by device, inode and mount, and is held by a descriptor made with
- * O_PATH, which opens nothing; or, if descriptors are scarce or handles are preferred, by a handle
+ * O_PATH, which opens nothing; or, if handles are wanted, by a handle
  * of the host's file system where there is one, and is opened for each call then. Any number of
  * threads may call at once. */
 #ifndef PASSTHROUGH_NODES_H
@@ -19,8 +19,6 @@ enum { ROOT_NODE = 1 };
 
 enum file_handles {
 	HANDLES_NEVER,
-	/* From three quarters of the descriptors on that may be open. */
-	HANDLES_IF_SCARCE,
 	HANDLES_PREFERRED,
 	/* What has none is not served. */
 	HANDLES_ALONE,

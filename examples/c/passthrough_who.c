@@ -41,8 +41,9 @@ int become(const struct call *call)
 	if (asked->uid == UINT32_MAX || asked->gid == UINT32_MAX)
 		return EINVAL;
 	/* (by raw calls, which are of this thread alone) */
-	if ((has_group && syscall(SYS_setgroups, 1, &asked->group)) ||
-	    syscall(SYS_setresgid, -1, asked->gid, -1) || syscall(SYS_setresuid, -1, asked->uid, -1))
+	if ((has_group && !w->keeps_groups && syscall(SYS_setgroups, 1, &asked->group)) ||
+	    syscall(SYS_setresgid, -1, asked->gid ? asked->gid : w->gid, -1) ||
+	    syscall(SYS_setresuid, -1, asked->uid, -1))
 		return errno;
 	if (asked->uid)
 		set_capabilities(w->capabilities, w->capabilities & left);
@@ -59,8 +60,8 @@ void become_root(const struct call *call)
 	if (!w->is_root || (!asked->uid && !asked->gid && !(asked->has & NIZWARF_HAS_GROUP)))
 		return;
 	syscall(SYS_setresuid, -1, 0, -1);
-	syscall(SYS_setresgid, -1, 0, -1);
-	if (asked->has & NIZWARF_HAS_GROUP)
+	syscall(SYS_setresgid, -1, w->gid, -1);
+	if (asked->has & NIZWARF_HAS_GROUP && !w->keeps_groups)
 		syscall(SYS_setgroups, 0, NULL);
 	set_capabilities(w->capabilities, w->capabilities);
 }
@@ -108,7 +109,7 @@ static int limit(uint64_t *left, const struct passthrough_options *options)
 {
 	struct __user_cap_header_struct header = { _LINUX_CAPABILITY_VERSION_3, 0 };
 	struct __user_cap_data_struct had[2];
-	/* (by this one handles are opened, of any file) */
+	/* (by this one handles are opened, of any file of the file system) */
 	uint64_t mask = options->file_handles == HANDLES_NEVER ? 0 : UINT64_C(1) << CAP_DAC_READ_SEARCH;
 
 	for (size_t i = 0; i < sizeof(kept) / sizeof(*kept); i++)
@@ -137,5 +138,10 @@ int begin_worker(struct worker *w, const struct passthrough_options *options)
 	if (options->posix_acl && unshare(CLONE_FS))
 		return -1;
 	w->is_root = geteuid() == 0;
-	return w->is_root && (limit(&w->capabilities, options) || syscall(SYS_setgroups, 0, NULL)) ? -1 : 0;
+	w->keeps_groups = options->keeps_groups;
+	if (!w->is_root)
+		return 0;
+	/* (a namespace of users may have none of that id) */
+	w->gid = syscall(SYS_setresgid, -1, 0, -1) ? getegid() : 0;
+	return limit(&w->capabilities, options) || (!w->keeps_groups && syscall(SYS_setgroups, 0, NULL)) ? -1 : 0;
 }

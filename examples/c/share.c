@@ -251,7 +251,8 @@ static int limit(void)
 	/* (to unmount takes more than the files do, and each worker limits itself) */
 	if ((!mounts && passthrough_limit(&words.files)) || prctl(PR_SET_NO_NEW_PRIVS, 1, 0, 0, 0))
 		return failed("privileges");
-	return sandbox_filter((enum calls_filter)words.filter, mounts);
+	return sandbox_filter((enum calls_filter)words.filter, mounts,
+			      words.files.file_handles != HANDLES_NEVER);
 }
 
 /* Mounts, from within the sandbox if there is one. */
@@ -362,8 +363,12 @@ int main(int count, char **given)
 	outside.ready = tell_ready;
 	outside.mount = words.mount_point ? mount_folder : NULL;
 	outside.unmount = unmount_folder;
-	if (sandbox_fork((enum sandbox)words.sandbox, &outside))
+	if (sandbox_fork((enum sandbox)words.sandbox, &words.uids, &words.gids, &outside)) {
+		if (words.socket_path)
+			unlink(words.socket_path);
 		return 1;
+	}
+	words.files.keeps_groups = users_keep_groups();
 	status = serve(listener);
 	if (words.socket_path && words.sandbox == SANDBOX_NONE)
 		unlink(words.socket_path);

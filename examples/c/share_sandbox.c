@@ -96,34 +96,6 @@ static _Noreturn void stand_by(pid_t child, const sigset_t *awaited, const struc
 	_exit(WIFEXITED(status) ? WEXITSTATUS(status) : 1);
 }
 
-/* Writes a text to a file in one piece. */
-static int put(const char *path, const char *text)
-{
-	const int fd = open(path, O_WRONLY | O_CLOEXEC);
-	const bool is_put = fd >= 0 && write(fd, text, strlen(text)) == (ssize_t)strlen(text);
-
-	if (fd >= 0)
-		close(fd);
-	return is_put ? 0 : -1;
-}
-
-/* Leaves the initial namespace of users, in which who isn't root may make no others. Who it is stays
- * the same. */
-static int leave_users(void)
-{
-	const unsigned uid = geteuid(), gid = getegid();
-	char users[40], groups[40];
-
-	snprintf(users, sizeof(users), "%u %u 1", uid, uid);
-	snprintf(groups, sizeof(groups), "%u %u 1", gid, gid);
-	if (!unshare(CLONE_NEWUSER) && !put("/proc/self/setgroups", "deny") &&
-	    !put("/proc/self/uid_map", users) && !put("/proc/self/gid_map", groups))
-		return 0;
-	failed("--sandbox=namespace: a namespace of users");
-	fputs("nizwarf-share: --sandbox=none serves without\n", stderr);
-	return -1;
-}
-
 /* The signals that a server, or what stands by, waits for. */
 static void block_signals(sigset_t *awaited)
 {
@@ -135,14 +107,15 @@ static void block_signals(sigset_t *awaited)
 	sigprocmask(SIG_BLOCK, awaited, NULL);
 }
 
-int sandbox_fork(enum sandbox sandbox, const struct outside *outside)
+int sandbox_fork(enum sandbox sandbox, const struct id_map *uids, const struct id_map *gids,
+		 const struct outside *outside)
 {
 	sigset_t awaited, child_ended;
 	pid_t child;
 
 	if (sandbox == SANDBOX_NONE)
 		return 0;
-	if (sandbox == SANDBOX_NAMESPACE && geteuid() != 0 && leave_users())
+	if (sandbox == SANDBOX_NAMESPACE && geteuid() != 0 && users_leave(uids, gids))
 		return -1;
 	/* (that of processes begins with the child; the others are the child's alone) */
 	if (sandbox == SANDBOX_NAMESPACE && unshare(CLONE_NEWPID))
@@ -164,16 +137,55 @@ int sandbox_fork(enum sandbox sandbox, const struct outside *outside)
 	sigemptyset(&child_ended);
 	sigaddset(&child_ended, SIGCHLD);
 	sigprocmask(SIG_UNBLOCK, &child_ended, NULL);
+	if (users_be_root(uids, gids))
+		return -1;
 	/* (it must not outlive what stands by) */
 	prctl(PR_SET_PDEATHSIG, SIGTERM);
 	return 0;
 }
 
-/* Makes the folder the root of the process, in a namespace of its own, with nothing else in it. */
-static int pivot(const char *folder)
+enum { KEEPS_PATH = O_PATH | O_DIRECTORY | O_CLOEXEC };
+
+/* Opens /proc/self/fd, in a namespace of mounts of its own, as the root of a mount that is nowhere: no `..`
+ * leads out of it. */
+static int open_apart(void)
+{
+	int fd;
+
+	/* (where it is mounted for a moment is always there) */
+	if (mount("/proc/self/fd", "/proc", NULL, MS_BIND, NULL))
+		return -1;
+	fd = open("/proc", KEEPS_PATH);
+	if (fd >= 0 && umount2("/proc", MNT_DETACH)) {
+		close(fd);
+		return -1;
+	}
+	return fd;
+}
+
+/* The same without a namespace. It takes CAP_SYS_ADMIN, which root may lack in a container: there it can't be
+ * had, and what is opened leads out. */
+static int open_copy(void)
+{
+	int fd = -1;
+
+#ifdef SYS_open_tree
+	/* (1: a copy of the mount) */
+	fd = (int)syscall(SYS_open_tree, AT_FDCWD, "/proc/self/fd", 1 | O_CLOEXEC);
+#endif
+	if (fd >= 0)
+		return fd;
+	fputs("nizwarf-share: --sandbox=chroot: CAP_SYS_ADMIN or Linux 5.2 is missing, by which the server could "
+	      "not leave it\n", stderr);
+	return open("/proc/self/fd", KEEPS_PATH);
+}
+
+/* Makes the folder the root of the process, in a namespace of its own, with nothing else in it. Opens
+ * /proc/self/fd before. */
+static int pivot(const char *folder, int *proc)
 {
 	if (unshare(CLONE_NEWNS | CLONE_NEWNET | CLONE_NEWIPC | CLONE_NEWUTS) ||
-	    mount(NULL, "/", NULL, MS_REC | MS_SLAVE, NULL) ||
+	    mount(NULL, "/", NULL, MS_REC | MS_SLAVE, NULL) || (*proc = open_apart()) < 0 ||
 	    mount(folder, folder, NULL, MS_BIND | MS_REC, NULL) || chdir(folder) ||
 	    syscall(SYS_pivot_root, ".", ".") || umount2(".", MNT_DETACH) || chdir("/")) {
 		const bool is_no_mount = errno == EINVAL;
@@ -208,28 +220,38 @@ static bool refuse_devices(void)
 #endif
 }
 
+/* Leaves nothing that could be got by executing something, as far as it may. */
+static void empty_bound(void)
+{
+	for (unsigned long i = 0; prctl(PR_CAPBSET_READ, i, 0, 0, 0) >= 0; i++)
+		prctl(PR_CAPBSET_DROP, i, 0, 0, 0);
+}
+
 int sandbox_enter(enum sandbox sandbox, const char *folder, int *root, int *proc, bool *no_devices)
 {
 	*no_devices = false;
-	/* (as this descriptor leads there, also where /proc isn't to be seen) */
-	*proc = open("/proc/self/fd", O_PATH | O_DIRECTORY | O_CLOEXEC);
-	if (*proc < 0)
-		return failed("/proc/self/fd");
+	*proc = -1;
 	if (sandbox == SANDBOX_NAMESPACE) {
-		if (pivot(folder))
+		if (pivot(folder, proc))
 			return -1;
 		*no_devices = refuse_devices();
 		folder = "/";
-	} else if (sandbox == SANDBOX_CHROOT) {
+	} else {
+		*proc = sandbox == SANDBOX_CHROOT ? open_copy() : open("/proc/self/fd", KEEPS_PATH);
+		if (*proc < 0)
+			return failed("/proc/self/fd");
+	}
+	if (sandbox == SANDBOX_CHROOT) {
 		if (chdir(folder) || chroot(".") || chdir("/"))
 			return failed("--sandbox=chroot");
 		folder = "/";
 	}
-	*root = open(folder, O_PATH | O_DIRECTORY | O_CLOEXEC);
+	*root = open(folder, KEEPS_PATH);
 	if (*root < 0)
 		return failed(folder);
 	if (fchdir(*proc))
 		return failed("/proc/self/fd");
+	empty_bound();
 	return sandbox == SANDBOX_NAMESPACE && geteuid() != 0 ? drop_capabilities() : 0;
 }
 
@@ -242,9 +264,9 @@ static const char *const calls[] = {
 	"copy_file_range", "dup", "dup2", "dup3", "epoll_create1", "epoll_ctl", "epoll_pwait", "epoll_wait",
 	"eventfd2", "exit", "exit_group", "fallocate", "fchdir", "fchmod", "fchmodat", "fchownat",
 	"fcntl", "fdatasync", "fgetxattr", "flistxattr", "fstat", "fstatfs", "fsync", "ftruncate",
-	"futex", "getdents64", "geteuid", "getpid", "getrandom", "gettid", "getxattr",
+	"futex", "getdents64", "getegid", "geteuid", "getpid", "getrandom", "gettid", "getxattr",
 	"linkat", "listxattr", "lseek", "lstat", "madvise", "mkdirat", "mknodat", "mmap", "mprotect",
-	"mremap", "munmap", "name_to_handle_at", "nanosleep", "newfstatat", "open_by_handle_at",
+	"mremap", "munmap", "nanosleep", "newfstatat",
 	"openat", "openat2", "pipe2", "poll", "ppoll", "prctl", "pread64", "preadv", "prlimit64", "pwrite64", "pwritev",
 	"read", "readlinkat", "recvfrom", "recvmsg", "removexattr", "renameat", "renameat2",
 	"restart_syscall", "rseq", "rt_sigaction", "rt_sigprocmask", "rt_sigreturn",
@@ -254,23 +276,37 @@ static const char *const calls[] = {
 	"writev",
 };
 
+/* And to hold files by handles. By a handle that is made up any file of the file system is opened. */
+static const char *const handle_calls[] = { "name_to_handle_at", "open_by_handle_at" };
+
 /* And by ioctl: a worker's descriptor of the device; whether what is written to is a terminal. */
 static const uint32_t controls[] = { FUSE_DEV_IOC_CLONE, TCGETS };
 
-int sandbox_filter(enum calls_filter filter, bool mounts)
+/* Lets calls through by their names: 0, or an error below 0. */
+static int let(scmp_filter_ctx rules, const char *const *names, size_t count)
+{
+	int error = 0;
+
+	for (size_t i = 0; i < count && !error; i++)
+		error = seccomp_rule_add(rules, SCMP_ACT_ALLOW, seccomp_syscall_resolve_name(names[i]), 0);
+	return error;
+}
+
+int sandbox_filter(enum calls_filter filter, bool mounts, bool handles)
 {
 	const uint32_t otherwise = filter == FILTER_KILL ? SCMP_ACT_KILL_PROCESS :
 				   filter == FILTER_TRAP ? SCMP_ACT_TRAP : SCMP_ACT_LOG;
 	scmp_filter_ctx rules;
-	int error = 0;
+	int error;
 
 	if (filter == FILTER_NONE)
 		return 0;
 	rules = seccomp_init(otherwise);
 	if (!rules)
 		return failed("--seccomp");
-	for (size_t i = 0; i < sizeof(calls) / sizeof(*calls) && !error; i++)
-		error = seccomp_rule_add(rules, SCMP_ACT_ALLOW, seccomp_syscall_resolve_name(calls[i]), 0);
+	error = let(rules, calls, sizeof(calls) / sizeof(*calls));
+	if (!error && handles)
+		error = let(rules, handle_calls, sizeof(handle_calls) / sizeof(*handle_calls));
 	/* (others of ioctl would let it type at a terminal) */
 	for (size_t i = 0; i < sizeof(controls) / sizeof(*controls) && !error; i++)
 		error = seccomp_rule_add(rules, SCMP_ACT_ALLOW, SCMP_SYS(ioctl), 1,
@@ -289,9 +325,10 @@ int sandbox_filter(enum calls_filter filter, bool mounts)
 #else
 const bool has_filter = false;
 
-int sandbox_filter(enum calls_filter filter, bool mounts)
+int sandbox_filter(enum calls_filter filter, bool mounts, bool handles)
 {
 	(void)mounts;
+	(void)handles;
 	if (filter == FILTER_NONE)
 		return 0;
 	fputs("nizwarf-share: --seccomp: it was built without libseccomp\n", stderr);

@@ -3,6 +3,7 @@
 #define SHARE_SANDBOX_H
 
 #include <stdbool.h>
+#include "share_users.h"
 
 enum sandbox {
 	/* All that its user can. */
@@ -32,8 +33,10 @@ struct outside {
 };
 
 /* Forks, where a sandbox is wanted, and goes on in the child alone. The parent stands by: it passes
- * signals on, waits for the child, and ends as that did. -1: it failed, and said why. */
-int sandbox_fork(enum sandbox sandbox, const struct outside *outside);
+ * signals on, waits for the child, and ends as that did. A namespace of who isn't root has these ids.
+ * -1: it failed, and said why. */
+int sandbox_fork(enum sandbox sandbox, const struct id_map *uids, const struct id_map *gids,
+		 const struct outside *outside);
 
 /* Has what stands by mount. -1: it failed, and said why. */
 int sandbox_mount(void);
@@ -41,12 +44,13 @@ int sandbox_mount(void);
 /* Tells what stands by that the server is ready. */
 void sandbox_ready(void);
 
-/* Gives descriptors of the folder and of /proc/self/fd, in the sandbox from then on; and whether no device
- * can be opened in the mount of the folder. -1: it failed, and said why. */
+/* Gives descriptors of the folder and of /proc/self/fd, in the sandbox from then on, which is the working
+ * directory too; and whether no device can be opened in the mount of the folder. No `..` leads out of
+ * either one, where there is a sandbox. -1: it failed, and said why. */
 int sandbox_enter(enum sandbox sandbox, const char *folder, int *root, int *proc, bool *no_devices);
 
 /* Ends the process, or does what else is said, at a system call that serving doesn't make. With
- * `mounts` it may unmount. -1: it failed, and said why. */
-int sandbox_filter(enum calls_filter filter, bool mounts);
+ * `mounts` it may unmount, with `handles` open files by handles. -1: it failed, and said why. */
+int sandbox_filter(enum calls_filter filter, bool mounts, bool handles);
 
 #endif

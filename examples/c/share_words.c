@@ -1,5 +1,6 @@
 /* The words of a share, taken and held together: share_words.h. */
 #define _GNU_SOURCE
+#include <ctype.h>
 #include <errno.h>
 #include <getopt.h>
 #include <limits.h>
@@ -44,15 +45,19 @@ static const char usage[] =
 	"  --no-readdirplus          directories are listed without attributes\n"
 	"  --announce-submounts      mounts below the folder are told to be such; with\n"
 	"  --no-announce-submounts   not, as without a word\n"
-	"  --inode-file-handles=HOW  when files are held by handles, and not by descriptors: never,\n"
-	"                            prefer: where they can be, mandatory: what has none is an error,\n"
-	"                            auto (the default): only if descriptors are scarce\n"
+	"  --inode-file-handles=HOW  when files are held by handles, and not by descriptors: never (the\n"
+	"                            default), prefer: where they can be, mandatory: what has none is\n"
+	"                            an error; code that got into the server can then open any file of\n"
+	"                            that file system\n"
 	"  --modcaps=LIST            capabilities that root's server has besides, or lacks, as\n"
 	"                            +sys_admin:-mknod; by +sys_admin attributes of trusted.* are served\n"
 	"  --thread-pool-size=N      how many requests are served at once, 1 to 64 (4)\n"
 	"  --rlimit-nofile=N         the most open files; 0: as it is (1000000, or what may be)\n"
 	"  --sandbox=HOW             namespace (the default), chroot or none: what else than the\n"
 	"                            folder the server sees\n"
+	"  --uid-map=:ID:HOST:N:     in the namespace of who isn't root: N users from ID on are those of\n"
+	"                            the host from HOST on, as subuid(5) lets; given once or more\n"
+	"  --gid-map=:ID:HOST:N:     the same of groups, as subgid(5) lets\n"
 	"  --seccomp=HOW             kill, trap, log or none: what a system call comes to that serving\n"
 	"                            doesn't make (kill if it is built in)\n"
 	"  --log-level=LEVEL         off, error, warn, info (the default), debug, as -d\n"
@@ -67,7 +72,7 @@ static const char usage[] =
 
 /* What is so without a word. */
 struct share_words words = {
-	.files = { .cache = CACHE_AUTO, .readdirplus = true, .file_handles = HANDLES_IF_SCARCE,
+	.files = { .cache = CACHE_AUTO, .readdirplus = true, .file_handles = HANDLES_NEVER,
 		   .workers = WORKERS, .entry_time = AS_CACHE_SAYS, .attr_time = AS_CACHE_SAYS },
 	.allow_other = "", .flags = MS_NOSUID | MS_NODEV, .max_read = TRANSPORT_PAYLOAD,
 	.most_files = MOST_FILES, .fd = -1, .sandbox = -1, .filter = -1, .says_more = true,
@@ -291,7 +296,8 @@ static void take_options(char *rest)
 
 enum word {
 	SHARED_DIR = 256, SOCKET_PATH, FD, SOCKET_GROUP, CACHE, WRITEBACK, XATTR, POSIX_ACL, READONLY,
-	NO_READDIRPLUS, ANNOUNCE, NO_ANNOUNCE, FILE_HANDLES, MODCAPS, POOL, NOFILE, SANDBOX, SECCOMP, LOG,
+	NO_READDIRPLUS, ANNOUNCE, NO_ANNOUNCE, FILE_HANDLES, MODCAPS, POOL, NOFILE, SANDBOX, UID_MAP,
+	GID_MAP, SECCOMP, LOG,
 	TRACE, DAEMONIZE, PRINT, VERSION, HELP
 };
 
@@ -314,6 +320,8 @@ static const struct option known_words[] = {
 	{ "thread-pool-size", required_argument, NULL, POOL },
 	{ "rlimit-nofile", required_argument, NULL, NOFILE },
 	{ "sandbox", required_argument, NULL, SANDBOX },
+	{ "uid-map", required_argument, NULL, UID_MAP },
+	{ "gid-map", required_argument, NULL, GID_MAP },
 	{ "seccomp", required_argument, NULL, SECCOMP },
 	{ "log-level", required_argument, NULL, LOG },
 	{ "trace", optional_argument, NULL, TRACE },
@@ -337,11 +345,33 @@ static _Noreturn void print(int word)
 	exit(fflush(stdout) != 0);
 }
 
+/* A range of ids: three numbers with a sign between them and around, as :0:100000:65536: */
+static void take_range(const char *key, char *rest, struct id_map *map)
+{
+	const char sign[] = { *rest, 0 };
+	const size_t len = strlen(rest);
+	unsigned long value[3];
+	struct id_range *range;
+
+	if (len < 2 || isalnum((unsigned char)*sign) || rest[len - 1] != *sign)
+		refuse("--uid-map and --gid-map are as :0:100000:65536: and not ", rest);
+	if (map->count == MOST_RANGES)
+		refuse("there are too many of ", key);
+	rest[len - 1] = 0;
+	rest++;
+	for (int i = 0; i < 3; i++)
+		value[i] = number(key, strsep(&rest, sign), i == 2, UINT32_MAX - (i == 2 ? 0 : 1));
+	if (rest || value[0] + value[2] > UINT32_MAX || value[1] + value[2] > UINT32_MAX)
+		refuse("three numbers of ids are wanted in ", key);
+	range = &map->ranges[map->count++];
+	*range = (struct id_range) { (uint32_t)value[0], (uint32_t)value[1], (uint32_t)value[2] };
+}
+
 static void take_word(int word)
 {
 	static const char *const caches[] = { "never", "auto", "always", "metadata", NULL };
 	static const char *const filters[] = { "none", "kill", "trap", "log", NULL };
-	static const char *const handles[] = { "never", "auto", "prefer", "mandatory", NULL };
+	static const char *const handles[] = { "never", "prefer", "mandatory", NULL };
 
 	switch (word) {
 	case 'o': take_options(optarg); break;
@@ -375,6 +405,8 @@ static void take_word(int word)
 		words.wants_files = true;
 		break;
 	case SANDBOX: words.sandbox = one_of("--sandbox", optarg, sandboxes); break;
+	case UID_MAP: take_range("--uid-map", optarg, &words.uids); break;
+	case GID_MAP: take_range("--gid-map", optarg, &words.gids); break;
 	case SECCOMP: words.filter = one_of("--seccomp", optarg, filters); break;
 	case LOG: take_log_level(optarg); break;
 	case TRACE:
@@ -426,6 +458,9 @@ static void hold_together(void)
 		refuse("root alone has --sandbox=chroot", "");
 	if ((words.files.more_capabilities || words.files.fewer_capabilities) && geteuid() != 0)
 		refuse("root alone has --modcaps", "");
+	if ((words.uids.count || words.gids.count) &&
+	    (geteuid() == 0 || (words.sandbox >= 0 && words.sandbox != SANDBOX_NAMESPACE)))
+		refuse("who isn't root has --uid-map and --gid-map, and with --sandbox=namespace", "");
 	if (words.filter > FILTER_NONE && !has_filter)
 		refuse("--seccomp: it was built without libseccomp", "");
 }

@@ -4,6 +4,7 @@
 
 #include <stdbool.h>
 #include "passthrough.h"
+#include "share_users.h"
 
 /* What they say. -1: nothing was said. */
 struct share_words {
@@ -12,6 +13,7 @@ struct share_words {
 	const char *allow_other, *trace_file;
 	unsigned long flags, max_read, most_files;
 	int fd, sandbox, filter;
+	struct id_map uids, gids;
 	bool says_more, is_off, daemonizes, traces;
 	/* --rlimit-nofile was given. */
 	bool wants_files;

@@ -352,7 +352,7 @@ def with_words(chance):
     """A server with other options, stressed."""
     words = chance.choice((["--writeback", "-o", "allow_other"], ["--cache=always", "--xattr"], ["--cache=never"],
                            ["--inode-file-handles=prefer", "--xattr"], ["--thread-pool-size=1"],
-                           ["--cache=metadata", "--no-readdirplus"], ["--rlimit-nofile=600"]))
+                           ["--cache=metadata", "--no-readdirplus"], ["--rlimit-nofile=600", "--inode-file-handles=prefer"]))
     server = Server(share, work + "/others", *words, mount=work + "/mounted")
     if not server.is_up:
         return wrong(f"no server with {words}: {server.said()}")
@@ -423,7 +423,7 @@ def makers_without():
               8: lambda _: struct.pack("<IIII", 0o100644, 0, 0, 0) + b"made\0",
               9: lambda _: struct.pack("<II", 0o755, 0) + b"made\0",
               35: lambda _: struct.pack("<IIII", 0o102, 0o644, 0, 0) + b"made\0"}
-    for words in (["--inode-file-handles=never"], ["--inode-file-handles=prefer"], []):
+    for words in ([], ["--inode-file-handles=prefer"]):
         server = Server(share, folder, "--rlimit-nofile=64", "--thread-pool-size=1", *words, socket=socket)
         one = Asking(socket)
         for opcode, body in makers.items():
@@ -506,7 +506,7 @@ def names_in(body):
 def few_descriptors(chance):
     """Descriptors run out: an error comes through, and it goes on once some are given back."""
     mount = work + "/mounted"
-    server = Server(share, work + "/others", "--inode-file-handles=never", "--rlimit-nofile=64", mount=mount)
+    server = Server(share, work + "/others", "--rlimit-nofile=64", mount=mount)
     before = server.descriptors()
     keeper = Keeper(mount, work + "/others", SCARCE, chance)
     opened, names = [], [f"maker{i}-" for i in range(4)]

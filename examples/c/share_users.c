@@ -1,0 +1,150 @@
+/* The namespace of users of a share: share_users.h. */
+#define _GNU_SOURCE
+#include <errno.h>
+#include <fcntl.h>
+#include <sched.h>
+#include <stdio.h>
+#include <string.h>
+#include <sys/wait.h>
+#include <unistd.h>
+#include "share_users.h"
+
+static int failed(const char *what)
+{
+	fprintf(stderr, "nizwarf-share: --sandbox=namespace: %s: %s\n", what, strerror(errno));
+	return -1;
+}
+
+/* Writes a text to a file in one piece. */
+static int put(const char *path, const char *text)
+{
+	const int fd = open(path, O_WRONLY | O_CLOEXEC);
+	const bool is_put = fd >= 0 && write(fd, text, strlen(text)) == (ssize_t)strlen(text);
+
+	if (fd >= 0)
+		close(fd);
+	return is_put ? 0 : -1;
+}
+
+/* Whether a map is of one id, the own one: the kernel lets anyone write that. */
+static bool is_own(const struct id_map *map, uint32_t own)
+{
+	return map->count == 1 && map->ranges[0].outside == own && map->ranges[0].count == 1;
+}
+
+static int put_own(const char *path, const struct id_map *map)
+{
+	char text[40];
+
+	snprintf(text, sizeof(text), "%u %u 1", map->ranges[0].inside, map->ranges[0].outside);
+	return put(path, text);
+}
+
+/* Runs newuidmap or newgidmap for a process, which hold the map against subuid(5) or subgid(5). Whether it
+ * was written. */
+static bool run(const char *program, pid_t of, const struct id_map *map)
+{
+	static char numbers[1 + 3 * MOST_RANGES][12];
+	char *words[3 + 3 * MOST_RANGES] = { (char *)(uintptr_t)program, numbers[0] };
+	int status;
+	pid_t child;
+
+	snprintf(numbers[0], sizeof(numbers[0]), "%d", (int)of);
+	for (size_t i = 0; i < 3 * map->count; i++) {
+		const struct id_range *range = &map->ranges[i / 3];
+		const uint32_t value[] = { range->inside, range->outside, range->count };
+
+		words[2 + i] = numbers[1 + i];
+		snprintf(numbers[1 + i], sizeof(numbers[1 + i]), "%u", value[i % 3]);
+	}
+	child = fork();
+	if (!child) {
+		execvp(program, words);
+		failed(program);
+		_exit(1);
+	}
+	return child > 0 && waitpid(child, &status, 0) == child && WIFEXITED(status) && !WEXITSTATUS(status);
+}
+
+/* Forks a process that stays outside and writes those maps of this one that are more than its own id, once a
+ * byte comes through the pipe. */
+static pid_t begin_outside(const int ends[2], const struct id_map *uids, const struct id_map *gids)
+{
+	const pid_t of = getpid();
+	const bool by_uid = !is_own(uids, geteuid()), by_gid = !is_own(gids, getegid());
+	const pid_t child = fork();
+	char told;
+
+	if (child)
+		return child;
+	close(ends[1]);
+	_exit(read(ends[0], &told, 1) != 1 || (by_uid && !run("newuidmap", of, uids)) ||
+	      (by_gid && !run("newgidmap", of, gids)));
+}
+
+/* Makes the namespace, and has its maps written. */
+static int leave(const int ends[2], const struct id_map *uids, const struct id_map *gids)
+{
+	const bool own_uid = is_own(uids, geteuid()), own_gid = is_own(gids, getegid());
+	const pid_t child = begin_outside(ends, uids, gids);
+	int status;
+
+	if (child < 0)
+		return failed("fork");
+	if (unshare(CLONE_NEWUSER) || (own_gid && put("/proc/self/setgroups", "deny")) ||
+	    (own_uid && put_own("/proc/self/uid_map", uids)) ||
+	    (own_gid && put_own("/proc/self/gid_map", gids))) {
+		failed("a namespace of users");
+		fputs("nizwarf-share: --sandbox=none serves without\n", stderr);
+		return -1;
+	}
+	if (write(ends[1], "", 1) != 1 || waitpid(child, &status, 0) != child)
+		return failed("ids of users");
+	if (!WIFEXITED(status) || WEXITSTATUS(status)) {
+		fputs("nizwarf-share: --uid-map, --gid-map: the ids can't be mapped so; subuid(5) and subgid(5) "
+		      "say which may be\n", stderr);
+		return -1;
+	}
+	return 0;
+}
+
+int users_leave(const struct id_map *uids, const struct id_map *gids)
+{
+	const struct id_map uid = { .ranges = { { geteuid(), geteuid(), 1 } }, .count = 1 };
+	const struct id_map gid = { .ranges = { { getegid(), getegid(), 1 } }, .count = 1 };
+	int ends[2], status;
+
+	if (pipe2(ends, O_CLOEXEC))
+		return failed("a pipe");
+	status = leave(ends, uids->count ? uids : &uid, gids->count ? gids : &gid);
+	close(ends[0]);
+	close(ends[1]);
+	return status;
+}
+
+static bool has_root(const struct id_map *map)
+{
+	for (size_t i = 0; i < map->count; i++)
+		if (!map->ranges[i].inside)
+			return true;
+	return false;
+}
+
+int users_be_root(const struct id_map *uids, const struct id_map *gids)
+{
+	/* (by the capabilities of its own namespace) */
+	if ((has_root(gids) && setresgid(0, 0, 0)) || (has_root(uids) && setresuid(0, 0, 0)))
+		return failed("to be root");
+	return 0;
+}
+
+bool users_keep_groups(void)
+{
+	char text[8] = "";
+	const int fd = open("/proc/self/setgroups", O_RDONLY | O_CLOEXEC);
+	const bool is_denied = fd >= 0 && read(fd, text, sizeof(text) - 1) > 0 && !strncmp(text, "deny", 4);
+
+	if (fd >= 0)
+		close(fd);
+	return is_denied;
+}
