@@ -15,7 +15,8 @@
 # tools/lib/session.sh does there what a person does, with one worker, with four, with a cache of what is
 # written later, with file handles, with few descriptors; after each the descriptors of the server are counted.
 # A file that came behind a remembered name is opened by who may alone. tools/lib/share_calls.py asks it what it asks a
-# plain folder.
+# plain folder. tools/lib/escape.c tries to leave the sandbox from within, and the server's capabilities and
+# directories are looked at.
 # Over vhost-user it is asked the hostile requests of tools/compare/beside, and more that are made up, under
 # sanitizers and in its sandbox; a machine that goes away is followed by another. tools/gate/lint.sh holds its
 # sources against clang-tidy and cppcheck, if they are installed. It takes two minutes, and wants python3.
@@ -263,7 +264,7 @@ PYTHON
 
 # Who isn't root has a sandbox too, if the kernel lets users make namespaces, and is root in it if ids are mapped.
 try_user() {
-    local user=(setpriv --reuid=65534 --regid=65534 --clear-groups) own words wanted
+    local user=(setpriv --reuid=65534 --regid=65534 --clear-groups) own words wanted came
     if ! "${user[@]}" unshare --user true 2> /dev/null; then
         echo "Users can't make namespaces here: a share by one was left out." >&2
         return
@@ -299,6 +300,15 @@ try_user() {
         [ ! -e "$work/user/socket" ] || wrong "the socket of a user is left, with ${words%=*}"
     done
     umount -q /etc/subuid /etc/subgid || true
+    for words in --uid-map=0:65534:1 --uid-map=:0:65534:1 --uid-map=:0:65534:0: --gid-map=:0:65534:1:1: --gid-map=:0:x:1: \
+        --gid-map=:0:4294967295:1: "--uid-map=:0:65534:1: --sandbox=none"; do
+        came=0
+        # shellcheck disable=SC2086
+        "${user[@]}" timeout 20 "$work/share" $words --socket-path="$work/user/socket" "$work/user" 2> "$work/said" || came=$?
+        if [ "$came" != 2 ] || ! grep -q -- "${words%%=*}" "$work/said"; then
+            wrong "a share by a user ended with $came, and not with 2, with $words"
+        fi
+    done
     echo "A user shares a folder in a sandbox, also as root of its own ids."
 }
 

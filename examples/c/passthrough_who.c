@@ -97,7 +97,7 @@ void regain_fsetid(const struct call *call)
 	if (!kills(call))
 		return;
 	set_capabilities(call->worker->capabilities, call->worker->capabilities);
-	syscall(SYS_setfsgid, 0);
+	syscall(SYS_setfsgid, call->worker->gid);
 }
 
 /* What files are made, changed, owned and read with, whoever asks. */
