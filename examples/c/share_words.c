@@ -468,7 +468,8 @@ static void hold_together(void)
 /* Copies of the words, which are taken apart: /proc shows the process as it was started. */
 static char **copies_of(int count, char **given)
 {
-	static char **copies;
+	/* (volatile: the compiler would drop what is never read, and a sanitizer find a leak) */
+	static char **volatile copies;
 	size_t size = ((size_t)count + 1) * sizeof(*given), len;
 	char *at;
 
