@@ -490,6 +490,9 @@ class Column:
             subprocess.run(["mount", "-t", "tmpfs", "-o", "mode=755", "none", at / "mount"], check=True)
         elif self.how == "mount":
             words = [word.replace("FOLDER", f"{at}/folder").replace("MOUNT", f"{at}/mount") for word in self.words]
+            # (a descriptor for each of its files may be more than there can be)
+            if suite == "names" and self.kind.startswith("fuse.nizwarf-share"):
+                words.insert(1, "--inode-file-handles=prefer")
             self.log = open(at / "said", "wb")
             self.server = subprocess.Popen([*ENDS_WITH_THIS, *words], stdin=subprocess.DEVNULL, stdout=self.log,
                                            stderr=self.log, start_new_session=True)
