@@ -211,6 +211,17 @@ try_escape() {
     done
     hold_server never || wrong "the server without a word for its sandbox"
     hold_server never --sandbox=none || wrong "the server without a sandbox"
+    # (in a container, as a rule)
+    setpriv --bounding-set=-sys_admin "$share" --log-level=error --sandbox=chroot --socket-path="$work/held" \
+        "$work/folder" 2> "$work/warned" &
+    server=$!
+    ask_directories "$work/held" without:0:0 || true
+    if [ ! -d "$work/folder/without" ] || ! grep -q CAP_SYS_ADMIN "$work/warned"; then
+        wrong "a chroot without CAP_SYS_ADMIN: $(cat "$work/warned" "$work/said")"
+    fi
+    kill "$server"
+    wait "$server" || wrong "a chroot without CAP_SYS_ADMIN ended with $?"
+    server=
     echo "There is no way out of a sandbox, and no capability that isn't wanted."
 }
 
