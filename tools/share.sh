@@ -17,6 +17,8 @@
 # A file that came behind a remembered name is opened by who may alone. tools/lib/share_calls.py asks it what it asks a
 # plain folder. tools/lib/escape.c tries to leave the sandbox from within, and the server's capabilities and
 # directories are looked at.
+# Files of several file systems below the folder are told apart, and how many are known is bounded; what a node
+# takes is printed (tools/lib/share_nodes.py).
 # Over vhost-user it is asked the hostile requests of tools/compare/beside, and more that are made up, under
 # sanitizers and in its sandbox; a machine that goes away is followed by another. tools/gate/lint.sh holds its
 # sources against clang-tidy and cppcheck, if they are installed. It takes two minutes, and wants python3.
@@ -451,6 +453,16 @@ try_calls() {
     echo "Calls come to what they do on a plain folder${*:+, with $*}."
 }
 
+# What a client knows of files: which are one, how many there may be, and what each takes.
+try_nodes() {
+    cc -std=c11 -O2 -Wall -Wextra -Werror -pthread -o "$here/out/c/share_numbers" "$here/tools/lib/share_numbers.c" \
+        "$here/examples/c/passthrough_numbers.c"
+    "$here/out/c/share_numbers" || wrong "inode numbers"
+    mkdir "$work/nodes"
+    python3 -B "$here/tools/lib/share_nodes.py" "$share" "$here/out/c/ask" "$work/nodes" || wrong "what a client knows"
+    umount -lq "$work/nodes"/* || true
+}
+
 # Words that can't be, what is printed, and who is told that it serves.
 try_words() {
     local came words
@@ -460,6 +472,7 @@ try_words() {
         "--socket-path=$work/socket $work/folder too-many" "--sandbox=some $work/folder $work/mount" \
         "--thread-pool-size=65 $work/folder $work/mount" "-o no-such-option $work/folder $work/mount" \
         "-o attr_timeout=0x1 $work/folder $work/mount" "--inode-file-handles=always $work/folder $work/mount" \
+        "--node-limit=1 $work/folder $work/mount" \
         "--modcaps=sys_admin $work/folder $work/mount" "--modcaps=+some $work/folder $work/mount" \
         "--inode-file-handles=auto $work/folder $work/mount" "--uid-map=:0:1:1: $work/folder $work/mount" \
         "--socket-path= $work/folder" "-o =5 $work/folder $work/mount" "-o fsname= $work/folder $work/mount"; do
@@ -655,6 +668,7 @@ try_late
 try_closed
 try_calls
 try_user
+try_nodes
 
 # Asks a server over vhost-user: what it is, its words.
 ask() {
@@ -958,7 +972,7 @@ with open(work + "/log", "w+") as log:
 PYTHON
 }
 
-ask "over vhost-user, in its sandbox" "$share" --xattr --announce-submounts
+ask "over vhost-user, in its sandbox" "$share" --xattr
 ask "without a sandbox, one worker" "$share" --xattr --announce-submounts --sandbox=none --seccomp=none \
     --thread-pool-size=1
 for sanitizer in address,undefined thread; do

@@ -200,17 +200,19 @@ void passthrough_parted(void *user)
 }
 
 /* Looks whether the folder is on a local file system. To such a one it means nothing that a descriptor is
- * closed, and a file that is read ends where bytes of a page are missing. */
-static void look_at_folder(struct passthrough *all, int root)
+ * closed, and a file that is read ends where bytes of a page are missing. -1: it failed. */
+static int look_at_folder(struct passthrough *all, int root)
 {
 	struct statfs told;
 	struct stat seen;
 
 	if (fstatfs(root, &told) || fstat(root, &seen))
-		return;
+		return -1;
 	all->is_local = told.f_type == EXT4_SUPER_MAGIC || told.f_type == XFS_SUPER_MAGIC ||
 			told.f_type == BTRFS_SUPER_MAGIC || told.f_type == TMPFS_MAGIC;
 	all->local_device = seen.st_dev;
+	all->numbers = numbers_new(seen.st_dev);
+	return all->numbers ? 0 : -1;
 }
 
 struct passthrough *passthrough_new(int root, int proc, const struct passthrough_options *options)
@@ -235,9 +237,9 @@ struct passthrough *passthrough_new(int root, int proc, const struct passthrough
 			return NULL;
 		}
 	}
-	look_at_folder(all, root);
-	if (nodes_begin(&all->nodes, root, proc, options->file_handles, options->no_devices,
-			options->other_descriptors + PASSING * options->workers)) {
+	if (look_at_folder(all, root) ||
+	    nodes_begin(&all->nodes, root, proc, options->file_handles, options->no_devices,
+			options->most_nodes, options->other_descriptors + PASSING * options->workers)) {
 		passthrough_end(all);
 		return NULL;
 	}
@@ -248,6 +250,7 @@ void passthrough_end(struct passthrough *all)
 {
 	if (all->nodes.chains)
 		nodes_end(&all->nodes);
+	numbers_free(all->numbers);
 	for (unsigned i = 0; i < TRANSPORT_MOST_WORKERS; i++) {
 		struct worker *w = all->worker[i];
 

@@ -41,7 +41,7 @@ struct passthrough_options {
 	bool read_only;
 	/* Directories are listed with attributes. */
 	bool readdirplus;
-	/* A directory on which something else is mounted is told to be one. */
+	/* A directory on which something else is mounted is told to be one, if the client takes that. */
 	bool announce_submounts;
 	/* When files are held by handles where they can be, and not by descriptors. */
 	enum file_handles file_handles;
@@ -53,6 +53,8 @@ struct passthrough_options {
 	/* The capabilities that root's workers have besides, and those that they lack, by bits. */
 	uint64_t more_capabilities, fewer_capabilities;
 	unsigned workers;
+	/* How many files the client may know of at once, the folder among them. */
+	unsigned most_nodes;
 	/* How many descriptors the transport has, and the rest of the process. */
 	unsigned other_descriptors;
 	/* The largest payload of a request or a reply. */

@@ -73,7 +73,7 @@ static int get_attr(const struct call *call)
 
 	if (statx(fd, "", AT_EMPTY_PATH | AT_SYMLINK_NOFOLLOW, WANTED, &seen))
 		return errno;
-	tell_attr(call, &seen, &call->answer->entry);
+	tell_attr(call, &seen, call->node.node->is_apart, &call->answer->entry);
 	return 0;
 }
 
@@ -193,7 +193,7 @@ static int flags_of(const struct call *call)
 /* (a new file is on the device of its directory) */
 bool is_local(const struct call *call)
 {
-	return call->all->is_local && call->node.node->device == call->all->local_device;
+	return call->all->is_local && call->node.node->on->device == call->all->local_device;
 }
 
 /* Answers an open file, whose handle is told. */
@@ -269,8 +269,10 @@ static int create_file(const struct call *call)
 	struct nodes *nodes = &call->all->nodes;
 	nizwarf_answer *answer = call->answer;
 	nizwarf_entry *entry = &answer->entry;
-	int fd = -1, path, error = fd_reserve(nodes, 2);
+	int fd = -1, path, error = node_reserve(nodes);
 
+	if (!error && (error = fd_reserve(nodes, 1)))
+		node_give_back(nodes);
 	if (error)
 		return error;
 	error = become(call);
@@ -282,7 +284,8 @@ static int create_file(const struct call *call)
 	}
 	become_root(call);
 	if (error) {
-		fd_give_back(nodes, 2);
+		node_give_back(nodes);
+		fd_give_back(nodes, 1);
 		/* The client thinks that a file which CREATE opens is new, and doesn't ask who may open it. So one
 		 * that came meanwhile is not opened, and the client looks the name up again. */
 		return error == EEXIST && !(asked->flags & O_EXCL) ? ESTALE : error;
@@ -290,7 +293,7 @@ static int create_file(const struct call *call)
 	path = open_made(call, name, fd);
 	error = path < 0 ? errno : enter(call, &found, path, entry);
 	if (path < 0)
-		fd_give_back(nodes, 1);
+		node_give_back(nodes);
 	if (!error) {
 		answer->handle = file_add(nodes, fd, flags_of(call));
 		error = answer->handle ? 0 : ENOMEM;

@@ -6,6 +6,7 @@
 #include <sys/uio.h>
 #include "passthrough.h"
 #include "passthrough_nodes.h"
+#include "passthrough_numbers.h"
 
 /* The header of a reply, before the data of a READ, and the longest value of an attribute. */
 enum { HEADER = 16, LONGEST_VALUE = 65536 };
@@ -37,6 +38,7 @@ struct worker {
 struct passthrough {
 	struct passthrough_options options;
 	struct nodes nodes;
+	struct numbers *numbers;
 	/* The options that are agreed on with the client. */
 	atomic_ullong agreed;
 	/* It was said that the client has no access control lists. */
@@ -80,10 +82,12 @@ bool is_plain(const char *name);
 /* What is told of a node that has a lookup more. */
 void tell_entry(const struct call *call, uint64_t number, const struct statx *seen,
 		nizwarf_entry *entry);
-/* Tells attributes, and how long they hold. */
-void tell_attr(const struct call *call, const struct statx *seen, nizwarf_entry *entry);
-/* The entry of a file that was found so, and opened with O_PATH, or of the name: one descriptor was
- * reserved, which is the node's, or given back. 0, or an error. */
+/* Tells attributes, and how long they hold. `is_apart` is that of the node. */
+void tell_attr(const struct call *call, const struct statx *seen, bool is_apart, nizwarf_entry *entry);
+/* The inode number that is told. */
+uint64_t inode_of(const struct call *call, uint64_t device, uint64_t inode, bool is_apart);
+/* The entry of a file that was found so, and opened with O_PATH, or of the name: a node was reserved, which
+ * it is, or is given back. 0, or an error. */
 int enter(const struct call *call, const struct found *found, int fd, nizwarf_entry *entry);
 int enter_name(const struct call *call, const struct found *found, nizwarf_entry *entry);
 /* The entry of a name: 0, or an error. */

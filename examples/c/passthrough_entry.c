@@ -7,11 +7,22 @@
 #include <sys/sysmacros.h>
 #include <unistd.h>
 #include "passthrough_call.h"
+#include "passthrough_mounts.h"
+
+/* Whether the client is told where something is mounted, and has a device of its own for it then. */
+static bool announces(const struct call *call)
+{
+	return call->all->options.announce_submounts && atomic_load(&call->all->agreed) & FUSE_SUBMOUNTS;
+}
+
+uint64_t inode_of(const struct call *call, uint64_t device, uint64_t inode, bool is_apart)
+{
+	return announces(call) && !is_apart ? inode : numbers_tell(call->all->numbers, device, inode);
+}
 
 static nizwarf_attr attr_of(const struct statx *seen)
 {
 	return (nizwarf_attr) {
-		.ino = seen->stx_ino,
 		.size = seen->stx_size,
 		.blocks = seen->stx_blocks,
 		.atime = (uint64_t)seen->stx_atime.tv_sec,
@@ -31,12 +42,13 @@ static nizwarf_attr attr_of(const struct statx *seen)
 
 /* A client that writes later does not ask for the mode of a file that it truncated, and that lost its
  * set-user-ID bit so: with one attributes do not hold. */
-void tell_attr(const struct call *call, const struct statx *seen, nizwarf_entry *entry)
+void tell_attr(const struct call *call, const struct statx *seen, bool is_apart, nizwarf_entry *entry)
 {
 	const bool may_lose = seen->stx_mode & (S_ISUID | S_ISGID) && S_ISREG(seen->stx_mode);
 	const uint64_t time = may_lose && call->all->options.writeback ? 0 : call->all->attr_time;
 
 	entry->attr = attr_of(seen);
+	entry->attr.ino = inode_of(call, device_of(seen), seen->stx_ino, is_apart);
 	entry->attr_seconds = time / 1000;
 	entry->attr_nanoseconds = (uint32_t)(time % 1000) * 1000000;
 }
@@ -45,15 +57,17 @@ void tell_entry(const struct call *call, uint64_t number, const struct statx *se
 		nizwarf_entry *entry)
 {
 	const struct passthrough *all = call->all;
+	/* (a LINK is of the file's own node) */
+	const struct node *node = call->node.node;
+	const bool across = is_across(node, seen), is_directory = S_ISDIR(seen->stx_mode);
 
 	*entry = (nizwarf_entry) {
 		.node = number,
 		.entry_seconds = all->entry_time / 1000,
 		.entry_nanoseconds = (uint32_t)(all->entry_time % 1000) * 1000000,
 	};
-	tell_attr(call, seen, entry);
-	if (atomic_load(&all->agreed) & FUSE_SUBMOUNTS && all->options.announce_submounts &&
-	    S_ISDIR(seen->stx_mode) && seen->stx_mnt_id != call->node.node->mount)
+	tell_attr(call, seen, node->is_apart || (across && !is_directory), entry);
+	if (across && is_directory && announces(call))
 		entry->attr.flags = FUSE_ATTR_SUBMOUNT;
 }
 
@@ -69,7 +83,8 @@ static int enter_and_tell(const struct call *call, const struct found *found, in
 
 	if (statx(fd, "", AT_EMPTY_PATH | AT_SYMLINK_NOFOLLOW, WANTED, &seen)) {
 		error = errno;
-		fd_let_go(&call->all->nodes, fd);
+		close(fd);
+		node_give_back(&call->all->nodes);
 		return error;
 	}
 	error = node_enter(&call->all->nodes, found, fd, &seen, &number, is_new);
@@ -80,7 +95,7 @@ static int enter_and_tell(const struct call *call, const struct found *found, in
 
 struct found found_in(const struct grip *directory, const char *name)
 {
-	return (struct found) { directory->fd, directory->node->counted.number, name };
+	return (struct found) { directory->fd, directory->node, name };
 }
 
 int enter(const struct call *call, const struct found *found, int fd, nizwarf_entry *entry)
@@ -100,7 +115,7 @@ static int open_reserved(const struct call *call, const struct found *found, niz
 	*is_new = false;
 	if (!error)
 		return enter_and_tell(call, found, fd, entry, is_new);
-	fd_give_back(&call->all->nodes, 1);
+	node_give_back(&call->all->nodes);
 	return error;
 }
 
@@ -111,14 +126,32 @@ int enter_name(const struct call *call, const struct found *found, nizwarf_entry
 	return open_reserved(call, found, entry, &is_new);
 }
 
+/* The entry of a name if its file is known, where nothing can be reserved for a new one: or else this error. */
+static int find_known(const struct call *call, const struct found *found, int error, nizwarf_entry *entry)
+{
+	const int fd = openat(found->directory, found->name, O_PATH | O_NOFOLLOW | O_CLOEXEC);
+	struct statx seen;
+	uint64_t number = 0;
+
+	if (fd < 0)
+		return errno;
+	if (!statx(fd, "", AT_EMPTY_PATH | AT_SYMLINK_NOFOLLOW, WANTED, &seen))
+		number = node_find_opened(&call->all->nodes, fd, &seen);
+	close(fd);
+	if (!number)
+		return error;
+	tell_entry(call, number, &seen, entry);
+	return 0;
+}
+
 /* Opens the file of a name, and enters it. */
 static int open_and_enter(const struct call *call, const struct found *found, nizwarf_entry *entry,
 			  bool *is_new)
 {
-	const int error = fd_reserve(&call->all->nodes, 1);
+	const int error = node_reserve(&call->all->nodes);
 
 	*is_new = false;
-	return error ? error : open_reserved(call, found, entry, is_new);
+	return error ? find_known(call, found, error, entry) : open_reserved(call, found, entry, is_new);
 }
 
 int look_up_new(const struct call *call, const struct found *found, nizwarf_entry *entry)

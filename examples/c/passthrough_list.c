@@ -23,7 +23,7 @@ static int move_to(struct open_file *file, uint64_t offset)
 		file->buffer = malloc(ENTRIES);
 		if (!file->buffer)
 			return ENOMEM;
-		atomic_fetch_add(&file->counted.of->buffers, 1);
+		atomic_fetch_add(&file->of->buffers, 1);
 	}
 	/* (at 0 a directory is read anew, but for the first time) */
 	if (offset == file->offset && (offset || is_first))
@@ -41,7 +41,7 @@ static int move_to(struct open_file *file, uint64_t offset)
 /* Drops what was read and not told, if many keep such. */
 static void drop_buffer(struct open_file *file)
 {
-	atomic_uint *buffers = &file->counted.of->buffers;
+	atomic_uint *buffers = &file->of->buffers;
 
 	if (!file->buffer || atomic_load(buffers) <= MOST_BUFFERS ||
 	    (file->at < file->end && lseek(file->counted.fd, (off_t)file->offset, SEEK_SET) < 0))
@@ -131,7 +131,9 @@ static bool put_item(const struct call *call, const struct dirent64 *found, bool
 	space->lacks_memory = !item;
 	if (!item)
 		return false;
-	item->ino = found->d_ino;
+	/* (of what is a mount the host says here, too, which inode is below it; on what has several devices without
+	 * a mount, as overlayfs may, a file's attributes may have another number) */
+	item->ino = inode_of(call, call->node.node->on->device, found->d_ino, false);
 	item->offset = (uint64_t)found->d_off;
 	item->type = found->d_type;
 	item->name = memcpy(w->names + space->names, found->d_name, len);
@@ -140,7 +142,7 @@ static bool put_item(const struct call *call, const struct dirent64 *found, bool
 		find_entry(call, found, &item->entry);
 	/* What is above the folder is not told. */
 	if (call->node.node->counted.number == ROOT_NODE && !strcmp(found->d_name, ".."))
-		item->ino = call->node.node->inode;
+		item->ino = inode_of(call, call->node.node->on->device, call->node.node->inode, false);
 	space->names += len;
 	space->room -= size;
 	space->count++;

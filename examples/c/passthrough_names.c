@@ -69,7 +69,7 @@ int make_node(const struct call *call)
 	const char *name = name_of(call, asked->name);
 	const struct found found = found_in(&call->node, name);
 	const int directory = call->node.fd;
-	int error = fd_reserve(&call->all->nodes, 1);
+	int error = node_reserve(&call->all->nodes);
 
 	if (error)
 		return error;
@@ -84,7 +84,7 @@ int make_node(const struct call *call)
 		error = failed(symlinkat(name_of(call, asked->other_name), directory, name));
 	become_root(call);
 	if (error) {
-		fd_give_back(&call->all->nodes, 1);
+		node_give_back(&call->all->nodes);
 		return error;
 	}
 	error = enter_name(call, &found, &call->answer->entry);
@@ -117,7 +117,7 @@ int link_node(const struct call *call)
 	struct nodes *nodes = &call->all->nodes;
 	const char *name = name_of(call, call->asked->name);
 	const struct statx made = { .stx_mode = (uint16_t)node->type, .stx_ino = node->inode,
-				    .stx_mnt_id = node->mount };
+				    .stx_mnt_id = node->on->id };
 	struct statx seen;
 	int error = node_look_up(nodes, node);
 

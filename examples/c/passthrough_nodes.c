@@ -9,9 +9,8 @@
 #include <string.h>
 #include <sys/resource.h>
 #include <sys/syscall.h>
-#include <sys/sysmacros.h>
 #include <unistd.h>
-#include "passthrough_nodes.h"
+#include "passthrough_mounts.h"
 
 enum { FIRST_SLOTS = 1024, FIRST_CHAINS = 1024, NO_SLOT = 0 };
 
@@ -31,26 +30,31 @@ static void table_end(struct table *table)
 	free(table->slots);
 }
 
-/* The slot of a number under the lock, or NULL. */
-static struct slot *slot_of(const struct table *table, uint64_t number)
+/* What a slot that was used leads to, or NULL. */
+static struct counted *thing_in(const struct table *table, uint32_t at)
+{
+	const uint64_t slot = table->slots[at];
+
+	return slot & 1 ? NULL : (struct counted *)(uintptr_t)slot;
+}
+
+/* What a number leads to under the lock, or NULL. */
+static struct counted *thing_of(const struct table *table, uint64_t number)
 {
 	const uint32_t at = (uint32_t)number;
-	struct slot *slot = at < table->used ? &table->slots[at] : NULL;
+	struct counted *thing = at && at < table->used ? thing_in(table, at) : NULL;
 
-	return at && slot && slot->thing && slot->uses == number >> 32 ? slot : NULL;
+	return thing && thing->number == number ? thing : NULL;
 }
 
 static struct counted *get(struct table *table, uint64_t number)
 {
-	struct counted *thing = NULL;
-	struct slot *slot;
+	struct counted *thing;
 
 	pthread_rwlock_rdlock(&table->lock);
-	slot = slot_of(table, number);
-	if (slot) {
-		thing = slot->thing;
+	thing = thing_of(table, number);
+	if (thing)
 		atomic_fetch_add(&thing->users, 1);
-	}
 	pthread_rwlock_unlock(&table->lock);
 	return thing;
 }
@@ -59,36 +63,37 @@ static struct counted *get(struct table *table, uint64_t number)
 static bool add(struct table *table, struct counted *thing)
 {
 	uint32_t at = table->first_free;
+	uint64_t uses = 0;
 
 	if (at != NO_SLOT) {
-		table->first_free = table->slots[at].next_free;
+		uses = table->slots[at] >> 32;
+		table->first_free = (uint32_t)table->slots[at] >> 1;
 	} else {
 		if (table->used >= table->size) {
 			const size_t size = table->size ? 2 * (size_t)table->size : FIRST_SLOTS;
-			struct slot *more = size > UINT32_MAX / 2 ? NULL :
+			uint64_t *more = size > UINT32_MAX / 2 ? NULL :
 				realloc(table->slots, size * sizeof(*more));
 
 			if (!more)
 				return false;
-			memset(more + table->size, 0, (size - table->size) * sizeof(*more));
 			table->slots = more;
 			table->size = (uint32_t)size;
 		}
 		at = table->used++;
 	}
-	table->slots[at].thing = thing;
+	table->slots[at] = (uintptr_t)thing;
 	table->count++;
-	thing->number = (uint64_t)table->slots[at].uses << 32 | at;
+	thing->number = uses << 32 | at;
 	return true;
 }
 
 /* Takes the number from a thing, under the lock: it is not given to another one. */
-static void take(struct table *table, struct slot *slot)
+static void take(struct table *table, const struct counted *thing)
 {
-	slot->thing = NULL;
-	slot->uses++;
-	slot->next_free = table->first_free;
-	table->first_free = (uint32_t)(slot - table->slots);
+	const uint32_t at = (uint32_t)thing->number;
+
+	table->slots[at] = ((thing->number >> 32) + 1) << 32 | (uint64_t)table->first_free << 1 | 1;
+	table->first_free = at;
 	table->count--;
 }
 
@@ -113,38 +118,63 @@ void fd_let_go(struct nodes *all, int fd)
 	fd_give_back(all, 1);
 }
 
+int node_reserve(struct nodes *all)
+{
+	int error = 0;
+
+	if (atomic_fetch_add(&all->places, 1) >= all->most_nodes) {
+		error = ENFILE;
+		if (!atomic_flag_test_and_set(&all->said_most))
+			fprintf(stderr, "nizwarf-share: the client knows %u files, as many as it may: "
+				"--node-limit says how many\n", all->most_nodes);
+	}
+	if (!error)
+		error = fd_reserve(all, 1);
+	if (error)
+		atomic_fetch_sub(&all->places, 1);
+	return error;
+}
+
+void node_give_back(struct nodes *all)
+{
+	fd_give_back(all, 1);
+	atomic_fetch_sub(&all->places, 1);
+}
+
+/* Closes the descriptor of what is no new node. */
+static void node_let_go(struct nodes *all, int fd)
+{
+	close(fd);
+	node_give_back(all);
+}
+
 /* ---- nodes */
 
-/* Lets go of a mount. With its last node it is closed, so that the host can unmount it. */
-static void mount_put(struct host_mount *mount)
+/* The handle of a node, or NULL; and the name by which it was found. */
+static struct file_handle *handle_in(const struct node *node)
 {
-	struct host_mount **at;
+	return node->handle_size ? (struct file_handle *)(uintptr_t)node->rest : NULL;
+}
 
-	if (!mount)
-		return;
-	pthread_mutex_lock(&mount->of->mounts_lock);
-	at = --mount->users ? NULL : &mount->of->mounts;
-	while (at && *at != mount)
-		at = &(*at)->next;
-	if (at)
-		*at = mount->next;
-	pthread_mutex_unlock(&mount->of->mounts_lock);
-	if (at) {
-		fd_let_go(mount->of, mount->fd);
-		free(mount);
-	}
+static const char *name_in(const struct node *node)
+{
+	return node->rest + node->handle_size;
 }
 
 static void free_node(struct node *node)
 {
+	struct nodes *all;
+
 	if (!node || atomic_fetch_sub(&node->counted.users, 1) > 1)
 		return;
+	all = node->on->of;
 	if (node->counted.fd >= 0)
-		fd_let_go(node->counted.of, node->counted.fd);
-	mount_put(node->handle_of);
-	free(node->handle);
-	free(node->place);
+		fd_let_go(all, node->counted.fd);
+	else
+		mount_let_go(node->on);
+	mount_put(node->on);
 	free(node);
+	atomic_fetch_sub(&all->places, 1);
 }
 
 struct fd_name name_fd(int fd)
@@ -174,8 +204,7 @@ int node_get(struct nodes *all, uint64_t number, struct grip *grip)
 
 	if (error || grip->fd >= 0)
 		return error;
-	grip->fd = grip->own = open_by_handle_at(grip->node->handle_of->fd, grip->node->handle,
-						 O_PATH | O_NOFOLLOW | O_CLOEXEC);
+	grip->fd = grip->own = open_by_handle(grip->node->on, handle_in(grip->node));
 	if (grip->fd >= 0)
 		return 0;
 	error = errno;
@@ -190,16 +219,6 @@ void node_put(struct grip *grip)
 	free_node(grip->node);
 	grip->node = NULL;
 	grip->own = -1;
-}
-
-static uint64_t device_of(const struct statx *seen)
-{
-	return makedev(seen->stx_dev_major, seen->stx_dev_minor);
-}
-
-static uint64_t mount_of(const struct statx *seen)
-{
-	return seen->stx_mask & STATX_MNT_ID ? seen->stx_mnt_id : 0;
 }
 
 static struct node **chain_of(const struct nodes *all, uint64_t device, uint64_t inode)
@@ -217,8 +236,7 @@ static bool same_handle(const struct file_handle *a, const struct file_handle *b
 
 static bool is_of(const struct node *node, const struct statx *seen)
 {
-	return node->inode == seen->stx_ino && node->device == device_of(seen) &&
-	       node->mount == mount_of(seen);
+	return node->inode == seen->stx_ino && !is_across(node, seen);
 }
 
 /* The node of a file under the lock, or NULL. One that is held by a handle is that of the file if
@@ -229,7 +247,7 @@ static struct node *known(const struct nodes *all, const struct statx *seen,
 	struct node *node = *chain_of(all, device_of(seen), seen->stx_ino);
 
 	while (node && (!is_of(node, seen) ||
-			(node->counted.fd < 0 && !same_handle(node->handle, handle))))
+			(node->counted.fd < 0 && !same_handle(handle_in(node), handle))))
 		node = node->next;
 	return node;
 }
@@ -259,8 +277,8 @@ bool node_may_be_known(struct nodes *all, const struct node *directory, uint64_t
 	struct node *node;
 
 	pthread_rwlock_rdlock(&all->nodes.lock);
-	node = *chain_of(all, directory->device, inode);
-	while (node && (node->inode != inode || node->device != directory->device))
+	node = *chain_of(all, directory->on->device, inode);
+	while (node && (node->inode != inode || node->on->device != directory->on->device))
 		node = node->next;
 	pthread_rwlock_unlock(&all->nodes.lock);
 	return node != NULL;
@@ -284,15 +302,15 @@ uint64_t node_find(struct nodes *all, const struct statx *seen)
 
 int node_look_up(struct nodes *all, struct node *node)
 {
-	const struct slot *slot;
+	bool is_there;
 
 	/* (no node goes meanwhile) */
 	pthread_rwlock_rdlock(&all->nodes.lock);
-	slot = slot_of(&all->nodes, node->counted.number);
-	if (slot)
+	is_there = thing_of(&all->nodes, node->counted.number) != NULL;
+	if (is_there)
 		atomic_fetch_add(&node->lookups, 1);
 	pthread_rwlock_unlock(&all->nodes.lock);
-	return slot ? 0 : ESTALE;
+	return is_there ? 0 : ESTALE;
 }
 
 /* Twice as many chains, under the lock, if there is memory. */
@@ -310,7 +328,7 @@ static void grow_chains(struct nodes *all)
 		struct node *node = old[i], *next;
 
 		for (; node; node = next) {
-			struct node **chain = chain_of(all, node->device, node->inode);
+			struct node **chain = chain_of(all, node->on->device, node->inode);
 
 			next = node->next;
 			node->next = *chain;
@@ -318,92 +336,6 @@ static void grow_chains(struct nodes *all)
 		}
 	}
 	free(old);
-}
-
-/* Opens what handles of a mount are opened by: the file if that is a directory, or else the one that
- * it was found in, so that no file is kept which its owner removes. -1: neither can be. */
-static int open_mount(const struct nodes *all, int directory, int fd, const struct statx *seen)
-{
-	struct statx above;
-
-	if (S_ISDIR(seen->stx_mode))
-		return open_again(all, fd, O_RDONLY | O_DIRECTORY);
-	if (directory >= 0 && !statx(directory, "", AT_EMPTY_PATH, STATX_MNT_ID, &above) &&
-	    mount_of(&above) == mount_of(seen))
-		return open_again(all, directory, O_RDONLY | O_DIRECTORY);
-	/* (a file on which another one is mounted) */
-	return S_ISREG(seen->stx_mode) ? open_again(all, fd, O_RDONLY) : -1;
-}
-
-/* The mount of a file, with a user more; NULL where there can be none. */
-static struct host_mount *mount_by(struct nodes *all, int directory, int fd, const struct statx *seen)
-{
-	struct host_mount *mount;
-
-	pthread_mutex_lock(&all->mounts_lock);
-	for (mount = all->mounts; mount && mount->id != mount_of(seen); mount = mount->next)
-		;
-	if (!mount && !fd_reserve(all, 1)) {
-		mount = malloc(sizeof(*mount));
-		if (mount)
-			*mount = (struct host_mount) { all, mount_of(seen),
-						       open_mount(all, directory, fd, seen), 0, all->mounts };
-		if (mount && mount->fd >= 0) {
-			all->mounts = mount;
-		} else {
-			fd_give_back(all, 1);
-			free(mount);
-			mount = NULL;
-		}
-	}
-	if (mount)
-		mount->users++;
-	pthread_mutex_unlock(&all->mounts_lock);
-	return mount;
-}
-
-/* The handle of a file; NULL if it has none. 0, or an error. */
-static int handle_by(int fd, struct file_handle **handle)
-{
-	int id;
-
-	*handle = calloc(1, sizeof(**handle) + MAX_HANDLE_SZ);
-	if (!*handle)
-		return ENOMEM;
-	(*handle)->handle_bytes = MAX_HANDLE_SZ;
-	if (!name_to_handle_at(fd, "", *handle, &id, AT_EMPTY_PATH))
-		return 0;
-	free(*handle);
-	*handle = NULL;
-	return 0;
-}
-
-/* Whether a handle opens. */
-static bool opens(const struct host_mount *mount, struct file_handle *handle)
-{
-	const int fd = open_by_handle_at(mount->fd, handle, O_PATH | O_NOFOLLOW | O_CLOEXEC);
-
-	return fd >= 0 && !close(fd);
-}
-
-/* Has a node hold its file by a handle where that can be, or else by the descriptor. The handle and
- * the descriptor are the node's from then on. 0, or an error. */
-static int hold(struct nodes *all, struct node *node, int directory, int fd, const struct statx *seen,
-		struct file_handle *handle)
-{
-	node->handle = handle;
-	node->handle_of = handle ? mount_by(all, directory, fd, seen) : NULL;
-	if (node->handle_of && opens(node->handle_of, handle)) {
-		node->counted.fd = -1;
-		fd_let_go(all, fd);
-		return 0;
-	}
-	mount_put(node->handle_of);
-	node->handle_of = NULL;
-	free(handle);
-	node->handle = NULL;
-	node->counted.fd = fd;
-	return all->handles_alone ? EOPNOTSUPP : 0;
 }
 
 /* Adds a lookup of a known node; or `*made`, if that isn't NULL, which is NULL then: but not if no handle
@@ -422,7 +354,7 @@ static uint64_t add_lookup(struct nodes *all, const struct statx *seen,
 	} else if (made && (handle || !is_by_handle(all, seen)) && add(&all->nodes, &(*made)->counted)) {
 		if (all->nodes.count > all->chain_count)
 			grow_chains(all);
-		chain = chain_of(all, (*made)->device, (*made)->inode);
+		chain = chain_of(all, (*made)->on->device, (*made)->inode);
 		(*made)->next = *chain;
 		*chain = *made;
 		number = (*made)->counted.number;
@@ -432,32 +364,76 @@ static uint64_t add_lookup(struct nodes *all, const struct statx *seen,
 	return number;
 }
 
-/* The same of a node that holds its file. Another worker may have entered that by a handle meanwhile. */
+/* The same of a file that is open, and known by a handle meanwhile. */
+static uint64_t add_opened(struct nodes *all, int fd, const struct statx *seen, struct node **made)
+{
+	union handle_room room;
+
+	return some_handle(all, seen) && handle_by(fd, &room) ? add_lookup(all, seen, &room.handle, made) : 0;
+}
+
+uint64_t node_find_opened(struct nodes *all, int fd, const struct statx *seen)
+{
+	const uint64_t number = node_find(all, seen);
+
+	return number ? number : add_opened(all, fd, seen, NULL);
+}
+
+/* add_lookup() of a node that holds its file. Another worker may have entered that by a handle meanwhile. */
 static uint64_t add_made(struct nodes *all, const struct statx *seen, struct node **made)
 {
 	const int fd = (*made)->counted.fd;
-	struct file_handle *handle = NULL;
-	uint64_t number = add_lookup(all, seen, (*made)->handle, made);
+	const uint64_t number = add_lookup(all, seen, handle_in(*made), made);
 
-	if (!number && *made && fd >= 0 && some_handle(all, seen) && !handle_by(fd, &handle) && handle)
-		number = add_lookup(all, seen, handle, made);
-	free(handle);
-	return number;
+	return !number && *made && fd >= 0 ? add_opened(all, fd, seen, made) : number;
 }
 
-/* Remembers where a file was found, if it may be opened by that. */
-static void keep_place(const struct nodes *all, struct node *node, const struct found *found)
+/* The size of the name by which a file may be opened, if it may be. */
+static size_t name_size(const struct nodes *all, const struct found *found, const struct host_mount *on,
+			const struct statx *seen)
 {
-	const size_t size = found->name ? strlen(found->name) + 1 : 0;
+	return found->node && all->named_mount && on->id == all->named_mount &&
+	       (S_ISREG(seen->stx_mode) || S_ISDIR(seen->stx_mode)) ? strlen(found->name) + 1 : 0;
+}
 
-	if (!size || !found->number || !all->named_mount || node->mount != all->named_mount ||
-	    (node->type != S_IFREG && node->type != S_IFDIR))
-		return;
-	node->place = malloc(sizeof(*node->place) + size);
-	if (!node->place)
-		return;
-	node->place->directory = found->number;
-	memcpy(node->place->name, found->name, size);
+/* Makes a node of a file, which has its handle, if there is one that opens, or else the descriptor: that is
+ * the node's from then on, and so is what was reserved. 0, or an error. */
+static int make(struct nodes *all, const struct found *found, int fd, const struct statx *seen,
+		struct file_handle *handle, struct node **made)
+{
+	struct host_mount *on = mount_take(all, found, seen);
+	const bool is_held = on && handle && mount_hold(on, found, fd, seen, handle);
+	const size_t of_handle = is_held ? sizeof(*handle) + handle->handle_bytes : 0;
+	const size_t of_name = on ? name_size(all, found, on, seen) : 0;
+	const int error = on && !is_held && all->handles_alone ? EOPNOTSUPP : ENOMEM;
+	struct node *node = on && error == ENOMEM ? calloc(1, sizeof(*node) + of_handle + of_name) : NULL;
+
+	*made = node;
+	if (!node) {
+		if (is_held)
+			mount_let_go(on);
+		if (on)
+			mount_put(on);
+		node_let_go(all, fd);
+		return error;
+	}
+	atomic_init(&node->counted.users, 1);
+	atomic_init(&node->lookups, 1);
+	node->counted.fd = is_held ? -1 : fd;
+	node->inode = seen->stx_ino;
+	node->on = on;
+	node->type = seen->stx_mode & S_IFMT;
+	node->is_apart = found->node && found->node->on != on && !S_ISDIR(seen->stx_mode);
+	node->handle_size = (uint8_t)of_handle;
+	if (of_handle)
+		memcpy(node->rest, handle, of_handle);
+	if (of_name) {
+		node->directory = found->node->counted.number;
+		memcpy(node->rest + of_handle, found->name, of_name);
+	}
+	if (is_held)
+		fd_let_go(all, fd);
+	return 0;
 }
 
 int open_by_name(struct nodes *all, struct node *node, int flags)
@@ -470,13 +446,13 @@ int open_by_name(struct nodes *all, struct node *node, int flags)
 	int fd = -1;
 
 	/* (what is truncated is looked at before) */
-	if (!node->place || flags & O_TRUNC || atomic_load(&node->is_elsewhere) ||
-	    node_hold(all, node->place->directory, &directory))
+	if (!node->directory || flags & O_TRUNC || atomic_load(&node->is_elsewhere) ||
+	    node_hold(all, node->directory, &directory))
 		return -1;
 	if (directory.fd >= 0)
-		fd = (int)syscall(SYS_openat2, directory.fd, node->place->name, &how, sizeof(how));
+		fd = (int)syscall(SYS_openat2, directory.fd, name_in(node), &how, sizeof(how));
 	node_put(&directory);
-	if (fd >= 0 && !fstat(fd, &seen) && seen.st_ino == node->inode && seen.st_dev == node->device)
+	if (fd >= 0 && !fstat(fd, &seen) && seen.st_ino == node->inode && seen.st_dev == node->on->device)
 		return fd;
 	if (fd >= 0)
 		close(fd);
@@ -488,68 +464,51 @@ int node_enter(struct nodes *all, const struct found *found, int fd, const struc
 	       uint64_t *number, bool *is_new)
 {
 	const bool by_handle = atomic_load(&all->kept) > all->handles_from || some_handle(all, seen);
-	struct node *made = calloc(1, sizeof(*made));
-	struct file_handle *handle = NULL;
-	int error = made ? 0 : ENOMEM;
+	union handle_room room;
+	struct file_handle *handle = by_handle && handle_by(fd, &room) ? &room.handle : NULL;
+	struct node *made;
+	int error;
 
 	*is_new = false;
-	if (!error && by_handle)
-		error = handle_by(fd, &handle);
-	*number = !error && handle ? add_lookup(all, seen, handle, NULL) : 0;
-	if (error || *number) {
-		free(made);
-		free(handle);
-		fd_let_go(all, fd);
+	*number = handle ? add_lookup(all, seen, handle, NULL) : 0;
+	if (*number) {
+		node_let_go(all, fd);
+		return 0;
+	}
+	error = make(all, found, fd, seen, handle, &made);
+	if (error)
 		return error;
-	}
-	made->counted.of = all;
-	atomic_init(&made->counted.users, 1);
-	atomic_init(&made->lookups, 1);
-	made->device = device_of(seen);
-	made->inode = seen->stx_ino;
-	made->mount = mount_of(seen);
-	made->type = seen->stx_mode & S_IFMT;
-	error = hold(all, made, found->directory, fd, seen, handle);
-	if (!error) {
-		keep_place(all, made, found);
-		*number = add_made(all, seen, &made);
-		error = *number ? 0 : ENOMEM;
-	}
+	*number = add_made(all, seen, &made);
 	*is_new = !made;
 	free_node(made);
-	return error;
+	return *number ? 0 : ENOMEM;
 }
 
 /* Takes a node from its chain and its number, under the lock. */
 static void detach(struct nodes *all, struct node *node)
 {
-	struct node **at = chain_of(all, node->device, node->inode);
+	struct node **at = chain_of(all, node->on->device, node->inode);
 
 	while (*at != node)
 		at = &(*at)->next;
 	*at = node->next;
-	take(&all->nodes, slot_of(&all->nodes, node->counted.number));
+	take(&all->nodes, &node->counted);
 }
 
 void node_forget(struct nodes *all, uint64_t number, uint64_t count)
 {
-	struct node *gone = NULL;
-	struct slot *slot;
+	struct node *node;
 
 	pthread_rwlock_wrlock(&all->nodes.lock);
-	slot = number == ROOT_NODE ? NULL : slot_of(&all->nodes, number);
-	if (slot) {
-		struct node *node = (struct node *)slot->thing;
-
-		if (atomic_load(&node->lookups) > count) {
-			atomic_fetch_sub(&node->lookups, count);
-		} else {
-			detach(all, node);
-			gone = node;
-		}
+	node = number == ROOT_NODE ? NULL : (struct node *)thing_of(&all->nodes, number);
+	if (node && atomic_load(&node->lookups) > count) {
+		atomic_fetch_sub(&node->lookups, count);
+		node = NULL;
+	} else if (node) {
+		detach(all, node);
 	}
 	pthread_rwlock_unlock(&all->nodes.lock);
-	free_node(gone);
+	free_node(node);
 }
 
 void nodes_forget_all(struct nodes *all)
@@ -559,7 +518,7 @@ void nodes_forget_all(struct nodes *all)
 
 	pthread_rwlock_wrlock(&all->nodes.lock);
 	for (uint32_t i = ROOT_NODE + 1; i < all->nodes.used; i++) {
-		struct node *node = (struct node *)all->nodes.slots[i].thing;
+		struct node *node = (struct node *)thing_in(&all->nodes, i);
 
 		if (!node)
 			continue;
@@ -578,9 +537,9 @@ void nodes_forget_all(struct nodes *all)
 			pthread_rwlock_unlock(&all->files.lock);
 			break;
 		}
-		file = all->files.slots[i].thing;
+		file = thing_in(&all->files, i);
 		if (file)
-			take(&all->files, &all->files.slots[i]);
+			take(&all->files, file);
 		pthread_rwlock_unlock(&all->files.lock);
 		file_put((struct open_file *)file);
 	}
@@ -599,9 +558,9 @@ static unsigned most_to_keep(unsigned others)
 }
 
 int nodes_begin(struct nodes *all, int root, int proc, enum file_handles handles, bool no_devices,
-		unsigned others)
+		unsigned most, unsigned others)
 {
-	const struct found nowhere = { -1, 0, NULL };
+	const struct found nowhere = { -1, NULL, NULL };
 	struct statx seen;
 	uint64_t number;
 	bool is_new;
@@ -618,7 +577,9 @@ int nodes_begin(struct nodes *all, int root, int proc, enum file_handles handles
 	/* The root stays open, whatever the others are. */
 	all->handles_from = UINT_MAX;
 	all->most_kept = most_to_keep(others);
-	if (fd_reserve(all, 1) || node_enter(all, &nowhere, root, &seen, &number, &is_new))
+	all->most_nodes = most;
+	atomic_flag_clear(&all->said_most);
+	if (node_reserve(all) || node_enter(all, &nowhere, root, &seen, &number, &is_new))
 		return -1;
 	all->named_mount = no_devices ? mount_of(&seen) : 0;
 	all->handles_alone = handles == HANDLES_ALONE;
@@ -629,12 +590,8 @@ int nodes_begin(struct nodes *all, int root, int proc, enum file_handles handles
 
 void nodes_end(struct nodes *all)
 {
-	struct slot *root;
-
 	nodes_forget_all(all);
-	root = slot_of(&all->nodes, ROOT_NODE);
-	if (root)
-		free_node((struct node *)root->thing);
+	free_node((struct node *)thing_of(&all->nodes, ROOT_NODE));
 	table_end(&all->nodes);
 	table_end(&all->files);
 	pthread_mutex_destroy(&all->mounts_lock);
@@ -650,7 +607,7 @@ uint64_t file_add(struct nodes *all, int fd, int flags)
 
 	if (file) {
 		atomic_init(&file->counted.users, 1);
-		file->counted.of = all;
+		file->of = all;
 		file->counted.fd = fd;
 		file->is_directory = flags & O_DIRECTORY;
 		file->at_end = flags & O_APPEND;
@@ -677,8 +634,8 @@ void file_put(struct open_file *file)
 	if (!file || atomic_fetch_sub(&file->counted.users, 1) > 1)
 		return;
 	if (file->buffer)
-		atomic_fetch_sub(&file->counted.of->buffers, 1);
-	fd_let_go(file->counted.of, file->counted.fd);
+		atomic_fetch_sub(&file->of->buffers, 1);
+	fd_let_go(file->of, file->counted.fd);
 	pthread_mutex_destroy(&file->lock);
 	pthread_rwlock_destroy(&file->writing);
 	free(file->buffer);
@@ -687,15 +644,12 @@ void file_put(struct open_file *file)
 
 int file_release(struct nodes *all, uint64_t number)
 {
-	struct counted *file = NULL;
-	struct slot *slot;
+	struct counted *file;
 
 	pthread_rwlock_wrlock(&all->files.lock);
-	slot = slot_of(&all->files, number);
-	if (slot) {
-		file = slot->thing;
-		take(&all->files, slot);
-	}
+	file = thing_of(&all->files, number);
+	if (file)
+		take(&all->files, file);
 	pthread_rwlock_unlock(&all->files.lock);
 	file_put((struct open_file *)file);
 	return file ? 0 : EBADF;

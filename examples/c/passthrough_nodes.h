@@ -32,57 +32,57 @@ struct counted {
 	atomic_uint users;
 	int fd;
 	uint64_t number;
-	struct nodes *of;
 };
 
-struct slot {
-	struct counted *thing;
-	/* How many times it was used before, and the next free one where it is free. */
-	uint32_t uses, next_free;
-};
-
+/* A slot is a pointer; or, where it is free, an odd number: how many times it was used, above the next free
+ * one. */
 struct table {
 	pthread_rwlock_t lock;
-	struct slot *slots;
+	uint64_t *slots;
 	uint32_t size, used, first_free, count;
 };
 
-/* A mount of the host, with a descriptor by which handles are opened. It is there as long as a node
- * has a handle of it. */
+/* A device of the host in one of its mounts: it is there as long as a node of it is. `users` reaches 0 under
+ * the lock alone. */
 struct host_mount {
 	struct nodes *of;
-	uint64_t id;
+	uint64_t device, id;
+	atomic_uint users;
+	/* How many nodes have a handle, and what handles are opened by, which is there as long as one has: under
+	 * the lock. */
+	uint32_t handles;
 	int fd;
-	uint32_t users;
 	struct host_mount *next;
 };
 
-/* Where a file was found first: a directory, and the name there. */
-struct place {
-	uint64_t directory;
-	char name[];
-};
-
+/* A client may have a million of them: what isn't needed is not kept, and what is differs in length. */
 struct node {
 	/* `fd` is -1 where there is a handle. */
 	struct counted counted;
 	atomic_ullong lookups;
-	uint64_t device, inode, mount;
-	/* S_IFREG .., which a file keeps. */
-	mode_t type;
-	/* A directory whose names are read, and nothing else of its files. */
-	atomic_bool lists_names;
-	/* NULL: it is not known. What was no longer there once is not looked for again. */
-	struct place *place;
-	atomic_bool is_elsewhere;
-	struct file_handle *handle;
-	struct host_mount *handle_of;
+	uint64_t inode;
+	struct host_mount *on;
 	/* The next one in its chain. */
 	struct node *next;
+	/* Where it was found first, by the name that is kept; 0: none is. What was no longer there once is not
+	 * looked for again. */
+	uint64_t directory;
+	/* S_IFREG .., which a file keeps. */
+	uint16_t type;
+	/* A directory whose names are read, and nothing else of its files. */
+	atomic_bool lists_names;
+	atomic_bool is_elsewhere;
+	/* A file that is on another device or mount than its directory, and none itself. */
+	bool is_apart;
+	/* How many bytes the handle has. */
+	uint8_t handle_size;
+	/* The handle, if there is one, and the name behind it. */
+	_Alignas(uint32_t) char rest[];
 };
 
 struct open_file {
 	struct counted counted;
+	struct nodes *of;
 	bool is_directory;
 	/* Of a file: whether its descriptor has O_APPEND, which stays so while that is written by. */
 	bool at_end;
@@ -98,7 +98,7 @@ struct open_file {
 
 struct nodes {
 	struct table nodes, files;
-	/* By device, inode and mount, under the lock of `nodes`. */
+	/* By device and inode, under the lock of `nodes`. */
 	struct node **chains;
 	uint32_t chain_count;
 	/* The descriptor of /proc/self/fd. */
@@ -108,6 +108,10 @@ struct nodes {
 	 * new node gets a handle. */
 	atomic_uint kept;
 	unsigned most_kept, handles_from;
+	/* How many nodes there are or are reserved, and how many may be. */
+	atomic_uint places;
+	unsigned most_nodes;
+	atomic_flag said_most;
 	/* How many open directories have a buffer. */
 	atomic_uint buffers;
 	bool handles_alone;
@@ -117,10 +121,10 @@ struct nodes {
 	struct host_mount *mounts;
 };
 
-/* A directory in which a file is found, with its number if that is known, and the name. */
+/* A directory in which a file is found, with its node if that is known, and the name. */
 struct found {
 	int directory;
-	uint64_t number;
+	const struct node *node;
 	const char *name;
 };
 
@@ -130,10 +134,11 @@ struct grip {
 	int fd, own;
 };
 
-/* -1: there is no memory. `root` is the node ROOT_NODE from then on, and is closed with it. With
- * `no_devices` none can be opened in its mount. So many descriptors are for `others`. */
+/* -1: there is no memory. `root` is the node ROOT_NODE from then on, and is closed with it; it is one of the
+ * `most` nodes that there may be. With `no_devices` none can be opened in its mount. So many descriptors are
+ * for `others`. */
 int nodes_begin(struct nodes *all, int root, int proc, enum file_handles handles, bool no_devices,
-		unsigned others);
+		unsigned most, unsigned others);
 void nodes_end(struct nodes *all);
 
 /* Reserves descriptors that are to be kept, before they are opened: so a call that makes a name has
@@ -142,6 +147,10 @@ int fd_reserve(struct nodes *all, unsigned count);
 void fd_give_back(struct nodes *all, unsigned count);
 /* Closes a descriptor, and gives its reservation back. */
 void fd_let_go(struct nodes *all, int fd);
+/* The same of a node that may be new, with its descriptor, before the file is made. 0, EMFILE, or ENFILE:
+ * there are as many nodes as may be. */
+int node_reserve(struct nodes *all);
+void node_give_back(struct nodes *all);
 
 /* Takes a node in hand. 0, or an error: ESTALE where there is none. */
 int node_get(struct nodes *all, uint64_t number, struct grip *grip);
@@ -152,15 +161,20 @@ void node_put(struct grip *grip);
 /* Whether a file of a directory with this inode may be known already. */
 bool node_may_be_known(struct nodes *all, const struct node *directory, uint64_t inode);
 
+/* Whether a file is on another device or mount than a node. */
+bool is_across(const struct node *node, const struct statx *seen);
+
 /* The number of a file that is known already, with a lookup more; 0 where it isn't. Nothing of it
  * is opened. */
 uint64_t node_find(struct nodes *all, const struct statx *seen);
+/* The same of one that was opened with O_PATH, also if it is known by a handle. */
+uint64_t node_find_opened(struct nodes *all, int fd, const struct statx *seen);
 
 /* A lookup more of a node that is in hand. 0, or ESTALE: the client gave it back meanwhile. */
 int node_look_up(struct nodes *all, struct node *node);
 
-/* Gives the number of a file, with a lookup more, which was opened with O_PATH: `fd`, for which one was
- * reserved, is the node's from then on, or closed. `*is_new`: it wasn't known. 0, or an error. */
+/* Gives the number of a file, with a lookup more, which was opened with O_PATH: `fd`, and what was reserved
+ * for a node, is the node's from then on, or given back. `*is_new`: it wasn't known. 0, or an error. */
 int node_enter(struct nodes *all, const struct found *found, int fd, const struct statx *seen,
 	       uint64_t *number, bool *is_new);
 

@@ -14,7 +14,7 @@
 #include "share_words.h"
 #include "transport.h"
 
-enum { MOST_FILES = 1000000, WORKERS = 4 };
+enum { MOST_FILES = 1000000, MOST_NODES = 1000000, WORKERS = 4 };
 
 static const char usage[] =
 	"Usage: nizwarf-share [WORDS] FOLDER MOUNTPOINT\n"
@@ -43,8 +43,11 @@ static const char usage[] =
 	"                            modes alone say who may, also where a list of the folder denies\n"
 	"  --readonly                nothing is changed\n"
 	"  --no-readdirplus          directories are listed without attributes\n"
-	"  --announce-submounts      mounts below the folder are told to be such; with\n"
-	"  --no-announce-submounts   not, as without a word\n"
+	"  --announce-submounts      a machine is told where something is mounted below the folder\n"
+	"                            (the default), and has a device of its own there; with\n"
+	"  --no-announce-submounts   not: inode numbers tell its files apart, as over /dev/fuse\n"
+	"  --node-limit=N            how many files a client may know of at once (1000000); the next\n"
+	"                            one is ENFILE, until one is forgotten\n"
 	"  --inode-file-handles=HOW  when files are held by handles, and not by descriptors: never (the\n"
 	"                            default), prefer: where they can be, mandatory: what has none is\n"
 	"                            an error; code that got into the server can then open any file of\n"
@@ -73,6 +76,7 @@ static const char usage[] =
 /* What is so without a word. */
 struct share_words words = {
 	.files = { .cache = CACHE_AUTO, .readdirplus = true, .file_handles = HANDLES_NEVER,
+		   .announce_submounts = true, .most_nodes = MOST_NODES,
 		   .workers = WORKERS, .entry_time = AS_CACHE_SAYS, .attr_time = AS_CACHE_SAYS },
 	.allow_other = "", .flags = MS_NOSUID | MS_NODEV, .max_read = TRANSPORT_PAYLOAD,
 	.most_files = MOST_FILES, .fd = -1, .sandbox = -1, .filter = -1, .says_more = true,
@@ -296,9 +300,8 @@ static void take_options(char *rest)
 
 enum word {
 	SHARED_DIR = 256, SOCKET_PATH, FD, SOCKET_GROUP, CACHE, WRITEBACK, XATTR, POSIX_ACL, READONLY,
-	NO_READDIRPLUS, ANNOUNCE, NO_ANNOUNCE, FILE_HANDLES, MODCAPS, POOL, NOFILE, SANDBOX, UID_MAP,
-	GID_MAP, SECCOMP, LOG,
-	TRACE, DAEMONIZE, PRINT, VERSION, HELP
+	NO_READDIRPLUS, ANNOUNCE, NO_ANNOUNCE, NODE_LIMIT, FILE_HANDLES, MODCAPS, POOL, NOFILE, SANDBOX,
+	UID_MAP, GID_MAP, SECCOMP, LOG, TRACE, DAEMONIZE, PRINT, VERSION, HELP
 };
 
 static const struct option known_words[] = {
@@ -315,6 +318,7 @@ static const struct option known_words[] = {
 	{ "no-readdirplus", no_argument, NULL, NO_READDIRPLUS },
 	{ "announce-submounts", no_argument, NULL, ANNOUNCE },
 	{ "no-announce-submounts", no_argument, NULL, NO_ANNOUNCE },
+	{ "node-limit", required_argument, NULL, NODE_LIMIT },
 	{ "inode-file-handles", required_argument, NULL, FILE_HANDLES },
 	{ "modcaps", required_argument, NULL, MODCAPS },
 	{ "thread-pool-size", required_argument, NULL, POOL },
@@ -390,6 +394,9 @@ static void take_word(int word)
 	case NO_READDIRPLUS: words.files.readdirplus = false; break;
 	case ANNOUNCE: words.files.announce_submounts = true; break;
 	case NO_ANNOUNCE: words.files.announce_submounts = false; break;
+	case NODE_LIMIT:
+		words.files.most_nodes = (unsigned)number("--node-limit", optarg, 2, INT_MAX);
+		break;
 	case FILE_HANDLES:
 		words.files.file_handles =
 			(enum file_handles)one_of("--inode-file-handles", optarg, handles);

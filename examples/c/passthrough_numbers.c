@@ -1,0 +1,108 @@
+/* Inode numbers of a passthrough: passthrough_numbers.h. */
+#define _GNU_SOURCE
+#include <pthread.h>
+#include <stdbool.h>
+#include <stdlib.h>
+#include "passthrough_numbers.h"
+
+enum { LOW_BITS = 48, PREFIXES = 65536, HEADS = 1024 };
+
+/* A device with upper bits that its numbers have, and what they are told as. */
+struct prefix {
+	uint64_t device;
+	uint16_t high, told;
+	/* The next one in its chain, counted from 1. */
+	uint32_t next;
+};
+
+/* (most of it is never touched, and takes no memory then) */
+struct numbers {
+	pthread_rwlock_t lock;
+	uint64_t own;
+	uint32_t count, heads[HEADS];
+	bool is_taken[PREFIXES];
+	struct prefix known[PREFIXES];
+};
+
+static uint64_t mix(uint64_t number)
+{
+	number = (number ^ number >> 30) * UINT64_C(0xbf58476d1ce4e5b9);
+	number = (number ^ number >> 27) * UINT64_C(0x94d049bb133111eb);
+	return number ^ number >> 31;
+}
+
+static uint64_t mix_both(uint64_t device, uint64_t number)
+{
+	return mix(number ^ mix(device + UINT64_C(0x9e3779b97f4a7c15)));
+}
+
+struct numbers *numbers_new(uint64_t device)
+{
+	struct numbers *all = calloc(1, sizeof(*all));
+
+	if (!all)
+		return NULL;
+	pthread_rwlock_init(&all->lock, NULL);
+	all->own = device;
+	/* Of the folder's own file system. */
+	all->is_taken[0] = true;
+	return all;
+}
+
+void numbers_free(struct numbers *all)
+{
+	if (!all)
+		return;
+	pthread_rwlock_destroy(&all->lock);
+	free(all);
+}
+
+/* What these upper bits are told as, under the lock; -1: nothing yet. */
+static int find(const struct numbers *all, uint64_t device, uint16_t high)
+{
+	uint32_t at = all->heads[mix_both(device, high) % HEADS];
+
+	while (at && (all->known[at - 1].device != device || all->known[at - 1].high != high))
+		at = all->known[at - 1].next;
+	return at ? all->known[at - 1].told : -1;
+}
+
+/* Finds upper bits for these, under the lock. -1: all are taken. */
+static int add(struct numbers *all, uint64_t device, uint16_t high)
+{
+	uint32_t *head = &all->heads[mix_both(device, high) % HEADS];
+	/* (the uppermost one makes a number negative to programs that take it for a signed one) */
+	uint16_t told = device == all->own ? high : (uint16_t)(mix_both(device, high) >> LOW_BITS & 0x7fff);
+
+	/* One is the folder's own. */
+	if (all->count >= PREFIXES - 1)
+		return -1;
+	while (all->is_taken[told])
+		told++;
+	all->is_taken[told] = true;
+	all->known[all->count] = (struct prefix) { device, high, told, *head };
+	*head = ++all->count;
+	return told;
+}
+
+uint64_t numbers_tell(struct numbers *all, uint64_t device, uint64_t inode)
+{
+	const uint16_t high = (uint16_t)(inode >> LOW_BITS);
+	int told;
+
+	if (device == all->own && !high)
+		return inode;
+	pthread_rwlock_rdlock(&all->lock);
+	told = find(all, device, high);
+	pthread_rwlock_unlock(&all->lock);
+	if (told < 0) {
+		pthread_rwlock_wrlock(&all->lock);
+		told = find(all, device, high);
+		if (told < 0)
+			told = add(all, device, high);
+		pthread_rwlock_unlock(&all->lock);
+	}
+	if (told < 0)
+		return mix_both(device, inode);
+	return (uint64_t)told << LOW_BITS | (inode & ((UINT64_C(1) << LOW_BITS) - 1));
+}
