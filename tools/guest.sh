@@ -169,7 +169,7 @@ if [ -n "$shared" ]; then
     folder=$(mktemp -d -p "$(if [ -d /dev/shm ]; then echo /dev/shm; else echo /tmp; fi)")
     trap 'kill "${started[@]}" 2> /dev/null || true; rm -rf "$work" "$folder"' EXIT
     chmod 755 "$folder"
-    words=("--socket-path=$work/socket" --writeback --xattr --announce-submounts "$folder")
+    words=("--socket-path=$work/socket" --writeback --xattr "$folder")
     if [ "$by" = --virtiofsd ]; then
         words=("${words[@]::3}" --shared-dir "$folder" --killpriv-v2) queues=1
     fi

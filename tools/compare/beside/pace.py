@@ -67,9 +67,7 @@ class Daemon:
         program = (given.theirs, given.replaced, given.share)[number]
         self.name, self.socket = NAMES[number], f"{given.work}/socket-{number}"
         words = [f"--socket-path={self.socket}", f"--shared-dir={given.work}/shared", "--xattr",
-                 f"--thread-pool-size={pool}", "--sandbox=none", "--seccomp=none"]
-        if number < 2:
-            words.append("--no-announce-submounts")
+                 f"--thread-pool-size={pool}", "--sandbox=none", "--seccomp=none", "--no-announce-submounts"]
         self.said = open(f"{given.work}/said-{number}", "w+", encoding="utf-8")
         front, *rest = processors(pool)
         self.process = subprocess.Popen([*before, program, *words], stdout=self.said, stderr=self.said,
