@@ -443,6 +443,18 @@ try_closed() {
     echo "It serves without standard descriptors."
 }
 
+# What waits, for a lease, a file system or a front end, keeps neither the next one nor a signal waiting.
+try_ends() {
+    local ends=$work/ends
+    mkdir "$ends"
+    # (a worker that waits is left)
+    TSAN_OPTIONS=report_thread_leaks=0 timeout -k 5 120 unshare --mount \
+        python3 -B "$here/tools/lib/share_ends.py" "$share" "$ends" "$@" 2> "$ends/said" ||
+        { cat "$ends/said" >&2 && wrong "tools/lib/share_ends.py with $*"; }
+    ! grep -E 'ERROR: |WARNING: ThreadSanitizer|runtime error' "$ends/said" >&2 || wrong "a sanitizer, at an end"
+    rm -rf "$ends" || true
+}
+
 # What is asked of a plain folder too.
 try_calls() {
     mkdir "$work/calls"
@@ -669,6 +681,7 @@ try_closed
 try_calls
 try_user
 try_nodes
+try_ends
 
 # Asks a server over vhost-user: what it is, its words.
 ask() {
@@ -984,6 +997,7 @@ for sanitizer in address,undefined thread; do
         ask "under the sanitizers $sanitizer" "$share" --xattr --announce-submounts --sandbox=none --seccomp=none
         try_mount --thread-pool-size=4 --xattr --log-level=error --sandbox=none --seccomp=none
         try_calls --sandbox=none --seccomp=none
+        try_ends --sandbox=none --seccomp=none
         share=$plain
     fi
 done

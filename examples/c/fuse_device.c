@@ -25,6 +25,7 @@
 #define _GNU_SOURCE
 #include <errno.h>
 #include <fcntl.h>
+#include <limits.h>
 #include <linux/fuse.h>
 #include <poll.h>
 #include <pthread.h>
@@ -62,6 +63,10 @@ enum { GATHER = 1000000 };
 /* In bytes: how large a pipe is, which has a place for each page; from how many data on to use it takes
  * less than a copy; and how many it holds behind a header, if they don't begin at a page. */
 enum { PIPE = 2 * FUSE_DEVICE_PIPED, LEAST_PIPED = 1 << 16, MOST_PIPED = PIPE - 2 * PAGE };
+
+/* In milliseconds, after a signal: how often it is looked what became of the requests; from when on they are
+ * looked at, and until when; and when it ends, although some don't come back. */
+enum { LOOK_TICK = 50, LOOK_FROM = 300, LOOK_UNTIL = 1300, MOST_JOIN = 600 };
 
 enum outcome { SERVED, ENDED, FAILED };
 
@@ -111,6 +116,16 @@ struct device {
 	/* Beside io_uring: whoever reads for the first one. */
 	pthread_mutex_t reading;
 	struct worker worker[TRANSPORT_MOST_WORKERS];
+	/* What each worker has begun and ended: odd while it has a request. They are apart in memory. */
+	struct {
+		atomic_uint count;
+		char apart[60];
+	} turns[TRANSPORT_MOST_WORKERS];
+	/* Unmounts after a signal, from this folder, while requests are looked at. */
+	const char *folder;
+	pthread_t unmounts;
+	int is_unmounting;
+	atomic_int unmount_failed;
 };
 
 static int say(const transport *by, const char *what)
@@ -138,6 +153,18 @@ size_t fuse_device_refuse(const transport *by, const struct fuse_in_header *aske
 	reply.error = code == NIZWARF_OUT_OF_MEMORY ? -ENOMEM : -EIO;
 	memcpy(room, &reply, sizeof(reply));
 	return sizeof(reply);
+}
+
+int32_t fuse_device_ask(struct device *of, unsigned worker, const nizwarf_segment *request, size_t segments,
+			const nizwarf_room *room, size_t rooms, size_t *len)
+{
+	atomic_uint *turn = &of->turns[worker].count;
+	int32_t code;
+
+	atomic_fetch_add(turn, 1);
+	code = of->by->serve(of->by->user, worker, request, segments, room, rooms, len);
+	atomic_fetch_add(turn, 1);
+	return code;
 }
 
 static void tell(const struct device *d, int event)
@@ -547,7 +574,7 @@ static enum outcome serve_one(struct worker *w, uint32_t *opcode)
 	room.len = fuse_device_room(&asked, w->request + sizeof(asked), (size_t)got - sizeof(asked));
 	call_if_late(w, &asked, room.len);
 	w->header.unique = asked.unique;
-	code = by->serve(by->user, w->number, &segment, 1, &room, 1, &len);
+	code = fuse_device_ask(w->of, w->number, &segment, 1, &room, 1, &len);
 	if (code != NIZWARF_OK)
 		len = fuse_device_refuse(by, &asked, code, w->room);
 	if (w->written) {
@@ -716,12 +743,21 @@ void fuse_device_join(pthread_t thread)
 	}
 }
 
-static void end(struct worker *w)
+/* The same, up to this time. -1: it waits for something else, and what it uses is left. */
+static int end(struct worker *w, uint64_t until)
 {
-	fuse_device_join(w->thread);
+	const struct timespec pause = { 0, 5000000 };
+
+	while (pthread_tryjoin_np(w->thread, NULL) == EBUSY) {
+		if (now() > until)
+			return -1;
+		pthread_kill(w->thread, SIGRTMIN);
+		nanosleep(&pause, NULL);
+	}
 	close_pipe(w);
 	close(w->fd);
 	free(w->memory);
+	return 0;
 }
 
 static void interrupted(int number)
@@ -729,12 +765,84 @@ static void interrupted(int number)
 	(void)number;
 }
 
+/* Where the mount was made: the directory above, wherever that is now, the name there, and the numbers that
+ * mounts have there and above; 0: unknown. */
+static struct {
+	int directory;
+	char name[NAME_MAX + 1];
+	uint64_t own, above;
+} made = { .directory = -1 };
+
+/* The number of the mount that a path leads to; 0: unknown. Nobody is asked for it. */
+static uint64_t number_of_mount(int directory, const char *name)
+{
+#ifdef STATX_MNT_ID
+	const int how = AT_SYMLINK_NOFOLLOW | AT_NO_AUTOMOUNT | AT_STATX_DONT_SYNC | AT_EMPTY_PATH;
+	struct statx seen;
+
+	if (!statx(directory, name, how, STATX_MNT_ID, &seen) && seen.stx_mask & STATX_MNT_ID)
+		return seen.stx_mnt_id;
+#else
+	(void)directory, (void)name;
+#endif
+	return 0;
+}
+
+/* The mount point by the directory above, so that nobody's link leads elsewhere; the folder, if there is none. */
+static const char *mount_point(const char *folder, char *place, size_t size)
+{
+	if (made.directory < 0)
+		return folder;
+	snprintf(place, size, "/proc/self/fd/%d/%s", made.directory, made.name);
+	return place;
+}
+
+/* Looks where a mount is about to be made. */
+static void find_mount_point(const char *folder)
+{
+	char path[PATH_MAX], *name;
+
+	if (!realpath(folder, path) || access("/proc/self/fd", F_OK))
+		return;
+	name = strrchr(path, '/');
+	snprintf(made.name, sizeof(made.name), "%s", name[1] ? name + 1 : ".");
+	*name = 0;
+	made.directory = open(*path ? path : "/", O_PATH | O_DIRECTORY | O_CLOEXEC);
+}
+
+/* Whether what is mounted there is what was made. 0: nothing is; -1: it is another one, and said so. */
+static int is_there(const transport *by, const char *folder)
+{
+	const uint64_t there = made.own ? number_of_mount(made.directory, made.name) : 0;
+
+	if (there == made.own || !there)
+		return 1;
+	if (there == made.above)
+		return 0;
+	fprintf(stderr, "%s: %s: another file system is mounted there\n", by->program, folder);
+	return -1;
+}
+
 int fuse_device_unmount(const transport *by, const char *folder)
 {
-	if (!umount2(folder, 0) || errno != EBUSY)
+	char place[NAME_MAX + 40];
+	const char *point = mount_point(folder, place, sizeof(place));
+	const int found = is_there(by, folder);
+
+	if (found <= 0)
+		return found;
+	if (!umount2(point, UMOUNT_NOFOLLOW) || errno != EBUSY)
 		return 0;
 	fprintf(stderr, "%s: %s is in use, and goes with its last user\n", by->program, folder);
-	return umount2(folder, MNT_DETACH) ? say(by, folder) : 0;
+	return umount2(point, MNT_DETACH | UMOUNT_NOFOLLOW) ? say(by, folder) : 0;
+}
+
+void fuse_device_detach(const transport *by, const char *folder)
+{
+	char place[NAME_MAX + 40];
+
+	if (is_there(by, folder) > 0)
+		umount2(mount_point(folder, place, sizeof(place)), MNT_DETACH | UMOUNT_NOFOLLOW);
 }
 
 /* What the calling thread saw when it looked last: how many requests were taken, at how many ticks in
@@ -782,18 +890,81 @@ static int next_tick(struct device *d, struct seen *seen)
 	return (int)seen->tick;
 }
 
+/* What became of requests since a first signal. */
+struct asked {
+	uint64_t at;
+	int looks;
+	unsigned turns[TRANSPORT_MOST_WORKERS];
+};
+
+/* Unmounts. (What is still to be written may go through a request that waits.) */
+static void *unmount(void *given)
+{
+	struct device *d = given;
+
+	if (fuse_device_unmount(d->by, d->folder)) {
+		atomic_store(&d->unmount_failed, 1);
+		tell(d, d->over);
+	}
+	return NULL;
+}
+
+/* At a first signal: unmounts, if nobody else does. */
+static void begin_end(struct device *d, struct asked *asked)
+{
+	asked->at = now();
+	if (!d->folder)
+		return;
+	d->is_unmounting = !pthread_create(&d->unmounts, NULL, unmount, d);
+	if (!d->is_unmounting)
+		unmount(d);
+}
+
+/* Whether a request has waited since it was looked first. It is looked for a while alone: what comes later
+ * ends with its user. */
+static int is_stuck(struct device *d, struct asked *asked)
+{
+	const uint64_t since = (now() - asked->at) / 1000000;
+
+	if (!asked->looks && since >= LOOK_FROM) {
+		asked->looks = 1;
+		for (int i = 0; i < TRANSPORT_MOST_WORKERS; i++)
+			asked->turns[i] = atomic_load(&d->turns[i].count);
+	}
+	if (asked->looks != 1 || since < LOOK_UNTIL)
+		return 0;
+	asked->looks = 2;
+	for (int i = 0; i < TRANSPORT_MOST_WORKERS; i++)
+		if (asked->turns[i] % 2 && asked->turns[i] == atomic_load(&d->turns[i].count))
+			return 1;
+	return 0;
+}
+
+/* Takes a signal. Whether it ends all, and not only the mount. */
+static int is_last(int signals, struct device *d, const struct asked *asked)
+{
+	struct signalfd_siginfo said;
+
+	if (read(signals, &said, sizeof(said)) != sizeof(said))
+		return 0;
+	return asked->at || !(d->folder || (said.ssi_code == SI_QUEUE && said.ssi_int == FUSE_DEVICE_UNMOUNTED));
+}
+
 /* Waits until a worker has ended, or signals want an end. */
-static void wait_for_end(struct device *d, int signals, const char *folder)
+static void wait_for_end(struct device *d, int signals)
 {
 	struct pollfd wait[] = { { signals, POLLIN, 0 }, { d->over, POLLIN, 0 },
 				 { d->busy, POLLIN, 0 } };
-	struct signalfd_siginfo said;
+	struct asked asked = { 0 };
 	struct seen seen = { 0 };
 	uint64_t times;
-	int asked = 0;
 
-	while (!wait[1].revents) {
-		if (poll(wait, 3, next_tick(d, &seen)) < 0) {
+	while (!wait[1].revents && !(asked.at && is_stuck(d, &asked))) {
+		int tick = next_tick(d, &seen);
+
+		if (asked.at && asked.looks < 2 && (tick < 0 || tick > LOOK_TICK))
+			tick = LOOK_TICK;
+		if (poll(wait, 3, tick) < 0) {
 			if (errno == EINTR)
 				continue;
 			say(d->by, "poll");
@@ -802,15 +973,14 @@ static void wait_for_end(struct device *d, int signals, const char *folder)
 		}
 		if (wait[2].revents && read(d->busy, &times, sizeof(times)) == sizeof(times))
 			seen.quiet = 0;
-		if (!wait[0].revents || read(signals, &said, sizeof(said)) != sizeof(said))
+		if (!wait[0].revents)
 			continue;
-		if (asked++ || !folder)
+		if (is_last(signals, d, &asked))
 			return;
-		if (fuse_device_unmount(d->by, folder)) {
-			atomic_store(&d->failed, 1);
-			return;
-		}
+		begin_end(d, &asked);
 	}
+	if (atomic_load(&d->unmount_failed))
+		atomic_store(&d->failed, 1);
 }
 
 /* Blocks the signals that end it, and gives a descriptor of them. */
@@ -829,20 +999,42 @@ static int await_signals(void)
 	return signalfd(-1, &ending, SFD_CLOEXEC);
 }
 
-/* Serves by workers, until they have ended. Answers whether they failed. */
-static int serve(struct device *d, int device, int signals, const char *folder)
+/* Ends the process, although a worker waits for what does not come. */
+static _Noreturn void leave(struct device *d)
 {
+	fprintf(stderr, "%s: a request does not come back: it ends without\n", d->by->program);
+	if (d->folder && atomic_load(&d->failed))
+		fuse_device_detach(d->by, d->folder);
+	if (d->by->left)
+		d->by->left(d->by->user);
+	_exit(atomic_load(&d->failed));
+}
+
+/* Serves by workers, until they have ended. Answers whether they failed. */
+static int serve(struct device *d, int device, int signals)
+{
+	const struct timespec pause = { 0, 5000000 };
+	uint64_t until;
+
 	if (start(d, device))
 		return 1;
-	wait_for_end(d, signals, folder);
+	wait_for_end(d, signals);
 	pthread_mutex_lock(&d->lock);
 	atomic_store(&d->stop, 1);
 	pthread_cond_broadcast(&d->call);
 	pthread_mutex_unlock(&d->lock);
+	until = now() + (uint64_t)MOST_JOIN * 1000000;
 	/* The first one has started the others. */
-	end(&d->worker[0]);
+	if (end(&d->worker[0], until))
+		leave(d);
 	for (unsigned i = 1; i < d->started; i++)
-		end(&d->worker[i]);
+		if (end(&d->worker[i], until))
+			leave(d);
+	while (d->is_unmounting && pthread_tryjoin_np(d->unmounts, NULL) == EBUSY) {
+		if (now() > until)
+			leave(d);
+		nanosleep(&pause, NULL);
+	}
 	return atomic_load(&d->failed);
 }
 
@@ -867,13 +1059,14 @@ int fuse_device_serve(const transport *by, int device, const char *folder)
 		pthread_mutex_init(&d->lock, NULL);
 		pthread_cond_init(&d->call, NULL);
 		pthread_mutex_init(&d->reading, NULL);
-		is_wrong = serve(d, device, own[0], folder);
+		d->folder = folder;
+		is_wrong = serve(d, device, own[0]);
 	} else {
 		say(by, "signalfd and eventfd");
 		close(device);
 	}
 	if (is_wrong && folder)
-		umount2(folder, MNT_DETACH);
+		fuse_device_detach(by, folder);
 	close_each(own, sizeof(own) / sizeof(*own));
 	free(d);
 	return is_wrong;
@@ -889,16 +1082,21 @@ int fuse_device_open(const transport *by)
 int fuse_device_mount_on(const transport *by, int device, const char *source, const char *folder,
 			 unsigned long flags, const char *options)
 {
-	char words[512];
+	char words[512], place[NAME_MAX + 40];
 	const int len = snprintf(words, sizeof(words),
 				 "fd=%d,rootmode=40000,user_id=%u,group_id=%u%s", device,
 				 (unsigned)geteuid(), (unsigned)getegid(), options);
 
+	find_mount_point(folder);
+	if (made.directory >= 0)
+		made.above = number_of_mount(made.directory, made.name);
 	errno = E2BIG;
-	if (len >= 0 && (size_t)len < sizeof(words) &&
-	    !mount(source, folder, "fuse.nizwarf", flags, words))
-		return 0;
-	return say(by, folder);
+	if (len < 0 || (size_t)len >= sizeof(words) ||
+	    mount(source, mount_point(folder, place, sizeof(place)), "fuse.nizwarf", flags, words))
+		return say(by, folder);
+	if (made.directory >= 0)
+		made.own = number_of_mount(made.directory, made.name);
+	return 0;
 }
 
 int fuse_device_mount(const transport *by, const char *source, const char *folder,

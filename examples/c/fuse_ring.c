@@ -220,7 +220,6 @@ static void count_bulk(struct worker *w, const struct fuse_in_header *asked, siz
 static size_t serve_request(struct worker *w, const struct entry *e, const struct fuse_in_header *asked,
 			    size_t record, struct fuse_out_header *reply)
 {
-	const transport *by = w->of->with.by;
 	unsigned char *payload = e->memory[1].iov_base;
 	const size_t wanted = fuse_device_room(asked, e->header->record, record) - HEAD;
 	const nizwarf_segment request[] = { { asked, sizeof(*asked) },
@@ -232,8 +231,8 @@ static size_t serve_request(struct worker *w, const struct entry *e, const struc
 	int32_t code;
 
 	count_bulk(w, asked, rooms[1].len);
-	code = by->serve(by->user, w->number, request, 3, rooms, 2, &len);
-	return code == NIZWARF_OK ? len : fuse_device_refuse(by, asked, code, reply);
+	code = fuse_device_ask(w->of->with.of, w->number, request, 3, rooms, 2, &len);
+	return code == NIZWARF_OK ? len : fuse_device_refuse(w->of->with.by, asked, code, reply);
 }
 
 /* Answers the request in an entry. 0, or -1: it said why.

@@ -176,6 +176,13 @@ int passthrough_begin(void *user, unsigned worker)
 {
 	struct passthrough *all = user;
 
+	/* (one in place of another) */
+	if (!all->worker[worker])
+		all->worker[worker] = calloc(1, sizeof(struct worker));
+	if (!all->worker[worker]) {
+		fputs("nizwarf-share: a worker: no memory\n", stderr);
+		return 1;
+	}
 	if (!begin_worker(all->worker[worker], &all->options))
 		return 0;
 	fprintf(stderr, "nizwarf-share: a worker: %s\n", strerror(errno));

@@ -29,7 +29,7 @@
 enum { LARGE_TABLE = 65536 };
 /* Descriptors besides those of the folder's files: of a mount, with a device and a pipe for each worker; of
  * a socket, with two for each queue, if there are as many as workers. */
-enum { OF_MOUNT = 12, OF_MOUNT_WORKER = 3, OF_SOCKET = 24, OF_SOCKET_WORKER = 2 };
+enum { OF_MOUNT = 13, OF_MOUNT_WORKER = 3, OF_SOCKET = 24, OF_SOCKET_WORKER = 2 };
 
 static int failed(const char *what)
 {
@@ -215,10 +215,18 @@ static bool is_below(const char *path, const char *folder)
 	return !strncmp(path, folder, len) && (!path[len] || path[len] == '/' || folder[len - 1] == '/');
 }
 
+/* (what stands by removes it, where something does) */
+static void remove_socket(void *user)
+{
+	(void)user;
+	if (words.socket_path && words.sandbox == SANDBOX_NONE)
+		unlink(words.socket_path);
+}
+
 /* The transport, and the device of a mount. */
 static transport by = { .program = "nizwarf-share", .writes_in_place = 1, .splices = 1,
 			.begin = passthrough_begin, .end = passthrough_finish, .parted = passthrough_parted,
-			.serve = passthrough_serve };
+			.has_spare = 1, .left = remove_socket, .serve = passthrough_serve };
 static int device = -1;
 
 static int mount_folder(void *user)
@@ -298,7 +306,7 @@ static int serve(int listener)
 			status = words.mount_point ? fuse_device_serve(&by, device, unmounts) :
 						     vhost_user_serve(&by, listener);
 		} else if (unmounts) {
-			umount2(unmounts, MNT_DETACH);
+			fuse_device_detach(&by, unmounts);
 		}
 	}
 	passthrough_end(all);
@@ -370,7 +378,6 @@ int main(int count, char **given)
 	}
 	words.files.keeps_groups = users_keep_groups();
 	status = serve(listener);
-	if (words.socket_path && words.sandbox == SANDBOX_NONE)
-		unlink(words.socket_path);
+	remove_socket(NULL);
 	return status;
 }

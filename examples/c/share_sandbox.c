@@ -19,6 +19,7 @@
 #include <sys/ioctl.h>
 #endif
 #include "share_sandbox.h"
+#include "transport.h"
 
 static int failed(const char *what)
 {
@@ -70,30 +71,57 @@ void sandbox_ready(void)
 	close(tells[0]);
 }
 
+/* In seconds: how long the child may take to end once it is told, and once it is killed. */
+enum { PATIENCE = 3 };
+
+/* How far the end has come: the child serves up to its last user; it is to end; it is killed. */
+enum end { NOT_ASKED, UNMOUNTED, TOLD, KILLED };
+
+/* Passes a signal on, or has the child end otherwise, which did not by the last one. */
+static enum end pass_on(pid_t child, int signal, enum end end, bool is_mounted, const struct outside *outside)
+{
+	const union sigval unmounted = { .sival_int = FUSE_DEVICE_UNMOUNTED };
+
+	if (signal < 0) {
+		fputs("nizwarf-share: the server doesn't end, and is killed\n", stderr);
+		kill(child, SIGKILL);
+		return KILLED;
+	}
+	/* (where that is in use it goes with its last user, and the server with it) */
+	if (is_mounted && end == NOT_ASKED && !sigqueue(child, SIGTERM, unmounted) &&
+	    !outside->unmount(outside->user))
+		return UNMOUNTED;
+	kill(child, signal);
+	return end == KILLED ? KILLED : TOLD;
+}
+
 /* Waits for the child, and ends as it did. */
 static _Noreturn void stand_by(pid_t child, const sigset_t *awaited, const struct outside *outside)
 {
-	bool is_mounted = begin_outside(outside), is_asked = false;
-	int signal, status;
+	const struct timespec most = { PATIENCE, 0 };
+	const bool is_mounted = begin_outside(outside);
+	enum end end = NOT_ASKED;
+	int status = W_EXITCODE(1, 0);
 
 	for (;;) {
-		if (sigwait(awaited, &signal))
-			continue;
+		const int signal = end < TOLD ? sigwaitinfo(awaited, NULL) : sigtimedwait(awaited, NULL, &most);
+
 		if (signal == SIGCHLD && waitpid(child, &status, WNOHANG) == child)
 			break;
-		/* (where that is in use it goes with its last user, and the server with it) */
-		if (signal != SIGCHLD && is_mounted && !is_asked && !outside->unmount(outside->user))
-			is_asked = true;
-		else if (signal != SIGCHLD)
-			kill(child, signal);
+		if (signal == SIGCHLD || (signal < 0 && errno == EINTR))
+			continue;
+		/* (it waits for what nothing interrupts) */
+		if (signal < 0 && end == KILLED)
+			break;
+		end = pass_on(child, signal, end, is_mounted, outside);
 	}
-	if (is_mounted && !is_asked && status)
+	if (is_mounted)
 		outside->unmount(outside->user);
 	if (outside->socket_path)
 		unlink(outside->socket_path);
 	if (WIFSIGNALED(status))
 		fprintf(stderr, "nizwarf-share: signal %d ended the server\n", WTERMSIG(status));
-	_exit(WIFEXITED(status) ? WEXITSTATUS(status) : 1);
+	_exit(WIFEXITED(status) ? WEXITSTATUS(status) : end != KILLED);
 }
 
 /* The signals that a server, or what stands by, waits for. */

@@ -60,8 +60,15 @@ typedef struct {
 	 * why. */
 	int (*begin)(void *user, unsigned worker);
 	void (*end)(void *user, unsigned worker);
-	/* May be NULL. A front end of a virtual machine has gone, and no request is in flight. */
+	/* May be NULL. A front end of a virtual machine has gone, and no request of it is in flight, or with
+	 * `has_spare` those alone that don't come back. */
 	void (*parted)(void *user);
+	/* A request that doesn't come back, though its front end has gone, holds up no other one: a worker
+	 * begins in place of its own, with a number of its own below TRANSPORT_MOST_WORKERS. */
+	int has_spare;
+	/* May be NULL. A request doesn't come back, and all is to end: so nothing is freed, and the process
+	 * ends once this has removed what must not stay. */
+	void (*left)(void *user);
 	/* Answers a request as nizwarf_message does: a code, and in `*len`, which comes as 0, how many
 	 * bytes of the rooms are the reply. */
 	int32_t (*serve)(void *user, unsigned worker, const nizwarf_segment *request, size_t segments,
@@ -95,15 +102,20 @@ int fuse_device_open(const transport *by);
 int fuse_device_mount_on(const transport *by, int device, const char *source, const char *folder,
 			 unsigned long flags, const char *options);
 
-/* Unmounts the folder; where that is in use it goes with its last user. 0, or -1: it said why. */
+/* Unmounts from the folder what was mounted there, and nothing else, whatever became of its path; where
+ * that is in use it goes with its last user. 0, or -1: it said why. */
 int fuse_device_unmount(const transport *by, const char *folder);
+/* The same without a word, and what is in use goes at once. */
+void fuse_device_detach(const transport *by, const char *folder);
 
 /* Serves a device until it is unmounted, and closes it. A first signal unmounts the folder; where
- * that is in use it goes with its last user, or at a second signal. The folder is NULL if somebody
- * else mounted it: a signal ends the serving then. The device may be a socket that keeps messages
- * apart, and is served until the other end is closed. A reply that Linux refuses becomes EIO. Linux
- * sends no DESTROY: end your file system then, as nizwarf_end_ops does. 0: it ended so; 1: it failed,
- * and said why. */
+ * that is in use it goes with its last user, or at a second signal, or after a second if a request does
+ * not come back. The folder is NULL if somebody else mounted it: a signal ends the serving then, but one
+ * with the value FUSE_DEVICE_UNMOUNTED, as sigqueue(3) sends it, is that first one, and somebody else
+ * unmounts. The device may be a socket that keeps messages apart, and is served until the other end is
+ * closed. A reply that Linux refuses becomes EIO. Linux sends no DESTROY: end your file system then, as
+ * nizwarf_end_ops does. 0: it ended so; 1: it failed, and said why. */
+enum { FUSE_DEVICE_UNMOUNTED = 0x756d6e74 };
 int fuse_device_serve(const transport *by, int device, const char *folder);
 
 /* Both move the data of the request that the calling worker serves right between a file and the kernel.

@@ -62,6 +62,14 @@ static int32_t serve(void *user, unsigned worker, const nizwarf_segment *request
 	return code;
 }
 
+static const char *path;
+
+static void remove_socket(void *user)
+{
+	(void)user;
+	unlink(path);
+}
+
 /* Prints what a word asks for. Whether it asks for something. */
 static bool prints(const char *word)
 {
@@ -80,7 +88,7 @@ static bool prints(const char *word)
 int main(int count, char **words)
 {
 	transport by = { .program = "nizwarf-vhost", .workers = 1, .withheld = FUSE_ATOMIC_O_TRUNC,
-			 .begin = begin, .end = end, .serve = serve };
+			 .begin = begin, .end = end, .left = remove_socket, .serve = serve };
 	const char *trace = NULL;
 	int listener, status;
 
@@ -100,10 +108,11 @@ int main(int count, char **words)
 	if (trace && trace_begin(&by, *trace ? trace + 1 : NULL))
 		return 1;
 	heap_begin();
-	listener = vhost_user_listen(&by, words[1]);
+	path = words[1];
+	listener = vhost_user_listen(&by, path);
 	if (listener < 0)
 		return -listener;
 	status = vhost_user_serve(&by, listener);
-	unlink(words[1]);
+	unlink(path);
 	return status;
 }

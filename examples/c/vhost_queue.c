@@ -6,12 +6,14 @@
 #define _GNU_SOURCE
 #include <errno.h>
 #include <fcntl.h>
+#include <poll.h>
 #include <stdio.h>
 #include <stdlib.h>
 #include <string.h>
 #include <sys/epoll.h>
 #include <sys/eventfd.h>
 #include <sys/mman.h>
+#include <sys/syscall.h>
 #include <time.h>
 #include <unistd.h>
 #include "vhost_queue.h"
@@ -27,20 +29,17 @@ enum { OPCODE_WRITE = 16, OPCODE_END = 8, WRITE_HEAD = 80 };
 #ifdef __SANITIZE_THREAD__
 void __tsan_acquire(void *at);
 void __tsan_release(void *at);
-#define FROM_GUEST() __tsan_acquire(vhost_queue)
-#define TO_GUEST() __tsan_release(vhost_queue)
+static char from_guest;
+#define FROM_GUEST() __tsan_acquire(&from_guest)
+#define TO_GUEST() __tsan_release(&from_guest)
 #else
 #define FROM_GUEST() ((void)0)
 #define TO_GUEST() ((void)0)
 #endif
 
-struct queue vhost_queue[QUEUES];
-struct region vhost_region[REGIONS];
-size_t vhost_regions;
-
-/* Is held by a worker while it has a chain, and by the calling thread, alone, while it changes
- * queues or memory. */
-static pthread_rwlock_t in_flight;
+struct guest *vhost_guest;
+/* Is held by who changes which one it is, or its users. */
+static pthread_mutex_t guests = PTHREAD_MUTEX_INITIALIZER;
 
 /* What wakes a worker: a kick, by the queue's number; a queue that is to be looked at; the end. */
 enum { LOOK = QUEUES, STOP };
@@ -48,9 +47,15 @@ static int events, look, stop;
 /* What wakes the calling thread: a worker that failed; memory that is gone. */
 static int over, lost;
 
+/* In milliseconds: how long the calling thread waits for requests at once, and rests then; from when on it
+ * interrupts them; and when it waits no longer. */
+enum { HOLD = 200, REST = 5, INTERRUPTS = 250, MOST = 1000 };
+
 struct worker {
 	unsigned number;
 	pthread_t thread;
+	/* Whom it serves now. */
+	_Atomic(struct guest *) serves;
 	/* A chain: the request is copied, but for the data of a WRITE if they are to stay. */
 	size_t len, copied, segments, rooms, room_len;
 	nizwarf_segment segment[PIECES + 1];
@@ -66,6 +71,7 @@ static atomic_ulong outcomes[OUTCOMES], broken;
 static const transport *by;
 static struct worker *workers[TRANSPORT_MOST_WORKERS];
 static unsigned started;
+static _Thread_local const struct worker *this_worker;
 
 static int failed(const char *what)
 {
@@ -84,14 +90,14 @@ static void tell(int event)
 /* ---- chains, by workers */
 
 /* Where these bytes of the guest are: in one region, or NULL. */
-static unsigned char *bytes_at(uint64_t address, uint64_t len, int by_user)
+static unsigned char *bytes_at(const struct guest *g, uint64_t address, uint64_t len, int by_user)
 {
-	for (size_t i = 0; i < vhost_regions; i++) {
-		const uint64_t from = by_user ? vhost_region[i].user : vhost_region[i].guest;
-		const uint64_t off = address - from;
+	for (size_t i = 0; i < g->regions; i++) {
+		const struct region *r = &g->region[i];
+		const uint64_t off = address - (by_user ? r->user : r->guest);
 
-		if (address >= from && off <= vhost_region[i].size && len <= vhost_region[i].size - off)
-			return vhost_region[i].at + off;
+		if (address >= (by_user ? r->user : r->guest) && off <= r->size && len <= r->size - off)
+			return r->at + off;
 	}
 	return NULL;
 }
@@ -129,9 +135,9 @@ static int add_request(struct worker *w, const unsigned char *at, size_t len)
 }
 
 /* Adds a descriptor's bytes to the chain. */
-static int add_piece(struct worker *w, const struct vring_desc *d)
+static int add_piece(struct worker *w, const struct guest *g, const struct vring_desc *d)
 {
-	unsigned char *at = bytes_at(d->addr, d->len, 0);
+	unsigned char *at = bytes_at(g, d->addr, d->len, 0);
 	const int is_room = d->flags & VRING_DESC_F_WRITE;
 	const size_t left = LONGEST - (is_room ? w->room_len : w->len);
 	const size_t len = d->len < left ? d->len : left;
@@ -146,7 +152,7 @@ static int add_piece(struct worker *w, const struct vring_desc *d)
 }
 
 /* Reads the chain that begins at this descriptor. -1: it is none. */
-static int take_chain(struct worker *w, const struct queue *q, uint16_t head)
+static int take_chain(struct worker *w, const struct guest *g, const struct queue *q, uint16_t head)
 {
 	const unsigned char *table = q->descriptors;
 	uint32_t entries = q->size, at = head, seen = 0;
@@ -165,14 +171,14 @@ static int take_chain(struct worker *w, const struct queue *q, uint16_t head)
 		at = d.next;
 		if (d.flags & VRING_DESC_F_INDIRECT) {
 			/* The rest of the chain is a table of its own. */
-			table = bytes_at(d.addr, d.len, 0);
+			table = bytes_at(g, d.addr, d.len, 0);
 			entries = d.len / sizeof(d);
 			if (!table || is_indirect++ || d.flags & VRING_DESC_F_NEXT ||
 			    d.len % sizeof(d) || entries > PIECES)
 				return -1;
 			at = seen = 0;
 			d.flags = VRING_DESC_F_NEXT;
-		} else if (add_piece(w, &d)) {
+		} else if (add_piece(w, g, &d)) {
 			return -1;
 		}
 	} while (d.flags & VRING_DESC_F_NEXT);
@@ -182,12 +188,12 @@ static int take_chain(struct worker *w, const struct queue *q, uint16_t head)
 /* Answers the chain, and gives the length that completes it: 0 for a refused request, and for one
  * without a reply, as FORGET, INTERRUPT and DESTROY. These are completed too, or the guest waits for
  * ever. */
-static uint32_t answer(struct worker *w, const struct queue *q, uint16_t head)
+static uint32_t answer(struct worker *w, const struct guest *g, const struct queue *q, uint16_t head)
 {
 	size_t len = 0;
 	int32_t code;
 
-	if (take_chain(w, q, head)) {
+	if (take_chain(w, g, q, head)) {
 		broken++;
 		return 0;
 	}
@@ -228,47 +234,112 @@ static int take_head(struct queue *q)
 	return head;
 }
 
-/* Tells the guest that a chain is done. */
-static void complete(struct queue *q, uint16_t head, uint32_t len)
+/* Gives a chain back to the guest. Answers whether it wants to be told. */
+static int complete(struct queue *q, uint16_t head, uint32_t len)
 {
-	const uint64_t one = 1;
-
 	if (!q->available)
-		return;
+		return 0;
 	q->used->ring[q->done % q->size] = (struct vring_used_elem) { head, len };
 	q->done++;
 	TO_GUEST();
 	/* (the guest sets the flag, and then looks at the number: one of both sees what the other did) */
 	__atomic_store_n(&q->used->idx, q->done, __ATOMIC_SEQ_CST);
-	if (__atomic_load_n(&q->available->flags, __ATOMIC_SEQ_CST) & VRING_AVAIL_F_NO_INTERRUPT)
-		return;
-	if (q->call >= 0 && write(q->call, &one, sizeof(one)) < 0 && errno != EAGAIN) {
-		failed("a queue's call is no event");
-		close(q->call);
-		q->call = -1;
-	}
+	return !(__atomic_load_n(&q->available->flags, __ATOMIC_SEQ_CST) & VRING_AVAIL_F_NO_INTERRUPT) &&
+	       q->calls;
 }
 
-/* Answers what waits in the queue. */
-static void serve_queue(struct worker *w, struct queue *q)
+/* Tells the guest that a chain is done. A front end can have this wait, as long as its event is full: then
+ * it is interrupted once the front end has gone. */
+static void call_guest(struct queue *q)
 {
-	int head;
+	const uint64_t one = 1;
 
-	do {
-		/* (between two chains a message may have its turn) */
-		pthread_rwlock_rdlock(&in_flight);
-		pthread_mutex_lock(&q->lock);
-		head = take_head(q);
-		pthread_mutex_unlock(&q->lock);
-		if (head >= 0) {
-			const uint32_t len = answer(w, q, (uint16_t)head);
+	if (write(q->call, &one, sizeof(one)) >= 0 || errno == EAGAIN || errno == EINTR)
+		return;
+	failed("a queue's call is no event");
+	pthread_mutex_lock(&q->lock);
+	q->calls = 0;
+	pthread_mutex_unlock(&q->lock);
+}
 
-			pthread_mutex_lock(&q->lock);
-			complete(q, (uint16_t)head, len);
-			pthread_mutex_unlock(&q->lock);
-		}
-		pthread_rwlock_unlock(&in_flight);
-	} while (head >= 0);
+/* Answers the next chain of a queue, if one waits. Whether one did. */
+static int serve_next(struct worker *w, struct guest *g, struct queue *q)
+{
+	int head, calls;
+	uint32_t len;
+
+	pthread_mutex_lock(&q->lock);
+	head = atomic_load(&g->gone) ? -1 : take_head(q);
+	pthread_mutex_unlock(&q->lock);
+	if (head < 0)
+		return 0;
+	len = answer(w, g, q, (uint16_t)head);
+	pthread_mutex_lock(&q->lock);
+	calls = !atomic_load(&g->gone) && complete(q, (uint16_t)head, len);
+	pthread_mutex_unlock(&q->lock);
+	if (calls)
+		call_guest(q);
+	return 1;
+}
+
+/* The guest that is served now, with a user more. */
+static struct guest *take_guest(void)
+{
+	struct guest *g;
+
+	pthread_mutex_lock(&guests);
+	g = vhost_guest;
+	g->users++;
+	pthread_mutex_unlock(&guests);
+	return g;
+}
+
+static void put_guest(struct guest *g)
+{
+	unsigned users;
+
+	pthread_mutex_lock(&guests);
+	users = --g->users;
+	pthread_mutex_unlock(&guests);
+	if (users)
+		return;
+	guest_unshare(g);
+	for (int i = 0; i < QUEUES; i++) {
+		struct queue *q = &g->queue[i];
+
+		if (q->kick >= 0)
+			close(q->kick);
+		if (q->call >= 0)
+			close(q->call);
+		pthread_mutex_destroy(&q->lock);
+	}
+	pthread_rwlock_destroy(&g->in_flight);
+	free(g);
+}
+
+/* Answers what waits in a queue; in each that is to be looked at, if it is none's number. */
+static void serve_queue(struct worker *w, uint32_t number)
+{
+	struct guest *g = take_guest();
+	int more;
+
+	atomic_store(&w->serves, g);
+	for (uint32_t i = number < QUEUES ? number : 0; i < QUEUES; i++) {
+		struct queue *q = &g->queue[i];
+
+		if (number >= QUEUES && (!atomic_load(&q->look) || !atomic_exchange(&q->look, 0)))
+			continue;
+		do {
+			/* (between two chains a message may have its turn) */
+			pthread_rwlock_rdlock(&g->in_flight);
+			more = serve_next(w, g, q);
+			pthread_rwlock_unlock(&g->in_flight);
+		} while (more);
+		if (number < QUEUES)
+			break;
+	}
+	atomic_store(&w->serves, NULL);
+	put_guest(g);
 }
 
 static void *run(void *given)
@@ -276,6 +347,7 @@ static void *run(void *given)
 	struct worker *w = given;
 	struct epoll_event event;
 
+	this_worker = w;
 	if (by->begin && by->begin(by->user, w->number)) {
 		tell(over);
 		return NULL;
@@ -292,13 +364,7 @@ static void *run(void *given)
 		}
 		if (event.data.u32 == STOP)
 			break;
-		if (event.data.u32 < QUEUES) {
-			serve_queue(w, &vhost_queue[event.data.u32]);
-			continue;
-		}
-		for (size_t i = 0; i < QUEUES; i++)
-			if (atomic_load(&vhost_queue[i].look) && atomic_exchange(&vhost_queue[i].look, 0))
-				serve_queue(w, &vhost_queue[i]);
+		serve_queue(w, event.data.u32);
 	}
 	if (by->end)
 		by->end(by->user, w->number);
@@ -310,18 +376,21 @@ static void *run(void *given)
 static void lose_memory(int number, siginfo_t *about, void *context)
 {
 	const uintptr_t at = (uintptr_t)about->si_addr;
+	const struct guest *g = this_worker ? atomic_load(&this_worker->serves) : NULL;
 
 	(void)context;
-	for (size_t i = 0; i < vhost_regions; i++) {
-		const struct region *r = &vhost_region[i];
+	for (size_t i = 0; g && i < g->regions; i++) {
+		const struct region *r = &g->region[i];
 		const uintptr_t from = (uintptr_t)r->map;
 
 		if (at < from || at - from >= r->mapped)
 			continue;
-		if (mmap(r->map, r->mapped, PROT_READ | PROT_WRITE,
-			 MAP_PRIVATE | MAP_ANONYMOUS | MAP_NORESERVE | MAP_FIXED, -1, 0) == MAP_FAILED)
+		/* (by itself: a sanitizer takes mmap() for a write to what another worker reads) */
+		if (syscall(SYS_mmap, r->map, r->mapped, PROT_READ | PROT_WRITE,
+			    MAP_PRIVATE | MAP_ANONYMOUS | MAP_NORESERVE | MAP_FIXED, -1, 0) == -1)
 			break;
-		tell(lost);
+		if (!atomic_load(&g->gone))
+			tell(lost);
 		return;
 	}
 	/* (it comes again, and ends the process) */
@@ -333,7 +402,7 @@ static void lose_memory(int number, siginfo_t *about, void *context)
 /* A ring of the front end's view, aligned as it must be, or NULL. */
 static void *ring_at(uint64_t address, uint64_t len, uintptr_t align)
 {
-	unsigned char *at = bytes_at(address, len, 1);
+	unsigned char *at = bytes_at(vhost_guest, address, len, 1);
 
 	return at && (uintptr_t)at % align == 0 ? at : NULL;
 }
@@ -355,6 +424,7 @@ void queue_call(struct queue *q, int fd)
 	if (q->call >= 0)
 		close(q->call);
 	q->call = fd;
+	q->calls = fd >= 0;
 	if (fd >= 0)
 		fcntl(fd, F_SETFL, O_NONBLOCK);
 }
@@ -363,7 +433,7 @@ void queue_call(struct queue *q, int fd)
 int queue_kick(struct queue *q, int fd)
 {
 	struct epoll_event event = { .events = EPOLLIN | EPOLLET,
-				     .data.u32 = (uint32_t)(q - vhost_queue) };
+				     .data.u32 = (uint32_t)(q - vhost_guest->queue) };
 
 	if (q->kick >= 0) {
 		epoll_ctl(events, EPOLL_CTL_DEL, q->kick, NULL);
@@ -376,14 +446,53 @@ int queue_kick(struct queue *q, int fd)
 	return epoll_ctl(events, EPOLL_CTL_ADD, fd, &event);
 }
 
-void queues_hold(void)
+static struct timespec after(int milliseconds, clockid_t clock)
 {
-	pthread_rwlock_wrlock(&in_flight);
+	struct timespec time;
+
+	clock_gettime(clock, &time);
+	time.tv_nsec += (long)milliseconds * 1000000;
+	time.tv_sec += time.tv_nsec / 1000000000;
+	time.tv_nsec %= 1000000000;
+	return time;
+}
+
+static int has_passed(const struct timespec *time)
+{
+	const struct timespec now = after(0, CLOCK_MONOTONIC);
+
+	return now.tv_sec > time->tv_sec || (now.tv_sec == time->tv_sec && now.tv_nsec > time->tv_nsec);
+}
+
+static int try_hold(int milliseconds)
+{
+	const struct timespec most = after(milliseconds, CLOCK_REALTIME);
+
+	return pthread_rwlock_timedwrlock(&vhost_guest->in_flight, &most);
+}
+
+/* (One that takes long holds up the others for a part of the time alone.) */
+int queues_hold(int signals, int client)
+{
+	struct pollfd wait[] = { { signals, POLLIN, 0 }, { client, POLLRDHUP, 0 } };
+
+	while (try_hold(HOLD))
+		if (poll(wait, 2, REST) > 0)
+			return -1;
+	return 0;
 }
 
 void queues_go(void)
 {
-	pthread_rwlock_unlock(&in_flight);
+	pthread_rwlock_unlock(&vhost_guest->in_flight);
+}
+
+void guest_unshare(struct guest *g)
+{
+	while (g->regions > 0) {
+		g->regions--;
+		munmap(g->region[g->regions].map, g->region[g->regions].mapped);
+	}
 }
 
 int queues_over(void)
@@ -410,31 +519,65 @@ void queues_tell(void)
 		fprintf(stderr, "%s: no chain: %lu\n", by->program, count);
 }
 
+static struct guest *new_guest(void)
+{
+	struct guest *g = calloc(1, sizeof(*g));
+	pthread_rwlockattr_t writer_first;
+
+	if (!g)
+		return NULL;
+	g->users = 1;
+	pthread_rwlockattr_init(&writer_first);
+	pthread_rwlockattr_setkind_np(&writer_first, PTHREAD_RWLOCK_PREFER_WRITER_NONRECURSIVE_NP);
+	pthread_rwlock_init(&g->in_flight, &writer_first);
+	for (int i = 0; i < QUEUES; i++) {
+		pthread_mutex_init(&g->queue[i].lock, NULL);
+		g->queue[i].kick = g->queue[i].call = -1;
+	}
+	return g;
+}
+
+static void interrupted(int number)
+{
+	(void)number;
+}
+
 /* Makes what workers wait for: events. */
 static int make_events(void)
 {
 	struct epoll_event looks = { .events = EPOLLIN | EPOLLET, .data.u32 = LOOK };
 	struct epoll_event stops = { .events = EPOLLIN, .data.u32 = STOP };
 	const struct sigaction loses = { .sa_sigaction = lose_memory, .sa_flags = SA_SIGINFO };
-	pthread_rwlockattr_t writer_first;
+	const struct sigaction interrupts = { .sa_handler = interrupted };
 
 	sigaction(SIGBUS, &loses, NULL);
-	pthread_rwlockattr_init(&writer_first);
-	pthread_rwlockattr_setkind_np(&writer_first, PTHREAD_RWLOCK_PREFER_WRITER_NONRECURSIVE_NP);
-	pthread_rwlock_init(&in_flight, &writer_first);
-	for (int i = 0; i < QUEUES; i++) {
-		pthread_mutex_init(&vhost_queue[i].lock, NULL);
-		vhost_queue[i].kick = vhost_queue[i].call = -1;
-	}
+	sigaction(SIGRTMIN, &interrupts, NULL);
+	vhost_guest = new_guest();
 	events = epoll_create1(EPOLL_CLOEXEC);
 	look = eventfd(0, EFD_CLOEXEC | EFD_NONBLOCK);
 	stop = eventfd(0, EFD_CLOEXEC | EFD_NONBLOCK);
 	over = eventfd(0, EFD_CLOEXEC | EFD_NONBLOCK);
 	lost = eventfd(0, EFD_CLOEXEC | EFD_NONBLOCK);
-	if (events < 0 || look < 0 || stop < 0 || over < 0 || lost < 0 ||
+	if (!vhost_guest || events < 0 || look < 0 || stop < 0 || over < 0 || lost < 0 ||
 	    epoll_ctl(events, EPOLL_CTL_ADD, look, &looks) ||
 	    epoll_ctl(events, EPOLL_CTL_ADD, stop, &stops))
 		return failed("eventfd");
+	return 0;
+}
+
+/* Starts the next worker. */
+static int start_worker(void)
+{
+	struct worker *w = calloc(1, sizeof(*w));
+
+	errno = ENOMEM;
+	if (w)
+		w->number = started;
+	if (!w || (errno = pthread_create(&w->thread, NULL, run, w))) {
+		free(w);
+		return failed("a worker");
+	}
+	workers[started++] = w;
 	return 0;
 }
 
@@ -443,45 +586,93 @@ int queues_begin(const transport *with)
 	by = with;
 	if (make_events())
 		return -1;
-	for (started = 0; started < by->workers && started < TRANSPORT_MOST_WORKERS; started++) {
-		struct worker *w = calloc(1, sizeof(*w));
-
-		errno = ENOMEM;
-		if (w)
-			w->number = started;
-		if (!w || (errno = pthread_create(&w->thread, NULL, run, w))) {
-			free(w);
-			return failed("a worker");
-		}
-		workers[started] = w;
-	}
+	while (started < by->workers && started < TRANSPORT_MOST_WORKERS)
+		if (start_worker())
+			return -1;
 	return 0;
 }
 
-/* Waits for the end of a worker. Where its request takes long, a further signal ends all. */
-static void end_worker(const struct worker *w, const sigset_t *ending)
+/* Lets a request that takes long go on with EINTR. Who is about to wait is interrupted the next time. */
+static void interrupt(const struct guest *of)
 {
-	struct timespec most;
+	for (unsigned i = 0; i < started; i++) {
+		const struct guest *served = workers[i] ? atomic_load(&workers[i]->serves) : NULL;
 
-	clock_gettime(CLOCK_REALTIME, &most);
-	most.tv_sec += 2;
-	if (pthread_timedjoin_np(w->thread, NULL, &most)) {
-		pthread_sigmask(SIG_UNBLOCK, ending, NULL);
-		pthread_join(w->thread, NULL);
+		if (served && (!of || served == of))
+			pthread_kill(workers[i]->thread, SIGRTMIN);
 	}
 }
 
-void queues_end(const sigset_t *ending)
+/* Leaves what a front end shared to the workers that still use it, and begins others in their place. */
+static int leave_guest(void)
 {
+	struct guest *gone = vhost_guest, *next = new_guest();
+	unsigned are_free = 0;
+
+	if (!next)
+		return failed("a front end");
+	/* (what it is kicked by is closed with it, and wakes nobody meanwhile) */
+	for (int i = 0; i < QUEUES; i++)
+		if (gone->queue[i].kick >= 0)
+			epoll_ctl(events, EPOLL_CTL_DEL, gone->queue[i].kick, NULL);
+	pthread_mutex_lock(&guests);
+	vhost_guest = next;
+	pthread_mutex_unlock(&guests);
+	for (unsigned i = 0; i < started; i++) {
+		const struct guest *served = atomic_load(&workers[i]->serves);
+
+		are_free += !served || served == next;
+	}
+	put_guest(gone);
+	while (are_free++ < by->workers && started < TRANSPORT_MOST_WORKERS)
+		if (start_worker())
+			return -1;
+	return 1;
+}
+
+int queues_part(int signals)
+{
+	const struct timespec interrupts = after(INTERRUPTS, CLOCK_MONOTONIC), most = after(MOST, CLOCK_MONOTONIC);
+	struct pollfd wait = { signals, POLLIN, 0 };
+
+	atomic_store(&vhost_guest->gone, 1);
+	while (try_hold(REST)) {
+		if (has_passed(&interrupts))
+			interrupt(vhost_guest);
+		if (poll(&wait, 1, 0) > 0 && has_passed(&interrupts))
+			return -1;
+		if (by->has_spare && has_passed(&most))
+			return leave_guest();
+	}
+	atomic_store(&vhost_guest->gone, 0);
+	return 0;
+}
+
+int queues_end(void)
+{
+	const struct timespec interrupts = after(INTERRUPTS, CLOCK_MONOTONIC), most = after(MOST, CLOCK_MONOTONIC);
+	const struct timespec pause = { 0, REST * 1000000L };
+
+	atomic_store(&vhost_guest->gone, 1);
 	tell(stop);
 	for (unsigned i = 0; i < started; i++) {
-		end_worker(workers[i], ending);
+		while (pthread_tryjoin_np(workers[i]->thread, NULL) == EBUSY) {
+			if (has_passed(&most))
+				return -1;
+			if (has_passed(&interrupts))
+				interrupt(NULL);
+			nanosleep(&pause, NULL);
+		}
 		free(workers[i]);
+		workers[i] = NULL;
 	}
 	started = 0;
+	put_guest(vhost_guest);
+	vhost_guest = NULL;
 	close(events);
 	close(look);
 	close(stop);
 	close(over);
 	close(lost);
+	return 0;
 }

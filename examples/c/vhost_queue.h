@@ -31,35 +31,60 @@ struct queue {
 	struct vring_used *used;
 	uint16_t next, done;
 	int kick, call, enabled;
+	/* `call` is an event. */
+	int calls;
 	/* A worker is to look at it. */
 	atomic_int look;
 };
 
-/* Both are changed between queues_hold and queues_go alone. */
-extern struct queue vhost_queue[QUEUES];
-extern struct region vhost_region[REGIONS];
-extern size_t vhost_regions;
+/* What a front end shares. It is there until it has gone, and each worker that has a request of it is
+ * back. */
+struct guest {
+	struct queue queue[QUEUES];
+	struct region region[REGIONS];
+	size_t regions;
+	/* Is held by a worker while it has a chain, and by the calling thread, alone, while it changes
+	 * queues or memory. */
+	pthread_rwlock_t in_flight;
+	/* The front end has gone: no chain is taken or completed. */
+	atomic_int gone;
+	/* The calling thread, and the workers that serve it. */
+	unsigned users;
+};
+
+/* That of the front end that is served. It is changed between queues_hold and queues_go alone. */
+extern struct guest *vhost_guest;
 
 /* Starts the workers. -1: it failed, and said why. */
 int queues_begin(const transport *by);
-/* Ends them. Where a request takes long, a further one of the signals ends all. */
-void queues_end(const sigset_t *ending);
+/* Ends them, and interrupts requests that take long. -1: one did not come back within a second, so what
+ * its worker uses is left. */
+int queues_end(void);
 /* What is readable once a worker failed. */
 int queues_over(void);
 /* What is readable once memory is gone that the front end shared. */
 int queues_lost(void);
 
-/* Between the two no request is in flight. */
-void queues_hold(void);
+/* Between the two no request is in flight. The answer -1: one takes long, and one of these two
+ * descriptors tells of a signal, or that its front end hung up. */
+int queues_hold(int signals, int client);
 void queues_go(void);
+/* The same for a front end that has gone, whose requests are interrupted if they take long. The answer 1:
+ * one did not come back within a second; so its worker keeps what it was shared, another worker begins in
+ * its place, and what the next front end shares is apart. Nothing is held then. -1: that can't be, or a
+ * signal came. */
+int queues_part(int signals);
+/* Lets go of the memory that a front end shared. */
+void guest_unshare(struct guest *g);
 
 /* Finds the rings of a queue, anew after each change of the memory. Where one is missing, none is
  * there. */
 void queue_place(struct queue *q);
-/* Gives a queue what kicks it, which is closed with it; -1 for nothing. No read or write of it
- * waits. The answer -1: it is no event. */
+/* Gives a queue what kicks it, which is closed with it; -1 for nothing. It is never read. The answer -1:
+ * it is no event. */
 int queue_kick(struct queue *q, int fd);
-/* The same of what it calls. */
+/* The same of what it calls. To write it may wait, if the front end lets it, which then waits for
+ * itself: no lock of a queue is held meanwhile. */
 void queue_call(struct queue *q, int fd);
 /* Has a worker look at the queue. */
 void queue_look(struct queue *q);

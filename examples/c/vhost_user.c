@@ -9,11 +9,13 @@
 #include <poll.h>
 #include <stdio.h>
 #include <string.h>
+#include <sys/eventfd.h>
 #include <sys/mman.h>
 #include <sys/signalfd.h>
 #include <sys/socket.h>
 #include <sys/stat.h>
 #include <sys/time.h>
+#include <sys/uio.h>
 #include <sys/un.h>
 #include <time.h>
 #include <unistd.h>
@@ -86,20 +88,11 @@ static enum outcome not_served(const struct message *m)
 	return GONE;
 }
 
-/* Lets go of the memory that the front end shared. */
-static void unshare_memory(void)
-{
-	while (vhost_regions > 0) {
-		vhost_regions--;
-		munmap(vhost_region[vhost_regions].map, vhost_region[vhost_regions].mapped);
-	}
-}
-
 /* Maps a region that the front end shares, which is the next one. */
 static enum outcome share_region(const struct message *m, uint32_t i)
 {
 	const uint64_t offset = m->body.memory.region[i].offset;
-	struct region *r = &vhost_region[i];
+	struct region *r = &vhost_guest->region[i];
 	struct stat file;
 
 	r->guest = m->body.memory.region[i].guest;
@@ -116,7 +109,7 @@ static enum outcome share_region(const struct message *m, uint32_t i)
 	if (r->map == MAP_FAILED)
 		return wrong("a region that can't be mapped");
 	r->at = r->map + offset;
-	vhost_regions = i + 1;
+	vhost_guest->regions = i + 1;
 	return DONE;
 }
 
@@ -126,13 +119,13 @@ static enum outcome share_memory(const struct message *m)
 	const uint32_t count = m->body.memory.count;
 	enum outcome outcome = DONE;
 
-	unshare_memory();
+	guest_unshare(vhost_guest);
 	if (count > REGIONS || (int)count != m->descriptors)
 		return wrong("a table of memory that can't be");
 	for (uint32_t i = 0; i < count && outcome == DONE; i++)
 		outcome = share_region(m, i);
 	for (size_t i = 0; i < queues; i++)
-		queue_place(&vhost_queue[i]);
+		queue_place(&vhost_guest->queue[i]);
 	return outcome;
 }
 
@@ -196,7 +189,7 @@ static struct queue *queue_of(uint64_t number)
 	}
 	if (number >= queues)
 		queues = number + 1;
-	return &vhost_queue[number];
+	return &vhost_guest->queue[number];
 }
 
 /* Does what a message of one queue asks. */
@@ -247,7 +240,7 @@ static enum outcome obey(int client, struct message *m)
 				    VERSION_1 | PROTOCOL_FEATURES | INDIRECT_DESCRIPTORS);
 	case SET_FEATURES:
 		for (int i = 0; i < QUEUES; i++)
-			vhost_queue[i].enabled |= !(m->body.number & PROTOCOL_FEATURES);
+			vhost_guest->queue[i].enabled |= !(m->body.number & PROTOCOL_FEATURES);
 		return DONE;
 	case SET_OWNER:
 	case RESET_OWNER:
@@ -278,13 +271,14 @@ static enum outcome obey(int client, struct message *m)
 
 /* Takes one message, if the front end has not hung up, and does what it asks, with no request in
  * flight. */
-static enum outcome serve_message(int client)
+static enum outcome serve_message(int client, int signals)
 {
 	struct message m;
 	enum outcome outcome = receive(client, &m);
 
-	if (outcome == DONE) {
-		queues_hold();
+	if (outcome == DONE && queues_hold(signals, client)) {
+		outcome = GONE;
+	} else if (outcome == DONE) {
 		outcome = obey(client, &m);
 		queues_go();
 	}
@@ -295,16 +289,11 @@ static enum outcome serve_message(int client)
 	return outcome;
 }
 
-/* Lets go of all that a front end left, and tells what came of its requests. */
-static void part_from_client(int client)
+/* Lets go of what the front end told and shared, with no request in flight. */
+static void clear_guest(void)
 {
-	uint64_t times;
-
-	queues_hold();
-	while (read(queues_lost(), &times, sizeof(times)) == sizeof(times))
-		;
 	for (int i = 0; i < QUEUES; i++) {
-		struct queue *q = &vhost_queue[i];
+		struct queue *q = &vhost_guest->queue[i];
 
 		queue_kick(q, -1);
 		queue_call(q, -1);
@@ -314,17 +303,39 @@ static void part_from_client(int client)
 		q->next = q->done = 0;
 		q->enabled = 0;
 	}
+	guest_unshare(vhost_guest);
+}
+
+/* Lets go of all that a front end left, and tells what came of its requests. -1: that can't be, or a signal
+ * came. */
+static int part_from_client(int client, int signals)
+{
+	const int parted = queues_part(signals);
+	uint64_t times;
+
+	close(client);
+	if (parted < 0)
+		return -1;
+	while (read(queues_lost(), &times, sizeof(times)) == sizeof(times))
+		;
+	if (!parted)
+		clear_guest();
 	queues = 0;
 	protocol = 0;
-	unshare_memory();
 	if (by->parted)
 		by->parted(by->user);
-	queues_go();
-	close(client);
+	if (!parted)
+		queues_go();
+	else
+		fprintf(stderr, "%s: a request of the front end that has gone does not come back\n", by->program);
 	queues_tell();
+	return 0;
 }
 
 /* ---- front ends */
+
+/* In milliseconds: when the process ends after a signal, whatever still waits. */
+enum { MOST_END = 1800 };
 
 /* What ended a wait. */
 enum end { SIGNALLED, HUNG_UP, BROKEN };
@@ -360,14 +371,18 @@ static enum end serve_client(int client, int signals)
 			wrong("memory that it shared is gone");
 			break;
 		}
-		if (wait[2].revents && serve_message(client) == GONE)
+		if (wait[2].revents && serve_message(client, signals) == GONE)
 			break;
 		/* What was told may have let a queue begin that was kicked before. */
 		for (size_t i = 0; i < queues; i++)
-			if (vhost_queue[i].enabled)
-				queue_look(&vhost_queue[i]);
+			if (vhost_guest->queue[i].enabled)
+				queue_look(&vhost_guest->queue[i]);
 	}
-	part_from_client(client);
+	if (part_from_client(client, signals) && end == HUNG_UP) {
+		struct pollfd signal = { signals, POLLIN, 0 };
+
+		end = poll(&signal, 1, 0) > 0 ? SIGNALLED : BROKEN;
+	}
 	return end;
 }
 
@@ -405,12 +420,66 @@ static enum end serve_clients(int listener, int signals)
 	return end;
 }
 
-/* Serves the front ends of a listening socket, or the only one of the other. */
+/* Ends the process, although a worker, or the calling thread, waits for what does not come. */
+static _Noreturn void leave(int status)
+{
+	static const char said[] = ": a request does not come back: it ends without\n";
+	const struct iovec pieces[] = { { (char *)(uintptr_t)by->program, strlen(by->program) },
+					{ (char *)(uintptr_t)said, sizeof(said) - 1 } };
+	struct pollfd error = { STDERR_FILENO, POLLOUT, 0 };
+
+	if (by->left)
+		by->left(by->user);
+	/* (who reads it may wait too) */
+	if (poll(&error, 1, 0) > 0 && error.revents & POLLOUT && writev(STDERR_FILENO, pieces, 2) < 0)
+		_exit(1);
+	_exit(status);
+}
+
+/* What waits for signals too: the calling thread may be late. */
+struct guard {
+	pthread_t thread;
+	int signals, ended;
+};
+
+static void *keep_guard(void *given)
+{
+	const struct guard *g = given;
+	struct pollfd wait[] = { { g->ended, POLLIN, 0 }, { g->signals, POLLIN, 0 } };
+
+	while (poll(wait, 2, -1) < 0 && errno == EINTR)
+		;
+	while (!wait[0].revents && poll(wait, 1, MOST_END) < 0 && errno == EINTR)
+		;
+	if (!wait[0].revents)
+		leave(0);
+	return NULL;
+}
+
+/* Serves the front ends of a listening socket, or the only one of the other, by workers. Answers the status. */
+static int serve_guarded(struct guard *g, int listener, int client)
+{
+	const uint64_t one = 1;
+	enum end end = BROKEN;
+
+	errno = pthread_create(&g->thread, NULL, keep_guard, g);
+	if (errno)
+		return failed("a thread"), 1;
+	if (!queues_begin(by))
+		end = client >= 0 ? serve_client(client, g->signals) : serve_clients(listener, g->signals);
+	if (queues_end())
+		leave(end == BROKEN);
+	if (write(g->ended, &one, sizeof(one)) < 0)
+		failed("eventfd");
+	pthread_join(g->thread, NULL);
+	return end == BROKEN;
+}
+
 static int serve_with_workers(const transport *with, int listener, int client)
 {
-	enum end end = BROKEN;
+	struct guard guard;
 	sigset_t ending;
-	int signals;
+	int status = 1;
 
 	by = with;
 	sigemptyset(&ending);
@@ -419,16 +488,19 @@ static int serve_with_workers(const transport *with, int listener, int client)
 	sigaddset(&ending, SIGHUP);
 	pthread_sigmask(SIG_BLOCK, &ending, NULL);
 	signal(SIGPIPE, SIG_IGN);
-	signals = signalfd(-1, &ending, SFD_CLOEXEC);
-	if (signals < 0)
-		return failed("signalfd"), 1;
-	if (!queues_begin(by))
-		end = client >= 0 ? serve_client(client, signals) : serve_clients(listener, signals);
-	queues_end(&ending);
-	close(signals);
+	guard.signals = signalfd(-1, &ending, SFD_CLOEXEC);
+	guard.ended = eventfd(0, EFD_CLOEXEC);
+	if (guard.signals < 0 || guard.ended < 0)
+		failed("signalfd and eventfd");
+	else
+		status = serve_guarded(&guard, listener, client);
+	if (guard.signals >= 0)
+		close(guard.signals);
+	if (guard.ended >= 0)
+		close(guard.ended);
 	if (listener >= 0)
 		close(listener);
-	return end == BROKEN;
+	return status;
 }
 
 int vhost_user_serve(const transport *with, int listener)
