@@ -1,15 +1,15 @@
 -- Transfers into pages that are held, and the count of what is left.
-use Rattle.std.proofs.Common.{◌≡◌, ◌≤◌, ◌<◌, ◌+◌, ◌-◌, ◌/◌, ◌^◌, ℕ, zero, suc, true, false, List, [], ◌∷◌, ◌++◌, length, take, drop, get_or, min, Option, Result, Ok, refl, sym, ap, ◌∙◌, ⊎_elim, arith, length-append, length-take, length-drop, take_at, nat_cmp, Ordering, Less, Equal, Greater}
+use Rattle.std.proofs.Common.{◌≡◌, ◌≤◌, ◌<◌, ◌+◌, ◌-◌, ◌/◌, ◌^◌, ℕ, zero, suc, Bool, true, false, if◌then◌else◌, List, [], ◌∷◌, ◌++◌, length, take, drop, get_or, min, Option, Result, Ok, refl, sym, ap, ◌∙◌, ⊎_elim, arith, length-append, length-take, length-drop, take_at, nat_cmp, Ordering, Less, Equal, Greater}
 use Rattle.std.specs.List.{concat}
 use Rattle.std.proofs.lemmas.List.Folds.{concat-append}
-use Rattle.vfs_views.specs.ViewLaws.{concat-take_more}
+use Rattle.vfs_views.specs.ViewLaws.{concat-take_more, take-append_past}
 use Rattle.std.specs.Map.{keys_of}
 use Rattle.std.specs.BTreeMap.{is_at}
 use Rattle.std.specs.BTreeSet.{insert_key}
 use Rattle.std.specs.Ordering.{match_ordering}
 use Rattle.std.proofs.Math.Seq.{take-add}
 use Rattle.std.proofs.lemmas.Bool.{cases_lt, cases_eq, cases_Bool, or_left}
-use Rattle.std.proofs.lemmas.List.{get_or_append_left, get_or-append_right, drop-drop, take-append-drop}
+use Rattle.std.proofs.lemmas.List.{get_or_append_left, get_or-append_right, drop-drop, take-append-drop, take-append-le}
 use Rattle.std.proofs.lemmas.List.Sums.{sum_by-cons}
 use Rattle.vfs_views.specs.declared.file.WritevFlags.{WritevFlags}
 use Rattle.vfs_files.specs.Transfers.{Ending, Finished, Stuck, Broken, Past, last_bytes, bytes_moved, count_moved, writes_of, view_len, Goes, Ends, Transfers}
@@ -22,7 +22,7 @@ use Rattle.vfs_contents.proofs.Held.{over_in, over_before, over_behind, at_itsel
 -- ---- bytes over bytes
 
 -- no bytes over others
-over_none : (at : ℕ) (old : ℕ → ℕ) (k : ℕ) → byte_over at [] old k ≡ old k
+pub over_none : (at : ℕ) (old : ℕ → ℕ) (k : ℕ) → byte_over at [] old k ≡ old k
 over_none at old k =
     ⊎_elim
     (λ (before : k < at). over_before at [] old k before)
@@ -30,7 +30,7 @@ over_none at old k =
     (cases_lt k at)
 
 -- more bytes behind those that were written
-over_more : (at next : ℕ) (a b : List ℕ) (f g : ℕ → ℕ) (k : ℕ) → next ≡ at + length a
+pub over_more : (at next : ℕ) (a b : List ℕ) (f g : ℕ → ℕ) (k : ℕ) → next ≡ at + length a
     → g k ≡ byte_over at a f k → byte_over next b g k ≡ byte_over at (a ++ b) f k
 over_more at next a b f g k is same =
     let both = length-append a b in
@@ -135,8 +135,14 @@ module _ (left : List ℕ) (flags : Option WritevFlags) (count off : ℕ) (low :
       let none : r.count ≡ 0 = same_count 0 r.count r.answered in
       let bytes = length-take (view_len (writes_of fills left flags) count (length left) off moved)
       (drop moved left) in
-      let one = r.some (held moved (omega arith)) (omega (arith, bytes, length-drop moved left)) in
-      absurd (omega (arith, none, one))
+      let rest = length-drop moved left in
+      let all = r.all
+      (λ place from to.
+      let back : off + (place - off) ≡ place = omega arith in
+      ap (λ k. holds (keys_of old) (k / 4096)) (sym back)
+      ∙ held (place - off) (omega (arith, bytes)))
+      (omega (arith, bytes)) in
+      absurd (omega (arith, none, all, bytes, rest))
   fill_ends moved old (Broken fault) new small held h = let e = h.1.answered in cc
   fill_ends moved old (Past part) new small held h =
       let within = h.0.within in
@@ -245,23 +251,42 @@ pages_in held n (suc k) q from to =
     (λ (apart : n ≡ q → ⊥). pages_in (with_page held n) (n + 1) k q (omega arith) (omega arith))
     (cases_eq n q)
 
--- ---- the first piece that is not empty
+-- ---- pieces in a row
 
 concat_split : (view : List (List ℕ)) (i : ℕ)
     → concat view ≡ concat (take i view) ++ concat (drop i view)
 concat_split view i = ap concat (sym (take-append-drop i view)) ∙ concat-append (take i view) (drop i view)
 
-pub front_piece : (view : List (List ℕ)) (i : ℕ) (p : List ℕ) → i < length view
-    → p ≡ get_or view i [] → concat (take i view) ≡ [] → take (length p) (concat view) ≡ p
-front_piece view i p bound is none =
-    let rest = concat (drop (i + 1) view) in
-    let all : concat view ≡ p ++ rest =
-    concat_split view (i + 1)
-    ∙ ap (λ l. l ++ rest)
-    (concat-take_more view i bound ∙ ap (λ l. l ++ get_or view i []) none ∙ sym is) in
-    ap (take (length p)) all ∙ take_at p rest (length p) refl
+-- the front pieces are the front of all
+pub front_pieces : (view : List (List ℕ)) (i n : ℕ) → n ≡ length (concat (take i view))
+    → take n (concat view) ≡ concat (take i view)
+front_pieces view i n long =
+    ap (take n) (concat_split view i)
+    ∙ take_at (concat (take i view)) (concat (drop i view)) n (sym long)
 
-pub none_more : (view : List (List ℕ)) (i : ℕ) → i < length view → concat (take i view) ≡ []
-    → get_or view i [] ≡ [] → concat (take (i + 1) view) ≡ []
-none_more view i bound none empty =
-    concat-take_more view i bound ∙ ap (λ l. l ++ get_or view i []) none ∙ empty
+pub front_size : (view : List (List ℕ)) (i : ℕ) → length (concat (take i view)) ≤ length (concat view)
+front_size view i =
+    omega (
+      arith,
+      ap length (concat_split view i),
+      length-append (concat (take i view)) (concat (drop i view)),
+    )
+
+-- and with so many bytes of the next piece
+pub front_part : (view : List (List ℕ)) (i n k : ℕ) (piece : List ℕ) → i < length view
+    → piece ≡ get_or view i [] → n ≡ length (concat (take i view)) → k ≤ length piece
+    → take (n + k) (concat view) ≡ concat (take i view) ++ take k piece
+front_part view i n k piece bound is long less =
+    let before = concat (take i view) in
+    let rest = concat (drop (i + 1) view) in
+    let all : concat view ≡ (before ++ piece) ++ rest =
+    concat_split view (i + 1)
+    ∙ ap (λ l. l ++ rest) (concat-take_more view i bound ∙ ap (λ l. before ++ l) (sym is)) in
+    let there : n + k ≤ length (before ++ piece) = omega (arith, length-append before piece) in
+    ap (take (n + k)) all ∙ take-append-le (n + k) (before ++ piece) rest there
+    ∙ take-append_past before piece k (n + k) (ap (λ j. j + k) long)
+
+-- a put takes no more bytes than there are
+pub put_most : (held : Bool) (n len free : ℕ) → n ≡ (if held then min len free else 0) → n ≤ len
+put_most true n len free is = omega (arith, is)
+put_most false n len free is = omega (arith, is)

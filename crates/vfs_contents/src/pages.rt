@@ -192,6 +192,31 @@ impl Pages {
         count
     }
 
+    /// Writes the front of these bytes over those from a place on, as far as their pages are held, and
+    /// answers how many.
+    pub(crate) fn put_all(&mut self, at: u64, bytes: &[u8]) -> usize
+        ensures within { result ≤ length bytes.now }
+        ensures all { ((place : ℕ) → at ≤ place → place < at + length bytes.now
+            → holds (keys_of self.old) (place / 4096) ≡ true)
+            → at + length bytes.now ≤ 2 ^ 64 → result ≡ length bytes.now }
+        ensures keys { keys_of self.new ≡ keys_of self.old }
+        ensures bytes { (place : ℕ) → byte_at self.new place
+            ≡ byte_over at (take result bytes.now) (byte_at self.old) place }
+    {
+        let mut done = 0;
+        'fill: while done < bytes.len() {
+            let Some(place) = at.checked_add(done as u64) else {
+                return done;
+            };
+            let count = self.put(place, &bytes[done..]);
+            if count == 0 {
+                return done;
+            }
+            done += count;
+        }
+        done
+    }
+
     /// Writes so many zeros from a place on, within its page.
     pub(crate) fn zero(&mut self, at: u64, count: u64)
         requires { at % 4096 + count ≤ 4096 }

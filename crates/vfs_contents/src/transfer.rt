@@ -5,6 +5,7 @@ ghost use Rattle.std.specs.Map.{keys_of};
 ghost use Rattle.std.specs.List.{concat};
 ghost use Rattle.vfs_flags.specs.Numbers.{ebadf};
 ghost use Rattle.vfs_contents.specs.Pages.{byte_at, byte_over, holds};
+ghost use Rattle.vfs_contents.specs.Filling.{Fills};
 
 use crate::pages::Pages;
 use std::marker::Model;
@@ -50,8 +51,6 @@ impl PositionedFile for Reading<'_> {
 }
 
 impl PositionedFile for Pages {
-    ghost use Rattle.vfs_contents.specs.Filling.{Fills};
-
     ghost write_gives = { λ old bytes off flags answer new. Fills old bytes off answer new };
 
     ghost read_gives = { λ old off room answer moved new. answer ≡ Err (Some ebadf) };
@@ -62,7 +61,7 @@ impl PositionedFile for Pages {
         off: u64,
         _flags: Option<WritevFlags>,
     ) -> Result<usize, Fault> {
-        Ok(self.put(off, first_piece(view)))
+        Ok(put_pieces(self, view, off))
     }
 
     /// Always `Errno::EBADF`.
@@ -71,18 +70,27 @@ impl PositionedFile for Pages {
     }
 }
 
-// The first piece that is not empty, or an empty one.
-fn first_piece<'s>(view: &Slices<'s>) -> &'s [u8]
-    ensures front { take (length result.now) (concat view.now) ≡ result.now }
-    ensures some { 0 < length (concat view.now) → 0 < length result.now }
+// Writes the front of what is lent over the bytes from a place on, as far as their pages are held, and
+// answers how many. Each piece is looked at once.
+fn put_pieces(pages: &mut Pages, view: &Slices<'_>, off: u64) -> usize
+    ensures { Fills pages.old (concat view.now) off (Ok result) pages.new }
 {
-    'look: for i in 0..view.count() {
+    if view.total() == 0 {
+        return 0;
+    }
+    let mut done = 0;
+    'pieces: for i in 0..view.count() {
         let piece = view.get(i);
-        if !piece.is_empty() {
-            return piece;
+        let Some(place) = off.checked_add(done as u64) else {
+            return done;
+        };
+        let count = pages.put_all(place, piece);
+        done += count;
+        if count < piece.len() {
+            return done;
         }
     }
-    &[]
+    done
 }
 
 /// What counts the bytes that it is lent, and takes none.

@@ -1,0 +1,18 @@
+#!/usr/bin/env bash
+# Measures what the tree does with much at once, over the library for C: milliseconds of processor time of a
+# WRITE of 64 KiB in n segments, and of INIT and DESTROY over n files of which one lookup is held.
+#
+# Usage: tools/measure/tree-costs.sh
+# A line for each, with tabs. It links the proved library where that is built and no source is newer; otherwise
+# tools/lib/unproved.sh builds it without a proof, which takes a minute.
+set -euo pipefail
+. "$(dirname "$0")/../lib/usage.sh"
+. "$(dirname "$0")/../lib/transport.sh"
+
+[ $# = 0 ] || { echo "Usage: tools/measure/tree-costs.sh" >&2 && exit 2; }
+find_library
+folder=$(mktemp -d)
+trap 'rm -rf "$folder"' EXIT
+cc -std=c11 -O2 -Wall -Wextra -Werror -I "$here/include" -o "$folder/costs" "$here/tools/measure/tree_costs.c" \
+    "${library[@]}"
+"$folder/costs"
