@@ -1,26 +1,32 @@
 -- Extended attributes, one by one.
-use Rattle.std.proofs.Common.{◌≡◌, ◌+◌, ◌≤◌, ℕ, List, [], ◌∷◌, ◌++◌, length, cond, Option, Some, None, option_map, Ordering, Less, Equal, Greater, is_eq, nat_cmp, refl, sym, ap, ◌∙◌, Vec, arith, length-append}
+use Rattle.std.proofs.Common.{◌≡◌, ◌+◌, ◌≤◌, ◌||◌, ℕ, Bool, true, false, not, nat_eq, codes, if◌then◌else◌, List, [], ◌∷◌, ◌++◌, length, cond, Option, Some, None, option_map, Ordering, Less, Equal, Greater, is_eq, nat_cmp, refl, sym, ap, ◌∙◌, Vec, arith, length-append}
 use Rattle.std.specs.Ordering.{match_ordering}
 use Rattle.std.specs.Cmp.Lexicographic.{slice_cmp, nat_list_cmp_total}
-use Rattle.std.specs.List.{AllByRecursion}
+use Rattle.std.specs.List.{AllByRecursion, starts_with}
 use Rattle.std.specs.List.Sorted.{IsStrictlySortedBy}
 use Rattle.std.specs.Map.{keys_of, lookup, remove_entry}
 use Rattle.std.specs.BTreeMap.{insert_entry, is_at}
 use Rattle.std.specs.declared.alloc.Global.{Global}
 use Rattle.std.proofs.lemmas.List.Sums.{sum_by-cons}
 use Rattle.std.proofs.lemmas.Map.Lookups.{exact_bytes}
-use Rattle.vfs_nodes.specs.Xattrs.{Xattr, AreInOrder, attribute_bytes, xattr_bytes, xattr_named, with_xattr, without_xattr, name_list, xattrs_of}
+use Rattle.vfs_nodes.specs.Xattrs.{Xattr, AreInOrder, attribute_bytes, xattr_bytes, xattr_named, with_xattr, without_xattr, listed, name_list, xattrs_of}
 
 -- the names are not longer than names and values
-pub names_fit : (xattrs : List Xattr) → length (name_list xattrs) ≤ xattr_bytes xattrs
-names_fit [] = omega arith
-names_fit (x ∷ xs) =
+listed_fits : (b : Bool) (name : List ℕ)
+    → length (if b then name ++ 0 ∷ [] else []) ≤ length name + 1
+listed_fits true name = omega (arith, length-append name (0 ∷ []))
+listed_fits false name = omega arith
+
+pub names_fit : (to_other : Bool) (xattrs : List Xattr)
+    → length (name_list to_other xattrs) ≤ xattr_bytes xattrs
+names_fit to_other [] = omega arith
+names_fit to_other (x ∷ xs) =
     omega (
       arith,
       sum_by-cons attribute_bytes x xs,
-      names_fit xs,
-      length-append (x.0 ++ 0 ∷ []) (name_list xs),
-      length-append x.0 (0 ∷ []),
+      names_fit to_other xs,
+      length-append (listed to_other x.0) (name_list to_other xs),
+      listed_fits (not to_other || not (starts_with nat_eq x.0 (codes "trusted."))) x.0,
     )
 
 -- ---- as a map keeps them

@@ -1,5 +1,6 @@
 -- Extended attributes of a node: pairs of a name and a value, in order of the names.
-use Rattle.std.specs.Prelude.{ℕ, ◌+◌, List, [], ◌∷◌, ◌++◌, length, map, Option, sum_by, flat_map, Vec}
+use Rattle.std.specs.Prelude.{ℕ, ◌+◌, ◌||◌, Bool, not, nat_eq, codes, List, [], ◌∷◌, ◌++◌, length, map, Option, sum_by, flat_map, Vec, if◌then◌else◌}
+use Rattle.std.specs.List.{starts_with}
 use Rattle.std.specs.Ordering.{nat_cmp}
 use Rattle.std.specs.Cmp.Lexicographic.{slice_cmp}
 use Rattle.std.specs.List.Sorted.{IsStrictlySortedBy}
@@ -33,9 +34,14 @@ without_xattr xattrs name = remove_entry (is_at (slice_cmp nat_cmp name)) xattrs
 abbrev pub with_xattr : List Xattr → (name value : List ℕ) → List Xattr
 with_xattr xattrs name value = insert_entry (slice_cmp nat_cmp) xattrs name value
 
--- the names, each with a 0 behind it
-abbrev pub name_list : List Xattr → List ℕ
-name_list xattrs = flat_map (λ xattr. xattr.0 ++ 0 ∷ []) xattrs
+-- a name as it is listed, with a 0 behind it. One of `trusted.` is not listed to others than root
+abbrev pub listed : (to_other : Bool) → (name : List ℕ) → List ℕ
+listed to_other name =
+    if not to_other || not (starts_with nat_eq name (codes "trusted.")) then name ++ 0 ∷ [] else []
+
+-- the names that are listed
+abbrev pub name_list : (to_other : Bool) → List Xattr → List ℕ
+name_list to_other xattrs = flat_map (λ xattr. listed to_other xattr.0) xattrs
 
 -- those of a map's entries
 abbrev pub xattrs_of : List (Vec ℕ Global × Vec ℕ Global) → List Xattr

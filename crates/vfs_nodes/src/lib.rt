@@ -15,6 +15,6 @@ mod xattrs;
 pub use children::{Child, Children};
 pub use kind::Kind;
 pub use listing::entries_behind;
-pub use node::{Node, Time};
+pub use node::{Node, Time, is_other};
 pub use text::Text;
 pub use xattrs::{MOST_BYTES, Xattrs};

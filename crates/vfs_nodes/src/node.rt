@@ -353,8 +353,8 @@ fn seconds(count: u64) -> Duration
     Duration::from_secs(count)
 }
 
-// Whether this is told, and another user than 0.
-fn is_other(uid: GuestUid) -> bool
+/// Whether this is told, and another user than 0. Linux from 6.12 on tells it of few requests.
+pub fn is_other(uid: GuestUid) -> bool
     ensures { result ≡ is_other uid }
 {
     uid != GuestUid::from(0) && uid != GuestUid::from(UNTOLD)

@@ -1,9 +1,9 @@
 //! The extended attributes of a node.
 
-ghost use Rattle.std.specs.Prelude.{◌≡◌, ◌≤◌, ◌<◌, ◌++◌, ◌∷◌, [], List, ℕ, length, Some, None, MatchOption, MatchResult, OnOk, IfErr, IfSome};
+ghost use Rattle.std.specs.Prelude.{◌≡◌, ◌≤◌, ◌<◌, ◌++◌, ◌∷◌, [], List, ℕ, length, Some, None, MatchOption, MatchResult, OnOk, IfErr, IfSome, if◌then◌else◌};
 ghost use Rattle.vfs_flags.specs.Numbers.{enomem};
 ghost use Rattle.vfs_files.specs.Values.{name_text};
-ghost use Rattle.vfs_nodes.specs.Xattrs.{AreInOrder, attribute_bytes, xattr_bytes, xattr_named, with_xattr, without_xattr, name_list};
+ghost use Rattle.vfs_nodes.specs.Xattrs.{AreInOrder, attribute_bytes, xattr_bytes, xattr_named, with_xattr, without_xattr, listed, name_list};
 
 use std::alloc::Global;
 use std::collections::BTreeMap;
@@ -129,27 +129,28 @@ impl Xattrs {
         }
     }
 
-    /// How many bytes the names have, with a 0 behind each.
-    pub fn names_len(&self) -> u32
-        ensures length { result ≡ length (name_list self.now) }
+    /// How many bytes the names have, with a 0 behind each: those of `trusted.` not to others than root.
+    pub fn names_len(&self, to_other: bool) -> u32
+        ensures length { result ≡ length (name_list to_other self.now) }
         ensures most { result ≤ MOST_BYTES }
     {
         let mut length = 0;
         for (name, _) in &self.values {
-            length += name.len() as u32 + 1;
+            length += listed_len(to_other, name);
         }
-        length
+        length as u32
     }
 
-    /// The names, with a 0 behind each. ENOMEM where there is no memory for them.
-    pub fn names(&self, alloc: Global) -> Result<Vec<u8>, Fault>
+    /// The names, with a 0 behind each: those of `trusted.` not to others than root. ENOMEM where there
+    /// is no memory for them.
+    pub fn names(&self, alloc: Global, to_other: bool) -> Result<Vec<u8>, Fault>
         ensures { MatchResult result
-            (λ names. names.items ≡ name_list self.now)
+            (λ names. names.items ≡ name_list to_other self.now)
             (λ fault. fault ≡ Some enomem) }
     {
         let mut names = Vec::new(alloc);
         for (name, _) in &self.values {
-            push_name(&mut names, name)?;
+            push_name(&mut names, to_other, name)?;
         }
         Ok(names)
     }
@@ -163,11 +164,32 @@ fn bytes_of(name: &[u8], value: &[u8]) -> u64
     name.len() as u64 + value.len() as u64 + PLACE_BYTES
 }
 
-// Adds a name, and a 0 behind it.
-fn push_name(names: &mut Vec<u8>, name: &[u8]) -> Result<(), Fault>
-    ensures ok { OnOk result (names.new.items ≡ names.old.items ++ (name.now ++ 0 ∷ [])) }
+// Whether a name is listed: one of `trusted.` not to others than root.
+fn is_listed(to_other: bool, name: &[u8]) -> bool
+    ensures { listed to_other name.now ≡ (if result then name.now ++ 0 ∷ [] else []) }
+{
+    !to_other || !name.starts_with(b"trusted.")
+}
+
+// How many bytes a name has where it is listed, with a 0 behind it.
+fn listed_len(to_other: bool, name: &[u8]) -> usize
+    ensures { result ≡ length (listed to_other name.now) }
+{
+    if is_listed(to_other, name) {
+        name.len() + 1
+    } else {
+        0
+    }
+}
+
+// Adds a name where it is listed, and a 0 behind it.
+fn push_name(names: &mut Vec<u8>, to_other: bool, name: &[u8]) -> Result<(), Fault>
+    ensures ok { OnOk result (names.new.items ≡ names.old.items ++ listed to_other name.now) }
     ensures err { IfErr result (λ fault. fault ≡ Some enomem) }
 {
+    if !is_listed(to_other, name) {
+        return Ok(());
+    }
     match names.extend_from_slice(name) {
         Ok(()) => {}
         Err(_) => return Err(Some(Errno::ENOMEM)),

@@ -4,8 +4,6 @@ use Rattle.std.specs.List.{list_any, starts_with}
 use Rattle.std.specs.Option.{option_map_or, option_or, unwrap_or}
 use Rattle.std.specs.Str.{bytes_eq}
 use Rattle.vfs_flags.specs.Numbers.{eperm, enoent, eexist, enotdir, eisdir, einval, enospc, erange, enotempty, enodata, enosys, eoverflow, eopnotsupp, efbig, emlink, enodev, enxio}
-use Rattle.vfs_wire.specs.declared.attributes.SetattrIn.{SetattrIn}
-use Rattle.vfs_wire.specs.declared.stat.Statvfs64.{Statvfs64}
 use Rattle.vfs_files.specs.declared.entry.Context.{Context}
 use Rattle.vfs_files.specs.declared.entry.Entry.{Entry}
 use Rattle.vfs_files.specs.Values.{Item}
@@ -15,7 +13,7 @@ use Rattle.vfs_contents.specs.Pages.{reach}
 use Rattle.vfs_contents.specs.Contents.{fallocated, data_from, hole_from, lacking, pages_over}
 use Rattle.vfs_nodes.specs.Children.{is_directory, is_file, is_link}
 use Rattle.vfs_nodes.specs.Listing.{items_behind}
-use Rattle.vfs_nodes.specs.Node.{attr_of, lasting, entry_of, kind_by_mode, new_node, picked, set_attr, rewritten, truncates, opened, overwritten, accessed}
+use Rattle.vfs_nodes.specs.Node.{attr_of, lasting, entry_of, kind_by_mode, new_node, picked, set_attr, rewritten, truncates, is_other, opened, overwritten, accessed}
 use Rattle.vfs_nodes.specs.Xattrs.{xattr_named, xattr_bytes, with_xattr, without_xattr, name_list}
 use Rattle.vfs_nodes.specs.declared.children.Child.{Child}
 use Rattle.vfs_nodes.specs.declared.kind.Kind.{Kind}
@@ -246,7 +244,8 @@ outcome s (Setxattr _ n name value flags _) = with_it (node_at s n) (λ node.
     (Tried true (Plain Done) (with_resized s n node set)))
 outcome s (Getxattr _ n name size) = with_it (node_at s n) (λ node.
     unless (namespace_refusal name) (tells s size (xattr_named node.xattrs name)))
-outcome s (Listxattr _ n size) = with_it (node_at s n) (λ node. tells s size (Some (name_list node.xattrs)))
+outcome s (Listxattr ctx n size) =
+    with_it (node_at s n) (λ node. tells s size (Some (name_list (is_other ctx.uid) node.xattrs)))
 outcome s (Removexattr _ n name) = with_it (node_at s n) (λ node.
     unless (option_or (namespace_refusal name)
     (first_of ((is_none (xattr_named node.xattrs name), enodata) ∷ [])))

@@ -17,7 +17,7 @@ use vfs_files::{
     ZeroCopyReader, ZeroCopyWriter, copy_of, defaults,
 };
 use vfs_flags::{Errno, Fault, FsOptions, OpenOptions, SetattrValid, SetxattrFlags};
-use vfs_nodes::{Kind, entries_behind};
+use vfs_nodes::{Kind, entries_behind, is_other};
 use vfs_wire::{Attr, SetattrIn, Statvfs64};
 
 /// What LSEEK looks for.
@@ -430,18 +430,19 @@ impl FileSystem for TreeFs {
         Ok(GetxattrReply::Value(copy_of(self.alloc, value)?))
     }
 
-    fn listxattr(&mut self, _ctx: Context, inode: u64, size: u32) -> Result<ListxattrReply, Fault> {
+    fn listxattr(&mut self, ctx: Context, inode: u64, size: u32) -> Result<ListxattrReply, Fault> {
         let Some(node) = self.nodes.get(&inode) else {
             return Err(Some(Errno::ENOENT));
         };
-        let length = node.xattrs.names_len();
+        let to_other = is_other(ctx.uid);
+        let length = node.xattrs.names_len(to_other);
         if size == 0 {
             return Ok(ListxattrReply::Count(length));
         }
         if length > size {
             return Err(Some(Errno::ERANGE));
         }
-        Ok(ListxattrReply::Names(node.xattrs.names(self.alloc)?))
+        Ok(ListxattrReply::Names(node.xattrs.names(self.alloc, to_other)?))
     }
 
     #[tactic(auto, using(std::proofs::lemmas::Map::Steps::set_value_same))]

@@ -707,8 +707,8 @@ module _ (old : State) (P : List (ℕ × ℕ) → Handed (List Item) → State �
       let call = (Listxattr c n size) in
       let fails : Fails old call = (refl, λ e. refl) in
       each-some (Fails old call) (Leaves call) fails enoent (node_at old n)
-      (λ node. tells old size (Some (name_list node.xattrs)))
-      (λ node is. tells_covered call (λ a. refl) refl size (Some (name_list node.xattrs)))
+      (λ node. tells old size (Some (name_list (is_other c.uid) node.xattrs)))
+      (λ node is. tells_covered call (λ a. refl) refl size (Some (name_list (is_other c.uid) node.xattrs)))
   covered (Readdir c n h size off) =
       let call = (Readdir c n h size off) in
       let fails : Fails old call = (refl, λ e. refl) in

@@ -142,6 +142,10 @@ user_a value = (codes "user.a", value)
 abbrev pub user_b : (value : List ℕ) → Xattr
 user_b value = (codes "user.b", value)
 
+-- and `trusted.a`, which only root is to see
+abbrev pub trusted_a : (value : List ℕ) → Xattr
+trusted_a value = (codes "trusted.a", value)
+
 -- the attribute that has the capabilities of a program, with some value
 abbrev pub capability : Xattr
 capability = (codes "security.capability", codes "c")

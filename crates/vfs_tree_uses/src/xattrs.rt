@@ -1,13 +1,13 @@
 //! Extended attributes: they are set, told, listed and taken away, by their names, in three namespaces.
 
-ghost use Rattle.std.specs.Prelude.{◌≡◌, ◌++◌, [], ◌∷◌, codes, Ok, Err, Some, MatchResult, ⊤};
+ghost use Rattle.std.specs.Prelude.{◌≡◌, ◌++◌, ◌^◌, ◌-◌, [], ◌∷◌, codes, Ok, Err, Some, MatchResult, ⊤};
 ghost use Rattle.vfs_files.specs.Answers.{Text, Count, value_or_count, names_or_count};
-ghost use Rattle.vfs_tree_uses.specs.Trees.{attribute_tree, user_a, user_b, wide};
+ghost use Rattle.vfs_tree_uses.specs.Trees.{attribute_tree, trusted_a, user_a, user_b, wide};
 
 use crate::support::root;
 use bitflags::Flags;
-use vfs_files::{CStr, FileSystem, GetxattrReply, ListxattrReply};
-use vfs_flags::{Fault, SetxattrFlags};
+use vfs_files::{CStr, Context, FileSystem, GetxattrReply, ListxattrReply};
+use vfs_flags::{Fault, GuestUid, SetxattrFlags};
 use vfs_tree::TreeFs;
 
 /// SETXATTR of `user.a`, by these flags: 1 is XATTR_CREATE, 2 XATTR_REPLACE.
@@ -114,6 +114,23 @@ fn list(tree: &mut TreeFs, size: u32) -> Result<ListxattrReply, Fault>
     ensures same { tree.new ≡ tree.old }
 {
     tree.listxattr(root(), 2, size)
+}
+
+/// LISTXATTR by this user: a name of `trusted.` is not there for others than root, where it is told who asks.
+fn list_for(tree: &mut TreeFs, uid: GuestUid) -> Result<ListxattrReply, Fault>
+    requires { tree.old ≡
+        attribute_tree wide (trusted_a (codes "on") ∷ user_a (codes "off") ∷ []) }
+    ensures root { uid ≡ 0 → MatchResult result
+        (λ reply. names_or_count reply ≡ Text (codes "trusted.a" ++ 0 ∷ codes "user.a" ++ 0 ∷ []))
+        (λ fault. fault ≡ Some 12) }
+    ensures untold { uid ≡ 2 ^ 32 - 1 → MatchResult result
+        (λ reply. names_or_count reply ≡ Text (codes "trusted.a" ++ 0 ∷ codes "user.a" ++ 0 ∷ []))
+        (λ fault. fault ≡ Some 12) }
+    ensures other { uid ≡ 65534 → MatchResult result
+        (λ reply. names_or_count reply ≡ Text (codes "user.a" ++ 0 ∷ []))
+        (λ fault. fault ≡ Some 12) }
+{
+    tree.listxattr(Context { uid, ..root() }, 2, 99)
 }
 
 /// REMOVEXATTR: the attribute is gone, and no memory is wanted.

@@ -1,23 +1,37 @@
-use Rattle.std.proofs.Common.{◌++◌, ◌∷◌, [], length, ap, arith, length-append}
-use Rattle.vfs_nodes.specs.Xattrs.{xattr_bytes, name_list, xattrs_of}
+use Rattle.std.proofs.Common.{ℕ, List, length, ap, arith, length-append}
+use Rattle.vfs_nodes.specs.Xattrs.{xattr_bytes, listed, name_list, xattrs_of}
 use Rattle.vfs_nodes.proofs.Attributes.{names_fit}
 use Rattle.vfs_nodes.proofs.xattrs.Xattrs.names_len.Goals as goal
 
-pub overflow_add-length-in-loop-name : goal.overflow_add-length-in-loop-name
-overflow_add-length-in-loop-name c =
+pub overflow_add-length : goal.overflow_add-length
+overflow_add-length c =
+    let to_other = c.args.to_other in
     let name = c.in-Some.name.now.items in
     record {
       fits = omega (
         arith,
         c.loop-name.invariant,
-        ap (λ es. length (name_list (xattrs_of es))) c.in-Some.ensures.steps,
-        length-append (name ++ 0 ∷ []) (name_list (xattrs_of c.next.new.self)),
-        length-append name (0 ∷ []),
-        names_fit c.args.self.now,
+        ap (λ es. length (name_list to_other (xattrs_of es))) c.in-Some.ensures.steps,
+        length-append (listed to_other name) (name_list to_other (xattrs_of c.next.new.self)),
+        c.listed_len-length.ensures,
+        ap (λ (l : List ℕ). length (listed to_other l)) c.deref.ensures.value,
+        names_fit to_other c.args.self.now,
         ap xattr_bytes c.self.view_is,
         c.self.invariant.1,
         c.self.invariant.2,
-        c.len.ensures,
+      );
+    }
+
+pub overflow_cast-result : goal.overflow_cast-result
+overflow_cast-result c =
+    record {
+      fits = omega (
+        arith,
+        c.loop-name.invariant,
+        names_fit c.args.to_other c.args.self.now,
+        ap xattr_bytes c.self.view_is,
+        c.self.invariant.1,
+        c.self.invariant.2,
       );
     }
 
@@ -26,7 +40,7 @@ returns-clause-most c =
     omega (
       arith,
       c.loop-name.invariant,
-      names_fit c.args.self.now,
+      names_fit c.args.to_other c.args.self.now,
       ap xattr_bytes c.self.view_is,
       c.self.invariant.1,
       c.self.invariant.2,

@@ -3,4 +3,5 @@ use Rattle.vfs_nodes.specs.Xattrs.{name_list, xattrs_of}
 use Rattle.vfs_nodes.proofs.xattrs.Xattrs.names_len.Given as goal
 
 abbrev pub invariant-loop-name : goal.invariant-loop-name
-invariant-loop-name l = l.length + length (name_list (xattrs_of l.name-iterator)) ≡ length (name_list l.self)
+invariant-loop-name l = l.length + length (name_list l.to_other (xattrs_of l.name-iterator))
+    ≡ length (name_list l.to_other l.self)

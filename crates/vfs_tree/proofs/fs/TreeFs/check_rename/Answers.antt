@@ -1,4 +1,4 @@
-use Rattle.std.proofs.Common.{ℕ, ◌==◌, ◌&&◌, ◌||◌, not, Bool, List, [], ◌∷◌, length, bit_and, None, is_some, is_none, false, if◌then◌else◌, arith, nat_le}
+use Rattle.std.proofs.Common.{◌==◌, ◌&&◌, ◌||◌, not, [], ◌∷◌, length, bit_and, None, is_some, is_none, false, if◌then◌else◌, arith, nat_le}
 use Rattle.std.proofs.lemmas.Grind.{common_steps}
 use Rattle.std.specs.Option.{option_map_or}
 use Rattle.vfs_flags.specs.Numbers.{enoent, eexist, enotdir, eisdir, enospc, enotempty, einval}

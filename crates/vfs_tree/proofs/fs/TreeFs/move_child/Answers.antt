@@ -1,4 +1,4 @@
-use Rattle.std.proofs.Common.{◌≡◌, ◌==◌, true, Some, None, is_some, option_map, if◌then◌else◌, rules}
+use Rattle.std.proofs.Common.{◌≡◌, true}
 use Rattle.vfs_files.specs.Values.{name_text}
 use Rattle.vfs_tree.specs.State.{lead}
 use Rattle.vfs_tree.proofs.Renaming.{renamed_by}
