@@ -1,5 +1,5 @@
 -- Lookups of all nodes, taken back one node after another.
-use Rattle.std.proofs.Common.{◌≡◌, ◌<◌, ◌≤◌, ◌+◌, ◌-◌, ◌==◌, ◌&&◌, if◌then◌else◌, ℕ, true, false, cond, nat_lt, List, [], ◌∷◌, length, map, Option, Some, None, MatchOption, Less, Equal, Greater, is_lt, refl, sym, ap, ◌∙◌, subst, arith, nat_cmp, ⊎_elim}
+use Rattle.std.proofs.Common.{◌≡◌, ◌<◌, ◌≤◌, ◌+◌, ◌-◌, ◌==◌, ◌&&◌, not, if◌then◌else◌, ℕ, Bool, true, false, cond, nat_lt, List, [], ◌∷◌, length, map, Option, Some, None, Less, Equal, Greater, is_eq, is_lt, refl, sym, ap, ◌∙◌, subst, arith, nat_cmp, ⊎_elim}
 use Rattle.std.specs.List.{AllByRecursion}
 use Rattle.std.specs.Option.{option_map_or}
 use Rattle.std.specs.List.Sorted.{IsStrictlySortedBy}
@@ -8,14 +8,17 @@ use Rattle.std.specs.Cmp.{ranks}
 use Rattle.std.specs.declared.ops.Bound.TheVariants.{Excluded, Unbounded}
 use Rattle.std.specs.BTreeMap.Range.{entries_between}
 use Rattle.std.proofs.lemmas.List.Elements.{filter_agree}
-use Rattle.std.specs.Map.{set_value, remove_entry}
+use Rattle.std.specs.Map.{lookup, set_value, remove_entry}
 use Rattle.std.specs.BTreeMap.{is_at}
-use Rattle.std.proofs.lemmas.Bool.{cases_Bool, cond-true, cond-false, ltb-true, ltb-false}
+use Rattle.std.proofs.lemmas.Bool.{cases_Bool, cond-true, cond-false, ltb-true, ltb-false, eqb-true, and_left}
+use Rattle.std.proofs.lemmas.Map.Steps.{set_value_same}
 use Rattle.std.proofs.lemmas.Map.Keys.{sorted_head, sorted_tail}
+use Rattle.std.proofs.lemmas.Cmp.{nat_cmp_total, tied_itself}
 use Rattle.vfs_nodes.specs.declared.node.Node.{Node}
+use Rattle.vfs_tree.specs.Holding.{is_idle, first_held}
 use Rattle.vfs_tree.specs.State.{State, behind, node_at, settled, with_node, without_node}
 use Rattle.vfs_tree.specs.Tree.{forgotten, all_forgotten, released}
-use Rattle.vfs_tree.proofs.Nodes.{is_at_same}
+use Rattle.vfs_tree.proofs.Nodes.{is_at_same, is_at_other}
 
 -- ---- numbers
 
@@ -40,6 +43,22 @@ whole_behind n m up (e ∷ es) all =
     let above : n < e.0 = omega (arith, less m e.0 all.0, up) in
     cond-true (nat_lt n e.0) (e ∷ behind (Some n) es) (behind (Some n) es) (is_below n e.0 above)
     ∙ ap (λ (l : List (ℕ × Node)). e ∷ l) (whole_behind n m up es all.1)
+
+-- what is behind a number has greater ones
+first_above : (es : List (ℕ × Node)) (n k : ℕ) (x : Node) (rest : List (ℕ × Node))
+    → behind (Some n) es ≡ (k, x) ∷ rest → n < k
+first_above [] n k x rest is = cc is
+first_above (e ∷ es) n k x rest is =
+    ⊎_elim
+    (λ passes.
+    let all : e ∷ behind (Some n) es ≡ (k, x) ∷ rest =
+    sym (cond-true (nat_lt n e.0) (e ∷ behind (Some n) es) (behind (Some n) es) passes) ∙ is in
+    let here : e.0 ≡ k = cc all in
+    omega (arith, ltb-true n e.0 passes, here))
+    (λ fails.
+    first_above es n k x rest
+    (sym (cond-false (nat_lt n e.0) (e ∷ behind (Some n) es) (behind (Some n) es) fails) ∙ is))
+    (cases_Bool (nat_lt n e.0))
 
 -- behind the first of those that are behind a number are the others
 pub next_behind : (es : List (ℕ × Node)) → IsStrictlySortedBy nat_cmp (map (λ e. e.0) es)
@@ -79,21 +98,6 @@ next_behind (e ∷ es) sorted (Some n) k x rest is =
     (not_below k e.0 (omega (arith, ltb-false n e.0 fails, up)))
     ∙ next_behind es tail (Some n) k x rest later)
     (cases_Bool (nat_lt n e.0))
-  where
-    first_above : (es : List (ℕ × Node)) (n k : ℕ) (x : Node) (rest : List (ℕ × Node))
-        → behind (Some n) es ≡ (k, x) ∷ rest → n < k
-    first_above [] n k x rest is = cc is
-    first_above (e ∷ es) n k x rest is =
-        ⊎_elim
-        (λ passes.
-        let all : e ∷ behind (Some n) es ≡ (k, x) ∷ rest =
-        sym (cond-true (nat_lt n e.0) (e ∷ behind (Some n) es) (behind (Some n) es) passes) ∙ is in
-        let here : e.0 ≡ k = cc all in
-        omega (arith, ltb-true n e.0 passes, here))
-        (λ fails.
-        first_above es n k x rest
-        (sym (cond-false (nat_lt n e.0) (e ∷ behind (Some n) es) (behind (Some n) es) fails) ∙ is))
-        (cases_Bool (nat_lt n e.0))
 
 -- ---- the first behind a number
 
@@ -116,44 +120,18 @@ between_behind n es =
               [ true ↦ refl | false ↦ refl ]
         ]
 
--- the first of some nodes, and how many lookups of it are held
-abbrev pub IsFirst : List (ℕ × Node) → Option (ℕ × ℕ) → Type 0
-IsFirst given r = MatchOption r (given ≡ [])
-    (λ held. (node : Node) × (rest : List (ℕ × Node)) × (held.1 ≡ node.lookups)
-    × (given ≡ (held.0, node) ∷ rest))
+pub held_of_all : (number : Option ℕ) (es given : List (ℕ × Node)) → number ≡ None
+    → given ≡ entries_between nat_cmp Unbounded Unbounded es
+    → first_held given ≡ first_held (behind number es)
+held_of_all number es given none is =
+    ap first_held (is ∙ between_all es) ∙ ap (λ (o : Option ℕ). first_held (behind o es)) (sym none)
 
--- the first of those behind a number
-abbrev pub IsNext : Option ℕ → List (ℕ × Node) → Option (ℕ × ℕ) → Type 0
-IsNext number es r = MatchOption r (behind number es ≡ [])
-    (λ held. (node : Node) × (held.1 ≡ node.lookups)
-    × (behind number es ≡ (held.0, node) ∷ behind (Some held.0) es))
-
-first_is : (number : Option ℕ) (es given : List (ℕ × Node)) (r : Option (ℕ × ℕ))
-    → IsStrictlySortedBy nat_cmp (map (λ e. e.0) es) → given ≡ behind number es
-    → IsFirst given r → IsNext number es r
-first_is number es given None sorted is first = sym is ∙ first
-first_is number es given (Some held) sorted is first =
-    let all = sym is ∙ first.3 in (
-      first.0,
-      first.2,
-      all ∙ ap (λ (l : List (ℕ × Node)). (held.0, first.0) ∷ l)
-          (sym (next_behind es sorted number held.0 first.0 first.1 all)),
-    )
-
-pub first_of_all : (number : Option ℕ) (es given : List (ℕ × Node)) (r : Option (ℕ × ℕ))
-    → number ≡ None → IsStrictlySortedBy nat_cmp (map (λ e. e.0) es)
-    → given ≡ entries_between nat_cmp Unbounded Unbounded es → IsFirst given r → IsNext number es r
-first_of_all number es given r none sorted is first =
-    subst (λ (o : Option ℕ). IsNext o es r) (sym none)
-    (first_is None es given r sorted (is ∙ between_all es) first)
-
-pub first_behind : (number : Option ℕ) (n : ℕ) (es given : List (ℕ × Node)) (r : Option (ℕ × ℕ))
-    → number ≡ Some n → IsStrictlySortedBy nat_cmp (map (λ e. e.0) es)
-    → given ≡ entries_between nat_cmp (Excluded n) Unbounded es → IsFirst given r
-    → IsNext number es r
-first_behind number n es given r some sorted is first =
-    subst (λ (o : Option ℕ). IsNext o es r) (sym some)
-    (first_is (Some n) es given r sorted (is ∙ between_behind n es) first)
+pub held_behind : (number : Option ℕ) (n : ℕ) (es given : List (ℕ × Node)) → number ≡ Some n
+    → given ≡ entries_between nat_cmp (Excluded n) Unbounded es
+    → first_held given ≡ first_held (behind number es)
+held_behind number n es given some is =
+    ap first_held (is ∙ between_behind n es)
+    ∙ ap (λ (o : Option ℕ). first_held (behind o es)) (sym some)
 
 -- ---- a node that is changed or goes is not behind itself
 
@@ -223,7 +201,7 @@ pub record IsLeft (first s : State) (at : Option ℕ) : Type 0 where
   pub rest : all_forgotten s (held_of (behind at s.nodes)) ≡ released first
 
 -- one node is done
-pub done_more : (first s next : State) (at : Option ℕ) (n count : ℕ) (node : Node)
+done_more : (first s next : State) (at : Option ℕ) (n count : ℕ) (node : Node)
     → IsLeft first s at → count ≡ node.lookups
     → behind at s.nodes ≡ (n, node) ∷ behind (Some n) s.nodes
     → next ≡ forgotten s n count
@@ -244,8 +222,153 @@ done_more first s next at n count node left counted is step =
       omega (arith, ap length same, ap length is),
     )
 
--- nothing is left
-pub all_done : (first s : State) (at : Option ℕ) → IsLeft first s at
+-- ---- idle nodes
+
+at_itself : (n : ℕ) → is_at (nat_cmp n) n ≡ true
+at_itself n = ap is_eq (tied_itself nat_cmp_total n)
+
+found_head : (e : ℕ × Node) (es : List (ℕ × Node)) (k : ℕ) (x : Node) → e.0 ≡ k → e.1 ≡ x
+    → lookup (is_at (nat_cmp k)) (e ∷ es) ≡ Some x
+found_head e es k x here this =
+    cond-true (is_at (nat_cmp k) e.0) (Some e.1) (lookup (is_at (nat_cmp k)) es)
+    (ap (is_at (nat_cmp k)) here ∙ at_itself k)
+    ∙ ap (λ (node : Node). Some node) this
+
+-- the first of those that are behind a number is found
+found_behind : (es : List (ℕ × Node)) (number : Option ℕ) (k : ℕ) (x : Node) (rest : List (ℕ × Node))
+    → behind number es ≡ (k, x) ∷ rest → lookup (is_at (nat_cmp k)) es ≡ Some x
+found_behind [] None k x rest is = cc is
+found_behind [] (Some n) k x rest is = cc is
+found_behind (e ∷ es) None k x rest is = found_head e es k x (cc is) (cc is)
+found_behind (e ∷ es) (Some n) k x rest is =
+    ⊎_elim
+    (λ passes.
+    let all : e ∷ behind (Some n) es ≡ (k, x) ∷ rest =
+    sym (cond-true (nat_lt n e.0) (e ∷ behind (Some n) es) (behind (Some n) es) passes) ∙ is in
+    found_head e es k x (cc all) (cc all))
+    (λ fails.
+    let later : behind (Some n) es ≡ (k, x) ∷ rest =
+    sym (cond-false (nat_lt n e.0) (e ∷ behind (Some n) es) (behind (Some n) es) fails) ∙ is in
+    let up = first_above es n k x rest later in
+    let apart : k ≡ e.0 → ⊥ = λ same. omega (arith, same, up, ltb-false n e.0 fails) in
+    cond-false (is_at (nat_cmp k) e.0) (Some e.1) (lookup (is_at (nat_cmp k)) es)
+    (is_at_other k e.0 apart)
+    ∙ found_behind es (Some n) k x rest later)
+    (cases_Bool (nat_lt n e.0))
+
+both : (a b : Bool) → (a && not b) ≡ true → (a ≡ true) × (b ≡ false)
+both true true is = cc is
+both true false is = (refl, refl)
+both false b is = cc is
+
+-- taking back the lookups of an idle node changes nothing
+idle_stays : (s : State) (n : ℕ) (node : Node) → node_at s n ≡ Some node → is_idle node ≡ true
+    → s ≡ forgotten s n node.lookups
+idle_stays s n node is idle =
+    let facts = both (node.lookups == 0) (node.names == 0) idle in
+    let none : node.lookups ≡ 0 = eqb-true node.lookups 0 facts.0 in
+    let left : node.lookups - node.lookups ≡ node.lookups = omega (arith, none) in
+    let taken : Node = record node { lookups = node.lookups - node.lookups } in
+    let stays : (node.names == 0 && node.lookups - node.lookups == 0) ≡ false =
+    and_left (node.names == 0) (node.lookups - node.lookups == 0) facts.1 in
+    sym
+    (ap (λ o. option_map_or
+    (λ (x : Node). settled s n (record x { lookups = x.lookups - node.lookups })) o s) is
+    ∙ cond-false (node.names == 0 && node.lookups - node.lookups == 0) (without_node s n taken)
+    (with_node s n taken) stays
+    ∙ ap (λ l. with_node s n (record node { lookups = l })) left
+    ∙ ap (λ (es : List (ℕ × Node)). record s { nodes = es })
+    (set_value_same (is_at (nat_cmp n)) s.nodes node is))
+
+-- where nothing is left
+all_done : (first s : State) (at : Option ℕ) → IsLeft first s at
     → behind at s.nodes ≡ [] → s ≡ released first
 all_done first s at left none =
     sym (ap (λ es. all_forgotten s (held_of es)) none) ∙ left.rest
+
+-- what is left, and the first of it is not idle
+record IsHeld (first s : State) (n count most : ℕ) : Type 0 where
+  at : Option ℕ
+  node : Node
+  left : IsLeft first s at
+  counted : count ≡ node.lookups
+  here : behind at s.nodes ≡ (n, node) ∷ behind (Some n) s.nodes
+  few : length (behind at s.nodes) ≤ most
+
+module _ (first s : State) (sorted : IsStrictlySortedBy nat_cmp (map (λ e. e.0) s.nodes)) where
+  skip : (at : Option ℕ) (e : ℕ × Node) (es : List (ℕ × Node)) → behind at s.nodes ≡ e ∷ es
+      → IsLeft first s at → is_idle e.1 ≡ true
+      → (behind (Some e.0) s.nodes ≡ es) × IsLeft first s (Some e.0)
+  skip at e es is left idle =
+      let next : behind (Some e.0) s.nodes ≡ es = next_behind s.nodes sorted at e.0 e.1 es is in (
+        next,
+        (done_more first s s at e.0 e.1.lookups e.1 left refl
+            (is ∙ ap (λ (l : List (ℕ × Node)). e ∷ l) (sym next))
+            (idle_stays s e.0 e.1 (found_behind s.nodes at e.0 e.1 es is) idle)).0,
+      )
+
+  skipped : (es : List (ℕ × Node)) (at : Option ℕ) → behind at s.nodes ≡ es → IsLeft first s at
+      → (n count : ℕ) → first_held es ≡ Some (n, count) → IsHeld first s n count (length es)
+  skipped [] at is left n count held = cc held
+  skipped (e ∷ es) at is left n count held =
+      ⊎_elim
+      (λ (idle : is_idle e.1 ≡ true).
+      let on = skip at e es is left idle in
+      let rest = skipped es (Some e.0) on.0 on.1 n count
+      (sym (cond-true (is_idle e.1) (first_held es) (Some (e.0, e.1.lookups)) idle) ∙ held) in
+      let few = rest.few in
+      record {
+        at = rest.at;
+        node = rest.node;
+        left = rest.left;
+        counted = rest.counted;
+        here = rest.here;
+        few = omega (arith, few);
+      })
+      (λ (busy : is_idle e.1 ≡ false).
+      let it : Some (e.0, e.1.lookups) ≡ Some (n, count) =
+      sym (cond-false (is_idle e.1) (first_held es) (Some (e.0, e.1.lookups)) busy) ∙ held in
+      let pair : (e.0, e.1.lookups) ≡ (n, count) = cc in
+      let number : e.0 ≡ n = ap (λ (p : ℕ × ℕ). p.0) pair in
+      let lookups : count ≡ e.1.lookups = sym (ap (λ (p : ℕ × ℕ). p.1) pair) in
+      let next : behind (Some e.0) s.nodes ≡ es = next_behind s.nodes sorted at e.0 e.1 es is in
+      record {
+        at = at;
+        node = e.1;
+        left = left;
+        counted = lookups;
+        here = is ∙ ap (λ (l : List (ℕ × Node)). e ∷ l) (sym next)
+            ∙ ap (λ (m : ℕ). (m, e.1) ∷ behind (Some m) s.nodes) number;
+        few = omega (arith, ap length is);
+      })
+      (cases_Bool (is_idle e.1))
+
+  pub held_more : (next : State) (at : Option ℕ) (n count : ℕ) → IsLeft first s at
+      → Some (n, count) ≡ first_held (behind at s.nodes) → next ≡ forgotten s n count
+      → IsLeft first next (Some n)
+      × (length (behind (Some n) next.nodes) + 1 ≤ length (behind at s.nodes))
+  held_more next at n count left held step =
+      let it = skipped (behind at s.nodes) at refl left n count (sym held) in
+      let more = done_more first s next it.at n count it.node it.left it.counted it.here step in
+      let fewer = more.1 in
+      let few = it.few in
+      (more.0, omega (arith, fewer, few))
+
+  none_held : (es : List (ℕ × Node)) (at : Option ℕ) → behind at s.nodes ≡ es → IsLeft first s at
+      → first_held es ≡ None → s ≡ released first
+  none_held [] at is left none = all_done first s at left is
+  none_held (e ∷ es) at is left none =
+      ⊎_elim
+      (λ (idle : is_idle e.1 ≡ true).
+      let on = skip at e es is left idle in
+      none_held es (Some e.0) on.0 on.1
+      (sym (cond-true (is_idle e.1) (first_held es) (Some (e.0, e.1.lookups)) idle) ∙ none))
+      (λ (busy : is_idle e.1 ≡ false).
+      let it : Some (e.0, e.1.lookups) ≡ None =
+      sym (cond-false (is_idle e.1) (first_held es) (Some (e.0, e.1.lookups)) busy) ∙ none in
+      cc it)
+      (cases_Bool (is_idle e.1))
+
+  pub all_idle : (at : Option ℕ) → IsLeft first s at → None ≡ first_held (behind at s.nodes)
+      → s ≡ released first
+  all_idle at left none = none_held (behind at s.nodes) at refl left (sym none)

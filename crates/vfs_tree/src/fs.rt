@@ -4,7 +4,8 @@ ghost use Rattle.std.specs.Prelude.{◌≡◌, ◌≤◌, ◌<◌, ◌^◌, ◌+
 ghost use Rattle.std.specs.Option.{option_map_or};
 ghost use Rattle.std.specs.Ordering.{nat_cmp};
 ghost use Rattle.std.specs.BTreeMap.{is_at};
-ghost use Rattle.std.specs.Map.{remove_entry};
+ghost use Rattle.std.specs.Map.{keys_of, remove_entry};
+ghost use Rattle.std.specs.List.Sorted.{IsStrictlySortedBy};
 ghost use Rattle.vfs_flags.specs.Numbers.{enomem};
 ghost use Rattle.vfs_files.specs.Values.{name_text};
 ghost use Rattle.vfs_files.specs.Calls.{Plain, Found, entry_answer};
@@ -12,6 +13,7 @@ ghost use Rattle.vfs_nodes.specs.Node.{weight};
 ghost use Rattle.vfs_tree.specs.Naming.{has_no_number, is_crowded, new_in};
 ghost use Rattle.vfs_tree.specs.Outcome.{Ends};
 ghost use Rattle.vfs_nodes.specs.declared.node.Node.{Node};
+ghost use Rattle.vfs_tree.specs.Holding.{first_held};
 ghost use Rattle.vfs_tree.specs.State.{behind, child_at, lead, node_at, room_of, with_new};
 ghost use Rattle.vfs_tree.specs.Tree.{makes, make_refusal, first_state, forgotten, all_forgotten, released};
 
@@ -379,13 +381,11 @@ impl TreeFs {
         }
     }
 
-    // The first node with a greater number than this, or the first of all, and how many lookups of it
-    // are held.
+    // The first node that is not idle of those with a greater number than this, or of all, and how many
+    // lookups of it are held.
     fn held_after(&self, number: Option<u64>) -> Option<(u64, u64)>
-        ensures { MatchOption result (behind number self.entry.now.nodes ≡ []) (λ held.
-            (node : Node) × (held.1 ≡ node.lookups)
-            × (behind number self.entry.now.nodes
-            ≡ (held.0, node) ∷ behind (Some held.0) self.entry.now.nodes)) }
+        ensures held { result ≡ first_held (behind number self.entry.now.nodes) }
+        ensures ordered { IsStrictlySortedBy nat_cmp (keys_of self.entry.now.nodes) }
     {
         match number {
             None => first_held(self.nodes.range(..)),
@@ -408,13 +408,14 @@ fn handed_down(is_handed: bool, permissions: u32) -> u32
     }
 }
 
-// The first of these nodes, and how many lookups of it are held.
-fn first_held(mut nodes: Range<'_, u64, Node>) -> Option<(u64, u64)>
-    ensures { MatchOption result (nodes.entry ≡ []) (λ held. (node : Node) × (rest : List (ℕ × Node))
-        × (held.1 ≡ node.lookups) × (nodes.entry ≡ (held.0, node) ∷ rest)) }
+// The first of these nodes that is not idle, and how many lookups of it are held.
+fn first_held(nodes: Range<'_, u64, Node>) -> Option<(u64, u64)>
+    ensures { result ≡ first_held nodes.entry }
 {
-    match nodes.next() {
-        Some((number, node)) => Some((*number, node.lookups)),
-        None => None,
+    for (number, node) in nodes {
+        if node.lookups != 0 || node.names == 0 {
+            return Some((*number, node.lookups));
+        }
     }
+    None
 }
