@@ -292,7 +292,8 @@ static int32_t serve_apart(void *user, unsigned worker, const nizwarf_segment *r
 
 int main(int count, char **words)
 {
-	transport by = { .program = "nizwarf-mount", .workers = 2, .withheld = FUSE_ATOMIC_O_TRUNC,
+	transport by = { .program = "nizwarf-mount", .workers = 2,
+			 .withheld = FUSE_ATOMIC_O_TRUNC | TRANSPORT_ALLOW_IDMAP,
 			 .begin = begin, .end = end, .serve = serve };
 	const char *folder = take_words(count, words);
 	char options[80];

@@ -33,6 +33,9 @@ enum { FUSE_DEVICE_PIPED = 1 << 19 };
 struct fuse_ring_calls;
 extern const struct fuse_ring_calls fuse_ring;
 
+/* A flag of INIT that older headers lack. */
+#define TRANSPORT_ALLOW_IDMAP (UINT64_C(1) << 40)
+
 typedef struct {
 	/* What messages on standard error begin with. */
 	const char *program;
@@ -42,10 +45,11 @@ typedef struct {
 	/* The payload is at most FUSE_DEVICE_PIPED. Data of a WRITE over /dev/fuse may lack in the
 	 * segment until fuse_device_write_to was called, and those of a READ in the rooms. */
 	int splices;
-	/* Flags of INIT, of the first 32, that a client is taken not to offer: `serve` has its request
-	 * without them. Without FUSE_ATOMIC_O_TRUNC Linux cuts by SETATTR what it opens with O_TRUNC, so
-	 * a file system that has no handles may do without OPEN. */
-	uint32_t withheld;
+	/* Flags of INIT that a client is taken not to offer: `serve` has its request without them. Without
+	 * FUSE_ATOMIC_O_TRUNC Linux cuts by SETATTR what it opens with O_TRUNC, so a file system that has
+	 * no handles may do without OPEN. Without TRANSPORT_ALLOW_IDMAP it tells who asks by each
+	 * request. */
+	uint64_t withheld;
 	/* Not to print how many requests came to what, once a front end has gone. */
 	int quiet;
 	/* Where /dev/fuse is served by io_uring if Linux offers that (`fuse_ring`, of fuse_ring.c), by a worker
@@ -81,15 +85,18 @@ static inline void transport_withhold(const transport *by, unsigned char *reques
 {
 	const size_t at = sizeof(struct fuse_in_header) + offsetof(struct fuse_init_in, flags);
 	struct fuse_in_header asked;
-	uint32_t flags;
+	uint32_t flags[2] = { 0, 0 };
+	/* (the second ones follow the first, if the request has them) */
+	const size_t size = len < at + sizeof(flags) ? sizeof(flags[0]) : sizeof(flags);
 
-	if (len < at + sizeof(flags))
+	if (len < at + size)
 		return;
 	memcpy(&asked, request, sizeof(asked));
-	memcpy(&flags, request + at, sizeof(flags));
-	flags &= ~by->withheld;
+	memcpy(flags, request + at, size);
+	flags[0] &= ~(uint32_t)by->withheld;
+	flags[1] &= ~(uint32_t)(by->withheld >> 32);
 	if (asked.opcode == FUSE_INIT)
-		memcpy(request + at, &flags, sizeof(flags));
+		memcpy(request + at, flags, size);
 }
 
 /* Mounts on the folder as `source`, with flags of mount(2). `options` stand behind those that it

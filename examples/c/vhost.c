@@ -87,7 +87,8 @@ static bool prints(const char *word)
 
 int main(int count, char **words)
 {
-	transport by = { .program = "nizwarf-vhost", .workers = 1, .withheld = FUSE_ATOMIC_O_TRUNC,
+	transport by = { .program = "nizwarf-vhost", .workers = 1,
+			 .withheld = FUSE_ATOMIC_O_TRUNC | TRANSPORT_ALLOW_IDMAP,
 			 .begin = begin, .end = end, .left = remove_socket, .serve = serve };
 	const char *trace = NULL;
 	int listener, status;

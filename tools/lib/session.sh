@@ -164,6 +164,16 @@ else
     works '-rwxrwxrwx 0' 'echo u > u && chmod 4777 u && $other_user ": > $here/u" && stat -c "%A %s" u && rm u'
     fails 'Permission denied' 'echo u > u && chmod 644 u && $other_user "echo v > $here/u"'
     works '' 'rm u'
+    # What is trusted is listed to root alone.
+    if [ -n "$shared" ] || ! command -v python3 > /dev/null; then
+        skipped 'names of what is trusted, of a shared folder or without python3'
+    else
+        works "['trusted.t', 'user.u']" 'echo u > u && python3 -c "import os
+for name in (\"trusted.t\", \"user.u\"):
+    os.setxattr(\"u\", name, b\"\")
+print(os.listxattr(\"u\"))"'
+        works "['user.u']" '$other_user "python3 -c \"import os; print(os.listxattr(\\\"$here/u\\\"))\"" && rm u'
+    fi
 fi
 
 # Directories.
