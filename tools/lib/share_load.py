@@ -766,7 +766,8 @@ def main(minutes):
     in_turn("openat", "REFUSE_OPEN")
     makers_without()
     many_directories()
-    mounted = Server(share, work + "/folder", "--xattr", mount=work + "/mount")
+    # (it has more files than some machines let it have descriptors)
+    mounted = Server(share, work + "/folder", "--xattr", "--inode-file-handles=prefer", mount=work + "/mount")
     served = Server(share, work + "/served", "--xattr", socket=work + "/socket")
     first = {it: it.memory()[0] for it in (mounted, served)}
     parts = (lambda: stress_and_keep(mounted, chance, "the mount"), lambda: machines(served, chance, work + "/socket"),
