@@ -112,8 +112,9 @@ typedef struct {
  * no space for is told by fsync or close then, not by write. */
 #define NIZWARF_WRITEBACK 1
 
-/* A million nodes and 4 GiB of memory, and files as long as Linux allows; a root of user and group 0, which
- * they alone may write; no time yet; no flags. */
+/* A million nodes and 4 GiB of data, links and attributes, and files as long as Linux allows; a root of user
+ * and group 0, which they alone may write; no time yet; no flags. Nodes and their names come on top of the
+ * 4 GiB. */
 #define NIZWARF_SETTINGS \
 	{ 0, UINT64_C(1) << 20, UINT64_C(1) << 32, INT64_MAX, 0, 0, 0, 0755, 0 }
 
