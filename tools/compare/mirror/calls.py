@@ -238,7 +238,9 @@ class Side:
         return os.getxattr(self.at(path), key, follow_symlinks=False)
 
     def listxattr(self, path):
-        return sorted(os.listxattr(self.at(path), follow_symlinks=False))
+        """(another user by setfsuid has root's capabilities, by which a tmpfs shows what is trusted)"""
+        names = os.listxattr(self.at(path), follow_symlinks=False)
+        return sorted(name for name in names if not name.startswith("trusted.") or is_root())
 
     def removexattr(self, path, key):
         os.removexattr(self.at(path), key, follow_symlinks=False)
@@ -402,6 +404,11 @@ def become(user, group):
     LIBC.setfsuid(0)
     LIBC.setfsgid(group)
     LIBC.setfsuid(user)
+
+
+def is_root():
+    """Whether the user is root now. (No user has the number -1, so none is set.)"""
+    return LIBC.setfsuid(-1) == 0
 
 
 def as_root(act):
