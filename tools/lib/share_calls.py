@@ -263,6 +263,9 @@ def append_alone():
 def append_together():
     """Lines that two mounts and the host append at once are all there, while one descriptor writes by a map too."""
     shared, lines = f"{WORK}/together", 400
+    # Sixteen bytes, which divide a page: of a write that crosses a page, by the end that a client knows, its kernel
+    # makes two requests if the first page isn't in its cache, and what another one appends may come between them.
+    line = "{}.{:013}\n".format
     os.mkdir(shared)
     put(shared + "/log", b"#" * 4096)
 
@@ -273,7 +276,7 @@ def append_together():
                     if number == 0:
                         page[0] = 64 + i % 20
                         page.flush()
-                    os.write(file, b"%d.%06d\n" % (number, i))
+                    os.write(file, line(number, i).encode())
         return act
     with Mount(shared, "--log-level=warn") as one, Mount(shared, "--log-level=warn", name="another") as other:
         children = []
@@ -285,8 +288,8 @@ def append_together():
             children.append(child)
         ended = [os.waitpid(child, 0)[1] for child in children]
     text = got(shared + "/log")
-    if any(ended) or len(text) != 4096 + 9 * 3 * lines or text[:2] == "##" or \
-            sorted(text[4096:].split()) != sorted(f"{number}.{i:06}" for number in range(3) for i in range(lines)):
+    if any(ended) or len(text) != 4096 + 16 * 3 * lines or text[:2] == "##" or \
+            sorted(text[4096:].splitlines(True)) != sorted(line(who, i) for who in range(3) for i in range(lines)):
         faults.append(f"lines that are appended at once: {ended}, {len(text)} bytes")
 
 
