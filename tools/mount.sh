@@ -14,8 +14,9 @@
 #
 # With --check it is mounted on a folder of its own: tools/lib/session.sh does there what a person does, memory
 # goes back that was written and cut, and it is unmounted; then so with writeback, and with no_io_uring; with
-# other options, where it ends by a signal; and once more, with limits, which bound the server's memory, and hold
-# again once what was there is removed. It wants python3 then.
+# other options, where it ends by a signal; with a link above it, and over vhost-user with an event that is full
+# (tools/lib/share_ends.py); and once more, with limits, which bound the server's memory, and hold again once what
+# was there is removed. It wants python3 then.
 #
 # It wants root, /dev/fuse, a C compiler and the Rattle toolchain. It links the proved library where that
 # is built and no source is newer; otherwise tools/lib/unproved.sh builds it without a proof, which takes a
@@ -80,9 +81,12 @@ fi
 
 need mountpoint "Install util-linux."
 need python3 "Install it: apt-get install python3."
+build_transport vhost
+vhost=$transport
 build_transport mount
 folder=$(mktemp -d)
-trap '{ umount -l "$folder"; rmdir "$folder"; } 2> /dev/null || true' EXIT
+ends=$(mktemp -d)
+trap '{ umount -l "$folder"; rmdir "$folder"; rm -rf "$ends"; } 2> /dev/null || true' EXIT
 
 # Starts to serve, with options behind it, five minutes at most, and waits until it is mounted.
 start() {
@@ -233,6 +237,10 @@ if (: > "$folder/a") 2> /dev/null; then
 fi
 kill -INT "$server"
 ended "Ended by a signal"
+unshare --mount timeout 60 python3 -B "$here/tools/lib/share_ends.py" --tree "$transport" "$vhost" "$ends" || {
+    echo "FAILED: the ends of a mount and of a machine." >&2
+    status=1
+}
 start -o size=16m,nr_inodes=20000
 space_is_free || {
     echo "FAILED: what was removed has its space." >&2

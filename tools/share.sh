@@ -447,8 +447,7 @@ try_closed() {
 try_ends() {
     local ends=$work/ends
     mkdir "$ends"
-    # (a worker that waits is left)
-    TSAN_OPTIONS=report_thread_leaks=0 timeout -k 5 120 unshare --mount \
+    timeout -k 5 120 unshare --mount \
         python3 -B "$here/tools/lib/share_ends.py" "$share" "$ends" "$@" 2> "$ends/said" ||
         { cat "$ends/said" >&2 && wrong "tools/lib/share_ends.py with $*"; }
     ! grep -E 'ERROR: |WARNING: ThreadSanitizer|runtime error' "$ends/said" >&2 || wrong "a sanitizer, at an end"

@@ -98,7 +98,7 @@ struct device {
 	int over;
 	atomic_int stop, failed;
 	/* How many workers were started: the first one counts the others. */
-	unsigned started;
+	atomic_uint started;
 	/* Those over io_uring, which the first one starts in place of others; NULL: there are none. */
 	struct fuse_rings *rings;
 	/* How many read now, and how many requests were taken. */
@@ -1010,31 +1010,37 @@ static _Noreturn void leave(struct device *d)
 	_exit(atomic_load(&d->failed));
 }
 
-/* Serves by workers, until they have ended. Answers whether they failed. */
-static int serve(struct device *d, int device, int signals)
+/* Ends the workers, and what unmounts. -1: one waits for something. */
+static int end_all(struct device *d)
 {
+	const uint64_t until = now() + (uint64_t)MOST_JOIN * 1000000;
 	const struct timespec pause = { 0, 5000000 };
-	uint64_t until;
+	int left;
 
-	if (start(d, device))
-		return 1;
-	wait_for_end(d, signals);
 	pthread_mutex_lock(&d->lock);
 	atomic_store(&d->stop, 1);
 	pthread_cond_broadcast(&d->call);
 	pthread_mutex_unlock(&d->lock);
-	until = now() + (uint64_t)MOST_JOIN * 1000000;
 	/* The first one has started the others. */
-	if (end(&d->worker[0], until))
-		leave(d);
+	left = end(&d->worker[0], until);
 	for (unsigned i = 1; i < d->started; i++)
-		if (end(&d->worker[i], until))
-			leave(d);
+		left |= end(&d->worker[i], until);
 	while (d->is_unmounting && pthread_tryjoin_np(d->unmounts, NULL) == EBUSY) {
 		if (now() > until)
-			leave(d);
+			return -1;
 		nanosleep(&pause, NULL);
 	}
+	return left;
+}
+
+/* Serves by workers, until they have ended. Answers whether they failed. */
+static int serve(struct device *d, int device, int signals)
+{
+	if (start(d, device))
+		return 1;
+	wait_for_end(d, signals);
+	if (end_all(d))
+		leave(d);
 	return atomic_load(&d->failed);
 }
 

@@ -4,9 +4,9 @@
  * Usage: nizwarf-mount [-o OPTIONS] [--trace[=FILE]] FOLDER
  *
  * --help lists the options. SIGINT, SIGTERM and SIGHUP unmount. Where the folder is in use then, it
- * goes when the last user does, or at a second signal. The server has one caller at a time, so two workers are
- * enough; but over io_uring there is one for each processor, since what they do beside the server takes
- * longer.
+ * goes when the last user does, or at a second signal, or after two seconds if a request still waits. The server
+ * has one caller at a time, so two workers are enough; but over io_uring there is one for each processor, since
+ * what they do beside the server takes longer.
  *
  * Status 0: it was unmounted; 1: something failed; 2: the words or options can't be. Standard error
  * says what. */

@@ -592,15 +592,28 @@ int queues_begin(const transport *with)
 	return 0;
 }
 
-/* Lets a request that takes long go on with EINTR. Who is about to wait is interrupted the next time. */
-static void interrupt(const struct guest *of)
+/* Lets requests that take long go on with EINTR. Who is about to wait is interrupted the next time. */
+static void interrupt(void)
 {
-	for (unsigned i = 0; i < started; i++) {
-		const struct guest *served = workers[i] ? atomic_load(&workers[i]->serves) : NULL;
-
-		if (served && (!of || served == of))
+	for (unsigned i = 0; i < started; i++)
+		if (workers[i] && atomic_load(&workers[i]->serves))
 			pthread_kill(workers[i]->thread, SIGRTMIN);
+}
+
+/* Frees workers that have ended. Answers how many have not. */
+static unsigned join_workers(void)
+{
+	unsigned left = 0;
+
+	for (unsigned i = 0; i < started; i++) {
+		if (workers[i] && pthread_tryjoin_np(workers[i]->thread, NULL) == EBUSY) {
+			left++;
+			continue;
+		}
+		free(workers[i]);
+		workers[i] = NULL;
 	}
+	return left;
 }
 
 /* Leaves what a front end shared to the workers that still use it, and begins others in their place. */
@@ -638,7 +651,7 @@ int queues_part(int signals)
 	atomic_store(&vhost_guest->gone, 1);
 	while (try_hold(REST)) {
 		if (has_passed(&interrupts))
-			interrupt(vhost_guest);
+			interrupt();
 		if (poll(&wait, 1, 0) > 0 && has_passed(&interrupts))
 			return -1;
 		if (by->has_spare && has_passed(&most))
@@ -652,22 +665,23 @@ int queues_end(void)
 {
 	const struct timespec interrupts = after(INTERRUPTS, CLOCK_MONOTONIC), most = after(MOST, CLOCK_MONOTONIC);
 	const struct timespec pause = { 0, REST * 1000000L };
+	unsigned left = started;
 
-	atomic_store(&vhost_guest->gone, 1);
+	if (vhost_guest)
+		atomic_store(&vhost_guest->gone, 1);
 	tell(stop);
-	for (unsigned i = 0; i < started; i++) {
-		while (pthread_tryjoin_np(workers[i]->thread, NULL) == EBUSY) {
-			if (has_passed(&most))
-				return -1;
-			if (has_passed(&interrupts))
-				interrupt(NULL);
+	while (left && !has_passed(&most)) {
+		if (has_passed(&interrupts))
+			interrupt();
+		left = join_workers();
+		if (left)
 			nanosleep(&pause, NULL);
-		}
-		free(workers[i]);
-		workers[i] = NULL;
 	}
+	if (left)
+		return -1;
 	started = 0;
-	put_guest(vhost_guest);
+	if (vhost_guest)
+		put_guest(vhost_guest);
 	vhost_guest = NULL;
 	close(events);
 	close(look);

@@ -1,10 +1,15 @@
 """Ends of a share, for tools/share.sh: a request that waits, for a lease or a file system that does not answer, or
 an event that is full, keeps nobody: neither the next front end, nor a signal. And what is unmounted is what was
-mounted. Usage: share_ends.py SHARE WORK [WORDS]; it wants root, in a namespace of mounts of its own."""
+mounted. Usage: share_ends.py SHARE WORK [WORDS]; and for tools/mount.sh share_ends.py --tree MOUNT VHOST WORK. It
+wants root, in a namespace of mounts of its own."""
 
-import ctypes, fcntl, mmap, os, signal, socket, struct, subprocess, sys, threading, time
+import atexit, ctypes, fcntl, mmap, os, select, signal, socket, struct, subprocess, sys, time
 
-share, work, *words = sys.argv[1:]
+of_tree = sys.argv[1] == "--tree"
+if of_tree:
+    tree_mount, tree_vhost, work, *words = sys.argv[2:]
+else:
+    share, work, *words = sys.argv[1:]
 SOON = 4
 folder, path, point = work + "/ends", work + "/ends.socket", work + "/above/point"
 libc = ctypes.CDLL(None, use_errno=True)
@@ -111,8 +116,9 @@ class Front:
 
 class Server:
     def __init__(self, *more, program=None):
-        self.mounts = point in more or work + "/above/point" in more
+        self.mounts = point in more
         self.process = subprocess.Popen([*(program or [share, "--log-level=error", *words]), *more])
+        atexit.register(self.process.kill)
         if not wait_for(lambda: mounted(point) if self.mounts else os.path.exists(path), 20):
             raise OSError("there is no server")
 
@@ -155,18 +161,15 @@ def next_is_served(what):
 
 def fill(event):
     """Makes an event full, so that who writes to it waits."""
-    time.sleep(0.1)
-    try:
+    while select.select([event], [], [], 0.2)[0]:
         os.eventfd_read(event)
-    except BlockingIOError:
-        pass
     os.eventfd_write(event, 2**64 - 2)
     fcntl.fcntl(event, fcntl.F_SETFL, fcntl.fcntl(event, fcntl.F_GETFL) & ~os.O_NONBLOCK)
 
 
-def full_event(ends_by_signal):
+def full_event(ends_by_signal, program=None):
     """A front end whose call is full, and makes the server wait for that."""
-    server, one = Server("--socket-path=" + path, folder), Front()
+    server, one = Server(*([path] if program else ["--socket-path=" + path, folder]), program=program), Front()
     hold(one.init() == 0, "a front end is not served")
     fill(one.call)
     for _ in range(8):
@@ -202,12 +205,15 @@ def waits_for_file_system(ends_by_signal):
     if ends_by_signal:
         one.post(1, b"hung\0")
         one.post(1, b"hung\0")
+        # (a message waits until no request is in flight)
+        one.tell(18, struct.pack("<II", 1, 1))
         time.sleep(0.3)
         server.ends("a signal while a file system does not answer")
         return hung.end()
     for _ in range(3):
         for _ in range(2):
             one.post(1, b"hung\0")
+        one.tell(18, struct.pack("<II", 1, 1))
         time.sleep(0.3)
         before = one.done()
         one.hang_up()
@@ -265,18 +271,28 @@ def each_alone():
         server.ends(f"a signal to {which}",
                     *{"the server": [child], "both": [parent, child]}.get(which, [child, parent]))
         hold(not mounted(point), f"a signal to {which}: it is mounted")
-    server = Server("--socket-path=" + path, folder)
-    child = server.child()
-    os.kill(server.process.pid, signal.SIGKILL)
-    server.process.wait()
-    hold(wait_for(lambda: not os.path.exists(f"/proc/{child}")), "the server outlives what stood by")
-    os.unlink(path)
+    for is_ready in (False, True):
+        server = Server("--socket-path=" + path, folder)
+        if is_ready:
+            Front().init()
+        wait_for(lambda it=server: it.child() != it.process.pid)
+        child = server.child()
+        os.kill(server.process.pid, signal.SIGKILL)
+        server.process.wait()
+        hold(wait_for(lambda it=child: not os.path.exists(f"/proc/{it}")), "the server outlives what stood by")
+        os.unlink(path)
 
 
 for name in ("ends", "ends/hung", "above", "above/point", "other", "other/point"):
     os.mkdir(f"{work}/{name}")
 with open(folder + "/leased", "w"):
     pass
+if of_tree:
+    full_event(False, [tree_vhost])
+    full_event(True, [tree_vhost])
+    link_above(program=[tree_mount])
+    print("A full event keeps nobody, and what is unmounted is what was mounted.")
+    sys.exit(1 if faults else 0)
 for ends_by_signal in (False, True):
     full_event(ends_by_signal)
     waits_for_lease(ends_by_signal)
