@@ -6,3 +6,4 @@ pub mod Noting
 pub mod Parts
 pub mod Uses
 pub mod Checked
+pub mod Terms

@@ -1,6 +1,6 @@
 //! What a request asks.
 
-ghost use Rattle.std.specs.Prelude.{◌≡◌, ◌≢◌, ◌≤◌, ◌+◌, ℕ, List, Ok, Some, drop, false, length, true};
+ghost use Rattle.std.specs.Prelude.{◌≡◌, ◌≢◌, ◌<◌, ◌≤◌, ◌^◌, ◌+◌, ℕ, List, Ok, Some, drop, false, length, true};
 ghost use Rattle.vfs_flags.specs.Flags.{fs_options_bits};
 ghost use Rattle.vfs_flags.specs.Numbers.{opcode_of};
 ghost use Rattle.vfs_flags.specs.declared.opcode.Opcode.{Opcode};
@@ -16,6 +16,7 @@ ghost use Rattle.vfs_ask.specs.declared.asked.Asked.TheVariants.{Finished};
 ghost use Rattle.vfs_ask.specs.Contexts.{may_have_context};
 ghost use Rattle.vfs_ask.specs.Memory.{LacksNoMemory, MayWant};
 ghost use Rattle.vfs_ask.specs.Noting.{IsNoted, NotedAndTold};
+ghost use Rattle.vfs_ask.specs.Terms.{TellsOfHeader, TellsOfOpcode};
 ghost use Rattle.vfs_ask.specs.Parts.{told_with};
 ghost use Rattle.vfs_ask.specs.Asked.{IsAsked, IsEnough, LiesWithin, Tells, interrupted_behind, interrupted_by, unique_or_none};
 
@@ -60,6 +61,19 @@ impl Asked {
             interrupts: 0,
         }
     }
+}
+
+/// Under what a request is asked.
+#[derive(Clone, Copy)]
+pub(crate) struct Terms {
+    /// The sizes that a server goes by.
+    limits: Limits,
+    /// The options that are agreed on.
+    options: FsOptions,
+    /// How many bytes the request has.
+    len: u64,
+    /// How many bytes the room for its reply has.
+    room: usize,
 }
 
 /// How many bytes a reply to a request that asks for no call has at most.
@@ -121,43 +135,32 @@ pub(crate) fn ask_request(
     match header {
         Ok(header) => {
             let (header, r) = (&header, &mut r);
-            ask_behind(
+            let terms = Terms {
                 limits,
                 options,
                 len,
-                Request { alloc, header, r },
                 room,
-                w,
-                call,
-            )
+            };
+            ask_behind(terms, Request { alloc, header, r }, w, call)
         }
         Err(error) => Asked::finished(Err(error)),
     }
 }
 
-// What a request of `len` bytes with this header asks.
+// What a request with this header asks.
 #[inline(always)]
-fn ask_behind(
-    limits: Limits,
-    options: FsOptions,
-    len: u64,
-    q: Request<'_, '_>,
-    room: usize,
-    w: &mut Writer,
-    call: &mut CallData,
-) -> Asked
-    requires limits { AreLimits limits }
+fn ask_behind(terms: Terms, q: Request<'_, '_>, w: &mut Writer, call: &mut CallData) -> Asked
+    requires limits { AreLimits terms.limits }
+    requires fits { terms.len < 2 ^ 64 }
     requires none { call.old ≡ nothing }
-    ensures { (request : List ℕ) → length request ≡ len
-        → record_of in_header request ≡ Ok q.entry.header.now
-        → drop (size_of in_header) request ≡ q.entry.r.now.left
-        → Tells (MayWantBehind limits (fs_options_bits options) room
-        (opcode_of q.entry.header.now.opcode) q.entry.header.now q.entry.r.now.pieces)
-        request (fs_options_bits options)
-        (interrupted_behind limits q.entry.header.now q.entry.r.now.left) room
-        (ask_header limits (fs_options_bits options) room q.entry.header.now q.entry.r.now.left)
-        w.old result w.new call.new }
+    ensures { TellsOfHeader terms q.entry.header.now q.entry.r.now w.old result w.new call.new }
 {
+    let Terms {
+        limits,
+        options,
+        len: _,
+        room,
+    } = terms;
     if q.header.len > limits.max_len() {
         return Asked::finished(reply_failed(Some(Errno::ENOMEM), q.header.unique, w));
     }
@@ -171,7 +174,7 @@ fn ask_behind(
         Ok(Opcode::Init) => ask_init(q.header, options, q.r, room, w, call),
         Ok(Opcode::Readdir) => ask_listing(false, limits, options, q, room, w, call),
         Ok(Opcode::Readdirplus) => ask_listing(true, limits, options, q, room, w, call),
-        Ok(opcode) => ask_of_opcode(opcode, limits, options, len, q, room, w, call),
+        Ok(opcode) => ask_of_opcode(opcode, terms, q, w, call),
         Err(()) => Asked::finished(reply_failed(Some(Errno::ENOSYS), q.header.unique, w)),
     }
 }
@@ -186,104 +189,52 @@ fn interrupted(r: &mut Reader<'_>) -> u64
     }
 }
 
-// What a request of `len` bytes and this opcode asks, which is no INIT, no INTERRUPT and
-// reads no directory.
+// What a request of this opcode asks, which is no INIT, no INTERRUPT and reads no directory.
 #[inline(always)]
 fn ask_of_opcode(
     opcode: Opcode,
-    limits: Limits,
-    options: FsOptions,
-    len: u64,
+    terms: Terms,
     q: Request<'_, '_>,
-    room: usize,
     w: &mut Writer,
     call: &mut CallData,
 ) -> Asked
-    requires limits { AreLimits limits }
+    requires limits { AreLimits terms.limits }
+    requires fits { terms.len < 2 ^ 64 }
     requires none { call.old ≡ nothing }
     requires known { opcode_of q.header.now.opcode ≡ Some opcode }
-    requires below { q.header.now.len ≤ max_len limits }
+    requires below { q.header.now.len ≤ max_len terms.limits }
     requires no_readdir { opcode ≢ Opcode.Readdir }
     requires no_readdirplus { opcode ≢ Opcode.Readdirplus }
     requires no_init { opcode ≢ Opcode.Init }
-    ensures { (request : List ℕ) → length request ≡ len
-        → record_of in_header request ≡ Ok q.entry.header.now
-        → drop (size_of in_header) request ≡ q.entry.r.now.left
-        → Tells (MayWantBehind limits (fs_options_bits options) room (Some opcode) q.entry.header.now
-        q.entry.r.now.pieces)
-        request (fs_options_bits options) 0 room
-        (ask_opcode limits (fs_options_bits options) room opcode q.entry.header.now
-        q.entry.r.now.left)
-        w.old result w.new call.new }
+    ensures { TellsOfOpcode terms opcode q.entry.header.now q.entry.r.now w.old result w.new
+        call.new }
 {
-    if may_have_context(opcode, options) {
-        ask_with_context(opcode, limits, options, len, q, room, w, call)
+    if may_have_context(opcode, terms.options) {
+        ask_with_context(opcode, terms, q, w, call)
     } else {
-        ask_without_context(opcode, limits, options, len, q, room, w, call)
+        tell(opcode, terms, q, w, call)
     }
-}
-
-// What a request of this opcode asks, which has no context.
-#[inline(always)]
-fn ask_without_context(
-    opcode: Opcode,
-    limits: Limits,
-    options: FsOptions,
-    len: u64,
-    q: Request<'_, '_>,
-    room: usize,
-    w: &mut Writer,
-    call: &mut CallData,
-) -> Asked
-    requires limits { AreLimits limits }
-    requires none { call.old ≡ nothing }
-    requires known { opcode_of q.header.now.opcode ≡ Some opcode }
-    requires below { q.header.now.len ≤ max_len limits }
-    requires no_readdir { opcode ≢ Opcode.Readdir }
-    requires no_readdirplus { opcode ≢ Opcode.Readdirplus }
-    requires no_init { opcode ≢ Opcode.Init }
-    requires no_context { may_have_context (fs_options_bits options) opcode ≡ false }
-    ensures { (request : List ℕ) → length request ≡ len
-        → record_of in_header request ≡ Ok q.entry.header.now
-        → drop (size_of in_header) request ≡ q.entry.r.now.left
-        → Tells (MayWantBehind limits (fs_options_bits options) room (Some opcode) q.entry.header.now
-        q.entry.r.now.pieces)
-        request (fs_options_bits options) 0 room
-        (ask_opcode limits (fs_options_bits options) room opcode q.entry.header.now
-        q.entry.r.now.left)
-        w.old result w.new call.new }
-{
-    tell(opcode, limits, options, len, q, room, w, call)
 }
 
 // What a request of this opcode asks, which may have a context.
 #[inline(never)]
 fn ask_with_context(
     opcode: Opcode,
-    limits: Limits,
-    options: FsOptions,
-    len: u64,
+    terms: Terms,
     q: Request<'_, '_>,
-    room: usize,
     w: &mut Writer,
     call: &mut CallData,
 ) -> Asked
-    requires limits { AreLimits limits }
+    requires limits { AreLimits terms.limits }
+    requires fits { terms.len < 2 ^ 64 }
     requires none { call.old ≡ nothing }
     requires known { opcode_of q.header.now.opcode ≡ Some opcode }
-    requires below { q.header.now.len ≤ max_len limits }
+    requires below { q.header.now.len ≤ max_len terms.limits }
     requires no_readdir { opcode ≢ Opcode.Readdir }
     requires no_readdirplus { opcode ≢ Opcode.Readdirplus }
-    requires context { may_have_context (fs_options_bits options) opcode ≡ true }
-    ensures { (request : List ℕ) → length request ≡ len
-        → record_of in_header request ≡ Ok q.entry.header.now
-        → drop (size_of in_header) request ≡ q.entry.r.now.left
-        → Tells (MayWantBehind limits (fs_options_bits options) room (Some opcode) q.entry.header.now
-        q.entry.r.now.pieces)
-        request (fs_options_bits options) 0 room
-        (ask_opcode limits (fs_options_bits options) room opcode q.entry.header.now
-        q.entry.r.now.left)
-        w.old result w.new call.new }
+    requires context { may_have_context (fs_options_bits terms.options) opcode ≡ true }
+    ensures { TellsOfOpcode terms opcode q.entry.header.now q.entry.r.now w.old result w.new
+        call.new }
 {
     let mut again = match q.r.clone() {
         Ok(again) => again,
@@ -295,7 +246,7 @@ fn ask_with_context(
         Ok(tail) => tail,
         Err(error) => return Asked::finished(Err(error)),
     };
-    let asked = tell(opcode, limits, options, len, q, room, w, call);
+    let asked = tell(opcode, terms, q, w, call);
     place_context(opcode, tail.as_bytes(), call);
     asked
 }
@@ -305,69 +256,65 @@ fn ask_with_context(
 #[inline(always)]
 fn note_opcode(
     opcode: Opcode,
-    limits: Limits,
-    options: FsOptions,
+    terms: Terms,
     q: Request<'_, '_>,
-    room: usize,
     w: &mut Writer,
     call: &mut CallData,
 ) -> Result<usize>
-    requires limits { AreLimits limits }
+    requires limits { AreLimits terms.limits }
     requires none { call.old ≡ nothing }
     requires known { opcode_of q.header.now.opcode ≡ Some opcode }
-    requires below { q.header.now.len ≤ max_len limits }
+    requires below { q.header.now.len ≤ max_len terms.limits }
     requires no_readdir { opcode ≢ Opcode.Readdir }
     requires no_readdirplus { opcode ≢ Opcode.Readdirplus }
     ensures { IsNoted
-        (MayWantBehind limits (fs_options_bits options) room (Some opcode) q.entry.header.now
-        q.entry.r.now.pieces)
-        (ask_opcode limits (fs_options_bits options) room opcode q.entry.header.now
+        (MayWantBehind terms.limits (fs_options_bits terms.options) terms.room (Some opcode)
+        q.entry.header.now q.entry.r.now.pieces)
+        (ask_opcode terms.limits (fs_options_bits terms.options) terms.room opcode q.entry.header.now
         q.entry.r.now.left)
         w.old result w.new call.new }
 {
     match opcode {
         Opcode::Lookup => note_lookup(q, call),
         Opcode::Getattr => note_getattr(q, call),
-        Opcode::Read => note_read(room, q, call),
+        Opcode::Read => note_read(terms.room, q, call),
         Opcode::Write => note_write(q, call),
-        _ => note(limits, options, q, w, call),
+        _ => note(terms.limits, terms.options, q, w, call),
     }
 }
 
-// Notes the call of a request of `len` bytes, and tells it with the places of its names and values.
+// Notes the call of a request, and tells it with the places of its names and values.
 #[inline(always)]
 fn tell(
     opcode: Opcode,
-    limits: Limits,
-    options: FsOptions,
-    len: u64,
+    terms: Terms,
     q: Request<'_, '_>,
-    room: usize,
     w: &mut Writer,
     call: &mut CallData,
 ) -> Asked
-    requires limits { AreLimits limits }
+    requires limits { AreLimits terms.limits }
     requires none { call.old ≡ nothing }
     requires known { opcode_of q.header.now.opcode ≡ Some opcode }
-    requires below { q.header.now.len ≤ max_len limits }
+    requires below { q.header.now.len ≤ max_len terms.limits }
     requires no_readdir { opcode ≢ Opcode.Readdir }
     requires no_readdirplus { opcode ≢ Opcode.Readdirplus }
     ensures { NotedAndTold
-        (MayWantBehind limits (fs_options_bits options) room (Some opcode) q.entry.header.now
-        q.entry.r.now.pieces)
-        (ask_opcode limits (fs_options_bits options) room opcode q.entry.header.now
+        (MayWantBehind terms.limits (fs_options_bits terms.options) terms.room (Some opcode)
+        q.entry.header.now q.entry.r.now.pieces)
+        (ask_opcode terms.limits (fs_options_bits terms.options) terms.room opcode q.entry.header.now
         q.entry.r.now.left)
-        (told_with q.entry.header.now.unique (fs_options_bits options) room len opcode)
+        (told_with q.entry.header.now.unique (fs_options_bits terms.options) terms.room terms.len
+        opcode)
         w.old result w.new call.new }
 {
     let unique = q.header.unique;
-    let outcome = note_opcode(opcode, limits, options, q, room, w, call);
+    let outcome = note_opcode(opcode, terms, q, w, call);
     if call.call == 0 {
         return Asked::finished(outcome);
     }
     call.unique = unique;
-    call.options = options.bits();
-    call.room = room as u64;
-    Parts::of(opcode, options).place(len, room as u64, call);
+    call.options = terms.options.bits();
+    call.room = terms.room as u64;
+    Parts::of(opcode, terms.options).place(terms.len, terms.room as u64, call);
     Asked::Call
 }
