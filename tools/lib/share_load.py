@@ -332,7 +332,8 @@ def stress(place, chance, seconds):
 
 def stress_and_keep(server, chance, what, seconds=20):
     before = server.descriptors()
-    keeper = Keeper(server.mount, server.folder, FULL, chance)
+    # (by default each file that is known takes a descriptor, of which a machine may have few)
+    keeper = Keeper(server.mount, server.folder, FULL | SCARCE, chance)
     keeping = threading.Thread(target=keep, args=(keeper, time.monotonic() + seconds, 300000))
     keeping.start()
     stress(server.mount, chance, seconds)
