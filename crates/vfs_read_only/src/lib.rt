@@ -1,11 +1,13 @@
 //! File systems that are only read. Whoever has a tree of directories and files states its tables
-//! and gives its [`ReadTree`]; [`ReadOnly`] makes a file system of it.
+//! and gives its [`ReadTree`]; [`ReadOnly`] makes a file system of it. And [`Unserved`], which serves
+//! nothing: what one that also writes may begin with.
 #![tactic(auto)]
 
 mod listing;
 mod makers;
 mod read_only;
 mod tree;
+mod unserved;
 
 pub use listing::TreeEntries;
 pub use makers::{
@@ -14,3 +16,4 @@ pub use makers::{
 };
 pub use read_only::ReadOnly;
 pub use tree::{ReadTree, TreeItem};
+pub use unserved::{NoEntries, Unserved};

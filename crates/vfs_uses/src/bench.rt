@@ -17,7 +17,7 @@ use vfs_files::{
     ZeroCopyWriter,
 };
 use vfs_flags::{Errno, Fault, Opcode};
-use vfs_unserved::Unserved;
+use vfs_read_only::Unserved;
 
 /// Looks a name up in node 9 of a file system that serves nothing: one note more says so.
 fn lookup_is_noted(

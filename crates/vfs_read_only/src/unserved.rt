@@ -1,6 +1,5 @@
 //! A file system that serves nothing: each call has its default answer. It is what a file system of
 //! your own may begin with.
-#![tactic(auto)]
 
 use std::io;
 use vfs_files::{
