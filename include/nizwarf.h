@@ -51,8 +51,7 @@
 #define NIZWARF_VERSION_MAJOR 0
 #define NIZWARF_VERSION_MINOR 2
 #define NIZWARF_VERSION_PATCH 0
-#define NIZWARF_VERSION \
-	(NIZWARF_VERSION_MAJOR << 16 | NIZWARF_VERSION_MINOR << 8 | NIZWARF_VERSION_PATCH)
+#define NIZWARF_VERSION (NIZWARF_VERSION_MAJOR << 16 | NIZWARF_VERSION_MINOR << 8 | NIZWARF_VERSION_PATCH)
 
 #ifdef __cplusplus
 extern "C" {
@@ -72,7 +71,10 @@ typedef struct {
 } nizwarf_taken;
 
 /* Either begins so. */
-#define NIZWARF_NONE { 0 }
+#define NIZWARF_NONE \
+	{            \
+		0    \
+	}
 
 /* A piece of a request. */
 typedef struct {
@@ -115,8 +117,10 @@ typedef struct {
 /* A million nodes and 4 GiB of data, links and attributes, and files as long as Linux allows; a root of user
  * and group 0, which they alone may write; no time yet; no flags. Nodes and their names come on top of the
  * 4 GiB. */
-#define NIZWARF_SETTINGS \
-	{ 0, UINT64_C(1) << 20, UINT64_C(1) << 32, INT64_MAX, 0, 0, 0, 0755, 0 }
+#define NIZWARF_SETTINGS                                                             \
+	{                                                                            \
+		0, UINT64_C(1) << 20, UINT64_C(1) << 32, INT64_MAX, 0, 0, 0, 0755, 0 \
+	}
 
 /* What a call came to. After each of the first eleven, the request is completed with `*len` bytes, and
  * the session goes on. */
@@ -214,8 +218,7 @@ static inline int32_t nizwarf_tell_time(nizwarf_server *server, uint64_t seconds
 /* Answers one request. The first `*len` bytes of the rooms, in order, are the reply, and the others are
  * as they were. After NIZWARF_ENCODE_MESSAGE the rooms are full of the beginning of the reply, or as they
  * were if they have less than 16 bytes. After any other refusal they are as they were. */
-static inline int32_t nizwarf_message(nizwarf_server *server,
-				      const nizwarf_segment *request, size_t segments,
+static inline int32_t nizwarf_message(nizwarf_server *server, const nizwarf_segment *request, size_t segments,
 				      const nizwarf_room *room, size_t rooms, size_t *len)
 {
 	const nizwarf_segment none = { "", 0 };
@@ -247,9 +250,9 @@ static inline int32_t nizwarf_message(nizwarf_server *server,
  * the `*len` bytes at `*reply`, up to the next call with `taken`, whatever becomes of the server meanwhile.
  * `room` is how many bytes it has at most. Where there is none, `*reply` is NULL and `*len` 0; so it is after
  * each refusal, also after NIZWARF_ENCODE_MESSAGE. */
-static inline int32_t nizwarf_message_take(nizwarf_server *server,
-					   const nizwarf_segment *request, size_t segments, size_t room,
-					   nizwarf_taken *taken, const void **reply, size_t *len)
+static inline int32_t nizwarf_message_take(nizwarf_server *server, const nizwarf_segment *request,
+					   size_t segments, size_t room, nizwarf_taken *taken,
+					   const void **reply, size_t *len)
 {
 	const nizwarf_segment none = { "", 0 };
 	nizwarf_place place = { NULL, 0, 0 };
@@ -628,9 +631,11 @@ typedef struct {
 enum { NIZWARF_LAST_ERROR = 511 };
 
 /* The answer EIO, in all fields. */
-#define NIZWARF_NO_ANSWER                                                                       \
-	{ -1, 0, 0, 0, 0, 0, { 0, 0, 0, 0, 0, 0, { 0, 0, 0, 0, 0, 0, 0, 0, 0, 0, 0, 0, 0, 0, 0, 0 } }, \
-	  { 0, 0, 0, 0, 0, 0, 0, 0 }, 0, 0, 0, 0 }
+#define NIZWARF_NO_ANSWER                                                                                    \
+	{                                                                                                    \
+		-1, 0, 0, 0, 0, 0, { 0, 0, 0, 0, 0, 0, { 0, 0, 0, 0, 0, 0, 0, 0, 0, 0, 0, 0, 0, 0, 0, 0 } }, \
+			{ 0, 0, 0, 0, 0, 0, 0, 0 }, 0, 0, 0, 0                                               \
+	}
 
 /* What came of a request. */
 typedef struct {
@@ -688,12 +693,10 @@ NIZWARF_HOLDS(sizeof(nizwarf_told) == 48 && offsetof(nizwarf_told, interrupts) =
  * `call` 0. Of `answer` the first 224 bytes are read: text and items come by themselves. After both,
  * told.put bytes are copied out: nizwarf_copy_slot_at copies the bytes from place `at` on, as many
  * as there are and the piece has room for, and answers how many. */
-int32_t nizwarf_ask_at(nizwarf_slot *slot, const nizwarf_session *session,
-		       const nizwarf_segment *request, size_t segments, size_t room,
-		       nizwarf_call *call, nizwarf_told *told);
-int32_t nizwarf_answer_at(nizwarf_slot *slot, const nizwarf_session *session,
-			  const nizwarf_call *call, const nizwarf_answer *answer,
-			  const uint8_t *text, size_t text_len,
+int32_t nizwarf_ask_at(nizwarf_slot *slot, const nizwarf_session *session, const nizwarf_segment *request,
+		       size_t segments, size_t room, nizwarf_call *call, nizwarf_told *told);
+int32_t nizwarf_answer_at(nizwarf_slot *slot, const nizwarf_session *session, const nizwarf_call *call,
+			  const nizwarf_answer *answer, const uint8_t *text, size_t text_len,
 			  const nizwarf_item *items, size_t items_len, nizwarf_told *told);
 size_t nizwarf_copy_slot_at(nizwarf_slot *slot, size_t at, uint8_t *piece, size_t piece_len);
 int32_t nizwarf_end_slot_at(nizwarf_slot *slot);
@@ -720,9 +723,8 @@ static inline void nizwarf_put(nizwarf_slot *slot, const nizwarf_room *room, siz
 /* Reads a request. NIZWARF_ASKED: it asks for `call`, and `told` says nothing. NIZWARF_OK: it is
  * finished, and told->len bytes of the rooms are its reply. Others: it is refused, and has none. */
 static inline int32_t nizwarf_ask(nizwarf_slot *slot, const nizwarf_session *session,
-				  const nizwarf_segment *request, size_t segments,
-				  const nizwarf_room *room, size_t rooms,
-				  nizwarf_call *call, nizwarf_told *told)
+				  const nizwarf_segment *request, size_t segments, const nizwarf_room *room,
+				  size_t rooms, nizwarf_call *call, nizwarf_told *told)
 {
 	const nizwarf_segment none = { "", 0 };
 	size_t total;
@@ -801,8 +803,8 @@ static inline int32_t nizwarf_reply(nizwarf_slot *slot, const nizwarf_session *s
 	for (i = 0; i < answer->items_len; i++)
 		if (!items[i].name)
 			return NIZWARF_NULL;
-	code = nizwarf_answer_at(slot, session, call, answer, text, answer->text_len,
-				 items, answer->items_len, told);
+	code = nizwarf_answer_at(slot, session, call, answer, text, answer->text_len, items,
+				 answer->items_len, told);
 	if (code == NIZWARF_OK &&
 	    (answer->error > NIZWARF_LAST_ERROR || nizwarf_is_cut(call, answer, told->taken) ||
 	     (!answer->error && call->answer == NIZWARF_FAULT_OR_SILENCE &&
@@ -828,8 +830,8 @@ static inline int32_t nizwarf_end_slot(nizwarf_slot *slot)
 /* The functions of the library. No pointer is NULL here. */
 int32_t nizwarf_check_at(const nizwarf_session *session, const uint8_t *request, size_t len, size_t room,
 			 nizwarf_call *call, uint64_t *interrupts);
-size_t nizwarf_print_request_at(const uint8_t *request, size_t len, uint64_t options,
-				uint8_t *text, size_t text_len);
+size_t nizwarf_print_request_at(const uint8_t *request, size_t len, uint64_t options, uint8_t *text,
+				size_t text_len);
 size_t nizwarf_print_reply_at(const uint8_t *request, size_t len, const uint8_t *reply, size_t reply_len,
 			      uint8_t *text, size_t text_len);
 
@@ -862,13 +864,13 @@ static inline int32_t nizwarf_check(const nizwarf_session *session, const void *
  * can't be read, or that is answered ENOSYS or EPROTO without a call, ends in `refused=` and why. `options` are
  * those of the session. `text` is NULL only if `size` is 0, and does not overlap the messages; NULL in place of
  * a message is one of no bytes. Nothing is allocated. */
-static inline size_t nizwarf_print_request(const void *request, size_t len, uint64_t options,
-					   char *text, size_t size)
+static inline size_t nizwarf_print_request(const void *request, size_t len, uint64_t options, char *text,
+					   size_t size)
 {
 	uint8_t none = 0;
 
-	return nizwarf_print_request_at(request ? (const uint8_t *)request : &none, request ? len : 0, options,
-					text ? (uint8_t *)text : &none, text ? size : 0);
+	return nizwarf_print_request_at(request ? (const uint8_t *)request : &none, request ? len : 0,
+					options, text ? (uint8_t *)text : &none, text ? size : 0);
 }
 
 /* Writes the reply to a request likewise, as in

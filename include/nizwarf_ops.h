@@ -73,29 +73,26 @@ typedef struct nizwarf_ops {
 	int (*init)(const nizwarf_req *req, uint64_t capable, uint64_t *want);
 	/* The client goes, and holds no lookup from then on: see nizwarf_end_ops. */
 	void (*destroy)(const nizwarf_req *req);
-	int (*lookup)(const nizwarf_req *req, uint64_t parent, const char *name,
-		      nizwarf_entry_param *e);
+	int (*lookup)(const nizwarf_req *req, uint64_t parent, const char *name, nizwarf_entry_param *e);
 	/* BATCH_FORGET comes as a forget for each of its pairs. */
 	void (*forget)(const nizwarf_req *req, uint64_t ino, uint64_t nlookup);
 	/* `fi` is NULL where the file isn't open, here and in setattr. */
-	int (*getattr)(const nizwarf_req *req, uint64_t ino, const nizwarf_file_info *fi,
-		       nizwarf_attr *attr, struct timespec *attr_timeout);
-	int (*setattr)(const nizwarf_req *req, uint64_t ino, const nizwarf_setattr *set,
-		       uint32_t to_set, const nizwarf_file_info *fi,
-		       nizwarf_attr *attr, struct timespec *attr_timeout);
+	int (*getattr)(const nizwarf_req *req, uint64_t ino, const nizwarf_file_info *fi, nizwarf_attr *attr,
+		       struct timespec *attr_timeout);
+	int (*setattr)(const nizwarf_req *req, uint64_t ino, const nizwarf_setattr *set, uint32_t to_set,
+		       const nizwarf_file_info *fi, nizwarf_attr *attr, struct timespec *attr_timeout);
 	/* `size` is at most 4095, which is the most that Linux takes. */
-	int (*readlink)(const nizwarf_req *req, uint64_t ino,
-			char *link, size_t size, size_t *len);
-	int (*mknod)(const nizwarf_req *req, uint64_t parent, const char *name, uint32_t mode,
-		     uint32_t rdev, nizwarf_entry_param *e);
+	int (*readlink)(const nizwarf_req *req, uint64_t ino, char *link, size_t size, size_t *len);
+	int (*mknod)(const nizwarf_req *req, uint64_t parent, const char *name, uint32_t mode, uint32_t rdev,
+		     nizwarf_entry_param *e);
 	int (*mkdir)(const nizwarf_req *req, uint64_t parent, const char *name, uint32_t mode,
 		     nizwarf_entry_param *e);
 	int (*unlink)(const nizwarf_req *req, uint64_t parent, const char *name);
 	int (*rmdir)(const nizwarf_req *req, uint64_t parent, const char *name);
 	int (*symlink)(const nizwarf_req *req, const char *link, uint64_t parent, const char *name,
 		       nizwarf_entry_param *e);
-	int (*rename)(const nizwarf_req *req, uint64_t parent, const char *name,
-		      uint64_t newparent, const char *newname, uint32_t flags);
+	int (*rename)(const nizwarf_req *req, uint64_t parent, const char *name, uint64_t newparent,
+		      const char *newname, uint32_t flags);
 	int (*link)(const nizwarf_req *req, uint64_t ino, uint64_t newparent, const char *newname,
 		    nizwarf_entry_param *e);
 	/* With O_TRUNC, where ATOMIC_O_TRUNC is agreed on, it cuts the file. Without it, and so
@@ -103,28 +100,25 @@ typedef struct nizwarf_ops {
 	int (*open)(const nizwarf_req *req, uint64_t ino, nizwarf_file_info *fi);
 	int (*read)(const nizwarf_req *req, uint64_t ino, size_t size, uint64_t off,
 		    const nizwarf_file_info *fi, void *buf, size_t *len);
-	int (*write)(const nizwarf_req *req, uint64_t ino, const void *buf, size_t size,
-		     uint64_t off, const nizwarf_file_info *fi, size_t *len);
+	int (*write)(const nizwarf_req *req, uint64_t ino, const void *buf, size_t size, uint64_t off,
+		     const nizwarf_file_info *fi, size_t *len);
 	int (*flush)(const nizwarf_req *req, uint64_t ino, const nizwarf_file_info *fi);
 	int (*release)(const nizwarf_req *req, uint64_t ino, const nizwarf_file_info *fi);
-	int (*fsync)(const nizwarf_req *req, uint64_t ino, int datasync,
-		     const nizwarf_file_info *fi);
+	int (*fsync)(const nizwarf_req *req, uint64_t ino, int datasync, const nizwarf_file_info *fi);
 	int (*opendir)(const nizwarf_req *req, uint64_t ino, nizwarf_file_info *fi);
-	int (*readdir)(const nizwarf_req *req, uint64_t ino, uint64_t off,
-		       const nizwarf_file_info *fi, nizwarf_dir *dir);
-	int (*readdirplus)(const nizwarf_req *req, uint64_t ino, uint64_t off,
-			   const nizwarf_file_info *fi, nizwarf_dir *dir);
+	int (*readdir)(const nizwarf_req *req, uint64_t ino, uint64_t off, const nizwarf_file_info *fi,
+		       nizwarf_dir *dir);
+	int (*readdirplus)(const nizwarf_req *req, uint64_t ino, uint64_t off, const nizwarf_file_info *fi,
+			   nizwarf_dir *dir);
 	int (*releasedir)(const nizwarf_req *req, uint64_t ino, const nizwarf_file_info *fi);
-	int (*fsyncdir)(const nizwarf_req *req, uint64_t ino, int datasync,
-			const nizwarf_file_info *fi);
+	int (*fsyncdir)(const nizwarf_req *req, uint64_t ino, int datasync, const nizwarf_file_info *fi);
 	int (*statfs)(const nizwarf_req *req, uint64_t ino, nizwarf_statfs *stat);
 	int (*setxattr)(const nizwarf_req *req, uint64_t ino, const char *name, const void *value,
 			size_t size, uint32_t flags);
 	/* Where `size` is 0, only `len` is asked for, here and in listxattr. */
-	int (*getxattr)(const nizwarf_req *req, uint64_t ino, const char *name, size_t size,
-			void *value, size_t *len);
-	int (*listxattr)(const nizwarf_req *req, uint64_t ino, size_t size,
-			 char *list, size_t *len);
+	int (*getxattr)(const nizwarf_req *req, uint64_t ino, const char *name, size_t size, void *value,
+			size_t *len);
+	int (*listxattr)(const nizwarf_req *req, uint64_t ino, size_t size, char *list, size_t *len);
 	int (*removexattr)(const nizwarf_req *req, uint64_t ino, const char *name);
 	int (*access)(const nizwarf_req *req, uint64_t ino, uint32_t mask);
 	int (*create)(const nizwarf_req *req, uint64_t parent, const char *name, uint32_t mode,
@@ -135,8 +129,7 @@ typedef struct nizwarf_ops {
 		     const nizwarf_file_info *fi, uint64_t *found);
 	int (*copy_file_range)(const nizwarf_req *req, uint64_t ino_in, uint64_t off_in,
 			       const nizwarf_file_info *fi_in, uint64_t ino_out, uint64_t off_out,
-			       const nizwarf_file_info *fi_out, uint64_t size, uint64_t flags,
-			       size_t *len);
+			       const nizwarf_file_info *fi_out, uint64_t size, uint64_t flags, size_t *len);
 	int (*syncfs)(const nizwarf_req *req, uint64_t ino);
 	/* Who waits for the request of this number, `call->unique`, wants no longer to: a call of it that
 	 * goes on may end, by EINTR. It comes on another thread, perhaps before that call, or after. */
@@ -299,8 +292,8 @@ static inline int nizwarf_add_item(nizwarf_dir *dir, const char *name, nizwarf_i
 
 /* Adds an item for readdir. `type` is DT_REG .., `off` that of a reading that goes on behind it, and
  * not 0, which is that of the beginning. 0: it wasn't added, since there is no more room. */
-static inline int nizwarf_add_direntry(nizwarf_dir *dir, const char *name, uint64_t ino,
-				       uint32_t type, uint64_t off)
+static inline int nizwarf_add_direntry(nizwarf_dir *dir, const char *name, uint64_t ino, uint32_t type,
+				       uint64_t off)
 {
 	nizwarf_item item;
 
@@ -314,8 +307,8 @@ static inline int nizwarf_add_direntry(nizwarf_dir *dir, const char *name, uint6
 /* Adds an item for readdirplus, with what a lookup of the name answers; of `.` and `..` only their
  * attributes are looked at. 0: it wasn't added, since there is no more room, and was given back: by
  * `forget`, which is called here. */
-static inline int nizwarf_add_direntry_plus(nizwarf_dir *dir, const char *name,
-					    const nizwarf_entry_param *e, uint64_t off)
+static inline int nizwarf_add_direntry_plus(nizwarf_dir *dir, const char *name, const nizwarf_entry_param *e,
+					    uint64_t off)
 {
 	nizwarf_item item;
 
@@ -379,15 +372,15 @@ static inline int nizwarf_do_done(const nizwarf_ops *ops, const nizwarf_req *req
 	case NIZWARF_RMDIR:
 		return NIZWARF_DO(rmdir, c->node, name);
 	case NIZWARF_RENAME:
-		return NIZWARF_DO(rename, c->node, name, c->other_node,
-				  NIZWARF_NAME(c->other_name), c->flags);
+		return NIZWARF_DO(rename, c->node, name, c->other_node, NIZWARF_NAME(c->other_name),
+				  c->flags);
 	case NIZWARF_RELEASE:
 		return ops->release ? ops->release(req, c->node, &fi) : 0;
 	case NIZWARF_FSYNC:
 		return NIZWARF_DO(fsync, c->node, datasync, &fi);
 	case NIZWARF_SETXATTR:
-		return NIZWARF_DO(setxattr, c->node, name, req->request + c->data.at,
-				  (size_t)c->data.len, c->flags);
+		return NIZWARF_DO(setxattr, c->node, name, req->request + c->data.at, (size_t)c->data.len,
+				  c->flags);
 	case NIZWARF_REMOVEXATTR:
 		return NIZWARF_DO(removexattr, c->node, name);
 	case NIZWARF_FLUSH:
@@ -407,8 +400,7 @@ static inline int nizwarf_do_done(const nizwarf_ops *ops, const nizwarf_req *req
 	}
 }
 
-static inline int nizwarf_do_entry(const nizwarf_ops *ops, const nizwarf_req *req,
-				   nizwarf_answer *answer)
+static inline int nizwarf_do_entry(const nizwarf_ops *ops, const nizwarf_req *req, nizwarf_answer *answer)
 {
 	const nizwarf_call *c = req->call;
 	const char *name = NIZWARF_NAME(c->name);
@@ -437,8 +429,7 @@ static inline int nizwarf_do_entry(const nizwarf_ops *ops, const nizwarf_req *re
 	return error;
 }
 
-static inline int nizwarf_do_attr(const nizwarf_ops *ops, const nizwarf_req *req,
-				  nizwarf_answer *answer)
+static inline int nizwarf_do_attr(const nizwarf_ops *ops, const nizwarf_req *req, nizwarf_answer *answer)
 {
 	const nizwarf_call *c = req->call;
 	const nizwarf_file_info fi = nizwarf_file_of(c);
@@ -449,16 +440,14 @@ static inline int nizwarf_do_attr(const nizwarf_ops *ops, const nizwarf_req *req
 	if (c->call == NIZWARF_GETATTR)
 		error = NIZWARF_DO(getattr, c->node, open, &answer->entry.attr, &timeout);
 	else if (c->call == NIZWARF_SETATTR)
-		error = NIZWARF_DO(setattr, c->node, &c->attr, c->flags, open, &answer->entry.attr,
-				   &timeout);
+		error = NIZWARF_DO(setattr, c->node, &c->attr, c->flags, open, &answer->entry.attr, &timeout);
 	answer->entry.attr_seconds = nizwarf_seconds_of(timeout);
 	answer->entry.attr_nanoseconds = nizwarf_nanoseconds_of(timeout);
 	return error;
 }
 
 /* OPEN and OPENDIR, which are done where they are not in the table, and CREATE. */
-static inline int nizwarf_do_open(const nizwarf_ops *ops, const nizwarf_req *req,
-				  nizwarf_answer *answer)
+static inline int nizwarf_do_open(const nizwarf_ops *ops, const nizwarf_req *req, nizwarf_answer *answer)
 {
 	const nizwarf_call *c = req->call;
 	nizwarf_file_info fi = nizwarf_file_of(c);
@@ -480,8 +469,8 @@ static inline int nizwarf_do_open(const nizwarf_ops *ops, const nizwarf_req *req
 }
 
 /* READ, and what answers a text: it is put where it has its place in the reply. */
-static inline int nizwarf_do_data(const nizwarf_ops *ops, const nizwarf_req *req, uint8_t *room,
-				  size_t space, nizwarf_answer *answer)
+static inline int nizwarf_do_data(const nizwarf_ops *ops, const nizwarf_req *req, uint8_t *room, size_t space,
+				  nizwarf_answer *answer)
 {
 	const nizwarf_call *c = req->call;
 	const nizwarf_file_info fi = nizwarf_file_of(c);
@@ -515,8 +504,8 @@ static inline int nizwarf_do_data(const nizwarf_ops *ops, const nizwarf_req *req
 	return error;
 }
 
-static inline int nizwarf_do_directory(const nizwarf_ops *ops, const nizwarf_req *req,
-				       nizwarf_dir *dir, nizwarf_answer *answer)
+static inline int nizwarf_do_directory(const nizwarf_ops *ops, const nizwarf_req *req, nizwarf_dir *dir,
+				       nizwarf_answer *answer)
 {
 	const nizwarf_call *c = req->call;
 	const nizwarf_file_info fi = nizwarf_file_of(c);
@@ -534,8 +523,7 @@ static inline int nizwarf_do_directory(const nizwarf_ops *ops, const nizwarf_req
 	return error;
 }
 
-static inline int nizwarf_do_written(const nizwarf_ops *ops, const nizwarf_req *req,
-				     nizwarf_answer *answer)
+static inline int nizwarf_do_written(const nizwarf_ops *ops, const nizwarf_req *req, nizwarf_answer *answer)
 {
 	const nizwarf_call *c = req->call;
 	const nizwarf_file_info fi = nizwarf_file_of(c);
@@ -548,19 +536,18 @@ static inline int nizwarf_do_written(const nizwarf_ops *ops, const nizwarf_req *
 	if (c->call == NIZWARF_COPY)
 		size = c->length;
 	if (c->call == NIZWARF_WRITE)
-		error = NIZWARF_DO(write, c->node, req->request + c->data.at, (size_t)size,
-				   c->offset, &fi, &len);
+		error = NIZWARF_DO(write, c->node, req->request + c->data.at, (size_t)size, c->offset, &fi,
+				   &len);
 	else if (c->call == NIZWARF_COPY)
 		/* (its flags stand where others have the owner of a lock) */
-		error = NIZWARF_DO(copy_file_range, c->node, c->offset, &fi, c->other_node,
-				   c->other_offset, &out, size, c->lock_owner, &len);
+		error = NIZWARF_DO(copy_file_range, c->node, c->offset, &fi, c->other_node, c->other_offset,
+				   &out, size, c->lock_owner, &len);
 	answer->count = len;
 	return !error && len > size ? EIO : error;
 }
 
 /* INIT. `count` is then what is to be agreed on. */
-static inline int nizwarf_do_init(const nizwarf_ops *ops, const nizwarf_req *req,
-				  nizwarf_answer *answer)
+static inline int nizwarf_do_init(const nizwarf_ops *ops, const nizwarf_req *req, nizwarf_answer *answer)
 {
 	const uint64_t capable = req->call->length, high = UINT64_C(0xffffffff) << 32;
 	uint64_t want = NIZWARF_WANT_USUAL | NIZWARF_WANT_READDIRPLUS;
@@ -574,8 +561,7 @@ static inline int nizwarf_do_init(const nizwarf_ops *ops, const nizwarf_req *req
 	return error;
 }
 
-static inline int nizwarf_do_others(const nizwarf_ops *ops, const nizwarf_req *req,
-				    nizwarf_answer *answer)
+static inline int nizwarf_do_others(const nizwarf_ops *ops, const nizwarf_req *req, nizwarf_answer *answer)
 {
 	const nizwarf_call *c = req->call;
 	const nizwarf_file_info fi = nizwarf_file_of(c);
@@ -598,8 +584,8 @@ static inline int nizwarf_do_others(const nizwarf_ops *ops, const nizwarf_req *r
 #undef NIZWARF_NAME
 
 /* Makes the call, by the kind of its answer. */
-static inline int nizwarf_make_call(const nizwarf_ops *ops, const nizwarf_req *req,
-				    nizwarf_dir *dir, nizwarf_answer *answer)
+static inline int nizwarf_make_call(const nizwarf_ops *ops, const nizwarf_req *req, nizwarf_dir *dir,
+				    nizwarf_answer *answer)
 {
 	switch (req->call->answer) {
 	case NIZWARF_QUIET:
@@ -629,7 +615,7 @@ static inline int nizwarf_make_call(const nizwarf_ops *ops, const nizwarf_req *r
 /* Releases what was opened, where the client does not get its handle: by `release` or `releasedir`,
  * with the flags that it was opened with. */
 static inline void nizwarf_do_release(const nizwarf_ops *ops, const nizwarf_req *req,
-					 const nizwarf_answer *answer)
+				      const nizwarf_answer *answer)
 {
 	const nizwarf_call *c = req->call;
 	nizwarf_file_info fi = nizwarf_file_of(c);
@@ -662,9 +648,8 @@ static inline int nizwarf_overlap(const void *one, size_t one_len, const void *o
 }
 
 /* Makes the call that a request asked for, and answers it. */
-static inline int32_t nizwarf_answer_ops(const nizwarf_ops *ops, const nizwarf_req *req,
-					 nizwarf_slot *slot, nizwarf_session *session,
-					 nizwarf_call *call, nizwarf_dir *dir,
+static inline int32_t nizwarf_answer_ops(const nizwarf_ops *ops, const nizwarf_req *req, nizwarf_slot *slot,
+					 nizwarf_session *session, nizwarf_call *call, nizwarf_dir *dir,
 					 const nizwarf_room *whole, size_t *reply_len)
 {
 	const nizwarf_session now = nizwarf_session_now(session);
@@ -680,8 +665,7 @@ static inline int32_t nizwarf_answer_ops(const nizwarf_ops *ops, const nizwarf_r
 	code = nizwarf_reply(slot, &now, call, &answer, whole, 1, &told);
 	*reply_len = (size_t)told.len;
 	if (call->call == NIZWARF_INIT || call->call == NIZWARF_DESTROY)
-		__atomic_store_n(&session->options,
-				 call->call == NIZWARF_DESTROY ? 0 : told.options,
+		__atomic_store_n(&session->options, call->call == NIZWARF_DESTROY ? 0 : told.options,
 				 __ATOMIC_RELEASE);
 	if (code != NIZWARF_OK)
 		nizwarf_do_release(ops, req, &answer);
@@ -703,9 +687,8 @@ static inline int32_t nizwarf_answer_ops(const nizwarf_ops *ops, const nizwarf_r
  * of yours with as many bytes, and copy the reply. It does not overlap the request:
  * NIZWARF_NOT_ASKED, and nothing was done. */
 static inline int32_t nizwarf_serve_ops(const nizwarf_ops *ops, void *user, nizwarf_slot *slot,
-					nizwarf_session *session, const void *request, size_t len,
-					void *room, size_t room_len, nizwarf_item *items,
-					size_t most, size_t *reply_len)
+					nizwarf_session *session, const void *request, size_t len, void *room,
+					size_t room_len, nizwarf_item *items, size_t most, size_t *reply_len)
 {
 	const nizwarf_segment piece = { request, len };
 	const nizwarf_room whole = { room, room_len };

@@ -947,14 +947,14 @@ static int is_last(int signals, struct device *d, const struct asked *asked)
 
 	if (read(signals, &said, sizeof(said)) != sizeof(said))
 		return 0;
-	return asked->at || !(d->folder || (said.ssi_code == SI_QUEUE && said.ssi_int == FUSE_DEVICE_UNMOUNTED));
+	return asked->at ||
+	       !(d->folder || (said.ssi_code == SI_QUEUE && said.ssi_int == FUSE_DEVICE_UNMOUNTED));
 }
 
 /* Waits until a worker has ended, or signals want an end. */
 static void wait_for_end(struct device *d, int signals)
 {
-	struct pollfd wait[] = { { signals, POLLIN, 0 }, { d->over, POLLIN, 0 },
-				 { d->busy, POLLIN, 0 } };
+	struct pollfd wait[] = { { signals, POLLIN, 0 }, { d->over, POLLIN, 0 }, { d->busy, POLLIN, 0 } };
 	struct asked asked = { 0 };
 	struct seen seen = { 0 };
 	uint64_t times;
@@ -1089,9 +1089,8 @@ int fuse_device_mount_on(const transport *by, int device, const char *source, co
 			 unsigned long flags, const char *options)
 {
 	char words[512], place[NAME_MAX + 40];
-	const int len = snprintf(words, sizeof(words),
-				 "fd=%d,rootmode=40000,user_id=%u,group_id=%u%s", device,
-				 (unsigned)geteuid(), (unsigned)getegid(), options);
+	const int len = snprintf(words, sizeof(words), "fd=%d,rootmode=40000,user_id=%u,group_id=%u%s",
+				 device, (unsigned)geteuid(), (unsigned)getegid(), options);
 
 	find_mount_point(folder);
 	if (made.directory >= 0)
@@ -1105,8 +1104,8 @@ int fuse_device_mount_on(const transport *by, int device, const char *source, co
 	return 0;
 }
 
-int fuse_device_mount(const transport *by, const char *source, const char *folder,
-		      unsigned long flags, const char *options)
+int fuse_device_mount(const transport *by, const char *source, const char *folder, unsigned long flags,
+		      const char *options)
 {
 	const int device = fuse_device_open(by);
 

@@ -108,8 +108,8 @@ static int say(const struct fuse_rings *r, int error)
 
 static void *map(int fd, size_t len, off_t at)
 {
-	void *memory = mmap(NULL, len, PROT_READ | PROT_WRITE, fd < 0 ? MAP_PRIVATE | MAP_ANONYMOUS : MAP_SHARED,
-			    fd, at);
+	void *memory = mmap(NULL, len, PROT_READ | PROT_WRITE,
+			    fd < 0 ? MAP_PRIVATE | MAP_ANONYMOUS : MAP_SHARED, fd, at);
 
 	return memory == MAP_FAILED ? NULL : memory;
 }
@@ -135,7 +135,8 @@ static int make_ring(struct ring *r, unsigned commands, int device)
 	r->queues = queues = map(r->fd, r->queues_len, IORING_OFF_SQ_RING);
 	r->commands_len = (size_t)made.sq_entries * COMMAND;
 	r->commands = map(r->fd, r->commands_len, IORING_OFF_SQES);
-	if (!queues || !r->commands || syscall(SYS_io_uring_register, r->fd, IORING_REGISTER_FILES, &device, 1))
+	if (!queues || !r->commands ||
+	    syscall(SYS_io_uring_register, r->fd, IORING_REGISTER_FILES, &device, 1))
 		return -1;
 	r->tail = (_Atomic uint32_t *)(void *)(queues + made.sq_off.tail);
 	r->mask = made.sq_entries - 1;
@@ -160,8 +161,9 @@ static void put_command(struct worker *w, unsigned number, uint32_t what)
 	struct entry *e = &w->entries[number];
 	const uint32_t tail = atomic_load_explicit(w->ring.tail, memory_order_relaxed);
 	unsigned char *at = (unsigned char *)w->ring.commands + (size_t)(tail & w->ring.mask) * COMMAND;
-	struct io_uring_sqe sqe = { .opcode = IORING_OP_URING_CMD, .flags = IOSQE_FIXED_FILE,
-				    .cmd_op = what, .user_data = number };
+	struct io_uring_sqe sqe = {
+		.opcode = IORING_OP_URING_CMD, .flags = IOSQE_FIXED_FILE, .cmd_op = what, .user_data = number
+	};
 	struct command own = { .commit = e->header->commit, .queue = e->queue };
 
 	if (what == REGISTER) {
@@ -249,7 +251,8 @@ static int answer(struct worker *w, unsigned number)
 
 	memcpy(&asked, h->in_out, sizeof(asked));
 	record = asked.len - sizeof(asked) - h->payload;
-	if (asked.len < sizeof(asked) + h->payload || record > sizeof(h->record) || h->payload > TRANSPORT_PAYLOAD)
+	if (asked.len < sizeof(asked) + h->payload || record > sizeof(h->record) ||
+	    h->payload > TRANSPORT_PAYLOAD)
 		return say(w->of, EPROTO);
 	if (asked.opcode == FUSE_STATFS)
 		fuse_device_drain(w->of->with.of);
@@ -260,7 +263,7 @@ static int answer(struct worker *w, unsigned number)
 	}
 	if (!len) {
 		/* (the kernel has the entry back by a reply alone) */
-		reply = (struct fuse_out_header) { .len = HEAD, .unique = asked.unique };
+		reply = (struct fuse_out_header){ .len = HEAD, .unique = asked.unique };
 		len = HEAD;
 	}
 	memcpy(h->in_out, &reply, HEAD);
@@ -323,8 +326,8 @@ static int make_entries(struct worker *w)
 		if (!memory)
 			return -1;
 		e->header = (struct header *)(void *)memory;
-		e->memory[0] = (struct iovec) { memory, sizeof(struct header) };
-		e->memory[1] = (struct iovec) { memory + PAGE, TRANSPORT_PAYLOAD };
+		e->memory[0] = (struct iovec){ memory, sizeof(struct header) };
+		e->memory[1] = (struct iovec){ memory + PAGE, TRANSPORT_PAYLOAD };
 		e->queue = (uint16_t)queue;
 		w->count++;
 	}
@@ -370,7 +373,8 @@ static void *run(void *given)
 	const int begun = !by->begin || !by->begin(by->user, w->number);
 
 	w->ring.fd = -1;
-	if (await_begin(w, begun && !make_entries(w) && !make_ring(&w->ring, w->count, w->of->with.device)) && serve(w))
+	if (await_begin(w, begun && !make_entries(w) && !make_ring(&w->ring, w->count, w->of->with.device)) &&
+	    serve(w))
 		fail(w->of);
 	if (begun && by->end)
 		by->end(by->user, w->number);

@@ -19,7 +19,8 @@ struct fuse_ring_start {
 struct fuse_ring_calls {
 	/* Starts the workers for an INIT, if that offers io_uring: they wait. NULL: it is not offered, or
 	 * can't be. */
-	struct fuse_rings *(*start)(const struct fuse_ring_start *with, const unsigned char *request, size_t len);
+	struct fuse_rings *(*start)(const struct fuse_ring_start *with, const unsigned char *request,
+				    size_t len);
 	/* Takes the offer in the bytes of the reply. 0, or -1: that is no reply to take it in. */
 	int (*agree)(unsigned char *reply, size_t len);
 	/* The kernel has the reply: they serve from now on. */

@@ -85,8 +85,11 @@ static void take_option(const char *key, char *value)
 	static const struct {
 		const char *word;
 		unsigned long set, clear;
-	} known[] = { { "ro", MS_RDONLY, 0 }, { "rw", 0, MS_RDONLY }, { "noexec", MS_NOEXEC, 0 },
-		      { "nosuid", MS_NOSUID, 0 }, { "nodev", MS_NODEV, 0 } };
+	} known[] = { { "ro", MS_RDONLY, 0 },
+		      { "rw", 0, MS_RDONLY },
+		      { "noexec", MS_NOEXEC, 0 },
+		      { "nosuid", MS_NOSUID, 0 },
+		      { "nodev", MS_NODEV, 0 } };
 
 	for (size_t i = 0; !value && i < sizeof(known) / sizeof(*known); i++)
 		if (!strcmp(key, known[i].word)) {
@@ -144,7 +147,9 @@ static void take_word(int found, const char *word, const struct option *known)
 	if (known && strcspn(word, "=") != strlen(known->name) + 2)
 		found = '?';
 	switch (found) {
-	case 'o': take_options(optarg); break;
+	case 'o':
+		take_options(optarg);
+		break;
 	case TRACE:
 		traces = 1;
 		trace_file = optarg;
@@ -157,7 +162,8 @@ static void take_word(int found, const char *word, const struct option *known)
 	case HELP:
 		fputs(usage, stdout);
 		exit(fflush(stdout) != 0);
-	case ':': refuse_words("it wants options: ", letter);
+	case ':':
+		refuse_words("it wants options: ", letter);
 	default:
 		refuse_words("there is no such word, or it takes no value: ",
 			     !known && optopt && optopt < TRACE ? letter : word);
@@ -292,9 +298,12 @@ static int32_t serve_apart(void *user, unsigned worker, const nizwarf_segment *r
 
 int main(int count, char **words)
 {
-	transport by = { .program = "nizwarf-mount", .workers = 2,
+	transport by = { .program = "nizwarf-mount",
+			 .workers = 2,
 			 .withheld = FUSE_ATOMIC_O_TRUNC | TRANSPORT_ALLOW_IDMAP,
-			 .begin = begin, .end = end, .serve = serve };
+			 .begin = begin,
+			 .end = end,
+			 .serve = serve };
 	const char *folder = take_words(count, words);
 	char options[80];
 	int device;

@@ -28,7 +28,7 @@ static bool add_piece(struct worker *w, size_t *count, void *at, size_t len, siz
 		return true;
 	if (!grow(&w->pieces, &w->pieces_size, (*count + 1) * sizeof(*w->pieces)))
 		return false;
-	w->pieces[(*count)++] = (struct iovec) { at, len };
+	w->pieces[(*count)++] = (struct iovec){ at, len };
 	return true;
 }
 
@@ -52,8 +52,7 @@ static ssize_t find_data(struct worker *w, const nizwarf_call *asked, const nizw
 }
 
 /* The room for the data of a READ: -1, or how many pieces. */
-static ssize_t find_room(struct worker *w, const nizwarf_call *asked, const nizwarf_room *room,
-			 size_t rooms)
+static ssize_t find_room(struct worker *w, const nizwarf_call *asked, const nizwarf_room *room, size_t rooms)
 {
 	size_t count = 0, skip = HEADER, left = asked->length;
 
@@ -82,8 +81,8 @@ static void let_pass(void)
 }
 
 /* Makes the call, and gives back what the client doesn't get. */
-static int32_t answer_call(struct call *call, const nizwarf_session *session,
-			   const nizwarf_room *room, size_t rooms, ssize_t pieces, nizwarf_told *told)
+static int32_t answer_call(struct call *call, const nizwarf_session *session, const nizwarf_room *room,
+			   size_t rooms, ssize_t pieces, nizwarf_told *told)
 {
 	struct passthrough *all = call->all;
 	const nizwarf_call *asked = call->asked;
@@ -142,8 +141,8 @@ static int32_t ask(struct worker *w, const nizwarf_session *session, const nizwa
 	return code;
 }
 
-int32_t passthrough_serve(void *user, unsigned worker, const nizwarf_segment *request,
-			  size_t segments, const nizwarf_room *room, size_t rooms, size_t *len)
+int32_t passthrough_serve(void *user, unsigned worker, const nizwarf_segment *request, size_t segments,
+			  const nizwarf_room *room, size_t rooms, size_t *len)
 {
 	struct passthrough *all = user;
 	struct worker *w = all->worker[worker];
@@ -151,8 +150,13 @@ int32_t passthrough_serve(void *user, unsigned worker, const nizwarf_segment *re
 	nizwarf_answer answer = NIZWARF_NO_ANSWER;
 	nizwarf_call asked;
 	nizwarf_told told = { 0 };
-	struct call call = { .all = all, .worker = w, .asked = &asked, .request = request->at,
-			     .node.own = -1, .other.own = -1, .answer = &answer };
+	struct call call = { .all = all,
+			     .worker = w,
+			     .asked = &asked,
+			     .request = request->at,
+			     .node.own = -1,
+			     .other.own = -1,
+			     .answer = &answer };
 	ssize_t pieces = 0;
 	int32_t code;
 
@@ -231,7 +235,8 @@ struct passthrough *passthrough_new(int root, int proc, const struct passthrough
 		return NULL;
 	all->options = *options;
 	time = options->cache == CACHE_NEVER ? NO_TIME :
-	       options->cache == CACHE_AUTO ? SHORT_TIME : LONG_TIME;
+	       options->cache == CACHE_AUTO  ? SHORT_TIME :
+					       LONG_TIME;
 	all->entry_time = options->entry_time == AS_CACHE_SAYS ? time : options->entry_time;
 	all->attr_time = options->attr_time == AS_CACHE_SAYS ? time : options->attr_time;
 	/* What is not remembered is not written later: the kernel would tell of times that are not so. */

@@ -77,7 +77,7 @@ int passthrough_limit(const struct passthrough_options *options);
 int passthrough_begin(void *user, unsigned worker);
 void passthrough_finish(void *user, unsigned worker);
 void passthrough_parted(void *user);
-int32_t passthrough_serve(void *user, unsigned worker, const nizwarf_segment *request,
-			  size_t segments, const nizwarf_room *room, size_t rooms, size_t *len);
+int32_t passthrough_serve(void *user, unsigned worker, const nizwarf_segment *request, size_t segments,
+			  const nizwarf_room *room, size_t rooms, size_t *len);
 
 #endif

@@ -82,9 +82,10 @@ static int set_mode(const struct call *call)
 	if (call->file)
 		return failed(fchmod(call->file->counted.fd, call->asked->attr.mode & 07777));
 	/* (the name is one of /proc, which leads to the node itself) */
-	return call->node.node->type == S_IFLNK ? EOPNOTSUPP :
-	       failed(fchmodat(call->all->nodes.proc, name_fd(call->node.fd).bytes,
-			       call->asked->attr.mode & 07777, 0));
+	return call->node.node->type == S_IFLNK ?
+		       EOPNOTSUPP :
+		       failed(fchmodat(call->all->nodes.proc, name_fd(call->node.fd).bytes,
+				       call->asked->attr.mode & 07777, 0));
 }
 
 static int set_size(const struct call *call)
@@ -111,9 +112,11 @@ static int set_times(const struct call *call)
 	const uint32_t valid = call->asked->flags;
 	const struct timespec times[] = {
 		{ (time_t)to->atime, valid & FATTR_ATIME_NOW ? UTIME_NOW :
-				     valid & FATTR_ATIME ? to->atimensec : UTIME_OMIT },
+				     valid & FATTR_ATIME     ? to->atimensec :
+							       UTIME_OMIT },
 		{ (time_t)to->mtime, valid & FATTR_MTIME_NOW ? UTIME_NOW :
-				     valid & FATTR_MTIME ? to->mtimensec : UTIME_OMIT },
+				     valid & FATTR_MTIME     ? to->mtimensec :
+							       UTIME_OMIT },
 	};
 
 	return failed(utimensat(call->node.fd, "", times, AT_EMPTY_PATH | AT_SYMLINK_NOFOLLOW));
@@ -327,10 +330,15 @@ static int statistics(const struct call *call)
 
 	if (fstatvfs(call->node.fd, &told))
 		return errno;
-	call->answer->statfs = (nizwarf_statfs) {
-		.bsize = told.f_bsize, .frsize = told.f_frsize, .blocks = told.f_blocks,
-		.bfree = told.f_bfree, .bavail = told.f_bavail, .files = told.f_files,
-		.ffree = told.f_ffree, .namemax = told.f_namemax,
+	call->answer->statfs = (nizwarf_statfs){
+		.bsize = told.f_bsize,
+		.frsize = told.f_frsize,
+		.blocks = told.f_blocks,
+		.bfree = told.f_bfree,
+		.bavail = told.f_bavail,
+		.files = told.f_files,
+		.ffree = told.f_ffree,
+		.namemax = told.f_namemax,
 	};
 	return 0;
 }
@@ -531,7 +539,8 @@ static int make_with_node(struct call *call)
 		error = check_names(call);
 	if (!error)
 		error = call->file && asked->call != NIZWARF_GETATTR && asked->call != NIZWARF_SETATTR ?
-				make_of_file(call) : make_of_node(call);
+				make_of_file(call) :
+				make_of_node(call);
 	file_put(call->file);
 	if (call->other.node)
 		node_put(&call->other);
@@ -545,8 +554,8 @@ static uint64_t wanted(const struct passthrough *all)
 {
 	const struct passthrough_options *options = &all->options;
 	uint64_t wants = FUSE_ASYNC_READ | FUSE_BIG_WRITES | FUSE_ATOMIC_O_TRUNC | FUSE_AUTO_INVAL_DATA |
-			 FUSE_ASYNC_DIO | FUSE_PARALLEL_DIROPS | FUSE_MAX_PAGES |
-			 FUSE_HANDLE_KILLPRIV_V2 | CREATE_SUPP_GROUP;
+			 FUSE_ASYNC_DIO | FUSE_PARALLEL_DIROPS | FUSE_MAX_PAGES | FUSE_HANDLE_KILLPRIV_V2 |
+			 CREATE_SUPP_GROUP;
 
 	if (options->readdirplus)
 		wants |= FUSE_DO_READDIRPLUS | FUSE_READDIRPLUS_AUTO;

@@ -80,8 +80,7 @@ const char *name_of(const struct call *call, nizwarf_range range);
 /* Whether a name is that of something in a directory. */
 bool is_plain(const char *name);
 /* What is told of a node that has a lookup more. */
-void tell_entry(const struct call *call, uint64_t number, const struct statx *seen,
-		nizwarf_entry *entry);
+void tell_entry(const struct call *call, uint64_t number, const struct statx *seen, nizwarf_entry *entry);
 /* Tells attributes, and how long they hold. `is_apart` is that of the node. */
 void tell_attr(const struct call *call, const struct statx *seen, bool is_apart, nizwarf_entry *entry);
 /* The inode number that is told. */

@@ -22,7 +22,7 @@ uint64_t inode_of(const struct call *call, uint64_t device, uint64_t inode, bool
 
 static nizwarf_attr attr_of(const struct statx *seen)
 {
-	return (nizwarf_attr) {
+	return (nizwarf_attr){
 		.size = seen->stx_size,
 		.blocks = seen->stx_blocks,
 		.atime = (uint64_t)seen->stx_atime.tv_sec,
@@ -53,15 +53,14 @@ void tell_attr(const struct call *call, const struct statx *seen, bool is_apart,
 	entry->attr_nanoseconds = (uint32_t)(time % 1000) * 1000000;
 }
 
-void tell_entry(const struct call *call, uint64_t number, const struct statx *seen,
-		nizwarf_entry *entry)
+void tell_entry(const struct call *call, uint64_t number, const struct statx *seen, nizwarf_entry *entry)
 {
 	const struct passthrough *all = call->all;
 	/* (a LINK is of the file's own node) */
 	const struct node *node = call->node.node;
 	const bool across = is_across(node, seen), is_directory = S_ISDIR(seen->stx_mode);
 
-	*entry = (nizwarf_entry) {
+	*entry = (nizwarf_entry){
 		.node = number,
 		.entry_seconds = all->entry_time / 1000,
 		.entry_nanoseconds = (uint32_t)(all->entry_time % 1000) * 1000000,
@@ -72,8 +71,8 @@ void tell_entry(const struct call *call, uint64_t number, const struct statx *se
 }
 
 /* enter(), which says too whether the file wasn't known. */
-static int enter_and_tell(const struct call *call, const struct found *found, int fd,
-			  nizwarf_entry *entry, bool *is_new)
+static int enter_and_tell(const struct call *call, const struct found *found, int fd, nizwarf_entry *entry,
+			  bool *is_new)
 {
 	struct statx seen;
 	uint64_t number;
@@ -95,7 +94,7 @@ static int enter_and_tell(const struct call *call, const struct found *found, in
 
 struct found found_in(const struct grip *directory, const char *name)
 {
-	return (struct found) { directory->fd, directory->node, name };
+	return (struct found){ directory->fd, directory->node, name };
 }
 
 int enter(const struct call *call, const struct found *found, int fd, nizwarf_entry *entry)

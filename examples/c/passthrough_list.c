@@ -101,7 +101,8 @@ static void find_entry(const struct call *call, const struct dirent64 *found, ni
 	const struct found at = found_in(&call->node, found->d_name);
 
 	if (node_may_be_known(&call->all->nodes, call->node.node, found->d_ino) ?
-		    look_up(call, &at, entry) : look_up_new(call, &at, entry))
+		    look_up(call, &at, entry) :
+		    look_up_new(call, &at, entry))
 		memset(entry, 0, sizeof(*entry));
 }
 
@@ -117,8 +118,7 @@ static bool tells_entries(const struct call *call)
 }
 
 /* Puts an item of a directory into the worker's. False: it doesn't fit, or there is no memory. */
-static bool put_item(const struct call *call, const struct dirent64 *found, bool entries,
-		     struct space *space)
+static bool put_item(const struct call *call, const struct dirent64 *found, bool entries, struct space *space)
 {
 	const bool plus = call->asked->has & NIZWARF_PLUS;
 	const size_t len = strlen(found->d_name) + 1, size = nizwarf_record_size(len, plus);

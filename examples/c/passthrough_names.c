@@ -39,10 +39,11 @@ static struct statx made_by(const struct call *call)
 	const unsigned type = asked->mode & S_IFMT;
 
 	if (asked->call == NIZWARF_SYMLINK)
-		return (struct statx) { .stx_mode = S_IFLNK,
-					.stx_size = strlen(name_of(call, asked->other_name)) };
-	return (struct statx) { .stx_mode = (uint16_t)(asked->call == NIZWARF_MKDIR ? S_IFDIR :
-						       type ? type : S_IFREG) };
+		return (struct statx){ .stx_mode = S_IFLNK,
+				       .stx_size = strlen(name_of(call, asked->other_name)) };
+	return (struct statx){ .stx_mode = (uint16_t)(asked->call == NIZWARF_MKDIR ? S_IFDIR :
+						      type			   ? type :
+										     S_IFREG) };
 }
 
 int find_name(const struct call *call, const char *name)
@@ -56,7 +57,7 @@ int find_name(const struct call *call, const char *name)
 		atomic_store(lists_names, false);
 	if (error != ENOENT || !time)
 		return error;
-	call->answer->entry = (nizwarf_entry) {
+	call->answer->entry = (nizwarf_entry){
 		.entry_seconds = time / 1000,
 		.entry_nanoseconds = (uint32_t)(time % 1000) * 1000000,
 	};
@@ -116,7 +117,8 @@ int link_node(const struct call *call)
 	struct node *node = call->node.node;
 	struct nodes *nodes = &call->all->nodes;
 	const char *name = name_of(call, call->asked->name);
-	const struct statx made = { .stx_mode = (uint16_t)node->type, .stx_ino = node->inode,
+	const struct statx made = { .stx_mode = (uint16_t)node->type,
+				    .stx_ino = node->inode,
 				    .stx_mnt_id = node->on->id };
 	struct statx seen;
 	int error = node_look_up(nodes, node);
@@ -124,8 +126,8 @@ int link_node(const struct call *call)
 	if (error)
 		return error;
 	/* (that leads to the node itself, also where it is a symbolic link) */
-	error = failed(linkat(nodes->proc, name_fd(call->node.fd).bytes, call->other.fd, name,
-			      AT_SYMLINK_FOLLOW));
+	error = failed(
+		linkat(nodes->proc, name_fd(call->node.fd).bytes, call->other.fd, name, AT_SYMLINK_FOLLOW));
 	if (!error && statx(call->node.fd, "", AT_EMPTY_PATH | AT_SYMLINK_NOFOLLOW, WANTED, &seen)) {
 		error = errno;
 		unmake(call->other.fd, name, &made);

@@ -71,8 +71,8 @@ static bool add(struct table *table, struct counted *thing)
 	} else {
 		if (table->used >= table->size) {
 			const size_t size = table->size ? 2 * (size_t)table->size : FIRST_SLOTS;
-			uint64_t *more = size > UINT32_MAX / 2 ? NULL :
-				realloc(table->slots, size * sizeof(*more));
+			uint64_t *more =
+				size > UINT32_MAX / 2 ? NULL : realloc(table->slots, size * sizeof(*more));
 
 			if (!more)
 				return false;
@@ -125,8 +125,10 @@ int node_reserve(struct nodes *all)
 	if (atomic_fetch_add(&all->places, 1) >= all->most_nodes) {
 		error = ENFILE;
 		if (!atomic_flag_test_and_set(&all->said_most))
-			fprintf(stderr, "nizwarf-share: the client knows %u files, as many as it may: "
-				"--node-limit says how many\n", all->most_nodes);
+			fprintf(stderr,
+				"nizwarf-share: the client knows %u files, as many as it may: "
+				"--node-limit says how many\n",
+				all->most_nodes);
 	}
 	if (!error)
 		error = fd_reserve(all, 1);
@@ -241,13 +243,12 @@ static bool is_of(const struct node *node, const struct statx *seen)
 
 /* The node of a file under the lock, or NULL. One that is held by a handle is that of the file if
  * the handle is: numbers of inodes come again, while a descriptor keeps its own from that. */
-static struct node *known(const struct nodes *all, const struct statx *seen,
-			  const struct file_handle *handle)
+static struct node *known(const struct nodes *all, const struct statx *seen, const struct file_handle *handle)
 {
 	struct node *node = *chain_of(all, device_of(seen), seen->stx_ino);
 
-	while (node && (!is_of(node, seen) ||
-			(node->counted.fd < 0 && !same_handle(handle_in(node), handle))))
+	while (node &&
+	       (!is_of(node, seen) || (node->counted.fd < 0 && !same_handle(handle_in(node), handle))))
 		node = node->next;
 	return node;
 }
@@ -340,8 +341,8 @@ static void grow_chains(struct nodes *all)
 
 /* Adds a lookup of a known node; or `*made`, if that isn't NULL, which is NULL then: but not if no handle
  * is told, and the file may be known by one. The node's number; 0: neither could be. */
-static uint64_t add_lookup(struct nodes *all, const struct statx *seen,
-			   const struct file_handle *handle, struct node **made)
+static uint64_t add_lookup(struct nodes *all, const struct statx *seen, const struct file_handle *handle,
+			   struct node **made)
 {
 	struct node *node, **chain;
 	uint64_t number = 0;
@@ -393,7 +394,9 @@ static size_t name_size(const struct nodes *all, const struct found *found, cons
 			const struct statx *seen)
 {
 	return found->node && all->named_mount && on->id == all->named_mount &&
-	       (S_ISREG(seen->stx_mode) || S_ISDIR(seen->stx_mode)) ? strlen(found->name) + 1 : 0;
+			       (S_ISREG(seen->stx_mode) || S_ISDIR(seen->stx_mode)) ?
+		       strlen(found->name) + 1 :
+		       0;
 }
 
 /* Makes a node of a file, which has its handle, if there is one that opens, or else the descriptor: that is

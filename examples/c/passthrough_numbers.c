@@ -80,7 +80,7 @@ static int add(struct numbers *all, uint64_t device, uint16_t high)
 	while (all->is_taken[told])
 		told++;
 	all->is_taken[told] = true;
-	all->known[all->count] = (struct prefix) { device, high, told, *head };
+	all->known[all->count] = (struct prefix){ device, high, told, *head };
 	*head = ++all->count;
 	return told;
 }

@@ -101,8 +101,8 @@ void regain_fsetid(const struct call *call)
 }
 
 /* What files are made, changed, owned and read with, whoever asks. */
-static const int kept[] = { CAP_CHOWN, CAP_DAC_OVERRIDE, CAP_FOWNER, CAP_FSETID, CAP_MKNOD, CAP_SETFCAP,
-			    CAP_SETGID, CAP_SETUID };
+static const int kept[] = { CAP_CHOWN, CAP_DAC_OVERRIDE, CAP_FOWNER, CAP_FSETID,
+			    CAP_MKNOD, CAP_SETFCAP,	 CAP_SETGID, CAP_SETUID };
 
 /* Leaves the calling thread these, as far as it had them, and tells which: -1 with errno. */
 static int limit(uint64_t *left, const struct passthrough_options *options)
@@ -143,5 +143,7 @@ int begin_worker(struct worker *w, const struct passthrough_options *options)
 		return 0;
 	/* (a namespace of users may have none of that id) */
 	w->gid = syscall(SYS_setresgid, -1, 0, -1) ? getegid() : 0;
-	return limit(&w->capabilities, options) || (!w->keeps_groups && syscall(SYS_setgroups, 0, NULL)) ? -1 : 0;
+	return limit(&w->capabilities, options) || (!w->keeps_groups && syscall(SYS_setgroups, 0, NULL)) ?
+		       -1 :
+		       0;
 }

@@ -24,11 +24,14 @@ int main(void)
 	struct {
 		struct fuse_in_header header;
 		struct fuse_mkdir_in body;
-	} make = { .header = { .len = sizeof(make) + 2, .opcode = FUSE_MKDIR, .unique = 2,
+	} make = { .header = { .len = sizeof(make) + 2,
+			       .opcode = FUSE_MKDIR,
+			       .unique = 2,
 			       .nodeid = FUSE_ROOT_ID },
 		   .body = { .mode = 0755 } };
-	struct fuse_in_header lookup = { .len = sizeof(lookup) + 2, .opcode = FUSE_LOOKUP,
-					 .unique = 3, .nodeid = FUSE_ROOT_ID };
+	struct fuse_in_header lookup = {
+		.len = sizeof(lookup) + 2, .opcode = FUSE_LOOKUP, .unique = 3, .nodeid = FUSE_ROOT_ID
+	};
 	struct fuse_out_header header;
 	struct fuse_init_out agreed;
 	struct fuse_entry_out entry;

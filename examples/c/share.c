@@ -149,7 +149,8 @@ static void tell_ready(void *user)
 		fprintf(stderr, "nizwarf-share: %s is served %s %s\n", words.folder,
 			words.mount_point ? "at" : "on",
 			words.mount_point ? words.mount_point :
-			words.socket_path ? words.socket_path : "the socket of --fd");
+			words.socket_path ? words.socket_path :
+					    "the socket of --fd");
 	if (manager >= 0 && send(manager, ready, sizeof(ready) - 1, MSG_NOSIGNAL) < 0)
 		failed("NOTIFY_SOCKET");
 	if (starter >= 0 && write(starter, "", 1) != 1)
@@ -224,9 +225,15 @@ static void remove_socket(void *user)
 }
 
 /* The transport, and the device of a mount. */
-static transport by = { .program = "nizwarf-share", .writes_in_place = 1, .splices = 1,
-			.begin = passthrough_begin, .end = passthrough_finish, .parted = passthrough_parted,
-			.has_spare = 1, .left = remove_socket, .serve = passthrough_serve };
+static transport by = { .program = "nizwarf-share",
+			.writes_in_place = 1,
+			.splices = 1,
+			.begin = passthrough_begin,
+			.end = passthrough_finish,
+			.parted = passthrough_parted,
+			.has_spare = 1,
+			.left = remove_socket,
+			.serve = passthrough_serve };
 static int device = -1;
 
 static int mount_folder(void *user)
@@ -290,8 +297,7 @@ static int serve(int listener)
 	struct passthrough *all;
 	int root, proc, status = 1;
 
-	if (sandbox_enter((enum sandbox)words.sandbox, words.folder, &root, &proc,
-			  &words.files.no_devices))
+	if (sandbox_enter((enum sandbox)words.sandbox, words.folder, &root, &proc, &words.files.no_devices))
 		return 1;
 	umask(0);
 	grow_table(root);
@@ -347,7 +353,8 @@ int main(int count, char **given)
 						     OF_SOCKET + OF_SOCKET_WORKER * by.workers;
 	by.quiet = !words.says_more;
 	if (words.says_more && *words.allow_other && is_mount() && !words.files.posix_acl)
-		fputs("nizwarf-share: access control lists of the folder are not looked at: --posix-acl\n", stderr);
+		fputs("nizwarf-share: access control lists of the folder are not looked at: --posix-acl\n",
+		      stderr);
 	if (words.traces && trace_begin(&by, words.trace_file))
 		return 1;
 	if ((status = find_places()))
@@ -358,8 +365,7 @@ int main(int count, char **given)
 	raise_limit();
 	manager = meet_manager();
 	/* (a sandbox has none) */
-	if ((words.daemonizes || words.is_off) &&
-	    (nothing = open("/dev/null", O_RDWR | O_CLOEXEC)) < 0)
+	if ((words.daemonizes || words.is_off) && (nothing = open("/dev/null", O_RDWR | O_CLOEXEC)) < 0)
 		return failed("/dev/null"), 1;
 	if (words.mount_point && (device = fuse_device_open(&by)) < 0)
 		return 1;

@@ -105,7 +105,8 @@ static _Noreturn void stand_by(pid_t child, const sigset_t *awaited, const struc
 	int status = W_EXITCODE(1, 0);
 
 	for (;;) {
-		const int signal = end < TOLD ? sigwaitinfo(awaited, NULL) : sigtimedwait(awaited, NULL, &most);
+		const int signal =
+			end < TOLD ? sigwaitinfo(awaited, NULL) : sigtimedwait(awaited, NULL, &most);
 
 		if (signal == SIGCHLD && waitpid(child, &status, WNOHANG) == child)
 			break;
@@ -205,7 +206,8 @@ static int open_copy(void)
 	if (fd >= 0)
 		return fd;
 	fputs("nizwarf-share: --sandbox=chroot: CAP_SYS_ADMIN or Linux 5.2 is missing, by which the server could "
-	      "not leave it\n", stderr);
+	      "not leave it\n",
+	      stderr);
 	return open("/proc/self/fd", KEEPS_PATH);
 }
 
@@ -222,7 +224,8 @@ static int pivot(const char *folder, int *proc)
 		failed("--sandbox=namespace");
 		if (is_no_mount)
 			fputs("nizwarf-share: its root is no mount point, as in a chroot: --sandbox=chroot or "
-			      "--sandbox=none serves there\n", stderr);
+			      "--sandbox=none serves there\n",
+			      stderr);
 		return -1;
 	}
 	return 0;
@@ -289,19 +292,107 @@ const bool has_filter = true;
 
 /* What a server calls, its threads and its C library. */
 static const char *const calls[] = {
-	"accept4", "brk", "capget", "capset", "clock_gettime", "clock_nanosleep", "clone", "clone3", "close",
-	"copy_file_range", "dup", "dup2", "dup3", "epoll_create1", "epoll_ctl", "epoll_pwait", "epoll_wait",
-	"eventfd2", "exit", "exit_group", "fallocate", "fchdir", "fchmod", "fchmodat", "fchownat",
-	"fcntl", "fdatasync", "fgetxattr", "flistxattr", "fstat", "fstatfs", "fsync", "ftruncate",
-	"futex", "getdents64", "getegid", "geteuid", "getpid", "getrandom", "gettid", "getxattr",
-	"linkat", "listxattr", "lseek", "lstat", "madvise", "mkdirat", "mknodat", "mmap", "mprotect",
-	"mremap", "munmap", "nanosleep", "newfstatat",
-	"openat", "openat2", "pipe2", "poll", "ppoll", "prctl", "pread64", "preadv", "prlimit64", "pwrite64", "pwritev",
-	"read", "readlinkat", "recvfrom", "recvmsg", "removexattr", "renameat", "renameat2",
-	"restart_syscall", "rseq", "rt_sigaction", "rt_sigprocmask", "rt_sigreturn",
-	"sched_getaffinity", "sched_yield", "sendmsg", "sendto", "set_robust_list", "setgroups",
-	"setfsgid", "setresgid", "setresuid", "setsockopt", "setxattr", "sigaltstack", "signalfd4", "splice",
-	"statfs", "statx", "symlinkat", "syncfs", "tgkill", "umask", "unlink", "unlinkat", "utimensat", "write",
+	"accept4",
+	"brk",
+	"capget",
+	"capset",
+	"clock_gettime",
+	"clock_nanosleep",
+	"clone",
+	"clone3",
+	"close",
+	"copy_file_range",
+	"dup",
+	"dup2",
+	"dup3",
+	"epoll_create1",
+	"epoll_ctl",
+	"epoll_pwait",
+	"epoll_wait",
+	"eventfd2",
+	"exit",
+	"exit_group",
+	"fallocate",
+	"fchdir",
+	"fchmod",
+	"fchmodat",
+	"fchownat",
+	"fcntl",
+	"fdatasync",
+	"fgetxattr",
+	"flistxattr",
+	"fstat",
+	"fstatfs",
+	"fsync",
+	"ftruncate",
+	"futex",
+	"getdents64",
+	"getegid",
+	"geteuid",
+	"getpid",
+	"getrandom",
+	"gettid",
+	"getxattr",
+	"linkat",
+	"listxattr",
+	"lseek",
+	"lstat",
+	"madvise",
+	"mkdirat",
+	"mknodat",
+	"mmap",
+	"mprotect",
+	"mremap",
+	"munmap",
+	"nanosleep",
+	"newfstatat",
+	"openat",
+	"openat2",
+	"pipe2",
+	"poll",
+	"ppoll",
+	"prctl",
+	"pread64",
+	"preadv",
+	"prlimit64",
+	"pwrite64",
+	"pwritev",
+	"read",
+	"readlinkat",
+	"recvfrom",
+	"recvmsg",
+	"removexattr",
+	"renameat",
+	"renameat2",
+	"restart_syscall",
+	"rseq",
+	"rt_sigaction",
+	"rt_sigprocmask",
+	"rt_sigreturn",
+	"sched_getaffinity",
+	"sched_yield",
+	"sendmsg",
+	"sendto",
+	"set_robust_list",
+	"setgroups",
+	"setfsgid",
+	"setresgid",
+	"setresuid",
+	"setsockopt",
+	"setxattr",
+	"sigaltstack",
+	"signalfd4",
+	"splice",
+	"statfs",
+	"statx",
+	"symlinkat",
+	"syncfs",
+	"tgkill",
+	"umask",
+	"unlink",
+	"unlinkat",
+	"utimensat",
+	"write",
 	"writev",
 };
 
@@ -324,7 +415,8 @@ static int let(scmp_filter_ctx rules, const char *const *names, size_t count)
 int sandbox_filter(enum calls_filter filter, bool mounts, bool handles)
 {
 	const uint32_t otherwise = filter == FILTER_KILL ? SCMP_ACT_KILL_PROCESS :
-				   filter == FILTER_TRAP ? SCMP_ACT_TRAP : SCMP_ACT_LOG;
+				   filter == FILTER_TRAP ? SCMP_ACT_TRAP :
+							   SCMP_ACT_LOG;
 	scmp_filter_ctx rules;
 	int error;
 
@@ -342,7 +434,8 @@ int sandbox_filter(enum calls_filter filter, bool mounts, bool handles)
 					 SCMP_A1(SCMP_CMP_MASKED_EQ, UINT32_MAX, controls[i]));
 	/* (a worker's umask is its own) */
 	if (!error)
-		error = seccomp_rule_add(rules, SCMP_ACT_ALLOW, SCMP_SYS(unshare), 1, SCMP_A0(SCMP_CMP_EQ, CLONE_FS));
+		error = seccomp_rule_add(rules, SCMP_ACT_ALLOW, SCMP_SYS(unshare), 1,
+					 SCMP_A0(SCMP_CMP_EQ, CLONE_FS));
 	if (!error && mounts)
 		error = seccomp_rule_add(rules, SCMP_ACT_ALLOW, SCMP_SYS(umount2), 0);
 	if (!error)

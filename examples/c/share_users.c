@@ -102,7 +102,8 @@ static int leave(const int ends[2], const struct id_map *uids, const struct id_m
 		return failed("ids of users");
 	if (!WIFEXITED(status) || WEXITSTATUS(status)) {
 		fputs("nizwarf-share: --uid-map, --gid-map: the ids can't be mapped so; subuid(5) and subgid(5) "
-		      "say which may be\n", stderr);
+		      "say which may be\n",
+		      stderr);
 		return -1;
 	}
 	return 0;

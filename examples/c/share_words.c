@@ -75,11 +75,22 @@ static const char usage[] =
 
 /* What is so without a word. */
 struct share_words words = {
-	.files = { .cache = CACHE_AUTO, .readdirplus = true, .file_handles = HANDLES_NEVER,
-		   .announce_submounts = true, .most_nodes = MOST_NODES,
-		   .workers = WORKERS, .entry_time = AS_CACHE_SAYS, .attr_time = AS_CACHE_SAYS },
-	.allow_other = "", .flags = MS_NOSUID | MS_NODEV, .max_read = TRANSPORT_PAYLOAD,
-	.most_files = MOST_FILES, .fd = -1, .sandbox = -1, .filter = -1, .says_more = true,
+	.files = { .cache = CACHE_AUTO,
+		   .readdirplus = true,
+		   .file_handles = HANDLES_NEVER,
+		   .announce_submounts = true,
+		   .most_nodes = MOST_NODES,
+		   .workers = WORKERS,
+		   .entry_time = AS_CACHE_SAYS,
+		   .attr_time = AS_CACHE_SAYS },
+	.allow_other = "",
+	.flags = MS_NOSUID | MS_NODEV,
+	.max_read = TRANSPORT_PAYLOAD,
+	.most_files = MOST_FILES,
+	.fd = -1,
+	.sandbox = -1,
+	.filter = -1,
+	.says_more = true,
 };
 
 _Noreturn void refuse(const char *why, const char *word)
@@ -141,12 +152,47 @@ static int capability_of(const char *name)
 {
 	/* Those of linux/capability.h, from 0 on. */
 	static const char *const known[] = {
-		"chown", "dac_override", "dac_read_search", "fowner", "fsetid", "kill", "setgid", "setuid",
-		"setpcap", "linux_immutable", "net_bind_service", "net_broadcast", "net_admin", "net_raw",
-		"ipc_lock", "ipc_owner", "sys_module", "sys_rawio", "sys_chroot", "sys_ptrace", "sys_pacct",
-		"sys_admin", "sys_boot", "sys_nice", "sys_resource", "sys_time", "sys_tty_config", "mknod",
-		"lease", "audit_write", "audit_control", "setfcap", "mac_override", "mac_admin", "syslog",
-		"wake_alarm", "block_suspend", "audit_read", "perfmon", "bpf", "checkpoint_restore",
+		"chown",
+		"dac_override",
+		"dac_read_search",
+		"fowner",
+		"fsetid",
+		"kill",
+		"setgid",
+		"setuid",
+		"setpcap",
+		"linux_immutable",
+		"net_bind_service",
+		"net_broadcast",
+		"net_admin",
+		"net_raw",
+		"ipc_lock",
+		"ipc_owner",
+		"sys_module",
+		"sys_rawio",
+		"sys_chroot",
+		"sys_ptrace",
+		"sys_pacct",
+		"sys_admin",
+		"sys_boot",
+		"sys_nice",
+		"sys_resource",
+		"sys_time",
+		"sys_tty_config",
+		"mknod",
+		"lease",
+		"audit_write",
+		"audit_control",
+		"setfcap",
+		"mac_override",
+		"mac_admin",
+		"syslog",
+		"wake_alarm",
+		"block_suspend",
+		"audit_read",
+		"perfmon",
+		"bpf",
+		"checkpoint_restore",
 	};
 
 	for (int i = 0; i < (int)(sizeof(known) / sizeof(*known)); i++)
@@ -180,13 +226,15 @@ static bool take_flag(const char *key)
 	static const struct {
 		const char *word;
 		unsigned long set, clear;
-	} known[] = { { "ro", MS_RDONLY, 0 }, { "rw", 0, MS_RDONLY }, { "noexec", MS_NOEXEC, 0 },
-		      { "exec", 0, MS_NOEXEC }, { "nosuid", MS_NOSUID, 0 }, { "suid", 0, MS_NOSUID },
-		      { "nodev", MS_NODEV, 0 }, { "dev", 0, MS_NODEV }, { "sync", MS_SYNCHRONOUS, 0 },
-		      { "async", 0, MS_SYNCHRONOUS }, { "dirsync", MS_DIRSYNC, 0 },
-		      { "noatime", MS_NOATIME, 0 }, { "atime", 0, MS_NOATIME },
-		      { "nodiratime", MS_NODIRATIME, 0 }, { "diratime", 0, MS_NODIRATIME },
-		      { "relatime", MS_RELATIME, 0 }, { "default_permissions", 0, 0 } };
+	} known[] = { { "ro", MS_RDONLY, 0 },		{ "rw", 0, MS_RDONLY },
+		      { "noexec", MS_NOEXEC, 0 },	{ "exec", 0, MS_NOEXEC },
+		      { "nosuid", MS_NOSUID, 0 },	{ "suid", 0, MS_NOSUID },
+		      { "nodev", MS_NODEV, 0 },		{ "dev", 0, MS_NODEV },
+		      { "sync", MS_SYNCHRONOUS, 0 },	{ "async", 0, MS_SYNCHRONOUS },
+		      { "dirsync", MS_DIRSYNC, 0 },	{ "noatime", MS_NOATIME, 0 },
+		      { "atime", 0, MS_NOATIME },	{ "nodiratime", MS_NODIRATIME, 0 },
+		      { "diratime", 0, MS_NODIRATIME }, { "relatime", MS_RELATIME, 0 },
+		      { "default_permissions", 0, 0 } };
 
 	for (size_t i = 0; i < sizeof(known) / sizeof(*known); i++)
 		if (!strcmp(key, known[i].word)) {
@@ -203,7 +251,8 @@ static bool take_switch(const char *key)
 	static const struct {
 		const char *word;
 		bool *what, is;
-	} known[] = { { "xattr", &words.files.xattr, true }, { "no_xattr", &words.files.xattr, false },
+	} known[] = { { "xattr", &words.files.xattr, true },
+		      { "no_xattr", &words.files.xattr, false },
 		      { "posix_acl", &words.files.posix_acl, true },
 		      { "no_posix_acl", &words.files.posix_acl, false },
 		      { "writeback", &words.files.writeback, true },
@@ -212,9 +261,11 @@ static bool take_switch(const char *key)
 		      { "no_readdirplus", &words.files.readdirplus, false },
 		      { "announce_submounts", &words.files.announce_submounts, true },
 		      /* What is so anyhow, or shows nowhere. */
-		      { "killpriv_v2", &nothing, true }, { "no_killpriv_v2", &nothing, false },
+		      { "killpriv_v2", &nothing, true },
+		      { "no_killpriv_v2", &nothing, false },
 		      { "no_security_label", &nothing, false },
-		      { "no_allow_direct_io", &nothing, false }, { "no_flock", &nothing, false },
+		      { "no_allow_direct_io", &nothing, false },
+		      { "no_flock", &nothing, false },
 		      { "no_posix_lock", &nothing, false } };
 
 	for (size_t i = 0; i < sizeof(known) / sizeof(*known); i++)
@@ -299,9 +350,33 @@ static void take_options(char *rest)
 }
 
 enum word {
-	SHARED_DIR = 256, SOCKET_PATH, FD, SOCKET_GROUP, CACHE, WRITEBACK, XATTR, POSIX_ACL, READONLY,
-	NO_READDIRPLUS, ANNOUNCE, NO_ANNOUNCE, NODE_LIMIT, FILE_HANDLES, MODCAPS, POOL, NOFILE, SANDBOX,
-	UID_MAP, GID_MAP, SECCOMP, LOG, TRACE, DAEMONIZE, PRINT, VERSION, HELP
+	SHARED_DIR = 256,
+	SOCKET_PATH,
+	FD,
+	SOCKET_GROUP,
+	CACHE,
+	WRITEBACK,
+	XATTR,
+	POSIX_ACL,
+	READONLY,
+	NO_READDIRPLUS,
+	ANNOUNCE,
+	NO_ANNOUNCE,
+	NODE_LIMIT,
+	FILE_HANDLES,
+	MODCAPS,
+	POOL,
+	NOFILE,
+	SANDBOX,
+	UID_MAP,
+	GID_MAP,
+	SECCOMP,
+	LOG,
+	TRACE,
+	DAEMONIZE,
+	PRINT,
+	VERSION,
+	HELP
 };
 
 static const struct option known_words[] = {
@@ -368,7 +443,7 @@ static void take_range(const char *key, char *rest, struct id_map *map)
 	if (rest || value[0] + value[2] > UINT32_MAX || value[1] + value[2] > UINT32_MAX)
 		refuse("three numbers of ids are wanted in ", key);
 	range = &map->ranges[map->count++];
-	*range = (struct id_range) { (uint32_t)value[0], (uint32_t)value[1], (uint32_t)value[2] };
+	*range = (struct id_range){ (uint32_t)value[0], (uint32_t)value[1], (uint32_t)value[2] };
 }
 
 static void take_word(int word)
@@ -378,56 +453,99 @@ static void take_word(int word)
 	static const char *const handles[] = { "never", "prefer", "mandatory", NULL };
 
 	switch (word) {
-	case 'o': take_options(optarg); break;
-	case 'd': take_log_level("debug"); break;
-	case SHARED_DIR: words.folder = optarg; break;
-	case SOCKET_PATH: words.socket_path = optarg; break;
-	case FD: words.fd = (int)number("--fd", optarg, 0, INT_MAX); break;
-	case SOCKET_GROUP: words.socket_group = optarg; break;
+	case 'o':
+		take_options(optarg);
+		break;
+	case 'd':
+		take_log_level("debug");
+		break;
+	case SHARED_DIR:
+		words.folder = optarg;
+		break;
+	case SOCKET_PATH:
+		words.socket_path = optarg;
+		break;
+	case FD:
+		words.fd = (int)number("--fd", optarg, 0, INT_MAX);
+		break;
+	case SOCKET_GROUP:
+		words.socket_group = optarg;
+		break;
 	case CACHE:
 		words.files.cache = (enum passthrough_cache)one_of("--cache", optarg, caches);
 		break;
-	case WRITEBACK: words.files.writeback = true; break;
-	case XATTR: words.files.xattr = true; break;
-	case POSIX_ACL: words.files.posix_acl = true; break;
-	case READONLY: words.files.read_only = true; break;
-	case NO_READDIRPLUS: words.files.readdirplus = false; break;
-	case ANNOUNCE: words.files.announce_submounts = true; break;
-	case NO_ANNOUNCE: words.files.announce_submounts = false; break;
+	case WRITEBACK:
+		words.files.writeback = true;
+		break;
+	case XATTR:
+		words.files.xattr = true;
+		break;
+	case POSIX_ACL:
+		words.files.posix_acl = true;
+		break;
+	case READONLY:
+		words.files.read_only = true;
+		break;
+	case NO_READDIRPLUS:
+		words.files.readdirplus = false;
+		break;
+	case ANNOUNCE:
+		words.files.announce_submounts = true;
+		break;
+	case NO_ANNOUNCE:
+		words.files.announce_submounts = false;
+		break;
 	case NODE_LIMIT:
 		words.files.most_nodes = (unsigned)number("--node-limit", optarg, 2, INT_MAX);
 		break;
 	case FILE_HANDLES:
-		words.files.file_handles =
-			(enum file_handles)one_of("--inode-file-handles", optarg, handles);
+		words.files.file_handles = (enum file_handles)one_of("--inode-file-handles", optarg, handles);
 		break;
-	case MODCAPS: take_capabilities(optarg); break;
+	case MODCAPS:
+		take_capabilities(optarg);
+		break;
 	case POOL:
-		words.files.workers = (unsigned)number("--thread-pool-size", optarg, 0,
-						       TRANSPORT_MOST_WORKERS);
+		words.files.workers =
+			(unsigned)number("--thread-pool-size", optarg, 0, TRANSPORT_MOST_WORKERS);
 		words.files.workers += !words.files.workers;
 		break;
 	case NOFILE:
 		words.most_files = number("--rlimit-nofile", optarg, 0, INT_MAX);
 		words.wants_files = true;
 		break;
-	case SANDBOX: words.sandbox = one_of("--sandbox", optarg, sandboxes); break;
-	case UID_MAP: take_range("--uid-map", optarg, &words.uids); break;
-	case GID_MAP: take_range("--gid-map", optarg, &words.gids); break;
-	case SECCOMP: words.filter = one_of("--seccomp", optarg, filters); break;
-	case LOG: take_log_level(optarg); break;
+	case SANDBOX:
+		words.sandbox = one_of("--sandbox", optarg, sandboxes);
+		break;
+	case UID_MAP:
+		take_range("--uid-map", optarg, &words.uids);
+		break;
+	case GID_MAP:
+		take_range("--gid-map", optarg, &words.gids);
+		break;
+	case SECCOMP:
+		words.filter = one_of("--seccomp", optarg, filters);
+		break;
+	case LOG:
+		take_log_level(optarg);
+		break;
 	case TRACE:
 		words.traces = true;
 		words.trace_file = optarg;
 		break;
-	case DAEMONIZE: words.daemonizes = true; break;
-	case 'h': print(HELP);
-	case 'V': print(VERSION);
+	case DAEMONIZE:
+		words.daemonizes = true;
+		break;
+	case 'h':
+		print(HELP);
+	case 'V':
+		print(VERSION);
 	case PRINT:
 	case VERSION:
-	case HELP: print(word);
+	case HELP:
+		print(word);
 	/* (-f, by which virtiofsd stayed in the foreground) */
-	default: break;
+	default:
+		break;
 	}
 }
 
@@ -500,7 +618,8 @@ void take_words(int count, char **given)
 {
 	given = copies_of(count, given);
 	opterr = 0;
-	for (int found, i = -1; (found = getopt_long(count, given, ":dfho:V", known_words, &i)) != -1; i = -1) {
+	for (int found, i = -1; (found = getopt_long(count, given, ":dfho:V", known_words, &i)) != -1;
+	     i = -1) {
 		/* (a value may stand behind it, as a word of its own) */
 		const char *word = given[optind - 1 - (optarg == given[optind - 1])];
 

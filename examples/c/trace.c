@@ -17,7 +17,7 @@
 
 /* Names of the codes 1 to 10. */
 static const char *const refusals[] = {
-	"DecodeMessage", "EncodeMessage", "FlushMessage", "MissingParameter", "InvalidCString",
+	"DecodeMessage",   "EncodeMessage",	  "FlushMessage",     "MissingParameter", "InvalidCString",
 	"InvalidCString2", "InvalidHeaderLength", "InvalidXattrSize", "MissingExtension", "OutOfMemory",
 };
 
@@ -87,9 +87,9 @@ static const char *refusal(int32_t code)
 /* The two sizes of a SETXATTR that is refused for them. */
 static void record_sizes(const struct bytes *request)
 {
-	const size_t at = sizeof(struct fuse_in_header) +
-			  (options & FUSE_SETXATTR_EXT ? sizeof(struct fuse_setxattr_in) :
-							 FUSE_COMPAT_SETXATTR_IN_SIZE);
+	const size_t at = sizeof(struct fuse_in_header) + (options & FUSE_SETXATTR_EXT ?
+								   sizeof(struct fuse_setxattr_in) :
+								   FUSE_COMPAT_SETXATTR_IN_SIZE);
 	struct fuse_in_header header;
 	uint32_t size;
 
@@ -150,7 +150,8 @@ static void agree(const struct bytes *request, const struct bytes *reply)
 }
 
 /* Prints what came of a request. */
-static void tell(const struct bytes *request, const nizwarf_room *room, size_t rooms, int32_t code, size_t len)
+static void tell(const struct bytes *request, const nizwarf_room *room, size_t rooms, int32_t code,
+		 size_t len)
 {
 	size_t space = 0;
 	nizwarf_segment *pieces = calloc(rooms ? rooms : 1, sizeof(*pieces));
@@ -158,7 +159,7 @@ static void tell(const struct bytes *request, const nizwarf_room *room, size_t r
 
 	for (size_t i = 0; i < rooms; i++) {
 		if (pieces)
-			pieces[i] = (nizwarf_segment) { room[i].at, room[i].len };
+			pieces[i] = (nizwarf_segment){ room[i].at, room[i].len };
 		space += room[i].len;
 	}
 	if (pieces)

@@ -101,8 +101,8 @@ static inline void transport_withhold(const transport *by, unsigned char *reques
 
 /* Mounts on the folder as `source`, with flags of mount(2). `options` stand behind those that it
  * has itself, each with a comma before it. Answers the device's descriptor, or -1: it said why. */
-int fuse_device_mount(const transport *by, const char *source, const char *folder,
-		      unsigned long flags, const char *options);
+int fuse_device_mount(const transport *by, const char *source, const char *folder, unsigned long flags,
+		      const char *options);
 
 /* The same in two steps: opens the device, and mounts it. 0, or the descriptor, or -1: it said why. */
 int fuse_device_open(const transport *by);

@@ -35,8 +35,7 @@ static int begin(void *user, unsigned worker)
 	clock_gettime(CLOCK_REALTIME, &now);
 	settings.seconds = (uint64_t)now.tv_sec;
 	settings.nanoseconds = (uint32_t)now.tv_nsec;
-	if (nizwarf_new(&server, (uint32_t)sysconf(_SC_PAGESIZE), TRANSPORT_PAYLOAD, &settings) ==
-	    NIZWARF_OK)
+	if (nizwarf_new(&server, (uint32_t)sysconf(_SC_PAGESIZE), TRANSPORT_PAYLOAD, &settings) == NIZWARF_OK)
 		return 0;
 	fputs("nizwarf-vhost: the library: there is no server\n", stderr);
 	return 1;
@@ -87,9 +86,13 @@ static bool prints(const char *word)
 
 int main(int count, char **words)
 {
-	transport by = { .program = "nizwarf-vhost", .workers = 1,
+	transport by = { .program = "nizwarf-vhost",
+			 .workers = 1,
 			 .withheld = FUSE_ATOMIC_O_TRUNC | TRANSPORT_ALLOW_IDMAP,
-			 .begin = begin, .end = end, .left = remove_socket, .serve = serve };
+			 .begin = begin,
+			 .end = end,
+			 .left = remove_socket,
+			 .serve = serve };
 	const char *trace = NULL;
 	int listener, status;
 

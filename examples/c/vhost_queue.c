@@ -130,7 +130,7 @@ static int add_request(struct worker *w, const unsigned char *at, size_t len)
 		return 0;
 	if (w->segments > PIECES)
 		return -1;
-	w->segment[w->segments++] = (nizwarf_segment) { at, len };
+	w->segment[w->segments++] = (nizwarf_segment){ at, len };
 	return 0;
 }
 
@@ -146,7 +146,7 @@ static int add_piece(struct worker *w, const struct guest *g, const struct vring
 		return -1;
 	if (!is_room)
 		return add_request(w, at, len);
-	w->room[w->rooms++] = (nizwarf_room) { at, len };
+	w->room[w->rooms++] = (nizwarf_room){ at, len };
 	w->room_len += len;
 	return 0;
 }
@@ -161,7 +161,7 @@ static int take_chain(struct worker *w, const struct guest *g, const struct queu
 
 	w->len = w->copied = w->rooms = w->room_len = 0;
 	w->segments = 1;
-	w->segment[0] = (nizwarf_segment) { w->request, 0 };
+	w->segment[0] = (nizwarf_segment){ w->request, 0 };
 	do {
 		if (at >= entries || seen++ == entries)
 			return -1;
@@ -173,8 +173,8 @@ static int take_chain(struct worker *w, const struct guest *g, const struct queu
 			/* The rest of the chain is a table of its own. */
 			table = bytes_at(g, d.addr, d.len, 0);
 			entries = d.len / sizeof(d);
-			if (!table || is_indirect++ || d.flags & VRING_DESC_F_NEXT ||
-			    d.len % sizeof(d) || entries > PIECES)
+			if (!table || is_indirect++ || d.flags & VRING_DESC_F_NEXT || d.len % sizeof(d) ||
+			    entries > PIECES)
 				return -1;
 			at = seen = 0;
 			d.flags = VRING_DESC_F_NEXT;
@@ -239,7 +239,7 @@ static int complete(struct queue *q, uint16_t head, uint32_t len)
 {
 	if (!q->available)
 		return 0;
-	q->used->ring[q->done % q->size] = (struct vring_used_elem) { head, len };
+	q->used->ring[q->done % q->size] = (struct vring_used_elem){ head, len };
 	q->done++;
 	TO_GUEST();
 	/* (the guest sets the flag, and then looks at the number: one of both sees what the other did) */
@@ -411,8 +411,8 @@ void queue_place(struct queue *q)
 {
 	const uint64_t size = q->size;
 
-	q->descriptors = ring_at(q->descriptors_user, size * sizeof(struct vring_desc),
-				 VRING_DESC_ALIGN_SIZE);
+	q->descriptors =
+		ring_at(q->descriptors_user, size * sizeof(struct vring_desc), VRING_DESC_ALIGN_SIZE);
 	q->available = ring_at(q->available_user, 4 + 2 * size, VRING_AVAIL_ALIGN_SIZE);
 	q->used = ring_at(q->used_user, 4 + 8 * size, VRING_USED_ALIGN_SIZE);
 	if (!size || !q->descriptors || !q->available || !q->used)
@@ -559,8 +559,7 @@ static int make_events(void)
 	over = eventfd(0, EFD_CLOEXEC | EFD_NONBLOCK);
 	lost = eventfd(0, EFD_CLOEXEC | EFD_NONBLOCK);
 	if (!vhost_guest || events < 0 || look < 0 || stop < 0 || over < 0 || lost < 0 ||
-	    epoll_ctl(events, EPOLL_CTL_ADD, look, &looks) ||
-	    epoll_ctl(events, EPOLL_CTL_ADD, stop, &stops))
+	    epoll_ctl(events, EPOLL_CTL_ADD, look, &looks) || epoll_ctl(events, EPOLL_CTL_ADD, stop, &stops))
 		return failed("eventfd");
 	return 0;
 }
@@ -645,7 +644,8 @@ static int leave_guest(void)
 
 int queues_part(int signals)
 {
-	const struct timespec interrupts = after(INTERRUPTS, CLOCK_MONOTONIC), most = after(MOST, CLOCK_MONOTONIC);
+	const struct timespec interrupts = after(INTERRUPTS, CLOCK_MONOTONIC),
+			      most = after(MOST, CLOCK_MONOTONIC);
 	struct pollfd wait = { signals, POLLIN, 0 };
 
 	atomic_store(&vhost_guest->gone, 1);
@@ -663,7 +663,8 @@ int queues_part(int signals)
 
 int queues_end(void)
 {
-	const struct timespec interrupts = after(INTERRUPTS, CLOCK_MONOTONIC), most = after(MOST, CLOCK_MONOTONIC);
+	const struct timespec interrupts = after(INTERRUPTS, CLOCK_MONOTONIC),
+			      most = after(MOST, CLOCK_MONOTONIC);
 	const struct timespec pause = { 0, REST * 1000000L };
 	unsigned left = started;
 

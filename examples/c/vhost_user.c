@@ -23,10 +23,22 @@
 
 /* Messages of the front end. */
 enum {
-	GET_FEATURES = 1, SET_FEATURES, SET_OWNER, RESET_OWNER, SET_MEM_TABLE,
-	SET_VRING_NUM = 8, SET_VRING_ADDR, SET_VRING_BASE, GET_VRING_BASE,
-	SET_VRING_KICK, SET_VRING_CALL, SET_VRING_ERR,
-	GET_PROTOCOL_FEATURES, SET_PROTOCOL_FEATURES, GET_QUEUE_NUM, SET_VRING_ENABLE
+	GET_FEATURES = 1,
+	SET_FEATURES,
+	SET_OWNER,
+	RESET_OWNER,
+	SET_MEM_TABLE,
+	SET_VRING_NUM = 8,
+	SET_VRING_ADDR,
+	SET_VRING_BASE,
+	GET_VRING_BASE,
+	SET_VRING_KICK,
+	SET_VRING_CALL,
+	SET_VRING_ERR,
+	GET_PROTOCOL_FEATURES,
+	SET_PROTOCOL_FEATURES,
+	GET_QUEUE_NUM,
+	SET_VRING_ENABLE
 };
 
 #define VERSION_1 (1ull << 32)
@@ -98,11 +110,9 @@ static enum outcome share_region(const struct message *m, uint32_t i)
 	r->guest = m->body.memory.region[i].guest;
 	r->user = m->body.memory.region[i].user;
 	r->size = m->body.memory.region[i].size;
-	if (r->size > SIZE_MAX - offset || r->guest > UINT64_MAX - r->size ||
-	    r->user > UINT64_MAX - r->size)
+	if (r->size > SIZE_MAX - offset || r->guest > UINT64_MAX - r->size || r->user > UINT64_MAX - r->size)
 		return wrong("a region of memory that can't be");
-	if (fstat(m->descriptor[i], &file) || file.st_size < 0 ||
-	    (uint64_t)file.st_size < r->size + offset)
+	if (fstat(m->descriptor[i], &file) || file.st_size < 0 || (uint64_t)file.st_size < r->size + offset)
 		return wrong("a region without its memory");
 	r->mapped = r->size + offset;
 	r->map = mmap(NULL, r->mapped, PROT_READ | PROT_WRITE, MAP_SHARED, m->descriptor[i], 0);
@@ -132,8 +142,7 @@ static enum outcome share_memory(const struct message *m)
 /* Takes the only descriptor of a message; -1: it has none. */
 static int take_descriptor(struct message *m)
 {
-	return !(m->body.number & NO_DESCRIPTOR) && m->descriptors > 0 ?
-		       m->descriptor[--m->descriptors] : -1;
+	return !(m->body.number & NO_DESCRIPTOR) && m->descriptors > 0 ? m->descriptor[--m->descriptors] : -1;
 }
 
 static enum outcome reply(int client, uint32_t request, void *body, uint32_t size)
@@ -157,8 +166,9 @@ static enum outcome receive(int client, struct message *m)
 {
 	_Alignas(struct cmsghdr) char control[CMSG_SPACE(sizeof(m->descriptor))];
 	struct iovec head = { &m->head, sizeof(m->head) };
-	struct msghdr said = { .msg_iov = &head, .msg_iovlen = 1, .msg_control = control,
-			       .msg_controllen = sizeof(control) };
+	struct msghdr said = {
+		.msg_iov = &head, .msg_iovlen = 1, .msg_control = control, .msg_controllen = sizeof(control)
+	};
 	ssize_t got = recvmsg(client, &said, MSG_CMSG_CLOEXEC | MSG_WAITALL);
 
 	m->descriptors = 0;
@@ -327,7 +337,8 @@ static int part_from_client(int client, int signals)
 	if (!parted)
 		queues_go();
 	else
-		fprintf(stderr, "%s: a request of the front end that has gone does not come back\n", by->program);
+		fprintf(stderr, "%s: a request of the front end that has gone does not come back\n",
+			by->program);
 	queues_tell();
 	return 0;
 }
@@ -354,8 +365,10 @@ static enum end serve_client(int client, int signals)
 		return BROKEN;
 	}
 	for (;;) {
-		struct pollfd wait[] = { { signals, POLLIN, 0 }, { queues_over(), POLLIN, 0 },
-					 { client, POLLIN, 0 }, { queues_lost(), POLLIN, 0 } };
+		struct pollfd wait[] = { { signals, POLLIN, 0 },
+					 { queues_over(), POLLIN, 0 },
+					 { client, POLLIN, 0 },
+					 { queues_lost(), POLLIN, 0 } };
 
 		if (poll(wait, 4, -1) < 0) {
 			if (errno == EINTR)
@@ -393,7 +406,8 @@ static enum end serve_clients(int listener, int signals)
 	enum end end = HUNG_UP;
 
 	while (end == HUNG_UP) {
-		struct pollfd wait[] = { { signals, POLLIN, 0 }, { queues_over(), POLLIN, 0 },
+		struct pollfd wait[] = { { signals, POLLIN, 0 },
+					 { queues_over(), POLLIN, 0 },
 					 { listener, POLLIN, 0 } };
 		int client;
 
@@ -529,14 +543,15 @@ int vhost_user_listen(const transport *with, const char *path)
 
 	/* (an empty one would be a name that has no file) */
 	if (!*path || strlen(path) >= sizeof(address.sun_path))
-		return refuse(with, -2, path, *path ? "the path of a socket is not as long" : "it is no path");
+		return refuse(with, -2, path,
+			      *path ? "the path of a socket is not as long" : "it is no path");
 	memcpy(address.sun_path, path, strlen(path) + 1);
 	if (!lstat(path, &there)) {
 		if (!S_ISSOCK(there.st_mode))
 			return refuse(with, -2, path, "it is there, and is no socket");
 		probe = socket(AF_UNIX, SOCK_STREAM | SOCK_CLOEXEC | SOCK_NONBLOCK, 0);
 		why = probe < 0 || !connect(probe, (struct sockaddr *)&address, sizeof(address)) ? EAGAIN :
-											   errno;
+												   errno;
 		if (probe >= 0)
 			close(probe);
 		/* EAGAIN: so many wait there already. */

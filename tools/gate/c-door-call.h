@@ -243,8 +243,7 @@ static inline void set_extensions(nizwarf_call *c, const uint8_t *request, size_
 }
 
 /* What stands behind the record. */
-static inline void set_tail(nizwarf_call *c, const uint8_t *request, size_t len, size_t at,
-			    uint32_t opcode)
+static inline void set_tail(nizwarf_call *c, const uint8_t *request, size_t len, size_t at, uint32_t opcode)
 {
 	switch (opcode) {
 	case NIZWARF_LOOKUP:
@@ -286,8 +285,7 @@ static inline void set_tail(nizwarf_call *c, const uint8_t *request, size_t len,
 }
 
 /* The call that a request asks for, which is one that asks for a call. */
-static inline nizwarf_call call_of(const uint8_t *request, size_t len, uint64_t options,
-				   size_t room)
+static inline nizwarf_call call_of(const uint8_t *request, size_t len, uint64_t options, size_t room)
 {
 	const uint32_t opcode = u32(request + 4);
 	nizwarf_call c;
@@ -302,8 +300,8 @@ static inline nizwarf_call call_of(const uint8_t *request, size_t len, uint64_t 
 		c.call = NIZWARF_READDIR;
 		c.has = NIZWARF_PLUS;
 	}
-	if (c.answer != NIZWARF_FAULT_OR_SILENCE && c.answer != NIZWARF_FAULT &&
-	    opcode != NIZWARF_INIT && opcode != NIZWARF_DESTROY) {
+	if (c.answer != NIZWARF_FAULT_OR_SILENCE && c.answer != NIZWARF_FAULT && opcode != NIZWARF_INIT &&
+	    opcode != NIZWARF_DESTROY) {
 		c.node = u64(request + 16);
 		c.uid = u32(request + 24);
 		c.gid = u32(request + 28);
@@ -312,8 +310,9 @@ static inline nizwarf_call call_of(const uint8_t *request, size_t len, uint64_t 
 	if (opcode == NIZWARF_READ)
 		c.length = room - 16;
 	set_record(&c, request + 40, opcode);
-	set_tail(&c, request, len, 40 + forms[opcode].record +
-		 (opcode == NIZWARF_SETXATTR && options & SETXATTR_EXT ? 8 : 0), opcode);
+	set_tail(&c, request, len,
+		 40 + forms[opcode].record + (opcode == NIZWARF_SETXATTR && options & SETXATTR_EXT ? 8 : 0),
+		 opcode);
 	return c;
 }
 

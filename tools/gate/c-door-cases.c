@@ -14,8 +14,7 @@ static uint8_t text[ROOM];
 static nizwarf_call ask_call(size_t space, size_t cut)
 {
 	const size_t first = cut < request_len ? cut : request_len;
-	const nizwarf_segment pieces[] = { { request, first },
-					   { request + first, request_len - first } };
+	const nizwarf_segment pieces[] = { { request, first }, { request + first, request_len - first } };
 	nizwarf_told told;
 	nizwarf_call call;
 
@@ -26,8 +25,8 @@ static nizwarf_call ask_call(size_t space, size_t cut)
 /* Whether the reply is the error of this number, and nothing else. */
 static int is_error(const nizwarf_told *told, int error)
 {
-	return told->len == 16 && told->put == 16 && u32(ours) == 16 &&
-	       (int32_t)u32(ours + 4) == -error && u64(ours + 8) == unique;
+	return told->len == 16 && told->put == 16 && u32(ours) == 16 && (int32_t)u32(ours + 4) == -error &&
+	       u64(ours + 8) == unique;
 }
 
 /* A request that makes a name, with a security context, and a group in front of it or behind it. */
@@ -67,8 +66,7 @@ static void ask_maker(uint32_t opcode, size_t cut)
 /* Security contexts and groups, which the tree does not agree on, in each cutting. */
 static void extensions(void)
 {
-	static const uint32_t makers[] = { NIZWARF_SYMLINK, NIZWARF_MKNOD, NIZWARF_MKDIR,
-					   NIZWARF_CREATE };
+	static const uint32_t makers[] = { NIZWARF_SYMLINK, NIZWARF_MKNOD, NIZWARF_MKDIR, NIZWARF_CREATE };
 	size_t i, cut;
 
 	session.options = SECURITY_CTX | CREATE_SUPP_GROUP;
@@ -176,8 +174,7 @@ static void ask_hostile(size_t len, size_t cut)
 /* Extensions that are cut short, or have bytes changed, of each request that has some. */
 static void hostile_extensions(void)
 {
-	static const uint32_t makers[] = { NIZWARF_SYMLINK, NIZWARF_MKNOD, NIZWARF_MKDIR,
-					   NIZWARF_CREATE };
+	static const uint32_t makers[] = { NIZWARF_SYMLINK, NIZWARF_MKNOD, NIZWARF_MKDIR, NIZWARF_CREATE };
 	size_t i, n, len;
 
 	session.options = SECURITY_CTX | CREATE_SUPP_GROUP;
@@ -192,8 +189,7 @@ static void hostile_extensions(void)
 			begin_maker(makers[i / 2], i & 1);
 		}
 		for (n = 0; n < 20000; n++) {
-			const size_t at = rand() % 4 ? 40 + (size_t)rand() % (len - 40)
-						     : (size_t)rand() % 4;
+			const size_t at = rand() % 4 ? 40 + (size_t)rand() % (len - 40) : (size_t)rand() % 4;
 
 			request[at] = (uint8_t)(rand() % 2 ? rand() % 4 : 1 << rand() % 8);
 			ask_hostile(len, (size_t)rand() % len);
@@ -384,8 +380,9 @@ static void options(void)
 static void long_answers(void)
 {
 	static const nizwarf_answer long_text = { .text = text, .text_len = UINT32_MAX - 15 };
-	static const nizwarf_answer long_time = { .entry = {
-		.node = 3, .entry_nanoseconds = UINT32_MAX, .attr_nanoseconds = 1000000000 } };
+	static const nizwarf_answer long_time = {
+		.entry = { .node = 3, .entry_nanoseconds = UINT32_MAX, .attr_nanoseconds = 1000000000 }
+	};
 	nizwarf_answer answer = { .text = text, .text_len = sizeof(text) - 16 };
 	nizwarf_call call;
 	nizwarf_told told;
@@ -456,7 +453,7 @@ static void wrong_items(void)
 static void silences(void)
 {
 	static const uint32_t untold[] = { NIZWARF_GETLK, NIZWARF_SETLK, NIZWARF_SETLKW,
-					   NIZWARF_BMAP, NIZWARF_IOCTL, NIZWARF_POLL };
+					   NIZWARF_BMAP,  NIZWARF_IOCTL, NIZWARF_POLL };
 	const nizwarf_answer answer = { .error = 0 };
 	nizwarf_call call;
 	nizwarf_told told;
@@ -478,8 +475,7 @@ static void silences(void)
 static void entries(void)
 {
 	static const nizwarf_item listed[] = {
-		{ .ino = 1, .name = (const uint8_t *)".", .name_size = 2, .type = 4,
-		  .entry = { .node = 7 } },
+		{ .ino = 1, .name = (const uint8_t *)".", .name_size = 2, .type = 4, .entry = { .node = 7 } },
 		{ .ino = 2, .name = (const uint8_t *)"a", .name_size = 2, .entry = { .node = 8 } },
 		{ .ino = 3, .name = (const uint8_t *)"b", .name_size = 2, .error = ENOENT },
 		{ .ino = 4, .name = (const uint8_t *)"c", .name_size = 2, .entry = { .node = 9 } },
@@ -536,7 +532,8 @@ static void give_back(void)
 static void codes(void)
 {
 	const nizwarf_segment piece = { request, request_len }, null = { NULL, 0 };
-	const nizwarf_segment huge[] = { { request, SIZE_MAX / 2 }, { request, SIZE_MAX / 2 },
+	const nizwarf_segment huge[] = { { request, SIZE_MAX / 2 },
+					 { request, SIZE_MAX / 2 },
 					 { request, 2 } };
 	const nizwarf_room room = { ours, 144 }, nowhere = { NULL, 0 };
 	const nizwarf_room wide[] = { { ours, SIZE_MAX }, { ours, 1 } };
@@ -557,8 +554,7 @@ static void codes(void)
 	CHECK(nizwarf_ask(&slot, &session, &piece, 1, &nowhere, 1, &none, &told) == NIZWARF_NULL);
 	CHECK(nizwarf_ask(&slot, &session, &piece, 1, wide, 2, &none, &told) == NIZWARF_TOO_LONG);
 	CHECK(nizwarf_ask(&slot, &session, huge, 3, &room, 1, &none, &told) == NIZWARF_TOO_LONG);
-	CHECK(nizwarf_ask(&slot, &session, NULL, 0, NULL, 0, &none, &told) ==
-	      NIZWARF_DECODE_MESSAGE);
+	CHECK(nizwarf_ask(&slot, &session, NULL, 0, NULL, 0, &none, &told) == NIZWARF_DECODE_MESSAGE);
 	CHECK(!none.call && !told.len && !told.put);
 	CHECK(nizwarf_reply(NULL, &session, &call, &answer, &room, 1, &told) == NIZWARF_NULL);
 	CHECK(nizwarf_reply(&slot, NULL, &call, &answer, &room, 1, &told) == NIZWARF_NULL);
@@ -574,10 +570,8 @@ static void codes(void)
 	CHECK(nizwarf_reply(&slot, &session, &call, &answer, NULL, 0, &told) == NIZWARF_NOT_ASKED);
 	CHECK(nizwarf_reply(&slot, &session, &call, &answer, &room, 1, &told) == NIZWARF_OK);
 	for (i = 0; i < 3; i++) {
-		CHECK(nizwarf_ask(&slot, &wrong[i], &piece, 1, &room, 1, &none, &told) ==
-		      NIZWARF_WRONG_SIZE);
-		CHECK(nizwarf_reply(&slot, &wrong[i], &call, &answer, &room, 1, &told) ==
-		      NIZWARF_WRONG_SIZE);
+		CHECK(nizwarf_ask(&slot, &wrong[i], &piece, 1, &room, 1, &none, &told) == NIZWARF_WRONG_SIZE);
+		CHECK(nizwarf_reply(&slot, &wrong[i], &call, &answer, &room, 1, &told) == NIZWARF_WRONG_SIZE);
 		CHECK(!told.len && !told.put);
 	}
 	CHECK(nizwarf_end_slot(NULL) == NIZWARF_NULL);

@@ -38,13 +38,15 @@ static const nizwarf_item items[] = {
 /* The request of a number, and what will be answered. */
 static void make(struct work *work, uint32_t number)
 {
-	static const uint32_t opcodes[] = { FUSE_GETATTR, FUSE_LOOKUP, FUSE_READ, FUSE_OPEN,
-					    FUSE_STATFS, FUSE_READLINK, FUSE_READDIR, FUSE_FORGET,
-					    FUSE_INTERRUPT, 9999, FUSE_WRITE };
+	static const uint32_t opcodes[] = { FUSE_GETATTR,   FUSE_LOOKUP,   FUSE_READ,	 FUSE_OPEN,
+					    FUSE_STATFS,    FUSE_READLINK, FUSE_READDIR, FUSE_FORGET,
+					    FUSE_INTERRUPT, 9999,	   FUSE_WRITE };
 	static const uint32_t lengths[] = { 56, 45, 80, 48, 40, 40, 80, 48, 48, 40, 100 };
 	const uint32_t kind = number % (sizeof(opcodes) / sizeof(*opcodes));
-	const struct fuse_in_header header = { .len = lengths[kind], .opcode = opcodes[kind],
-					       .unique = number + 1, .nodeid = number + 2,
+	const struct fuse_in_header header = { .len = lengths[kind],
+					       .opcode = opcodes[kind],
+					       .unique = number + 1,
+					       .nodeid = number + 2,
 					       .pid = number };
 	const struct fuse_read_in read = { .offset = number, .size = 900 };
 
@@ -82,8 +84,7 @@ static void answer(nizwarf_slot *slot, struct work *work)
 	while (!atomic_load_explicit(&work->is_asked, memory_order_acquire))
 		sched_yield();
 	if (work->code == NIZWARF_ASKED)
-		work->code = nizwarf_reply(slot, &session, &work->call, &work->answer, rooms, 2,
-					   &work->told);
+		work->code = nizwarf_reply(slot, &session, &work->call, &work->answer, rooms, 2, &work->told);
 }
 
 /* Asks the requests of its own, and answers those of the next thread some time later. */
@@ -132,7 +133,7 @@ int main(void)
 		}
 		replies += works[i].told.len > 0;
 	}
-	printf("%d requests on %d threads, each answered on another than asked it: %zu replies.\n",
-	       ALL, THREADS, replies);
+	printf("%d requests on %d threads, each answered on another than asked it: %zu replies.\n", ALL,
+	       THREADS, replies);
 	return 0;
 }

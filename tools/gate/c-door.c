@@ -71,8 +71,8 @@ static void read_statfs(nizwarf_answer *answer, const uint8_t *body)
 	struct fuse_kstatfs out;
 
 	memcpy(&out, body, sizeof(out));
-	answer->statfs = (nizwarf_statfs){ out.bsize, out.frsize, out.blocks, out.bfree,
-					   out.bavail, out.files, out.ffree, out.namelen };
+	answer->statfs = (nizwarf_statfs){ out.bsize,  out.frsize, out.blocks, out.bfree,
+					   out.bavail, out.files,  out.ffree,  out.namelen };
 }
 
 /* The answer that a call had, out of the reply to it. */
@@ -209,8 +209,7 @@ static void change_bytes(size_t len)
 		const uint8_t old = request[at];
 		uint32_t opcode;
 
-		request[at] = (uint8_t)(i & 1 ? random_number() :
-						old ^ 1u << (random_number() & 7));
+		request[at] = (uint8_t)(i & 1 ? random_number() : old ^ 1u << (random_number() & 7));
 		opcode = u32(request + 4);
 		if (opcode != NIZWARF_INIT && opcode != NIZWARF_DESTROY)
 			compare(request_len, 0);
@@ -242,7 +241,9 @@ static void try_forms(void)
 /* INIT with these options offered. */
 static void agree(uint64_t options)
 {
-	const struct fuse_init_in record = { .major = 7, .minor = 38, .max_readahead = 131072,
+	const struct fuse_init_in record = { .major = 7,
+					     .minor = 38,
+					     .max_readahead = 131072,
 					     .flags = (uint32_t)options | FUSE_INIT_EXT,
 					     .flags2 = (uint32_t)(options >> 32) };
 
@@ -309,14 +310,16 @@ static void try_file(uint64_t node, uint64_t handle)
 	struct fuse_write_in write = { .fh = handle, .size = sizeof(data), .flags = 2 };
 	struct fuse_read_in read = { .fh = handle, .size = 2000, .offset = 4000 };
 	struct fuse_getattr_in getattr = { 0 };
-	struct fuse_setattr_in setattr = { .valid = FATTR_MODE | FATTR_SIZE | FATTR_FH |
-						    FATTR_MTIME,
-					   .fh = handle, .size = 5000, .mode = 0600, .mtime = 9 };
+	struct fuse_setattr_in setattr = { .valid = FATTR_MODE | FATTR_SIZE | FATTR_FH | FATTR_MTIME,
+					   .fh = handle,
+					   .size = 5000,
+					   .mode = 0600,
+					   .mtime = 9 };
 	const struct fuse_lseek_in lseek = { .fh = handle, .offset = 1, .whence = 3 };
 	const struct fuse_fallocate_in allocate = { .fh = handle, .length = 8192 };
-	const struct fuse_copy_file_range_in copy = { .fh_in = handle, .nodeid_out = node,
-						      .fh_out = handle, .off_out = 5000,
-						      .len = 50 };
+	const struct fuse_copy_file_range_in copy = {
+		.fh_in = handle, .nodeid_out = node, .fh_out = handle, .off_out = 5000, .len = 50
+	};
 
 	begin_with(NIZWARF_WRITE, node, &write, sizeof(write));
 	add(data, sizeof(data));
@@ -345,8 +348,7 @@ static void try_syncs(uint64_t node, uint64_t handle)
 	const struct fuse_flush_in flush = { .fh = handle, .lock_owner = 3 };
 	const struct fuse_fsync_in sync = { .fh = handle, .fsync_flags = 1 };
 	const struct fuse_access_in access = { .mask = 4 };
-	const struct fuse_release_in release = { .fh = handle, .release_flags = 3,
-						 .lock_owner = 5 };
+	const struct fuse_release_in release = { .fh = handle, .release_flags = 3, .lock_owner = 5 };
 
 	begin_with(NIZWARF_FLUSH, node, &flush, sizeof(flush));
 	try_forms();
@@ -479,10 +481,22 @@ static void try_names(uint64_t node)
 /* Requests that tell nothing, are no opcode, or have no reply. */
 static void try_others(uint64_t node)
 {
-	static const uint32_t untold[] = { NIZWARF_GETLK, NIZWARF_SETLK, NIZWARF_SETLKW,
-					   NIZWARF_BMAP, NIZWARF_IOCTL, NIZWARF_POLL,
-					   NIZWARF_NOTIFY_REPLY, NIZWARF_TMPFILE, NIZWARF_STATFS,
-					   SETUPMAPPING, REMOVEMAPPING, 0, 7, 19, 52, 4096 };
+	static const uint32_t untold[] = { NIZWARF_GETLK,
+					   NIZWARF_SETLK,
+					   NIZWARF_SETLKW,
+					   NIZWARF_BMAP,
+					   NIZWARF_IOCTL,
+					   NIZWARF_POLL,
+					   NIZWARF_NOTIFY_REPLY,
+					   NIZWARF_TMPFILE,
+					   NIZWARF_STATFS,
+					   SETUPMAPPING,
+					   REMOVEMAPPING,
+					   0,
+					   7,
+					   19,
+					   52,
+					   4096 };
 	const struct fuse_open_in open = { 0 };
 	const struct fuse_interrupt_in interrupt = { 1234 };
 	const uint64_t one = 1, pairs[] = { 9999, 1, 9998, 2, node, 1 };
@@ -508,8 +522,11 @@ static void try_others(uint64_t node)
 /* All requests, with a largest payload, and with these options offered. */
 static void try_all(uint32_t max_buffer, uint64_t options)
 {
-	static const nizwarf_settings settings = { .seconds = 100, .nanoseconds = 5, .nodes = 4096,
-						   .bytes = 1 << 24, .file = 1 << 22,
+	static const nizwarf_settings settings = { .seconds = 100,
+						   .nanoseconds = 5,
+						   .nodes = 4096,
+						   .bytes = 1 << 24,
+						   .file = 1 << 22,
 						   .mode = 0755 };
 	uint64_t node, handle;
 
@@ -552,8 +569,9 @@ static void read_request(const char *text, size_t *cut)
  * bytes. */
 static long try_recorded(const char *path)
 {
-	static const nizwarf_settings settings = { .seconds = 100, .nodes = 4096, .bytes = 1 << 24,
-						   .file = 1 << 22, .mode = 0755 };
+	static const nizwarf_settings settings = {
+		.seconds = 100, .nodes = 4096, .bytes = 1 << 24, .file = 1 << 22, .mode = 0755
+	};
 	static char line[1 << 19];
 	FILE *lines = fopen(path, "r");
 	long count = 0;

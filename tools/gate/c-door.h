@@ -9,13 +9,13 @@
 
 enum { ROOM = 1 << 20, FILL = 0xaa };
 
-#define CHECK(fact)                                                                               \
-	do {                                                                                      \
-		if (!(fact)) {                                                                    \
-			fprintf(stderr, "%s, line %d: not %s (opcode %u, length %zu)\n", __FILE__, \
-				__LINE__, #fact, (unsigned)u32(request + 4), request_len);        \
-			exit(1);                                                                  \
-		}                                                                                 \
+#define CHECK(fact)                                                                                          \
+	do {                                                                                                 \
+		if (!(fact)) {                                                                               \
+			fprintf(stderr, "%s, line %d: not %s (opcode %u, length %zu)\n", __FILE__, __LINE__, \
+				#fact, (unsigned)u32(request + 4), request_len);                             \
+			exit(1);                                                                             \
+		}                                                                                            \
 	} while (0)
 
 static nizwarf_server server = NIZWARF_NONE;
@@ -29,8 +29,9 @@ static uint64_t unique;
 
 static inline void begin(uint32_t opcode, uint64_t node)
 {
-	const struct fuse_in_header header = { .opcode = opcode, .unique = ++unique, .nodeid = node,
-					       .uid = 1000, .gid = 1001, .pid = 77 };
+	const struct fuse_in_header header = {
+		.opcode = opcode, .unique = ++unique, .nodeid = node, .uid = 1000, .gid = 1001, .pid = 77
+	};
 
 	memcpy(request, &header, sizeof(header));
 	request_len = sizeof(header);
@@ -60,14 +61,13 @@ static inline void begin_with(uint32_t opcode, uint64_t node, const void *record
 /* Whether an entry was answered. */
 static inline int has_entry(const nizwarf_call *call, const nizwarf_answer *answer)
 {
-	return !answer->error &&
-	       (call->answer == NIZWARF_ENTRY || call->answer == NIZWARF_CREATED);
+	return !answer->error && (call->answer == NIZWARF_ENTRY || call->answer == NIZWARF_CREATED);
 }
 
 /* Asks, and holds what comes of it against the rules, and against the server where it is
  * finished. */
 static inline int32_t ask(const nizwarf_segment *pieces, size_t count, size_t len, size_t space,
-		   nizwarf_call *call, nizwarf_told *told)
+			  nizwarf_call *call, nizwarf_told *told)
 {
 	static const nizwarf_call none;
 	const size_t first = space / 3;
@@ -101,11 +101,10 @@ static inline int32_t ask(const nizwarf_segment *pieces, size_t count, size_t le
 
 /* Answers what was asked, in a room of three pieces. */
 static inline int32_t reply(const nizwarf_call *call, const nizwarf_answer *answer, size_t cut,
-		     nizwarf_told *told)
+			    nizwarf_told *told)
 {
 	const size_t first = cut < call->room ? cut : call->room;
-	const nizwarf_room rooms[] = { { ours, first }, { ours, 0 },
-				       { ours + first, call->room - first } };
+	const nizwarf_room rooms[] = { { ours, first }, { ours, 0 }, { ours + first, call->room - first } };
 
 	memset(told, 1, sizeof(*told));
 	return nizwarf_reply(&slot, &session, call, answer, rooms, 3, told);

@@ -12,13 +12,13 @@
 #include "c-allocations.h"
 #include "nizwarf.h"
 
-#define CHECK(fact)                                                                       \
-	do {                                                                              \
-		if (!(fact)) {                                                            \
-			fprintf(stderr, "c-example.c, line %d: not %s (allocation %ld)\n", \
-				__LINE__, #fact, refused);                                \
-			exit(1);                                                          \
-		}                                                                         \
+#define CHECK(fact)                                                                                         \
+	do {                                                                                                \
+		if (!(fact)) {                                                                              \
+			fprintf(stderr, "c-example.c, line %d: not %s (allocation %ld)\n", __LINE__, #fact, \
+				refused);                                                                   \
+			exit(1);                                                                            \
+		}                                                                                           \
 	} while (0)
 
 static struct {
@@ -31,7 +31,8 @@ static struct {
 	struct fuse_mkdir_in body;
 	char name[2];
 } make = { .header = { .len = 50, .opcode = FUSE_MKDIR, .unique = 4, .nodeid = 1 },
-	   .body = { .mode = 0755 }, .name = "a" };
+	   .body = { .mode = 0755 },
+	   .name = "a" };
 static struct {
 	struct fuse_in_header header;
 	char name[2];
@@ -92,7 +93,8 @@ static void session(void)
 	CHECK(ask(&server, &getattr, 56, 0, 8192, &len) == NIZWARF_OK && len == 120 && header->unique == 3);
 	CHECK(((struct fuse_attr_out *)(reply + 16))->attr.mtime == 7);
 	CHECK(ask(&server, &lookup, 41, 5, 144, &len) == NIZWARF_OK && len == 144 && header->error == 0);
-	CHECK(ask(&server, &getattr, 50, 6, 1 << 16, &len) == NIZWARF_OK && len == 120 && header->unique == 3);
+	CHECK(ask(&server, &getattr, 50, 6, 1 << 16, &len) == NIZWARF_OK && len == 120 &&
+	      header->unique == 3);
 	CHECK(ask(&server, &lookup, 40, 0, 20, &len) == NIZWARF_ENCODE_MESSAGE && len == 0);
 	CHECK(header->len == 144 && reply[16] == 2 && reply[20] == 0xaa);
 	CHECK(ask(&server, &getattr, 39, 1, 120, &len) == NIZWARF_OK && len == 120);
@@ -130,7 +132,8 @@ static void takes(void)
 	const void *at = &whole;
 	size_t len = 1, more;
 
-	CHECK(nizwarf_message_take(&server, &whole, 1, 80, &one, &at, &len) == NIZWARF_NO_SERVER && !at && !len);
+	CHECK(nizwarf_message_take(&server, &whole, 1, 80, &one, &at, &len) == NIZWARF_NO_SERVER && !at &&
+	      !len);
 	CHECK(nizwarf_message_take(&server, &whole, 1, 80, NULL, &at, &len) == NIZWARF_NULL);
 	CHECK(nizwarf_message_take(&server, &whole, 1, 80, &one, NULL, &len) == NIZWARF_NULL);
 	CHECK(nizwarf_message_take(&server, NULL, 1, 80, &one, &at, &len) == NIZWARF_NULL);
@@ -140,7 +143,8 @@ static void takes(void)
 	CHECK(take(&server, &init, 80, &one, &first, &len) == NIZWARF_OK && len == 80 && first->len == 80);
 	CHECK(take(&server, &lookup, 144, &other, &second, &more) == NIZWARF_OK && more == 16);
 	CHECK(second->error == -ENOENT && second->unique == 2);
-	CHECK(first->len == 80 && first->unique == 1 && ((const struct fuse_init_out *)(first + 1))->major == 7);
+	CHECK(first->len == 80 && first->unique == 1 &&
+	      ((const struct fuse_init_out *)(first + 1))->major == 7);
 	CHECK(take(&server, &lookup, 15, &other, &second, &more) == NIZWARF_ENCODE_MESSAGE && !second);
 	CHECK(take(&server, &forget, 0, &other, &second, &more) == NIZWARF_OK && !second);
 	CHECK(take(&server, &lookup, 4096, &other, &second, &more) == NIZWARF_OK && more == 16);
@@ -182,24 +186,32 @@ static void codes(void)
 	CHECK(nizwarf_message(&server, huge, 3, NULL, 0, &len) == NIZWARF_TOO_LONG && len == 0);
 	CHECK(nizwarf_message(&server, NULL, 0, NULL, 0, &len) == NIZWARF_DECODE_MESSAGE);
 	memset(reply, 0xaa, sizeof(reply));
-	CHECK(nizwarf_message(&server, &whole, 1, &small, 1, &len) == NIZWARF_ENCODE_MESSAGE && reply[0] == 0xaa);
-	CHECK(nizwarf_message(&server, &whole, 1, &ample, 1, &len) == NIZWARF_OK && len == 80 && large[0] == 80);
+	CHECK(nizwarf_message(&server, &whole, 1, &small, 1, &len) == NIZWARF_ENCODE_MESSAGE &&
+	      reply[0] == 0xaa);
+	CHECK(nizwarf_message(&server, &whole, 1, &ample, 1, &len) == NIZWARF_OK && len == 80 &&
+	      large[0] == 80);
 	CHECK(nizwarf_end(&server) == NIZWARF_OK && live == 0);
 }
 
 /* A file system of one node, made at a time, with an owner and permission bits. */
 static void settings(void)
 {
-	const nizwarf_settings set = { .seconds = 5, .nanoseconds = 6, .nodes = 1, .bytes = 4096, .file = 512,
-				       .uid = 7, .gid = 8, .mode = 01711 };
+	const nizwarf_settings set = { .seconds = 5,
+				       .nanoseconds = 6,
+				       .nodes = 1,
+				       .bytes = 4096,
+				       .file = 512,
+				       .uid = 7,
+				       .gid = 8,
+				       .mode = 01711 };
 	const nizwarf_settings defaults = NIZWARF_SETTINGS;
 	const struct fuse_out_header *header = (struct fuse_out_header *)reply;
 	const struct fuse_attr *attr = &((struct fuse_attr_out *)(reply + 16))->attr;
 	nizwarf_server server = NIZWARF_NONE;
 	size_t len;
 
-	CHECK(sizeof(set) == 56 && defaults.flags == 0 && defaults.nodes == 1 << 20 && defaults.bytes == UINT64_C(4) << 30 &&
-	      defaults.file == INT64_MAX && defaults.mode == 0755);
+	CHECK(sizeof(set) == 56 && defaults.flags == 0 && defaults.nodes == 1 << 20 &&
+	      defaults.bytes == UINT64_C(4) << 30 && defaults.file == INT64_MAX && defaults.mode == 0755);
 	CHECK(nizwarf_new(&server, 4096, 4096, &set) == NIZWARF_OK);
 	getattr.header.nodeid = 1;
 	CHECK(ask(&server, &getattr, 40, 0, 120, &len) == NIZWARF_OK && len == 120 && header->error == 0);

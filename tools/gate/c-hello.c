@@ -14,12 +14,12 @@
 #include <sys/wait.h>
 #include <unistd.h>
 
-#define CHECK(fact)                                                                      \
-	do {                                                                             \
-		if (!(fact)) {                                                           \
+#define CHECK(fact)                                                                       \
+	do {                                                                              \
+		if (!(fact)) {                                                            \
 			fprintf(stderr, "c-hello.c, line %d: not %s\n", __LINE__, #fact); \
-			_exit(1);                                                        \
-		}                                                                        \
+			_exit(1);                                                         \
+		}                                                                         \
 	} while (0)
 
 static const char text[] = "Hello, world!\n";
@@ -37,8 +37,10 @@ static size_t ask(uint32_t opcode, uint64_t node, const void *record, size_t len
 	struct {
 		struct fuse_in_header header;
 		uint8_t body[256];
-	} request = { .header = { .len = (uint32_t)(sizeof(request.header) + len), .opcode = opcode,
-				  .unique = ++unique, .nodeid = node } };
+	} request = { .header = { .len = (uint32_t)(sizeof(request.header) + len),
+				  .opcode = opcode,
+				  .unique = ++unique,
+				  .nodeid = node } };
 	ssize_t got;
 
 	memcpy(request.body, record, len);

@@ -24,14 +24,14 @@ enum { ROOT = 1, FILE_ = 2, LINK = 3, BAD = 4, WORKERS = 3, TOO_LONG = 5000, NO_
 static char folder[] = "/tmp/c-mounted-XXXXXX";
 
 /* What is checked in the client unmounts where it is wrong, or the server would wait for ever. */
-#define CHECK(fact)                                                                         \
-	do {                                                                                \
-		if (!(fact)) {                                                              \
+#define CHECK(fact)                                                                             \
+	do {                                                                                    \
+		if (!(fact)) {                                                                  \
 			fprintf(stderr, "c-mounted.c, line %d: not %s (%s)\n", __LINE__, #fact, \
-				strerror(errno));                                           \
-			umount2(folder, MNT_DETACH);                                        \
-			_exit(1);                                                           \
-		}                                                                           \
+				strerror(errno));                                               \
+			umount2(folder, MNT_DETACH);                                            \
+			_exit(1);                                                               \
+		}                                                                               \
 	} while (0)
 
 /* ---- the file system */
@@ -110,8 +110,8 @@ static int on_readlink(const nizwarf_req *req, uint64_t ino, char *link, size_t 
 	return 0;
 }
 
-static int on_read(const nizwarf_req *req, uint64_t ino, size_t size, uint64_t off, const nizwarf_file_info *fi,
-		   void *buf, size_t *len)
+static int on_read(const nizwarf_req *req, uint64_t ino, size_t size, uint64_t off,
+		   const nizwarf_file_info *fi, void *buf, size_t *len)
 {
 	const size_t left = off < content_len ? content_len - (size_t)off : 0;
 
@@ -156,9 +156,16 @@ static void on_destroy(const nizwarf_req *req)
 }
 
 static const nizwarf_ops ops = {
-	.lookup = on_lookup, .getattr = on_getattr, .setattr = on_setattr, .readlink = on_readlink,
-	.read = on_read, .write = on_write, .getxattr = on_getxattr, .listxattr = on_listxattr,
-	.destroy = on_destroy, .interrupt = on_interrupt,
+	.lookup = on_lookup,
+	.getattr = on_getattr,
+	.setattr = on_setattr,
+	.readlink = on_readlink,
+	.read = on_read,
+	.write = on_write,
+	.getxattr = on_getxattr,
+	.listxattr = on_listxattr,
+	.destroy = on_destroy,
+	.interrupt = on_interrupt,
 };
 static nizwarf_session session = { 0, 4096, TRANSPORT_PAYLOAD };
 

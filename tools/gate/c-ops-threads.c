@@ -37,8 +37,9 @@ static const nizwarf_ops ops = { .lookup = look_up, .interrupt = interrupt };
 
 static void serve(nizwarf_slot *slot, uint32_t opcode, const void *record, size_t len)
 {
-	const struct fuse_in_header header = { .len = (uint32_t)(sizeof(header) + len), .opcode = opcode,
-					       .unique = 2, .nodeid = FUSE_ROOT_ID };
+	const struct fuse_in_header header = {
+		.len = (uint32_t)(sizeof(header) + len), .opcode = opcode, .unique = 2, .nodeid = FUSE_ROOT_ID
+	};
 	uint8_t request[128], room[ROOM];
 	size_t reply_len;
 

@@ -49,8 +49,9 @@ static int entry(nizwarf_entry_param *e)
 {
 	const nizwarf_attr attr = { .ino = 50, .mode = 0100644 };
 
-	*e = (nizwarf_entry_param){ .ino = 5, .generation = 6, .attr = attr,
-				    .attr_timeout = { 1, 2 }, .entry_timeout = { 3, 4 } };
+	*e = (nizwarf_entry_param){
+		.ino = 5, .generation = 6, .attr = attr, .attr_timeout = { 1, 2 }, .entry_timeout = { 3, 4 }
+	};
 	return failure;
 }
 
@@ -246,8 +247,7 @@ static int note_access(REQ, uint32_t mask)
 	return say("access %u %u", INO, mask);
 }
 
-static int note_create(REQ, const char *name, uint32_t mode, nizwarf_file_info *fi,
-		       nizwarf_entry_param *e)
+static int note_create(REQ, const char *name, uint32_t mode, nizwarf_file_info *fi, nizwarf_entry_param *e)
 {
 	say("create %u %s %o %x", INO, name, mode, fi->flags);
 	fi->fh = 14;
@@ -285,12 +285,13 @@ static void note_interrupt(void *user, uint64_t unique)
 }
 
 static const nizwarf_ops ops = {
-	note_init, note_destroy, note_lookup, note_forget, note_getattr, note_setattr,
-	note_readlink, note_mknod, note_mkdir, note_unlink, note_rmdir, note_symlink, note_rename,
-	note_link, note_open, note_read, note_write, note_flush, note_release, note_fsync,
-	note_opendir, note_readdir, note_readdirplus, note_releasedir, note_fsyncdir, note_statfs,
-	note_setxattr, note_getxattr, note_listxattr, note_removexattr, note_access, note_create,
-	note_fallocate, note_lseek, note_copy, note_syncfs, note_interrupt,
+	note_init,	note_destroy, note_lookup,    note_forget,   note_getattr,     note_setattr,
+	note_readlink,	note_mknod,   note_mkdir,     note_unlink,   note_rmdir,       note_symlink,
+	note_rename,	note_link,    note_open,      note_read,     note_write,       note_flush,
+	note_release,	note_fsync,   note_opendir,   note_readdir,  note_readdirplus, note_releasedir,
+	note_fsyncdir,	note_statfs,  note_setxattr,  note_getxattr, note_listxattr,   note_removexattr,
+	note_access,	note_create,  note_fallocate, note_lseek,    note_copy,	       note_syncfs,
+	note_interrupt,
 };
 static const nizwarf_ops no_ops;
 static const nizwarf_ops *table = &ops;
@@ -306,8 +307,8 @@ static void expect(const char *words, size_t len)
 
 	said[0] = 0;
 	memset(ours, FILL, space);
-	CHECK(nizwarf_serve_ops(table, said, &slot, &session, request, request_len, ours, space,
-				items, most, &reply_len) == NIZWARF_OK);
+	CHECK(nizwarf_serve_ops(table, said, &slot, &session, request, request_len, ours, space, items, most,
+				&reply_len) == NIZWARF_OK);
 	if (strcmp(said, words) || reply_len != len)
 		fprintf(stderr, "%s, and %zu bytes\n", said, reply_len);
 	CHECK(!strcmp(said, words) && reply_len == len);
@@ -329,8 +330,9 @@ static void expect_record(uint32_t opcode, const void *record, size_t record_len
 /* The replies of the functions that answer more than that it was done. */
 static void answers(void)
 {
-	const struct fuse_setattr_in set = { .valid = FATTR_MODE | FATTR_FH | FATTR_LOCKOWNER,
-					     .fh = 3, .mode = 0644, .lock_owner = 5 };
+	const struct fuse_setattr_in set = {
+		.valid = FATTR_MODE | FATTR_FH | FATTR_LOCKOWNER, .fh = 3, .mode = 0644, .lock_owner = 5
+	};
 	const uint32_t zeros[4] = { 0 }, sizes[] = { 100, 0 }, handle[] = { 1, 0, 7, 0 };
 	const uint32_t open[] = { 2, 0 }, create[] = { 1, 0600, 0, 0 };
 	const uint32_t mknod[] = { 0644, 9, 022, 0 };
@@ -436,25 +438,21 @@ static void directories(void)
 	CHECK(u64(ours + 16) == 5 && !u64(ours + 176) && u64(ours + 336) == 6 && !u64(ours + 496));
 	CHECK(ours[168] == 'a' && ours[328] == '.' && ours[488] == 'b' && ours[648] == 'c');
 	most = 2;
-	expect_record(READDIRPLUS, &read, 40, NULL, NULL, "readdirplus 2 6 4 forget 6 1 2",
-		      16 + 2 * 160);
+	expect_record(READDIRPLUS, &read, 40, NULL, NULL, "readdirplus 2 6 4 forget 6 1 2", 16 + 2 * 160);
 	/* (where there is no room for an item, a directory isn't an empty one) */
 	most = 0;
 	expect_record(READDIRPLUS, &read, 40, NULL, NULL, "", 16);
 	CHECK(u32(ours + 4) == (uint32_t)-EIO);
 	most = 8;
 	read.size = 2 * 160 + 159;
-	expect_record(READDIRPLUS, &read, 40, NULL, NULL, "readdirplus 2 6 4 forget 6 1 2",
-		      16 + 2 * 160);
+	expect_record(READDIRPLUS, &read, 40, NULL, NULL, "readdirplus 2 6 4 forget 6 1 2", 16 + 2 * 160);
 	/* (the room is as long as `size`, and the header takes 16 bytes of it) */
 	read.size = space = 2 * 160;
-	expect_record(READDIRPLUS, &read, 40, NULL, NULL,
-		      "readdirplus 2 6 4 forget 6 1 1", 16 + 160);
+	expect_record(READDIRPLUS, &read, 40, NULL, NULL, "readdirplus 2 6 4 forget 6 1 1", 16 + 160);
 	read.size = 4096;
 	space = 8192;
 	failure = EDOM;
-	expect_record(READDIRPLUS, &read, 40, NULL, NULL,
-		      "readdirplus 2 6 4 4 forget 5 1 forget 6 1", 16);
+	expect_record(READDIRPLUS, &read, 40, NULL, NULL, "readdirplus 2 6 4 4 forget 5 1 forget 6 1", 16);
 	failure = 0;
 }
 
@@ -467,8 +465,8 @@ static void entries_that_do_not_fit(void)
 	add_name("a");
 	for (space = 0; space < 144; space++) {
 		said[0] = 0;
-		CHECK(nizwarf_serve_ops(&ops, said, &slot, &session, request, request_len, ours,
-					space, NULL, 0, &len) == NIZWARF_ENCODE_MESSAGE);
+		CHECK(nizwarf_serve_ops(&ops, said, &slot, &session, request, request_len, ours, space, NULL,
+					0, &len) == NIZWARF_ENCODE_MESSAGE);
 		CHECK(!len && !strcmp(said, "lookup 2 a forget 5 1"));
 	}
 	failure = ENOENT;
@@ -485,8 +483,8 @@ static void expect_unfit(const char *words, size_t least)
 
 	for (space = 0; space < least; space++) {
 		said[0] = 0;
-		CHECK(nizwarf_serve_ops(table, said, &slot, &session, request, request_len, ours,
-					space, NULL, 0, &len) == NIZWARF_ENCODE_MESSAGE);
+		CHECK(nizwarf_serve_ops(table, said, &slot, &session, request, request_len, ours, space, NULL,
+					0, &len) == NIZWARF_ENCODE_MESSAGE);
 		if (strcmp(said, words))
 			fprintf(stderr, "%s\n", said);
 		CHECK(!len && !strcmp(said, words));
@@ -523,7 +521,8 @@ static void handles_that_do_not_fit(void)
  * there. */
 static void sessions(const char *begins, const char *ends, uint32_t wanted)
 {
-	const struct fuse_init_in init = { .major = 7, .minor = 38,
+	const struct fuse_init_in init = { .major = 7,
+					   .minor = 38,
 					   .flags = FUSE_DO_READDIRPLUS | FUSE_READDIRPLUS_AUTO |
 						    FUSE_WRITEBACK_CACHE };
 
@@ -536,13 +535,15 @@ static void sessions(const char *begins, const char *ends, uint32_t wanted)
 /* INIT with these options offered: just these are agreed on, and told. */
 static void expect_options(uint64_t offered, uint64_t agreed)
 {
-	const struct fuse_init_in init = { .major = 7, .minor = 38, .flags = (uint32_t)offered,
-					   .flags2 = (uint32_t)(offered >> 32) };
+	const struct fuse_init_in init = {
+		.major = 7, .minor = 38, .flags = (uint32_t)offered, .flags2 = (uint32_t)(offered >> 32)
+	};
 	size_t len;
 
 	begin_with(NIZWARF_INIT, 0, &init, sizeof(init));
-	CHECK(nizwarf_serve_ops(table, said, &slot, &session, request, request_len, ours, space, NULL,
-				0, &len) == NIZWARF_OK && len == 80 && !u32(ours + 4));
+	CHECK(nizwarf_serve_ops(table, said, &slot, &session, request, request_len, ours, space, NULL, 0,
+				&len) == NIZWARF_OK &&
+	      len == 80 && !u32(ours + 4));
 	CHECK(session.options == agreed);
 	CHECK(u32(ours + 28) == (uint32_t)agreed && u32(ours + 48) == agreed >> 32);
 }
@@ -615,10 +616,10 @@ static void wrong_answers(void)
 	const uint32_t sizes[] = { 100, 0 };
 	size_t i;
 
-#define EXPECT_FAULT(number, opcode, record, size, name, other, words)          \
-	do {                                                                    \
-		expect_record(opcode, record, size, name, other, words, 16);    \
-		CHECK(u32(ours + 4) == (uint32_t)-(number));                    \
+#define EXPECT_FAULT(number, opcode, record, size, name, other, words)       \
+	do {                                                                 \
+		expect_record(opcode, record, size, name, other, words, 16); \
+		CHECK(u32(ours + 4) == (uint32_t) - (number));               \
 	} while (0)
 	excess = 1;
 	EXPECT_FAULT(EIO, NIZWARF_READLINK, &read, 0, NULL, NULL, "readlink 2 4095");
@@ -656,8 +657,8 @@ static void expect_undone(uint32_t opcode, const void *record, size_t record_len
 
 		session.options = FUSE_BIG_WRITES;
 		asked = said[0] = 0;
-		code = nizwarf_serve_ops(&ops, said, &fresh, &session, request, request_len, ours, space, NULL,
-					 0, &len);
+		code = nizwarf_serve_ops(&ops, said, &fresh, &session, request, request_len, ours, space,
+					 NULL, 0, &len);
 		CHECK(code == NIZWARF_OK || (code == NIZWARF_OUT_OF_MEMORY && !len));
 		CHECK(code == NIZWARF_OK || !said[0] || !strcmp(said, words));
 		CHECK((opcode != NIZWARF_DESTROY || !said[0]) == (session.options == FUSE_BIG_WRITES));
@@ -690,14 +691,14 @@ static void overlaps(void)
 	for (at = 0; at <= 200 - request_len; at++) {
 		memcpy(both + at, request, request_len);
 		said[0] = 0;
-		CHECK(nizwarf_serve_ops(&ops, said, &slot, &session, both + at, request_len, both + 50,
-					144, NULL, 0, &len) ==
-		      (at + request_len > 50 ? NIZWARF_NOT_ASKED : NIZWARF_OK));
+		CHECK(nizwarf_serve_ops(&ops, said, &slot, &session, both + at, request_len, both + 50, 144,
+					NULL, 0,
+					&len) == (at + request_len > 50 ? NIZWARF_NOT_ASKED : NIZWARF_OK));
 		CHECK(!said[0] == (at + request_len > 50));
 	}
 	memcpy(both + 194, request, request_len);
-	CHECK(nizwarf_serve_ops(&ops, said, &slot, &session, both + 194, request_len, both + 50, 144, NULL,
-				0, &len) == NIZWARF_OK);
+	CHECK(nizwarf_serve_ops(&ops, said, &slot, &session, both + 194, request_len, both + 50, 144, NULL, 0,
+				&len) == NIZWARF_OK);
 }
 
 /* Times, and what stat(2) and statvfs(3) tell. */
@@ -705,12 +706,27 @@ static void conversions(void)
 {
 	const nizwarf_entry_param before = { .attr_timeout = { -1, 5 }, .entry_timeout = { 3, -1 } };
 	const nizwarf_entry entry = nizwarf_entry_of(&before);
-	const struct stat st = { .st_ino = 1, .st_size = 2, .st_blocks = 3, .st_mode = S_IFREG | 0640,
-				 .st_nlink = 4, .st_uid = 5, .st_gid = 6, .st_rdev = 7, .st_blksize = 8,
-				 .st_atim = { -9, 10 }, .st_mtim = { 11, 12 }, .st_ctim = { 13, 14 } };
+	const struct stat st = { .st_ino = 1,
+				 .st_size = 2,
+				 .st_blocks = 3,
+				 .st_mode = S_IFREG | 0640,
+				 .st_nlink = 4,
+				 .st_uid = 5,
+				 .st_gid = 6,
+				 .st_rdev = 7,
+				 .st_blksize = 8,
+				 .st_atim = { -9, 10 },
+				 .st_mtim = { 11, 12 },
+				 .st_ctim = { 13, 14 } };
 	const nizwarf_attr attr = { 1, 2, 3, (uint64_t)-9, 11, 13, 10, 12, 14, 0100640, 4, 5, 6, 7, 8, 0 };
-	const struct statvfs fs = { .f_bsize = 1, .f_frsize = 2, .f_blocks = 3, .f_bfree = 4, .f_bavail = 5,
-				    .f_files = 6, .f_ffree = 7, .f_namemax = 8 };
+	const struct statvfs fs = { .f_bsize = 1,
+				    .f_frsize = 2,
+				    .f_blocks = 3,
+				    .f_bfree = 4,
+				    .f_bavail = 5,
+				    .f_files = 6,
+				    .f_ffree = 7,
+				    .f_namemax = 8 };
 	const nizwarf_statfs held = { 1, 2, 3, 4, 5, 6, 7, 8 };
 	const nizwarf_attr got = nizwarf_attr_of(&st);
 	const nizwarf_statfs holds = nizwarf_statfs_of(&fs);
@@ -728,17 +744,16 @@ static void conversions(void)
 /* What is answered for functions that are not there. */
 static void empty_table(void)
 {
-	static const uint32_t refused[] = { NIZWARF_GETATTR, NIZWARF_SETATTR, NIZWARF_READLINK,
-					    NIZWARF_READ, NIZWARF_WRITE, NIZWARF_FSYNC,
-					    NIZWARF_LISTXATTR, NIZWARF_FLUSH, NIZWARF_READDIR,
-					    READDIRPLUS, NIZWARF_FSYNCDIR, NIZWARF_GETLK,
-					    NIZWARF_ACCESS, NIZWARF_BMAP, NIZWARF_IOCTL,
-					    NIZWARF_POLL, NIZWARF_FALLOCATE, NIZWARF_LSEEK,
-					    NIZWARF_COPY, NIZWARF_SYNCFS, NIZWARF_TMPFILE };
-	static const uint32_t named[] = { NIZWARF_LOOKUP, NIZWARF_UNLINK, NIZWARF_RMDIR,
-					  NIZWARF_LINK, NIZWARF_MKNOD, NIZWARF_MKDIR,
-					  NIZWARF_CREATE, NIZWARF_REMOVEXATTR,
-					  NIZWARF_GETXATTR };
+	static const uint32_t refused[] = { NIZWARF_GETATTR,   NIZWARF_SETATTR,	  NIZWARF_READLINK,
+					    NIZWARF_READ,      NIZWARF_WRITE,	  NIZWARF_FSYNC,
+					    NIZWARF_LISTXATTR, NIZWARF_FLUSH,	  NIZWARF_READDIR,
+					    READDIRPLUS,       NIZWARF_FSYNCDIR,  NIZWARF_GETLK,
+					    NIZWARF_ACCESS,    NIZWARF_BMAP,	  NIZWARF_IOCTL,
+					    NIZWARF_POLL,      NIZWARF_FALLOCATE, NIZWARF_LSEEK,
+					    NIZWARF_COPY,      NIZWARF_SYNCFS,	  NIZWARF_TMPFILE };
+	static const uint32_t named[] = { NIZWARF_LOOKUP, NIZWARF_UNLINK,      NIZWARF_RMDIR,
+					  NIZWARF_LINK,	  NIZWARF_MKNOD,       NIZWARF_MKDIR,
+					  NIZWARF_CREATE, NIZWARF_REMOVEXATTR, NIZWARF_GETXATTR };
 	static const uint32_t served[] = { NIZWARF_OPEN, NIZWARF_OPENDIR, NIZWARF_RELEASE,
 					   NIZWARF_RELEASEDIR };
 	static const uint8_t zeros[88];
@@ -757,8 +772,7 @@ static void empty_table(void)
 	expect_record(NIZWARF_RENAME, zeros, 8, "a", "b", "", 16);
 	CHECK(u32(ours + 4) == (uint32_t)-ENOSYS);
 	for (i = 0; i < 4; i++) {
-		expect_record(served[i], zeros, forms[served[i]].record, NULL, NULL, "",
-			      i < 2 ? 32 : 16);
+		expect_record(served[i], zeros, forms[served[i]].record, NULL, NULL, "", i < 2 ? 32 : 16);
 		CHECK(!u32(ours + 4));
 	}
 	expect_record(NIZWARF_STATFS, zeros, 0, NULL, NULL, "", 96);

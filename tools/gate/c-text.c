@@ -13,13 +13,13 @@
 #include "c-allocations.h"
 #include "nizwarf.h"
 
-#define CHECK(fact)                                                                            \
-	do {                                                                                   \
-		if (!(fact)) {                                                                 \
-			fprintf(stderr, "c-text.c, line %d: not %s (request %lu, %zu bytes)\n", \
-				__LINE__, #fact, requests, length);                            \
-			exit(1);                                                               \
-		}                                                                              \
+#define CHECK(fact)                                                                                       \
+	do {                                                                                              \
+		if (!(fact)) {                                                                            \
+			fprintf(stderr, "c-text.c, line %d: not %s (request %lu, %zu bytes)\n", __LINE__, \
+				#fact, requests, length);                                                 \
+			exit(1);                                                                          \
+		}                                                                                         \
 	} while (0)
 
 enum { MOST = 1 << 16 };
@@ -141,16 +141,20 @@ static size_t read_request(const char *line, unsigned char *request)
 static void hold_examples(void)
 {
 	static const char line[] = "LOOKUP unique=3 node=1 uid=0 gid=0 pid=77 name=\"a\\x1b\"";
-	const struct fuse_in_header header = { .len = 43, .opcode = FUSE_LOOKUP, .unique = 3, .nodeid = 1, .pid = 77 };
+	const struct fuse_in_header header = {
+		.len = 43, .opcode = FUSE_LOOKUP, .unique = 3, .nodeid = 1, .pid = 77
+	};
 	const struct fuse_out_header refused = { .len = 16, .error = -2, .unique = 3 };
 	unsigned char request[43];
 	char text[100];
 
 	memcpy(request, &header, sizeof(header));
 	memcpy(request + 40, "a\x1b", 3);
-	CHECK(nizwarf_print_request(request, 43, 0, text, sizeof(text)) == strlen(line) && !strcmp(text, line));
+	CHECK(nizwarf_print_request(request, 43, 0, text, sizeof(text)) == strlen(line) &&
+	      !strcmp(text, line));
 	CHECK(nizwarf_print_request(request, 43, 0, text, 7) == strlen(line) && !strcmp(text, "LOOKUP"));
-	CHECK(nizwarf_print_request(NULL, 0, 0, text, sizeof(text)) == 21 && !strcmp(text, "refused=DecodeMessage"));
+	CHECK(nizwarf_print_request(NULL, 0, 0, text, sizeof(text)) == 21 &&
+	      !strcmp(text, "refused=DecodeMessage"));
 	nizwarf_print_reply(request, 43, &refused, sizeof(refused), text, sizeof(text));
 	CHECK(!strcmp(text, "-> unique=3 error=ENOENT (2)"));
 	nizwarf_print_reply(request, 43, NULL, 0, text, sizeof(text));

@@ -1,9 +1,9 @@
 #!/usr/bin/env bash
-# Holds the sources of nizwarf-share, nizwarf-mount and nizwarf-vhost, in examples/c, against clang-tidy and
-# cppcheck: what they find is printed.
+# Holds all C against .clang-format, if clang-format is there, and the sources of nizwarf-share, nizwarf-mount and
+# nizwarf-vhost, in examples/c, against clang-tidy and cppcheck: what they find is printed.
 #
 # Usage: tools/gate/lint.sh
-# It wants clang-tidy and cppcheck, and libseccomp-dev for the sandbox of share.c.
+# It wants clang-tidy and cppcheck, and libseccomp-dev for the sandbox of share.c. `clang-format -i FILE` formats.
 # Status 0: nothing is found; 1: something is; 2: a program is missing.
 set -euo pipefail
 . "$(dirname "$0")/../lib/usage.sh"
@@ -11,6 +11,12 @@ set -euo pipefail
 take_none "$@"
 need clang-tidy "Install it: apt-get install clang-tidy."
 need cppcheck "Install it: apt-get install cppcheck."
+
+if command -v clang-format > /dev/null; then
+    git -C "$here" ls-files -z '*.c' '*.h' | (cd "$here" && xargs -0 clang-format --dry-run --Werror)
+else
+    echo "Missing: clang-format, so the format is not looked at: apt-get install clang-format." >&2
+fi
 
 # Left out: names that the C library asks for, as _GNU_SOURCE; arguments of one type beside each other; calls of
 # the C library that only the last words before an end make; and what a kernel's style has otherwise.

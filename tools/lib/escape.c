@@ -32,9 +32,12 @@ static void walk(int directory, const char *from)
 	static const struct {
 		const char *path;
 		int flags;
-	} wanted[] = { { "../../sys/kernel/core_pattern", O_WRONLY }, { "../../1/cmdline", O_RDONLY },
-		       { "../../mounts", O_RDONLY }, { "../../../etc/shadow", O_RDWR },
-		       { "../../../../../../etc/passwd", O_RDONLY }, { "/etc/passwd", O_RDONLY },
+	} wanted[] = { { "../../sys/kernel/core_pattern", O_WRONLY },
+		       { "../../1/cmdline", O_RDONLY },
+		       { "../../mounts", O_RDONLY },
+		       { "../../../etc/shadow", O_RDWR },
+		       { "../../../../../../etc/passwd", O_RDONLY },
+		       { "/etc/passwd", O_RDONLY },
 		       { "/proc/1/cmdline", O_RDONLY } };
 	struct stat own, parent;
 
@@ -83,8 +86,8 @@ int main(int count, char **given)
 	const struct id_map own = { .count = 0 };
 	const struct outside outside = { .socket_path = NULL };
 	struct file_handle *handle = calloc(1, sizeof(*handle) + MAX_HANDLE_SZ);
-	const enum sandbox sandbox = count == 5 && !strcmp(given[1], "chroot") ? SANDBOX_CHROOT :
-										 SANDBOX_NAMESPACE;
+	const enum sandbox sandbox =
+		count == 5 && !strcmp(given[1], "chroot") ? SANDBOX_CHROOT : SANDBOX_NAMESPACE;
 	const enum calls_filter filter = count == 5 && !strcmp(given[2], "kill") ? FILTER_KILL : FILTER_NONE;
 	int root, proc, id;
 	bool no_devices;

@@ -39,7 +39,8 @@ int main(void)
 	for (uint64_t device = OWN; device < OWN + DEVICES; device++)
 		for (int i = 0; i < FILES; i++) {
 			told[count++] = numbers_tell(all, device, inodes[i]);
-			hold(device != OWN || told[i] == inodes[i], "a number of the folder's own file system");
+			hold(device != OWN || told[i] == inodes[i],
+			     "a number of the folder's own file system");
 			hold(told[count - 1] << 16 == inodes[i] << 16, "the lower bits of a number");
 		}
 	/* The upper bits of another device's are the folder's own: they are told apart all the same. */
@@ -49,8 +50,10 @@ int main(void)
 	/* More upper bits than there are: numbers are mixed from some on. */
 	for (uint64_t i = 0; i < HIGH; i++)
 		told[count++] = numbers_tell(all, 1000 + (i >> 16), i << 48 | 2);
-	hold(numbers_tell(all, OWN, UINT64_C(5) << 48 | 9) == first && numbers_tell(all, OWN + 1, 1) == told[FILES] &&
-		     numbers_tell(all, 1000 + (HIGH >> 16), (uint64_t)(HIGH - 1) << 48 | 2) == told[count - 1],
+	hold(numbers_tell(all, OWN, UINT64_C(5) << 48 | 9) == first &&
+		     numbers_tell(all, OWN + 1, 1) == told[FILES] &&
+		     numbers_tell(all, 1000 + (HIGH >> 16), (uint64_t)(HIGH - 1) << 48 | 2) ==
+			     told[count - 1],
 	     "a number that stays");
 	qsort(told, count, sizeof(*told), by_number);
 	for (size_t i = 1; i < count; i++)

@@ -15,7 +15,7 @@
 
 enum { MEBIBYTE = 1 << 20, ITEMS = 100, RUNS = 500 };
 
-static const char *const classes[] = { "none",	    "getattr",	 "lookup",  "read-4k",	  "write-4k",
+static const char *const classes[] = { "none",	  "getattr",  "lookup",	 "read-4k",    "write-4k",
 				       "read-1m", "write-1m", "readdir", "readdirplus" };
 
 static unsigned char request[MEBIBYTE + 4096], room[MEBIBYTE + 4096];
@@ -76,8 +76,11 @@ static size_t make(const char *class, nizwarf_answer *answer)
 		return 16 + bytes;
 	}
 	for (i = 0; i < ITEMS; i++)
-		items[i] = (nizwarf_item){ .ino = i + 3, .offset = i + 1, .type = 8,
-					   .name = (const uint8_t *)name, .name_size = sizeof(name),
+		items[i] = (nizwarf_item){ .ino = i + 3,
+					   .offset = i + 1,
+					   .type = 8,
+					   .name = (const uint8_t *)name,
+					   .name_size = sizeof(name),
 					   .entry = answer->entry };
 	answer->items = items;
 	answer->items_len = ITEMS;

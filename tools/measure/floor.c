@@ -86,7 +86,7 @@ int32_t __wrap_nizwarf_take_at(nizwarf_server *server, nizwarf_taken *taken, niz
 {
 	if (!now)
 		return __real_nizwarf_take_at(server, taken, place);
-	*place = (nizwarf_place) { now->reply, 0, now->len };
+	*place = (nizwarf_place){ now->reply, 0, now->len };
 	now = NULL;
 	return NIZWARF_OK;
 }

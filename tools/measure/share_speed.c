@@ -213,18 +213,12 @@ static const struct {
 	const char *name;
 	void (*before)(void), (*act)(void);
 } classes[] = {
-	{ "stat", make_few, stat_files },
-	{ "stat-missing", make_nothing, stat_missing },
-	{ "open-close", make_few, open_files },
-	{ "create-unlink", make_nothing, create_and_unlink },
-	{ "readdir", make_many, read_names },
-	{ "ls-l", make_many, read_attributes },
-	{ "write-1m", make_nothing, write_large },
-	{ "overwrite-1m", make_large, write_large },
-	{ "read-1m", make_large, read_large },
-	{ "write-4k", make_large, write_blocks },
-	{ "read-4k", make_large, read_blocks },
-	{ "names-100k", make_nothing, list_and_remove },
+	{ "stat", make_few, stat_files },	   { "stat-missing", make_nothing, stat_missing },
+	{ "open-close", make_few, open_files },	   { "create-unlink", make_nothing, create_and_unlink },
+	{ "readdir", make_many, read_names },	   { "ls-l", make_many, read_attributes },
+	{ "write-1m", make_nothing, write_large }, { "overwrite-1m", make_large, write_large },
+	{ "read-1m", make_large, read_large },	   { "write-4k", make_large, write_blocks },
+	{ "read-4k", make_large, read_blocks },	   { "names-100k", make_nothing, list_and_remove },
 	{ "run", make_nothing, run_command },
 };
 

@@ -14,8 +14,8 @@
 #include <string.h>
 #include <time.h>
 
-uint64_t nizwarf_batch(const uint8_t *requests, size_t requests_len, uint8_t *replies,
-		       size_t replies_len, uint32_t rounds, uint32_t cutting);
+uint64_t nizwarf_batch(const uint8_t *requests, size_t requests_len, uint8_t *replies, size_t replies_len,
+		       uint32_t rounds, uint32_t cutting);
 uint64_t nizwarf_probe(uint32_t kind, uint32_t count, uint32_t piece, uint32_t rounds);
 
 /* Allocations, counted while `counting`: the linker puts these in the places of the C library's. */
@@ -96,8 +96,8 @@ static void put_data(struct bytes *b, size_t n)
 }
 
 /* One request of a batch: the length of its room, its own, and its bytes, InHeader first. */
-static void put_request(struct bytes *batch, uint32_t room, uint32_t opcode, uint64_t unique,
-			uint64_t node, const struct bytes *body)
+static void put_request(struct bytes *batch, uint32_t room, uint32_t opcode, uint64_t unique, uint64_t node,
+			const struct bytes *body)
 {
 	uint32_t len = 40 + (uint32_t)body->len;
 
@@ -208,8 +208,8 @@ static void put_write(struct bytes *batch, uint64_t unique, uint64_t offset, uin
 	put_request(batch, 24, 16, unique, 2, &body);
 }
 
-static void put_read(struct bytes *batch, uint32_t opcode, uint64_t unique, uint64_t node,
-		     uint64_t offset, uint32_t size)
+static void put_read(struct bytes *batch, uint32_t opcode, uint64_t unique, uint64_t node, uint64_t offset,
+		     uint32_t size)
 {
 	struct bytes body = { 0 };
 
@@ -333,7 +333,8 @@ static uint32_t put_setup(struct bytes *batch, enum setup setup)
 
 enum { MEM, NONE };
 
-struct class {
+struct class
+{
 	const char *name;
 	uint32_t files; /* MEM: files in memory; NONE: a file system that does next to nothing */
 	enum setup setup;
@@ -455,8 +456,8 @@ static uint64_t perform(const struct work *work, uint32_t rounds)
 {
 	if (!work->batch)
 		return nizwarf_probe(work->kind, work->count, work->piece, rounds);
-	return nizwarf_batch(work->batch->at, work->batch->len, work->replies, work->replies_len,
-			     rounds, work->cutting);
+	return nizwarf_batch(work->batch->at, work->batch->len, work->replies, work->replies_len, rounds,
+			     work->cutting);
 }
 
 static double took(const struct work *work, uint32_t rounds)
@@ -549,8 +550,8 @@ static int measure_class(const struct class *class)
 				digest = got;
 			if (got != digest || got == 0) {
 				printf("%s, %s: the digest after %u rounds is %016llx, not %016llx\n",
-				       class->name, cuttings[cutting], rounds,
-				       (unsigned long long)got, (unsigned long long)digest);
+				       class->name, cuttings[cutting], rounds, (unsigned long long)got,
+				       (unsigned long long)digest);
 				return 1;
 			}
 		}

@@ -26,8 +26,9 @@ static double now(void)
  * that it took. */
 static double ask(uint32_t opcode, uint64_t node, const void *behind, size_t size, size_t count)
 {
-	struct fuse_in_header header = { .len = (uint32_t)(sizeof(header) + size), .opcode = opcode,
-					 .unique = 1, .nodeid = node };
+	struct fuse_in_header header = {
+		.len = (uint32_t)(sizeof(header) + size), .opcode = opcode, .unique = 1, .nodeid = node
+	};
 	const nizwarf_room room = { reply, sizeof(reply) };
 	double start;
 	size_t len;

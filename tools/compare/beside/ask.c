@@ -59,7 +59,8 @@ static uint16_t add(uint16_t n, uint64_t at, size_t len, uint16_t flags)
 {
 	const uint16_t next = (uint16_t)(n + 1);
 
-	descriptors()[n] = (struct vring_desc) { at, (uint32_t)len, (uint16_t)(flags | VRING_DESC_F_NEXT), next };
+	descriptors()[n] =
+		(struct vring_desc){ at, (uint32_t)len, (uint16_t)(flags | VRING_DESC_F_NEXT), next };
 	return next;
 }
 

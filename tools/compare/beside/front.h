@@ -69,7 +69,8 @@ static inline uint64_t ask_number(uint32_t request)
 
 	tell(request, "", 0, -1);
 	need(recv(connection, head, sizeof(head), MSG_WAITALL) == sizeof(head) && head[2] == sizeof(number) &&
-	     recv(connection, &number, sizeof(number), MSG_WAITALL) == sizeof(number), "an answer");
+		     recv(connection, &number, sizeof(number), MSG_WAITALL) == sizeof(number),
+	     "an answer");
 	return number;
 }
 

@@ -159,9 +159,8 @@ static void on_forget_multi(fuse_req_t req, size_t count, struct fuse_forget_dat
 	fuse_reply_none(req);
 }
 
-static void on_ioctl(fuse_req_t req, fuse_ino_t ino, unsigned int cmd, void *arg,
-		     struct fuse_file_info *fi, unsigned flags, const void *in, size_t in_size,
-		     size_t out_size)
+static void on_ioctl(fuse_req_t req, fuse_ino_t ino, unsigned int cmd, void *arg, struct fuse_file_info *fi,
+		     unsigned flags, const void *in, size_t in_size, size_t out_size)
 {
 	(void)ino, (void)cmd, (void)arg, (void)fi, (void)flags, (void)out_size;
 	see(in, in_size);
@@ -169,12 +168,28 @@ static void on_ioctl(fuse_req_t req, fuse_ino_t ino, unsigned int cmd, void *arg
 }
 
 static const struct fuse_lowlevel_ops ops = {
-	.getattr = on_getattr, .setattr = on_setattr, .lookup = on_lookup, .mkdir = on_mkdir,
-	.mknod = on_mknod, .create = on_create, .symlink = on_symlink, .unlink = on_name,
-	.rmdir = on_name, .removexattr = on_name, .rename = on_rename, .link = on_link,
-	.open = on_open, .read = on_read, .readdir = on_read, .readdirplus = on_read,
-	.write = on_write, .setxattr = on_setxattr, .getxattr = on_getxattr,
-	.forget = on_forget, .forget_multi = on_forget_multi, .ioctl = on_ioctl,
+	.getattr = on_getattr,
+	.setattr = on_setattr,
+	.lookup = on_lookup,
+	.mkdir = on_mkdir,
+	.mknod = on_mknod,
+	.create = on_create,
+	.symlink = on_symlink,
+	.unlink = on_name,
+	.rmdir = on_name,
+	.removexattr = on_name,
+	.rename = on_rename,
+	.link = on_link,
+	.open = on_open,
+	.read = on_read,
+	.readdir = on_read,
+	.readdirplus = on_read,
+	.write = on_write,
+	.setxattr = on_setxattr,
+	.getxattr = on_getxattr,
+	.forget = on_forget,
+	.forget_multi = on_forget_multi,
+	.ioctl = on_ioctl,
 };
 
 static ssize_t take(int fd, void *at, size_t size, void *user)

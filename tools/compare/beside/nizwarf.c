@@ -33,8 +33,8 @@ static int see_name(const char *name)
 	return EROFS;
 }
 
-static int on_getattr(const nizwarf_req *req, uint64_t ino, const nizwarf_file_info *fi,
-		      nizwarf_attr *attr, struct timespec *attr_timeout)
+static int on_getattr(const nizwarf_req *req, uint64_t ino, const nizwarf_file_info *fi, nizwarf_attr *attr,
+		      struct timespec *attr_timeout)
 {
 	(void)req, (void)ino, (void)fi, (void)attr_timeout;
 	attr->ino = 1;
@@ -43,17 +43,15 @@ static int on_getattr(const nizwarf_req *req, uint64_t ino, const nizwarf_file_i
 	return 0;
 }
 
-static int on_setattr(const nizwarf_req *req, uint64_t ino, const nizwarf_setattr *set,
-		      uint32_t to_set, const nizwarf_file_info *fi,
-		      nizwarf_attr *attr, struct timespec *attr_timeout)
+static int on_setattr(const nizwarf_req *req, uint64_t ino, const nizwarf_setattr *set, uint32_t to_set,
+		      const nizwarf_file_info *fi, nizwarf_attr *attr, struct timespec *attr_timeout)
 {
 	(void)to_set;
 	see(set, sizeof(*set));
 	return on_getattr(req, ino, fi, attr, attr_timeout);
 }
 
-static int on_lookup(const nizwarf_req *req, uint64_t parent, const char *name,
-		     nizwarf_entry_param *e)
+static int on_lookup(const nizwarf_req *req, uint64_t parent, const char *name, nizwarf_entry_param *e)
 {
 	(void)req, (void)parent, (void)e;
 	see_name(name);
@@ -73,8 +71,8 @@ static int on_mkdir(const nizwarf_req *req, uint64_t parent, const char *name, u
 	return see_name(name);
 }
 
-static int on_mknod(const nizwarf_req *req, uint64_t parent, const char *name, uint32_t mode,
-		    uint32_t rdev, nizwarf_entry_param *e)
+static int on_mknod(const nizwarf_req *req, uint64_t parent, const char *name, uint32_t mode, uint32_t rdev,
+		    nizwarf_entry_param *e)
 {
 	(void)rdev;
 	return on_mkdir(req, parent, name, mode, e);
@@ -94,8 +92,8 @@ static int on_symlink(const nizwarf_req *req, const char *link, uint64_t parent,
 	return on_mkdir(req, parent, name, 0, e);
 }
 
-static int on_rename(const nizwarf_req *req, uint64_t parent, const char *name,
-		     uint64_t newparent, const char *newname, uint32_t flags)
+static int on_rename(const nizwarf_req *req, uint64_t parent, const char *name, uint64_t newparent,
+		     const char *newname, uint32_t flags)
 {
 	(void)req, (void)parent, (void)newparent, (void)flags;
 	see_name(newname);
@@ -116,15 +114,15 @@ static int on_read(const nizwarf_req *req, uint64_t ino, size_t size, uint64_t o
 	return 0;
 }
 
-static int on_readdir(const nizwarf_req *req, uint64_t ino, uint64_t off,
-		      const nizwarf_file_info *fi, nizwarf_dir *dir)
+static int on_readdir(const nizwarf_req *req, uint64_t ino, uint64_t off, const nizwarf_file_info *fi,
+		      nizwarf_dir *dir)
 {
 	(void)req, (void)ino, (void)off, (void)fi, (void)dir;
 	return 0;
 }
 
-static int on_write(const nizwarf_req *req, uint64_t ino, const void *buf, size_t size,
-		    uint64_t off, const nizwarf_file_info *fi, size_t *len)
+static int on_write(const nizwarf_req *req, uint64_t ino, const void *buf, size_t size, uint64_t off,
+		    const nizwarf_file_info *fi, size_t *len)
 {
 	(void)req, (void)ino, (void)off, (void)fi;
 	see(buf, size);
@@ -132,16 +130,16 @@ static int on_write(const nizwarf_req *req, uint64_t ino, const void *buf, size_
 	return 0;
 }
 
-static int on_setxattr(const nizwarf_req *req, uint64_t ino, const char *name, const void *value,
-		       size_t size, uint32_t flags)
+static int on_setxattr(const nizwarf_req *req, uint64_t ino, const char *name, const void *value, size_t size,
+		       uint32_t flags)
 {
 	(void)req, (void)ino, (void)flags;
 	see(value, size);
 	return see_name(name);
 }
 
-static int on_getxattr(const nizwarf_req *req, uint64_t ino, const char *name, size_t size,
-		       void *value, size_t *len)
+static int on_getxattr(const nizwarf_req *req, uint64_t ino, const char *name, size_t size, void *value,
+		       size_t *len)
 {
 	(void)req, (void)ino, (void)size, (void)value, (void)len;
 	see_name(name);
@@ -155,18 +153,33 @@ static void on_forget(const nizwarf_req *req, uint64_t ino, uint64_t nlookup)
 }
 
 static const nizwarf_ops ops = {
-	.getattr = on_getattr, .setattr = on_setattr, .lookup = on_lookup, .mkdir = on_mkdir,
-	.mknod = on_mknod, .create = on_create, .symlink = on_symlink, .unlink = on_name,
-	.rmdir = on_name, .removexattr = on_name, .rename = on_rename, .link = on_link,
-	.read = on_read, .readdir = on_readdir, .readdirplus = on_readdir, .write = on_write,
-	.setxattr = on_setxattr, .getxattr = on_getxattr, .forget = on_forget,
+	.getattr = on_getattr,
+	.setattr = on_setattr,
+	.lookup = on_lookup,
+	.mkdir = on_mkdir,
+	.mknod = on_mknod,
+	.create = on_create,
+	.symlink = on_symlink,
+	.unlink = on_name,
+	.rmdir = on_name,
+	.removexattr = on_name,
+	.rename = on_rename,
+	.link = on_link,
+	.read = on_read,
+	.readdir = on_readdir,
+	.readdirplus = on_readdir,
+	.write = on_write,
+	.setxattr = on_setxattr,
+	.getxattr = on_getxattr,
+	.forget = on_forget,
 };
 
 /* The end of LONGEST bytes behind which nothing can be read. */
 static unsigned char *fenced(void)
 {
 	const size_t page = (size_t)sysconf(_SC_PAGESIZE), size = (LONGEST + page - 1) / page * page;
-	unsigned char *at = mmap(NULL, size + page, PROT_READ | PROT_WRITE, MAP_PRIVATE | MAP_ANONYMOUS, -1, 0);
+	unsigned char *at =
+		mmap(NULL, size + page, PROT_READ | PROT_WRITE, MAP_PRIVATE | MAP_ANONYMOUS, -1, 0);
 
 	if (at == MAP_FAILED || mprotect(at + size, page, PROT_NONE)) {
 		perror("nizwarf: memory");
@@ -211,8 +224,8 @@ int main(int count, char **words)
 		size_t len = 0;
 
 		memcpy(request, taken, (size_t)got);
-		if (nizwarf_serve_ops(&ops, NULL, &slot, &session, request, (size_t)got, room, LONGEST,
-				      items, 1, &len) != NIZWARF_OK)
+		if (nizwarf_serve_ops(&ops, NULL, &slot, &session, request, (size_t)got, room, LONGEST, items,
+				      1, &len) != NIZWARF_OK)
 			len = refuse(request, (size_t)got, room);
 		if (len && send(fd, room, len, MSG_NOSIGNAL) < 0)
 			return perror("nizwarf: send"), 1;

@@ -18,8 +18,18 @@
 #include <poll.h>
 
 enum { ENTRIES = 64, DEPTH = 32, PAGE = 4096, FILE_SIZE = 32 << 20, ROOM = 256 << 10 };
-enum { LOOKUP = 1, GETATTR = 3, OPEN = 14, READ = 15, WRITE = 16, INIT = 26, OPENDIR = 27, READDIR = 28,
-       READDIRPLUS = 44, UNKNOWN = 99 };
+enum {
+	LOOKUP = 1,
+	GETATTR = 3,
+	OPEN = 14,
+	READ = 15,
+	WRITE = 16,
+	INIT = 26,
+	OPENDIR = 27,
+	READDIR = 28,
+	READDIRPLUS = 44,
+	UNKNOWN = 99
+};
 enum { IN_HEADER = 40, OUT_HEADER = 16, DATA = 1 << 20 };
 #define INDIRECT (1ull << VIRTIO_RING_F_INDIRECT_DESC)
 #define EVENT_IDX (1ull << VIRTIO_RING_F_EVENT_IDX)
@@ -60,8 +70,9 @@ static void add(struct place *to, uint32_t *n, const void *at, size_t len, uint1
 	const uint64_t guest = (uint64_t)((const unsigned char *)at - memory);
 
 	if (len) {
-		to->table[*n] = (struct vring_desc) { guest, (uint32_t)len, (uint16_t)(flags | VRING_DESC_F_NEXT),
-						      (uint16_t)(*n + 1) };
+		to->table[*n] =
+			(struct vring_desc){ guest, (uint32_t)len, (uint16_t)(flags | VRING_DESC_F_NEXT),
+					     (uint16_t)(*n + 1) };
 		++*n;
 	}
 }
@@ -93,8 +104,8 @@ static void put(unsigned i, const struct request *r)
 	add(to, &n, to->answered + OUT_HEADER, r->reply_len, VRING_DESC_F_WRITE);
 	add_pages(to, &n, r->data_len - sent, VRING_DESC_F_WRITE);
 	to->table[n - 1].flags &= (uint16_t)~VRING_DESC_F_NEXT;
-	descriptors()[i] = (struct vring_desc) { (uint64_t)((unsigned char *)to - memory),
-						 n * (uint32_t)sizeof(*to->table), VRING_DESC_F_INDIRECT, 0 };
+	descriptors()[i] = (struct vring_desc){ (uint64_t)((unsigned char *)to - memory),
+						n * (uint32_t)sizeof(*to->table), VRING_DESC_F_INDIRECT, 0 };
 }
 
 /* Makes the request of a slot one of its own: its number, and of data where they lie in the file. */
@@ -124,10 +135,12 @@ static void kick_it(uint16_t old)
 	const uint64_t one = 1;
 
 	__atomic_thread_fence(__ATOMIC_SEQ_CST);
-	const uint16_t event = __atomic_load_n((const uint16_t *)(const void *)&used->ring[ENTRIES], __ATOMIC_RELAXED);
-	const int wanted = features & EVENT_IDX
-		? vring_need_event(event, available->idx, old)
-		: !(__atomic_load_n(&used->flags, __ATOMIC_RELAXED) & VRING_USED_F_NO_NOTIFY);
+	const uint16_t event =
+		__atomic_load_n((const uint16_t *)(const void *)&used->ring[ENTRIES], __ATOMIC_RELAXED);
+	const int wanted =
+		features & EVENT_IDX ?
+			vring_need_event(event, available->idx, old) :
+			!(__atomic_load_n(&used->flags, __ATOMIC_RELAXED) & VRING_USED_F_NO_NOTIFY);
 
 	if (wanted)
 		need(write(kick[1], &one, sizeof(one)) == sizeof(one), "kick");
@@ -219,23 +232,25 @@ static struct request request_of(const char *class, struct transfer *record)
 	static const unsigned char zeros[16];
 	const int large = strstr(class, "1m") != NULL;
 
-	*record = (struct transfer) { .handle = file_handle, .size = large ? 1 << 20 : PAGE };
+	*record = (struct transfer){ .handle = file_handle, .size = large ? 1 << 20 : PAGE };
 	if (!strcmp(class, "unknown"))
-		return (struct request) { UNKNOWN, 1, zeros, sizeof(zeros), 0, 0, -38 };
+		return (struct request){ UNKNOWN, 1, zeros, sizeof(zeros), 0, 0, -38 };
 	if (!strcmp(class, "getattr"))
-		return (struct request) { GETATTR, 1, zeros, sizeof(zeros), 104, 0, 0 };
+		return (struct request){ GETATTR, 1, zeros, sizeof(zeros), 104, 0, 0 };
 	if (!strcmp(class, "lookup"))
-		return (struct request) { LOOKUP, 1, "file", 5, 128, 0, 0 };
+		return (struct request){ LOOKUP, 1, "file", 5, 128, 0, 0 };
 	if (!strncmp(class, "read-", 5))
-		return (struct request) { READ, file_node, record, sizeof(*record), 0, record->size, 0 };
+		return (struct request){ READ, file_node, record, sizeof(*record), 0, record->size, 0 };
 	if (!strncmp(class, "write-", 6))
-		return (struct request) { WRITE, file_node, record, sizeof(*record), 8, record->size, 0 };
+		return (struct request){ WRITE, file_node, record, sizeof(*record), 8, record->size, 0 };
 	if (strncmp(class, "readdir", 7)) {
 		fprintf(stderr, "There is no class %s: %s.\n", class, CLASSES);
 		exit(3);
 	}
-	*record = (struct transfer) { .handle = names_handle, .size = ROOM };
-	return (struct request) { class[7] ? READDIRPLUS : READDIR, names_node, record, sizeof(*record), 0, ROOM, 0 };
+	*record = (struct transfer){ .handle = names_handle, .size = ROOM };
+	return (struct request){
+		class[7] ? READDIRPLUS : READDIR, names_node, record, sizeof(*record), 0, ROOM, 0
+	};
 }
 
 /* The nanoseconds that the threads of a process ran. */
