@@ -1,6 +1,7 @@
 #!/usr/bin/env bash
-# Holds all C against .clang-format, if clang-format is there, and the sources of nizwarf-share, nizwarf-mount and
-# nizwarf-vhost, in examples/c, against clang-tidy and cppcheck: what they find is printed.
+# Holds all C against .clang-format and all Rust against rustfmt.toml, if their programs are there, and the
+# sources of nizwarf-share, nizwarf-mount and nizwarf-vhost, in examples/c, against clang-tidy and cppcheck: what
+# they find is printed.
 #
 # Usage: tools/gate/lint.sh
 # It wants clang-tidy and cppcheck, and libseccomp-dev for the sandbox of share.c. `clang-format -i FILE` formats.
@@ -12,10 +13,19 @@ take_none "$@"
 need clang-tidy "Install it: apt-get install clang-tidy."
 need cppcheck "Install it: apt-get install cppcheck."
 
+cd "$here"
 if command -v clang-format > /dev/null; then
-    git -C "$here" ls-files -z '*.c' '*.h' | (cd "$here" && xargs -0 clang-format --dry-run --Werror)
+    git ls-files -z '*.c' '*.h' | xargs -0 clang-format --dry-run --Werror
 else
     echo "Missing: clang-format, so the format is not looked at: apt-get install clang-format." >&2
+fi
+if command -v rustfmt > /dev/null; then
+    # (a file at a time: some stand beside what is not here)
+    while IFS= read -r file; do
+        rustfmt --check < "$file" || { echo "$file: \`rustfmt < $file\` has its format." >&2 && exit 1; }
+    done < <(git ls-files '*.rs')
+else
+    echo "Missing: rustfmt, so the format of Rust is not looked at: apt-get install rustfmt." >&2
 fi
 
 # Left out: names that the C library asks for, as _GNU_SOURCE; arguments of one type beside each other; calls of

@@ -100,13 +100,24 @@ fn code(e: &Error) -> u32 {
 /// replies of the wrong form are answered by 0.
 pub fn run(requests: &[u8], replies: &mut [u8], rounds: u32, cutting: u32) -> u64 {
     match Batch::parse(requests) {
-        Some(b) if b.room <= replies.len() && b.fs == MEM => drive(MemFs::default(), &b, requests, replies, rounds, cutting),
-        Some(b) if b.room <= replies.len() && b.fs == NULL => drive(NullFs, &b, requests, replies, rounds, cutting),
+        Some(b) if b.room <= replies.len() && b.fs == MEM => {
+            drive(MemFs::default(), &b, requests, replies, rounds, cutting)
+        }
+        Some(b) if b.room <= replies.len() && b.fs == NULL => {
+            drive(NullFs, &b, requests, replies, rounds, cutting)
+        }
         _ => 0,
     }
 }
 
-fn drive<F: FileSystem + Sync>(fs: F, b: &Batch, requests: &[u8], replies: &mut [u8], rounds: u32, cutting: u32) -> u64 {
+fn drive<F: FileSystem + Sync>(
+    fs: F,
+    b: &Batch,
+    requests: &[u8],
+    replies: &mut [u8],
+    rounds: u32,
+    cutting: u32,
+) -> u64 {
     // one region of guest memory with all requests, and one with all rooms
     let rooms = GuestAddress(1 << 32);
     let mem = Memory::from_ranges(&[(GuestAddress(0), requests.len()), (rooms, b.room)]).unwrap();

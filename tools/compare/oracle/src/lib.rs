@@ -2,7 +2,13 @@
 //!
 //! `build.sh` puts these four beside this file. All else is written by hand: what they take from elsewhere
 //! in virtiofsd, the file systems that they are run over, and the requests.
-#![allow(dead_code, unused_imports, unused_variables, non_camel_case_types, mismatched_lifetime_syntaxes)]
+#![allow(
+    dead_code,
+    unused_imports,
+    unused_variables,
+    non_camel_case_types,
+    mismatched_lifetime_syntaxes
+)]
 
 // Log lines are left out, but for the check of their arguments.
 macro_rules! debug { ($($t:tt)*) => { if false { let _ = format!($($t)*); } } }
@@ -53,7 +59,11 @@ pub mod file_traits {
     use std::io;
     use vm_memory::{bitmap::BitmapSlice, VolatileSlice};
     pub trait FileReadWriteAtVolatile<B: BitmapSlice> {
-        fn read_vectored_at_volatile(&self, bufs: &[&VolatileSlice<B>], off: u64) -> io::Result<usize>;
+        fn read_vectored_at_volatile(
+            &self,
+            bufs: &[&VolatileSlice<B>],
+            off: u64,
+        ) -> io::Result<usize>;
         fn write_vectored_at_volatile(
             &self,
             bufs: &[&VolatileSlice<B>],

@@ -46,7 +46,13 @@ fn attr(n: Option<&Node>) -> Attr {
 }
 fn entry(n: &Node) -> Entry {
     let inode = n.node;
-    Entry { inode, generation: 0, attr: attr(Some(n)), attr_timeout: second(), entry_timeout: second() }
+    Entry {
+        inode,
+        generation: 0,
+        attr: attr(Some(n)),
+        attr_timeout: second(),
+        entry_timeout: second(),
+    }
 }
 
 impl MemFs {
@@ -162,7 +168,14 @@ impl FileSystem for MemFs {
     ) -> io::Result<usize> {
         r.write_to_file_at(&self.file(inode)?, size as usize, offset, None)
     }
-    fn readdir(&self, _ctx: Context, inode: u64, _h: u64, _size: u32, offset: u64) -> io::Result<Items> {
+    fn readdir(
+        &self,
+        _ctx: Context,
+        inode: u64,
+        _h: u64,
+        _size: u32,
+        offset: u64,
+    ) -> io::Result<Items> {
         if inode != 1 {
             return os(libc::ENOTDIR);
         }

@@ -90,7 +90,12 @@ impl<F: FileSystem<Inode = u64, Handle = u64>> FileSystem for Noted<F> {
         self.notes.add(format!("call batch_forget {} requests={}", c(ctx), list.join(",")));
         self.inner.batch_forget(ctx, requests)
     }
-    fn getattr(&self, ctx: Context, inode: u64, handle: Option<u64>) -> io::Result<(Attr, Duration)> {
+    fn getattr(
+        &self,
+        ctx: Context,
+        inode: u64,
+        handle: Option<u64>,
+    ) -> io::Result<(Attr, Duration)> {
         call!(self, format!("getattr {} inode={inode} handle={}", c(ctx), o(handle));
             self.inner.getattr(ctx, inode, handle); _ => "")
     }
@@ -109,7 +114,14 @@ impl<F: FileSystem<Inode = u64, Handle = u64>> FileSystem for Noted<F> {
     fn readlink(&self, ctx: Context, inode: u64) -> io::Result<Vec<u8>> {
         call!(self, format!("readlink {} inode={inode}", c(ctx)); self.inner.readlink(ctx, inode); _ => "")
     }
-    fn symlink(&self, ctx: Context, linkname: &CStr, parent: u64, name: &CStr, x: Extensions) -> io::Result<Entry> {
+    fn symlink(
+        &self,
+        ctx: Context,
+        linkname: &CStr,
+        parent: u64,
+        name: &CStr,
+        x: Extensions,
+    ) -> io::Result<Entry> {
         call!(self, format!("symlink {} linkname={} parent={parent} name={} {}", c(ctx), s(linkname), s(name), e(&x));
             self.inner.symlink(ctx, linkname, parent, name, x); a => format!(" node={}", a.inode))
     }
@@ -126,7 +138,15 @@ impl<F: FileSystem<Inode = u64, Handle = u64>> FileSystem for Noted<F> {
         call!(self, format!("mknod {} inode={inode} name={} mode={mode} rdev={rdev} umask={umask} {}", c(ctx), s(name), e(&x));
             self.inner.mknod(ctx, inode, name, mode, rdev, umask, x); a => format!(" node={}", a.inode))
     }
-    fn mkdir(&self, ctx: Context, parent: u64, name: &CStr, mode: u32, umask: u32, x: Extensions) -> io::Result<Entry> {
+    fn mkdir(
+        &self,
+        ctx: Context,
+        parent: u64,
+        name: &CStr,
+        mode: u32,
+        umask: u32,
+        x: Extensions,
+    ) -> io::Result<Entry> {
         call!(self, format!("mkdir {} parent={parent} name={} mode={mode} umask={umask} {}", c(ctx), s(name), e(&x));
             self.inner.mkdir(ctx, parent, name, mode, umask, x); a => format!(" node={}", a.inode))
     }
@@ -136,7 +156,15 @@ impl<F: FileSystem<Inode = u64, Handle = u64>> FileSystem for Noted<F> {
     fn rmdir(&self, ctx: Context, parent: u64, name: &CStr) -> io::Result<()> {
         call!(self, format!("rmdir {} parent={parent} name={}", c(ctx), s(name)); self.inner.rmdir(ctx, parent, name); _ => "")
     }
-    fn rename(&self, ctx: Context, od: u64, on: &CStr, nd: u64, nn: &CStr, flags: u32) -> io::Result<()> {
+    fn rename(
+        &self,
+        ctx: Context,
+        od: u64,
+        on: &CStr,
+        nd: u64,
+        nn: &CStr,
+        flags: u32,
+    ) -> io::Result<()> {
         call!(self, format!("rename {} olddir={od} oldname={} newdir={nd} newname={} flags={flags}", c(ctx), s(on), s(nn));
             self.inner.rename(ctx, od, on, nd, nn, flags); _ => "")
     }
@@ -144,7 +172,13 @@ impl<F: FileSystem<Inode = u64, Handle = u64>> FileSystem for Noted<F> {
         call!(self, format!("link {} inode={inode} newparent={newparent} newname={}", c(ctx), s(newname));
             self.inner.link(ctx, inode, newparent, newname); a => format!(" node={}", a.inode))
     }
-    fn open(&self, ctx: Context, inode: u64, kill_priv: bool, flags: u32) -> io::Result<(Option<u64>, OpenOptions)> {
+    fn open(
+        &self,
+        ctx: Context,
+        inode: u64,
+        kill_priv: bool,
+        flags: u32,
+    ) -> io::Result<(Option<u64>, OpenOptions)> {
         call!(self, format!("open {} inode={inode} kill_priv={kill_priv} flags={flags}", c(ctx));
             self.inner.open(ctx, inode, kill_priv, flags); a => format!(" {}", h(a.0, a.1)))
     }
@@ -202,7 +236,15 @@ impl<F: FileSystem<Inode = u64, Handle = u64>> FileSystem for Noted<F> {
         call!(self, format!("fsync {} inode={inode} datasync={datasync} handle={handle}", c(ctx));
             self.inner.fsync(ctx, inode, datasync, handle); _ => "")
     }
-    fn fallocate(&self, ctx: Context, inode: u64, handle: u64, mode: u32, offset: u64, length: u64) -> io::Result<()> {
+    fn fallocate(
+        &self,
+        ctx: Context,
+        inode: u64,
+        handle: u64,
+        mode: u32,
+        offset: u64,
+        length: u64,
+    ) -> io::Result<()> {
         call!(self, format!("fallocate {} inode={inode} handle={handle} mode={mode} offset={offset} length={length}", c(ctx));
             self.inner.fallocate(ctx, inode, handle, mode, offset, length); _ => "")
     }
@@ -222,11 +264,25 @@ impl<F: FileSystem<Inode = u64, Handle = u64>> FileSystem for Noted<F> {
     fn statfs(&self, ctx: Context, inode: u64) -> io::Result<libc::statvfs64> {
         call!(self, format!("statfs {} inode={inode}", c(ctx)); self.inner.statfs(ctx, inode); _ => "")
     }
-    fn setxattr(&self, ctx: Context, inode: u64, name: &CStr, value: &[u8], flags: u32, extra: SetxattrFlags) -> io::Result<()> {
+    fn setxattr(
+        &self,
+        ctx: Context,
+        inode: u64,
+        name: &CStr,
+        value: &[u8],
+        flags: u32,
+        extra: SetxattrFlags,
+    ) -> io::Result<()> {
         call!(self, format!("setxattr {} inode={inode} name={} value={} flags={flags} extra={}", c(ctx), s(name), hex(value), extra.bits());
             self.inner.setxattr(ctx, inode, name, value, flags, extra); _ => "")
     }
-    fn getxattr(&self, ctx: Context, inode: u64, name: &CStr, size: u32) -> io::Result<GetxattrReply> {
+    fn getxattr(
+        &self,
+        ctx: Context,
+        inode: u64,
+        name: &CStr,
+        size: u32,
+    ) -> io::Result<GetxattrReply> {
         call!(self, format!("getxattr {} inode={inode} name={} size={size}", c(ctx), s(name));
             self.inner.getxattr(ctx, inode, name, size); _ => "")
     }
@@ -236,11 +292,23 @@ impl<F: FileSystem<Inode = u64, Handle = u64>> FileSystem for Noted<F> {
     fn removexattr(&self, ctx: Context, inode: u64, name: &CStr) -> io::Result<()> {
         call!(self, format!("removexattr {} inode={inode} name={}", c(ctx), s(name)); self.inner.removexattr(ctx, inode, name); _ => "")
     }
-    fn opendir(&self, ctx: Context, inode: u64, flags: u32) -> io::Result<(Option<u64>, OpenOptions)> {
+    fn opendir(
+        &self,
+        ctx: Context,
+        inode: u64,
+        flags: u32,
+    ) -> io::Result<(Option<u64>, OpenOptions)> {
         call!(self, format!("opendir {} inode={inode} flags={flags}", c(ctx)); self.inner.opendir(ctx, inode, flags);
             a => format!(" {}", h(a.0, a.1)))
     }
-    fn readdir(&self, ctx: Context, inode: u64, handle: u64, size: u32, offset: u64) -> io::Result<Self::DirIter> {
+    fn readdir(
+        &self,
+        ctx: Context,
+        inode: u64,
+        handle: u64,
+        size: u32,
+        offset: u64,
+    ) -> io::Result<Self::DirIter> {
         let log = self.notes.clone();
         call!(self, format!("readdir {} inode={inode} handle={handle} size={size} offset={offset}", c(ctx));
             self.inner.readdir(ctx, inode, handle, size, offset); _ => "")
@@ -256,7 +324,14 @@ impl<F: FileSystem<Inode = u64, Handle = u64>> FileSystem for Noted<F> {
     fn access(&self, ctx: Context, inode: u64, mask: u32) -> io::Result<()> {
         call!(self, format!("access {} inode={inode} mask={mask}", c(ctx)); self.inner.access(ctx, inode, mask); _ => "")
     }
-    fn lseek(&self, ctx: Context, inode: u64, handle: u64, offset: u64, whence: u32) -> io::Result<u64> {
+    fn lseek(
+        &self,
+        ctx: Context,
+        inode: u64,
+        handle: u64,
+        offset: u64,
+        whence: u32,
+    ) -> io::Result<u64> {
         call!(self, format!("lseek {} inode={inode} handle={handle} offset={offset} whence={whence}", c(ctx));
             self.inner.lseek(ctx, inode, handle, offset, whence); n => format!(" offset={n}"))
     }

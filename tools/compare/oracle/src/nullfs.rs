@@ -100,7 +100,14 @@ impl FileSystem for NullFs {
     ) -> io::Result<usize> {
         r.write_to_file_at(&File::null(), size as usize, offset, None)
     }
-    fn readdir(&self, _ctx: Context, _inode: u64, _h: u64, _size: u32, offset: u64) -> io::Result<Same> {
+    fn readdir(
+        &self,
+        _ctx: Context,
+        _inode: u64,
+        _h: u64,
+        _size: u32,
+        offset: u64,
+    ) -> io::Result<Same> {
         Ok(Same { at: offset })
     }
 }

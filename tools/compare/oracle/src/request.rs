@@ -22,7 +22,10 @@ pub struct Line {
 /// Reads a line without its newline. It is `None` where the line has another form.
 pub fn parse_line(line: &[u8]) -> Option<Line> {
     let at = line.iter().position(|&c| c == b' ')?;
-    let rooms = line[..at].split(|&c| c == b'+').map(|part| number(part, 1, 7)).collect::<Option<Vec<_>>>()?;
+    let rooms = line[..at]
+        .split(|&c| c == b'+')
+        .map(|part| number(part, 1, 7))
+        .collect::<Option<Vec<_>>>()?;
     if rooms.iter().sum::<usize>() > MOST_ROOM {
         return None;
     }
@@ -52,7 +55,10 @@ pub fn unhex(text: &[u8]) -> Option<Vec<u8>> {
 
 pub fn hex(bytes: &[u8]) -> String {
     const DIGITS: &[u8; 16] = b"0123456789abcdef";
-    bytes.iter().flat_map(|c| [DIGITS[*c as usize >> 4] as char, DIGITS[*c as usize & 15] as char]).collect()
+    bytes
+        .iter()
+        .flat_map(|c| [DIGITS[*c as usize >> 4] as char, DIGITS[*c as usize & 15] as char])
+        .collect()
 }
 
 pub enum Outcome {
@@ -114,12 +120,16 @@ impl Answer {
     pub fn text(&self) -> String {
         match &self.outcome {
             Outcome::Ok(0) => "ok 0".into(),
-            Outcome::Ok(n) if *n > self.room.len() => format!("ok {n}, past the room {}", hex(&self.room)),
+            Outcome::Ok(n) if *n > self.room.len() => {
+                format!("ok {n}, past the room {}", hex(&self.room))
+            }
             Outcome::Ok(n) => format!("ok {n} {}", hex(&self.room[..*n])),
             Outcome::Err(Error::EncodeMessage(_)) if !self.room.is_empty() => {
                 format!("err EncodeMessage {}", hex(&self.room))
             }
-            Outcome::Err(Error::InvalidXattrSize((said, found))) => format!("err InvalidXattrSize {said} {found}"),
+            Outcome::Err(Error::InvalidXattrSize((said, found))) => {
+                format!("err InvalidXattrSize {said} {found}")
+            }
             Outcome::Err(error) => format!("err {}", name(error)),
             Outcome::Panic => "panic".into(),
         }
@@ -129,7 +139,9 @@ impl Answer {
     pub fn whole(&self) -> String {
         let outcome = match &self.outcome {
             Outcome::Ok(n) => format!("Ok({n})"),
-            Outcome::Err(Error::InvalidXattrSize(sizes)) => format!("Err(InvalidXattrSize({sizes:?}))"),
+            Outcome::Err(Error::InvalidXattrSize(sizes)) => {
+                format!("Err(InvalidXattrSize({sizes:?}))")
+            }
             Outcome::Err(error) => format!("Err({})", name(error)),
             Outcome::Panic => "panic".into(),
         };

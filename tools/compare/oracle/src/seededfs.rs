@@ -106,7 +106,13 @@ fn entry(q: u64, name: &CStr, ctx: Context) -> Entry {
     } else {
         1000 + t
     };
-    Entry { inode, generation: t * 3, attr: attr(t, inode, ctx), attr_timeout: time(t), entry_timeout: time(t + 1) }
+    Entry {
+        inode,
+        generation: t * 3,
+        attr: attr(t, inode, ctx),
+        attr_timeout: time(t),
+        entry_timeout: time(t + 1),
+    }
 }
 fn handle(q: u64) -> Option<u64> {
     if q % 3 == 0 {
@@ -341,7 +347,12 @@ impl FileSystem for SeededFs {
         };
         Ok(source?.entry(name, ctx))
     }
-    fn getattr(&self, ctx: Context, inode: u64, handle: Option<u64>) -> io::Result<(Attr, Duration)> {
+    fn getattr(
+        &self,
+        ctx: Context,
+        inode: u64,
+        handle: Option<u64>,
+    ) -> io::Result<(Attr, Duration)> {
         let t = self.q(ctx)? + inode % 1000 + handle.unwrap_or(0) % 7;
         Ok((attr(t, inode, ctx), time(t)))
     }
@@ -375,7 +386,14 @@ impl FileSystem for SeededFs {
         let q = self.q(ctx)?;
         Ok(bytes(q, q % 300))
     }
-    fn symlink(&self, ctx: Context, _link: &CStr, _parent: u64, name: &CStr, _x: Extensions) -> io::Result<Entry> {
+    fn symlink(
+        &self,
+        ctx: Context,
+        _link: &CStr,
+        _parent: u64,
+        name: &CStr,
+        _x: Extensions,
+    ) -> io::Result<Entry> {
         Ok(self.source_by(ctx)?.entry(name, ctx))
     }
     fn mknod(
@@ -390,7 +408,15 @@ impl FileSystem for SeededFs {
     ) -> io::Result<Entry> {
         Ok(self.source_by(ctx)?.entry(name, ctx))
     }
-    fn mkdir(&self, ctx: Context, _parent: u64, name: &CStr, _mode: u32, _umask: u32, _x: Extensions) -> io::Result<Entry> {
+    fn mkdir(
+        &self,
+        ctx: Context,
+        _parent: u64,
+        name: &CStr,
+        _mode: u32,
+        _umask: u32,
+        _x: Extensions,
+    ) -> io::Result<Entry> {
         Ok(self.source_by(ctx)?.entry(name, ctx))
     }
     fn unlink(&self, ctx: Context, _parent: u64, _name: &CStr) -> io::Result<()> {
@@ -399,13 +425,27 @@ impl FileSystem for SeededFs {
     fn rmdir(&self, ctx: Context, _parent: u64, _name: &CStr) -> io::Result<()> {
         self.q(ctx).map(drop)
     }
-    fn rename(&self, ctx: Context, _od: u64, _on: &CStr, _nd: u64, _nn: &CStr, _flags: u32) -> io::Result<()> {
+    fn rename(
+        &self,
+        ctx: Context,
+        _od: u64,
+        _on: &CStr,
+        _nd: u64,
+        _nn: &CStr,
+        _flags: u32,
+    ) -> io::Result<()> {
         self.q(ctx).map(drop)
     }
     fn link(&self, ctx: Context, _inode: u64, _parent: u64, name: &CStr) -> io::Result<Entry> {
         Ok(self.source_by(ctx)?.entry(name, ctx))
     }
-    fn open(&self, ctx: Context, _inode: u64, _kill_priv: bool, _flags: u32) -> io::Result<(Option<u64>, OpenOptions)> {
+    fn open(
+        &self,
+        ctx: Context,
+        _inode: u64,
+        _kill_priv: bool,
+        _flags: u32,
+    ) -> io::Result<(Option<u64>, OpenOptions)> {
         Ok(self.source_by(ctx)?.opening())
     }
     fn create(
@@ -457,7 +497,15 @@ impl FileSystem for SeededFs {
     fn fsync(&self, ctx: Context, _inode: u64, _datasync: bool, _handle: u64) -> io::Result<()> {
         self.q(ctx).map(drop)
     }
-    fn fallocate(&self, ctx: Context, _inode: u64, _handle: u64, _mode: u32, _off: u64, _len: u64) -> io::Result<()> {
+    fn fallocate(
+        &self,
+        ctx: Context,
+        _inode: u64,
+        _handle: u64,
+        _mode: u32,
+        _off: u64,
+        _len: u64,
+    ) -> io::Result<()> {
         self.q(ctx).map(drop)
     }
     fn release(
@@ -485,24 +533,58 @@ impl FileSystem for SeededFs {
             f_namemax: 255 + (q % 3 << 32),
         })
     }
-    fn setxattr(&self, ctx: Context, _i: u64, _n: &CStr, _v: &[u8], _flags: u32, _x: SetxattrFlags) -> io::Result<()> {
+    fn setxattr(
+        &self,
+        ctx: Context,
+        _i: u64,
+        _n: &CStr,
+        _v: &[u8],
+        _flags: u32,
+        _x: SetxattrFlags,
+    ) -> io::Result<()> {
         self.q(ctx).map(drop)
     }
-    fn getxattr(&self, ctx: Context, _inode: u64, _name: &CStr, _size: u32) -> io::Result<GetxattrReply> {
+    fn getxattr(
+        &self,
+        ctx: Context,
+        _inode: u64,
+        _name: &CStr,
+        _size: u32,
+    ) -> io::Result<GetxattrReply> {
         let q = self.q(ctx)?;
-        Ok(if q % 3 == 0 { GetxattrReply::Count(q as u32) } else { GetxattrReply::Value(bytes(q, q / 3 % 500)) })
+        Ok(if q % 3 == 0 {
+            GetxattrReply::Count(q as u32)
+        } else {
+            GetxattrReply::Value(bytes(q, q / 3 % 500))
+        })
     }
     fn listxattr(&self, ctx: Context, _inode: u64, _size: u32) -> io::Result<ListxattrReply> {
         let q = self.q(ctx)?;
-        Ok(if q % 3 == 0 { ListxattrReply::Count(q as u32) } else { ListxattrReply::Names(bytes(q, q / 3 % 500)) })
+        Ok(if q % 3 == 0 {
+            ListxattrReply::Count(q as u32)
+        } else {
+            ListxattrReply::Names(bytes(q, q / 3 % 500))
+        })
     }
     fn removexattr(&self, ctx: Context, _inode: u64, _name: &CStr) -> io::Result<()> {
         self.q(ctx).map(drop)
     }
-    fn opendir(&self, ctx: Context, _inode: u64, _flags: u32) -> io::Result<(Option<u64>, OpenOptions)> {
+    fn opendir(
+        &self,
+        ctx: Context,
+        _inode: u64,
+        _flags: u32,
+    ) -> io::Result<(Option<u64>, OpenOptions)> {
         Ok(self.source_by(ctx)?.opening())
     }
-    fn readdir(&self, ctx: Context, _inode: u64, _handle: u64, _size: u32, offset: u64) -> io::Result<ScriptDir> {
+    fn readdir(
+        &self,
+        ctx: Context,
+        _inode: u64,
+        _handle: u64,
+        _size: u32,
+        offset: u64,
+    ) -> io::Result<ScriptDir> {
         self.keep(ctx);
         let source = match self.answers.take() {
             Some(Told::Directory(items, endless)) => {
@@ -522,7 +604,14 @@ impl FileSystem for SeededFs {
     fn access(&self, ctx: Context, _inode: u64, _mask: u32) -> io::Result<()> {
         self.q(ctx).map(drop)
     }
-    fn lseek(&self, ctx: Context, _inode: u64, _handle: u64, offset: u64, _whence: u32) -> io::Result<u64> {
+    fn lseek(
+        &self,
+        ctx: Context,
+        _inode: u64,
+        _handle: u64,
+        offset: u64,
+        _whence: u32,
+    ) -> io::Result<u64> {
         let q = self.q(ctx)?;
         Ok(if q % 2 == 0 { offset } else { q })
     }

@@ -41,7 +41,9 @@ pub fn parse_told(text: &[u8]) -> Option<Told> {
     let text = std::str::from_utf8(text).ok()?;
     match text.split_once(' ') {
         Some(("fault", "none")) => Some(Told::Fault(None)),
-        Some(("fault", number)) => number.parse().ok().filter(|n| *n > 0).map(|n| Told::Fault(Some(n))),
+        Some(("fault", number)) => {
+            number.parse().ok().filter(|n| *n > 0).map(|n| Told::Fault(Some(n)))
+        }
         Some(("items", items)) => Some(Told::Directory(parse_items(items)?, false)),
         Some(("endless", items)) => Some(Told::Directory(parse_items(items)?, true)),
         _ => text.parse().ok().map(Told::Value),

@@ -94,7 +94,11 @@ impl QueueOwnedT for Queue {
         let mut i = 0u64;
         loop {
             let d: Raw = mem.object(GuestAddress(self.table.0 + 16 * i)).map_err(|_| Error)?;
-            descs.push(Descriptor { addr: GuestAddress(d.addr), len: d.len, writable: d.flags & 2 != 0 });
+            descs.push(Descriptor {
+                addr: GuestAddress(d.addr),
+                len: d.len,
+                writable: d.flags & 2 != 0,
+            });
             if d.flags & 1 == 0 {
                 break;
             }

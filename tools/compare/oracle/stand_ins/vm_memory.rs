@@ -119,7 +119,11 @@ impl<'a, B: BitmapSlice> VolatileSlice<'a, B> {
 
 pub trait VolatileMemory {
     type B;
-    fn get_slice(&self, at: usize, n: usize) -> Result<VolatileSlice<'_, Self::B>, VolatileMemoryError>;
+    fn get_slice(
+        &self,
+        at: usize,
+        n: usize,
+    ) -> Result<VolatileSlice<'_, Self::B>, VolatileMemoryError>;
 }
 
 pub struct MmapRegion<B> {

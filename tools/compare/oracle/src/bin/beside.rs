@@ -81,7 +81,14 @@ mod here {
     }
     pub fn run(requests: &[u8], replies: &mut [u8], rounds: u32, cutting: u32) -> u64 {
         unsafe {
-            nizwarf_batch(requests.as_ptr(), requests.len(), replies.as_mut_ptr(), replies.len(), rounds, cutting)
+            nizwarf_batch(
+                requests.as_ptr(),
+                requests.len(),
+                replies.as_mut_ptr(),
+                replies.len(),
+                rounds,
+                cutting,
+            )
         }
     }
 
@@ -198,7 +205,10 @@ fn write(unique: u64, offset: u64, size: usize) -> Asked {
 }
 /// READ, READDIR (28) or READDIRPLUS (44)
 fn read(opcode: u32, unique: u64, node: u64, offset: u64, size: u32) -> Asked {
-    (16 + size, body().u64s(&[0, offset]).u32s(&[size, 0]).u64s(&[0, 0]).request(opcode, unique, node))
+    (
+        16 + size,
+        body().u64s(&[0, offset]).u32s(&[size, 0]).u64s(&[0, 0]).request(opcode, unique, node),
+    )
 }
 fn batch_forget(unique: u64, pairs: u32) -> Asked {
     let pairs_of = (0..pairs as u64).flat_map(|i| [i + 2, 1]).collect::<Vec<_>>();
@@ -212,7 +222,8 @@ fn setxattr(unique: u64) -> Asked {
 }
 fn mkdir(unique: u64) -> Asked {
     let context = b"system_u:object_r:unlabeled_t:s0\0"; // 33 bytes
-    let ext = body().u32s(&[72, 1, 33, 0]).bytes(b"security.selinux\0").bytes(context).bytes(&[0; 6]);
+    let ext =
+        body().u32s(&[72, 1, 33, 0]).bytes(b"security.selinux\0").bytes(context).bytes(&[0; 6]);
     (144, body().u32s(&[0o755, 0o22]).bytes(b"directory\0").bytes(&ext.0).request(9, unique, 1))
 }
 fn short_header(unique: u64) -> Asked {
@@ -243,7 +254,8 @@ fn classes() -> Vec<Class> {
         all.push(Class { name: name.to_string(), batch: batch.0, n });
     };
     let full = || vec![write(1, 0, 65_536)];
-    let files = || (1..1000).map(|i| create(1, &format!("file-0123456789-{i:04}"))).collect::<Vec<_>>();
+    let files =
+        || (1..1000).map(|i| create(1, &format!("file-0123456789-{i:04}"))).collect::<Vec<_>>();
 
     add("mem/lookup_found", MEM, vec![], 64, &|i| lookup(i, b"a"));
     add("mem/lookup_missing", MEM, vec![], 64, &|i| lookup(i, b"b"));
@@ -296,7 +308,9 @@ const SMALL: usize = 512;
 /// single bytes is for small requests alone.
 fn cuttings(b: &Batch) -> Vec<u32> {
     let cut = |c| {
-        let of = |p: &oracle::batch::Place| (pieces(p.request.len(), 40, c), pieces(p.room.len(), 16, c));
+        let of = |p: &oracle::batch::Place| {
+            (pieces(p.request.len(), 40, c), pieces(p.room.len(), 16, c))
+        };
         b.measured.iter().map(of).collect::<Vec<_>>()
     };
     let small = b.measured.iter().all(|p| p.request.len() + p.room.len() <= SMALL);
@@ -343,7 +357,10 @@ fn spread(mut all: Vec<f64>) -> [f64; 3] {
 fn first_difference(b: &Batch, replies: &[Vec<u8>]) -> String {
     for (i, p) in b.measured.iter().enumerate() {
         let (x, y) = (&replies[0][p.room.clone()], &replies[1][p.room.clone()]);
-        let len = x.get(..4).map_or(0, |l| u32::from_le_bytes(l.try_into().unwrap()) as usize).min(x.len());
+        let len = x
+            .get(..4)
+            .map_or(0, |l| u32::from_le_bytes(l.try_into().unwrap()) as usize)
+            .min(x.len());
         if let Some(at) = (0..len).find(|&at| x[at] != y[at]) {
             return format!("request {i}, byte {at} of {len} is {:02x}, not {:02x}", y[at], x[at]);
         }
@@ -363,7 +380,14 @@ fn main() {
     if !has("--digests") {
         print!("{:24}{:>10}{:>10}", "class", "cutting", "segments");
         for s in &SIDES {
-            print!("{:>14}{:>8}{:>8}{:>10}{:>12}", format!("{} ns", s.name), "mid", "max", "allocs", "bytes");
+            print!(
+                "{:>14}{:>8}{:>8}{:>10}{:>12}",
+                format!("{} ns", s.name),
+                "mid",
+                "max",
+                "allocs",
+                "bytes"
+            );
         }
         println!("   ratio  of pairs");
     }
@@ -380,7 +404,10 @@ fn main() {
                     let want = *flat.get_or_insert(got);
                     if got != want && !told {
                         (told, differ) = (true, differ + 1);
-                        print!("{} {}: DIFFER: {} answers ", c.name, CUTTINGS[cutting as usize], s.name);
+                        print!(
+                            "{} {}: DIFFER: {} answers ",
+                            c.name, CUTTINGS[cutting as usize], s.name
+                        );
                         println!("{got:016x} after {rounds} rounds, not {want:016x}");
                     }
                 }
@@ -392,28 +419,41 @@ fn main() {
                 println!("{:24}{:>10}  {:016x}", c.name, CUTTINGS[cutting as usize], flat.unwrap());
                 continue;
             }
-            let wanted = SIDES.iter().zip(&mut replies).map(|(s, r)| rounds_for(ms as f64 * 1e6, s.run, &c.batch, r, cutting));
+            let wanted = SIDES
+                .iter()
+                .zip(&mut replies)
+                .map(|(s, r)| rounds_for(ms as f64 * 1e6, s.run, &c.batch, r, cutting));
             let rounds: Vec<u32> = wanted.collect();
             let mut once = vec![f64::MAX; SIDES.len()];
             let mut many = vec![Vec::new(); SIDES.len()];
             for i in 0..runs as usize {
                 for k in 0..SIDES.len() {
                     let k = (i + k) % SIDES.len(); // each begins by turns
-                    // one round before and after, so that both least times come from quiet moments
-                    let mut took = |rounds| time(SIDES[k].run, &c.batch, &mut replies[k], rounds, cutting);
+                                                   // one round before and after, so that both least times come from quiet moments
+                    let mut took =
+                        |rounds| time(SIDES[k].run, &c.batch, &mut replies[k], rounds, cutting);
                     let before = took(1);
                     many[k].push(took(1 + rounds[k]));
                     once[k] = once[k].min(before).min(took(1));
                 }
             }
-            let segments = |p: &oracle::batch::Place| pieces(p.request.len(), 40, cutting).len() + pieces(p.room.len(), 16, cutting).len();
-            print!("{:24}{:>10}{:>10}", c.name, CUTTINGS[cutting as usize], segments(&b.measured[0]));
+            let segments = |p: &oracle::batch::Place| {
+                pieces(p.request.len(), 40, cutting).len() + pieces(p.room.len(), 16, cutting).len()
+            };
+            print!(
+                "{:24}{:>10}{:>10}",
+                c.name,
+                CUTTINGS[cutting as usize],
+                segments(&b.measured[0])
+            );
             let served = |k: usize| rounds[k] as f64 * c.n as f64;
-            let ns = |k: usize| many[k].iter().map(|t| (t - once[k]) / served(k)).collect::<Vec<f64>>();
+            let ns =
+                |k: usize| many[k].iter().map(|t| (t - once[k]) / served(k)).collect::<Vec<f64>>();
             let mut least = Vec::new();
             for (k, s) in SIDES.iter().enumerate() {
                 let [min, mid, max] = spread(ns(k));
-                let mut memory = |rounds| counted(s, || (s.run)(&c.batch, &mut replies[k], rounds, cutting));
+                let mut memory =
+                    |rounds| counted(s, || (s.run)(&c.batch, &mut replies[k], rounds, cutting));
                 let (few, more) = (memory(1), memory(3));
                 let each = |a: u64, b: u64| (b as f64 - a as f64) / (2 * c.n) as f64;
                 let above = |x: f64| (x / min - 1.0) * 100.0;
@@ -421,7 +461,8 @@ fn main() {
                 print!("{:>10.2}{:>12.0}", each(few.0, more.0), each(few.1, more.1));
                 least.push(min);
             }
-            let [_, pairs, _] = spread(ns(1).iter().zip(ns(0)).map(|(other, rust)| other / rust).collect());
+            let [_, pairs, _] =
+                spread(ns(1).iter().zip(ns(0)).map(|(other, rust)| other / rust).collect());
             println!("{:>8.3}{pairs:>10.3}", least[1] / least[0]);
         }
     }

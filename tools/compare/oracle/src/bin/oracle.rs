@@ -40,7 +40,8 @@ fn main() {
     if let [_, from, to] = &args[..] {
         for file in std::fs::read_dir(from).expect("a folder").flatten() {
             let (answers, _) = session(way, &std::fs::read(file.path()).expect("a session"));
-            std::fs::write(std::path::Path::new(to).join(file.file_name()), answers).expect("a folder");
+            std::fs::write(std::path::Path::new(to).join(file.file_name()), answers)
+                .expect("a folder");
         }
         return;
     }
@@ -74,7 +75,13 @@ fn set_limit(_line: Option<&&[u8]>) -> bool {
     false
 }
 
-fn answer_all<F: FileSystem + Sync>(fs: F, answers: Answers, notes: Notes, way: Way, input: &[u8]) -> (String, i32) {
+fn answer_all<F: FileSystem + Sync>(
+    fs: F,
+    answers: Answers,
+    notes: Notes,
+    way: Way,
+    input: &[u8],
+) -> (String, i32) {
     let server = Server::new(fs);
     let mut out = String::new();
     let mut lines: Vec<&[u8]> = input.split(|&c| c == b'\n').collect();
