@@ -16,6 +16,7 @@ build_programs vfs_demo vfs_decode
 answers=$(mktemp)
 trap 'rm -f "$answers"' EXIT
 status=0
+# shellcheck disable=SC2154
 "$(path_of vfs_demo)" < "$crate/stdin" > "$answers" || status=$?
 show "$crate/stdin" "$answers"
 echo

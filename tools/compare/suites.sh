@@ -153,6 +153,7 @@ case $what in
         fi
         if get passthrough_ll; then
             # (with as many descriptors as it can have, of which it wants one for each file)
+            # shellcheck disable=SC2016
             column passthrough_ll fuse.passthrough_ll shown mount env \
                 "LD_LIBRARY_PATH=$there/root/usr/lib/x86_64-linux-gnu" "PATH=$there/root/usr/bin:$PATH" \
                 bash -c 'ulimit -n "$(ulimit -Hn)"; exec "$@"' bash "$there/passthrough_ll" -f \

@@ -9,8 +9,8 @@
 # All names that the libraries define begin with `nizwarf_`. Last, tools/package.sh packs the libraries, and the
 # examples are built by pkg-config against what is installed of that, shared and static, and do the same.
 #
-# Usage: tools/gate/c-example.sh [--prove]
-# It takes each proved library where that is built and no source is newer; otherwise tools/lib/unproved.sh
+# Usage: tools/gate/c-example.sh [--prove | --quick]
+# With --quick nothing is mounted or packed, and no sanitizer runs: ten seconds. It takes each proved library where that is built and no source is newer; otherwise tools/lib/unproved.sh
 # builds it without a proof, which takes a minute. With --prove they are proved first, as crates/vfs_c/out
 # and crates/vfs_door/out have them then: a few minutes, and half an hour where no lower crate was proved
 # before.
@@ -21,13 +21,15 @@ set -euo pipefail
 
 case $# in
     0) ;;
-    1) [ "$1" = --prove ] ;;
+    1) [[ $1 =~ ^--(prove|quick)$ ]] ;;
     *) false ;;
-esac || { echo "Usage: tools/gate/c-example.sh [--prove]" >&2 && exit 2; }
+esac || { echo "Usage: tools/gate/c-example.sh [--prove | --quick]" >&2 && exit 2; }
+quick=
+[ "${1:-}" != --quick ] || quick=yes
 
 folder=$(mktemp -d)
 trap 'rm -rf "$folder"' EXIT
-if [ $# = 1 ]; then
+if [ "${1:-}" = --prove ]; then
     need_toolchain
     for name in vfs_c vfs_door; do
         echo "Proving and building the library $name .." >&2
@@ -53,13 +55,16 @@ has_flags() {
         && "$folder/program" 2> /dev/null
 }
 
+# shellcheck disable=SC2054
 counted=(-Wl,--wrap=malloc -Wl,--wrap=realloc -Wl,--wrap=free)
+# shellcheck disable=SC2054
 sanitized=(-g -O1 -fsanitize=address,undefined -fno-sanitize-recover=all)
 threaded=(-g -O1 -fsanitize=thread -pthread)
 
 # Mounts, compiled with these flags, if that can be.
 run_mounted() {
     local status=0
+    [ -z "$quick" ] || return 0
     if [ "$(id -u)" != 0 ] || ! [ -w /dev/fuse ]; then
         echo "Missing: root and /dev/fuse, so nothing is mounted." >&2
         return
@@ -107,7 +112,7 @@ if command -v c++ > /dev/null; then
     echo '#include "nizwarf_ops.h"' \
         | c++ -std=c++11 -Wall -Wextra -Werror -I "$here/include" -fsyntax-only -x c++ -
 fi
-if has_flags "${sanitized[@]}"; then
+if [ -z "$quick" ] && has_flags "${sanitized[@]}"; then
     run_all "${sanitized[@]}" > /dev/null
     if has_flags "${threaded[@]}"; then
         for name in c-door-threads c-ops-threads; do
@@ -118,11 +123,13 @@ if has_flags "${sanitized[@]}"; then
     echo "The sanitizers found nothing."
 fi
 
-others=$(nm --defined-only --extern-only "${library[@]:0:2}" | awk 'NF == 3 && $3 !~ /^nizwarf_/ { print $3 }')
-if [ -n "$others" ]; then
-    echo "Names of the libraries that do not begin with nizwarf_:" $others >&2
+other_names=$(nm --defined-only --extern-only "${library[@]:0:2}" | awk 'NF == 3 && $3 !~ /^nizwarf_/ { print $3 }')
+if [ -n "$other_names" ]; then
+    echo "Names of the libraries that do not begin with nizwarf_: $(paste -sd ' ' <<< "$other_names")" >&2
     exit 1
 fi
+
+[ -z "$quick" ] || exit 0
 
 # Builds the examples serve and hello by pkg-config alone, with flags, and runs them.
 run_installed() {

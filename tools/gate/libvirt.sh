@@ -32,6 +32,7 @@ if [ "$$" != 1 ]; then
     exec unshare --pid --fork --mount-proc env SHARE="$transport" "$0"
 fi
 
+# shellcheck disable=SC2119
 own_work
 mkdir "$work"/{descriptions,folder,"a,b"}
 cp "$descriptions"/* "$here/packaging/60-nizwarf-share.json" "$work/descriptions/"

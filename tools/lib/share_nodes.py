@@ -13,7 +13,7 @@ import subprocess
 import sys
 
 import share_load
-from share_load import Asking, Server, drop_caches, hold_end, line, names_in, number, request, requests, transfer, wrong
+from share_load import Asking, Server, drop_caches, hold_end, line, number, request, requests, transfer, wrong
 
 ENFILE, SUBMOUNTS, OTHERS = 23, 1 << 27, 0x7BFDFFFB & ~(1 << 27)
 # What a node may take besides its name, in bytes.

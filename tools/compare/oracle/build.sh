@@ -130,7 +130,10 @@ given=
 while [ $# -gt 0 ]; do
     case $1 in
         --source)
-            [ $# -ge 2 ] && [ -d "$2" ] || { echo "--source wants a folder." >&2 && exit 2; }
+            if [ $# -lt 2 ] || [ ! -d "$2" ]; then
+                echo "--source wants a folder." >&2
+                exit 2
+            fi
             given=$(cd "$2" && pwd)
             shift 2
             ;;
