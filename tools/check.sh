@@ -1,0 +1,174 @@
+#!/usr/bin/env bash
+# Looks, in two minutes, without root and without a proof, whether what is here holds together; then it tells
+# which commands judge the rest of the files that were changed, and how long they take.
+#
+# Usage: tools/check.sh [--only PART]..
+#        tools/check.sh --missing
+#
+#   documents  the pages against the sources
+#   opcode     the files in which an opcode stands, against the list of CONTRIBUTING.md
+#   shell      scripts, by shellcheck
+#   rattle     the format of Rattle's files, by `rt fmt` on a copy
+#   rust       the format of Rust's, by rustfmt
+#   python     Python's files, by pyflakes
+#   c          the format of C's, by clang-format; and each compiles with no warning
+#   door       the libraries for C, built without a proof, and the tests in C over them
+#   crate      the tests of bindings/rust over that library
+#
+# A part that fails does not stop those after it. One whose programs are not installed is skipped, and which
+# packages have them is told: --missing prints these alone. Nothing is installed. What is changed is that since
+# the branch left origin/main, or main, and what is not committed. tools/lib/changes.txt has the commands.
+# Status 0: all passed; 1: a part failed; 2: it could not start; 3: none failed, but one was skipped.
+set -euo pipefail
+. "$(dirname "$0")/lib/usage.sh"
+. "$(dirname "$0")/lib/transport.sh"
+cd "$here"
+
+parts=(documents opcode shell rattle rust python c door crate)
+# What a part runs, by its package. The toolchain is none of Debian's.
+declare -A wanted=(
+    [documents]="rt python3" [opcode]="python3" [shell]="shellcheck" [rattle]="rt" [rust]="rustfmt" [python]="pyflakes3"
+    [c]="clang-format cc" [door]="rt cc" [crate]="cargo rt cc"
+)
+declare -A package=([cc]="gcc libc6-dev" [rt]="")
+
+# The programs of a part that are not there.
+missing_of() {
+    local program
+    for program in ${wanted[$1]}; do
+        command -v "$program" > /dev/null || echo "$program"
+    done
+}
+
+# The packages of Debian that have these programs.
+packages_of() {
+    local program
+    for program in "$@"; do
+        printf '%s\n' "${package[$program]-$program}"
+    done | tr ' ' '\n' | sed '/^$/d' | sort -u
+}
+
+chosen=()
+while [ $# -gt 0 ]; do
+    case $1 in
+        --only)
+            if [ -z "${wanted[${2:-none}]-}" ]; then
+                echo "There is no part ${2:-without a name}: ${parts[*]}." >&2
+                exit 2
+            fi
+            chosen+=("$2")
+            shift 2
+            ;;
+        --missing)
+            # shellcheck disable=SC2046
+            packages_of $(for part in "${parts[@]}"; do missing_of "$part"; done)
+            exit
+            ;;
+        *)
+            echo "Usage: tools/check.sh [--only PART].. | --missing" >&2
+            exit 2
+            ;;
+    esac
+done
+[ ${#chosen[@]} = 0 ] || parts=("${chosen[@]}")
+folder=$(mktemp -d)
+trap 'rm -rf "$folder"' EXIT
+
+# Files that are there, known to git or new, by their ends.
+files() {
+    git ls-files --cached --others --exclude-standard -z -- "$@" | xargs -0r ls -d 2> /dev/null || true
+}
+
+# Runs a command for pieces of a list of files, as many at once as there are processors.
+each() {
+    tr '\n' '\0' | xargs -0r -n 8 -P "$(nproc)" "$@"
+}
+
+scripts() { files '*.sh' '.ci/run'; }
+c_files() { files '*.c' '*.h'; }
+
+check_documents() { tools/gate/documents.sh; }
+check_opcode() { tools/gate/opcode.py; }
+check_shell() { scripts | each shellcheck; }
+# (one by one from the input: some name modules that stand elsewhere)
+# shellcheck disable=SC2016
+check_rust() { files '*.rs' | each -n 1 bash -c 'rustfmt --check --color never < "$0" || { echo "$0" && exit 1; }'; }
+check_python() { files '*.py' | each pyflakes3; }
+check_door() { tools/gate/c-example.sh --quick; }
+
+check_rattle() {
+    mkdir "$folder/copy"
+    files crates.txt 'crates/*.rt' 'crates/*.antt' | tar -cT - | tar -xC "$folder/copy"
+    cp -R "$folder/copy" "$folder/formatted"
+    # shellcheck disable=SC2016
+    (cd "$folder/formatted/crates" && printf '%s\n' * | each -n 1 bash -c 'cd "$0" && rt fmt > /dev/null')
+    diff -ru "$folder/copy" "$folder/formatted"
+}
+
+check_c() {
+    local status=0
+    if [ -e .clang-format ]; then
+        c_files | each clang-format --dry-run -Werror || status=1
+    fi
+    # (what stands on a header that is not here is built where that is)
+    # shellcheck disable=SC2016
+    files '*.c' | xargs grep -LE '#include [<"]fuse_lowlevel' | each -n 1 bash -c '
+        case $0 in *share_sandbox.c) ! echo "#include <seccomp.h>" | cc -fsyntax-only -x c - 2> /dev/null || set -- -DWITH_SECCOMP ;; esac
+        cc -std=c11 -O1 -Wall -Wextra -Werror -I include -fsyntax-only "$@" "$0"' || status=1
+    return $status
+}
+
+check_crate() {
+    export NIZWARF_LIB_DIR=$here/out/rust/lib
+    find_library vfs_door
+    mkdir -p "$NIZWARF_LIB_DIR"
+    cp -u "${library[@]}" "$NIZWARF_LIB_DIR"
+    (cd bindings/rust && cargo test --quiet --offline)
+}
+
+# What a part looks at.
+count_of() {
+    case $1 in
+        documents) echo "$(files '*.md' | wc -l) pages" ;;
+        opcode) echo "$(tools/gate/opcode.py --opcodes | wc -w) opcodes" ;;
+        shell) echo "$(scripts | wc -l) scripts" ;;
+        rattle) echo "$(files 'crates/*.rt' 'crates/*.antt' | wc -l) files" ;;
+        rust) echo "$(files '*.rs' | wc -l) files" ;;
+        python) echo "$(files '*.py' | wc -l) files" ;;
+        c) echo "$(c_files | wc -l) files" ;;
+        door) echo "$(grep -c '^ *compile tools/gate/c-' tools/gate/c-example.sh) programs in C" ;;
+        crate) grep -rE '^ *#\[test\]$' bindings/rust | wc -l | sed 's/$/ tests/' ;;
+    esac
+}
+
+# The libraries are built beside the first parts.
+if [[ " ${parts[*]} " =~ \ (door|crate)\  ]] && [ -z "$(missing_of door)" ]; then
+    (find_library vfs_door && find_library vfs_c) > "$folder/libraries" 2>&1 &
+fi
+failed=() skipped=() times=()
+for part in "${parts[@]}"; do
+    read -ra missing < <(missing_of "$part" | paste -sd ' ')
+    if [ ${#missing[@]} != 0 ]; then
+        echo "$part: skipped, for want of ${missing[*]}"
+        skipped+=("$part")
+        continue
+    fi
+    echo "$part: $(count_of "$part") .."
+    begun=$SECONDS
+    case $part in door | crate) wait ;; esac
+    if ! "check_$part" > "$folder/said" 2>&1 < /dev/null; then
+        cat "$folder/said"
+        echo "FAILED: $part"
+        failed+=("$part")
+    fi
+    times+=("$part $((SECONDS - begun)) s")
+done
+wait
+echo "Seconds: $(printf '%s, ' "${times[@]}" | sed 's/ s, /, /g; s/, $//'); together $SECONDS."
+tools/lib/changes.py
+if [ ${#skipped[@]} != 0 ]; then
+    echo "Skipped: ${skipped[*]}. apt-get install $(tools/check.sh --missing | paste -sd ' ')"
+fi
+[ ${#failed[@]} = 0 ] || { echo "FAILED: ${failed[*]}" && exit 1; }
+[ ${#skipped[@]} = 0 ] || exit 3
+echo "All ${#parts[@]} parts passed."
