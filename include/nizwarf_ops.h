@@ -350,9 +350,9 @@ static inline int nizwarf_do_quiet(const nizwarf_ops *ops, const nizwarf_req *re
 	if (c->call == NIZWARF_DESTROY && ops->destroy)
 		ops->destroy(req);
 	if (c->call == NIZWARF_FORGET && ops->forget)
-		ops->forget(req, c->node, c->length);
+		ops->forget(req, c->node, nizwarf_forget_lookups(c));
 	if (c->call == NIZWARF_BATCH_FORGET && ops->forget)
-		for (i = 0; i < c->length; i++) {
+		for (i = 0; i < nizwarf_batch_forget_pairs(c); i++) {
 			memcpy(pair, pairs + 16 * i, sizeof(pair));
 			ops->forget(req, pair[0], pair[1]);
 		}
@@ -390,7 +390,7 @@ static inline int nizwarf_do_done(const nizwarf_ops *ops, const nizwarf_req *req
 	case NIZWARF_FSYNCDIR:
 		return NIZWARF_DO(fsyncdir, c->node, datasync, &fi);
 	case NIZWARF_ACCESS:
-		return NIZWARF_DO(access, c->node, c->more);
+		return NIZWARF_DO(access, c->node, nizwarf_access_mask(c));
 	case NIZWARF_FALLOCATE:
 		return NIZWARF_DO(fallocate, c->node, c->mode, c->offset, c->length, &fi);
 	case NIZWARF_SYNCFS:
@@ -413,7 +413,7 @@ static inline int nizwarf_do_entry(const nizwarf_ops *ops, const nizwarf_req *re
 		error = NIZWARF_DO(lookup, c->node, name, &e);
 		break;
 	case NIZWARF_SYMLINK:
-		error = NIZWARF_DO(symlink, NIZWARF_NAME(c->other_name), c->node, name, &e);
+		error = NIZWARF_DO(symlink, NIZWARF_NAME(nizwarf_symlink_text(c)), c->node, name, &e);
 		break;
 	case NIZWARF_MKNOD:
 		error = NIZWARF_DO(mknod, c->node, name, c->mode, c->rdev, &e);
@@ -440,7 +440,8 @@ static inline int nizwarf_do_attr(const nizwarf_ops *ops, const nizwarf_req *req
 	if (c->call == NIZWARF_GETATTR)
 		error = NIZWARF_DO(getattr, c->node, open, &answer->entry.attr, &timeout);
 	else if (c->call == NIZWARF_SETATTR)
-		error = NIZWARF_DO(setattr, c->node, &c->attr, c->flags, open, &answer->entry.attr, &timeout);
+		error = NIZWARF_DO(setattr, c->node, &c->attr, nizwarf_setattr_fields(c), open,
+				   &answer->entry.attr, &timeout);
 	answer->entry.attr_seconds = nizwarf_seconds_of(timeout);
 	answer->entry.attr_nanoseconds = nizwarf_nanoseconds_of(timeout);
 	return error;
@@ -539,17 +540,16 @@ static inline int nizwarf_do_written(const nizwarf_ops *ops, const nizwarf_req *
 		error = NIZWARF_DO(write, c->node, req->request + c->data.at, (size_t)size, c->offset, &fi,
 				   &len);
 	else if (c->call == NIZWARF_COPY)
-		/* (its flags stand where others have the owner of a lock) */
 		error = NIZWARF_DO(copy_file_range, c->node, c->offset, &fi, c->other_node, c->other_offset,
-				   &out, size, c->lock_owner, &len);
+				   &out, size, nizwarf_copy_flags(c), &len);
 	answer->count = len;
 	return !error && len > size ? EIO : error;
 }
 
-/* INIT. `count` is then what is to be agreed on. */
+/* INIT, which is answered by what is to be agreed on. */
 static inline int nizwarf_do_init(const nizwarf_ops *ops, const nizwarf_req *req, nizwarf_answer *answer)
 {
-	const uint64_t capable = req->call->length, high = UINT64_C(0xffffffff) << 32;
+	const uint64_t capable = nizwarf_init_offered(req->call), high = UINT64_C(0xffffffff) << 32;
 	uint64_t want = NIZWARF_WANT_USUAL | NIZWARF_WANT_READDIRPLUS;
 	int error;
 
@@ -557,7 +557,7 @@ static inline int nizwarf_do_init(const nizwarf_ops *ops, const nizwarf_req *req
 	error = ops->init ? ops->init(req, capable, &want) : 0;
 	want = capable & nizwarf_served(ops, want);
 	/* (INIT_EXT says that there are others than the first 32) */
-	answer->count = want & high ? want | (capable & 1 << 30) : want;
+	nizwarf_answer_options(answer, want & high ? want | (capable & 1 << 30) : want);
 	return error;
 }
 
@@ -565,6 +565,8 @@ static inline int nizwarf_do_others(const nizwarf_ops *ops, const nizwarf_req *r
 {
 	const nizwarf_call *c = req->call;
 	const nizwarf_file_info fi = nizwarf_file_of(c);
+	uint64_t found = 0;
+	int error;
 
 	switch (c->call) {
 	case NIZWARF_INIT:
@@ -574,7 +576,9 @@ static inline int nizwarf_do_others(const nizwarf_ops *ops, const nizwarf_req *r
 		answer->statfs.bsize = answer->statfs.frsize = 512;
 		return ops->statfs ? ops->statfs(req, c->node, &answer->statfs) : 0;
 	case NIZWARF_LSEEK:
-		return NIZWARF_DO(lseek, c->node, c->offset, c->more, &fi, &answer->count);
+		error = NIZWARF_DO(lseek, c->node, c->offset, nizwarf_lseek_whence(c), &fi, &found);
+		nizwarf_answer_offset(answer, found);
+		return error;
 	default:
 		return ENOSYS;
 	}
@@ -661,7 +665,7 @@ static inline int32_t nizwarf_answer_ops(const nizwarf_ops *ops, const nizwarf_r
 	answer.error = nizwarf_make_call(ops, req, dir, &answer);
 	/* (what isn't offered isn't agreed on, whether or not the library serves it by itself) */
 	if (call->call == NIZWARF_INIT)
-		call->length &= answer.count;
+		nizwarf_init_keep(call, answer.count);
 	code = nizwarf_reply(slot, &now, call, &answer, whole, 1, &told);
 	*reply_len = (size_t)told.len;
 	if (call->call == NIZWARF_INIT || call->call == NIZWARF_DESTROY)

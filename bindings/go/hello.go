@@ -64,8 +64,8 @@ func makeCall(call *C.nizwarf_call, answer *C.nizwarf_answer) syscall.Errno {
 		}
 	case C.NIZWARF_READ:
 		if call.offset < C.uint64_t(len(text)) {
-			data := unsafe.Slice((*byte)(unsafe.Add(room, 16)), call.length)
-			if C.uint64_t(call.size) < call.length {
+			data := unsafe.Slice((*byte)(unsafe.Add(room, 16)), C.nizwarf_read_room(call))
+			if int(call.size) < len(data) {
 				data = data[:call.size]
 			}
 			answer.count = C.uint64_t(copy(data, text[call.offset:]))

@@ -54,7 +54,7 @@ static ssize_t find_data(struct worker *w, const nizwarf_call *asked, const nizw
 /* The room for the data of a READ: -1, or how many pieces. */
 static ssize_t find_room(struct worker *w, const nizwarf_call *asked, const nizwarf_room *room, size_t rooms)
 {
-	size_t count = 0, skip = HEADER, left = asked->length;
+	size_t count = 0, skip = HEADER, left = nizwarf_read_room(asked);
 
 	left = left < asked->size ? left : asked->size;
 	for (size_t i = 0; i < rooms && left; i++) {

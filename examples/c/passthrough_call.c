@@ -109,7 +109,7 @@ static int set_size(const struct call *call)
 static int set_times(const struct call *call)
 {
 	const nizwarf_setattr *to = &call->asked->attr;
-	const uint32_t valid = call->asked->flags;
+	const uint32_t valid = nizwarf_setattr_fields(call->asked);
 	const struct timespec times[] = {
 		{ (time_t)to->atime, valid & FATTR_ATIME_NOW ? UTIME_NOW :
 				     valid & FATTR_ATIME     ? to->atimensec :
@@ -125,7 +125,7 @@ static int set_times(const struct call *call)
 static int set_attr(const struct call *call)
 {
 	const nizwarf_setattr *to = &call->asked->attr;
-	const uint32_t valid = call->asked->flags;
+	const uint32_t valid = nizwarf_setattr_fields(call->asked);
 	int error = 0;
 
 	if (valid & FATTR_MODE)
@@ -150,7 +150,7 @@ static int access_node(const struct call *call)
 
 	if (statx(call->node.fd, "", AT_EMPTY_PATH | AT_SYMLINK_NOFOLLOW, WANTED, &seen))
 		return errno;
-	if (asked->more & W_OK && call->all->options.read_only)
+	if (nizwarf_access_mask(asked) & W_OK && call->all->options.read_only)
 		return EROFS;
 	bits = seen.stx_mode & 7;
 	if (asked->uid == seen.stx_uid)
@@ -159,7 +159,7 @@ static int access_node(const struct call *call)
 		bits = seen.stx_mode >> 3 & 7;
 	if (!asked->uid)
 		bits = R_OK | W_OK | (S_ISDIR(seen.stx_mode) || seen.stx_mode & 0111 ? X_OK : 0);
-	return asked->more & 7 & ~bits ? EACCES : 0;
+	return nizwarf_access_mask(asked) & 7 & ~bits ? EACCES : 0;
 }
 
 static int read_link(const struct call *call)
@@ -572,7 +572,7 @@ static uint64_t wanted(const struct passthrough *all)
 static int agree(const struct call *call)
 {
 	struct passthrough *all = call->all;
-	const uint64_t offered = call->asked->length;
+	const uint64_t offered = nizwarf_init_offered(call->asked);
 
 	nodes_forget_all(&all->nodes);
 	/* (it would let in whom they deny) */
@@ -581,7 +581,7 @@ static int agree(const struct call *call)
 			fputs("nizwarf-share: --posix-acl: a client has no access control lists\n", stderr);
 		return EPROTO;
 	}
-	call->answer->count = wanted(all) & offered;
+	nizwarf_answer_options(call->answer, wanted(all) & offered);
 	return 0;
 }
 
@@ -590,7 +590,7 @@ static void forget_each(const struct call *call)
 	const uint8_t *pairs = call->request + call->asked->data.at;
 	uint64_t pair[2];
 
-	for (uint64_t i = 0; i < call->asked->length; i++) {
+	for (uint64_t i = 0; i < nizwarf_batch_forget_pairs(call->asked); i++) {
 		memcpy(pair, pairs + i * sizeof(pair), sizeof(pair));
 		node_forget(&call->all->nodes, pair[0], pair[1]);
 	}
@@ -608,7 +608,7 @@ int make_call(struct call *call)
 		nodes_forget_all(&all->nodes);
 		return 0;
 	case NIZWARF_FORGET:
-		node_forget(&all->nodes, asked->node, asked->length);
+		node_forget(&all->nodes, asked->node, nizwarf_forget_lookups(asked));
 		return 0;
 	case NIZWARF_BATCH_FORGET:
 		forget_each(call);

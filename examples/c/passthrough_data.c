@@ -150,15 +150,16 @@ int allocate(const struct call *call)
 int seek(const struct call *call)
 {
 	const nizwarf_call *asked = call->asked;
+	const uint32_t whence = nizwarf_lseek_whence(asked);
 	off_t at;
 
-	if ((asked->more != SEEK_DATA && asked->more != SEEK_HOLE) || call->file->is_directory)
+	if ((whence != SEEK_DATA && whence != SEEK_HOLE) || call->file->is_directory)
 		return EINVAL;
 	/* What the kernel has yet to write is a hole to the host. Refused once, it answers by the size. */
 	if (writes_later(call))
 		return ENOSYS;
-	at = lseek(call->file->counted.fd, (off_t)asked->offset, (int)asked->more);
-	call->answer->count = (uint64_t)at;
+	at = lseek(call->file->counted.fd, (off_t)asked->offset, (int)whence);
+	nizwarf_answer_offset(call->answer, (uint64_t)at);
 	return failed(at < 0 ? -1 : 0);
 }
 
@@ -173,7 +174,7 @@ int copy_range(const struct call *call)
 
 	if (!into)
 		return EBADF;
-	error = from < 0 || to < 0 || asked->lock_owner ? EINVAL : hold_write(into, false);
+	error = from < 0 || to < 0 || nizwarf_copy_flags(asked) ? EINVAL : hold_write(into, false);
 	if (!error) {
 		lose_fsetid(call);
 		copied = copy_file_range(call->file->counted.fd, &from, into->counted.fd, &to, length, 0);

@@ -40,7 +40,7 @@ static struct statx made_by(const struct call *call)
 
 	if (asked->call == NIZWARF_SYMLINK)
 		return (struct statx){ .stx_mode = S_IFLNK,
-				       .stx_size = strlen(name_of(call, asked->other_name)) };
+				       .stx_size = strlen(name_of(call, nizwarf_symlink_text(asked))) };
 	return (struct statx){ .stx_mode = (uint16_t)(asked->call == NIZWARF_MKDIR ? S_IFDIR :
 						      type			   ? type :
 										     S_IFREG) };
@@ -82,7 +82,7 @@ int make_node(const struct call *call)
 	else if (asked->call == NIZWARF_MKNOD)
 		error = failed(mknodat(directory, name, asked->mode, asked->rdev));
 	else
-		error = failed(symlinkat(name_of(call, asked->other_name), directory, name));
+		error = failed(symlinkat(name_of(call, nizwarf_symlink_text(asked)), directory, name));
 	become_root(call);
 	if (error) {
 		node_give_back(&call->all->nodes);

@@ -75,8 +75,8 @@ static bool kills(const struct call *call)
 
 	return call->worker->is_root &&
 	       (asked->has & NIZWARF_KILL_PRIV ||
-		(asked->call == NIZWARF_SETATTR && asked->flags & FATTR_KILL_SUIDGID) ||
-		(asked->call == NIZWARF_SETXATTR && asked->more & CLEARS_GROUP) ||
+		(asked->call == NIZWARF_SETATTR && nizwarf_setattr_fields(asked) & FATTR_KILL_SUIDGID) ||
+		(asked->call == NIZWARF_SETXATTR && nizwarf_setxattr_more_flags(asked) & CLEARS_GROUP) ||
 		((asked->call == NIZWARF_FALLOCATE || asked->call == NIZWARF_COPY) && asked->uid));
 }
 

@@ -213,7 +213,7 @@ static void longer_record(void)
 		add_name("user.a");
 		add("value", 5);
 		call = ask_call(64, cut);
-		CHECK(call.more == 1 && call.flags == 1 && call.data.len == 5);
+		CHECK(nizwarf_setxattr_more_flags(&call) == 1 && call.flags == 1 && call.data.len == 5);
 		CHECK(!memcmp(request + call.data.at, "value", 5));
 	}
 	session.options = 0;
@@ -277,7 +277,7 @@ static nizwarf_told read_count(size_t space, uint64_t count, int32_t code)
 
 	begin_with(NIZWARF_READ, 2, &read, sizeof(read));
 	call = ask_call(space, 0);
-	CHECK(call.length == space - 16);
+	CHECK(nizwarf_read_room(&call) == space - 16);
 	memset(ours, FILL, space);
 	CHECK(reply(&call, &answer, 20, &told) == code && !told.give_back);
 	return told;
