@@ -26,6 +26,7 @@
 #   the promise         in the table of PROMISE.md, the words are those of the promise above it
 #   the toolchain       README.md's has the logic of `rt version`, whose kits have several letters for one
 #                       logic; figures keep the one that they were made with
+#   the manual          names no field that the headers lack
 #   the version         is one in CHANGELOG.md, include/nizwarf.h and, if it is there, bindings/rust/Cargo.toml
 #   pictures            are those that tools/gate/pictures.sh draws
 set -eu
@@ -315,6 +316,18 @@ for pages, most in ((["README.md"], 750), (COUNTED, 15000)):
     found = sum(len(read(page).split()) for page in pages)
     if found > most:
         faults.append(f"{pages[0]}{' and the others' * (len(pages) > 1)}: {found} words, and {most} are enough")
+HEADERS = "".join(text for path, text in sources.items() if path.startswith("include/"))
+# The fields of each struct, and the names of all fields and parameters.
+FIELDS = {name or short: set(re.findall(r"(\w+)(?=[,;]|\)\()", body)) for name, body, short in re.findall(
+    r"^(?:typedef )?struct (?:nizwarf_(\w+) )?\{\n(.*?)\n\}(?: nizwarf_(\w+))?;", HEADERS, re.M | re.S)}
+NAMES = set().union(*FIELDS.values(), re.findall(r"[ *](\w+)(?=[,)])", HEADERS))
+for page in sorted(glob.glob("packaging/man/*.3")):
+    for number, line in enumerate(read(page).splitlines(), 1):
+        said = re.match(r"\.Fa ([^\"]*)$", line)
+        for name in re.findall(r"\w+(?:->\w+)*", said[1] if said else ""):
+            *structs, field = name.split("->")
+            if field not in (FIELDS.get(structs[-1], ()) if structs else NAMES):
+                faults.append(f"{page}:{number}: the headers have no field {name}")
 VERSIONS = {
     "CHANGELOG.md": r"^## (\d+\.\d+\.\d+)",
     "include/nizwarf.h": r"^#define NIZWARF_VERSION_(?:MAJOR|MINOR|PATCH) (\d+)$",
