@@ -144,9 +144,6 @@ fn small_answers() {
     let access = Request::new(34, 1).u32(4).u32(0);
     let made = answers!(access, Access, slot, to => to.answer(slot, Ok(())));
     assert_eq!(made, replied(reply(&[])));
-    let lseek = Request::new(46, 1).u64(8).u64(9).u32(4).u32(0);
-    let made = answers!(lseek, Lseek, slot, to => to.answer(slot, Ok(1 << 40)));
-    assert_eq!(made, replied(reply(&words(&[0, 256]))));
     let statfs = Statvfs {
         f_bsize: 1,
         f_frsize: 2,

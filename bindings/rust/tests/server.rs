@@ -383,7 +383,7 @@ impl FileSystem for Diary {
         whence: u32,
     ) -> io::Result<u64> {
         self.write(format!("lseek {inode} {handle} {offset} {whence}"));
-        Ok(99)
+        Ok((1 << 40) + 99)
     }
 
     fn copyfilerange(
@@ -590,7 +590,7 @@ fn each_call() -> Vec<(Request, &'static str, Vec<u8>, Vec<u8>)> {
         (
             r(46, 5).u64(8).u64(9).u32(4).u32(0),
             "lseek 5 8 9 4",
-            reply(&words(&[99, 0])),
+            reply(&words(&[99, 256])),
             no.clone(),
         ),
         (

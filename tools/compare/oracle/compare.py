@@ -23,6 +23,9 @@ import time
 import sessions
 
 TOP = pathlib.Path(__file__).resolve().parents[3]
+sys.path.append(str(TOP / "tools/lib"))
+import opcodes
+
 # For each way of asking: the program, the sessions that it gets, and how the oracle is asked.
 WAYS = {"vfs_sessions": ("vfs_sessions", "script", "script"), "vfs_demo": ("vfs_demo", "memory", "memory"),
         "refusals": ("vfs_sessions", "memory", "rooms")}
@@ -30,10 +33,8 @@ WAYS = {"vfs_sessions": ("vfs_sessions", "script", "script"), "vfs_demo": ("vfs_
 NO_ROOMS = ("badline", "limits", "full")
 # How many sessions a task has, at most.
 SESSIONS = 48
-OPCODES = """LOOKUP FORGET GETATTR SETATTR READLINK SYMLINK - MKNOD MKDIR UNLINK RMDIR RENAME LINK OPEN READ WRITE
-STATFS RELEASE - FSYNC SETXATTR GETXATTR LISTXATTR REMOVEXATTR FLUSH INIT OPENDIR READDIR RELEASEDIR FSYNCDIR GETLK
-SETLK SETLKW ACCESS CREATE INTERRUPT BMAP DESTROY IOCTL POLL NOTIFY_REPLY BATCH_FORGET FALLOCATE READDIRPLUS RENAME2
-LSEEK COPY_FILE_RANGE SETUPMAPPING REMOVEMAPPING SYNCFS TMPFILE""".split()
+OPCODES = opcodes.names()
+ORDER = [OPCODES[number] for number in sorted(OPCODES)]
 OUTCOMES = {"reply": "reply", "error": "error", "none": "none", "EncodeMessage": "Encode", "DecodeMessage": "Decode",
             "InvalidHeaderLength": "Length", "MissingParameter": "Missing", "InvalidCString": "CString",
             "InvalidCString2": "CString2", "InvalidXattrSize": "Xattr", "MissingExtension": "Extension",
@@ -80,9 +81,7 @@ def opcode_of(line):
     if len(segments) < 16:
         return "no opcode"
     opcode = int.from_bytes(bytes.fromhex(segments[8:16]), "little")
-    if 1 <= opcode <= len(OPCODES) and OPCODES[opcode - 1] != "-":
-        return OPCODES[opcode - 1]
-    return "unknown"
+    return OPCODES.get(opcode, "unknown")
 
 
 def outcome_of(block):
@@ -179,7 +178,7 @@ def tasks_for(seed, total, oracle, paths):
 
 def tell_counts(counts):
     """A table: a row for each opcode, a column for each outcome that came."""
-    rows = sorted({opcode for opcode, _ in counts}, key=lambda it: ([*OPCODES, it].index(it), it))
+    rows = sorted({opcode for opcode, _ in counts}, key=lambda it: ([*ORDER, it].index(it), it))
     columns = [it for it in OUTCOMES if any(outcome == it for _, outcome in counts)]
     print(" " * 16 + "".join(f"{OUTCOMES[it]:>10}" for it in columns) + f"{'all':>10}")
     for opcode in rows + ["all"]:

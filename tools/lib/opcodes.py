@@ -1,0 +1,12 @@
+"""The names of opcodes by number: those of the table of docs/PROTOCOL.md, and two that are refused there."""
+import pathlib
+import re
+
+PROTOCOL = pathlib.Path(__file__).resolve().parents[2] / "docs/PROTOCOL.md"
+
+
+def names():
+    rows = re.findall(r"^\| (\d+(?:, \d+)*) ([A-Z][A-Z_0-9]*(?:, [A-Z][A-Z_0-9]*)*) \|", PROTOCOL.read_text("utf-8"), re.M)
+    named = {int(number): name for numbers, names in rows
+             for number, name in zip(numbers.split(", "), names.split(", "))}
+    return {**named, 48: "SETUPMAPPING", 49: "REMOVEMAPPING"}
