@@ -2,7 +2,7 @@
 """Holds the list of CONTRIBUTING.md, To add an opcode, against the files in which opcodes stand.
 
 Usage: tools/gate/opcode.py [--opcodes | --count | --files OPCODE]
-Of some opcodes that are there, in all spellings (LSEEK, Lseek, lseek, NIZWARF_LSEEK), each file that git knows and
+Of some opcodes that are there, in all spellings (LSEEK, Lseek, lseek, NIZWARF_LSEEK), each file that git knows or would
 that has one must be named in that section, and each file or pattern that is named must have one. --opcodes prints
 which opcodes, --count how many files each stands in, --files these files. Not counted are pages that a tool writes,
 recorded lines, and where the word is not the opcode.
@@ -33,7 +33,7 @@ def read(path):
 
 
 def tracked():
-    said = subprocess.run(["git", "ls-files"], cwd=HERE, stdout=subprocess.PIPE, text=True, check=True).stdout
+    said = subprocess.run(["git", "ls-files", "--cached", "--others", "--exclude-standard"], cwd=HERE, stdout=subprocess.PIPE, text=True, check=True).stdout
     return [path for path in said.splitlines() if os.path.isfile(os.path.join(HERE, path))]
 
 

@@ -3,6 +3,7 @@
 
 mod common;
 
+use common::diary::{each_call, Row};
 use common::{each_cutting, words, Request, WHO};
 use nizwarf::{Call, Context, Extensions, FsOptions, SecContext, SetattrValid, SetxattrFlags};
 use std::ffi::{CStr, CString};
@@ -27,12 +28,37 @@ fn is(name: &CStr, text: &str) -> bool {
     name.to_bytes() == text.as_bytes()
 }
 
+/// The context of a call that has no caller.
+fn no_one() -> Context {
+    Context { unique: 7, ..Context::default() }
+}
+
+#[test]
+fn each_request_asks_for_its_call() {
+    for Row { request, is, line, .. } in each_call() {
+        each_cutting(FsOptions::empty(), &request.done(), |context, call| {
+            assert!(is(&call), "{line}: {call:?}");
+            let has_caller = !matches!(
+                call,
+                Call::Getlk { .. }
+                    | Call::Setlk { .. }
+                    | Call::Setlkw { .. }
+                    | Call::Bmap { .. }
+                    | Call::Ioctl { .. }
+                    | Call::Poll { .. }
+                    | Call::NotifyReply { .. }
+                    | Call::Init { .. }
+                    | Call::Destroy { .. }
+            );
+            assert_eq!(context, if has_caller { WHO } else { no_one() }, "{line}");
+        });
+    }
+}
+
 #[test]
 fn names() {
     asks!(Request::new(1, 1).name("a.b"), Call::Lookup { parent: 1, name, .. } => is(&name, "a.b"));
     asks!(Request::new(1, 1).name(""), Call::Lookup { name, .. } => is(&name, ""));
-    asks!(Request::new(10, 2).name("x"), Call::Unlink { parent: 2, name, .. } => is(&name, "x"));
-    asks!(Request::new(11, 2).name("x"), Call::Rmdir { parent: 2, name, .. } => is(&name, "x"));
     asks!(
         Request::new(12, 2).u64(3).name("old").name("new"),
         Call::Rename { parent: 2, name, new_parent: 3, new_name, flags: 0, .. }
@@ -43,10 +69,6 @@ fn names() {
         Request::new(45, 2).u64(3).u32(0xff).u32(0).name("old").name("new"),
         Call::Rename { parent: 2, name, new_parent: 3, new_name, flags: 7, .. }
             => is(&name, "old") && is(&new_name, "new")
-    );
-    asks!(
-        Request::new(13, 4).u64(9).name("more"),
-        Call::Link { node: 9, new_parent: 4, new_name, .. } => is(&new_name, "more")
     );
 }
 
@@ -108,7 +130,6 @@ fn extensions_of_new_nodes() {
 
 #[test]
 fn nodes() {
-    asks!(Request::new(2, 5).u64(3), Call::Forget { node: 5, count: 3, .. } => true);
     asks!(
         Request::new(3, 5).u32(0).u32(0).u64(8),
         Call::Getattr { node: 5, handle: None, .. } => true
@@ -128,10 +149,6 @@ fn nodes() {
                 && (attr.atime, attr.mtime, attr.ctime) == (1, 2, 3)
                 && (attr.atimensec, attr.mtimensec, attr.ctimensec) == (4, 5, 6)
     );
-    asks!(Request::new(5, 5), Call::Readlink { node: 5, .. } => true);
-    asks!(Request::new(17, 5), Call::Statfs { node: 5, .. } => true);
-    asks!(Request::new(34, 5).u32(6).u32(0), Call::Access { node: 5, mask: 6, .. } => true);
-    asks!(Request::new(50, 5).u64(0), Call::Syncfs { node: 5, .. } => true);
     let pairs = Request::new(42, 0).u32(2).u32(0).u64(5).u64(1).u64(6).u64(9);
     asks!(
         pairs,
@@ -157,11 +174,6 @@ fn extended_attributes() {
     asks!(
         Request::new(22, 5).u32(100).u32(0).name("user.a"),
         Call::Getxattr { node: 5, name, size: 100, .. } => is(&name, "user.a")
-    );
-    asks!(Request::new(23, 5).u32(0).u32(0), Call::Listxattr { node: 5, size: 0, .. } => true);
-    asks!(
-        Request::new(24, 5).name("user.a"),
-        Call::Removexattr { node: 5, name, .. } => is(&name, "user.a")
     );
 }
 
@@ -219,27 +231,6 @@ fn open_files() {
         release.u32(2).u64(44),
         Call::Release { flush: false, flock_release: true, lock_owner: Some(44), .. } => true
     );
-    asks!(
-        Request::new(20, 5).u64(8).u32(1).u32(0),
-        Call::Fsync { node: 5, datasync: true, handle: 8, .. } => true
-    );
-    asks!(
-        Request::new(25, 5).u64(8).u32(0).u32(0).u64(44),
-        Call::Flush { node: 5, handle: 8, lock_owner: 44, .. } => true
-    );
-    asks!(
-        Request::new(43, 5).u64(8).u64(9).u64(10).u32(3).u32(0),
-        Call::Fallocate { node: 5, handle: 8, mode: 3, offset: 9, length: 10, .. } => true
-    );
-    asks!(
-        Request::new(46, 5).u64(8).u64(9).u32(4).u32(0),
-        Call::Lseek { node: 5, handle: 8, offset: 9, whence: 4, .. } => true
-    );
-    asks!(
-        Request::new(47, 5).u64(8).u64(9).u64(10).u64(11).u64(12).u64(13).u64(14),
-        Call::CopyFileRange { node_in: 5, handle_in: 8, offset_in: 9, node_out: 10,
-            handle_out: 11, offset_out: 12, len: 13, flags: 14, .. } => true
-    );
 }
 
 #[test]
@@ -267,9 +258,8 @@ fn directories() {
 
 #[test]
 fn sessions() {
-    // These have no caller.
-    let no_one = Context { unique: 7, ..Context::default() };
     let options = FsOptions::empty();
+    let no_one = no_one();
     let first = Request::new(26, 0).u32(7).u32(38).u32(131_072);
     // Bit 26 is no option. Without bit 30 the second record is ignored.
     asks!(
@@ -280,13 +270,5 @@ fn sessions() {
         first.u32(1 << 30).u32(1).bytes(&[0; 44]), options, no_one,
         Call::Init { capable, .. } => capable == FsOptions::INIT_EXT | FsOptions::SECURITY_CTX
     );
-    asks!(Request::new(38, 0), options, no_one, Call::Destroy { .. } => true);
-    asks!(Request::new(31, 5), options, no_one, Call::Getlk { .. } => true);
-    asks!(Request::new(32, 5), options, no_one, Call::Setlk { .. } => true);
-    asks!(Request::new(33, 5), options, no_one, Call::Setlkw { .. } => true);
-    asks!(Request::new(37, 5), options, no_one, Call::Bmap { .. } => true);
-    asks!(Request::new(39, 5), options, no_one, Call::Ioctl { .. } => true);
-    asks!(Request::new(40, 5), options, no_one, Call::Poll { .. } => true);
-    asks!(Request::new(41, 5), options, no_one, Call::NotifyReply { .. } => true);
     asks!(Request::new(51, 5), options, no_one, Call::Tmpfile { .. } => true);
 }

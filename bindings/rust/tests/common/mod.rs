@@ -1,6 +1,8 @@
 //! Requests and replies, written by hand from the protocol.
 #![allow(dead_code)] // each test uses some of it
 
+pub mod diary;
+
 use nizwarf::{Asked, Call, Context, FsOptions, Session, Slot};
 use std::io::IoSlice;
 
