@@ -118,7 +118,7 @@ void regain_fsetid(const struct call *call);
 
 /* Whether the client writes later. */
 bool writes_later(const struct call *call);
-/* READ, WRITE, FALLOCATE, LSEEK and COPY_FILE_RANGE of open files: 0, or an error. */
+/* The calls about bytes of open files: 0, or an error. */
 int read_file(const struct call *call);
 int write_file(const struct call *call);
 int allocate(const struct call *call);

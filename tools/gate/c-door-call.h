@@ -69,6 +69,21 @@ static const struct {
 	[NIZWARF_TMPFILE] = { 0, NIZWARF_FAULT },
 };
 
+/* In a record below, the node and the handle of a file that is open. */
+#define ITS_NODE (UINT64_C(1) << 62)
+#define ITS_HANDLE (UINT64_C(1) << 63)
+
+/* Requests about that file, by the numbers of their records. */
+static const struct {
+	uint32_t opcode;
+	uint64_t record[7];
+} about_file[] = {
+	{ NIZWARF_LSEEK, { ITS_HANDLE, 1, 3 } },
+	{ NIZWARF_FALLOCATE, { ITS_HANDLE, 0, 8192, 0 } },
+	{ NIZWARF_COPY, { ITS_HANDLE, 0, ITS_NODE, ITS_HANDLE, 5000, 50, 0 } },
+	{ NIZWARF_SYNCFS, { 0 } },
+};
+
 static inline uint32_t u32(const uint8_t *at)
 {
 	uint32_t n;

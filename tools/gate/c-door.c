@@ -315,11 +315,8 @@ static void try_file(uint64_t node, uint64_t handle)
 					   .size = 5000,
 					   .mode = 0600,
 					   .mtime = 9 };
-	const struct fuse_lseek_in lseek = { .fh = handle, .offset = 1, .whence = 3 };
-	const struct fuse_fallocate_in allocate = { .fh = handle, .length = 8192 };
-	const struct fuse_copy_file_range_in copy = {
-		.fh_in = handle, .nodeid_out = node, .fh_out = handle, .off_out = 5000, .len = 50
-	};
+	uint64_t record[7];
+	size_t n, at;
 
 	begin_with(NIZWARF_WRITE, node, &write, sizeof(write));
 	add(data, sizeof(data));
@@ -334,12 +331,17 @@ static void try_file(uint64_t node, uint64_t handle)
 	try_forms();
 	begin_with(NIZWARF_SETATTR, node, &setattr, sizeof(setattr));
 	try_forms();
-	begin_with(NIZWARF_LSEEK, node, &lseek, sizeof(lseek));
-	try_forms();
-	begin_with(NIZWARF_FALLOCATE, node, &allocate, sizeof(allocate));
-	try_forms();
-	begin_with(NIZWARF_COPY, node, &copy, sizeof(copy));
-	try_forms();
+	for (n = 0; n < sizeof(about_file) / sizeof(*about_file); n++) {
+		for (at = 0; at < 7; at++) {
+			record[at] = about_file[n].record[at];
+			if (record[at] == ITS_NODE)
+				record[at] = node;
+			else if (record[at] == ITS_HANDLE)
+				record[at] = handle;
+		}
+		begin_with(about_file[n].opcode, node, record, forms[about_file[n].opcode].record);
+		try_forms();
+	}
 }
 
 /* Requests that bring a file up to date, and the release of it. */
@@ -357,8 +359,6 @@ static void try_syncs(uint64_t node, uint64_t handle)
 	begin_with(NIZWARF_FSYNCDIR, 1, &sync, sizeof(sync));
 	try_forms();
 	begin_with(NIZWARF_ACCESS, node, &access, sizeof(access));
-	try_forms();
-	begin(NIZWARF_SYNCFS, 1);
 	try_forms();
 	begin_with(NIZWARF_RELEASE, node, &release, sizeof(release));
 	try_forms();
