@@ -164,10 +164,13 @@ impl<'f, F: FileSystem> Asker<'f, F> {
     }
 
     /// Releases the handle of a file whose reply does not fit: the client does not know it.
-    fn release(&self, node: u64, handle: u64, flags: u32) {
-        // Nobody can be told of an error.
-        let _ = self
-            .ask(|fs, ctx| fs.release(ctx, node.into(), flags, handle.into(), false, false, None));
+    fn release_lost(&self, told: &Told, flags: u32) {
+        if let Some((node, handle)) = told.lost_handle() {
+            // Nobody can be told of an error.
+            let _ = self.ask(|fs, ctx| {
+                fs.release(ctx, node.into(), flags, handle.into(), false, false, None)
+            });
+        }
     }
 
     /// Makes the call that a request asks for, and answers it.
@@ -265,11 +268,8 @@ impl<'f, F: FileSystem> Asker<'f, F> {
                     let (handle, options) = opened((handle, options));
                     (entry_of(entry), handle, options)
                 });
-                let made = result.as_ref().ok().map(|(entry, handle, _)| (entry.inode, *handle));
                 let told = to.answer(slot, result);
-                if let (Err(_), Some((node, Some(handle)))) = (told.outcome, made) {
-                    self.release(node, handle, flags);
-                }
+                self.release_lost(&told, flags);
                 told
             }
             other => self.refuse(slot, other),
@@ -357,12 +357,8 @@ impl<'f, F: FileSystem> Asker<'f, F> {
         match call {
             Call::Open { node, kill_priv, flags, to } => {
                 let result = self.ask(|fs, ctx| fs.open(ctx, node.into(), kill_priv, flags));
-                let result = result.map(opened);
-                let handle = handle_of(&result);
-                let told = to.answer(slot, result);
-                if let (Err(_), Some(handle)) = (told.outcome, handle) {
-                    self.release(node, handle, flags);
-                }
+                let told = to.answer(slot, result.map(opened));
+                self.release_lost(&told, flags);
                 told
             }
             Call::Release { node, flags, handle, flush, flock_release, lock_owner, to } => {
@@ -423,10 +419,8 @@ impl<'f, F: FileSystem> Asker<'f, F> {
         match call {
             Call::Opendir { node, flags, to } => {
                 let result = self.ask(|fs, ctx| fs.opendir(ctx, node.into(), flags));
-                let result = result.map(opened);
-                let handle = handle_of(&result);
-                let told = to.answer(slot, result);
-                if let (Err(_), Some(handle)) = (told.outcome, handle) {
+                let told = to.answer(slot, result.map(opened));
+                if let Some((node, handle)) = told.lost_handle() {
                     // Nobody can be told of an error.
                     let _ =
                         self.ask(|fs, ctx| fs.releasedir(ctx, node.into(), flags, handle.into()));
@@ -704,10 +698,6 @@ fn opened<H: Into<u64>>(
 ) -> (Option<u64>, nizwarf::OpenOptions) {
     let options = nizwarf::OpenOptions::from_bits_truncate(options.bits());
     (handle.map(Into::into), options)
-}
-
-fn handle_of(result: &io::Result<(Option<u64>, nizwarf::OpenOptions)>) -> Option<u64> {
-    result.as_ref().ok().and_then(|(handle, _)| *handle)
 }
 
 fn extensions_of(extensions: nizwarf::Extensions) -> Extensions {

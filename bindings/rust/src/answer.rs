@@ -7,6 +7,7 @@ use crate::errno::{answered, Errno};
 use crate::ffi::{Item, Pending, RawAnswer, RawCall, RawEntry, Slot};
 use crate::file_system::{Entry, GetxattrReply, ListxattrReply};
 use crate::flags::{FsOptions, OpenOptions};
+use crate::numbers::{has, number};
 use std::fmt;
 use std::io;
 use std::marker::PhantomData;
@@ -142,6 +143,8 @@ pub struct Told<'s> {
     held: Vec<u64>,
     /// A node of which the answer has an entry, whether the client gets it or not.
     entry: Option<u64>,
+    /// The node and the handle of what was opened, if the client does not get them.
+    lost: Option<(u64, u64)>,
     reply: Reply<'s>,
 }
 
@@ -168,8 +171,21 @@ impl<'s> Told<'s> {
         self.reply
     }
 
+    /// Returns the node and the handle of a file or a directory that was opened in vain: the reply does not fit,
+    /// so the client does not know the handle. Release it before [`give_back`](Self::give_back), as a RELEASE or
+    /// a RELEASEDIR does.
+    #[must_use]
+    pub fn lost_handle(&self) -> Option<(u64, u64)> {
+        self.lost
+    }
+
     fn with_entry(self, node: Option<u64>) -> Self {
         Told { entry: node, ..self }
+    }
+
+    fn with_handle(self, node: u64, handle: Option<u64>) -> Self {
+        let lost = handle.filter(|_| self.outcome.is_err()).map(|handle| (node, handle));
+        Told { lost, ..self }
     }
 }
 
@@ -229,8 +245,6 @@ fn tell<'s>(
     text: &[u8],
     items: &[Item<'_>],
 ) -> Told<'s> {
-    const INIT: u32 = 26;
-    const DESTROY: u32 = 38;
     let call = &pending.call;
     let (code, told) = slot.answer_raw(&pending, text, items);
     let taken = usize::try_from(told.taken).unwrap_or(usize::MAX);
@@ -241,8 +255,8 @@ fn tell<'s>(
     if has_lookups(call) {
         held.extend(items.iter().skip(taken).filter_map(Item::held));
     }
-    let options =
-        matches!(call.call, INIT | DESTROY).then(|| FsOptions::from_bits_truncate(told.options));
+    let options = matches!(call.call, number::INIT | number::DESTROY)
+        .then(|| FsOptions::from_bits_truncate(told.options));
     slot.keep(pending);
     Told {
         outcome: Refusal::of(code),
@@ -250,14 +264,14 @@ fn tell<'s>(
         taken,
         held,
         entry: None,
+        lost: None,
         reply: Reply::new(slot, told.len, told.put),
     }
 }
 
 /// Whether items have lookups: those of a READDIRPLUS do.
 fn has_lookups(call: &RawCall) -> bool {
-    const READDIRPLUS: (u32, u32) = (28, 1 << 9);
-    (call.call, call.has & READDIRPLUS.1) == READDIRPLUS
+    call.call == number::READDIR && call.has & has::PLUS != 0
 }
 
 fn opened(answer: &mut RawAnswer, handle: Option<u64>, options: OpenOptions) {
@@ -351,7 +365,10 @@ impl To<Opened> {
         slot: &mut Slot,
         result: io::Result<(Option<u64>, OpenOptions)>,
     ) -> Told<'_> {
+        let node = self.pending.call.node;
+        let handle = result.as_ref().ok().and_then(|(handle, _)| *handle);
         self.say(slot, result, |answer, (handle, options)| opened(answer, handle, options))
+            .with_handle(node, handle)
     }
 }
 
@@ -363,12 +380,16 @@ impl To<Created> {
         slot: &mut Slot,
         result: io::Result<(Entry, Option<u64>, OpenOptions)>,
     ) -> Told<'_> {
-        let node = result.as_ref().ok().map(|(entry, ..)| entry.inode).filter(|node| *node != 0);
+        let (node, handle) = match &result {
+            Ok((entry, handle, _)) => (entry.inode, *handle),
+            Err(_) => (0, None),
+        };
         self.say(slot, result, |answer, (entry, handle, options)| {
             answer.entry = RawEntry::from(&entry);
             opened(answer, handle, options);
         })
-        .with_entry(node)
+        .with_entry(Some(node).filter(|node| *node != 0))
+        .with_handle(node, handle)
     }
 }
 

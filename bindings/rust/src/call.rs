@@ -10,20 +10,10 @@ use crate::bytes::{Bytes, Forgets};
 use crate::ffi::{Pending, Range, RawCall, Slot};
 use crate::file_system::{Context, Extensions, SecContext};
 use crate::flags::{FsOptions, SetattrValid, SetxattrFlags};
+use crate::numbers::{has, number};
 use std::borrow::Cow;
 use std::ffi::CStr;
 use std::io::{self, IoSlice};
-
-const HAS_HANDLE: u32 = 1 << 0;
-const HAS_OWNER: u32 = 1 << 1;
-const HAS_CONTEXT: u32 = 1 << 2;
-const HAS_GROUP: u32 = 1 << 3;
-const KILL_PRIV: u32 = 1 << 4;
-const DELAYED: u32 = 1 << 5;
-const DATASYNC: u32 = 1 << 6;
-const FLUSHES: u32 = 1 << 7;
-const FLOCK_RELEASE: u32 = 1 << 8;
-const PLUS: u32 = 1 << 9;
 
 /// A request that asks for a call. Its arguments borrow the request. The field `to` of the call, which answers
 /// it, borrows nothing.
@@ -326,11 +316,11 @@ impl<'r> Decoder<'_, 'r> {
     }
 
     fn handle(&self) -> Option<u64> {
-        self.has(HAS_HANDLE).then_some(self.raw.handle)
+        self.has(has::HANDLE).then_some(self.raw.handle)
     }
 
     fn owner(&self) -> Option<u64> {
-        self.has(HAS_OWNER).then_some(self.raw.lock_owner)
+        self.has(has::OWNER).then_some(self.raw.lock_owner)
     }
 
     fn bytes(&self, range: Range) -> Bytes<'r> {
@@ -353,82 +343,103 @@ impl<'r> Decoder<'_, 'r> {
 
     fn extensions(&self) -> Extensions {
         Extensions {
-            secctx: self.has(HAS_CONTEXT).then(|| SecContext {
+            secctx: self.has(has::CONTEXT).then(|| SecContext {
                 name: self.text(self.raw.context_name).into_owned(),
                 secctx: self.bytes(self.raw.context).to_cow().into_owned(),
             }),
-            sup_gid: self.has(HAS_GROUP).then_some(self.raw.group),
+            sup_gid: self.has(has::GROUP).then_some(self.raw.group),
         }
     }
 }
 
-/// Converts a call of the library. (If it is inlined, the fields of all variants are merged in registers, which
-/// takes longer.)
-#[allow(clippy::too_many_lines)] // a table
+/// Converts a call of the library: one about a name, or one of the groups below. (If it is inlined, the fields of
+/// all variants are merged in registers, which takes longer.)
 #[inline(never)]
 pub(crate) fn call_of(pending: Box<Pending>, request: Request<'_>) -> Call<'_> {
     let asked = Decoder { raw: &pending.call, request };
     let raw = asked.raw;
     match raw.call {
-        // About a node or a directory.
-        2 => Call::Forget { node: raw.node, count: raw.length, to: To::new(pending) },
-        3 => Call::Getattr { node: raw.node, handle: asked.handle(), to: To::new(pending) },
-        4 => Call::Setattr {
+        number::LOOKUP => {
+            Call::Lookup { parent: raw.node, name: asked.name(), to: To::new(pending) }
+        }
+        number::SYMLINK => Call::Symlink {
+            linkname: asked.other_name(),
+            parent: raw.node,
+            name: asked.name(),
+            extensions: asked.extensions(),
+            to: To::new(pending),
+        },
+        number::MKNOD => Call::Mknod {
+            parent: raw.node,
+            name: asked.name(),
+            mode: raw.mode,
+            rdev: raw.rdev,
+            umask: raw.umask,
+            extensions: asked.extensions(),
+            to: To::new(pending),
+        },
+        number::MKDIR => Call::Mkdir {
+            parent: raw.node,
+            name: asked.name(),
+            mode: raw.mode,
+            umask: raw.umask,
+            extensions: asked.extensions(),
+            to: To::new(pending),
+        },
+        number::UNLINK => {
+            Call::Unlink { parent: raw.node, name: asked.name(), to: To::new(pending) }
+        }
+        number::RMDIR => Call::Rmdir { parent: raw.node, name: asked.name(), to: To::new(pending) },
+        number::RENAME => Call::Rename {
+            parent: raw.node,
+            name: asked.name(),
+            new_parent: raw.other_node,
+            new_name: asked.other_name(),
+            flags: raw.flags,
+            to: To::new(pending),
+        },
+        number::LINK => Call::Link {
+            node: raw.node,
+            new_parent: raw.other_node,
+            new_name: asked.name(),
+            to: To::new(pending),
+        },
+        _ => node_call(pending, request),
+    }
+}
+
+/// A call about a node, or one of the groups below.
+#[inline]
+fn node_call(pending: Box<Pending>, request: Request<'_>) -> Call<'_> {
+    let asked = Decoder { raw: &pending.call, request };
+    let raw = asked.raw;
+    match raw.call {
+        number::FORGET => Call::Forget { node: raw.node, count: raw.length, to: To::new(pending) },
+        number::GETATTR => {
+            Call::Getattr { node: raw.node, handle: asked.handle(), to: To::new(pending) }
+        }
+        number::SETATTR => Call::Setattr {
             node: raw.node,
             attr: raw.attr,
             handle: asked.handle(),
             valid: SetattrValid::from_bits_truncate(raw.flags),
             to: To::new(pending),
         },
-        5 => Call::Readlink { node: raw.node, to: To::new(pending) },
-        17 => Call::Statfs { node: raw.node, to: To::new(pending) },
-        21 => Call::Setxattr {
-            node: raw.node,
-            name: asked.name(),
-            value: asked.bytes(raw.data).to_cow(),
-            flags: raw.flags,
-            extra_flags: SetxattrFlags::from_bits_truncate(raw.more),
-            to: To::new(pending),
-        },
-        22 => Call::Getxattr {
-            node: raw.node,
-            name: asked.name(),
-            size: raw.size,
-            to: To::new(pending),
-        },
-        23 => Call::Listxattr { node: raw.node, size: raw.size, to: To::new(pending) },
-        24 => Call::Removexattr { node: raw.node, name: asked.name(), to: To::new(pending) },
-        27 => Call::Opendir { node: raw.node, flags: raw.flags, to: To::new(pending) },
-        28 => Call::Readdir {
-            node: raw.node,
-            handle: raw.handle,
-            size: raw.size,
-            offset: raw.offset,
-            plus: asked.has(PLUS),
-            to: To::new(pending),
-        },
-        29 => Call::Releasedir {
-            node: raw.node,
-            flags: raw.flags,
-            handle: raw.handle,
-            to: To::new(pending),
-        },
-        30 => Call::Fsyncdir {
-            node: raw.node,
-            datasync: asked.has(DATASYNC),
-            handle: raw.handle,
-            to: To::new(pending),
-        },
-        34 => Call::Access { node: raw.node, mask: raw.more, to: To::new(pending) },
-        50 => Call::Syncfs { node: raw.node, to: To::new(pending) },
-        // About a file.
-        14 => Call::Open {
-            node: raw.node,
-            kill_priv: asked.has(KILL_PRIV),
-            flags: raw.flags,
-            to: To::new(pending),
-        },
-        15 => Call::Read {
+        number::READLINK => Call::Readlink { node: raw.node, to: To::new(pending) },
+        number::STATFS => Call::Statfs { node: raw.node, to: To::new(pending) },
+        number::ACCESS => Call::Access { node: raw.node, mask: raw.more, to: To::new(pending) },
+        number::SYNCFS => Call::Syncfs { node: raw.node, to: To::new(pending) },
+        _ => data_call(pending, request),
+    }
+}
+
+/// A call that reads or writes data, or one of the groups below.
+#[inline]
+fn data_call(pending: Box<Pending>, request: Request<'_>) -> Call<'_> {
+    let asked = Decoder { raw: &pending.call, request };
+    let raw = asked.raw;
+    match raw.call {
+        number::READ => Call::Read {
             node: raw.node,
             handle: raw.handle,
             size: raw.size,
@@ -437,55 +448,19 @@ pub(crate) fn call_of(pending: Box<Pending>, request: Request<'_>) -> Call<'_> {
             flags: raw.flags,
             to: To::new(pending),
         },
-        16 => Call::Write {
+        number::WRITE => Call::Write {
             node: raw.node,
             handle: raw.handle,
             data: asked.bytes(raw.data).first(raw.size as usize),
             size: raw.size,
             offset: raw.offset,
             lock_owner: asked.owner(),
-            delayed_write: asked.has(DELAYED),
-            kill_priv: asked.has(KILL_PRIV),
+            delayed_write: asked.has(has::DELAYED),
+            kill_priv: asked.has(has::KILL_PRIV),
             flags: raw.flags,
             to: To::new(pending),
         },
-        18 => Call::Release {
-            node: raw.node,
-            flags: raw.flags,
-            handle: raw.handle,
-            flush: asked.has(FLUSHES),
-            flock_release: asked.has(FLOCK_RELEASE),
-            lock_owner: asked.owner(),
-            to: To::new(pending),
-        },
-        20 => Call::Fsync {
-            node: raw.node,
-            datasync: asked.has(DATASYNC),
-            handle: raw.handle,
-            to: To::new(pending),
-        },
-        25 => Call::Flush {
-            node: raw.node,
-            handle: raw.handle,
-            lock_owner: raw.lock_owner,
-            to: To::new(pending),
-        },
-        43 => Call::Fallocate {
-            node: raw.node,
-            handle: raw.handle,
-            mode: raw.mode,
-            offset: raw.offset,
-            length: raw.length,
-            to: To::new(pending),
-        },
-        46 => Call::Lseek {
-            node: raw.node,
-            handle: raw.handle,
-            offset: raw.offset,
-            whence: raw.more,
-            to: To::new(pending),
-        },
-        47 => Call::CopyFileRange {
+        number::COPY => Call::CopyFileRange {
             node_in: raw.node,
             handle_in: raw.handle,
             offset_in: raw.offset,
@@ -496,76 +471,156 @@ pub(crate) fn call_of(pending: Box<Pending>, request: Request<'_>) -> Call<'_> {
             flags: raw.lock_owner,
             to: To::new(pending),
         },
-        // That look up, create, rename or remove a name.
-        1 => Call::Lookup { parent: raw.node, name: asked.name(), to: To::new(pending) },
-        6 => Call::Symlink {
-            linkname: asked.other_name(),
-            parent: raw.node,
-            name: asked.name(),
-            extensions: asked.extensions(),
-            to: To::new(pending),
-        },
-        8 => Call::Mknod {
-            parent: raw.node,
-            name: asked.name(),
-            mode: raw.mode,
-            rdev: raw.rdev,
-            umask: raw.umask,
-            extensions: asked.extensions(),
-            to: To::new(pending),
-        },
-        9 => Call::Mkdir {
+        _ => file_call(pending, request),
+    }
+}
+
+/// One that creates or opens a file, or another one about an open file, or one of the groups below.
+#[inline]
+fn file_call(pending: Box<Pending>, request: Request<'_>) -> Call<'_> {
+    let asked = Decoder { raw: &pending.call, request };
+    let raw = asked.raw;
+    match raw.call {
+        number::CREATE => Call::Create {
             parent: raw.node,
             name: asked.name(),
             mode: raw.mode,
-            umask: raw.umask,
-            extensions: asked.extensions(),
-            to: To::new(pending),
-        },
-        10 => Call::Unlink { parent: raw.node, name: asked.name(), to: To::new(pending) },
-        11 => Call::Rmdir { parent: raw.node, name: asked.name(), to: To::new(pending) },
-        12 => Call::Rename {
-            parent: raw.node,
-            name: asked.name(),
-            new_parent: raw.other_node,
-            new_name: asked.other_name(),
+            kill_priv: asked.has(has::KILL_PRIV),
             flags: raw.flags,
+            umask: raw.umask,
+            extensions: asked.extensions(),
             to: To::new(pending),
         },
-        13 => Call::Link {
+        number::OPEN => Call::Open {
             node: raw.node,
-            new_parent: raw.other_node,
-            new_name: asked.name(),
-            to: To::new(pending),
-        },
-        35 => Call::Create {
-            parent: raw.node,
-            name: asked.name(),
-            mode: raw.mode,
-            kill_priv: asked.has(KILL_PRIV),
+            kill_priv: asked.has(has::KILL_PRIV),
             flags: raw.flags,
-            umask: raw.umask,
-            extensions: asked.extensions(),
             to: To::new(pending),
         },
-        // About the session; without arguments; unknown.
-        26 => Call::Init {
+        number::RELEASE => Call::Release {
+            node: raw.node,
+            flags: raw.flags,
+            handle: raw.handle,
+            flush: asked.has(has::FLUSHES),
+            flock_release: asked.has(has::FLOCK_RELEASE),
+            lock_owner: asked.owner(),
+            to: To::new(pending),
+        },
+        number::FLUSH => Call::Flush {
+            node: raw.node,
+            handle: raw.handle,
+            lock_owner: raw.lock_owner,
+            to: To::new(pending),
+        },
+        number::FSYNC => Call::Fsync {
+            node: raw.node,
+            datasync: asked.has(has::DATASYNC),
+            handle: raw.handle,
+            to: To::new(pending),
+        },
+        number::FALLOCATE => Call::Fallocate {
+            node: raw.node,
+            handle: raw.handle,
+            mode: raw.mode,
+            offset: raw.offset,
+            length: raw.length,
+            to: To::new(pending),
+        },
+        number::LSEEK => Call::Lseek {
+            node: raw.node,
+            handle: raw.handle,
+            offset: raw.offset,
+            whence: raw.more,
+            to: To::new(pending),
+        },
+        _ => directory_call(pending, request),
+    }
+}
+
+/// A call about an open directory, or one of the groups below.
+#[inline]
+fn directory_call(pending: Box<Pending>, request: Request<'_>) -> Call<'_> {
+    let asked = Decoder { raw: &pending.call, request };
+    let raw = asked.raw;
+    match raw.call {
+        number::OPENDIR => Call::Opendir { node: raw.node, flags: raw.flags, to: To::new(pending) },
+        number::READDIR => Call::Readdir {
+            node: raw.node,
+            handle: raw.handle,
+            size: raw.size,
+            offset: raw.offset,
+            plus: asked.has(has::PLUS),
+            to: To::new(pending),
+        },
+        number::RELEASEDIR => Call::Releasedir {
+            node: raw.node,
+            flags: raw.flags,
+            handle: raw.handle,
+            to: To::new(pending),
+        },
+        number::FSYNCDIR => Call::Fsyncdir {
+            node: raw.node,
+            datasync: asked.has(has::DATASYNC),
+            handle: raw.handle,
+            to: To::new(pending),
+        },
+        _ => xattr_call(pending, request),
+    }
+}
+
+/// A call about extended attributes, or one of the group below.
+#[inline]
+fn xattr_call(pending: Box<Pending>, request: Request<'_>) -> Call<'_> {
+    let asked = Decoder { raw: &pending.call, request };
+    let raw = asked.raw;
+    match raw.call {
+        number::SETXATTR => Call::Setxattr {
+            node: raw.node,
+            name: asked.name(),
+            value: asked.bytes(raw.data).to_cow(),
+            flags: raw.flags,
+            extra_flags: SetxattrFlags::from_bits_truncate(raw.more),
+            to: To::new(pending),
+        },
+        number::GETXATTR => Call::Getxattr {
+            node: raw.node,
+            name: asked.name(),
+            size: raw.size,
+            to: To::new(pending),
+        },
+        number::LISTXATTR => {
+            Call::Listxattr { node: raw.node, size: raw.size, to: To::new(pending) }
+        }
+        number::REMOVEXATTR => {
+            Call::Removexattr { node: raw.node, name: asked.name(), to: To::new(pending) }
+        }
+        _ => other_call(pending, request),
+    }
+}
+
+/// A call about the session or about many nodes, one without arguments, or an unknown one.
+#[inline]
+fn other_call(pending: Box<Pending>, request: Request<'_>) -> Call<'_> {
+    let asked = Decoder { raw: &pending.call, request };
+    let raw = asked.raw;
+    match raw.call {
+        number::INIT => Call::Init {
             capable: FsOptions::from_bits_truncate(raw.length),
             readahead: raw.readahead,
             to: To::new(pending),
         },
-        31 => Call::Getlk { to: To::new(pending) },
-        32 => Call::Setlk { to: To::new(pending) },
-        33 => Call::Setlkw { to: To::new(pending) },
-        37 => Call::Bmap { to: To::new(pending) },
-        38 => Call::Destroy { to: To::new(pending) },
-        39 => Call::Ioctl { to: To::new(pending) },
-        40 => Call::Poll { to: To::new(pending) },
-        41 => Call::NotifyReply { to: To::new(pending) },
-        42 => {
+        number::DESTROY => Call::Destroy { to: To::new(pending) },
+        number::BATCH_FORGET => {
             Call::BatchForget { forgets: Forgets::new(asked.bytes(raw.data)), to: To::new(pending) }
         }
-        51 => Call::Tmpfile { to: To::new(pending) },
+        number::GETLK => Call::Getlk { to: To::new(pending) },
+        number::SETLK => Call::Setlk { to: To::new(pending) },
+        number::SETLKW => Call::Setlkw { to: To::new(pending) },
+        number::BMAP => Call::Bmap { to: To::new(pending) },
+        number::IOCTL => Call::Ioctl { to: To::new(pending) },
+        number::POLL => Call::Poll { to: To::new(pending) },
+        number::NOTIFY_REPLY => Call::NotifyReply { to: To::new(pending) },
+        number::TMPFILE => Call::Tmpfile { to: To::new(pending) },
         number => Call::Unknown { number, to: To::new(pending) },
     }
 }

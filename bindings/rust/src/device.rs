@@ -4,6 +4,7 @@
 use crate::errno::Errno;
 use crate::ffi::Slot;
 use crate::file_system::FileSystem;
+use crate::numbers::number;
 use crate::server::Server;
 use std::fs::File;
 use std::io::{self, IoSlice, IoSliceMut, Read, Write};
@@ -89,8 +90,8 @@ fn send(mut device: &File, request: &[u8], reply: &[u8]) -> io::Result<()> {
 
 /// Answers a request EIO, unless it has no reply, or no number.
 fn send_fault(mut device: &File, request: &[u8]) -> io::Result<()> {
-    const FORGET: [u8; 4] = 2_u32.to_le_bytes();
-    const BATCH_FORGET: [u8; 4] = 42_u32.to_le_bytes();
+    const FORGET: [u8; 4] = number::FORGET.to_le_bytes();
+    const BATCH_FORGET: [u8; 4] = number::BATCH_FORGET.to_le_bytes();
     let (opcode, unique) = match (request.get(4..8), request.get(8..16)) {
         (Some(opcode), Some(unique)) => (opcode, unique),
         _ => return Ok(()),

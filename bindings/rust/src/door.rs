@@ -2,9 +2,10 @@
 #![forbid(unsafe_code)]
 
 use crate::call::{call_of, context_of, Call, PendingCall};
-use crate::ffi::{RawSession, Slot, ASKED};
+use crate::ffi::{RawSession, Slot};
 use crate::file_system::Context;
 use crate::flags::FsOptions;
+use crate::numbers::{code, number};
 use std::error::Error;
 use std::fmt;
 use std::io::{IoSlice, IoSliceMut};
@@ -105,10 +106,9 @@ impl Error for WrongSize {}
 /// assert_eq!(request[52], 0x20);
 /// ```
 pub fn withhold(request: &mut [u8], options: FsOptions) {
-    const INIT: u32 = 26;
     // `flags` and `flags2` of `fuse_init_in`, one after the other.
     const FLAGS: usize = 52;
-    if request.get(4..8) == Some(&INIT.to_le_bytes()) {
+    if request.get(4..8) == Some(&number::INIT.to_le_bytes()) {
         for (byte, withheld) in request.iter_mut().skip(FLAGS).zip(options.bits().to_le_bytes()) {
             *byte &= !withheld;
         }
@@ -145,16 +145,16 @@ impl Refusal {
     /// Converts a code of the library.
     pub(crate) fn of(code: i32) -> Result<(), Refusal> {
         Err(match code {
-            0 => return Ok(()),
-            1 => Refusal::DecodeMessage,
-            2 => Refusal::EncodeMessage,
-            4 => Refusal::MissingParameter,
-            5 => Refusal::InvalidCString,
-            7 => Refusal::InvalidHeaderLength,
-            8 => Refusal::InvalidXattrSize,
-            9 => Refusal::MissingExtension,
-            10 => Refusal::OutOfMemory,
-            13 => Refusal::TooLong,
+            code::OK => return Ok(()),
+            code::DECODE_MESSAGE => Refusal::DecodeMessage,
+            code::ENCODE_MESSAGE => Refusal::EncodeMessage,
+            code::MISSING_PARAMETER => Refusal::MissingParameter,
+            code::INVALID_C_STRING => Refusal::InvalidCString,
+            code::INVALID_HEADER_LENGTH => Refusal::InvalidHeaderLength,
+            code::INVALID_XATTR_SIZE => Refusal::InvalidXattrSize,
+            code::MISSING_EXTENSION => Refusal::MissingExtension,
+            code::OUT_OF_MEMORY => Refusal::OutOfMemory,
+            code::TOO_LONG => Refusal::TooLong,
             other => Refusal::Other(other),
         })
     }
@@ -330,7 +330,7 @@ impl Slot {
     ) -> Result<T, Finished<'s>> {
         let mut pending = self.take(session.0);
         let (code, told) = self.ask_raw(&mut pending, request, room);
-        if code == ASKED {
+        if code == code::ASKED {
             let context = context_of(&pending.call);
             let call = call_of(pending, request);
             return Ok(make(self, context, call));

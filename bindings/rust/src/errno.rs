@@ -101,6 +101,11 @@ pub(crate) fn numbered(error: io::Error) -> io::Error {
     errno.into()
 }
 
+/// An error without a number, which is answered EIO.
+pub(crate) fn no_number() -> io::Error {
+    io::Error::from(io::ErrorKind::Other)
+}
+
 #[cfg(test)]
 mod tests {
     use super::*;

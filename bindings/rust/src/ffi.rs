@@ -266,9 +266,6 @@ pub(crate) struct Pending {
     pub answer: RawAnswer,
 }
 
-/// The code of a request that asks for a call.
-pub(crate) const ASKED: i32 = 15;
-
 impl RawCall {
     /// No call.
     pub const NONE: Self = Self {
@@ -475,7 +472,7 @@ impl Slot {
         self.spare = Some(pending);
     }
 
-    /// Asks the library for the call of a request. It is in `pending` if the code is [`ASKED`].
+    /// Asks the library for the call of a request. It is in `pending` if the code is [`ASKED`](crate::numbers::code::ASKED).
     pub(crate) fn ask_raw(
         &mut self,
         pending: &mut Pending,

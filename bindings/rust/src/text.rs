@@ -2,8 +2,9 @@
 #![forbid(unsafe_code)]
 
 use crate::door::{Refusal, Session};
-use crate::ffi::{self, ASKED};
+use crate::ffi;
 use crate::flags::FsOptions;
+use crate::numbers::code;
 
 /// Returns a request as a line of text without a newline: its opcode and its fields by name. `options` are
 /// those that were agreed on ([`Session::options`]).
@@ -77,7 +78,7 @@ impl Session {
     /// context: nothing else is allocated.
     pub fn check(&self, request: &[u8], room: usize) -> Result<Checked, Refusal> {
         let (code, call, interrupts) = ffi::check(&self.0, request, room);
-        if code == ASKED {
+        if code == code::ASKED {
             return Ok(Checked::Call(call.call));
         }
         Refusal::of(code)?;

@@ -315,6 +315,41 @@ fn an_entry_that_does_not_fit_is_given_back() {
 }
 
 #[test]
+fn a_handle_that_does_not_fit_is_told() {
+    let none = OpenOptions::empty();
+    let lost = |request: Request, room, answered: io::Result<Option<u64>>| {
+        let mut lost = None;
+        let made = answer(&request.done(), room, |slot, call| {
+            let told = match call {
+                Call::Open { to, .. } | Call::Opendir { to, .. } => {
+                    to.answer(slot, answered.map(|handle| (handle, none)))
+                }
+                Call::Create { to, .. } => {
+                    to.answer(slot, answered.map(|handle| (entry(9), handle, none)))
+                }
+                other => panic!("{other:?}"),
+            };
+            lost = told.lost_handle();
+            told
+        });
+        assert_eq!(made.outcome.is_err(), made.len == 0);
+        lost
+    };
+    let open = |opcode| Request::new(opcode, 5).u32(0).u32(0);
+    let create = || Request::new(35, 5).u32(0).u32(0).u32(0).u32(0).name("a");
+    // The reply of an OPEN or an OPENDIR has 32 bytes, that of a CREATE 160. The handle is one of its new node.
+    for opcode in [14, 27] {
+        assert_eq!(lost(open(opcode), 31, Ok(Some(3))), Some((5, 3)));
+        assert_eq!(lost(open(opcode), 32, Ok(Some(3))), None);
+        assert_eq!(lost(open(opcode), 31, Ok(None)), None);
+        assert_eq!(lost(open(opcode), 15, Err(io::ErrorKind::Other.into())), None);
+    }
+    assert_eq!(lost(create(), 159, Ok(Some(3))), Some((9, 3)));
+    assert_eq!(lost(create(), 160, Ok(Some(3))), None);
+    assert_eq!(lost(create(), 159, Ok(None)), None);
+}
+
+#[test]
 #[should_panic(expected = "an entry of node 9")]
 fn what_may_have_to_be_given_back_is_not_forgotten() {
     let request = lookup().done();
