@@ -314,7 +314,7 @@ impl To<Data> {
     /// Returns how many bytes of data fit: at most `size`, and what the buffer has after 16 bytes.
     #[must_use]
     pub fn most(&self) -> usize {
-        let room = usize::try_from(self.pending.call.length).unwrap_or(usize::MAX);
+        let room = usize::try_from(self.pending.call.read_room()).unwrap_or(usize::MAX);
         room.min(self.pending.call.size as usize)
     }
 
@@ -331,7 +331,7 @@ impl To<Want> {
     /// agreed on without being wanted: [`withhold`](crate::withhold()) names and declines them.
     #[inline]
     pub fn answer(self, slot: &mut Slot, result: io::Result<FsOptions>) -> Told<'_> {
-        self.say(slot, result, |answer, options| answer.count = options.bits())
+        self.say(slot, result, |answer, options| answer.set_options(options.bits()))
     }
 }
 
@@ -458,7 +458,7 @@ impl To<Offset> {
     /// Answers with an offset.
     #[inline]
     pub fn answer(self, slot: &mut Slot, result: io::Result<u64>) -> Told<'_> {
-        self.say(slot, result, |answer, offset| answer.count = offset)
+        self.say(slot, result, RawAnswer::set_offset)
     }
 }
 

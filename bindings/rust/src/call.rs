@@ -363,7 +363,7 @@ pub(crate) fn call_of(pending: Box<Pending>, request: Request<'_>) -> Call<'_> {
             Call::Lookup { parent: raw.node, name: asked.name(), to: To::new(pending) }
         }
         number::SYMLINK => Call::Symlink {
-            linkname: asked.other_name(),
+            linkname: asked.text(raw.symlink_text()),
             parent: raw.node,
             name: asked.name(),
             extensions: asked.extensions(),
@@ -414,7 +414,9 @@ fn node_call(pending: Box<Pending>, request: Request<'_>) -> Call<'_> {
     let asked = Decoder { raw: &pending.call, request };
     let raw = asked.raw;
     match raw.call {
-        number::FORGET => Call::Forget { node: raw.node, count: raw.length, to: To::new(pending) },
+        number::FORGET => {
+            Call::Forget { node: raw.node, count: raw.forget_lookups(), to: To::new(pending) }
+        }
         number::GETATTR => {
             Call::Getattr { node: raw.node, handle: asked.handle(), to: To::new(pending) }
         }
@@ -422,12 +424,14 @@ fn node_call(pending: Box<Pending>, request: Request<'_>) -> Call<'_> {
             node: raw.node,
             attr: raw.attr,
             handle: asked.handle(),
-            valid: SetattrValid::from_bits_truncate(raw.flags),
+            valid: SetattrValid::from_bits_truncate(raw.setattr_fields()),
             to: To::new(pending),
         },
         number::READLINK => Call::Readlink { node: raw.node, to: To::new(pending) },
         number::STATFS => Call::Statfs { node: raw.node, to: To::new(pending) },
-        number::ACCESS => Call::Access { node: raw.node, mask: raw.more, to: To::new(pending) },
+        number::ACCESS => {
+            Call::Access { node: raw.node, mask: raw.access_mask(), to: To::new(pending) }
+        }
         number::SYNCFS => Call::Syncfs { node: raw.node, to: To::new(pending) },
         _ => data_call(pending, request),
     }
@@ -468,7 +472,7 @@ fn data_call(pending: Box<Pending>, request: Request<'_>) -> Call<'_> {
             handle_out: raw.other_handle,
             offset_out: raw.other_offset,
             len: raw.length,
-            flags: raw.lock_owner,
+            flags: raw.copy_flags(),
             to: To::new(pending),
         },
         _ => file_call(pending, request),
@@ -530,7 +534,7 @@ fn file_call(pending: Box<Pending>, request: Request<'_>) -> Call<'_> {
             node: raw.node,
             handle: raw.handle,
             offset: raw.offset,
-            whence: raw.more,
+            whence: raw.lseek_whence(),
             to: To::new(pending),
         },
         _ => directory_call(pending, request),
@@ -579,7 +583,7 @@ fn xattr_call(pending: Box<Pending>, request: Request<'_>) -> Call<'_> {
             name: asked.name(),
             value: asked.bytes(raw.data).to_cow(),
             flags: raw.flags,
-            extra_flags: SetxattrFlags::from_bits_truncate(raw.more),
+            extra_flags: SetxattrFlags::from_bits_truncate(raw.setxattr_more_flags()),
             to: To::new(pending),
         },
         number::GETXATTR => Call::Getxattr {
@@ -605,7 +609,7 @@ fn other_call(pending: Box<Pending>, request: Request<'_>) -> Call<'_> {
     let raw = asked.raw;
     match raw.call {
         number::INIT => Call::Init {
-            capable: FsOptions::from_bits_truncate(raw.length),
+            capable: FsOptions::from_bits_truncate(raw.init_offered()),
             readahead: raw.readahead,
             to: To::new(pending),
         },

@@ -129,7 +129,7 @@ pub struct Item<'a> {
     name: *const u8,
     name_size: usize,
     entry: RawEntry,
-    kind: u32,
+    type_: u32,
     error: i32,
     lent: PhantomData<&'a CStr>,
 }
@@ -303,6 +303,54 @@ impl RawCall {
     };
 }
 
+/// What a field is in the call of this name, as the functions of the header read it.
+impl RawCall {
+    /// How many lookups of the node are given back.
+    pub fn forget_lookups(&self) -> u64 {
+        self.length
+    }
+
+    /// Which fields of `attr` to set, as bits of [`SetattrValid`](crate::SetattrValid).
+    pub fn setattr_fields(&self) -> u32 {
+        self.flags
+    }
+
+    /// The text of the link.
+    pub fn symlink_text(&self) -> Range {
+        self.other_name
+    }
+
+    /// How many bytes of data there is room for.
+    pub fn read_room(&self) -> u64 {
+        self.length
+    }
+
+    /// Further flags, as bits of [`SetxattrFlags`](crate::SetxattrFlags).
+    pub fn setxattr_more_flags(&self) -> u32 {
+        self.more
+    }
+
+    /// What is to be allowed, as `R_OK`.
+    pub fn access_mask(&self) -> u32 {
+        self.more
+    }
+
+    /// `SEEK_DATA` or `SEEK_HOLE`.
+    pub fn lseek_whence(&self) -> u32 {
+        self.more
+    }
+
+    /// The flags of `copy_file_range(2)`.
+    pub fn copy_flags(&self) -> u64 {
+        self.lock_owner
+    }
+
+    /// The options that are offered.
+    pub fn init_offered(&self) -> u64 {
+        self.length
+    }
+}
+
 impl RawEntry {
     /// No entry.
     pub const NONE: Self = Self {
@@ -342,6 +390,16 @@ impl RawAnswer {
         entry: RawEntry::NONE,
         statfs: Statvfs::NONE,
     };
+
+    /// Answers an INIT with the options that are wanted.
+    pub fn set_options(&mut self, options: u64) {
+        self.count = options;
+    }
+
+    /// Answers an LSEEK with a place in the file.
+    pub fn set_offset(&mut self, offset: u64) {
+        self.count = offset;
+    }
 }
 
 impl<'a> Item<'a> {
@@ -351,7 +409,7 @@ impl<'a> Item<'a> {
         name: ptr::null(),
         name_size: 0,
         entry: RawEntry::NONE,
-        kind: 0,
+        type_: 0,
         error: 0,
         lent: PhantomData,
     };
@@ -362,7 +420,14 @@ impl<'a> Item<'a> {
     #[must_use]
     pub fn new(ino: u64, offset: u64, kind: u32, name: &'a CStr) -> Self {
         let bytes = name.to_bytes_with_nul();
-        Item { ino, offset, name: bytes.as_ptr(), name_size: bytes.len(), kind, ..Item::NONE }
+        Item {
+            ino,
+            offset,
+            name: bytes.as_ptr(),
+            name_size: bytes.len(),
+            type_: kind,
+            ..Item::NONE
+        }
     }
 
     /// Adds the result of looking the name up, which READDIRPLUS needs for all items but `.` and `..`;
@@ -617,7 +682,7 @@ mod layout {
     laid_out!(Statvfs, 64, Statvfs::NONE, f_bsize: 1 => 0, f_frsize: 1 => 8, f_blocks: 1 => 16,
         f_bfree: 1 => 24, f_bavail: 1 => 32, f_files: 1 => 40, f_ffree: 1 => 48, f_namemax: 1 => 56);
     laid_out!(Item<'static>, 168, Item::NONE, ino: 1 => 0, offset: 1 => 8, name: 1 as *const u8 => 16,
-        name_size: 1 => 24, entry: RawEntry { node: 1, ..RawEntry::NONE } => 32, kind: 1 => 160,
+        name_size: 1 => 24, entry: RawEntry { node: 1, ..RawEntry::NONE } => 32, type_: 1 => 160,
         error: 1 => 164);
     laid_out!(RawAnswer, 224, RawAnswer::DONE, error: 1 => 0, has_handle: 1 => 4, handle: 1 => 8,
         count: 1 => 16, open_flags: 1 => 24, has_count: 1 => 28,
