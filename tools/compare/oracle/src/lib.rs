@@ -100,4 +100,5 @@ pub mod noted;
 pub mod nullfs;
 pub mod request;
 pub mod seededfs;
+pub mod seeds;
 pub mod told;

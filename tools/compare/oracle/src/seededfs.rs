@@ -3,20 +3,16 @@
 use crate::file::{File, Positioned};
 use crate::filesystem::*;
 use crate::fuse::{Attr, SetattrIn};
-use crate::noted::Notes;
+use crate::noted::{c, e, h, nothing, o, s, Notes};
 use crate::request::hex;
+use crate::seeds::{
+    attr, bare_entry, bytes, entry, fault_of, handle, none, opts, os, time, wanted,
+};
 use crate::told::{Answers, Item, Told};
 use std::ffi::{CStr, CString};
 use std::io;
 use std::sync::atomic::{AtomicU32, Ordering};
 use std::time::Duration;
-
-fn none<T>() -> io::Result<T> {
-    Err(io::Error::other("a fault without a number"))
-}
-fn os<T>(n: i32) -> io::Result<T> {
-    Err(io::Error::from_raw_os_error(n))
-}
 
 pub struct SeededFs {
     word: AtomicU32,
@@ -60,99 +56,22 @@ impl Source {
     }
 }
 
-/// The entry of a node that is told.
-fn bare_entry(inode: u64) -> Entry {
-    Entry {
-        inode,
-        generation: 0,
-        attr: Attr::default(),
-        attr_timeout: Duration::ZERO,
-        entry_timeout: Duration::ZERO,
-    }
-}
-
-fn bytes(q: u64, n: u64) -> Vec<u8> {
-    (0..n).map(|i| ((q + i) % 256) as u8).collect()
-}
-fn time(t: u64) -> Duration {
-    Duration::new(t % 100, (t % 1000) as u32 * 1000)
-}
-fn attr(t: u64, ino: u64, ctx: Context) -> Attr {
-    Attr {
-        ino,
-        size: t * 7,
-        blocks: t,
-        atime: t + 1,
-        mtime: t + 2,
-        ctime: t + 3,
-        atimensec: (t % 1_000_000) as u32,
-        mtimensec: (t % 1_000_000) as u32 + 1,
-        ctimensec: (t % 1_000_000) as u32 + 2,
-        mode: 0o100644,
-        nlink: 1 + (t % 3) as u32,
-        uid: ctx.uid,
-        gid: ctx.gid,
-        rdev: (t % 256) as u32,
-        blksize: 4096,
-        flags: (t % 4) as u32,
-    }
-}
-fn entry(q: u64, name: &CStr, ctx: Context) -> Entry {
-    let t = q + name.to_bytes().iter().map(|&b| b as u64).sum::<u64>();
-    let inode = if t % 5 == 4 {
-        0
-    } else if t % 97 == 96 {
-        u64::MAX
-    } else {
-        1000 + t
-    };
-    Entry {
-        inode,
-        generation: t * 3,
-        attr: attr(t, inode, ctx),
-        attr_timeout: time(t),
-        entry_timeout: time(t + 1),
-    }
-}
-fn handle(q: u64) -> Option<u64> {
-    if q % 3 == 0 {
-        None
-    } else {
-        Some(q * 4_294_967_297)
-    }
-}
-fn opts(q: u64) -> OpenOptions {
-    OpenOptions::from_bits_truncate((q % 128) as u32)
-}
-/// The options that INIT wants, by their bits.
-fn wanted(q: u64) -> u64 {
-    match q % 6 {
-        0 => 0,
-        1 => u64::MAX,
-        2 => 1 << 32,
-        3 => 1 << 29,
-        4 => 1 << 29 | 1 << 32,
-        _ => 1 << 13 | 1 << 17 | 1 << 28 | 1 << 29 | 1 << 32,
-    }
-}
-fn fault_of(p: u64) -> io::Result<()> {
-    if p % 8 != 7 {
-        return Ok(());
-    }
-    match (p / 8) % 160 {
-        0 => none(),
-        n @ 1..=133 => os(n as i32),
-        134 => os(i32::MAX),
-        135 => os(0),
-        136 => os(-5),
-        137 => os(i32::MIN),
-        _ => os(libc::ENOENT),
-    }
-}
-
 impl SeededFs {
     pub fn new(answers: Answers, notes: Notes) -> SeededFs {
         SeededFs { word: AtomicU32::new(0), answers, notes }
+    }
+    /// Notes a call with what it is answered, of which `told` tells. What a file does while it runs stands
+    /// between the two.
+    fn noted<T>(
+        &self,
+        call: impl Into<String>,
+        run: impl FnOnce() -> io::Result<T>,
+        told: impl Fn(&T) -> String,
+    ) -> io::Result<T> {
+        self.notes.call(&call.into());
+        let answer = run();
+        self.notes.answer(&answer, told);
+        answer
     }
     /// Keeps the word of a call that has a caller.
     fn keep(&self, ctx: Context) {
@@ -323,29 +242,46 @@ impl FileSystem for SeededFs {
     type Handle = u64;
     type DirIter = ScriptDir;
 
-    fn init(&self, _capable: FsOptions) -> io::Result<FsOptions> {
-        let want = match self.source()? {
-            Source::Told(bits) => bits,
-            Source::Seed(q) => wanted(q),
-        };
-        Ok(FsOptions::from_bits_truncate(want))
+    fn init(&self, capable: FsOptions) -> io::Result<FsOptions> {
+        self.noted(
+            format!("init capable={:#x}", capable.bits()),
+            || {
+                let want = match self.source()? {
+                    Source::Told(bits) => bits,
+                    Source::Seed(q) => wanted(q),
+                };
+                Ok(FsOptions::from_bits_truncate(want))
+            },
+            |w| format!(" want={:#x}", w.bits()),
+        )
     }
-    fn destroy(&self) {}
-    fn forget(&self, ctx: Context, _inode: u64, _count: u64) {
+    fn destroy(&self) {
+        self.notes.add("call destroy".into());
+    }
+    fn lookup(&self, ctx: Context, parent: u64, name: &CStr) -> io::Result<Entry> {
+        self.noted(
+            format!("lookup {} parent={parent} name={}", c(ctx), s(name)),
+            || {
+                self.keep(ctx);
+                let source = match (self.answers.take(), name.to_bytes().first()) {
+                    (Some(told), _) => self.told(told),
+                    (None, Some(b'x')) => os(libc::ENOENT),
+                    (None, Some(b'y')) => none(),
+                    (None, _) => self.by_word(),
+                };
+                Ok(source?.entry(name, ctx))
+            },
+            |a| format!(" node={}", a.inode),
+        )
+    }
+    fn forget(&self, ctx: Context, inode: u64, count: u64) {
+        self.notes.add(format!("call forget {} inode={inode} count={count}", c(ctx)));
         self.keep(ctx);
     }
-    fn batch_forget(&self, ctx: Context, _requests: Vec<(u64, u64)>) {
+    fn batch_forget(&self, ctx: Context, requests: Vec<(u64, u64)>) {
+        let list: Vec<String> = requests.iter().map(|(n, k)| format!("{n}:{k}")).collect();
+        self.notes.add(format!("call batch_forget {} requests={}", c(ctx), list.join(",")));
         self.keep(ctx);
-    }
-    fn lookup(&self, ctx: Context, _parent: u64, name: &CStr) -> io::Result<Entry> {
-        self.keep(ctx);
-        let source = match (self.answers.take(), name.to_bytes().first()) {
-            (Some(told), _) => self.told(told),
-            (None, Some(b'x')) => os(libc::ENOENT),
-            (None, Some(b'y')) => none(),
-            (None, _) => self.by_word(),
-        };
-        Ok(source?.entry(name, ctx))
     }
     fn getattr(
         &self,
@@ -353,8 +289,14 @@ impl FileSystem for SeededFs {
         inode: u64,
         handle: Option<u64>,
     ) -> io::Result<(Attr, Duration)> {
-        let t = self.q(ctx)? + inode % 1000 + handle.unwrap_or(0) % 7;
-        Ok((attr(t, inode, ctx), time(t)))
+        self.noted(
+            format!("getattr {} inode={inode} handle={}", c(ctx), o(handle)),
+            || {
+                let t = self.q(ctx)? + inode % 1000 + handle.unwrap_or(0) % 7;
+                Ok((attr(t, inode, ctx), time(t)))
+            },
+            nothing,
+        )
     }
     fn setattr(
         &self,
@@ -364,297 +306,508 @@ impl FileSystem for SeededFs {
         handle: Option<u64>,
         valid: SetattrValid,
     ) -> io::Result<(Attr, Duration)> {
-        let q = self.q(ctx)?;
-        let a = Attr {
-            size: sa.size,
-            atime: sa.atime,
-            mtime: sa.mtime,
-            ctime: sa.ctime,
-            atimensec: sa.atimensec,
-            mtimensec: sa.mtimensec,
-            ctimensec: sa.ctimensec,
-            mode: sa.mode,
-            uid: sa.uid,
-            gid: sa.gid,
-            nlink: if handle.is_some() { 77 } else { 1 },
-            flags: valid.bits(),
-            ..attr(q, inode, ctx)
-        };
-        Ok((a, time(q)))
+        let bytes = hex(vm_memory::ByteValued::as_slice(&sa));
+        self.noted(
+            format!(
+                "setattr {} inode={inode} attr={bytes} handle={} valid={}",
+                c(ctx),
+                o(handle),
+                valid.bits()
+            ),
+            || {
+                let q = self.q(ctx)?;
+                let a = Attr {
+                    size: sa.size,
+                    atime: sa.atime,
+                    mtime: sa.mtime,
+                    ctime: sa.ctime,
+                    atimensec: sa.atimensec,
+                    mtimensec: sa.mtimensec,
+                    ctimensec: sa.ctimensec,
+                    mode: sa.mode,
+                    uid: sa.uid,
+                    gid: sa.gid,
+                    nlink: if handle.is_some() { 77 } else { 1 },
+                    flags: valid.bits(),
+                    ..attr(q, inode, ctx)
+                };
+                Ok((a, time(q)))
+            },
+            nothing,
+        )
     }
-    fn readlink(&self, ctx: Context, _inode: u64) -> io::Result<Vec<u8>> {
-        let q = self.q(ctx)?;
-        Ok(bytes(q, q % 300))
+    fn readlink(&self, ctx: Context, inode: u64) -> io::Result<Vec<u8>> {
+        self.noted(
+            format!("readlink {} inode={inode}", c(ctx)),
+            || {
+                let q = self.q(ctx)?;
+                Ok(bytes(q, q % 300))
+            },
+            nothing,
+        )
     }
     fn symlink(
         &self,
         ctx: Context,
-        _link: &CStr,
-        _parent: u64,
+        linkname: &CStr,
+        parent: u64,
         name: &CStr,
-        _x: Extensions,
+        x: Extensions,
     ) -> io::Result<Entry> {
-        Ok(self.source_by(ctx)?.entry(name, ctx))
+        self.noted(
+            format!(
+                "symlink {} linkname={} parent={parent} name={} {}",
+                c(ctx),
+                s(linkname),
+                s(name),
+                e(&x)
+            ),
+            || Ok(self.source_by(ctx)?.entry(name, ctx)),
+            |a| format!(" node={}", a.inode),
+        )
     }
     fn mknod(
         &self,
         ctx: Context,
-        _inode: u64,
+        inode: u64,
         name: &CStr,
-        _mode: u32,
-        _rdev: u32,
-        _umask: u32,
-        _x: Extensions,
+        mode: u32,
+        rdev: u32,
+        umask: u32,
+        x: Extensions,
     ) -> io::Result<Entry> {
-        Ok(self.source_by(ctx)?.entry(name, ctx))
+        self.noted(
+            format!(
+                "mknod {} inode={inode} name={} mode={mode} rdev={rdev} umask={umask} {}",
+                c(ctx),
+                s(name),
+                e(&x)
+            ),
+            || Ok(self.source_by(ctx)?.entry(name, ctx)),
+            |a| format!(" node={}", a.inode),
+        )
     }
     fn mkdir(
         &self,
         ctx: Context,
-        _parent: u64,
+        parent: u64,
         name: &CStr,
-        _mode: u32,
-        _umask: u32,
-        _x: Extensions,
+        mode: u32,
+        umask: u32,
+        x: Extensions,
     ) -> io::Result<Entry> {
-        Ok(self.source_by(ctx)?.entry(name, ctx))
+        self.noted(
+            format!(
+                "mkdir {} parent={parent} name={} mode={mode} umask={umask} {}",
+                c(ctx),
+                s(name),
+                e(&x)
+            ),
+            || Ok(self.source_by(ctx)?.entry(name, ctx)),
+            |a| format!(" node={}", a.inode),
+        )
     }
-    fn unlink(&self, ctx: Context, _parent: u64, _name: &CStr) -> io::Result<()> {
-        self.q(ctx).map(drop)
+    fn unlink(&self, ctx: Context, parent: u64, name: &CStr) -> io::Result<()> {
+        self.noted(
+            format!("unlink {} parent={parent} name={}", c(ctx), s(name)),
+            || self.q(ctx).map(drop),
+            nothing,
+        )
     }
-    fn rmdir(&self, ctx: Context, _parent: u64, _name: &CStr) -> io::Result<()> {
-        self.q(ctx).map(drop)
+    fn rmdir(&self, ctx: Context, parent: u64, name: &CStr) -> io::Result<()> {
+        self.noted(
+            format!("rmdir {} parent={parent} name={}", c(ctx), s(name)),
+            || self.q(ctx).map(drop),
+            nothing,
+        )
     }
     fn rename(
         &self,
         ctx: Context,
-        _od: u64,
-        _on: &CStr,
-        _nd: u64,
-        _nn: &CStr,
-        _flags: u32,
+        od: u64,
+        on: &CStr,
+        nd: u64,
+        nn: &CStr,
+        flags: u32,
     ) -> io::Result<()> {
-        self.q(ctx).map(drop)
+        self.noted(
+            format!(
+                "rename {} olddir={od} oldname={} newdir={nd} newname={} flags={flags}",
+                c(ctx),
+                s(on),
+                s(nn)
+            ),
+            || self.q(ctx).map(drop),
+            nothing,
+        )
     }
-    fn link(&self, ctx: Context, _inode: u64, _parent: u64, name: &CStr) -> io::Result<Entry> {
-        Ok(self.source_by(ctx)?.entry(name, ctx))
+    fn link(&self, ctx: Context, inode: u64, newparent: u64, newname: &CStr) -> io::Result<Entry> {
+        self.noted(
+            format!("link {} inode={inode} newparent={newparent} newname={}", c(ctx), s(newname)),
+            || Ok(self.source_by(ctx)?.entry(newname, ctx)),
+            |a| format!(" node={}", a.inode),
+        )
     }
     fn open(
         &self,
         ctx: Context,
-        _inode: u64,
-        _kill_priv: bool,
-        _flags: u32,
+        inode: u64,
+        kill_priv: bool,
+        flags: u32,
     ) -> io::Result<(Option<u64>, OpenOptions)> {
-        Ok(self.source_by(ctx)?.opening())
+        self.noted(
+            format!("open {} inode={inode} kill_priv={kill_priv} flags={flags}", c(ctx)),
+            || Ok(self.source_by(ctx)?.opening()),
+            |a| format!(" {}", h(a.0, a.1)),
+        )
     }
     fn create(
         &self,
         ctx: Context,
-        _parent: u64,
+        parent: u64,
         name: &CStr,
-        _mode: u32,
-        _kill_priv: bool,
-        _flags: u32,
-        _umask: u32,
-        _x: Extensions,
+        mode: u32,
+        kill_priv: bool,
+        flags: u32,
+        umask: u32,
+        x: Extensions,
     ) -> io::Result<(Entry, Option<u64>, OpenOptions)> {
-        Ok(self.source_by(ctx)?.creation(name, ctx))
+        self.noted(
+            format!(
+                "create {} parent={parent} name={} mode={mode} kill_priv={kill_priv} \
+                 flags={flags} umask={umask} {}",
+                c(ctx),
+                s(name),
+                e(&x)
+            ),
+            || Ok(self.source_by(ctx)?.creation(name, ctx)),
+            |a| format!(" node={} {}", a.0.inode, h(a.1, a.2)),
+        )
     }
     fn read<W: ZeroCopyWriter>(
         &self,
         ctx: Context,
-        _inode: u64,
-        _handle: u64,
-        mut w: W,
+        inode: u64,
+        handle: u64,
+        w: W,
         size: u32,
         offset: u64,
-        _owner: Option<u64>,
-        _flags: u32,
+        owner: Option<u64>,
+        flags: u32,
     ) -> io::Result<usize> {
-        let q = self.q(ctx)?;
-        self.parts(q, size, offset, |f, n, off| w.read_from_file_at(f, n, off))
+        self.noted(
+            format!(
+                "read {} inode={inode} handle={handle} size={size} offset={offset} owner={} \
+                 flags={flags}",
+                c(ctx),
+                o(owner)
+            ),
+            || {
+                let mut w = w;
+                let q = self.q(ctx)?;
+                self.parts(q, size, offset, |f, n, off| w.read_from_file_at(f, n, off))
+            },
+            |n| format!(" count={n}"),
+        )
     }
     fn write<R: ZeroCopyReader>(
         &self,
         ctx: Context,
-        _inode: u64,
-        _handle: u64,
-        mut r: R,
+        inode: u64,
+        handle: u64,
+        r: R,
         size: u32,
         offset: u64,
-        _owner: Option<u64>,
-        _delayed: bool,
-        _kill_priv: bool,
-        _flags: u32,
+        owner: Option<u64>,
+        delayed: bool,
+        kill_priv: bool,
+        flags: u32,
     ) -> io::Result<usize> {
-        let q = self.q(ctx)?;
-        self.parts(q, size, offset, |f, n, off| r.write_to_file_at(f, n, off, None))
+        self.noted(
+            format!(
+                "write {} inode={inode} handle={handle} size={size} offset={offset} \
+                 owner={} delayed_write={delayed} kill_priv={kill_priv} flags={flags}",
+                c(ctx),
+                o(owner)
+            ),
+            || {
+                let mut r = r;
+                let q = self.q(ctx)?;
+                self.parts(q, size, offset, |f, n, off| r.write_to_file_at(f, n, off, None))
+            },
+            |n| format!(" count={n}"),
+        )
     }
-    fn flush(&self, ctx: Context, _inode: u64, _handle: u64, _owner: u64) -> io::Result<()> {
-        self.q(ctx).map(drop)
+    fn flush(&self, ctx: Context, inode: u64, handle: u64, owner: u64) -> io::Result<()> {
+        self.noted(
+            format!("flush {} inode={inode} handle={handle} owner={owner}", c(ctx)),
+            || self.q(ctx).map(drop),
+            nothing,
+        )
     }
-    fn fsync(&self, ctx: Context, _inode: u64, _datasync: bool, _handle: u64) -> io::Result<()> {
-        self.q(ctx).map(drop)
+    fn fsync(&self, ctx: Context, inode: u64, datasync: bool, handle: u64) -> io::Result<()> {
+        self.noted(
+            format!("fsync {} inode={inode} datasync={datasync} handle={handle}", c(ctx)),
+            || self.q(ctx).map(drop),
+            nothing,
+        )
     }
     fn fallocate(
         &self,
         ctx: Context,
-        _inode: u64,
-        _handle: u64,
-        _mode: u32,
-        _off: u64,
-        _len: u64,
+        inode: u64,
+        handle: u64,
+        mode: u32,
+        offset: u64,
+        length: u64,
     ) -> io::Result<()> {
-        self.q(ctx).map(drop)
+        self.noted(
+            format!(
+                "fallocate {} inode={inode} handle={handle} mode={mode} offset={offset} \
+                 length={length}",
+                c(ctx)
+            ),
+            || self.q(ctx).map(drop),
+            nothing,
+        )
     }
     fn release(
         &self,
         ctx: Context,
-        _inode: u64,
-        _flags: u32,
-        _handle: u64,
-        _flush: bool,
-        _flock: bool,
-        _owner: Option<u64>,
+        inode: u64,
+        flags: u32,
+        handle: u64,
+        flush: bool,
+        flock: bool,
+        owner: Option<u64>,
     ) -> io::Result<()> {
-        self.q(ctx).map(drop)
+        self.noted(
+            format!(
+                "release {} inode={inode} flags={flags} handle={handle} flush={flush} \
+                 flock_release={flock} owner={}",
+                c(ctx),
+                o(owner)
+            ),
+            || self.q(ctx).map(drop),
+            nothing,
+        )
     }
-    fn statfs(&self, ctx: Context, _inode: u64) -> io::Result<libc::statvfs64> {
-        let q = self.q(ctx)?;
-        Ok(libc::statvfs64 {
-            f_bsize: (q % 2 << 32) + 512 + q,
-            f_frsize: 4096 + q,
-            f_blocks: q * 3,
-            f_bfree: q * 2,
-            f_bavail: q,
-            f_files: q + 7,
-            f_ffree: q + 5,
-            f_namemax: 255 + (q % 3 << 32),
-        })
+    fn statfs(&self, ctx: Context, inode: u64) -> io::Result<libc::statvfs64> {
+        self.noted(
+            format!("statfs {} inode={inode}", c(ctx)),
+            || {
+                let q = self.q(ctx)?;
+                Ok(libc::statvfs64 {
+                    f_bsize: (q % 2 << 32) + 512 + q,
+                    f_frsize: 4096 + q,
+                    f_blocks: q * 3,
+                    f_bfree: q * 2,
+                    f_bavail: q,
+                    f_files: q + 7,
+                    f_ffree: q + 5,
+                    f_namemax: 255 + (q % 3 << 32),
+                })
+            },
+            nothing,
+        )
     }
     fn setxattr(
         &self,
         ctx: Context,
-        _i: u64,
-        _n: &CStr,
-        _v: &[u8],
-        _flags: u32,
-        _x: SetxattrFlags,
+        inode: u64,
+        name: &CStr,
+        value: &[u8],
+        flags: u32,
+        extra: SetxattrFlags,
     ) -> io::Result<()> {
-        self.q(ctx).map(drop)
+        self.noted(
+            format!(
+                "setxattr {} inode={inode} name={} value={} flags={flags} extra={}",
+                c(ctx),
+                s(name),
+                hex(value),
+                extra.bits()
+            ),
+            || self.q(ctx).map(drop),
+            nothing,
+        )
     }
     fn getxattr(
         &self,
         ctx: Context,
-        _inode: u64,
-        _name: &CStr,
-        _size: u32,
+        inode: u64,
+        name: &CStr,
+        size: u32,
     ) -> io::Result<GetxattrReply> {
-        let q = self.q(ctx)?;
-        Ok(if q % 3 == 0 {
-            GetxattrReply::Count(q as u32)
-        } else {
-            GetxattrReply::Value(bytes(q, q / 3 % 500))
-        })
+        self.noted(
+            format!("getxattr {} inode={inode} name={} size={size}", c(ctx), s(name)),
+            || {
+                let q = self.q(ctx)?;
+                Ok(if q % 3 == 0 {
+                    GetxattrReply::Count(q as u32)
+                } else {
+                    GetxattrReply::Value(bytes(q, q / 3 % 500))
+                })
+            },
+            nothing,
+        )
     }
-    fn listxattr(&self, ctx: Context, _inode: u64, _size: u32) -> io::Result<ListxattrReply> {
-        let q = self.q(ctx)?;
-        Ok(if q % 3 == 0 {
-            ListxattrReply::Count(q as u32)
-        } else {
-            ListxattrReply::Names(bytes(q, q / 3 % 500))
-        })
+    fn listxattr(&self, ctx: Context, inode: u64, size: u32) -> io::Result<ListxattrReply> {
+        self.noted(
+            format!("listxattr {} inode={inode} size={size}", c(ctx)),
+            || {
+                let q = self.q(ctx)?;
+                Ok(if q % 3 == 0 {
+                    ListxattrReply::Count(q as u32)
+                } else {
+                    ListxattrReply::Names(bytes(q, q / 3 % 500))
+                })
+            },
+            nothing,
+        )
     }
-    fn removexattr(&self, ctx: Context, _inode: u64, _name: &CStr) -> io::Result<()> {
-        self.q(ctx).map(drop)
+    fn removexattr(&self, ctx: Context, inode: u64, name: &CStr) -> io::Result<()> {
+        self.noted(
+            format!("removexattr {} inode={inode} name={}", c(ctx), s(name)),
+            || self.q(ctx).map(drop),
+            nothing,
+        )
     }
     fn opendir(
         &self,
         ctx: Context,
-        _inode: u64,
-        _flags: u32,
+        inode: u64,
+        flags: u32,
     ) -> io::Result<(Option<u64>, OpenOptions)> {
-        Ok(self.source_by(ctx)?.opening())
+        self.noted(
+            format!("opendir {} inode={inode} flags={flags}", c(ctx)),
+            || Ok(self.source_by(ctx)?.opening()),
+            |a| format!(" {}", h(a.0, a.1)),
+        )
     }
     fn readdir(
         &self,
         ctx: Context,
-        _inode: u64,
-        _handle: u64,
-        _size: u32,
+        inode: u64,
+        handle: u64,
+        size: u32,
         offset: u64,
-    ) -> io::Result<ScriptDir> {
-        self.keep(ctx);
-        let source = match self.answers.take() {
-            Some(Told::Directory(items, endless)) => {
-                return Ok(ScriptDir::Told(ToldDir { items, endless, place: 0 }));
-            }
-            Some(told) => self.told(told),
-            None => self.by_word(),
-        };
-        Ok(ScriptDir::Seeded(SeededDir { q: source?.seed(), k: offset, name: CString::default() }))
+    ) -> io::Result<Self::DirIter> {
+        self.noted(
+            format!("readdir {} inode={inode} handle={handle} size={size} offset={offset}", c(ctx)),
+            || {
+                self.keep(ctx);
+                let source = match self.answers.take() {
+                    Some(Told::Directory(items, endless)) => {
+                        return Ok(ScriptDir::Told(ToldDir { items, endless, place: 0 }));
+                    }
+                    Some(told) => self.told(told),
+                    None => self.by_word(),
+                };
+                Ok(ScriptDir::Seeded(SeededDir {
+                    q: source?.seed(),
+                    k: offset,
+                    name: CString::default(),
+                }))
+            },
+            nothing,
+        )
     }
-    fn fsyncdir(&self, ctx: Context, _inode: u64, _datasync: bool, _handle: u64) -> io::Result<()> {
-        self.q(ctx).map(drop)
+    fn fsyncdir(&self, ctx: Context, inode: u64, datasync: bool, handle: u64) -> io::Result<()> {
+        self.noted(
+            format!("fsyncdir {} inode={inode} datasync={datasync} handle={handle}", c(ctx)),
+            || self.q(ctx).map(drop),
+            nothing,
+        )
     }
-    fn releasedir(&self, ctx: Context, _inode: u64, _flags: u32, _handle: u64) -> io::Result<()> {
-        self.q(ctx).map(drop)
+    fn releasedir(&self, ctx: Context, inode: u64, flags: u32, handle: u64) -> io::Result<()> {
+        self.noted(
+            format!("releasedir {} inode={inode} flags={flags} handle={handle}", c(ctx)),
+            || self.q(ctx).map(drop),
+            nothing,
+        )
     }
-    fn access(&self, ctx: Context, _inode: u64, _mask: u32) -> io::Result<()> {
-        self.q(ctx).map(drop)
+    fn access(&self, ctx: Context, inode: u64, mask: u32) -> io::Result<()> {
+        self.noted(
+            format!("access {} inode={inode} mask={mask}", c(ctx)),
+            || self.q(ctx).map(drop),
+            nothing,
+        )
     }
     fn lseek(
         &self,
         ctx: Context,
-        _inode: u64,
-        _handle: u64,
+        inode: u64,
+        handle: u64,
         offset: u64,
-        _whence: u32,
+        whence: u32,
     ) -> io::Result<u64> {
-        let q = self.q(ctx)?;
-        Ok(if q % 2 == 0 { offset } else { q })
+        self.noted(
+            format!(
+                "lseek {} inode={inode} handle={handle} offset={offset} whence={whence}",
+                c(ctx)
+            ),
+            || {
+                let q = self.q(ctx)?;
+                Ok(if q % 2 == 0 { offset } else { q })
+            },
+            |n| format!(" offset={n}"),
+        )
     }
     fn copyfilerange(
         &self,
         ctx: Context,
-        _ii: u64,
-        _hi: u64,
-        _fi: u64,
-        _io: u64,
-        _ho: u64,
-        _fo: u64,
+        ii: u64,
+        hi: u64,
+        fi: u64,
+        io_: u64,
+        ho: u64,
+        fo: u64,
         len: u64,
-        _flags: u64,
+        flags: u64,
     ) -> io::Result<usize> {
-        Ok(len.min(self.q(ctx)?) as usize)
+        self.noted(
+            format!(
+                "copyfilerange {} inode_in={ii} handle_in={hi} offset_in={fi} \
+                 inode_out={io_} handle_out={ho} offset_out={fo} len={len} flags={flags}",
+                c(ctx)
+            ),
+            || Ok(len.min(self.q(ctx)?) as usize),
+            |n| format!(" count={n}"),
+        )
     }
-    fn syncfs(&self, ctx: Context, _inode: u64) -> io::Result<()> {
-        self.q(ctx).map(drop)
+    fn syncfs(&self, ctx: Context, inode: u64) -> io::Result<()> {
+        self.noted(format!("syncfs {} inode={inode}", c(ctx)), || self.q(ctx).map(drop), nothing)
     }
     fn getlk(&self) -> io::Result<()> {
-        self.plain().map(drop)
+        self.noted("getlk", || self.plain().map(drop), nothing)
     }
     fn setlk(&self) -> io::Result<()> {
-        self.plain().map(drop)
+        self.noted("setlk", || self.plain().map(drop), nothing)
     }
     fn setlkw(&self) -> io::Result<()> {
-        self.plain().map(drop)
+        self.noted("setlkw", || self.plain().map(drop), nothing)
     }
     fn ioctl(&self) -> io::Result<()> {
-        self.plain().map(drop)
+        self.noted("ioctl", || self.plain().map(drop), nothing)
     }
     fn bmap(&self) -> io::Result<()> {
-        self.plain().map(drop)
+        self.noted("bmap", || self.plain().map(drop), nothing)
     }
     fn poll(&self) -> io::Result<()> {
-        self.plain().map(drop)
+        self.noted("poll", || self.plain().map(drop), nothing)
     }
     fn notify_reply(&self) -> io::Result<()> {
-        self.plain().map(drop)
+        self.noted("notify_reply", || self.plain().map(drop), nothing)
     }
     fn tmpfile(&self) -> io::Result<(Entry, Option<u64>, OpenOptions)> {
-        self.plain()?;
-        os(libc::ENOSYS)
+        self.noted(
+            "tmpfile",
+            || {
+                self.plain()?;
+                os(libc::ENOSYS)
+            },
+            nothing,
+        )
     }
 }

@@ -10,7 +10,7 @@
 //! own, into a file of the same name in OUT. A bad line ends a session, with status 2 of the first form.
 use oracle::filesystem::FileSystem;
 use oracle::memfs::MemFs;
-use oracle::noted::{Noted, Notes};
+use oracle::noted::Notes;
 use oracle::request::{parse_line, serve};
 use oracle::seededfs::SeededFs;
 use oracle::server::Server;
@@ -56,8 +56,8 @@ fn main() {
 fn session(way: Way, input: &[u8]) -> (String, i32) {
     let (answers, notes) = (Answers::default(), Notes::default());
     if way == Way::Script {
-        let inner = SeededFs::new(answers.clone(), notes.clone());
-        answer_all(Noted { inner, notes: notes.clone() }, answers, notes, way, input)
+        let fs = SeededFs::new(answers.clone(), notes.clone());
+        answer_all(fs, answers, notes, way, input)
     } else {
         answer_all(MemFs::default(), answers, notes, way, input)
     }
