@@ -67,12 +67,12 @@ kinds! {
 /// use std::io::IoSlice;
 /// use std::thread;
 ///
-/// let mut request = [0; 40];
-/// (request[0], request[4], request[16]) = (40, 50, 1); // SYNCFS
+/// let mut request = [0; 42];
+/// (request[0], request[4], request[16], request[40]) = (42, 10, 1, b'a'); // UNLINK
 /// let request = [IoSlice::new(&request)];
 /// let mut slot = Slot::new();
 /// if let Asked::Call(pending) = slot.ask(&Session::default(), &request, 64) {
-///     if let Call::Syncfs { to, .. } = pending.call {
+///     if let Call::Unlink { to, .. } = pending.call {
 ///         let later = thread::spawn(move || to.answer(&mut Slot::new(), Ok(())).reply().len());
 ///         assert_eq!(later.join().unwrap(), 16);
 ///         return;

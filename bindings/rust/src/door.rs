@@ -305,13 +305,13 @@ impl Slot {
     /// use nizwarf::{Call, Session, Slot};
     /// use std::io::IoSlice;
     ///
-    /// // A SYNCFS.
-    /// let mut request = [0; 40];
-    /// (request[0], request[4], request[16]) = (40, 50, 1);
+    /// // An UNLINK.
+    /// let mut request = [0; 42];
+    /// (request[0], request[4], request[16], request[40]) = (42, 10, 1, b'a');
     /// let mut slot = Slot::new();
     /// let told = slot.ask_with(&Session::default(), &[IoSlice::new(&request)], 64, |slot, _, call| {
     ///     match call {
-    ///         Call::Syncfs { to, .. } => to.answer(slot, Ok(())),
+    ///         Call::Unlink { to, .. } => to.answer(slot, Ok(())),
     ///         other => panic!("{other:?}"),
     ///     }
     /// });
