@@ -11,7 +11,8 @@
 #   rattle     the format of Rattle's files, by `rt fmt` on a copy
 #   rust       the format of Rust's, by rustfmt
 #   python     Python's files, by pyflakes
-#   c          the format of C's, by clang-format; and each compiles with no warning
+#   c          each file in C compiles with no warning
+#   format     the format of C's, by clang-format
 #   door       the libraries for C, built without a proof, and the tests in C over them
 #   crate      the tests of bindings/rust over that library
 #
@@ -24,11 +25,11 @@ set -euo pipefail
 . "$(dirname "$0")/lib/transport.sh"
 cd "$here"
 
-parts=(documents opcode shell rattle rust python c door crate)
+parts=(documents opcode shell rattle rust python c format door crate)
 # What a part runs, by its package. The toolchain is none of Debian's.
 declare -A wanted=(
     [documents]="rt python3" [opcode]="python3" [shell]="shellcheck" [rattle]="rt" [rust]="rustfmt" [python]="pyflakes3"
-    [c]="clang-format cc" [door]="rt cc" [crate]="cargo rt cc"
+    [c]="cc" [format]="clang-format" [door]="rt cc" [crate]="cargo rt cc"
 )
 declare -A package=([cc]="gcc libc6-dev" [rt]="")
 
@@ -40,10 +41,12 @@ missing_of() {
     done
 }
 
-# The packages of Debian that have these programs.
-packages_of() {
-    local program
-    for program in "$@"; do
+# The packages of Debian that these parts lack.
+packages_for() {
+    local part
+    for part in "$@"; do
+        missing_of "$part"
+    done | while IFS= read -r program; do
         printf '%s\n' "${package[$program]-$program}"
     done | tr ' ' '\n' | sed '/^$/d' | sort -u
 }
@@ -60,8 +63,7 @@ while [ $# -gt 0 ]; do
             shift 2
             ;;
         --missing)
-            # shellcheck disable=SC2046
-            packages_of $(for part in "${parts[@]}"; do missing_of "$part"; done)
+            packages_for "${parts[@]}"
             exit
             ;;
         *)
@@ -105,17 +107,14 @@ check_rattle() {
     diff -ru "$folder/copy" "$folder/formatted"
 }
 
+check_format() { c_files | each clang-format --dry-run -Werror; }
+
 check_c() {
-    local status=0
-    if [ -e .clang-format ]; then
-        c_files | each clang-format --dry-run -Werror || status=1
-    fi
     # (what stands on a header that is not here is built where that is)
     # shellcheck disable=SC2016
     files '*.c' | xargs grep -LE '#include [<"]fuse_lowlevel' | each -n 1 bash -c '
         case $0 in *share_sandbox.c) ! echo "#include <seccomp.h>" | cc -fsyntax-only -x c - 2> /dev/null || set -- -DWITH_SECCOMP ;; esac
-        cc -std=c11 -O1 -Wall -Wextra -Werror -I include -fsyntax-only "$@" "$0"' || status=1
-    return $status
+        cc -std=c11 -O1 -Wall -Wextra -Werror -I include -fsyntax-only "$@" "$0"'
 }
 
 check_crate() {
@@ -135,7 +134,8 @@ count_of() {
         rattle) echo "$(files 'crates/*.rt' 'crates/*.antt' | wc -l) files" ;;
         rust) echo "$(files '*.rs' | wc -l) files" ;;
         python) echo "$(files '*.py' | wc -l) files" ;;
-        c) echo "$(c_files | wc -l) files" ;;
+        c) echo "$(files '*.c' | wc -l) files" ;;
+        format) echo "$(c_files | wc -l) files" ;;
         door) echo "$(grep -c '^ *compile tools/gate/c-' tools/gate/c-example.sh) programs in C" ;;
         crate) grep -rE '^ *#\[test\]$' bindings/rust | wc -l | sed 's/$/ tests/' ;;
     esac
@@ -166,8 +166,9 @@ done
 wait
 echo "Seconds: $(printf '%s, ' "${times[@]}" | sed 's/ s, /, /g; s/, $//'); together $SECONDS."
 tools/lib/changes.py
+command -v rt > /dev/null || echo "The folder bin of the Rattle toolchain is not on the PATH."
 if [ ${#skipped[@]} != 0 ]; then
-    echo "Skipped: ${skipped[*]}. apt-get install $(tools/check.sh --missing | paste -sd ' ')"
+    echo "Skipped: ${skipped[*]}. apt-get install $(packages_for "${skipped[@]}" | paste -sd ' ')"
 fi
 [ ${#failed[@]} = 0 ] || { echo "FAILED: ${failed[*]}" && exit 1; }
 [ ${#skipped[@]} = 0 ] || exit 3
