@@ -39,12 +39,12 @@
  * goes by `call`, which may be copied. Texts, items and names are lent for the length of a call. A
  * session, a call and an answer are handed in with all their fields set.
  *
- * Rooms. Each of the two writes the first `told.put` bytes of the room, as the last it does, and no
- * other; so a room may overlap a request, texts and names. The data of a READ are yours to put,
+ * Rooms. nizwarf_ask and nizwarf_reply write the first `told.put` bytes of the room, as the last they do,
+ * and no other; so a room may overlap a request, texts and names. The data of a READ are yours to put,
  * after the first 16 bytes, and nizwarf_reply puts those 16. A reply gets as many bytes of room as
  * its ask had, in any pieces.
  *
- * Threads. Neither has a state besides its arguments. A slot is lent to one call at a time, and
+ * Threads. The two have no state besides their arguments. A slot is lent to one call at a time, and
  * holds nothing from one call to the next. So one slot a thread will do, with any number of
  * requests in flight, and with requests that are answered on another thread. A session is only
  * read; you write its options. No request is in flight beside an INIT or a DESTROY of a kernel, but
@@ -58,9 +58,9 @@
  * library gets a function with a new name for the new layout, which the inline functions call from then on, and
  * keeps the old one, at its version. So a program that was built before goes on with a later library, one
  * that is built anew has the new layout, and one in another language has that of the functions it names. Parts
- * of a program that hand structs to each other are built with one header. What is longer than its struct needs
- * none of that: a call may tell a record as `data`, and its answer be a record as `text`, as linux/fuse.h
- * has them. So would be that of STATX, of 288 bytes.
+ * of a program that hand structs to each other are built with one header. A record that has no place in a
+ * struct needs none of that: a call tells it as `data`, and an answer is told it as `text`, as linux/fuse.h has
+ * it. So it would be with the 288 bytes that a STATX is answered by.
  *
  * Nothing here can see whether you make the call that was told, once, and answer what came of it,
  * and whether you give back what you are told to.
@@ -349,8 +349,8 @@ struct nizwarf_call {
 	uint32_t flags, mode, umask, rdev, size, more, group, readahead;
 };
 
-/* What a field is in the call of this name. (They are functions and no unions, whose members neither C99 nor
- * cgo has names for.) */
+/* What a field is in the call of this name. (They are functions and no unnamed unions, for whose members neither
+ * C99 nor cgo has names.) */
 
 /* How many lookups of the node are given back. */
 static inline uint64_t nizwarf_forget_lookups(const nizwarf_call *call)

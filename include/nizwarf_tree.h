@@ -3,8 +3,8 @@
  *
  * A transport takes a request from its queue, calls nizwarf_message with the segments of the request
  * and of the room for its reply, and completes the request with the length that it is told. Of the
- * library's own functions, at the end, each promise is proved (crates/vfs_c); the ones for a transport
- * look at pointers first, and copy replies into the room by calls of nizwarf_copy_at. Or it calls
+ * library's own functions, whose names end in `_at`, each promise is proved (crates/vfs_c); those for a
+ * transport look at pointers first, and copy replies into the room by calls of nizwarf_copy_at. Or it calls
  * nizwarf_message_take, by which no reply is copied.
  *
  *	nizwarf_server server = NIZWARF_NONE;

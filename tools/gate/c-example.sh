@@ -6,6 +6,8 @@
 # tools/gate/c-door-cases.c, tools/gate/c-door-threads.c, tools/gate/c-ops.c, tools/gate/c-ops-threads.c and
 # tools/gate/c-text.c hold that library against what the headers say; as root tools/gate/c-mounted.c mounts a
 # table of wrong answers. All that runs under the sanitizers of the compiler too, if it has them.
+# The structs are laid out as in version 0.2, and a program of that version runs with what is built and what is
+# packed: tests/c/version-0.2.
 # All names that the libraries define begin with `nizwarf_`. Last, tools/package.sh packs the libraries, and the
 # examples are built by pkg-config against what is installed of that, shared and static, and do the same.
 #
@@ -100,12 +102,17 @@ run_all() {
     "$folder/program" "$folder/recorded"
     compile tools/gate/c-door-threads.c "$@" -pthread
     timeout 60 "$folder/program"
+    compile tests/c/version-0.2/program.c "$@"
+    "$folder/program"
 }
 
 # Those that kernels were recorded to ask.
 sed -n '/^# What kernels asked/,/^# The corpus/p' "$here/crates/vfs_sessions/stdin" > "$folder/recorded"
 
 run_all -O2
+for headers in include tests/c/version-0.2; do
+    cc -std=c11 -pedantic -Wall -Wextra -Werror -I "$here/$headers" -fsyntax-only "$here/tests/c/layout.c"
+done
 echo '#include "nizwarf_ops.h"' \
     | cc -std=c99 -pedantic -Wall -Wextra -Wconversion -Werror -I "$here/include" -fsyntax-only -x c -
 if command -v c++ > /dev/null; then
@@ -149,6 +156,8 @@ int main(void) { return nizwarf_version() != NIZWARF_VERSION; }' | cc -o "$folde
     fi
     LD_LIBRARY_PATH=$folder/installed/usr/local/lib "$folder/serve" > /dev/null
     LD_LIBRARY_PATH=$folder/installed/usr/local/lib timeout 60 "$folder/program" "$folder/hello" > /dev/null
+    cc -std=c11 -O2 -o "$folder/older" "$here/tests/c/version-0.2/program.c" "${words[@]}" "${@/#--static/-static}"
+    LD_LIBRARY_PATH=$folder/installed/usr/local/lib "$folder/older" > /dev/null
 }
 
 if ! command -v pkg-config > /dev/null; then
@@ -165,6 +174,11 @@ export PKG_CONFIG_SYSROOT_DIR=$folder/installed PKG_CONFIG_LIBDIR=$folder/instal
 run_installed
 if ! readelf -d "$folder/hello" | grep -q 'NEEDED.*libnizwarf\.so\.0'; then
     echo "A program that is linked by pkg-config does not need the shared library." >&2
+    exit 1
+fi
+declared=$(sed -nE 's/^(u?int[0-9]+_t|size_t) (nizwarf_\w+)\(.*/\2@NIZWARF_0.2/p' "$here/tests/c/version-0.2/nizwarf.h" | sort)
+if [ "$declared" != "$(nm -D "$folder/older" | sed -nE 's/.* (nizwarf_)/\1/p' | sort)" ]; then
+    echo "A program of version 0.2 does not use all functions of that version." >&2
     exit 1
 fi
 run_installed --static

@@ -21,7 +21,7 @@ SPELLED = {"LSEEK": "lseek", "FALLOCATE": "fallocate", "SYNCFS": "syncfs",
 PAGE = "CONTRIBUTING.md"
 # Written by tools or recorded, and what tells of the past or of this list.
 APART = ["docs/generated/*", "crates/vfs_sessions/std*", "crates/vfs_decode/std*", "crates/vfs_demo/std*",
-         "tools/compare/oracle/recorded/*", "CHANGELOG.md", PAGE, "tools/gate/opcode.py"]
+         "tools/compare/oracle/recorded/*", "tests/c/version-0.2/*", "CHANGELOG.md", PAGE, "tools/gate/opcode.py"]
 # Where the word is a call of the system or of a client, and no opcode is meant.
 ELSEWHERE = ["examples/c/passthrough_list.c", "tools/compare/beside/get.sh", "tools/compare/suites/get.sh",
              "tools/compare/mirror/calls.py", "tools/lib/session.sh", "tools/lib/share_calls.py", "tools/lib/share_load.py"]
