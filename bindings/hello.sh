@@ -15,10 +15,10 @@ step() {
     fi
 }
 
-# Tests a program with tools/gate/c-hello.c, which runs it as `PROGRAM --fd N`.
+# Tests a program with tests/c/hello.c, which runs it as `PROGRAM --fd N`.
 ask_hello() {
     # shellcheck disable=SC2154
-    [ -e "$folder/client" ] || cc -O1 -o "$folder/client" "$here/tools/gate/c-hello.c"
+    [ -e "$folder/client" ] || cc -O1 -o "$folder/client" "$here/tests/c/hello.c"
     timeout 60 "$folder/client" "$1"
 }
 

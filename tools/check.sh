@@ -89,14 +89,14 @@ each() {
 scripts() { files '*.sh' '.ci/run'; }
 c_files() { files '*.c' '*.h'; }
 
-check_documents() { tools/gate/documents.sh; }
-check_opcode() { tools/gate/opcode.py; }
+check_documents() { tools/dev/documents.sh; }
+check_opcode() { tools/dev/opcode.py; }
 check_shell() { scripts | each shellcheck; }
 # (one by one from the input: some name modules that stand elsewhere)
 # shellcheck disable=SC2016
 check_rust() { files '*.rs' | each -n 1 bash -c 'rustfmt --check --color never < "$0" || { echo "$0" && exit 1; }'; }
 check_python() { files '*.py' | each pyflakes3; }
-check_door() { tools/gate/c-example.sh --quick; }
+check_door() { tests/c/check.sh --quick; }
 
 check_rattle() {
     mkdir "$folder/copy"
@@ -114,7 +114,7 @@ check_c() {
     # shellcheck disable=SC2016
     files '*.c' | xargs grep -LE '#include [<"]fuse_lowlevel' | each -n 1 bash -c '
         case $0 in *share_sandbox.c) ! echo "#include <seccomp.h>" | cc -fsyntax-only -x c - 2> /dev/null || set -- -DWITH_SECCOMP ;; esac
-        cc -std=c11 -O1 -Wall -Wextra -Werror -I include -fsyntax-only "$@" "$0"'
+        cc -std=c11 -O1 -Wall -Wextra -Werror -I include -I programs/transport -fsyntax-only "$@" "$0"'
 }
 
 check_crate() {
@@ -129,14 +129,14 @@ check_crate() {
 count_of() {
     case $1 in
         documents) echo "$(files '*.md' | wc -l) pages" ;;
-        opcode) echo "$(tools/gate/opcode.py --opcodes | wc -w) opcodes" ;;
+        opcode) echo "$(tools/dev/opcode.py --opcodes | wc -w) opcodes" ;;
         shell) echo "$(scripts | wc -l) scripts" ;;
         rattle) echo "$(files 'crates/*.rt' 'crates/*.antt' | wc -l) files" ;;
         rust) echo "$(files '*.rs' | wc -l) files" ;;
         python) echo "$(files '*.py' | wc -l) files" ;;
         c) echo "$(files '*.c' | wc -l) files" ;;
         format) echo "$(c_files | wc -l) files" ;;
-        door) echo "$(grep -c '^ *compile tools/gate/c-' tools/gate/c-example.sh) programs in C" ;;
+        door) echo "$(files 'tests/c/*.c' | wc -l) programs in C" ;;
         crate) grep -rE '^ *#\[test\]$' bindings/rust | wc -l | sed 's/$/ tests/' ;;
     esac
 }

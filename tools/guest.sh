@@ -4,17 +4,17 @@
 # but the root. It powers off when it has done all that a person does once more.
 #
 # Usage: tools/guest.sh [--share | --virtiofsd] [KERNEL-PACKAGE[/SUITE]]
-# With --share it is a folder of the host that the guest mounts, which examples/c/share.c serves as tools/share.sh
+# With --share it is a folder of the host that the guest mounts, which programs/share/share.c serves as tools/share.sh
 # does, with its files written later by the guest; what is in use is not looked at then. With --virtiofsd it is
 # the daemon of tools/virtiofsd.sh that serves it, in its sandbox, and root is wanted.
 # The kernel is Debian's package linux-image-cloud-amd64, or that of the argument; of another suite of
 # Debian than the machine's where one is named, as linux-image-cloud-amd64/trixie. Kernel and busybox are
 # downloaded by apt-get, and unpacked into the folder `guest` of `out`, where a second run finds them. The
-# guest has one processor that QEMU computes, so no /dev/kvm is wanted; its session is tools/lib/session.sh.
+# guest has one processor that QEMU computes, so no /dev/kvm is wanted; its session is tests/mount/session.sh.
 #
 # It wants QEMU (apt-get install qemu-system-x86), xz, a C compiler and the Rattle toolchain, and no root.
 # It links the proved library where that is built and no source is newer; otherwise tools/lib/unproved.sh builds
-# it without a proof, which takes a minute. The transport is examples/c/vhost.c, which nothing is proved of.
+# it without a proof, which takes a minute. The transport is programs/vhost/vhost.c, which nothing is proved of.
 # Status 0: each step was right, and the guest unmounted it; 1: not so; 2: it could not start.
 set -euo pipefail
 . "$(dirname "$0")/lib/usage.sh"
@@ -86,7 +86,7 @@ mkdir -p "$root"/{bin,dev,etc,mnt,modules,proc,tmp}
 printf '%s\n' root:x:0:0::/:/bin/sh nobody:x:65534:65534::/:/bin/sh > "$root/etc/passwd"
 printf '%s\n' root:x:0: nogroup:x:65534: > "$root/etc/group"
 cp "$busybox" "$root/bin/"
-cp "$here/tools/lib/session.sh" "$root/"
+cp "$here/tests/mount/session.sh" "$root/"
 modules='virtio_ring virtio virtio_pci_modern_dev virtio_pci_legacy_dev virtio_pci fuse virtiofs'
 for module in $modules; do
     file=$(find "$kernel" -name "$module.ko" -o -name "$module.ko.xz" | sed -n 1p)

@@ -12,15 +12,15 @@
 # io_uring. With --trace each request and each reply is printed, or their bytes go to a new
 # FILE for vfs_decode, which a package has as nizwarf-decode.
 #
-# With --check it is mounted on a folder of its own: tools/lib/session.sh does there what a person does, memory
+# With --check it is mounted on a folder of its own: tests/mount/session.sh does there what a person does, memory
 # goes back that was written and cut, and it is unmounted; then so with writeback, and with no_io_uring; with
 # other options, where it ends by a signal; with a link above it, and over vhost-user with an event that is full
-# (tools/lib/share_ends.py); and once more, with limits, which bound the server's memory, and hold again once what
+# (tests/share/ends.py); and once more, with limits, which bound the server's memory, and hold again once what
 # was there is removed. It wants python3 then.
 #
 # It wants root, /dev/fuse, a C compiler and the Rattle toolchain. It links the proved library where that
 # is built and no source is newer; otherwise tools/lib/unproved.sh builds it without a proof, which takes a
-# minute. The transport is examples/c/mount.c, which nothing is proved of.
+# minute. The transport is programs/mount/mount.c, which nothing is proved of.
 # Status 0: it was served and unmounted, and with --check each step was right; 1: not so; 2: it could not
 # start.
 set -euo pipefail
@@ -220,7 +220,7 @@ refuses_words || {
 for more in "" ,writeback ,no_io_uring; do
     start -o "allow_other$more"
     echo "Requests come by $(way)."
-    "$here/tools/lib/session.sh" "$folder" || status=1
+    "$here/tests/mount/session.sh" "$folder" || status=1
     cut_files || status=1
     umount "$folder"
     ended "Unmounted${more:+, with ${more#,}}"
@@ -237,7 +237,7 @@ if (: > "$folder/a") 2> /dev/null; then
 fi
 kill -INT "$server"
 ended "Ended by a signal"
-unshare --mount timeout 60 python3 -B "$here/tools/lib/share_ends.py" --tree "$transport" "$vhost" "$ends" || {
+unshare --mount timeout 60 python3 -B "$here/tests/share/ends.py" --tree "$transport" "$vhost" "$ends" || {
     echo "FAILED: the ends of a mount and of a machine." >&2
     status=1
 }

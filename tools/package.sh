@@ -7,7 +7,7 @@
 #
 #   libnizwarf0_VERSION_ARCH.deb       the shared library
 #   libnizwarf-dev_VERSION_ARCH.deb    headers, the static library, pages, examples
-#   nizwarf_VERSION_ARCH.deb           the programs that packaging/programs lists, nizwarf-demo and
+#   nizwarf_VERSION_ARCH.deb           the programs that programs/Makefile lists, nizwarf-demo and
 #                                      nizwarf-decode
 #   nizwarf-VERSION-linux-ARCH.tar.gz  all of it, with an install.sh
 #
@@ -57,9 +57,11 @@ for command in ld nm objcopy objdump readelf strip; do
     need "$command" "Install it: apt-get install binutils."
 done
 need cc "Install a C compiler: apt-get install gcc libc6-dev."
+need make "Install it: apt-get install make."
 need gzip "Install it: apt-get install gzip."
 
 packaging=$here/packaging
+programs=$(make -s -f "$here/programs/Makefile" list)
 architecture=amd64
 triplet=x86_64-linux-gnu
 release=$(sed -nE 's/^#define NIZWARF_VERSION_(MAJOR|MINOR|PATCH) ([0-9]+)$/\2/p' "$here/include/nizwarf.h" | paste -sd .)
@@ -159,67 +161,41 @@ exported() {
     nm -D --defined-only "$1" | awk '$2 == "T" { sub("@@", "@", $3); print $3 }' | sort
 }
 
-# Calls a command with the words of each line of packaging/programs: for_programs COMMAND..
+# Calls a command with the name of each program: for_programs COMMAND..
 for_programs() {
-    local words
-    while read -ra words; do
-        case ${words[*]:-#} in
-            '#'*) ;;
-            *) "$@" "${words[@]}" ;;
-        esac
-    done < "$packaging/programs"
-}
-
-# Sets `sources`, `options` and `optional` to those among the words of such a line.
-sort_words() {
-    local word file
-    sources=() options=() optional=()
-    for word in "$@"; do
-        case $word in
-            -*) options+=("$word") ;;
-            \?*) optional+=("${word#?}") ;;
-            *)
-                for file in "$here/examples/c/"$word; do
-                    sources+=("${file##*/}")
-                done
-                ;;
-        esac
+    local name
+    for name in $programs; do
+        "$@" "$name"
     done
 }
 
-# The flags behind the name of an optional library.
-flags_of() {
-    tr , '\n' <<< "$1" | sed 1d | paste -sd ' '
+# Builds the programs into a folder: put_programs FOLDER LIBRARY.
+put_programs() {
+    mkdir -p "$1"
+    # shellcheck disable=SC2086
+    make -s -C "$1" -f "$here/programs/Makefile" $programs LIBRARY="$2" INCLUDE="$here/include" CPPFLAGS= LDLIBS= \
+        CFLAGS="-O2 -Wall -Wextra -D_FORTIFY_SOURCE=2 -fstack-protector-strong -fstack-clash-protection -fPIE -pie \
+            -fcf-protection -ffile-prefix-map=$here=." LDFLAGS=-Wl,-z,relro,-z,now
+    for_programs strip_program "$1"
+}
+strip_program() {
+    strip --remove-section=.comment --remove-section=.note "$1/$2"
 }
 
-# Builds a program into a folder, unless it is an example alone: build_program FOLDER LIBRARY NAME SECTION WORDS..
-build_program() {
-    local folder=$1 own=$2 name=$3 word sources options optional
-    [ "$4" != - ] || return 0
-    sort_words "${@:5}"
-    for word in "${optional[@]}"; do
-        # shellcheck disable=SC2207
-        ! pkg-config --exists "${word%%,*}" || options+=($(pkg-config --cflags --libs "${word%%,*}") $(flags_of "$word"))
-    done
-    mkdir -p "$folder"
-    cc -std=c11 -O2 -Wall -Wextra -D_FORTIFY_SOURCE=2 -fstack-protector-strong -fstack-clash-protection -fPIE -pie \
-        -fcf-protection "-ffile-prefix-map=$here=." -Wl,-z,relro,-z,now -I "$here/include" -o "$folder/$name" \
-        "${sources[@]/#/$here/examples/c/}" "$own" "${options[@]}"
-    strip --remove-section=.comment --remove-section=.note "$folder/$name"
+# The page of a program.
+page_of() {
+    echo "$packaging/man/$1".[18]
 }
 
-# Names a program in a folder that has another name in its usage, or another version: misnamed FOLDER NAME SECTION
-# WORDS..
+# Names a program in a folder that has another name in its usage, or another version: misnamed FOLDER NAME.
 misnamed() {
-    [ "$3" = - ] || { [[ $("$1/$2" --version) == "$2 $release, "* ]] && [[ $("$1/$2" --help) == "Usage: $2 "* ]]; } ||
-        echo "$2"
+    { [[ $("$1/$2" --version) == "$2 $release, "* ]] && [[ $("$1/$2" --help) == "Usage: $2 "* ]]; } || echo "$2"
 }
 
-# Names words that --help of a program in a folder lists and its page lacks: unexplained FOLDER NAME SECTION WORDS..
+# Names words that --help of a program in a folder lists and its page lacks: unexplained FOLDER NAME.
 unexplained() {
     local word page
-    [ "$3" != - ] || return 0
-    page=$(sed 's/\\-/-/g' "$packaging/man/$2.$3")
+    page=$(sed 's/\\-/-/g' "$(page_of "$2")")
     for word in $("$1/$2" --help | sed -nE 's/^  ([^ ].*)$/\1/p' | sed 's/  .*//' | grep -oE '[a-z][a-z_-]+'); do
         grep -qw -- "$word" <<< "$page" || echo "$2: $word"
     done
@@ -239,27 +215,11 @@ put_demo() {
     install -m 644 "$session/stdout" "$1/share/nizwarf/answers"
 }
 
-# The name of the program that an example's first source makes, and the lines of the Makefile by which it does.
-target_of() {
-    echo "${3%.c}"
-}
-rule_of() {
-    local target=${3%.c} word sources options optional
-    sort_words "${@:3}"
-    echo "$target: ${sources[*]}"
-    for word in "${optional[@]}"; do
-        options+=("\$(shell \$(PKG_CONFIG) --silence-errors --cflags --libs ${word%%,*} && echo $(flags_of "$word"))")
-    done
-    [ ${#options[@]} = 0 ] || echo "$target: LDLIBS += ${options[*]}"
-}
-
-# Puts the examples, with their Makefile, into a folder.
+# Puts the examples and the programs, with their Makefile, into a folder.
 put_examples() {
     mkdir -p "$1"
-    (cd "$here/examples/c" && find . -name '*.[ch]' -exec install -Dm 644 {} "$1/{}" \;)
-    for_programs rule_of > "$work/rules"
-    sed -e "s/@PROGRAMS@/$(for_programs target_of | paste -sd ' ')/" -e "/^@RULES@/{r $work/rules" -e 'd}' \
-        "$packaging/Makefile.in" > "$1/Makefile"
+    install -m 644 "$here/programs/Makefile" "$here"/examples/c/*.c "$1/"
+    (cd "$here/programs" && find . -name '*.[ch]' -exec install -Dm 644 {} "$1/{}" \;)
 }
 
 # Puts a page into a folder, if what it is of is packed. A page of functions has links, by the names of its
@@ -280,9 +240,9 @@ put_page() {
     esac
 }
 
-# Names a program whose page is not below a folder: page_missing FOLDER NAME SECTION WORDS..
+# Names a program whose page is not below a folder: page_missing FOLDER NAME.
 page_missing() {
-    [ "$3" = - ] || [ -e "$1/man$3/$2.$3" ] || echo "$2($3)"
+    compgen -G "$1/man[18]/$2.[18]" > /dev/null || echo "$2"
 }
 
 # The prototypes that pages of functions have, as C.
@@ -310,7 +270,7 @@ make_tree() {
     make_libraries "$tree/lib"
     install -m 644 "$here"/include/*.h "$tree/include/"
     sed -e "s/@NOTE@/$note/" -e "s/@VERSION@/$release/" "$packaging/nizwarf.pc.in" > "$tree/lib/pkgconfig/nizwarf.pc"
-    for_programs build_program "$tree/bin" "$tree/lib/libnizwarf.a"
+    put_programs "$tree/bin" "$tree/lib/libnizwarf.a"
     missing=$(for_programs misnamed "$tree/bin")
     [ -z "$missing" ] || wrong "programs that do not say their own names and the version: $missing"
     put_demo "$tree"
@@ -438,7 +398,7 @@ make_debs() {
 
     root=$folder/nizwarf
     mkdir -p "$root/usr/share"/{man,qemu/vhost-user}
-    for_programs build_program "$root/usr/bin" "$tree/lib/$soname"
+    put_programs "$root/usr/bin" "$tree/lib/$soname"
     put_demo "$root/usr"
     sed 's,/usr/local/,/usr/,' "$packaging/60-nizwarf-share.json" \
         > "$root/usr/share/qemu/vhost-user/60-nizwarf-share.json"

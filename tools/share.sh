@@ -1,6 +1,6 @@
 #!/usr/bin/env bash
 # Shares a folder of the host: mounts it on another one over /dev/fuse, or serves it to a virtual machine over
-# vhost-user. The protocol is that of the library vfs_door; the program is examples/c/share.c, which nothing
+# vhost-user. The protocol is that of the library vfs_door; the program is programs/share/share.c, which nothing
 # is proved of.
 #
 # Usage: tools/share.sh FOLDER MOUNTPOINT [WORDS]
@@ -12,18 +12,18 @@
 # a mount; --words lists them. `umount MOUNTPOINT` or Ctrl-C ends it.
 #
 # With --check it refuses words that can't be, and shares folders of its own. Over /dev/fuse
-# tools/lib/session.sh does there what a person does, with one worker, with four, with a cache of what is
+# tests/mount/session.sh does there what a person does, with one worker, with four, with a cache of what is
 # written later, with file handles, with few descriptors; after each the descriptors of the server are counted.
-# A file that came behind a remembered name is opened by who may alone. tools/lib/share_calls.py asks it what it asks a
-# plain folder. tools/lib/escape.c tries to leave the sandbox from within, and the server's capabilities and
+# A file that came behind a remembered name is opened by who may alone. tests/share/calls.py asks it what it asks a
+# plain folder. tests/share/escape.c tries to leave the sandbox from within, and the server's capabilities and
 # directories are looked at.
 # Files of several file systems below the folder are told apart, and how many are known is bounded; what a node
-# takes is printed (tools/lib/share_nodes.py).
-# Over vhost-user it is asked the hostile requests of tools/compare/beside, and more that are made up, under
-# sanitizers and in its sandbox; a machine that goes away is followed by another. tools/gate/lint.sh holds its
+# takes is printed (tests/share/nodes.py).
+# Over vhost-user it is asked the hostile requests of tests/beside, and more that are made up, under
+# sanitizers and in its sandbox; a machine that goes away is followed by another. tools/dev/lint.sh holds its
 # sources against clang-tidy and cppcheck, if they are installed. It takes two minutes, and wants python3.
 #
-# With --load it is under load for so many minutes, and meets faults (tools/lib/share_load.py): programs that
+# With --load it is under load for so many minutes, and meets faults (tests/share/load.py): programs that
 # stress a file system, machines, both killed amid a request; full disks, descriptors that run out, allocations
 # that are refused in turn and by chance, openings in turn. What was written is held against what is there, what
 # is refused makes no name, and descriptors and memory are counted. It wants python3 and stress-ng, and as much of the processor as it is given: `nice` and
@@ -74,7 +74,7 @@ need python3 "Install it: apt-get install python3."
 build_transport share vfs_door
 share=$transport
 mkdir -p "$here/out/c"
-cc -std=c11 -O2 -Wall -Wextra -Werror -DPATIENCE=600 -o "$here/out/c/ask" "$here/tools/compare/beside/ask.c"
+cc -std=c11 -O2 -Wall -Wextra -Werror -DPATIENCE=600 -o "$here/out/c/ask" "$here/tests/beside/ask.c"
 
 # In memory where that is a file system: one on a disk may say of a directory that it has one name.
 work=$(mktemp -d -p "$(if [ -d /dev/shm ]; then echo /dev/shm; else echo /tmp; fi)")
@@ -92,9 +92,9 @@ status=0
 
 if [ "$1" = --load ]; then
     need stress-ng "Install it: apt-get install stress-ng."
-    build_transport share vfs_door "$here/tools/lib/refuse_some.c" -Wl,--wrap=malloc -Wl,--wrap=calloc \
+    build_transport share vfs_door "$here/tests/share/refuse_some.c" -Wl,--wrap=malloc -Wl,--wrap=calloc \
         -Wl,--wrap=realloc -Wl,--wrap=aligned_alloc -Wl,--wrap=openat
-    python3 -B "$here/tools/lib/share_load.py" "$share" "$transport" "$here/out/c/ask" "$work" "$2" || status=1
+    python3 -B "$here/tests/share/load.py" "$share" "$transport" "$here/out/c/ask" "$work" "$2" || status=1
     umount -lq "$work"/* || true
     exit "$status"
 fi
@@ -130,7 +130,7 @@ try_mount() {
     await_mount
     ls "$work/mount" > /dev/null
     before=$(descriptors)
-    "$here/tools/lib/session.sh" --shared "${lists[@]}" "$work/mount" > "$work/said" || {
+    "$here/tests/mount/session.sh" --shared "${lists[@]}" "$work/mount" > "$work/said" || {
         grep -A 2 WRONG "$work/said" >&2 || true
         wrong "the session with $*"
     }
@@ -185,11 +185,11 @@ try_kill() {
 # Code that got into the server has no way out of its sandbox: a program has its place, and the server itself is
 # looked at from outside.
 try_escape() {
-    local from=$here/examples/c came sandbox filter seccomp=() links=()
+    local from=$here/programs/share came sandbox filter seccomp=() links=()
     ! "$share" --version | grep -q "with libseccomp" || seccomp=(-DWITH_SECCOMP)
     [ "${#seccomp[@]}" = 0 ] || links=(-lseccomp)
-    cc -std=c11 -O2 -Wall -Wextra -Werror -pthread "${seccomp[@]}" -I "$here/include" -o "$work/escape" \
-        "$here/tools/lib/escape.c" "$from/share_sandbox.c" "$from/share_users.c" "$from/passthrough_who.c" "${links[@]}"
+    cc -std=c11 -O2 -Wall -Wextra -Werror -pthread "${seccomp[@]}" -I "$here/include" -I "$here/programs/transport" -o "$work/escape" \
+        "$here/tests/share/escape.c" "$from/share_sandbox.c" "$from/share_users.c" "$from/passthrough_who.c" "${links[@]}"
     mkdir -p "$work/folder"
     touch "$work/outside"
     for sandbox in namespace chroot; do
@@ -262,7 +262,7 @@ PYTHON
 
 # Asks for directories, each NAME:UID:GID of who asks, and says what came: ask_directories SOCKET NAME..
 ask_directories() {
-    python3 -B - "$here/tools/compare/beside" "${@:2}" << 'PYTHON' | timeout 60 "$here/out/c/ask" "$1" > "$work/said"
+    python3 -B - "$here/tests/beside" "${@:2}" << 'PYTHON' | timeout 60 "$here/out/c/ask" "$1" > "$work/said"
 import struct, sys
 sys.path.insert(0, sys.argv[1])
 from requests import FIRST, line
@@ -448,8 +448,8 @@ try_ends() {
     local ends=$work/ends
     mkdir "$ends"
     timeout -k 5 120 unshare --mount \
-        python3 -B "$here/tools/lib/share_ends.py" "$share" "$ends" "$@" 2> "$ends/said" ||
-        { cat "$ends/said" >&2 && wrong "tools/lib/share_ends.py with $*"; }
+        python3 -B "$here/tests/share/ends.py" "$share" "$ends" "$@" 2> "$ends/said" ||
+        { cat "$ends/said" >&2 && wrong "tests/share/ends.py with $*"; }
     ! grep -E 'ERROR: |WARNING: ThreadSanitizer|runtime error' "$ends/said" >&2 || wrong "a sanitizer, at an end"
     rm -rf "$ends" || true
 }
@@ -457,8 +457,8 @@ try_ends() {
 # What is asked of a plain folder too.
 try_calls() {
     mkdir "$work/calls"
-    timeout 120 python3 -B "$here/tools/lib/share_calls.py" "$share" "$here/out/c/ask" "$work/calls" "$@" ||
-        wrong "tools/lib/share_calls.py with $*"
+    timeout 120 python3 -B "$here/tests/share/calls.py" "$share" "$here/out/c/ask" "$work/calls" "$@" ||
+        wrong "tests/share/calls.py with $*"
     umount -lq "$work/calls"/* || true
     rm -rf "$work/calls" || true
     echo "Calls come to what they do on a plain folder${*:+, with $*}."
@@ -466,11 +466,11 @@ try_calls() {
 
 # What a client knows of files: which are one, how many there may be, and what each takes.
 try_nodes() {
-    cc -std=c11 -O2 -Wall -Wextra -Werror -pthread -o "$here/out/c/share_numbers" "$here/tools/lib/share_numbers.c" \
-        "$here/examples/c/passthrough_numbers.c"
+    cc -std=c11 -O2 -Wall -Wextra -Werror -pthread -o "$here/out/c/share_numbers" "$here/tests/share/numbers.c" \
+        "$here/programs/share/passthrough_numbers.c"
     "$here/out/c/share_numbers" || wrong "inode numbers"
     mkdir "$work/nodes"
-    python3 -B "$here/tools/lib/share_nodes.py" "$share" "$here/out/c/ask" "$work/nodes" || wrong "what a client knows"
+    python3 -B "$here/tests/share/nodes.py" "$share" "$here/out/c/ask" "$work/nodes" || wrong "what a client knows"
     umount -lq "$work/nodes"/* || true
 }
 
@@ -542,7 +542,7 @@ PYTHON
 try_managers() {
     rm -rf "$work/a,b"
     mkdir "$work/a,b"
-    timeout 60 python3 -B - "$here/tools/compare/beside" "$here/out/c/ask" "$share" "$work" << 'PYTHON' || wrong "a line of libvirt"
+    timeout 60 python3 -B - "$here/tests/beside" "$here/out/c/ask" "$share" "$work" << 'PYTHON' || wrong "a line of libvirt"
 import os, socket, struct, subprocess, sys
 beside, ask, share, work = sys.argv[1:]
 sys.path.insert(0, beside)
@@ -684,7 +684,7 @@ try_ends
 
 # Asks a server over vhost-user: what it is, its words.
 ask() {
-    python3 -B - "$here/tools/compare/beside" "$here/out/c/ask" "$work" "$@" << 'PYTHON' || wrong "$1 over vhost-user"
+    python3 -B - "$here/tests/beside" "$here/out/c/ask" "$work" "$@" << 'PYTHON' || wrong "$1 over vhost-user"
 import mmap, os, random, socket, stat, struct, subprocess, sys, time
 
 beside, ask, work, what, *daemon = sys.argv[1:]
@@ -754,7 +754,7 @@ with open(work + "/log", "w+") as log:
             self.asking.stdin.close()
             self.asking.wait()
 
-    # The sessions of tools/compare/beside: after each the queue is still served.
+    # The sessions of tests/beside: after each the queue is still served.
     count = 0
     for items, _ in requests.sessions():
         asking, answers = Asking(), []
@@ -1001,8 +1001,8 @@ for sanitizer in address,undefined thread; do
     fi
 done
 if command -v clang-tidy > /dev/null && command -v cppcheck > /dev/null; then
-    "$here/tools/gate/lint.sh" || wrong "tools/gate/lint.sh"
+    "$here/tools/dev/lint.sh" || wrong "tools/dev/lint.sh"
 else
-    echo "clang-tidy or cppcheck is not installed: tools/gate/lint.sh was left out." >&2
+    echo "clang-tidy or cppcheck is not installed: tools/dev/lint.sh was left out." >&2
 fi
 exit "$status"

@@ -16,7 +16,7 @@
 # virtiofsd's own for a release, which optimises when it links, with one codegen unit.
 #
 # With --check it builds it, and asks it and Debian's own program of virtiofsd 1.13.2 the same over equal
-# folders, by vhost-user: the hostile requests of tools/compare/beside, and N well-formed ones by a seed (20000, and
+# folders, by vhost-user: the hostile requests of tests/beside, and N well-formed ones by a seed (20000, and
 # 1). It then asks the one with the layer here as many that are mostly broken. It prints how many came to the
 # same, what differs and why, and what was survived. It takes three minutes, and wants root and Python 3.
 #
@@ -201,5 +201,5 @@ fi
 build_front ask
 work=$(mktemp -d)
 trap 'rm -rf "$work"' EXIT
-python3 -B "$here/tools/compare/beside/replaced.py" "$folder/ask" "$work" "$seed" "$count" "$daemon" \
+python3 -B "$here/tests/beside/replaced.py" "$folder/ask" "$work" "$seed" "$count" "$daemon" \
     "${theirs[@]}"

@@ -111,7 +111,7 @@ step "Tests and doctests" cargo test --offline
 echo "$(passed) tests and doctests passed."
 cargo build --quiet --offline --examples
 
-# tools/gate/c-hello.c passes a descriptor by its number.
+# tests/c/hello.c passes a descriptor by its number.
 # shellcheck disable=SC2016
 printf '#!/usr/bin/env bash\nexec "%s" - <&"$2"\n' "$built/debug/examples/hello" > "$folder/hello"
 chmod +x "$folder/hello"

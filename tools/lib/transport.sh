@@ -32,31 +32,30 @@ link_door() {
     library=("${library[0]}" "${others[@]}")
 }
 
-# Builds examples/c/NAME.c with a library and the transports that it stands on, and sets `transport` to the
-# program: build_transport NAME [LIBRARY [FLAGS..]]. One that runs meanwhile, of another tool, stays what it
-# is. With flags, as those of sanitizers, it is another program.
+# Builds a program of programs/Makefile into a folder, with what `library` has: make_program FOLDER PROGRAM FLAGS..
+make_program() {
+    need make "Install it: apt-get install make."
+    make -s -B -C "$1" -f "$here/programs/Makefile" "$2" CFLAGS="-Wall -Wextra -Werror ${*:3}" \
+        LIBRARY="${library[*]}" INCLUDE="$here/include"
+}
+
+# Builds the program nizwarf-NAME with a library, and sets `transport` to it: build_transport NAME [LIBRARY
+# [FLAGS..]]. One that runs meanwhile, of another tool, stays what it is. With flags, as those of sanitizers, it is
+# another program.
 build_transport() {
-    local name=$1 from=$here/examples/c of=${2:-vfs_c} compile=(cc -std=c11 -O2 -Wall -Wextra -Werror -pthread)
-    local sources=("$from/$name.c") links=() flags=("${@:3}")
+    local name=$1 of=${2:-vfs_c} folder
     find_library "$of"
-    case $name in
-        mount) sources+=("$from/trace.c" "$from/heap.c" "$from/fuse_device.c" "$from/fuse_ring.c") && link_door ;;
-        vhost) sources+=("$from/trace.c" "$from/heap.c" "$from/vhost_user.c" "$from/vhost_queue.c") && link_door ;;
-        share)
-            sources+=("$from/trace.c" "$from"/share_*.c "$from"/passthrough*.c "$from/fuse_device.c" "$from/vhost_user.c" "$from/vhost_queue.c")
-            if echo '#include <seccomp.h>' | cc -fsyntax-only -x c - 2> /dev/null; then
-                flags+=(-DWITH_SECCOMP)
-                links+=(-lseccomp)
-            else
-                echo "It is built without libseccomp: \`apt-get install libseccomp-dev\` has it." >&2
-            fi
-            ;;
-    esac
+    if [ "$name" != share ]; then
+        link_door
+    elif ! cc -include seccomp.h -fsyntax-only -x c - < /dev/null 2> /dev/null; then
+        echo "It is built without libseccomp: \`apt-get install libseccomp-dev\` has it." >&2
+    fi
     mkdir -p "$here/out/c"
+    folder=$(mktemp -d -p "$here/out/c")
+    make_program "$folder" "nizwarf-$name" -O2 "${@:3}"
     transport=$here/out/c/$name-$of$(printf '%s' "${@:3}" | tr -c 'a-z0-9' _)
-    "${compile[@]}" "${flags[@]}" -I "$here/include" -o "$transport.$$" "${sources[@]}" "${library[@]}" \
-        "${links[@]}"
-    mv "$transport.$$" "$transport"
+    mv "$folder/nizwarf-$name" "$transport"
+    rmdir "$folder"
 }
 
 # The kind of file system that a folder is on: the type of its mount, but fuse.nizwarf-share if that has a folder

@@ -5,7 +5,7 @@
 # Each FILE is what a run of `tools/measure/speed.sh --beside` printed. Their figures go to
 # docs/speed/ratios.tsv, and from there into the table; with no FILE the table is made anew from the figures
 # that are there. A cell has the least and the greatest ratio of all passes, time here by time in virtiofsd's
-# Rust. docs/speed/classes.tsv has the names of the classes. tools/gate/pictures.sh draws the ratios from the
+# Rust. docs/speed/classes.tsv has the names of the classes. tools/dev/pictures.sh draws the ratios from the
 # table.
 set -eu
 . "$(dirname "$0")/../lib/usage.sh"

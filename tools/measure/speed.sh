@@ -6,7 +6,7 @@
 # request in nanoseconds, the least and the middle of N runs of N milliseconds, and its allocations.
 # With --growth: how the time of many reads and writes of 16 bytes over pieces of 64 grows.
 #
-# --beside holds virtiofsd's own Rust beside it, in one process. tools/compare/oracle/build.sh builds that from
+# --beside holds virtiofsd's own Rust beside it, in one process. tests/oracle/build.sh builds that from
 # Debian's package of its source, or from FOLDER. The replies of both are compared first, and nothing is
 # timed where they differ. Then trust the last column, the middle of the ratios of runs that followed
 # each other.
@@ -42,7 +42,7 @@ need rt "The Rattle toolchain builds the library: put its folder bin on the PATH
 kit=$(cd "$(dirname "$(rt doc)")" && pwd)
 if [ -n "$beside" ]; then
     need rustc "Install a Rust compiler: apt-get install rustc."
-    "$here/tools/compare/oracle/build.sh" "${source[@]}"
+    "$here/tests/oracle/build.sh" "${source[@]}"
 else
     need cc "Install a C compiler: apt-get install gcc libc6-dev."
 fi
@@ -73,7 +73,7 @@ if [ -n "$growth" ]; then
     "$folder/growth"
     exit
 fi
-rustc "${rust[@]}" -o "$folder/beside" "$here/tools/compare/oracle/src/bin/beside.rs"
+rustc "${rust[@]}" -o "$folder/beside" "$here/tests/oracle/src/bin/beside.rs"
 if ! "$folder/beside" "${flags[@]}" --digests > "$folder/digests"; then
     grep DIFFER "$folder/digests" >&2 || echo "The replies can't be compared." >&2
     exit 1

@@ -5,16 +5,16 @@
 # Usage: tools/measure/virtiofsd-speed.sh [--rounds N] [--ms N] [--pools LIST] [--depths LIST] [--classes LIST]
 #                                 [--instructions] [--page] [FOLDER]
 # Each daemon shares the same folder, in /dev/shm if that is there, and serves one front end over vhost-user,
-# tools/compare/beside/pace.c: a request's header, record and data lie in descriptors as those of a guest of Linux. For
+# tests/beside/pace.c: a request's header, record and data lie in descriptors as those of a guest of Linux. For
 # each class of requests, number in flight (1,4,16) and size of the thread pool (0,2,4) the daemons are asked in
 # turns, N rounds (60) of N ms (4) each, on the same processors: the front end has one, and without a pool a
 # daemon one. In every other round the turns are in the other order, and none follows itself, so that each finds
 # the caches as the others do. It prints a page, docs/generated/end-to-end.md is one: of all rounds' ratios to the
 # unmodified virtiofsd the median, and between what half of them lie. Those of each setting are in speed.tsv in the
-# folder, which is out/virtiofsd if none is given. tools/compare/beside/pace.c has the classes.
+# folder, which is out/virtiofsd if none is given. tests/beside/pace.c has the classes.
 #
 # With --page it counts instructions too, writes docs/generated/end-to-end.md and docs/speed/end-to-end.tsv, and
-# has tools/gate/pictures.sh draw the page: with no other option it is all that docs/SPEED.md stands on.
+# has tools/dev/pictures.sh draw the page: with no other option it is all that docs/SPEED.md stands on.
 #
 # Processor time is that of the daemon's threads, the kernel's part too, as /proc/PID/task/*/schedstat has it.
 # With --instructions the table has also those of the daemons' own code for a request, which do not move with
@@ -82,7 +82,7 @@ memory=/dev/shm
 work=$(mktemp -d "$memory/nizwarf-XXXXXX")
 trap 'rm -rf "$work"' EXIT
 measure() {
-    python3 -B "$here/tools/compare/beside/pace.py" "${words[@]}" --of "$of" "$folder/pace" "$work" "$folder/speed.tsv" \
+    python3 -B "$here/tests/beside/pace.py" "${words[@]}" --of "$of" "$folder/pace" "$work" "$folder/speed.tsv" \
         "$folder/virtiofsd" "$folder/nizwarf-virtiofsd" "$transport"
 }
 if [ -z "$page" ]; then
@@ -92,4 +92,4 @@ fi
 measure > "$folder/page.md"
 cp "$folder/page.md" "$here/docs/generated/end-to-end.md"
 cp "$folder/speed.tsv" "$here/docs/speed/end-to-end.tsv"
-"$here/tools/gate/pictures.sh"
+"$here/tools/dev/pictures.sh"

@@ -1,5 +1,5 @@
 //! Calls that ask for memory, each between two lines by which a refusal can be aimed at it: for
-//! `tools/gate/refuse-allocations.sh` alone.
+//! `tests/allocations/check.sh` alone.
 //!
 //! Each part of the output is about one call:
 //!

@@ -1,0 +1,237 @@
+/* Serves a descriptor by the door of nizwarf.h, for others.py.
+ *
+ * Usage: nizwarf DESCRIPTOR
+ * The descriptor is a socket that keeps messages apart. The file system is an empty root, whose functions
+ * look at each byte that they are handed. A request ends where a page that can't be read begins, and so does
+ * the room for its reply: a look behind one of them ends the program. What is refused, and has a header, is
+ * answered EIO, as programs/transport/fuse_device.c does. Status 0: the other end was closed; 1: it could not go on;
+ * 2: it could not start. */
+#define _GNU_SOURCE
+#include <linux/fuse.h>
+#include <stdio.h>
+#include <stdlib.h>
+#include <string.h>
+#include <sys/mman.h>
+#include <sys/socket.h>
+#include <sys/stat.h>
+#include <unistd.h>
+#include "nizwarf_ops.h"
+
+enum { PAYLOAD = 1 << 20, LONGEST = PAYLOAD + 4096 };
+
+static volatile unsigned seen;
+
+static void see(const void *bytes, size_t count)
+{
+	for (size_t i = 0; i < count; i++)
+		seen += ((const unsigned char *)bytes)[i];
+}
+
+static int see_name(const char *name)
+{
+	see(name, strlen(name));
+	return EROFS;
+}
+
+static int on_getattr(const nizwarf_req *req, uint64_t ino, const nizwarf_file_info *fi, nizwarf_attr *attr,
+		      struct timespec *attr_timeout)
+{
+	(void)req, (void)ino, (void)fi, (void)attr_timeout;
+	attr->ino = 1;
+	attr->mode = S_IFDIR | 0755;
+	attr->nlink = 2;
+	return 0;
+}
+
+static int on_setattr(const nizwarf_req *req, uint64_t ino, const nizwarf_setattr *set, uint32_t to_set,
+		      const nizwarf_file_info *fi, nizwarf_attr *attr, struct timespec *attr_timeout)
+{
+	(void)to_set;
+	see(set, sizeof(*set));
+	return on_getattr(req, ino, fi, attr, attr_timeout);
+}
+
+static int on_lookup(const nizwarf_req *req, uint64_t parent, const char *name, nizwarf_entry_param *e)
+{
+	(void)req, (void)parent, (void)e;
+	see_name(name);
+	return ENOENT;
+}
+
+static int on_name(const nizwarf_req *req, uint64_t parent, const char *name)
+{
+	(void)req, (void)parent;
+	return see_name(name);
+}
+
+static int on_mkdir(const nizwarf_req *req, uint64_t parent, const char *name, uint32_t mode,
+		    nizwarf_entry_param *e)
+{
+	(void)req, (void)parent, (void)mode, (void)e;
+	return see_name(name);
+}
+
+static int on_mknod(const nizwarf_req *req, uint64_t parent, const char *name, uint32_t mode, uint32_t rdev,
+		    nizwarf_entry_param *e)
+{
+	(void)rdev;
+	return on_mkdir(req, parent, name, mode, e);
+}
+
+static int on_create(const nizwarf_req *req, uint64_t parent, const char *name, uint32_t mode,
+		     nizwarf_file_info *fi, nizwarf_entry_param *e)
+{
+	(void)fi;
+	return on_mkdir(req, parent, name, mode, e);
+}
+
+static int on_symlink(const nizwarf_req *req, const char *link, uint64_t parent, const char *name,
+		      nizwarf_entry_param *e)
+{
+	see_name(link);
+	return on_mkdir(req, parent, name, 0, e);
+}
+
+static int on_rename(const nizwarf_req *req, uint64_t parent, const char *name, uint64_t newparent,
+		     const char *newname, uint32_t flags)
+{
+	(void)req, (void)parent, (void)newparent, (void)flags;
+	see_name(newname);
+	return see_name(name);
+}
+
+static int on_link(const nizwarf_req *req, uint64_t ino, uint64_t newparent, const char *newname,
+		   nizwarf_entry_param *e)
+{
+	(void)ino;
+	return on_mkdir(req, newparent, newname, 0, e);
+}
+
+static int on_read(const nizwarf_req *req, uint64_t ino, size_t size, uint64_t off,
+		   const nizwarf_file_info *fi, void *buf, size_t *len)
+{
+	(void)req, (void)ino, (void)size, (void)off, (void)fi, (void)buf, (void)len;
+	return 0;
+}
+
+static int on_readdir(const nizwarf_req *req, uint64_t ino, uint64_t off, const nizwarf_file_info *fi,
+		      nizwarf_dir *dir)
+{
+	(void)req, (void)ino, (void)off, (void)fi, (void)dir;
+	return 0;
+}
+
+static int on_write(const nizwarf_req *req, uint64_t ino, const void *buf, size_t size, uint64_t off,
+		    const nizwarf_file_info *fi, size_t *len)
+{
+	(void)req, (void)ino, (void)off, (void)fi;
+	see(buf, size);
+	*len = size;
+	return 0;
+}
+
+static int on_setxattr(const nizwarf_req *req, uint64_t ino, const char *name, const void *value, size_t size,
+		       uint32_t flags)
+{
+	(void)req, (void)ino, (void)flags;
+	see(value, size);
+	return see_name(name);
+}
+
+static int on_getxattr(const nizwarf_req *req, uint64_t ino, const char *name, size_t size, void *value,
+		       size_t *len)
+{
+	(void)req, (void)ino, (void)size, (void)value, (void)len;
+	see_name(name);
+	return ENODATA;
+}
+
+static void on_forget(const nizwarf_req *req, uint64_t ino, uint64_t nlookup)
+{
+	(void)req;
+	seen += (unsigned)(ino + nlookup);
+}
+
+static const nizwarf_ops ops = {
+	.getattr = on_getattr,
+	.setattr = on_setattr,
+	.lookup = on_lookup,
+	.mkdir = on_mkdir,
+	.mknod = on_mknod,
+	.create = on_create,
+	.symlink = on_symlink,
+	.unlink = on_name,
+	.rmdir = on_name,
+	.removexattr = on_name,
+	.rename = on_rename,
+	.link = on_link,
+	.read = on_read,
+	.readdir = on_readdir,
+	.readdirplus = on_readdir,
+	.write = on_write,
+	.setxattr = on_setxattr,
+	.getxattr = on_getxattr,
+	.forget = on_forget,
+};
+
+/* The end of LONGEST bytes behind which nothing can be read. */
+static unsigned char *fenced(void)
+{
+	const size_t page = (size_t)sysconf(_SC_PAGESIZE), size = (LONGEST + page - 1) / page * page;
+	unsigned char *at =
+		mmap(NULL, size + page, PROT_READ | PROT_WRITE, MAP_PRIVATE | MAP_ANONYMOUS, -1, 0);
+
+	if (at == MAP_FAILED || mprotect(at + size, page, PROT_NONE)) {
+		perror("nizwarf: memory");
+		exit(2);
+	}
+	return at + size;
+}
+
+static size_t refuse(const unsigned char *request, size_t size, unsigned char *room)
+{
+	struct fuse_out_header reply = { .len = sizeof(reply), .error = -EIO };
+	struct fuse_in_header asked;
+
+	if (size < sizeof(asked))
+		return 0;
+	memcpy(&asked, request, sizeof(asked));
+	if (asked.opcode == FUSE_FORGET || asked.opcode == FUSE_BATCH_FORGET ||
+	    asked.opcode == FUSE_INTERRUPT)
+		return 0;
+	reply.unique = asked.unique;
+	memcpy(room, &reply, sizeof(reply));
+	return sizeof(reply);
+}
+
+int main(int count, char **words)
+{
+	static unsigned char taken[LONGEST];
+	static nizwarf_slot slot = NIZWARF_NONE;
+	nizwarf_session session = { 0, 4096, PAYLOAD };
+	unsigned char *end, *room;
+	nizwarf_item items[1];
+	ssize_t got;
+	int fd;
+
+	if (count != 2 || !strcmp(words[1], "--help"))
+		return fputs("Usage: nizwarf DESCRIPTOR\n", count == 2 ? stdout : stderr), count == 2 ? 0 : 2;
+	fd = atoi(words[1]);
+	end = fenced();
+	room = fenced() - LONGEST;
+	while ((got = recv(fd, taken, sizeof(taken), 0)) > 0) {
+		unsigned char *request = end - got;
+		size_t len = 0;
+
+		memcpy(request, taken, (size_t)got);
+		if (nizwarf_serve_ops(&ops, NULL, &slot, &session, request, (size_t)got, room, LONGEST, items,
+				      1, &len) != NIZWARF_OK)
+			len = refuse(request, (size_t)got, room);
+		if (len && send(fd, room, len, MSG_NOSIGNAL) < 0)
+			return perror("nizwarf: send"), 1;
+	}
+	if (got < 0)
+		perror("nizwarf: recv");
+	nizwarf_end_slot(&slot);
+	return got < 0;
+}

@@ -1,0 +1,78 @@
+#!/usr/bin/env bash
+# Asks virtiofsd 1.13.2 and the server here the same hostile requests over vhost-user, and sorts what comes.
+#
+# Usage: tests/beside/virtiofsd.sh [--page | --suite SUITE]
+# virtiofsd and its libraries are packages of Debian 13, which apt-get downloads by lists of its own and
+# which are unpacked into the folder `beside` of `out`, and never installed. It shares an empty folder; the
+# server here has its files in memory. Each session goes to a new process of both, and one more request
+# after it, which shows whether the queue is still served. It prints the judged requests by the kind of
+# what came, and the tables of docs/generated/beside-virtiofsd.md, and compares that page with them; with
+# --page it writes them there. With --suite it asks the virtiofsd of another suite of Debian, as sid, whatever its
+# version is, and leaves the page alone.
+#
+# It wants root, apt-get, a C compiler, Python 3 and the Rattle toolchain, and takes a minute. It links the
+# proved library if that is built and no source is newer; otherwise tools/lib/unproved.sh builds it without a
+# proof, which takes a minute more. The transport is programs/vhost/vhost.c.
+# Status 0: each request is of a kind, the server here went on each time, and the page, unless --suite is
+# given, says what came; 1: not so; 2: it could not start.
+set -euo pipefail
+. "$(dirname "$0")/../../tools/lib/usage.sh"
+. "$(dirname "$0")/../../tools/lib/transport.sh"
+. "$(dirname "$0")/../../tools/lib/debian.sh"
+
+how=compare suite=trixie
+if [ $# = 1 ] && [ "$1" = --page ]; then
+    how="write"
+elif [ $# = 2 ] && [ "$1" = --suite ] && [[ $2 =~ ^[a-z]+$ ]]; then
+    how=show suite=$2
+elif [ $# != 0 ]; then
+    echo "Usage: tests/beside/virtiofsd.sh [--page | --suite SUITE]" >&2
+    exit 2
+fi
+for command in apt-get dpkg-deb; do
+    need "$command" "virtiofsd is a package of Debian."
+done
+if [ "$(id -u)" != 0 ]; then
+    echo "virtiofsd is started as root: run it as root." >&2
+    exit 2
+fi
+need python3 "Install it: apt-get install python3."
+if [ "$(uname -m)" != x86_64 ]; then
+    echo "It is made for x86-64 alone." >&2
+    exit 2
+fi
+build_transport vhost
+
+work=$(mktemp -d)
+trap 'rm -rf "$work"' EXIT
+
+fetch() {
+    use_suite "$suite" "$work/apt"
+    unpack_packages "$work/unpacked" virtiofsd libc6 libcap-ng0 libgcc-s1 libseccomp2
+    mkdir -p "$here/out/beside"
+    mv "$work/unpacked" "$there"
+}
+
+there=$here/out/beside/$suite
+if [ ! -e "$there" ]; then
+    echo "Downloading virtiofsd of Debian's $suite .." >&2
+    quietly "$work/said" fetch || {
+        echo "Debian's package virtiofsd of $suite can't be had by apt-get here." >&2
+        exit 2
+    }
+fi
+# By its own loader and libraries, whatever the machine has.
+libraries=$there/usr/lib/x86_64-linux-gnu
+virtiofsd=("$libraries/ld-linux-x86-64.so.2" --library-path "$libraries" "$there/usr/libexec/virtiofsd")
+version=$("${virtiofsd[@]}" --version)
+if [ "$how" != show ] && [[ $version != *1.13.2* ]]; then
+    echo "This is $version and not virtiofsd 1.13.2." >&2
+    exit 2
+fi
+package=$(gzip -dc "$there/usr/share/doc/virtiofsd/changelog.Debian.gz" | sed -nE '1s/.*\(([^)]*)\).*/\1/p')
+library_is="the library for C proved"
+[[ ${library[0]} != */unproved/* ]] || library_is="the library for C built without a proof"
+cc -std=c11 -O2 -Wall -Wextra -Werror -o "$work/ask" "$here/tests/beside/ask.c"
+python3 -B "$here/tests/beside/beside.py" "$how" "$work/ask" "$transport" "$work" \
+    "Debian's package $package of virtiofsd, and $library_is" "${virtiofsd[@]}" \
+    --socket-path SOCKET --shared-dir SHARE --sandbox none --seccomp none --no-announce-submounts --xattr

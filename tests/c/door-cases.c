@@ -1,0 +1,667 @@
+/* Cases of the door of nizwarf.h that no server over the tree shows, with replies by hand: what the
+ * tree doesn't agree on, limits, counts and errors that can't be, what is given back, calls that
+ * were not asked, and allocations that are refused.
+ *
+ * tests/c/check.sh links it with both libraries, and --wrap=malloc, --wrap=realloc and
+ * --wrap=free. Status 0: all is as it should be, and no memory is left behind. */
+#include <errno.h>
+#include "allocations.h"
+#include "door.h"
+
+static uint8_t text[ROOM];
+
+/* Asks by hand, of a request in two pieces, what is told and right. */
+static nizwarf_call ask_call(size_t space, size_t cut)
+{
+	const size_t first = cut < request_len ? cut : request_len;
+	const nizwarf_segment pieces[] = { { request, first }, { request + first, request_len - first } };
+	nizwarf_told told;
+	nizwarf_call call;
+
+	CHECK(ask(pieces, 2, request_len, space, &call, &told) == NIZWARF_ASKED);
+	return call;
+}
+
+/* Whether the reply is the error of this number, and nothing else. */
+static int is_error(const nizwarf_told *told, int error)
+{
+	return told->len == 16 && told->put == 16 && u32(ours) == 16 && (int32_t)u32(ours + 4) == -error &&
+	       u64(ours + 8) == unique;
+}
+
+/* A request that makes a name, with a security context, and a group in front of it or behind it. */
+static void begin_maker(uint32_t opcode, int group_first)
+{
+	static const uint32_t group[] = { 16, 32, 1, 4242 }, context[] = { 30, 1, 5, 0 };
+	static const uint8_t record[16];
+
+	begin_with(opcode, 1, record, forms[opcode].record);
+	add_name("name");
+	if (opcode == NIZWARF_SYMLINK)
+		add_name("text");
+	add(group, group_first ? sizeof(group) : 0);
+	add(context, sizeof(context));
+	add_name("security");
+	add("value", 5);
+	add(group, group_first ? 0 : sizeof(group));
+}
+
+/* One of those, in two pieces. */
+static void ask_maker(uint32_t opcode, size_t cut)
+{
+	const nizwarf_answer answer = { .entry = { .node = 5 }, .has_handle = 1, .handle = 6 };
+	const size_t len = opcode == NIZWARF_CREATE ? 160 : 144;
+	const nizwarf_call call = ask_call(4096, cut);
+	nizwarf_told told;
+
+	CHECK(call.group == 4242 && call.context.len == 5);
+	CHECK(!memcmp(request + call.context.at, "value", 5));
+	CHECK(!memcmp(request + call.context_name.at, "security", 9));
+	CHECK(!memcmp(request + call.name.at, "name", 5));
+	CHECK(!reply(&call, &answer, cut, &told) && told.len == len);
+	CHECK(u64(ours + 16) == 5 && (len < 160 || u64(ours + 144) == 6));
+	CHECK(told.options == session.options);
+}
+
+/* Security contexts and groups, which the tree does not agree on, in each cutting. */
+static void extensions(void)
+{
+	static const uint32_t makers[] = { NIZWARF_SYMLINK, NIZWARF_MKNOD, NIZWARF_MKDIR, NIZWARF_CREATE };
+	size_t i, cut;
+
+	session.options = SECURITY_CTX | CREATE_SUPP_GROUP;
+	for (i = 0; i < 8; i++) {
+		begin_maker(makers[i / 2], i & 1);
+		for (cut = 0; cut <= request_len; cut++)
+			ask_maker(makers[i / 2], cut);
+	}
+	session.options = 0;
+}
+
+/* What a block of security contexts is refused with, or NIZWARF_ASKED. */
+static int32_t code_of_context(const uint8_t *block, size_t size, uint32_t type)
+{
+	const uint8_t *end;
+
+	if (type > 1 || (type == 1 && (size < 16 || !u32(block + 8))))
+		return NIZWARF_DECODE_MESSAGE;
+	if (type == 0)
+		return NIZWARF_ASKED;
+	if (size == 16)
+		return NIZWARF_MISSING_PARAMETER;
+	end = memchr(block + 16, 0, size - 16);
+	if (!end || u32(block + 8) > (size_t)(block + size - end - 1))
+		return NIZWARF_DECODE_MESSAGE;
+	return NIZWARF_ASKED;
+}
+
+/* What the extensions between two places are refused with, or NIZWARF_ASKED: contexts and groups
+ * are agreed on. */
+static int32_t code_of_extensions(const uint8_t *at, const uint8_t *end)
+{
+	int contexts = 0, groups = 0;
+
+	for (; at < end; at += u32(at)) {
+		const size_t left = (size_t)(end - at);
+		uint32_t size, type;
+		int32_t code = NIZWARF_ASKED;
+
+		if (left < 8 || u32(at) > left)
+			return NIZWARF_DECODE_MESSAGE;
+		size = u32(at);
+		type = u32(at + 4);
+		if (size < 8)
+			return NIZWARF_INVALID_HEADER_LENGTH;
+		if (type < 32 && !contexts++)
+			code = code_of_context(at, size, type);
+		else if (type != 32 || groups++ || size < 16 || u32(at + 8) != 1)
+			code = NIZWARF_DECODE_MESSAGE;
+		if (code != NIZWARF_ASKED)
+			return code;
+	}
+	return contexts ? NIZWARF_ASKED : NIZWARF_MISSING_EXTENSION;
+}
+
+/* What the first bytes of a request that makes a name are refused with: NIZWARF_OK where its `len`
+ * is above the limit, which is answered, and NIZWARF_ASKED where it is a call. */
+static int32_t code_of_maker(size_t len)
+{
+	const uint32_t opcode = u32(request + 4), total = u32(request);
+	const uint8_t *name = request + 40 + forms[opcode].record, *end = request + total;
+	const uint8_t *zero;
+	int32_t code;
+
+	if (len < 40)
+		return NIZWARF_DECODE_MESSAGE;
+	if (total > ROOM + 4096)
+		return NIZWARF_OK;
+	if (len < 40u + forms[opcode].record)
+		return NIZWARF_DECODE_MESSAGE;
+	if (total < 40u + forms[opcode].record)
+		return NIZWARF_INVALID_HEADER_LENGTH;
+	if (total > len)
+		return NIZWARF_DECODE_MESSAGE;
+	if (opcode == NIZWARF_SYMLINK) {
+		name = memchr(name, 0, (size_t)(end - name));
+		if (!name++)
+			return NIZWARF_MISSING_PARAMETER;
+	}
+	if (name == end)
+		return NIZWARF_MISSING_PARAMETER;
+	zero = memchr(name, 0, (size_t)(end - name));
+	code = code_of_extensions(zero ? zero + 1 : end, end);
+	return code == NIZWARF_ASKED && !zero ? NIZWARF_INVALID_C_STRING : code;
+}
+
+/* The first bytes of such a request, in two pieces, by those rules. */
+static void ask_hostile(size_t len, size_t cut)
+{
+	const nizwarf_segment pieces[] = { { request, cut }, { request + cut, len - cut } };
+	const nizwarf_room room = { ours, 4096 };
+	const int32_t expected_code = code_of_maker(len);
+	nizwarf_call call, expected;
+	nizwarf_told told;
+
+	CHECK(nizwarf_ask(&slot, &session, pieces, 2, &room, 1, &call, &told) == expected_code);
+	if (expected_code == NIZWARF_OK)
+		CHECK(is_error(&told, ENOMEM));
+	if (expected_code != NIZWARF_ASKED)
+		return;
+	expected = call_of(request, len, session.options, 4096);
+	CHECK(!memcmp(&call, &expected, sizeof(expected)));
+}
+
+/* Extensions that are cut short, or have bytes changed, of each request that has some. */
+static void hostile_extensions(void)
+{
+	static const uint32_t makers[] = { NIZWARF_SYMLINK, NIZWARF_MKNOD, NIZWARF_MKDIR, NIZWARF_CREATE };
+	size_t i, n, len;
+
+	session.options = SECURITY_CTX | CREATE_SUPP_GROUP;
+	for (i = 0; i < 8; i++) {
+		begin_maker(makers[i / 2], i & 1);
+		len = request_len;
+		for (n = 0; n <= len; n++) {
+			ask_hostile(n, n / 2);
+			/* (and so cut that it says so itself) */
+			memcpy(request, &(uint32_t){ (uint32_t)n }, 4);
+			ask_hostile(len, n);
+			begin_maker(makers[i / 2], i & 1);
+		}
+		for (n = 0; n < 20000; n++) {
+			const size_t at = rand() % 4 ? 40 + (size_t)rand() % (len - 40) : (size_t)rand() % 4;
+
+			request[at] = (uint8_t)(rand() % 2 ? rand() % 4 : 1 << rand() % 8);
+			ask_hostile(len, (size_t)rand() % len);
+			if (n % 4 == 0)
+				begin_maker(makers[i / 2], i & 1);
+		}
+	}
+	session.options = 0;
+}
+
+/* The longer record of a SETXATTR, which the tree does not agree on. */
+static void longer_record(void)
+{
+	const uint32_t record[] = { 5, 1, 3, 0 };
+	nizwarf_call call;
+	size_t cut;
+
+	session.options = SETXATTR_EXT;
+	for (cut = 0; cut < 80; cut++) {
+		begin_with(NIZWARF_SETXATTR, 2, record, sizeof(record));
+		add_name("user.a");
+		add("value", 5);
+		call = ask_call(64, cut);
+		CHECK(nizwarf_setxattr_more_flags(&call) == 1 && call.flags == 1 && call.data.len == 5);
+		CHECK(!memcmp(request + call.data.at, "value", 5));
+	}
+	session.options = 0;
+}
+
+/* The request as it is asked for a call, or answered ENOMEM without one. */
+static void ask_bounded(int fits)
+{
+	const nizwarf_segment piece = { request, request_len };
+	nizwarf_call call;
+	nizwarf_told told;
+	int32_t code = ask(&piece, 1, request_len, 8192, &call, &told);
+
+	CHECK(code == (fits ? NIZWARF_ASKED : NIZWARF_OK));
+	CHECK(fits || is_error(&told, ENOMEM));
+}
+
+/* What the largest payload of a session bounds, 4096 bytes: so many are asked for, and one more
+ * isn't. */
+static void limits(void)
+{
+	uint32_t over;
+
+	CHECK(nizwarf_new(&server, 4096, 4096, NULL) == NIZWARF_OK);
+	session.max_buffer = 4096;
+	for (over = 0; over < 2; over++) {
+		const struct fuse_read_in read = { .size = 4096 + over };
+		const uint32_t size[] = { 4096 + over, 0 }, count[] = { 4096 / 16 + over, 0 };
+		const uint32_t len = 8192 + over;
+
+		begin_with(NIZWARF_READDIR, 1, &read, sizeof(read));
+		ask_bounded(!over);
+		begin_with(READDIRPLUS, 1, &read, sizeof(read));
+		ask_bounded(!over);
+		begin_with(NIZWARF_LISTXATTR, 1, size, sizeof(size));
+		ask_bounded(!over);
+		begin_with(NIZWARF_GETXATTR, 1, size, sizeof(size));
+		add_name("user.a");
+		ask_bounded(!over);
+		begin_with(NIZWARF_BATCH_FORGET, 0, count, sizeof(count));
+		add(text, 16 * count[0]);
+		ask_bounded(!over);
+		begin(NIZWARF_STATFS, 1);
+		memcpy(request, &len, sizeof(len));
+		ask_bounded(!over);
+		/* (a READ and a WRITE are served, however long they are) */
+		begin_with(NIZWARF_READ, 1, &read, sizeof(read));
+		ask_bounded(1);
+	}
+	session.max_buffer = ROOM;
+	CHECK(nizwarf_new(&server, 4096, ROOM, NULL) == NIZWARF_OK);
+}
+
+/* A READ of 4096 bytes with this room is answered with so many bytes. */
+static nizwarf_told read_count(size_t space, uint64_t count, int32_t code)
+{
+	const struct fuse_read_in read = { .size = 4096 };
+	const nizwarf_answer answer = { .count = count };
+	nizwarf_call call;
+	nizwarf_told told;
+
+	begin_with(NIZWARF_READ, 2, &read, sizeof(read));
+	call = ask_call(space, 0);
+	CHECK(nizwarf_read_room(&call) == space - 16);
+	memset(ours, FILL, space);
+	CHECK(reply(&call, &answer, 20, &told) == code && !told.give_back);
+	return told;
+}
+
+/* Counts that can be, and such that can't. */
+static void counts(void)
+{
+	const struct fuse_write_in write = { .size = 4 };
+	const uint32_t record[] = { 0, 0 };
+	nizwarf_answer answer = { .count = UINT64_C(1) << 32, .has_count = 1 };
+	nizwarf_told told = read_count(8192, 4096, NIZWARF_OK);
+	nizwarf_call call;
+
+	CHECK(told.len == 4112 && told.put == 16 && u32(ours) == 4112 && ours[16] == FILL);
+	told = read_count(1000, 984, NIZWARF_OK);
+	CHECK(told.len == 1000 && told.put == 16 && !u32(ours + 4));
+	told = read_count(16, 0, NIZWARF_OK);
+	CHECK(told.len == 16 && u32(ours) == 16 && !u32(ours + 4));
+	told = read_count(8192, 4097, NIZWARF_OK);
+	CHECK(is_error(&told, EIO));
+	told = read_count(1000, 985, NIZWARF_OK);
+	CHECK(is_error(&told, EIO));
+	told = read_count(8192, UINT64_MAX, NIZWARF_OK);
+	CHECK(is_error(&told, EIO));
+	begin_with(NIZWARF_WRITE, 2, &write, sizeof(write));
+	add("data", 4);
+	call = ask_call(64, 0);
+	CHECK(reply(&call, &answer, 0, &told) == NIZWARF_OK && is_error(&told, EIO));
+	answer.count--;
+	CHECK(reply(&call, &answer, 0, &told) == NIZWARF_OK && told.len == 24);
+	CHECK(u32(ours + 16) == UINT32_MAX && !u32(ours + 20));
+	begin_with(NIZWARF_LISTXATTR, 2, record, sizeof(record));
+	call = ask_call(64, 0);
+	CHECK(reply(&call, &answer, 0, &told) == NIZWARF_OK && told.len == 24);
+	answer.count++;
+	CHECK(reply(&call, &answer, 0, &told) == NIZWARF_OK && is_error(&told, EIO));
+}
+
+/* Errors: a number that Linux takes, others, and 0 where there must be one. */
+static void errors(void)
+{
+	nizwarf_answer answer = { .error = NIZWARF_LAST_ERROR };
+	nizwarf_call call;
+	nizwarf_told told;
+
+	begin(NIZWARF_STATFS, 1);
+	add("", 0);
+	call = ask_call(96, 0);
+	CHECK(reply(&call, &answer, 3, &told) == NIZWARF_OK && is_error(&told, NIZWARF_LAST_ERROR));
+	answer.error++;
+	CHECK(reply(&call, &answer, 3, &told) == NIZWARF_OK && is_error(&told, EIO));
+	answer.error = INT32_MAX;
+	CHECK(reply(&call, &answer, 3, &told) == NIZWARF_OK && is_error(&told, EIO));
+	answer.error = -1;
+	CHECK(reply(&call, &answer, 3, &told) == NIZWARF_OK && is_error(&told, EIO));
+	answer.error = INT32_MIN;
+	CHECK(reply(&call, &answer, 3, &told) == NIZWARF_OK && is_error(&told, EIO));
+	answer = (nizwarf_answer)NIZWARF_NO_ANSWER;
+	CHECK(reply(&call, &answer, 3, &told) == NIZWARF_OK && is_error(&told, EIO));
+	begin(NIZWARF_TMPFILE, 1);
+	add("", 0);
+	call = ask_call(16, 0);
+	answer.error = 0;
+	CHECK(reply(&call, &answer, 3, &told) == NIZWARF_OK && is_error(&told, EIO));
+	begin(NIZWARF_DESTROY, 1);
+	add("", 0);
+	session.options = KNOWN_OPTIONS;
+	call = ask_call(0, 0);
+	answer.error = EIO;
+	CHECK(reply(&call, &answer, 0, &told) == NIZWARF_OK && !told.len && !told.options);
+	session.options = 0;
+}
+
+/* Options are agreed on also where the reply to INIT doesn't fit; a fault leaves them. */
+static void options(void)
+{
+	const struct fuse_init_in init = { .major = 7, .minor = 38, .flags = UINT32_MAX };
+	nizwarf_answer answer = { .count = FUSE_DO_READDIRPLUS | FUSE_POSIX_ACL };
+	/* (those, and what the server has by itself of what is offered) */
+	const uint64_t agreed = 0x10448449829 & UINT32_MAX;
+	nizwarf_call call;
+	nizwarf_told told;
+	size_t space;
+
+	begin_with(NIZWARF_INIT, 0, &init, sizeof(init));
+	for (space = 0; space < 81; space++) {
+		session.options = FUSE_WRITEBACK_CACHE;
+		call = ask_call(space, 50);
+		CHECK(reply(&call, &answer, 9, &told) == (space < 80 ? NIZWARF_ENCODE_MESSAGE : 0));
+		CHECK(told.options == (agreed | answer.count) && told.len == (space < 80 ? 0 : 80));
+	}
+	answer.error = EDOM;
+	CHECK(reply(&call, &answer, 9, &told) == NIZWARF_OK && is_error(&told, EDOM));
+	CHECK(told.options == FUSE_WRITEBACK_CACHE);
+	session.options = 0;
+}
+
+/* Long texts, and nanoseconds beyond a second. */
+static void long_answers(void)
+{
+	static const nizwarf_answer long_text = { .text = text, .text_len = UINT32_MAX - 15 };
+	static const nizwarf_answer long_time = {
+		.entry = { .node = 3, .entry_nanoseconds = UINT32_MAX, .attr_nanoseconds = 1000000000 }
+	};
+	nizwarf_answer answer = { .text = text, .text_len = sizeof(text) - 16 };
+	nizwarf_call call;
+	nizwarf_told told;
+
+	begin(NIZWARF_READLINK, 2);
+	add("", 0);
+	call = ask_call(ROOM, 0);
+	memset(text, 'x', sizeof(text));
+	CHECK(reply(&call, &answer, 9, &told) == NIZWARF_OK && told.len == ROOM);
+	CHECK(told.put == ROOM && u32(ours) == ROOM && !memcmp(ours + 16, text, ROOM - 16));
+	answer.text_len++;
+	CHECK(reply(&call, &answer, 9, &told) == NIZWARF_ENCODE_MESSAGE && !told.len && !told.put);
+	/* (so long a text is not looked at) */
+	CHECK(reply(&call, &long_text, 9, &told) == NIZWARF_OK && is_error(&told, ERANGE));
+	begin(NIZWARF_LOOKUP, 1);
+	add_name("a");
+	call = ask_call(144, 0);
+	CHECK(reply(&call, &long_time, 9, &told) == NIZWARF_OK && told.len == 144);
+	CHECK(u32(ours + 48) == 999999999 && u32(ours + 52) == 999999999);
+}
+
+/* Items that are none, among others: a name that does not end at its only 0, and an error that is no number
+ * of one. All of them are given back. */
+static void wrong_items(void)
+{
+	static const nizwarf_item wrong[] = {
+		{ .name = (const uint8_t *)"b", .name_size = 1 },
+		{ .name = (const uint8_t *)"b", .name_size = 0 },
+		{ .name = (const uint8_t *)"b\0c", .name_size = 4 },
+		{ .name = (const uint8_t *)"b", .name_size = 2, .error = NIZWARF_LAST_ERROR + 1 },
+	};
+	nizwarf_item listed[] = {
+		{ .ino = 2, .offset = 1, .name = (const uint8_t *)"a", .name_size = 2 },
+		{ .ino = 3, .offset = 2, .name = (const uint8_t *)"b", .name_size = 2 },
+		{ .ino = 4, .offset = 3, .name = (const uint8_t *)"c", .name_size = 2 },
+	};
+	const struct fuse_read_in read = { .size = 4096 };
+	nizwarf_answer answer = { .items = listed, .items_len = 3 };
+	nizwarf_call call;
+	nizwarf_told told;
+	size_t i;
+
+	begin_with(READDIRPLUS, 1, &read, sizeof(read));
+	call = ask_call(8192, 0);
+	CHECK(reply(&call, &answer, 9, &told) == NIZWARF_OK && told.len == 16 + 3 * 160 && told.taken == 3);
+	for (i = 0; i < 3 * sizeof(wrong) / sizeof(*wrong); i++) {
+		const nizwarf_item right = listed[i % 3];
+
+		listed[i % 3] = wrong[i / 3];
+		CHECK(reply(&call, &answer, 9, &told) == NIZWARF_OK && is_error(&told, EIO));
+		CHECK(!told.taken && !told.options);
+		listed[i % 3] = right;
+	}
+	listed[0] = wrong[0];
+	answer.error = ENOTDIR;
+	CHECK(reply(&call, &answer, 9, &told) == NIZWARF_OK && is_error(&told, ENOTDIR));
+	answer.error = 0;
+	listed[0] = listed[1];
+	/* (without PLUS no error is looked at) */
+	listed[1].error = NIZWARF_LAST_ERROR + 1;
+	begin_with(NIZWARF_READDIR, 1, &read, sizeof(read));
+	call = ask_call(8192, 0);
+	CHECK(reply(&call, &answer, 9, &told) == NIZWARF_OK && told.len == 112 && told.taken == 3);
+	CHECK(u64(ours + 16) == 3 && ours[40] == 'b');
+}
+
+/* Who waits gets an answer, where nothing is told and no fault is answered. */
+static void silences(void)
+{
+	static const uint32_t untold[] = { NIZWARF_GETLK, NIZWARF_SETLK, NIZWARF_SETLKW,
+					   NIZWARF_BMAP,  NIZWARF_IOCTL, NIZWARF_POLL };
+	const nizwarf_answer answer = { .error = 0 };
+	nizwarf_call call;
+	nizwarf_told told;
+	size_t i;
+
+	for (i = 0; i < sizeof(untold) / sizeof(*untold); i++) {
+		begin(untold[i], 1);
+		add("", 0);
+		call = ask_call(ROOM, 0);
+		CHECK(reply(&call, &answer, 9, &told) == NIZWARF_OK && is_error(&told, EIO));
+	}
+	begin(NIZWARF_NOTIFY_REPLY, 1);
+	add("", 0);
+	call = ask_call(ROOM, 0);
+	CHECK(reply(&call, &answer, 9, &told) == NIZWARF_OK && !told.len && !told.put);
+}
+
+/* Items of a READDIRPLUS whose lookup failed, and those that have no entry. */
+static void entries(void)
+{
+	static const nizwarf_item listed[] = {
+		{ .ino = 1, .name = (const uint8_t *)".", .name_size = 2, .type = 4, .entry = { .node = 7 } },
+		{ .ino = 2, .name = (const uint8_t *)"a", .name_size = 2, .entry = { .node = 8 } },
+		{ .ino = 3, .name = (const uint8_t *)"b", .name_size = 2, .error = ENOENT },
+		{ .ino = 4, .name = (const uint8_t *)"c", .name_size = 2, .entry = { .node = 9 } },
+	};
+	const struct fuse_read_in read = { .size = 4096 };
+	nizwarf_answer answer = { .items = listed, .items_len = 4 };
+	nizwarf_call call;
+	nizwarf_told told;
+
+	begin_with(READDIRPLUS, 1, &read, sizeof(read));
+	call = ask_call(8192, 0);
+	CHECK(reply(&call, &answer, 9, &told) == NIZWARF_OK && told.len == 16 + 2 * 160);
+	CHECK(told.taken == 2 && !told.give_back);
+	/* (of `.` the entry is one of zeros, but for its number and its type) */
+	CHECK(!u64(ours + 16) && u64(ours + 56) == 1 && u32(ours + 116) == 040000);
+	CHECK(u64(ours + 16 + 160) == 8);
+	answer.items = listed + 2;
+	answer.items_len = 2;
+	CHECK(reply(&call, &answer, 9, &told) == NIZWARF_OK && is_error(&told, ENOENT));
+	CHECK(!told.taken && !told.give_back);
+}
+
+/* Entries whose reply does not fit, and calls that were not asked. */
+static void give_back(void)
+{
+	static const struct fuse_create_in create = { .mode = 0100600 };
+	const nizwarf_answer answer = { .entry = { .node = 77 } };
+	nizwarf_call call, other;
+	nizwarf_told told;
+	size_t space;
+
+	begin_with(NIZWARF_CREATE, 1, &create, sizeof(create));
+	add_name("xyz");
+	call = ask_call(159, 0);
+	CHECK(reply(&call, &answer, 9, &told) == NIZWARF_ENCODE_MESSAGE && told.give_back == 77);
+	begin(NIZWARF_LOOKUP, 1);
+	add_name("xyz");
+	for (space = 0; space < 144; space++) {
+		call = ask_call(space, 0);
+		CHECK(reply(&call, &answer, 9, &told) == NIZWARF_ENCODE_MESSAGE);
+		CHECK(told.give_back == 77 && !told.len && !told.put);
+	}
+	call = ask_call(144, 0);
+	CHECK(reply(&call, &answer, 9, &told) == NIZWARF_OK && told.len == 144 && !told.give_back);
+	for (other = call, other.answer = NIZWARF_FAULT + 1; other.answer; other.answer <<= 1) {
+		memset(ours, FILL, 144);
+		CHECK(reply(&other, &answer, 9, &told) == NIZWARF_NOT_ASKED);
+		CHECK(!told.len && !told.put && !told.give_back && ours[0] == FILL);
+	}
+}
+
+/* The functions of the header: NULL, another room, sizes out of bounds, lengths that sum too
+ * far. */
+static void codes(void)
+{
+	const nizwarf_segment piece = { request, request_len }, null = { NULL, 0 };
+	const nizwarf_segment huge[] = { { request, SIZE_MAX / 2 },
+					 { request, SIZE_MAX / 2 },
+					 { request, 2 } };
+	const nizwarf_room room = { ours, 144 }, nowhere = { NULL, 0 };
+	const nizwarf_room wide[] = { { ours, SIZE_MAX }, { ours, 1 } };
+	const nizwarf_item item = { 0 };
+	nizwarf_session wrong[] = { { 0, 4095, ROOM }, { 0, 4096, 4095 }, { 0, 4096, 134217729 } };
+	nizwarf_answer answer = { .text_len = 1 };
+	nizwarf_call call = ask_call(144, 0), none;
+	nizwarf_told told;
+	int i;
+
+	CHECK(nizwarf_ask(NULL, &session, &piece, 1, &room, 1, &none, &told) == NIZWARF_NULL);
+	CHECK(nizwarf_ask(&slot, NULL, &piece, 1, &room, 1, &none, &told) == NIZWARF_NULL);
+	CHECK(nizwarf_ask(&slot, &session, &piece, 1, &room, 1, NULL, &told) == NIZWARF_NULL);
+	CHECK(nizwarf_ask(&slot, &session, &piece, 1, &room, 1, &none, NULL) == NIZWARF_NULL);
+	CHECK(nizwarf_ask(&slot, &session, NULL, 1, &room, 1, &none, &told) == NIZWARF_NULL);
+	CHECK(nizwarf_ask(&slot, &session, &null, 1, &room, 1, &none, &told) == NIZWARF_NULL);
+	CHECK(nizwarf_ask(&slot, &session, &piece, 1, NULL, 1, &none, &told) == NIZWARF_NULL);
+	CHECK(nizwarf_ask(&slot, &session, &piece, 1, &nowhere, 1, &none, &told) == NIZWARF_NULL);
+	CHECK(nizwarf_ask(&slot, &session, &piece, 1, wide, 2, &none, &told) == NIZWARF_TOO_LONG);
+	CHECK(nizwarf_ask(&slot, &session, huge, 3, &room, 1, &none, &told) == NIZWARF_TOO_LONG);
+	CHECK(nizwarf_ask(&slot, &session, NULL, 0, NULL, 0, &none, &told) == NIZWARF_DECODE_MESSAGE);
+	CHECK(!none.call && !told.len && !told.put);
+	CHECK(nizwarf_reply(NULL, &session, &call, &answer, &room, 1, &told) == NIZWARF_NULL);
+	CHECK(nizwarf_reply(&slot, NULL, &call, &answer, &room, 1, &told) == NIZWARF_NULL);
+	CHECK(nizwarf_reply(&slot, &session, NULL, &answer, &room, 1, &told) == NIZWARF_NULL);
+	CHECK(nizwarf_reply(&slot, &session, &call, NULL, &room, 1, &told) == NIZWARF_NULL);
+	CHECK(nizwarf_reply(&slot, &session, &call, &answer, &room, 1, NULL) == NIZWARF_NULL);
+	CHECK(nizwarf_reply(&slot, &session, &call, &answer, &room, 1, &told) == NIZWARF_NULL);
+	answer = (nizwarf_answer){ .items_len = 1 };
+	CHECK(nizwarf_reply(&slot, &session, &call, &answer, &room, 1, &told) == NIZWARF_NULL);
+	answer.items = &item;
+	CHECK(nizwarf_reply(&slot, &session, &call, &answer, &room, 1, &told) == NIZWARF_NULL);
+	answer = (nizwarf_answer){ .error = ENOENT };
+	CHECK(nizwarf_reply(&slot, &session, &call, &answer, NULL, 0, &told) == NIZWARF_NOT_ASKED);
+	CHECK(nizwarf_reply(&slot, &session, &call, &answer, &room, 1, &told) == NIZWARF_OK);
+	for (i = 0; i < 3; i++) {
+		CHECK(nizwarf_ask(&slot, &wrong[i], &piece, 1, &room, 1, &none, &told) == NIZWARF_WRONG_SIZE);
+		CHECK(nizwarf_reply(&slot, &wrong[i], &call, &answer, &room, 1, &told) == NIZWARF_WRONG_SIZE);
+		CHECK(!told.len && !told.put);
+	}
+	CHECK(nizwarf_end_slot(NULL) == NIZWARF_NULL);
+	CHECK(nizwarf_end_slot(&slot) == NIZWARF_OK && !slot.at);
+	CHECK(nizwarf_end_slot(&slot) == NIZWARF_NO_SERVER);
+}
+
+/* Asks and answers, also where an allocation of either is refused: then it is done again. */
+static void survive(size_t cut, size_t space, const nizwarf_answer *answer, size_t len)
+{
+	const nizwarf_segment pieces[] = { { request, cut }, { request + cut, request_len - cut } };
+	const nizwarf_room room = { ours, space };
+	nizwarf_call call;
+	nizwarf_told told;
+	int32_t code;
+
+	memset(ours, FILL, space);
+	code = nizwarf_ask(&slot, &session, pieces, 2, &room, 1, &call, &told);
+	if (code == NIZWARF_OUT_OF_MEMORY) {
+		CHECK(refused && !call.call && !told.len && !told.put && ours[0] == FILL);
+		code = nizwarf_ask(&slot, &session, pieces, 2, &room, 1, &call, &told);
+	}
+	CHECK(code == NIZWARF_ASKED);
+	code = reply(&call, answer, 5, &told);
+	if (code == NIZWARF_OUT_OF_MEMORY) {
+		CHECK(refused && !told.len && !told.put && !told.taken && ours[0] == FILL);
+		CHECK(told.give_back == (has_entry(&call, answer) ? answer->entry.node : 0));
+		CHECK(told.options == session.options);
+		code = reply(&call, answer, 5, &told);
+	}
+	CHECK(code == NIZWARF_OK && told.len == len && !told.give_back);
+	CHECK(told.taken == answer->items_len && ours[len] == FILL);
+}
+
+/* Requests that want memory, with rooms that grow, by a slot of their own. */
+static void requests_that_want_memory(void)
+{
+	static const uint32_t pairs[] = { 2, 0, 5, 0, 1, 0, 6, 0, 1, 0 };
+	static const nizwarf_item listed[] = {
+		{ .ino = 2, .name = (const uint8_t *)"a", .name_size = 2, .entry = { .node = 8 } },
+		{ .ino = 3, .name = (const uint8_t *)"b", .name_size = 2, .entry = { .node = 9 } },
+	};
+	const struct fuse_read_in read = { .size = 4096 };
+	const nizwarf_answer entry = { .entry = { .node = 77 } };
+	const nizwarf_answer words = { .text = text, .text_len = 3000 };
+	const nizwarf_answer directory = { .items = listed, .items_len = 2 };
+
+	begin(NIZWARF_LOOKUP, 1);
+	add_name("abc");
+	survive(41, 200, &entry, 144);
+	begin_with(NIZWARF_BATCH_FORGET, 0, pairs, sizeof(pairs));
+	survive(60, 16, &entry, 0);
+	session.options = SECURITY_CTX | CREATE_SUPP_GROUP;
+	begin_maker(NIZWARF_MKDIR, 1);
+	survive(90, 300, &entry, 144);
+	session.options = 0;
+	begin(NIZWARF_READLINK, 2);
+	add("", 0);
+	survive(5, 4096, &words, 3016);
+	begin_with(READDIRPLUS, 1, &read, sizeof(read));
+	survive(50, 8192, &directory, 16 + 2 * 160);
+	CHECK(nizwarf_end_slot(&slot) == NIZWARF_OK);
+}
+
+int main(void)
+{
+	long all;
+
+	extensions();
+	hostile_extensions();
+	longer_record();
+	limits();
+	counts();
+	errors();
+	options();
+	long_answers();
+	wrong_items();
+	silences();
+	entries();
+	give_back();
+	codes();
+	CHECK(nizwarf_end(&server) == NIZWARF_OK && live == 0);
+	asked = 0;
+	requests_that_want_memory();
+	all = asked;
+	for (refused = 1; refused <= all; refused++) {
+		asked = 0;
+		requests_that_want_memory();
+		CHECK(live == 0);
+	}
+	printf("Each of %ld allocations of the door was refused, and each request went on.\n", all);
+	return 0;
+}

@@ -1,0 +1,139 @@
+/* Requests of one client by the door of nizwarf.h on eight threads: each is asked on one thread and
+ * answered on another, with a slot a thread and hundreds in flight. Replies are those of one thread
+ * alone.
+ *
+ * tests/c/check.sh links it with the library, and runs it with -fsanitize=thread too. Status 0:
+ * all is as it should be. */
+#define _GNU_SOURCE
+#include <errno.h>
+#include <linux/fuse.h>
+#include <pthread.h>
+#include <sched.h>
+#include <stdatomic.h>
+#include <stdio.h>
+#include <stdlib.h>
+#include "nizwarf.h"
+
+enum { THREADS = 8, EACH = 1000, ALL = THREADS * EACH, BEHIND = 50, ROOM = 1024 };
+
+struct work {
+	uint8_t request[128];
+	size_t len;
+	nizwarf_answer answer;
+	nizwarf_call call;
+	nizwarf_told told;
+	int32_t code;
+	uint8_t room[ROOM];
+	atomic_int is_asked;
+};
+
+static struct work works[ALL], alone[ALL];
+static nizwarf_session session = { 0, 4096, 1 << 20 };
+
+static const nizwarf_item items[] = {
+	{ .ino = 1, .offset = 1, .name = (const uint8_t *)".", .name_size = 2, .type = 4 },
+	{ .ino = 5, .offset = 2, .name = (const uint8_t *)"name", .name_size = 5, .type = 8 },
+};
+
+/* The request of a number, and what will be answered. */
+static void make(struct work *work, uint32_t number)
+{
+	static const uint32_t opcodes[] = { FUSE_GETATTR,   FUSE_LOOKUP,   FUSE_READ,	 FUSE_OPEN,
+					    FUSE_STATFS,    FUSE_READLINK, FUSE_READDIR, FUSE_FORGET,
+					    FUSE_INTERRUPT, 9999,	   FUSE_WRITE };
+	static const uint32_t lengths[] = { 56, 45, 80, 48, 40, 40, 80, 48, 48, 40, 100 };
+	const uint32_t kind = number % (sizeof(opcodes) / sizeof(*opcodes));
+	const struct fuse_in_header header = { .len = lengths[kind],
+					       .opcode = opcodes[kind],
+					       .unique = number + 1,
+					       .nodeid = number + 2,
+					       .pid = number };
+	const struct fuse_read_in read = { .offset = number, .size = 900 };
+
+	work->len = lengths[kind];
+	memcpy(work->request, &header, sizeof(header));
+	if (opcodes[kind] == FUSE_LOOKUP)
+		memcpy(work->request + sizeof(header), "name", 5);
+	else if (opcodes[kind] == FUSE_READ || opcodes[kind] == FUSE_READDIR)
+		memcpy(work->request + sizeof(header), &read, sizeof(read));
+	work->answer.error = number % 13 ? 0 : ENOENT;
+	work->answer.entry.node = work->answer.handle = number;
+	work->answer.has_handle = 1;
+	work->answer.count = number % 900;
+	work->answer.text = (const uint8_t *)"of a link";
+	work->answer.text_len = number % 10;
+	work->answer.items = items;
+	work->answer.items_len = number % 3;
+}
+
+static void ask(nizwarf_slot *slot, struct work *work)
+{
+	const nizwarf_segment piece = { work->request, work->len };
+	const nizwarf_room room = { work->room, sizeof(work->room) };
+
+	work->code = nizwarf_ask(slot, &session, &piece, 1, &room, 1, &work->call, &work->told);
+	/* (nobody looks at it any more) */
+	memset(work->request, 0xff, sizeof(work->request));
+	atomic_store_explicit(&work->is_asked, 1, memory_order_release);
+}
+
+static void answer(nizwarf_slot *slot, struct work *work)
+{
+	const nizwarf_room rooms[] = { { work->room, 10 }, { work->room + 10, ROOM - 10 } };
+
+	while (!atomic_load_explicit(&work->is_asked, memory_order_acquire))
+		sched_yield();
+	if (work->code == NIZWARF_ASKED)
+		work->code = nizwarf_reply(slot, &session, &work->call, &work->answer, rooms, 2, &work->told);
+}
+
+/* Asks the requests of its own, and answers those of the next thread some time later. */
+static void *run(void *own)
+{
+	const size_t thread = (size_t)((struct work *)own - works), next = (thread + 1) % THREADS;
+	nizwarf_slot slot = NIZWARF_NONE;
+	size_t i;
+
+	for (i = 0; i < EACH + BEHIND; i++) {
+		if (i < EACH)
+			ask(&slot, &works[i * THREADS + thread]);
+		if (i >= BEHIND)
+			answer(&slot, &works[(i - BEHIND) * THREADS + next]);
+	}
+	nizwarf_end_slot(&slot);
+	return NULL;
+}
+
+int main(void)
+{
+	nizwarf_slot slot = NIZWARF_NONE;
+	pthread_t threads[THREADS];
+	size_t i, replies = 0;
+
+	for (i = 0; i < ALL; i++) {
+		make(&works[i], (uint32_t)i);
+		make(&alone[i], (uint32_t)i);
+		ask(&slot, &alone[i]);
+		answer(&slot, &alone[i]);
+	}
+	nizwarf_end_slot(&slot);
+	for (i = 0; i < THREADS; i++)
+		if (pthread_create(&threads[i], NULL, run, &works[i])) {
+			perror("pthread_create");
+			return 2;
+		}
+	for (i = 0; i < THREADS; i++)
+		pthread_join(threads[i], NULL);
+	for (i = 0; i < ALL; i++) {
+		if (works[i].code != NIZWARF_OK || alone[i].code != NIZWARF_OK ||
+		    memcmp(&works[i].told, &alone[i].told, sizeof(nizwarf_told)) ||
+		    memcmp(works[i].room, alone[i].room, ROOM)) {
+			fprintf(stderr, "door-threads.c: request %zu has another reply\n", i);
+			return 1;
+		}
+		replies += works[i].told.len > 0;
+	}
+	printf("%d requests on %d threads, each answered on another than asked it: %zu replies.\n", ALL,
+	       THREADS, replies);
+	return 0;
+}

@@ -1,0 +1,617 @@
+/* Holds the door of nizwarf.h against the rules of docs/PROTOCOL.md and against the server over the
+ * tree.
+ *
+ * A request of each opcode goes to both: whole, cut short at each length, in two pieces at each
+ * place, and with one byte changed. What the door finishes is as the server has it. A call that it
+ * tells is the one that tests/c/door-call.h finds; of the server's reply an answer is made by hand,
+ * and for that the door puts the same bytes. Rooms of each small length follow the room rule.
+ *
+ * Requests that kernels were recorded to ask go to both too, if it is given a file of them.
+ *
+ * tests/c/check.sh links it with both libraries. Status 0: all is as it should be. */
+#include "door.h"
+
+enum { MOST_ITEMS = 512 };
+
+/* What an answer points to, and the server's reply to a request in a large room. */
+static nizwarf_item items[MOST_ITEMS];
+static uint8_t names[ROOM], text[ROOM], saved[ROOM];
+
+/* How many requests were compared, and how many asked for each call. */
+static long compared, told_calls[52];
+
+/* The items of a directory, out of the records of a reply. */
+static void read_items(nizwarf_answer *answer, const uint8_t *at, const uint8_t *end, int plus)
+{
+	uint8_t *name = names;
+
+	memset(items, 0, sizeof(items));
+	answer->items = items;
+	for (; at < end; answer->items_len++) {
+		nizwarf_item *item = &items[answer->items_len];
+		struct fuse_dirent record;
+
+		CHECK(answer->items_len < MOST_ITEMS);
+		if (plus) {
+			memcpy(&item->entry, at, sizeof(item->entry));
+			at += sizeof(item->entry);
+		}
+		memcpy(&record, at, FUSE_NAME_OFFSET);
+		memcpy(name, at + FUSE_NAME_OFFSET, record.namelen);
+		name[record.namelen] = 0;
+		item->ino = record.ino;
+		item->offset = record.off;
+		item->type = record.type;
+		item->name = name;
+		item->name_size = record.namelen + 1;
+		name += item->name_size;
+		at += FUSE_DIRENT_ALIGN(FUSE_NAME_OFFSET + record.namelen);
+	}
+}
+
+static void read_attr(nizwarf_answer *answer, const uint8_t *body)
+{
+	struct fuse_attr_out out;
+
+	memcpy(&out, body, sizeof(out));
+	answer->entry.attr_seconds = out.attr_valid;
+	answer->entry.attr_nanoseconds = out.attr_valid_nsec;
+	memcpy(&answer->entry.attr, &out.attr, sizeof(out.attr));
+}
+
+static void read_open(nizwarf_answer *answer, const uint8_t *body)
+{
+	answer->has_handle = 1;
+	answer->handle = u64(body);
+	answer->open_flags = u32(body + 8);
+}
+
+static void read_statfs(nizwarf_answer *answer, const uint8_t *body)
+{
+	struct fuse_kstatfs out;
+
+	memcpy(&out, body, sizeof(out));
+	answer->statfs = (nizwarf_statfs){ out.bsize,  out.frsize, out.blocks, out.bfree,
+					   out.bavail, out.files,  out.ffree,  out.namelen };
+}
+
+/* The answer that a call had, out of the reply to it. */
+static nizwarf_answer answer_of(const nizwarf_call *call, const uint8_t *reply, size_t len)
+{
+	const uint8_t *body = reply + 16;
+	nizwarf_answer answer;
+
+	memset(&answer, 0, sizeof(answer));
+	if (!len)
+		return answer;
+	answer.error = -(int32_t)u32(reply + 4);
+	if (answer.error)
+		return answer;
+	switch (call->answer) {
+	case NIZWARF_DATA:
+		answer.count = len - 16;
+		break;
+	case NIZWARF_WANT:
+		answer.count = u32(body + 12) | (uint64_t)u32(body + 32) << 32;
+		break;
+	case NIZWARF_CREATED:
+		read_open(&answer, body + sizeof(answer.entry));
+		/* fall through */
+	case NIZWARF_ENTRY:
+		memcpy(&answer.entry, body, sizeof(answer.entry));
+		break;
+	case NIZWARF_ATTR:
+		read_attr(&answer, body);
+		break;
+	case NIZWARF_OPENED:
+		read_open(&answer, body);
+		break;
+	case NIZWARF_STATISTICS:
+		read_statfs(&answer, body);
+		break;
+	case NIZWARF_TEXT_OR_COUNT:
+		answer.has_count = !call->size;
+		answer.count = u32(body);
+		/* fall through */
+	case NIZWARF_TEXT:
+		memcpy(text, body, len - 16);
+		answer.text = text;
+		answer.text_len = answer.has_count ? 0 : len - 16;
+		break;
+	case NIZWARF_OFFSET:
+		answer.count = u64(body);
+		break;
+	case NIZWARF_WRITTEN:
+		answer.count = u32(body);
+		break;
+	case NIZWARF_DIRECTORY:
+		read_items(&answer, body, reply + len, call->has & NIZWARF_PLUS);
+		break;
+	}
+	return answer;
+}
+
+/* The first bytes of the request to both, in two pieces where it is cut. Gives the length of the
+ * reply. */
+static size_t compare(size_t len, size_t cut)
+{
+	const nizwarf_segment pieces[] = { { request, cut }, { request + cut, len - cut } };
+	const nizwarf_room their_room = { theirs, ROOM };
+	nizwarf_answer answer;
+	nizwarf_call call;
+	nizwarf_told told;
+	size_t their_len;
+
+	compared++;
+	if (ask(pieces, 2, len, ROOM, &call, &told) != NIZWARF_ASKED)
+		return told.len;
+	told_calls[call.call]++;
+	CHECK(nizwarf_message(&server, pieces, 2, &their_room, 1, &their_len) == NIZWARF_OK);
+	answer = answer_of(&call, theirs, their_len);
+	memset(ours, FILL, their_len + 16);
+	if (call.answer == NIZWARF_DATA && !answer.error)
+		memcpy(ours + 16, theirs + 16, answer.count);
+	CHECK(reply(&call, &answer, cut, &told) == NIZWARF_OK && told.len == their_len);
+	CHECK(!memcmp(ours, theirs, their_len) && ours[their_len] == FILL);
+	CHECK(told.put == (call.answer == NIZWARF_DATA && their_len > 16 ? 16 : their_len));
+	CHECK(!told.give_back && !told.interrupts && told.taken == answer.items_len);
+	CHECK(told.options == nizwarf_options(&server));
+	session.options = told.options;
+	return their_len;
+}
+
+/* The request with a small room, of which `saved` has the reply in a large one. */
+static void compare_room(size_t space, size_t full)
+{
+	const nizwarf_segment piece = { request, request_len };
+	nizwarf_answer answer;
+	nizwarf_call call;
+	nizwarf_told told;
+	size_t i;
+
+	if (ask(&piece, 1, request_len, space, &call, &told) != NIZWARF_ASKED)
+		return;
+	answer = answer_of(&call, saved, full);
+	if (call.answer == NIZWARF_DATA && !answer.error && full > space) {
+		full = space;
+		answer.count = space - 16;
+	}
+	memset(ours, FILL, space);
+	if (full <= space) {
+		CHECK(reply(&call, &answer, space / 2, &told) == NIZWARF_OK && told.len == full);
+		CHECK(!told.give_back);
+		return;
+	}
+	CHECK(reply(&call, &answer, space / 2, &told) == NIZWARF_ENCODE_MESSAGE);
+	CHECK(!told.len && !told.put && told.options == session.options);
+	CHECK(told.give_back == (has_entry(&call, &answer) ? answer.entry.node : 0));
+	for (i = 0; i < space; i++)
+		CHECK(ours[i] == FILL);
+}
+
+static uint32_t random_number(void)
+{
+	static uint64_t seed = UINT64_C(88172645463325252);
+
+	seed ^= seed << 13;
+	seed ^= seed >> 7;
+	seed ^= seed << 17;
+	return (uint32_t)(seed >> 11);
+}
+
+/* The request with a byte changed, up to a length: but none that begins or ends a session. */
+static void change_bytes(size_t len)
+{
+	int i;
+
+	for (i = 0; i < 300; i++) {
+		const size_t at = random_number() % len;
+		const uint8_t old = request[at];
+		uint32_t opcode;
+
+		request[at] = (uint8_t)(i & 1 ? random_number() : old ^ 1u << (random_number() & 7));
+		opcode = u32(request + 4);
+		if (opcode != NIZWARF_INIT && opcode != NIZWARF_DESTROY)
+			compare(request_len, 0);
+		request[at] = old;
+	}
+}
+
+/* The request in all forms. */
+static void try_forms(void)
+{
+	const uint32_t opcode = u32(request + 4);
+	const size_t len = request_len < 400 ? request_len : 400;
+	const size_t full = compare(request_len, 0);
+	size_t n;
+
+	memcpy(saved, theirs, full);
+	for (n = 0; n < len; n++)
+		compare(n, n / 2);
+	if (opcode == NIZWARF_INIT || opcode == NIZWARF_DESTROY)
+		return;
+	for (n = 0; n < 200; n++)
+		compare_room(n, full);
+	for (n = 1; n < len; n++)
+		compare(request_len, n);
+	change_bytes(len);
+	compare(request_len, 0);
+}
+
+/* INIT with these options offered. */
+static void agree(uint64_t options)
+{
+	const struct fuse_init_in record = { .major = 7,
+					     .minor = 38,
+					     .max_readahead = 131072,
+					     .flags = (uint32_t)options | FUSE_INIT_EXT,
+					     .flags2 = (uint32_t)(options >> 32) };
+
+	begin_with(NIZWARF_INIT, 0, &record, sizeof(record));
+	try_forms();
+}
+
+/* What a request behind names ends in, where groups were agreed on. */
+static void add_extensions(void)
+{
+	static const uint32_t group[] = { 16, 32, 1, 4242 };
+
+	if (session.options & CREATE_SUPP_GROUP)
+		add(group, sizeof(group));
+}
+
+/* The node that the last reply names. */
+static uint64_t node_of_reply(void)
+{
+	CHECK(!u32(theirs + 4));
+	return u64(theirs + 16);
+}
+
+/* Requests that make names in the root. Gives the node of a file, and the handle by which it is
+ * open. */
+static uint64_t try_makers(uint64_t *handle)
+{
+	const struct fuse_mkdir_in mkdir = { 0755, 022 };
+	const struct fuse_mknod_in mknod = { .mode = 0100644, .umask = 022 };
+	const struct fuse_create_in create = { .flags = 2, .mode = 0100600, .umask = 022 };
+	uint64_t node;
+
+	begin_with(NIZWARF_MKDIR, 1, &mkdir, sizeof(mkdir));
+	add_name("directory");
+	add_extensions();
+	try_forms();
+	begin_with(NIZWARF_MKNOD, 1, &mknod, sizeof(mknod));
+	add_name("specials");
+	add_extensions();
+	try_forms();
+	begin(NIZWARF_SYMLINK, 1);
+	add_name("link");
+	add_name("target/of it");
+	add_extensions();
+	compare(request_len, 0);
+	node = node_of_reply();
+	try_forms();
+	begin(NIZWARF_READLINK, node);
+	try_forms();
+	begin_with(NIZWARF_CREATE, 1, &create, sizeof(create));
+	add_name("file");
+	add_extensions();
+	compare(request_len, 0);
+	node = node_of_reply();
+	*handle = u64(theirs + 16 + sizeof(struct fuse_entry_out));
+	try_forms();
+	return node;
+}
+
+/* Requests about a file that is open. */
+static void try_file(uint64_t node, uint64_t handle)
+{
+	static const uint8_t data[4096] = "data";
+	struct fuse_write_in write = { .fh = handle, .size = sizeof(data), .flags = 2 };
+	struct fuse_read_in read = { .fh = handle, .size = 2000, .offset = 4000 };
+	struct fuse_getattr_in getattr = { 0 };
+	struct fuse_setattr_in setattr = { .valid = FATTR_MODE | FATTR_SIZE | FATTR_FH | FATTR_MTIME,
+					   .fh = handle,
+					   .size = 5000,
+					   .mode = 0600,
+					   .mtime = 9 };
+	uint64_t record[7];
+	size_t n, at;
+
+	begin_with(NIZWARF_WRITE, node, &write, sizeof(write));
+	add(data, sizeof(data));
+	try_forms();
+	begin_with(NIZWARF_READ, node, &read, sizeof(read));
+	try_forms();
+	begin_with(NIZWARF_GETATTR, node, &getattr, sizeof(getattr));
+	try_forms();
+	getattr.getattr_flags = FUSE_GETATTR_FH;
+	getattr.fh = handle;
+	begin_with(NIZWARF_GETATTR, node, &getattr, sizeof(getattr));
+	try_forms();
+	begin_with(NIZWARF_SETATTR, node, &setattr, sizeof(setattr));
+	try_forms();
+	for (n = 0; n < sizeof(about_file) / sizeof(*about_file); n++) {
+		for (at = 0; at < 7; at++) {
+			record[at] = about_file[n].record[at];
+			if (record[at] == ITS_NODE)
+				record[at] = node;
+			else if (record[at] == ITS_HANDLE)
+				record[at] = handle;
+		}
+		begin_with(about_file[n].opcode, node, record, forms[about_file[n].opcode].record);
+		try_forms();
+	}
+}
+
+/* Requests that bring a file up to date, and the release of it. */
+static void try_syncs(uint64_t node, uint64_t handle)
+{
+	const struct fuse_flush_in flush = { .fh = handle, .lock_owner = 3 };
+	const struct fuse_fsync_in sync = { .fh = handle, .fsync_flags = 1 };
+	const struct fuse_access_in access = { .mask = 4 };
+	const struct fuse_release_in release = { .fh = handle, .release_flags = 3, .lock_owner = 5 };
+
+	begin_with(NIZWARF_FLUSH, node, &flush, sizeof(flush));
+	try_forms();
+	begin_with(NIZWARF_FSYNC, node, &sync, sizeof(sync));
+	try_forms();
+	begin_with(NIZWARF_FSYNCDIR, 1, &sync, sizeof(sync));
+	try_forms();
+	begin_with(NIZWARF_ACCESS, node, &access, sizeof(access));
+	try_forms();
+	begin_with(NIZWARF_RELEASE, node, &release, sizeof(release));
+	try_forms();
+}
+
+/* Requests about extended attributes. */
+static void try_attributes(uint64_t node)
+{
+	const uint32_t set[] = { 5, 0, 0, 0 };
+	uint32_t size;
+
+	begin_with(NIZWARF_SETXATTR, node, set, 8);
+	add_name("user.a");
+	add("value", 5);
+	try_forms();
+	for (size = 0; size <= 100; size += 100) {
+		const uint32_t record[] = { size, 0 };
+
+		begin_with(NIZWARF_GETXATTR, node, record, sizeof(record));
+		add_name("user.a");
+		try_forms();
+		begin_with(NIZWARF_LISTXATTR, node, record, sizeof(record));
+		try_forms();
+	}
+	begin(NIZWARF_REMOVEXATTR, node);
+	add_name("user.a");
+	try_forms();
+}
+
+/* A directory is offered whole to readings of small sizes: what is taken is what the server
+ * takes. */
+static void offer_directory(uint64_t handle, int plus)
+{
+	const uint32_t opcode = plus ? READDIRPLUS : NIZWARF_READDIR;
+	struct fuse_read_in read = { .fh = handle };
+	nizwarf_answer all;
+	nizwarf_call call;
+	nizwarf_told told;
+	size_t len, taken, bytes;
+
+	for (; read.size < 1200; read.size += 8) {
+		const nizwarf_segment piece = { request, 80 };
+		const nizwarf_room their_room = { theirs, ROOM };
+		struct fuse_read_in whole = read;
+
+		whole.size = 4096;
+		begin_with(opcode, 1, &whole, sizeof(whole));
+		CHECK(ask(&piece, 1, request_len, ROOM, &call, &told) == NIZWARF_ASKED);
+		CHECK(!nizwarf_message(&server, &piece, 1, &their_room, 1, &len));
+		all = answer_of(&call, theirs, len);
+		begin_with(opcode, 1, &read, sizeof(read));
+		CHECK(ask(&piece, 1, request_len, ROOM, &call, &told) == NIZWARF_ASKED);
+		CHECK(!nizwarf_message(&server, &piece, 1, &their_room, 1, &len));
+		CHECK(reply(&call, &all, read.size, &told) == NIZWARF_OK && told.len == len);
+		CHECK(!memcmp(ours, theirs, len) && !told.give_back);
+		for (taken = bytes = 0; taken < all.items_len; taken++) {
+			bytes += nizwarf_record_size(all.items[taken].name_size, plus);
+			if (bytes > read.size)
+				break;
+		}
+		CHECK(told.taken == taken);
+	}
+}
+
+/* Requests about the root as a directory. */
+static void try_directory(void)
+{
+	const struct fuse_open_in open = { 0 };
+	struct fuse_release_in release = { 0 };
+	struct fuse_read_in read = { .size = 4096 };
+
+	begin_with(NIZWARF_OPENDIR, 1, &open, sizeof(open));
+	try_forms();
+	compare(request_len, 0);
+	/* (a client that offered to do without is answered by ENOSYS) */
+	if (!u32(theirs + 4))
+		release.fh = read.fh = u64(theirs + 16);
+	begin_with(NIZWARF_READDIR, 1, &read, sizeof(read));
+	try_forms();
+	begin_with(READDIRPLUS, 1, &read, sizeof(read));
+	try_forms();
+	offer_directory(read.fh, 0);
+	offer_directory(read.fh, 1);
+	begin_with(NIZWARF_RELEASEDIR, 1, &release, sizeof(release));
+	try_forms();
+}
+
+/* Requests about names, of which the last takes them out. */
+static void try_names(uint64_t node)
+{
+	const struct fuse_link_in link = { node };
+	const struct fuse_rename_in rename = { 1 };
+	const struct fuse_rename2_in rename2 = { .newdir = 1, .flags = 1 };
+	static const char *const looked_up[] = { "file", "none", "", ".", "a/b" };
+	size_t i;
+
+	for (i = 0; i < 5; i++) {
+		begin(NIZWARF_LOOKUP, 1);
+		add_name(looked_up[i]);
+		try_forms();
+	}
+	begin_with(NIZWARF_LINK, 1, &link, sizeof(link));
+	add_name("hard");
+	try_forms();
+	begin_with(NIZWARF_RENAME, 1, &rename, sizeof(rename));
+	add_name("hard");
+	add_name("moved");
+	try_forms();
+	begin_with(RENAME2, 1, &rename2, sizeof(rename2));
+	add_name("moved");
+	add_name("again");
+	try_forms();
+	for (i = 0; i < 2; i++) {
+		begin(i ? NIZWARF_RMDIR : NIZWARF_UNLINK, 1);
+		add_name(i ? "directory" : "again");
+		try_forms();
+	}
+}
+
+/* Requests that tell nothing, are no opcode, or have no reply. */
+static void try_others(uint64_t node)
+{
+	static const uint32_t untold[] = { NIZWARF_GETLK,
+					   NIZWARF_SETLK,
+					   NIZWARF_SETLKW,
+					   NIZWARF_BMAP,
+					   NIZWARF_IOCTL,
+					   NIZWARF_POLL,
+					   NIZWARF_NOTIFY_REPLY,
+					   NIZWARF_TMPFILE,
+					   NIZWARF_STATFS,
+					   SETUPMAPPING,
+					   REMOVEMAPPING,
+					   0,
+					   7,
+					   19,
+					   52,
+					   4096 };
+	const struct fuse_open_in open = { 0 };
+	const struct fuse_interrupt_in interrupt = { 1234 };
+	const uint64_t one = 1, pairs[] = { 9999, 1, 9998, 2, node, 1 };
+	const uint32_t count[] = { 3, 0 };
+	size_t i;
+
+	for (i = 0; i < sizeof(untold) / sizeof(*untold); i++) {
+		begin(untold[i], 1);
+		add("", 0);
+		try_forms();
+	}
+	begin_with(NIZWARF_OPEN, node, &open, sizeof(open));
+	try_forms();
+	begin_with(INTERRUPT, 0, &interrupt, sizeof(interrupt));
+	try_forms();
+	begin_with(NIZWARF_FORGET, 9999, &one, sizeof(one));
+	try_forms();
+	begin_with(NIZWARF_BATCH_FORGET, 0, count, sizeof(count));
+	add(pairs, sizeof(pairs));
+	try_forms();
+}
+
+/* All requests, with a largest payload, and with these options offered. */
+static void try_all(uint32_t max_buffer, uint64_t options)
+{
+	static const nizwarf_settings settings = { .seconds = 100,
+						   .nanoseconds = 5,
+						   .nodes = 4096,
+						   .bytes = 1 << 24,
+						   .file = 1 << 22,
+						   .mode = 0755 };
+	uint64_t node, handle;
+
+	CHECK(nizwarf_new(&server, 4096, max_buffer, &settings) == NIZWARF_OK);
+	session = (nizwarf_session){ 0, 4096, max_buffer };
+	agree(options);
+	node = try_makers(&handle);
+	try_file(node, handle);
+	try_attributes(node);
+	try_directory();
+	try_others(node);
+	try_names(node);
+	try_syncs(node, handle);
+	begin(NIZWARF_DESTROY, 0);
+	add("", 0);
+	try_forms();
+	CHECK(!session.options);
+}
+
+/* The bytes that are spelled by two digits each. Where pieces are apart is the first `+`. */
+static void read_request(const char *text, size_t *cut)
+{
+	unsigned byte;
+
+	request_len = 0;
+	*cut = 0;
+	while (*text == '+' || sscanf(text, "%2x", &byte) == 1) {
+		if (*text == '+') {
+			*cut = *cut ? *cut : request_len;
+			text++;
+			continue;
+		}
+		CHECK(request_len < sizeof(request));
+		request[request_len++] = (uint8_t)byte;
+		text += 2;
+	}
+}
+
+/* Requests that kernels were recorded to ask, a line each: its room, which is a large one here, and its
+ * bytes. */
+static long try_recorded(const char *path)
+{
+	static const nizwarf_settings settings = {
+		.seconds = 100, .nodes = 4096, .bytes = 1 << 24, .file = 1 << 22, .mode = 0755
+	};
+	static char line[1 << 19];
+	FILE *lines = fopen(path, "r");
+	long count = 0;
+	size_t cut;
+
+	if (!lines) {
+		perror(path);
+		exit(2);
+	}
+	CHECK(nizwarf_new(&server, 4096, ROOM, &settings) == NIZWARF_OK);
+	session = (nizwarf_session){ 0, 4096, ROOM };
+	while (fgets(line, sizeof(line), lines)) {
+		const char *bytes = strchr(line, ' ');
+
+		if (*line < '0' || *line > '9' || !bytes)
+			continue;
+		read_request(bytes + 1, &cut);
+		compare(request_len, cut);
+		count++;
+	}
+	fclose(lines);
+	return count;
+}
+
+/* It may be given a file of recorded requests. */
+int main(int argc, char **argv)
+{
+	long recorded = 0;
+	uint32_t opcode;
+
+	try_all(ROOM, FUSE_DO_READDIRPLUS | FUSE_BIG_WRITES);
+	try_all(4096, KNOWN_OPTIONS);
+	try_all(134217728, 0);
+	for (opcode = 0; opcode < 52; opcode++)
+		if (forms[opcode].record || forms[opcode].kind)
+			CHECK(told_calls[opcode] || opcode == READDIRPLUS || opcode == RENAME2);
+	if (argc > 1)
+		recorded = try_recorded(argv[1]);
+	CHECK(nizwarf_end_slot(&slot) == NIZWARF_OK && nizwarf_end(&server) == NIZWARF_OK);
+	printf("%ld requests had the server's replies by the door, of them %ld that kernels asked.\n",
+	       compared, recorded);
+	return 0;
+}

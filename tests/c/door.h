@@ -1,0 +1,113 @@
+/* How tests/c/door.c and tests/c/door-cases.c make requests, ask and answer. */
+#ifndef C_DOOR_H
+#define C_DOOR_H
+
+#include <linux/fuse.h>
+#include <stdio.h>
+#include <stdlib.h>
+#include "door-call.h"
+
+enum { ROOM = 1 << 20, FILL = 0xaa };
+
+#define CHECK(fact)                                                                                          \
+	do {                                                                                                 \
+		if (!(fact)) {                                                                               \
+			fprintf(stderr, "%s, line %d: not %s (opcode %u, length %zu)\n", __FILE__, __LINE__, \
+				#fact, (unsigned)u32(request + 4), request_len);                             \
+			exit(1);                                                                             \
+		}                                                                                            \
+	} while (0)
+
+static nizwarf_server server = NIZWARF_NONE;
+static nizwarf_session session = { 0, 4096, ROOM };
+static nizwarf_slot slot = NIZWARF_NONE;
+
+/* The request, and the replies of the server and of the door. */
+static uint8_t request[1 << 17], theirs[ROOM], ours[ROOM];
+static size_t request_len;
+static uint64_t unique;
+
+static inline void begin(uint32_t opcode, uint64_t node)
+{
+	const struct fuse_in_header header = {
+		.opcode = opcode, .unique = ++unique, .nodeid = node, .uid = 1000, .gid = 1001, .pid = 77
+	};
+
+	memcpy(request, &header, sizeof(header));
+	request_len = sizeof(header);
+}
+
+static inline void add(const void *bytes, size_t len)
+{
+	const uint32_t total = (uint32_t)(request_len + len);
+
+	memcpy(request + request_len, bytes, len);
+	request_len += len;
+	memcpy(request, &total, sizeof(total));
+}
+
+static inline void add_name(const char *name)
+{
+	add(name, strlen(name) + 1);
+}
+
+/* Begins a request with a record. */
+static inline void begin_with(uint32_t opcode, uint64_t node, const void *record, size_t len)
+{
+	begin(opcode, node);
+	add(record, len);
+}
+
+/* Whether an entry was answered. */
+static inline int has_entry(const nizwarf_call *call, const nizwarf_answer *answer)
+{
+	return !answer->error && (call->answer == NIZWARF_ENTRY || call->answer == NIZWARF_CREATED);
+}
+
+/* Asks, and holds what comes of it against the rules, and against the server where it is
+ * finished. */
+static inline int32_t ask(const nizwarf_segment *pieces, size_t count, size_t len, size_t space,
+			  nizwarf_call *call, nizwarf_told *told)
+{
+	static const nizwarf_call none;
+	const size_t first = space / 3;
+	const nizwarf_room rooms[] = { { ours, first }, { ours + first, space - first } };
+	const nizwarf_room their_room = { theirs, space };
+	nizwarf_call expected;
+	uint64_t interrupts = 0;
+	int32_t code;
+	size_t their_len;
+
+	memset(call, 1, sizeof(*call));
+	memset(told, 1, sizeof(*told));
+	memset(ours, FILL, space < 4096 ? space : 4096);
+	code = nizwarf_ask(&slot, &session, pieces, count, rooms, 2, call, told);
+	CHECK(told->options == session.options && !told->give_back && !told->taken);
+	if (code == NIZWARF_ASKED) {
+		expected = call_of(request, len, session.options, space);
+		CHECK(!memcmp(call, &expected, sizeof(expected)));
+		CHECK(!told->len && !told->put && !told->interrupts);
+		return code;
+	}
+	CHECK(code == nizwarf_message(&server, pieces, count, &their_room, 1, &their_len));
+	CHECK(told->len == their_len && told->put == their_len && !memcmp(ours, theirs, their_len));
+	CHECK(!memcmp(call, &none, sizeof(none)));
+	if (len >= 48 && u32(request + 4) == INTERRUPT && !their_len)
+		interrupts = u64(request + 40);
+	CHECK(told->interrupts == interrupts);
+	CHECK(their_len >= space || their_len >= 4096 || ours[their_len] == FILL);
+	return code;
+}
+
+/* Answers what was asked, in a room of three pieces. */
+static inline int32_t reply(const nizwarf_call *call, const nizwarf_answer *answer, size_t cut,
+			    nizwarf_told *told)
+{
+	const size_t first = cut < call->room ? cut : call->room;
+	const nizwarf_room rooms[] = { { ours, first }, { ours, 0 }, { ours + first, call->room - first } };
+
+	memset(told, 1, sizeof(*told));
+	return nizwarf_reply(&slot, &session, call, answer, rooms, 3, told);
+}
+
+#endif

@@ -1,0 +1,806 @@
+/* Holds nizwarf_ops.h against what it says: a table of functions that note how they are called.
+ * Each request comes to its function, with its arguments; what the client doesn't get is given
+ * back; an empty table answers as the header says.
+ *
+ * tests/c/check.sh links it with the library. Status 0: all is as it should be. */
+#define _GNU_SOURCE
+#include <fcntl.h>
+#include <stdarg.h>
+#include "nizwarf_ops.h"
+#include "allocations.h"
+#include "door.h"
+
+/* What was called since the last request, and what each function answers. */
+static char said[512];
+static int failure;
+
+static int say(const char *format, ...)
+{
+	const size_t len = strlen(said);
+	va_list arguments;
+
+	va_start(arguments, format);
+	vsnprintf(said + len, sizeof(said) - len, format, arguments);
+	va_end(arguments);
+	return failure;
+}
+
+/* The first arguments of most functions, an open file, and what is said of them. */
+#define REQ const nizwarf_req *req, uint64_t ino
+#define FI const nizwarf_file_info *fi
+#define INO ((void)req, (unsigned)ino)
+#define FH ((unsigned)fi->fh)
+
+/* What `init` takes out, and what it adds. */
+static uint64_t declined, added = FUSE_WRITEBACK_CACHE;
+
+static int note_init(const nizwarf_req *req, uint64_t capable, uint64_t *want)
+{
+	*want = (*want & ~declined) | added;
+	return say("init %d %x", req->user == said, (unsigned)capable & 3 << 13);
+}
+
+static void note_destroy(const nizwarf_req *req)
+{
+	say("destroy %d", req->user == said);
+}
+
+static int entry(nizwarf_entry_param *e)
+{
+	const nizwarf_attr attr = { .ino = 50, .mode = 0100644 };
+
+	*e = (nizwarf_entry_param){
+		.ino = 5, .generation = 6, .attr = attr, .attr_timeout = { 1, 2 }, .entry_timeout = { 3, 4 }
+	};
+	return failure;
+}
+
+static int note_lookup(REQ, const char *name, nizwarf_entry_param *e)
+{
+	say("lookup %u %s", INO, name);
+	return entry(e);
+}
+
+static void note_forget(REQ, uint64_t nlookup)
+{
+	say(" forget %u %u", INO, (unsigned)nlookup);
+}
+
+static int note_getattr(REQ, FI, nizwarf_attr *attr, struct timespec *attr_timeout)
+{
+	attr->size = 7;
+	attr_timeout->tv_sec = 8;
+	attr_timeout->tv_nsec = 9;
+	return say("getattr %u %d", INO, fi ? (int)FH : -1);
+}
+
+static int note_setattr(REQ, const nizwarf_setattr *set, uint32_t to_set, FI, nizwarf_attr *attr,
+			struct timespec *attr_timeout)
+{
+	(void)attr;
+	CHECK(!fi || (!fi->flags && !fi->lock_owner));
+	attr_timeout->tv_sec = -1;
+	attr_timeout->tv_nsec = 5;
+	return say("setattr %u %x %o %d", INO, to_set, set->mode, fi ? (int)FH : -1);
+}
+
+/* By how many bytes what is answered is longer than it is. */
+static size_t excess;
+
+static int note_readlink(REQ, char *link, size_t size, size_t *len)
+{
+	memcpy(link, "target", 6);
+	*len = excess ? size + excess : 6;
+	return say("readlink %u %zu", INO, size);
+}
+
+static int note_mknod(REQ, const char *name, uint32_t mode, uint32_t rdev, nizwarf_entry_param *e)
+{
+	say("mknod %u %s %o %u %o", INO, name, mode, rdev, req->call->umask);
+	return entry(e);
+}
+
+static int note_mkdir(REQ, const char *name, uint32_t mode, nizwarf_entry_param *e)
+{
+	say("mkdir %u %s %o", INO, name, mode);
+	return entry(e);
+}
+
+static int note_unlink(REQ, const char *name)
+{
+	return say("unlink %u %s", INO, name);
+}
+
+static int note_rmdir(REQ, const char *name)
+{
+	return say("rmdir %u %s", INO, name);
+}
+
+static int note_symlink(const nizwarf_req *req, const char *link, uint64_t ino, const char *name,
+			nizwarf_entry_param *e)
+{
+	say("symlink %s %u %s", link, INO, name);
+	return entry(e);
+}
+
+static int note_rename(REQ, const char *name, uint64_t to, const char *newname, uint32_t flags)
+{
+	return say("rename %u %s %u %s %u", INO, name, (unsigned)to, newname, flags);
+}
+
+static int note_link(REQ, uint64_t to, const char *name, nizwarf_entry_param *e)
+{
+	say("link %u %u %s", INO, (unsigned)to, name);
+	return entry(e);
+}
+
+static int note_open(REQ, nizwarf_file_info *fi)
+{
+	say("open %u %x", INO, fi->flags);
+	fi->fh = 11;
+	fi->open_flags = FOPEN_KEEP_CACHE;
+	return failure;
+}
+
+static int note_read(REQ, size_t size, uint64_t off, FI, void *buf, size_t *len)
+{
+	memcpy(buf, "data", 4);
+	*len = excess ? size + excess : 4;
+	return say("read %u %zu %u %u", INO, size, (unsigned)off, FH);
+}
+
+static int note_write(REQ, const void *buf, size_t size, uint64_t off, FI, size_t *len)
+{
+	*len = size + excess;
+	return say("write %u %.*s %u %u", INO, (int)size, (const char *)buf, (unsigned)off, FH);
+}
+
+static int note_flush(REQ, FI)
+{
+	return say("flush %u %u %u", INO, FH, (unsigned)fi->lock_owner);
+}
+
+static int note_release(REQ, FI)
+{
+	return say("release %u %u %x", INO, FH, fi->flags);
+}
+
+static int note_fsync(REQ, int datasync, FI)
+{
+	return say("fsync %u %d %u", INO, datasync, FH);
+}
+
+static int note_opendir(REQ, nizwarf_file_info *fi)
+{
+	fi->fh = 12;
+	return say("opendir %u", INO);
+}
+
+static int note_readdir(REQ, uint64_t off, FI, nizwarf_dir *dir)
+{
+	int added = nizwarf_add_direntry(dir, ".", 1, 4, 1);
+
+	added += nizwarf_add_direntry(dir, "name", 50, 8, 2);
+	return say("readdir %u %u %u %d", INO, (unsigned)off, FH, added);
+}
+
+static int note_readdirplus(REQ, uint64_t off, FI, nizwarf_dir *dir)
+{
+	nizwarf_entry_param e;
+	int added;
+
+	say("readdirplus %u %u %u", INO, (unsigned)off, FH);
+	entry(&e);
+	added = nizwarf_add_direntry_plus(dir, "a", &e, 1);
+	added += nizwarf_add_direntry_plus(dir, "..", &e, 2);
+	e.ino = 6;
+	added += nizwarf_add_direntry_plus(dir, "b", &e, 3);
+	e.ino = 0;
+	added += nizwarf_add_direntry_plus(dir, "c", &e, 4);
+	return say(" %d", added);
+}
+
+static int note_releasedir(REQ, FI)
+{
+	return say("releasedir %u %u", INO, FH);
+}
+
+static int note_fsyncdir(REQ, int datasync, FI)
+{
+	return say("fsyncdir %u %d %u", INO, datasync, FH);
+}
+
+static int note_statfs(REQ, nizwarf_statfs *stat)
+{
+	stat->blocks = 13;
+	return say("statfs %u", INO);
+}
+
+static int note_setxattr(REQ, const char *name, const void *value, size_t size, uint32_t flags)
+{
+	return say("setxattr %u %s %.*s %u", INO, name, (int)size, (const char *)value, flags);
+}
+
+static int note_getxattr(REQ, const char *name, size_t size, void *value, size_t *len)
+{
+	if (size)
+		memcpy(value, "value", 5);
+	*len = excess ? size + excess : 5;
+	return say("getxattr %u %s %zu", INO, name, size);
+}
+
+static int note_listxattr(REQ, size_t size, char *list, size_t *len)
+{
+	if (size)
+		memcpy(list, "user.a", 7);
+	*len = excess ? size + excess : 7;
+	return say("listxattr %u %zu", INO, size);
+}
+
+static int note_removexattr(REQ, const char *name)
+{
+	return say("removexattr %u %s", INO, name);
+}
+
+static int note_access(REQ, uint32_t mask)
+{
+	return say("access %u %u", INO, mask);
+}
+
+static int note_create(REQ, const char *name, uint32_t mode, nizwarf_file_info *fi, nizwarf_entry_param *e)
+{
+	say("create %u %s %o %x", INO, name, mode, fi->flags);
+	fi->fh = 14;
+	return entry(e);
+}
+
+static int note_fallocate(REQ, uint32_t mode, uint64_t offset, uint64_t length, FI)
+{
+	return say("fallocate %u %u %u %u %u", INO, mode, (unsigned)offset, (unsigned)length, FH);
+}
+
+static int note_lseek(REQ, uint64_t off, uint32_t whence, FI, uint64_t *found)
+{
+	*found = 15;
+	return say("lseek %u %u %u %u", INO, (unsigned)off, whence, FH);
+}
+
+static int note_copy(REQ, uint64_t off_in, FI, uint64_t ino_out, uint64_t off_out,
+		     const nizwarf_file_info *fi_out, uint64_t size, uint64_t flags, size_t *len)
+{
+	CHECK(!fi->lock_owner && !fi->flags && !fi_out->lock_owner && !fi_out->flags);
+	*len = excess ? size + excess : 9;
+	return say("copy %u %u %u %u %u %u %u %u", INO, (unsigned)off_in, FH, (unsigned)ino_out,
+		   (unsigned)off_out, (unsigned)fi_out->fh, (unsigned)size, (unsigned)flags);
+}
+
+static int note_syncfs(const nizwarf_req *req, uint64_t ino)
+{
+	return say("syncfs %u", INO);
+}
+
+static void note_interrupt(void *user, uint64_t unique)
+{
+	say("interrupt %d %u", user == said, (unsigned)unique);
+}
+
+static const nizwarf_ops ops = {
+	note_init,	note_destroy, note_lookup,    note_forget,   note_getattr,     note_setattr,
+	note_readlink,	note_mknod,   note_mkdir,     note_unlink,   note_rmdir,       note_symlink,
+	note_rename,	note_link,    note_open,      note_read,     note_write,       note_flush,
+	note_release,	note_fsync,   note_opendir,   note_readdir,  note_readdirplus, note_releasedir,
+	note_fsyncdir,	note_statfs,  note_setxattr,  note_getxattr, note_listxattr,   note_removexattr,
+	note_access,	note_create,  note_fallocate, note_lseek,    note_copy,	       note_syncfs,
+	note_interrupt,
+};
+static const nizwarf_ops no_ops;
+static const nizwarf_ops *table = &ops;
+
+/* How much room there is, and for how many items. */
+static size_t space = 8192, most = 8;
+
+/* Serves the request: what is called is these words, and the reply has this length. */
+static void expect(const char *words, size_t len)
+{
+	nizwarf_item items[8];
+	size_t reply_len;
+
+	said[0] = 0;
+	memset(ours, FILL, space);
+	CHECK(nizwarf_serve_ops(table, said, &slot, &session, request, request_len, ours, space, items, most,
+				&reply_len) == NIZWARF_OK);
+	if (strcmp(said, words) || reply_len != len)
+		fprintf(stderr, "%s, and %zu bytes\n", said, reply_len);
+	CHECK(!strcmp(said, words) && reply_len == len);
+	CHECK(!len || (u32(ours) == len && u64(ours + 8) == unique));
+}
+
+/* A request of a record and up to two texts, as 0 ends them. */
+static void expect_record(uint32_t opcode, const void *record, size_t record_len, const char *name,
+			  const char *other, const char *words, size_t len)
+{
+	begin_with(opcode, 2, record, record_len);
+	if (name)
+		add_name(name);
+	if (other)
+		add_name(other);
+	expect(words, len);
+}
+
+/* The replies of the functions that answer more than that it was done. */
+static void answers(void)
+{
+	const struct fuse_setattr_in set = {
+		.valid = FATTR_MODE | FATTR_FH | FATTR_LOCKOWNER, .fh = 3, .mode = 0644, .lock_owner = 5
+	};
+	const uint32_t zeros[4] = { 0 }, sizes[] = { 100, 0 }, handle[] = { 1, 0, 7, 0 };
+	const uint32_t open[] = { 2, 0 }, create[] = { 1, 0600, 0, 0 };
+	const uint32_t mknod[] = { 0644, 9, 022, 0 };
+
+	expect_record(NIZWARF_LOOKUP, zeros, 0, "a", NULL, "lookup 2 a", 144);
+	CHECK(u64(ours + 16) == 5 && u64(ours + 24) == 6 && u64(ours + 56) == 50);
+	CHECK(u64(ours + 32) == 3 && u32(ours + 48) == 4);
+	CHECK(u64(ours + 40) == 1 && u32(ours + 52) == 2);
+	expect_record(NIZWARF_GETATTR, zeros, 16, NULL, NULL, "getattr 2 -1", 120);
+	CHECK(u64(ours + 16) == 8 && u32(ours + 24) == 9 && u64(ours + 40) == 7);
+	expect_record(NIZWARF_GETATTR, handle, 16, NULL, NULL, "getattr 2 7", 120);
+	expect_record(NIZWARF_SETATTR, &set, 88, NULL, NULL, "setattr 2 1 644 3", 120);
+	CHECK(!u64(ours + 16) && !u32(ours + 24));
+	expect_record(NIZWARF_READLINK, zeros, 0, NULL, NULL, "readlink 2 4095", 22);
+	CHECK(!memcmp(ours + 16, "target", 6));
+	expect_record(NIZWARF_MKNOD, mknod, 16, "a", NULL, "mknod 2 a 644 9 22", 144);
+	expect_record(NIZWARF_MKDIR, open, 8, "a", NULL, "mkdir 2 a 2", 144);
+	expect_record(NIZWARF_SYMLINK, zeros, 0, "a", "text", "symlink text 2 a", 144);
+	expect_record(NIZWARF_LINK, sizes, 8, "a", NULL, "link 100 2 a", 144);
+	expect_record(NIZWARF_OPEN, open, 8, NULL, NULL, "open 2 2", 32);
+	CHECK(u64(ours + 16) == 11 && u32(ours + 24) == FOPEN_KEEP_CACHE);
+	expect_record(NIZWARF_OPENDIR, open, 8, NULL, NULL, "opendir 2", 32);
+	CHECK(u64(ours + 16) == 12 && !u32(ours + 24));
+	expect_record(NIZWARF_CREATE, create, 16, "a", NULL, "create 2 a 600 1", 160);
+	CHECK(u64(ours + 16) == 5 && u64(ours + 144) == 14);
+	expect_record(NIZWARF_STATFS, zeros, 0, NULL, NULL, "statfs 2", 96);
+	CHECK(u64(ours + 16) == 13);
+	expect_record(NIZWARF_GETXATTR, sizes, 8, "user.a", NULL, "getxattr 2 user.a 100", 21);
+	CHECK(!memcmp(ours + 16, "value", 5));
+	expect_record(NIZWARF_GETXATTR, zeros, 8, "user.a", NULL, "getxattr 2 user.a 0", 24);
+	CHECK(u32(ours + 16) == 5);
+	expect_record(NIZWARF_LISTXATTR, sizes, 8, NULL, NULL, "listxattr 2 100", 23);
+	expect_record(NIZWARF_LISTXATTR, zeros, 8, NULL, NULL, "listxattr 2 0", 24);
+	expect_record(NIZWARF_LISTXATTR, open, 8, NULL, NULL, "listxattr 2 2", 16);
+	CHECK(u32(ours + 4) == (uint32_t)-ERANGE);
+}
+
+/* Those whose reply is a header, or none. */
+static void done(void)
+{
+	const uint64_t two[] = { 3, 0 }, pairs[] = { 2, 5, 1, 6, 2 };
+	const uint32_t rename2[] = { 3, 0, 1, 0 }, set[] = { 3, 1 }, sync[] = { 4, 0, 1, 0 };
+	const uint32_t release[] = { 4, 0, 5, 0, 0, 0 }, flush[] = { 4, 0, 0, 0, 8, 0 };
+	const uint32_t interrupt[] = { 9, 0 };
+
+	expect_record(NIZWARF_FORGET, two, 8, NULL, NULL, " forget 2 3", 0);
+	expect_record(NIZWARF_BATCH_FORGET, pairs, 40, NULL, NULL, " forget 5 1 forget 6 2", 0);
+	expect_record(INTERRUPT, interrupt, 8, NULL, NULL, "interrupt 1 9", 0);
+	expect_record(NIZWARF_UNLINK, two, 0, "a", NULL, "unlink 2 a", 16);
+	expect_record(NIZWARF_RMDIR, two, 0, "a", NULL, "rmdir 2 a", 16);
+	expect_record(NIZWARF_RENAME, two, 8, "a", "b", "rename 2 a 3 b 0", 16);
+	expect_record(RENAME2, rename2, 16, "a", "b", "rename 2 a 3 b 1", 16);
+	expect_record(NIZWARF_FLUSH, flush, 24, NULL, NULL, "flush 2 4 8", 16);
+	expect_record(NIZWARF_RELEASE, release, 24, NULL, NULL, "release 2 4 5", 16);
+	expect_record(NIZWARF_FSYNC, sync, 16, NULL, NULL, "fsync 2 1 4", 16);
+	expect_record(NIZWARF_RELEASEDIR, release, 24, NULL, NULL, "releasedir 2 4", 16);
+	expect_record(NIZWARF_FSYNCDIR, sync, 16, NULL, NULL, "fsyncdir 2 1 4", 16);
+	expect_record(NIZWARF_SETXATTR, set, 8, "user.a", "xy", "setxattr 2 user.a xy 1", 16);
+	expect_record(NIZWARF_REMOVEXATTR, two, 0, "user.a", NULL, "removexattr 2 user.a", 16);
+	expect_record(NIZWARF_ACCESS, set, 8, NULL, NULL, "access 2 3", 16);
+	expect_record(NIZWARF_SYNCFS, two, 0, NULL, NULL, "syncfs 2", 16);
+	expect_record(NIZWARF_TMPFILE, two, 0, NULL, NULL, "", 16);
+	expect_record(NIZWARF_IOCTL, two, 0, NULL, NULL, "", 16);
+	CHECK(u32(ours + 4) == (uint32_t)-ENOSYS);
+}
+
+/* Those that are about bytes of a file. */
+static void data(void)
+{
+	const struct fuse_read_in read = { .fh = 4, .offset = 6, .size = 100 };
+	const struct fuse_write_in write = { .fh = 4, .offset = 6, .size = 2 };
+	const struct fuse_lseek_in lseek = { .fh = 4, .offset = 6, .whence = 3 };
+	const struct fuse_fallocate_in allocate = { .fh = 4, .offset = 6, .length = 8, .mode = 1 };
+	const struct fuse_copy_file_range_in copy = { 4, 6, 3, 5, 7, 9, 15 };
+
+	expect_record(NIZWARF_READ, &read, 40, NULL, NULL, "read 2 100 6 4", 20);
+	CHECK(!memcmp(ours + 16, "data", 4) && ours[20] == FILL);
+	space = 50;
+	expect_record(NIZWARF_READ, &read, 40, NULL, NULL, "read 2 34 6 4", 20);
+	space = 8192;
+	expect_record(NIZWARF_WRITE, &write, 40, "xyz", NULL, "write 2 xy 6 4", 24);
+	CHECK(u32(ours + 16) == 2);
+	expect_record(NIZWARF_LSEEK, &lseek, 24, NULL, NULL, "lseek 2 6 3 4", 24);
+	CHECK(u64(ours + 16) == 15);
+	expect_record(NIZWARF_FALLOCATE, &allocate, 32, NULL, NULL, "fallocate 2 1 6 8 4", 16);
+	expect_record(NIZWARF_COPY, &copy, 56, NULL, NULL, "copy 2 6 4 3 7 5 9 15", 24);
+	CHECK(u32(ours + 16) == 9);
+	failure = EDOM;
+	expect_record(NIZWARF_READ, &read, 40, NULL, NULL, "read 2 100 6 4", 16);
+	CHECK(u32(ours + 4) == (uint32_t)-EDOM);
+	failure = 0;
+}
+
+/* Directories: of what is looked up, each that doesn't come to the client is given back, once. */
+static void directories(void)
+{
+	struct fuse_read_in read = { .fh = 4, .offset = 6, .size = 4096 };
+
+	expect_record(NIZWARF_READDIR, &read, 40, NULL, NULL, "readdir 2 6 4 2", 16 + 32 + 32);
+	CHECK(u64(ours + 16) == 1 && ours[40] == '.' && u64(ours + 48) == 50);
+	CHECK(!memcmp(ours + 72, "name", 4));
+	expect_record(READDIRPLUS, &read, 40, NULL, NULL, "readdirplus 2 6 4 4", 16 + 4 * 160);
+	CHECK(u64(ours + 16) == 5 && !u64(ours + 176) && u64(ours + 336) == 6 && !u64(ours + 496));
+	CHECK(ours[168] == 'a' && ours[328] == '.' && ours[488] == 'b' && ours[648] == 'c');
+	most = 2;
+	expect_record(READDIRPLUS, &read, 40, NULL, NULL, "readdirplus 2 6 4 forget 6 1 2", 16 + 2 * 160);
+	/* (where there is no room for an item, a directory isn't an empty one) */
+	most = 0;
+	expect_record(READDIRPLUS, &read, 40, NULL, NULL, "", 16);
+	CHECK(u32(ours + 4) == (uint32_t)-EIO);
+	most = 8;
+	read.size = 2 * 160 + 159;
+	expect_record(READDIRPLUS, &read, 40, NULL, NULL, "readdirplus 2 6 4 forget 6 1 2", 16 + 2 * 160);
+	/* (the room is as long as `size`, and the header takes 16 bytes of it) */
+	read.size = space = 2 * 160;
+	expect_record(READDIRPLUS, &read, 40, NULL, NULL, "readdirplus 2 6 4 forget 6 1 1", 16 + 160);
+	read.size = 4096;
+	space = 8192;
+	failure = EDOM;
+	expect_record(READDIRPLUS, &read, 40, NULL, NULL, "readdirplus 2 6 4 4 forget 5 1 forget 6 1", 16);
+	failure = 0;
+}
+
+/* An entry whose reply doesn't fit is given back, and none where there is a fault. */
+static void entries_that_do_not_fit(void)
+{
+	size_t len;
+
+	begin(NIZWARF_LOOKUP, 2);
+	add_name("a");
+	for (space = 0; space < 144; space++) {
+		said[0] = 0;
+		CHECK(nizwarf_serve_ops(&ops, said, &slot, &session, request, request_len, ours, space, NULL,
+					0, &len) == NIZWARF_ENCODE_MESSAGE);
+		CHECK(!len && !strcmp(said, "lookup 2 a forget 5 1"));
+	}
+	failure = ENOENT;
+	space = 16;
+	expect("lookup 2 a", 16);
+	failure = 0;
+	space = 8192;
+}
+
+/* A request for which there is no room: what was called is these words. */
+static void expect_unfit(const char *words, size_t least)
+{
+	size_t len;
+
+	for (space = 0; space < least; space++) {
+		said[0] = 0;
+		CHECK(nizwarf_serve_ops(table, said, &slot, &session, request, request_len, ours, space, NULL,
+					0, &len) == NIZWARF_ENCODE_MESSAGE);
+		if (strcmp(said, words))
+			fprintf(stderr, "%s\n", said);
+		CHECK(!len && !strcmp(said, words));
+	}
+	space = 8192;
+}
+
+/* What was opened is released if its reply doesn't fit, and is not where there is a fault. */
+static void handles_that_do_not_fit(void)
+{
+	const struct fuse_open_in opened = { .flags = O_RDWR };
+	const struct fuse_create_in created = { .flags = O_RDWR, .mode = 0644 };
+
+	begin_with(NIZWARF_OPEN, 2, &opened, sizeof(opened));
+	expect_unfit("open 2 2release 2 11 2", 32);
+	failure = ENOENT;
+	space = 16;
+	expect("open 2 2", 16);
+	expect_unfit("open 2 2", 16);
+	failure = 0;
+	begin_with(NIZWARF_OPENDIR, 2, &opened, sizeof(opened));
+	expect_unfit("opendir 2releasedir 2 12", 32);
+	begin_with(NIZWARF_CREATE, 2, &created, sizeof(created));
+	add_name("a");
+	expect_unfit("create 2 a 644 2release 5 14 2 forget 5 1", 160);
+	expect("create 2 a 644 2", 160);
+	table = &no_ops;
+	begin_with(NIZWARF_OPEN, 2, &opened, sizeof(opened));
+	expect_unfit("", 32);
+	table = &ops;
+}
+
+/* INIT and DESTROY, by which options are agreed on and left. READDIRPLUS is wanted where it is
+ * there. */
+static void sessions(const char *begins, const char *ends, uint32_t wanted)
+{
+	const struct fuse_init_in init = { .major = 7,
+					   .minor = 38,
+					   .flags = FUSE_DO_READDIRPLUS | FUSE_READDIRPLUS_AUTO |
+						    FUSE_WRITEBACK_CACHE };
+
+	expect_record(NIZWARF_INIT, &init, 16, NULL, NULL, begins, 80);
+	CHECK(session.options == wanted && u32(ours + 28) == wanted);
+	expect_record(NIZWARF_DESTROY, &init, 0, NULL, NULL, ends, 0);
+	CHECK(!session.options);
+}
+
+/* INIT with these options offered: just these are agreed on, and told. */
+static void expect_options(uint64_t offered, uint64_t agreed)
+{
+	const struct fuse_init_in init = {
+		.major = 7, .minor = 38, .flags = (uint32_t)offered, .flags2 = (uint32_t)(offered >> 32)
+	};
+	size_t len;
+
+	begin_with(NIZWARF_INIT, 0, &init, sizeof(init));
+	CHECK(nizwarf_serve_ops(table, said, &slot, &session, request, request_len, ours, space, NULL, 0,
+				&len) == NIZWARF_OK &&
+	      len == 80 && !u32(ours + 4));
+	CHECK(session.options == agreed);
+	CHECK(u32(ours + 28) == (uint32_t)agreed && u32(ours + 48) == agreed >> 32);
+}
+
+/* Just what is wanted, offered, and has its functions is agreed on; the reply is that to one who offers
+ * no more. */
+static void options(void)
+{
+	const uint64_t locks = FUSE_POSIX_LOCKS | FUSE_FLOCK_LOCKS | FUSE_HAS_IOCTL_DIR;
+	const uint64_t usual = NIZWARF_WANT_USUAL | NIZWARF_WANT_READDIRPLUS;
+	const uint64_t trunc = FUSE_ATOMIC_O_TRUNC;
+	static nizwarf_ops some;
+	uint8_t told[80];
+
+	added = 0;
+	expect_options(UINT64_MAX, usual);
+	memcpy(told + 16, ours + 16, 64);
+	expect_options(usual, usual);
+	CHECK(!memcmp(told + 16, ours + 16, 64));
+	declined = trunc | FUSE_MAX_PAGES;
+	expect_options(UINT64_MAX, usual & ~declined);
+	added = NIZWARF_WANT_ALLOW_IDMAP | locks;
+	expect_options(UINT64_MAX, (usual & ~declined) | NIZWARF_WANT_ALLOW_IDMAP);
+	expect_options(usual, usual & ~declined);
+	declined = UINT64_MAX;
+	expect_options(UINT64_MAX, NIZWARF_WANT_ALLOW_IDMAP | FUSE_INIT_EXT);
+	added = 0;
+	expect_options(UINT64_MAX, 0);
+	declined = 0;
+	added = usual | FUSE_WRITEBACK_CACHE | FUSE_SETXATTR_EXT;
+	some.init = note_init;
+	table = &some;
+	expect_options(UINT64_MAX, NIZWARF_WANT_USUAL & ~trunc);
+	some.open = note_open;
+	some.write = note_write;
+	expect_options(UINT64_MAX, NIZWARF_WANT_USUAL | FUSE_WRITEBACK_CACHE);
+	some.setxattr = note_setxattr;
+	some.readdirplus = note_readdirplus;
+	expect_options(UINT64_MAX, usual | FUSE_WRITEBACK_CACHE | FUSE_SETXATTR_EXT);
+	table = &no_ops;
+	expect_options(UINT64_MAX, NIZWARF_WANT_USUAL & ~trunc);
+	table = &ops;
+	added = FUSE_WRITEBACK_CACHE;
+}
+
+/* `destroy` is called once for each INIT, by DESTROY or at the end. */
+static void ends(void)
+{
+	expect_options(UINT64_MAX, NIZWARF_WANT_USUAL | NIZWARF_WANT_READDIRPLUS | added);
+	said[0] = 0;
+	nizwarf_end_ops(&ops, said, &session);
+	CHECK(!strcmp(said, "destroy 1") && !session.options);
+	nizwarf_end_ops(&ops, said, &session);
+	CHECK(!strcmp(said, "destroy 1"));
+	expect_options(FUSE_BIG_WRITES, FUSE_BIG_WRITES);
+	begin(NIZWARF_DESTROY, 0);
+	add("", 0);
+	expect("destroy 1", 0);
+	nizwarf_end_ops(&ops, said, &session);
+	CHECK(!strcmp(said, "destroy 1"));
+}
+
+/* An answer that Linux does not take comes to who asked as an error. */
+static void wrong_answers(void)
+{
+	const struct fuse_read_in read = { .fh = 4, .size = 100 };
+	const struct fuse_write_in write = { .fh = 4, .size = 2 };
+	const struct fuse_copy_file_range_in copy = { .len = 9 };
+	static const int none[] = { 512, 600, INT32_MAX, -1, -ENOENT, INT32_MIN };
+	const uint32_t sizes[] = { 100, 0 };
+	size_t i;
+
+#define EXPECT_FAULT(number, opcode, record, size, name, other, words)       \
+	do {                                                                 \
+		expect_record(opcode, record, size, name, other, words, 16); \
+		CHECK(u32(ours + 4) == (uint32_t) - (number));               \
+	} while (0)
+	excess = 1;
+	EXPECT_FAULT(EIO, NIZWARF_READLINK, &read, 0, NULL, NULL, "readlink 2 4095");
+	EXPECT_FAULT(EIO, NIZWARF_READ, &read, 40, NULL, NULL, "read 2 100 0 4");
+	EXPECT_FAULT(EIO, NIZWARF_WRITE, &write, 40, "xyz", NULL, "write 2 xy 0 4");
+	EXPECT_FAULT(EIO, NIZWARF_COPY, &copy, 56, NULL, NULL, "copy 2 0 0 0 0 0 9 0");
+	EXPECT_FAULT(ERANGE, NIZWARF_GETXATTR, sizes, 8, "user.a", NULL, "getxattr 2 user.a 100");
+	EXPECT_FAULT(ERANGE, NIZWARF_LISTXATTR, sizes, 8, NULL, NULL, "listxattr 2 100");
+	space = 66;
+	EXPECT_FAULT(ERANGE, NIZWARF_GETXATTR, sizes, 8, "user.a", NULL, "getxattr 2 user.a 50");
+	space = 8192;
+	excess = 0;
+	for (i = 0; i < sizeof(none) / sizeof(*none); i++) {
+		failure = none[i];
+		EXPECT_FAULT(EIO, NIZWARF_LOOKUP, &read, 0, "a", NULL, "lookup 2 a");
+	}
+	failure = NIZWARF_LAST_ERROR;
+	EXPECT_FAULT(NIZWARF_LAST_ERROR, NIZWARF_LOOKUP, &read, 0, "a", NULL, "lookup 2 a");
+	failure = 0;
+#undef EXPECT_FAULT
+}
+
+/* Where an allocation is refused, before the call or behind it, the client is left with nothing. */
+static void expect_undone(uint32_t opcode, const void *record, size_t record_len, const char *name,
+			  const char *words)
+{
+	const long kept = live;
+	int32_t code = NIZWARF_OUT_OF_MEMORY;
+	size_t len;
+
+	begin_with(opcode, 2, record, record_len);
+	add(name, strlen(name) + (*name != 0));
+	for (refused = 1; code != NIZWARF_OK; refused++) {
+		nizwarf_slot fresh = NIZWARF_NONE;
+
+		session.options = FUSE_BIG_WRITES;
+		asked = said[0] = 0;
+		code = nizwarf_serve_ops(&ops, said, &fresh, &session, request, request_len, ours, space,
+					 NULL, 0, &len);
+		CHECK(code == NIZWARF_OK || (code == NIZWARF_OUT_OF_MEMORY && !len));
+		CHECK(code == NIZWARF_OK || !said[0] || !strcmp(said, words));
+		CHECK((opcode != NIZWARF_DESTROY || !said[0]) == (session.options == FUSE_BIG_WRITES));
+		nizwarf_end_slot(&fresh);
+		CHECK(live == kept);
+	}
+	CHECK(refused > 2);
+	refused = 0;
+	session.options = 0;
+}
+
+static void no_memory(void)
+{
+	const struct fuse_create_in created = { .flags = O_RDWR, .mode = 0644 };
+
+	expect_undone(NIZWARF_LOOKUP, "", 0, "a", "lookup 2 a forget 5 1");
+	expect_undone(NIZWARF_OPENDIR, &created, 8, "", "opendir 2releasedir 2 12");
+	expect_undone(NIZWARF_CREATE, &created, 16, "a", "create 2 a 644 2release 5 14 2 forget 5 1");
+	expect_undone(NIZWARF_DESTROY, "", 0, "", "destroy 1");
+}
+
+/* A room that overlaps the request is refused, and nothing is called. */
+static void overlaps(void)
+{
+	static uint8_t both[300];
+	size_t at, len;
+
+	begin(NIZWARF_LOOKUP, 2);
+	add_name("a");
+	for (at = 0; at <= 200 - request_len; at++) {
+		memcpy(both + at, request, request_len);
+		said[0] = 0;
+		CHECK(nizwarf_serve_ops(&ops, said, &slot, &session, both + at, request_len, both + 50, 144,
+					NULL, 0,
+					&len) == (at + request_len > 50 ? NIZWARF_NOT_ASKED : NIZWARF_OK));
+		CHECK(!said[0] == (at + request_len > 50));
+	}
+	memcpy(both + 194, request, request_len);
+	CHECK(nizwarf_serve_ops(&ops, said, &slot, &session, both + 194, request_len, both + 50, 144, NULL, 0,
+				&len) == NIZWARF_OK);
+}
+
+/* Times, and what stat(2) and statvfs(3) tell. */
+static void conversions(void)
+{
+	const nizwarf_entry_param before = { .attr_timeout = { -1, 5 }, .entry_timeout = { 3, -1 } };
+	const nizwarf_entry entry = nizwarf_entry_of(&before);
+	const struct stat st = { .st_ino = 1,
+				 .st_size = 2,
+				 .st_blocks = 3,
+				 .st_mode = S_IFREG | 0640,
+				 .st_nlink = 4,
+				 .st_uid = 5,
+				 .st_gid = 6,
+				 .st_rdev = 7,
+				 .st_blksize = 8,
+				 .st_atim = { -9, 10 },
+				 .st_mtim = { 11, 12 },
+				 .st_ctim = { 13, 14 } };
+	const nizwarf_attr attr = { 1, 2, 3, (uint64_t)-9, 11, 13, 10, 12, 14, 0100640, 4, 5, 6, 7, 8, 0 };
+	const struct statvfs fs = { .f_bsize = 1,
+				    .f_frsize = 2,
+				    .f_blocks = 3,
+				    .f_bfree = 4,
+				    .f_bavail = 5,
+				    .f_files = 6,
+				    .f_ffree = 7,
+				    .f_namemax = 8 };
+	const nizwarf_statfs held = { 1, 2, 3, 4, 5, 6, 7, 8 };
+	const nizwarf_attr got = nizwarf_attr_of(&st);
+	const nizwarf_statfs holds = nizwarf_statfs_of(&fs);
+	const double zero = 0;
+
+	CHECK(!entry.attr_seconds && !entry.attr_nanoseconds);
+	CHECK(entry.entry_seconds == 3 && !entry.entry_nanoseconds);
+	CHECK(!memcmp(&got, &attr, sizeof(attr)) && !memcmp(&holds, &held, sizeof(held)));
+	CHECK(nizwarf_timeout(1.5).tv_sec == 1 && nizwarf_timeout(1.5).tv_nsec == 500000000);
+	CHECK(!nizwarf_timeout(-1.5).tv_sec && !nizwarf_timeout(-1.5).tv_nsec);
+	CHECK(!nizwarf_timeout(zero / zero).tv_sec && nizwarf_timeout(1e300).tv_sec == INT64_MAX);
+	CHECK(nizwarf_timeout(1e15 + 0.5).tv_sec == 1000000000000000);
+}
+
+/* What is answered for functions that are not there. */
+static void empty_table(void)
+{
+	static const uint32_t refused[] = { NIZWARF_GETATTR,   NIZWARF_SETATTR,	  NIZWARF_READLINK,
+					    NIZWARF_READ,      NIZWARF_WRITE,	  NIZWARF_FSYNC,
+					    NIZWARF_LISTXATTR, NIZWARF_FLUSH,	  NIZWARF_READDIR,
+					    READDIRPLUS,       NIZWARF_FSYNCDIR,  NIZWARF_GETLK,
+					    NIZWARF_ACCESS,    NIZWARF_BMAP,	  NIZWARF_IOCTL,
+					    NIZWARF_POLL,      NIZWARF_FALLOCATE, NIZWARF_LSEEK,
+					    NIZWARF_COPY,      NIZWARF_SYNCFS,	  NIZWARF_TMPFILE };
+	static const uint32_t named[] = { NIZWARF_LOOKUP, NIZWARF_UNLINK,      NIZWARF_RMDIR,
+					  NIZWARF_LINK,	  NIZWARF_MKNOD,       NIZWARF_MKDIR,
+					  NIZWARF_CREATE, NIZWARF_REMOVEXATTR, NIZWARF_GETXATTR };
+	static const uint32_t served[] = { NIZWARF_OPEN, NIZWARF_OPENDIR, NIZWARF_RELEASE,
+					   NIZWARF_RELEASEDIR };
+	static const uint8_t zeros[88];
+	size_t i;
+
+	table = &no_ops;
+	for (i = 0; i < sizeof(refused) / sizeof(*refused); i++) {
+		expect_record(refused[i], zeros, forms[refused[i]].record, NULL, NULL, "", 16);
+		CHECK(u32(ours + 4) == (uint32_t)-ENOSYS);
+	}
+	for (i = 0; i < sizeof(named) / sizeof(*named); i++) {
+		expect_record(named[i], zeros, forms[named[i]].record, "a", NULL, "", 16);
+		CHECK(u32(ours + 4) == (uint32_t)-ENOSYS);
+	}
+	expect_record(NIZWARF_SYMLINK, zeros, 0, "a", "b", "", 16);
+	expect_record(NIZWARF_RENAME, zeros, 8, "a", "b", "", 16);
+	CHECK(u32(ours + 4) == (uint32_t)-ENOSYS);
+	for (i = 0; i < 4; i++) {
+		expect_record(served[i], zeros, forms[served[i]].record, NULL, NULL, "", i < 2 ? 32 : 16);
+		CHECK(!u32(ours + 4));
+	}
+	expect_record(NIZWARF_STATFS, zeros, 0, NULL, NULL, "", 96);
+	CHECK(u32(ours + 60) == 255);
+	expect_record(NIZWARF_FORGET, zeros, 8, NULL, NULL, "", 0);
+	expect_record(NIZWARF_BATCH_FORGET, zeros, 8, NULL, NULL, "", 0);
+	sessions("", "", 0);
+}
+
+int main(void)
+{
+	answers();
+	done();
+	data();
+	directories();
+	entries_that_do_not_fit();
+	handles_that_do_not_fit();
+	sessions("init 1 6000", "destroy 1",
+		 FUSE_DO_READDIRPLUS | FUSE_READDIRPLUS_AUTO | FUSE_WRITEBACK_CACHE);
+	empty_table();
+	table = &ops;
+	options();
+	ends();
+	wrong_answers();
+	no_memory();
+	overlaps();
+	conversions();
+	CHECK(nizwarf_end_slot(&slot) == NIZWARF_OK);
+	puts("Each function of a table was called as it is asked for.");
+	return 0;
+}

@@ -1,0 +1,189 @@
+/* Holds nizwarf_check, nizwarf_print_request and nizwarf_print_reply against their header, with the requests of a
+ * file, whole and cut after each of their bytes: a check says what an ask does, and a line has its length,
+ * is printable, and ends in a 0 within each memory.
+ *
+ * Usage: text LINES
+ * LINES are those of a session, as crates/vfs_sessions/stdin has them; others than requests are left out.
+ * tests/c/check.sh links it with --wrap=malloc, --wrap=realloc and --wrap=free. Status 0: all is as it
+ * should be. */
+#include <linux/fuse.h>
+#include <stdio.h>
+#include <stdlib.h>
+#include <string.h>
+#include "allocations.h"
+#include "nizwarf.h"
+
+#define CHECK(fact)                                                                                     \
+	do {                                                                                            \
+		if (!(fact)) {                                                                          \
+			fprintf(stderr, "text.c, line %d: not %s (request %lu, %zu bytes)\n", __LINE__, \
+				#fact, requests, length);                                               \
+			exit(1);                                                                        \
+		}                                                                                       \
+	} while (0)
+
+enum { MOST = 1 << 16 };
+
+static unsigned long requests, lines;
+static size_t length;
+static nizwarf_slot slot = NIZWARF_NONE;
+static unsigned char space[(1 << 20) + 4096];
+
+/* A line in memory of each of some sizes is the beginning of the whole one, and nothing behind it changes. */
+static void hold_line(size_t (*print)(const void *of, char *text, size_t size), const void *of)
+{
+	const size_t len = print(of, NULL, 0), sizes[] = { 0, 1, 2, len / 2, len, len + 1, len + 9 };
+	char *whole = malloc(len + 1);
+	size_t i;
+
+	CHECK(whole && print(of, whole, len + 1) == len && strlen(whole) == len && len > 0);
+	for (i = 0; i < len; i++)
+		CHECK(whole[i] >= ' ' && whole[i] <= '~');
+	for (i = 0; i < sizeof(sizes) / sizeof(*sizes); i++) {
+		const size_t size = sizes[i], shown = size && size - 1 < len ? size - 1 : len;
+		char *text = malloc(size + 1);
+
+		CHECK(text);
+		memset(text, 1, size + 1);
+		CHECK(print(of, text, size) == len && text[size] == 1);
+		if (size) {
+			CHECK(!memcmp(text, whole, shown) && text[shown] == 0);
+			CHECK(shown + 1 >= size || text[shown + 1] == 1);
+		}
+		free(text);
+	}
+	free(whole);
+	lines++;
+}
+
+struct messages {
+	const void *request, *reply;
+	size_t len, reply_len;
+	uint64_t options;
+};
+
+static size_t request_line(const void *of, char *text, size_t size)
+{
+	const struct messages *m = of;
+
+	return nizwarf_print_request(m->request, m->len, m->options, text, size);
+}
+
+static size_t reply_line(const void *of, char *text, size_t size)
+{
+	const struct messages *m = of;
+
+	return nizwarf_print_reply(m->request, m->len, m->reply, m->reply_len, text, size);
+}
+
+/* Holds a check against an ask with a room of this size. */
+static void hold_check(const struct messages *m, size_t size)
+{
+	const nizwarf_session session = { m->options, 4096, 1 << 20 };
+	const nizwarf_segment piece = { m->request, m->len };
+	const nizwarf_room room = { space, size };
+	nizwarf_call call, checked;
+	uint64_t interrupts;
+	long before;
+	nizwarf_told told;
+	int32_t code;
+
+	memset(&call, 0, sizeof(call));
+	memset(&checked, 0, sizeof(checked));
+	code = nizwarf_ask(&slot, &session, &piece, 1, &room, 1, &call, &told);
+	/* (our version, told a newer client, is the only such reply longer than a header) */
+	if (code == NIZWARF_ENCODE_MESSAGE && size >= 16)
+		code = NIZWARF_OK;
+	before = asked;
+	CHECK(nizwarf_check(&session, m->request, m->len, size, &checked, &interrupts) == code);
+	CHECK(!memcmp(&call, &checked, sizeof(call)) && interrupts == told.interrupts);
+	CHECK(asked == before || checked.call == NIZWARF_BATCH_FORGET || checked.has & NIZWARF_HAS_CONTEXT ||
+	      code != NIZWARF_ASKED);
+}
+
+static void hold(const unsigned char *request, size_t len, uint64_t options)
+{
+	static const size_t rooms[] = { 0, 15, 16, 79, 80, 4096, sizeof(space) };
+	unsigned char *own = malloc(len ? len : 1);
+	const struct messages m = { own, request, len, len, options };
+	size_t i;
+
+	length = len;
+	CHECK(own);
+	memcpy(own, request, len);
+	for (i = 0; i < sizeof(rooms) / sizeof(*rooms); i++)
+		hold_check(&m, rooms[i]);
+	hold_line(request_line, &m);
+	hold_line(reply_line, &m);
+	free(own);
+}
+
+/* The bytes of a line's request; 0: it is none. */
+static size_t read_request(const char *line, unsigned char *request)
+{
+	const char *at = strchr(line, ' ');
+	unsigned byte;
+	size_t len = 0;
+
+	if (*line < '0' || *line > '9' || !at)
+		return 0;
+	for (at++; *at && *at != '\n' && len < MOST; at += 2) {
+		while (*at == '+')
+			at++;
+		if (sscanf(at, "%2x", &byte) != 1)
+			break;
+		request[len++] = (unsigned char)byte;
+	}
+	return len;
+}
+
+/* What the words of an example say. */
+static void hold_examples(void)
+{
+	static const char line[] = "LOOKUP unique=3 node=1 uid=0 gid=0 pid=77 name=\"a\\x1b\"";
+	const struct fuse_in_header header = {
+		.len = 43, .opcode = FUSE_LOOKUP, .unique = 3, .nodeid = 1, .pid = 77
+	};
+	const struct fuse_out_header refused = { .len = 16, .error = -2, .unique = 3 };
+	unsigned char request[43];
+	char text[100];
+
+	memcpy(request, &header, sizeof(header));
+	memcpy(request + 40, "a\x1b", 3);
+	CHECK(nizwarf_print_request(request, 43, 0, text, sizeof(text)) == strlen(line) &&
+	      !strcmp(text, line));
+	CHECK(nizwarf_print_request(request, 43, 0, text, 7) == strlen(line) && !strcmp(text, "LOOKUP"));
+	CHECK(nizwarf_print_request(NULL, 0, 0, text, sizeof(text)) == 21 &&
+	      !strcmp(text, "refused=DecodeMessage"));
+	nizwarf_print_reply(request, 43, &refused, sizeof(refused), text, sizeof(text));
+	CHECK(!strcmp(text, "-> unique=3 error=ENOENT (2)"));
+	nizwarf_print_reply(request, 43, NULL, 0, text, sizeof(text));
+	CHECK(!strcmp(text, "-> no reply"));
+	CHECK(nizwarf_check(NULL, request, 43, 0, NULL, NULL) == NIZWARF_NULL);
+}
+
+int main(int count, char **words)
+{
+	static unsigned char request[MOST];
+	static char line[8 * MOST];
+	static const uint64_t options[] = { 0, ~UINT64_C(0) };
+	FILE *file = count == 2 ? fopen(words[1], "r") : NULL;
+	size_t len, i, at;
+
+	if (!file)
+		return fputs("Usage: text LINES\n", stderr), 2;
+	hold_examples();
+	while (fgets(line, sizeof(line), file)) {
+		len = read_request(line, request);
+		if (!len || requests++ % 16)
+			continue;
+		for (i = 0; i < 2; i++)
+			for (at = len < 200 ? 0 : len; at <= len; at++)
+				hold(request, at, options[i]);
+	}
+	fclose(file);
+	nizwarf_end_slot(&slot);
+	CHECK(requests > 0 && live == 0);
+	printf("%lu lines of messages, and a check as each ask.\n", lines);
+	return 0;
+}

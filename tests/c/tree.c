@@ -1,0 +1,245 @@
+/* Holds the library for transports in C against its header: a session of INIT, MKDIR, LOOKUP and GETATTR, in
+ * which each allocation is refused in turn; replies that are taken out; codes of what can't be done; settings; what
+ * stays in the rooms.
+ *
+ * tests/c/check.sh links it with --wrap=malloc, --wrap=realloc and --wrap=free. Status 0: all is as
+ * it should be, and no memory is left behind. */
+#include <errno.h>
+#include <linux/fuse.h>
+#include <stdio.h>
+#include <stdlib.h>
+#include <string.h>
+#include "allocations.h"
+#include "nizwarf.h"
+
+#define CHECK(fact)                                                                                    \
+	do {                                                                                           \
+		if (!(fact)) {                                                                         \
+			fprintf(stderr, "tree.c, line %d: not %s (allocation %ld)\n", __LINE__, #fact, \
+				refused);                                                              \
+			exit(1);                                                                       \
+		}                                                                                      \
+	} while (0)
+
+static struct {
+	struct fuse_in_header header;
+	struct fuse_init_in body;
+} init = { .header = { .len = sizeof(init), .opcode = FUSE_INIT, .unique = 1 },
+	   .body = { .major = 7, .minor = 38 } };
+static struct {
+	struct fuse_in_header header;
+	struct fuse_mkdir_in body;
+	char name[2];
+} make = { .header = { .len = 50, .opcode = FUSE_MKDIR, .unique = 4, .nodeid = 1 },
+	   .body = { .mode = 0755 },
+	   .name = "a" };
+static struct {
+	struct fuse_in_header header;
+	char name[2];
+} lookup = { .header = { .len = 42, .opcode = FUSE_LOOKUP, .unique = 2, .nodeid = 1 }, .name = "a" };
+static struct {
+	struct fuse_in_header header;
+	struct fuse_getattr_in body;
+} getattr = { .header = { .len = sizeof(getattr), .opcode = FUSE_GETATTR, .unique = 3, .nodeid = 2 } };
+
+static uint8_t reply[1 << 16], large[8 << 20];
+
+/* Asks with a request in two pieces, of which the first has so many bytes, behind so many empty ones,
+ * and with two pieces of room. What is refused for want of memory, by the server or in the file system's
+ * reply, is asked again, and the outcome told. */
+static int ask(nizwarf_server *server, void *request, size_t cut, size_t empty, size_t space, size_t *len)
+{
+	const struct fuse_out_header *header = (const struct fuse_out_header *)reply;
+	size_t total = ((struct fuse_in_header *)request)->len, i;
+	nizwarf_segment pieces[8];
+	const nizwarf_room room[] = { { reply, 16 }, { reply + 16, space - 16 } };
+	int code, again;
+
+	for (i = 0; i < empty; i++)
+		pieces[i] = (nizwarf_segment){ request, 0 };
+	pieces[empty] = (nizwarf_segment){ request, cut };
+	pieces[empty + 1] = (nizwarf_segment){ (char *)request + cut, total - cut };
+	for (again = 0; again < 2; again++) {
+		memset(reply, 0xaa, sizeof(reply));
+		code = nizwarf_message(server, pieces, empty + 2, room, 2, len);
+		if (code == NIZWARF_OK && *len == 16 && header->error == -ENOMEM) {
+			CHECK(refused && again == 0);
+			continue;
+		}
+		if (code != NIZWARF_OUT_OF_MEMORY)
+			break;
+		CHECK(refused && again == 0 && *len == 0 && reply[0] == 0xaa);
+	}
+	for (i = *len; i < sizeof(reply); i++)
+		CHECK(code == NIZWARF_ENCODE_MESSAGE || reply[i] == 0xaa);
+	return code;
+}
+
+static void session(void)
+{
+	nizwarf_server server = NIZWARF_NONE;
+	struct fuse_out_header *header = (struct fuse_out_header *)reply;
+	int code = nizwarf_new(&server, 4096, 4096, NULL);
+	size_t len;
+
+	if (code == NIZWARF_OUT_OF_MEMORY) {
+		CHECK(refused && !server.at);
+		code = nizwarf_new(&server, 4096, 4096, NULL);
+	}
+	CHECK(code == NIZWARF_OK && nizwarf_max_buffer(&server) == 4096 && nizwarf_options(&server) == 0);
+	CHECK(ask(&server, &init, 40, 0, 80, &len) == NIZWARF_OK && len == 80 && header->len == 80);
+	CHECK(nizwarf_tell_time(&server, 7, 9) == NIZWARF_OK);
+	CHECK(ask(&server, &make, 49, 2, 144, &len) == NIZWARF_OK && len == 144 && header->error == 0);
+	CHECK(ask(&server, &getattr, 56, 0, 8192, &len) == NIZWARF_OK && len == 120 && header->unique == 3);
+	CHECK(((struct fuse_attr_out *)(reply + 16))->attr.mtime == 7);
+	CHECK(ask(&server, &lookup, 41, 5, 144, &len) == NIZWARF_OK && len == 144 && header->error == 0);
+	CHECK(ask(&server, &getattr, 50, 6, 1 << 16, &len) == NIZWARF_OK && len == 120 &&
+	      header->unique == 3);
+	CHECK(ask(&server, &lookup, 40, 0, 20, &len) == NIZWARF_ENCODE_MESSAGE && len == 0);
+	CHECK(header->len == 144 && reply[16] == 2 && reply[20] == 0xaa);
+	CHECK(ask(&server, &getattr, 39, 1, 120, &len) == NIZWARF_OK && len == 120);
+	CHECK(nizwarf_end(&server) == NIZWARF_OK && !server.at && live == 0);
+}
+
+/* Asks with a request in one piece, whose reply is taken out. What is refused for want of memory is asked again. */
+static int take(nizwarf_server *server, void *request, size_t space, nizwarf_taken *taken,
+		const struct fuse_out_header **head, size_t *len)
+{
+	const nizwarf_segment whole = { request, ((struct fuse_in_header *)request)->len };
+	const void *at;
+	int code = nizwarf_message_take(server, &whole, 1, space, taken, &at, len);
+
+	if (code == NIZWARF_OUT_OF_MEMORY) {
+		CHECK(refused && !at && *len == 0);
+		code = nizwarf_message_take(server, &whole, 1, space, taken, &at, len);
+	}
+	CHECK(at ? *len >= sizeof(**head) : *len == 0);
+	*head = at;
+	return code;
+}
+
+/* Replies that are taken out: which they are, what they outlive, and what has none. */
+static void takes(void)
+{
+	static struct {
+		struct fuse_in_header header;
+		struct fuse_forget_in body;
+	} forget = { .header = { .len = sizeof(forget), .opcode = FUSE_FORGET, .nodeid = 2 }, .body = { 1 } };
+	const nizwarf_segment whole = { &init, sizeof(init) };
+	nizwarf_server server = NIZWARF_NONE;
+	nizwarf_taken one = NIZWARF_NONE, other = NIZWARF_NONE;
+	const struct fuse_out_header *first, *second;
+	const void *at = &whole;
+	size_t len = 1, more;
+
+	CHECK(nizwarf_message_take(&server, &whole, 1, 80, &one, &at, &len) == NIZWARF_NO_SERVER && !at &&
+	      !len);
+	CHECK(nizwarf_message_take(&server, &whole, 1, 80, NULL, &at, &len) == NIZWARF_NULL);
+	CHECK(nizwarf_message_take(&server, &whole, 1, 80, &one, NULL, &len) == NIZWARF_NULL);
+	CHECK(nizwarf_message_take(&server, NULL, 1, 80, &one, &at, &len) == NIZWARF_NULL);
+	CHECK(nizwarf_end_taken(&one) == NIZWARF_NO_SERVER && nizwarf_end_taken(NULL) == NIZWARF_NULL);
+	while (nizwarf_new(&server, 4096, 4096, NULL) != NIZWARF_OK)
+		CHECK(refused && !server.at);
+	CHECK(take(&server, &init, 80, &one, &first, &len) == NIZWARF_OK && len == 80 && first->len == 80);
+	CHECK(take(&server, &lookup, 144, &other, &second, &more) == NIZWARF_OK && more == 16);
+	CHECK(second->error == -ENOENT && second->unique == 2);
+	CHECK(first->len == 80 && first->unique == 1 &&
+	      ((const struct fuse_init_out *)(first + 1))->major == 7);
+	CHECK(take(&server, &lookup, 15, &other, &second, &more) == NIZWARF_ENCODE_MESSAGE && !second);
+	CHECK(take(&server, &forget, 0, &other, &second, &more) == NIZWARF_OK && !second);
+	CHECK(take(&server, &lookup, 4096, &other, &second, &more) == NIZWARF_OK && more == 16);
+	CHECK(nizwarf_end(&server) == NIZWARF_OK && second->error == -ENOENT && first->len == 80);
+	CHECK(nizwarf_end_taken(&one) == NIZWARF_OK && nizwarf_end_taken(&other) == NIZWARF_OK && live == 0);
+	CHECK(nizwarf_end_taken(&one) == NIZWARF_NO_SERVER);
+}
+
+/* What needs no session: NULL, no server, sizes out of bounds, lengths that sum past SIZE_MAX; a room too
+ * small, and one of 8 MiB. */
+static void codes(void)
+{
+	nizwarf_server server = NIZWARF_NONE;
+	const nizwarf_segment huge[] = { { &init, SIZE_MAX / 2 }, { &init, SIZE_MAX / 2 }, { &init, 2 } };
+	const nizwarf_segment whole = { &init, sizeof(init) }, null = { NULL, 0 };
+	const nizwarf_room nowhere = { NULL, 0 }, small = { reply, 15 }, ample = { large, sizeof(large) };
+	const nizwarf_room wide[] = { { reply, SIZE_MAX }, { reply, 1 } };
+	size_t len = 1;
+
+	CHECK(nizwarf_new(NULL, 4096, 4096, NULL) == NIZWARF_NULL && nizwarf_end(NULL) == NIZWARF_NULL);
+	CHECK(nizwarf_tell_time(NULL, 1, 0) == NIZWARF_NULL);
+	CHECK(nizwarf_tell_time(&server, 1, 0) == NIZWARF_NO_SERVER);
+	CHECK(nizwarf_options(NULL) == 0 && nizwarf_max_buffer(NULL) == 0);
+	CHECK(nizwarf_options(&server) == 0 && nizwarf_max_buffer(&server) == 0);
+	CHECK(nizwarf_end(&server) == NIZWARF_NO_SERVER);
+	CHECK(nizwarf_message(&server, &whole, 1, NULL, 0, &len) == NIZWARF_NO_SERVER && len == 0);
+	CHECK(nizwarf_new(&server, 4095, 4096, NULL) == NIZWARF_WRONG_SIZE);
+	CHECK(nizwarf_new(&server, 4096, 4095, NULL) == NIZWARF_WRONG_SIZE);
+	CHECK(nizwarf_new(&server, 4096, 134217729, NULL) == NIZWARF_WRONG_SIZE && !server.at);
+	CHECK(nizwarf_new(&server, 4096, 4096, NULL) == NIZWARF_OK);
+	CHECK(nizwarf_new(&server, 4096, 8192, NULL) == NIZWARF_OK);
+	CHECK(nizwarf_max_buffer(&server) == 8192);
+	CHECK(nizwarf_message(&server, NULL, 1, NULL, 0, &len) == NIZWARF_NULL && len == 0);
+	CHECK(nizwarf_message(&server, &null, 1, NULL, 0, &len) == NIZWARF_NULL);
+	CHECK(nizwarf_message(&server, &whole, 1, &nowhere, 1, &len) == NIZWARF_NULL);
+	CHECK(nizwarf_message(&server, &whole, 1, NULL, 1, &len) == NIZWARF_NULL);
+	CHECK(nizwarf_message(&server, &whole, 1, NULL, 0, NULL) == NIZWARF_NULL);
+	CHECK(nizwarf_message(&server, &whole, 1, wide, 2, &len) == NIZWARF_TOO_LONG && len == 0);
+	CHECK(nizwarf_message(&server, huge, 3, NULL, 0, &len) == NIZWARF_TOO_LONG && len == 0);
+	CHECK(nizwarf_message(&server, NULL, 0, NULL, 0, &len) == NIZWARF_DECODE_MESSAGE);
+	memset(reply, 0xaa, sizeof(reply));
+	CHECK(nizwarf_message(&server, &whole, 1, &small, 1, &len) == NIZWARF_ENCODE_MESSAGE &&
+	      reply[0] == 0xaa);
+	CHECK(nizwarf_message(&server, &whole, 1, &ample, 1, &len) == NIZWARF_OK && len == 80 &&
+	      large[0] == 80);
+	CHECK(nizwarf_end(&server) == NIZWARF_OK && live == 0);
+}
+
+/* A file system of one node, made at a time, with an owner and permission bits. */
+static void settings(void)
+{
+	const nizwarf_settings set = { .seconds = 5,
+				       .nanoseconds = 6,
+				       .nodes = 1,
+				       .bytes = 4096,
+				       .file = 512,
+				       .uid = 7,
+				       .gid = 8,
+				       .mode = 01711 };
+	const nizwarf_settings defaults = NIZWARF_SETTINGS;
+	const struct fuse_out_header *header = (struct fuse_out_header *)reply;
+	const struct fuse_attr *attr = &((struct fuse_attr_out *)(reply + 16))->attr;
+	nizwarf_server server = NIZWARF_NONE;
+	size_t len;
+
+	CHECK(sizeof(set) == 56 && defaults.flags == 0 && defaults.nodes == 1 << 20 &&
+	      defaults.bytes == UINT64_C(4) << 30 && defaults.file == INT64_MAX && defaults.mode == 0755);
+	CHECK(nizwarf_new(&server, 4096, 4096, &set) == NIZWARF_OK);
+	getattr.header.nodeid = 1;
+	CHECK(ask(&server, &getattr, 40, 0, 120, &len) == NIZWARF_OK && len == 120 && header->error == 0);
+	CHECK(attr->mode == 041711 && attr->uid == 7 && attr->gid == 8);
+	CHECK(attr->mtime == 5 && attr->mtimensec == 6 && attr->ctime == 5 && attr->atime == 5);
+	CHECK(ask(&server, &make, 49, 0, 144, &len) == NIZWARF_OK && len == 16 && header->error == -ENOSPC);
+	CHECK(nizwarf_new(&server, 4096, 4096, NULL) == NIZWARF_OK);
+	CHECK(ask(&server, &getattr, 40, 0, 120, &len) == NIZWARF_OK && len == 120 && header->error == 0);
+	CHECK(attr->mode == 040755 && attr->uid == 0 && attr->gid == 0 && attr->mtime == 0);
+	CHECK(nizwarf_end(&server) == NIZWARF_OK && live == 0);
+	getattr.header.nodeid = 2;
+}
+
+int main(void)
+{
+	long all;
+
+	codes();
+	settings();
+	asked = 0;
+	session();
+	takes();
+	all = asked;
+	for (refused = 1; refused <= all; refused++) {
+		asked = 0;
+		session();
+		takes();
+	}
+	printf("Each of %ld allocations of two sessions was refused, and each session went on.\n", all);
+	return 0;
+}

@@ -1,0 +1,58 @@
+#!/usr/bin/env bash
+# Shows that no line of the repository is virtiofsd's: no line has twelve words in a row that stand in a
+# row in one of its four files.
+#
+# Usage: tests/oracle/own-words.sh [--source FOLDER] [FILE ..]
+# It reads the files that git has or would add, or FILE .., and prints each such line with its place. Words
+# are runs of letters, digits and _, so that neither blanks nor signs nor the ends of the Rust's lines
+# matter. The four files are those that tests/oracle/build.sh has unpacked, or FOLDER's. Status 0: there
+# is no such line.
+set -euo pipefail
+. "$(dirname "$0")/../../tools/lib/usage.sh"
+top=$(cd "$(dirname "$0")/../.." && pwd)
+
+source=$top/out/oracle/source
+if [ "${1:-}" = --source ]; then
+    [ -d "${2:-}" ] || { echo "--source wants a folder with virtiofsd's four files." >&2 && exit 2; }
+    source=$(cd "$2" && pwd)
+    shift 2
+elif [ ! -d "$source" ]; then
+    echo "There is no $source: tests/oracle/build.sh unpacks it, or --source FOLDER names the four files." >&2
+    exit 2
+fi
+files=()
+for file in "$@"; do
+    [ -f "$file" ] || { echo "There is no file $file." >&2 && exit 2; }
+    files+=("$(realpath --relative-to="$top" "$file")")
+done
+cd "$top"
+[ $# -gt 0 ] || mapfile -d '' files < <(git ls-files -z --cached --others --exclude-standard)
+[ ${#files[@]} -gt 0 ] || { echo "git has no files here: it wants git and a clone, or FILE .." >&2 && exit 2; }
+printf '%s\0' "${files[@]}" | python3 -B -c '
+import pathlib, re, sys
+sys.path.insert(0, "tests/oracle")
+import edits
+
+RUN = 12
+
+
+def runs(words):
+    return (tuple(words[at:at + RUN]) for at in range(len(words) - RUN + 1))
+
+
+theirs = set()
+for text in edits.read_source(pathlib.Path(sys.argv[1])).values():
+    theirs.update(runs(re.findall(r"\w+", text)))
+read = found = 0
+for name in sys.stdin.read().split("\0"):
+    if pathlib.Path(name).is_file() and not name.startswith("LICENSE"):
+        text = pathlib.Path(name).read_bytes().decode("latin-1")
+        for number, line in enumerate(text.split("\n"), 1):
+            read += 1
+            words = re.findall(r"\w+", line.replace("\\n", " "))
+            if any(run in theirs for run in runs(words)):
+                found += 1
+                print(f"{name}:{number}: {line.strip()[:200]}")
+print(f"{read} lines, {found} with twelve words in a row of the four files")
+sys.exit(1 if found else 0)
+' "$source"

@@ -1,0 +1,80 @@
+#!/usr/bin/env bash
+# Compares the programs with virtiofsd's own code, request by request, in sessions that are made for it.
+#
+# Usage: tests/oracle/run.sh [--source FOLDER] [--jobs N] [SEED [COUNT]]
+# COUNT requests (a million, if it isn't said) in sessions by SEED (1), half of them over the scripted file
+# system of vfs_sessions and half over the files in memory of vfs_demo, and the sessions that kernels were
+# recorded to ask. Each session is asked as it is cut, and with each request in one segment and one room.
+# Compared are answers, calls with every argument, statuses, and over the files in memory whole rooms and
+# the options agreed on, which vfs_sessions shows behind its line `refusals`. It prints how many requests of each opcode came to each
+# outcome, and where something differs the smallest request that does; progress goes to standard error.
+# The same seed and count make the same sessions.
+#
+# The proved programs run where they are built and no source is newer; otherwise tools/lib/unproved.sh builds
+# them without a proof, which takes some minutes. The Rust is virtiofsd 1.13.2's, mended as
+# docs/DIFFERENCES.md says: tests/oracle/build.sh gets it from Debian's package of its source, or from
+# FOLDER. --jobs N takes N processors, and not all.
+#
+# It wants the Rattle toolchain, rustc and Python 3; a million requests take some minutes on four
+# processors. Status 0: no difference; 1: there is one; 2: it could not start.
+set -euo pipefail
+. "$(dirname "$0")/../../tools/lib/usage.sh"
+. "$(dirname "$0")/../../tools/lib/program.sh"
+
+# Tells how it is used, and stops.
+refuse() {
+    echo "$1" >&2
+    echo "Usage: tests/oracle/run.sh [--source FOLDER] [--jobs N] [SEED [COUNT]]" >&2
+    exit 2
+}
+
+source=()
+jobs=$(nproc)
+numbers=()
+while [ $# -gt 0 ]; do
+    case $1 in
+        --source)
+            [ -d "${2:-}" ] || refuse "--source wants a folder with virtiofsd's four files."
+            source=(--source "$2")
+            shift 2
+            ;;
+        --jobs)
+            [[ ${2:-} =~ ^[1-9][0-9]*$ ]] || refuse "--jobs wants a number of processors."
+            jobs=$2
+            shift 2
+            ;;
+        *)
+            [[ $1 =~ ^[0-9]+$ ]] || refuse "$1 is no number."
+            numbers+=("$1")
+            shift
+            ;;
+    esac
+done
+[ ${#numbers[@]} -le 2 ] || refuse "There are more than two numbers."
+seed=${numbers[0]:-1}
+count=${numbers[1]:-1000000}
+[ "$count" -ge 2 ] || refuse "There are fewer than two requests."
+
+for command in python3 rustc; do
+    if ! command -v "$command" > /dev/null; then
+        echo "Missing: the command \`$command\`." >&2
+        exit 2
+    fi
+done
+
+programs=()
+for program in vfs_sessions vfs_demo; do
+    if is_built "$program"; then
+        echo "$program: proved"
+        programs+=("$here/crates/$program/out/$program")
+    else
+        echo "$program: built without a proof"
+        need_toolchain "$program"
+        programs+=("$here/out/unproved/$program")
+    fi
+done
+for program in "${programs[@]}"; do
+    [[ $program != */unproved/* ]] || echo "${program##*/}"
+done | xargs -r -n 1 -P "$jobs" "$here/tools/lib/unproved.sh" || exit 2
+"$here/tests/oracle/build.sh" "${source[@]}" || exit 2
+exec python3 -B "$here/tests/oracle/compare.py" "$seed" "$count" "$jobs" "$here/out/oracle/later" "${programs[@]}"

@@ -1,0 +1,50 @@
+#!/usr/bin/env bash
+# Shows that the sessions of tests/oracle/run.sh are sharp: wrong bodies of virtiofsd's code are built one
+# after another, and each must answer some session otherwise than the right one.
+#
+# Usage: tests/oracle/sharpness.sh [--source FOLDER] [--jobs N] [--only TEXT] [SEED [COUNT]]
+# The wrong bodies are those of wrong-bodies.txt, or those with TEXT in their line. The sessions are of
+# COUNT requests (40,000) by SEED (1), cut and flat, half of them over each file system. It prints each
+# wrong body that survives them, or that can't be built, and their count. A body that does not end counts
+# as caught. Status 0: all are caught. It takes some minutes on four processors.
+set -euo pipefail
+. "$(dirname "$0")/../../tools/lib/usage.sh"
+here=$(cd "$(dirname "$0")" && pwd)
+
+# Tells how it is used, and stops.
+refuse() {
+    echo "$1" >&2
+    echo "Usage: tests/oracle/sharpness.sh [--source FOLDER] [--jobs N] [--only TEXT] [SEED [COUNT]]" >&2
+    exit 2
+}
+
+source=() jobs=$(nproc) only='' numbers=()
+while [ $# -gt 0 ]; do
+    case $1 in
+        --source)
+            [ -d "${2:-}" ] || refuse "--source wants a folder with virtiofsd's four files."
+            source=(--source "$2")
+            shift 2
+            ;;
+        --jobs)
+            [[ ${2:-} =~ ^[1-9][0-9]*$ ]] || refuse "--jobs wants a number of processors."
+            jobs=$2
+            shift 2
+            ;;
+        --only)
+            [ -n "${2:-}" ] || refuse "--only wants a part of a line of wrong-bodies.txt."
+            only=$2
+            shift 2
+            ;;
+        *)
+            [[ $1 =~ ^[0-9]+$ ]] || refuse "$1 is no number."
+            numbers+=("$1")
+            shift
+            ;;
+    esac
+done
+[ ${#numbers[@]} -le 2 ] || refuse "There are more than two numbers."
+"$here/build.sh" "${source[@]}"
+folder=$(mktemp -d)
+trap 'rm -rf "$folder"' EXIT
+python3 -B "$here/sharpness.py" "${numbers[0]:-1}" "${numbers[1]:-40000}" "$jobs" "$here/../../out/oracle" "$folder" "$only"

@@ -1,0 +1,308 @@
+"""Ends of a share, for tools/share.sh: a request that waits, for a lease or a file system that does not answer, or
+an event that is full, keeps nobody: neither the next front end, nor a signal. And what is unmounted is what was
+mounted. Usage: ends.py SHARE WORK [WORDS]; and for tools/mount.sh ends.py --tree MOUNT VHOST WORK. It
+wants root, in a namespace of mounts of its own."""
+
+import atexit, ctypes, fcntl, mmap, os, select, signal, socket, struct, subprocess, sys, time
+
+of_tree = sys.argv[1] == "--tree"
+if of_tree:
+    tree_mount, tree_vhost, work, *words = sys.argv[2:]
+else:
+    share, work, *words = sys.argv[1:]
+SOON = 4
+folder, path, point = work + "/ends", work + "/ends.socket", work + "/above/point"
+libc = ctypes.CDLL(None, use_errno=True)
+faults = []
+signal.signal(signal.SIGIO, signal.SIG_IGN)
+
+
+def hold(fact, what):
+    if not fact:
+        faults.append(what)
+        print(f"FAILED: {what}", file=sys.stderr, flush=True)
+
+
+def wait_for(fact, most=SOON):
+    until = time.monotonic() + most
+    while not fact() and time.monotonic() < until:
+        time.sleep(0.02)
+    return fact()
+
+
+def mount(kind, place, options=""):
+    if libc.mount(b"none", place.encode(), kind.encode(), 0, options.encode()):
+        raise OSError(ctypes.get_errno(), place)
+
+
+def mounted(place):
+    with open("/proc/self/mounts") as lines:
+        return [line.split()[2] for line in lines if line.split()[1] == os.path.realpath(place)]
+
+
+class Hung:
+    """A file system that answers INIT and nothing else, mounted on a folder."""
+
+    def __init__(self, place):
+        self.place, self.device = place, os.open("/dev/fuse", os.O_RDWR)
+        mount("fuse.hung", place, f"fd={self.device},rootmode=40000,user_id=0,group_id=0")
+        unique = struct.unpack_from("<Q", os.read(self.device, 1 << 16), 8)[0]
+        body = struct.pack("<IIII", 7, 31, 0, 0) + bytes(48)
+        os.write(self.device, struct.pack("<IiQ", 16 + len(body), 0, unique) + body)
+
+    def end(self):
+        """What waits for it is answered with an error."""
+        os.close(self.device)
+        libc.umount2(self.place.encode(), 2)
+
+
+class Front:
+    """A front end whose memory has one queue of requests. What is posted is not waited for."""
+
+    REQUESTS, ROOMS, SIZE = 1 << 20, 2 << 20, 4 << 20
+
+    def __init__(self):
+        self.socket = socket.socket(socket.AF_UNIX)
+        self.socket.settimeout(SOON)
+        wait_for(lambda: not self.socket.connect_ex(path))
+        memory = os.memfd_create("memory")
+        os.ftruncate(memory, self.SIZE)
+        self.memory = mmap.mmap(memory, self.SIZE)
+        self.kick, self.call, self.posted = os.eventfd(0), os.eventfd(0, os.EFD_NONBLOCK), 0
+        self.tell(2, struct.pack("<Q", 1 << 32 | 1 << 30))
+        self.tell(5, struct.pack("<IIQQQQ", 1, 0, 0, self.SIZE, 1 << 32, 0), memory)
+        self.tell(8, struct.pack("<II", 1, 64))
+        self.tell(9, struct.pack("<IIQQQQ", 1, 0, 1 << 32, (1 << 32) + 0x8000, (1 << 32) + 0x4000, 0))
+        self.tell(13, struct.pack("<Q", 1), self.call)
+        self.tell(12, struct.pack("<Q", 1), self.kick)
+        self.tell(18, struct.pack("<II", 1, 1))
+        os.close(memory)
+
+    def tell(self, request, body, *fds):
+        socket.send_fds(self.socket, [struct.pack("<III", request, 1, len(body)) + body], fds)
+
+    def post(self, opcode, body=b"", node=1):
+        number = self.posted % 32
+        request, room = self.REQUESTS + number * 4096, self.ROOMS + number * 4096
+        data = struct.pack("<IIQQIIIHH", 40 + len(body), opcode, 2, node, 0, 0, 1, 0, 0) + body
+        self.memory[request:request + len(data)] = data
+        self.memory[number * 32:number * 32 + 32] = struct.pack("<QIHHQIHH", request, len(data), 1, 2 * number + 1, room,
+                                                                256, 2, 0)
+        place = 0x4004 + 2 * (self.posted % 64)
+        self.memory[place:place + 2] = struct.pack("<H", 2 * number)
+        self.posted += 1
+        self.memory[0x4002:0x4004] = struct.pack("<H", self.posted)
+        os.eventfd_write(self.kick, 1)
+        return room
+
+    def done(self):
+        return struct.unpack_from("<H", self.memory, 0x8002)[0]
+
+    def ask(self, opcode, body=b"", node=1):
+        """The error of the reply, and what is behind its header; None where none comes."""
+        before, room = self.done(), self.post(opcode, body, node)
+        if not wait_for(lambda: self.done() != before):
+            return None, b""
+        return -struct.unpack_from("<i", self.memory, room + 4)[0], self.memory[room + 16:room + 256]
+
+    def init(self):
+        return self.ask(26, struct.pack("<IIII", 7, 38, 1 << 20, 1 << 30) + bytes(48))[0]
+
+    def hang_up(self):
+        self.socket.close()
+        os.close(self.kick)
+        os.close(self.call)
+
+
+class Server:
+    def __init__(self, *more, program=None):
+        self.mounts = point in more
+        self.process = subprocess.Popen([*(program or [share, "--log-level=error", *words]), *more])
+        atexit.register(self.process.kill)
+        if not wait_for(lambda: mounted(point) if self.mounts else os.path.exists(path), 20):
+            raise OSError("there is no server")
+
+    def child(self):
+        with open(f"/proc/{self.process.pid}/task/{self.process.pid}/children") as children:
+            return int((children.read().split() or [self.process.pid])[0])
+
+    def ends(self, what, *signals, wanted=0):
+        """Ends by signals to itself, or others that are named."""
+        from_then = time.monotonic()
+        for it, number in signals or ((self.process.pid, signal.SIGTERM),):
+            os.kill(it, number)
+        try:
+            came = self.process.wait(SOON)
+        except subprocess.TimeoutExpired:
+            came = "no end"
+            os.kill(self.child(), signal.SIGKILL)
+            self.process.kill()
+            self.process.wait()
+        hold(came == wanted, f"{what}: {came}")
+        hold(not os.path.exists(path), f"{what}: the socket is left")
+        libc.umount2(point.encode(), 10) if self.mounts and "fuse.nizwarf" in mounted(point) else None
+        return time.monotonic() - from_then
+
+
+def leased(name="leased"):
+    """A file with a lease, which holds up who opens it for some time."""
+    with open(f"{folder}/{name}", "w"):
+        pass
+    fd = os.open(f"{folder}/{name}", os.O_RDWR)
+    fcntl.fcntl(fd, fcntl.F_SETLEASE, fcntl.F_WRLCK)
+    return fd
+
+
+def next_is_served(what):
+    one = Front()
+    hold(one.init() == 0 and one.ask(3, bytes(16))[0] == 0, f"{what}: the next front end is not served")
+    return one
+
+
+def fill(event):
+    """Makes an event full, so that who writes to it waits."""
+    while select.select([event], [], [], 0.2)[0]:
+        os.eventfd_read(event)
+    os.eventfd_write(event, 2**64 - 2)
+    fcntl.fcntl(event, fcntl.F_SETFL, fcntl.fcntl(event, fcntl.F_GETFL) & ~os.O_NONBLOCK)
+
+
+def full_event(ends_by_signal, program=None):
+    """A front end whose call is full, and makes the server wait for that."""
+    server, one = Server(*([path] if program else ["--socket-path=" + path, folder]), program=program), Front()
+    hold(one.init() == 0, "a front end is not served")
+    fill(one.call)
+    for _ in range(8):
+        one.post(3, bytes(16))
+    time.sleep(0.3)
+    kept = os.dup(one.call)
+    if not ends_by_signal:
+        one.hang_up()
+        next_is_served("a full event").hang_up()
+    server.ends("a signal while an event is full")
+    os.close(kept)
+
+
+def waits_for_lease(ends_by_signal):
+    server, one = Server("--socket-path=" + path, folder), Front()
+    one.init()
+    node = struct.unpack_from("<Q", one.ask(1, b"leased\0")[1])[0]
+    lease = leased()
+    one.post(14, bytes(8), node)
+    time.sleep(0.3)
+    if not ends_by_signal:
+        one.hang_up()
+        next_is_served("a lease").hang_up()
+    server.ends("a signal while a lease is waited for")
+    os.close(lease)
+
+
+def waits_for_file_system(ends_by_signal):
+    """Each worker waits for what no signal ends. Once it is there no front end is touched by it."""
+    hung = Hung(folder + "/hung")
+    server, one = Server("--socket-path=" + path, "--thread-pool-size=2", folder), Front()
+    one.init()
+    if ends_by_signal:
+        one.post(1, b"hung\0")
+        one.post(1, b"hung\0")
+        # (a message waits until no request is in flight)
+        one.tell(18, struct.pack("<II", 1, 1))
+        time.sleep(0.3)
+        server.ends("a signal while a file system does not answer")
+        return hung.end()
+    for _ in range(3):
+        for _ in range(2):
+            one.post(1, b"hung\0")
+        one.tell(18, struct.pack("<II", 1, 1))
+        time.sleep(0.3)
+        before = one.done()
+        one.hang_up()
+        other = next_is_served("a file system that does not answer")
+        hold(one.done() == before, "a request was completed that had no front end")
+        one = other
+    hung.end()
+    for _ in range(20):
+        hold(one.ask(3, bytes(16))[0] == 0, "a front end, once a file system answers")
+    one.hang_up()
+    next_is_served("a file system that answered late").hang_up()
+    server.ends("a signal, once a file system answers")
+    return None
+
+
+def mount_waits(how, *sandbox):
+    """Who uses the mount waits, and a signal ends it."""
+    hung = Hung(folder + "/hung") if how == "a file system" else None
+    server = Server(*sandbox, folder, point)
+    lease = None if hung else leased()
+    user = subprocess.Popen(["cat", point + ("/hung" if hung else "/leased")], stdout=subprocess.DEVNULL,
+                            stderr=subprocess.DEVNULL)
+    time.sleep(0.5)
+    what = f"a signal while {how} is waited for over a mount with {sandbox}"
+    server.ends(what)
+    hold(not mounted(point), f"{what}: it is mounted")
+    hold(wait_for(lambda: user.poll() is not None), f"{what}: who waited still waits")
+    if hung:
+        hung.end()
+    else:
+        os.close(lease)
+
+
+def link_above(*sandbox, program=None):
+    """A link takes the place of the folder above the mount point: what it leads to stays mounted."""
+    server = Server(*sandbox, *([] if program else [folder]), point, program=program)
+    other = work + "/other/point"
+    mount("tmpfs", other)
+    os.rename(work + "/above", work + "/moved")
+    os.symlink(work + "/other", work + "/above")
+    server.ends(f"a signal, with a link above the mount point, with {sandbox}")
+    hold(mounted(other), f"another file system was unmounted with {sandbox}")
+    hold(not mounted(work + "/moved/point"), f"the mount is left with {sandbox}")
+    os.unlink(work + "/above")
+    os.rename(work + "/moved", work + "/above")
+    libc.umount2(point.encode(), 2)
+    libc.umount2(other.encode(), 2)
+
+
+def each_alone():
+    """Signals to the process that serves, and to both."""
+    for which in ("the server", "both", "both, the server first"):
+        server = Server(folder, point)
+        parent, child = (server.process.pid, signal.SIGTERM), (server.child(), signal.SIGTERM)
+        server.ends(f"a signal to {which}",
+                    *{"the server": [child], "both": [parent, child]}.get(which, [child, parent]))
+        hold(not mounted(point), f"a signal to {which}: it is mounted")
+    for is_ready in (False, True):
+        server = Server("--socket-path=" + path, folder)
+        if is_ready:
+            Front().init()
+        wait_for(lambda it=server: it.child() != it.process.pid)
+        child = server.child()
+        os.kill(server.process.pid, signal.SIGKILL)
+        server.process.wait()
+        hold(wait_for(lambda it=child: not os.path.exists(f"/proc/{it}")), "the server outlives what stood by")
+        os.unlink(path)
+
+
+for name in ("ends", "ends/hung", "above", "above/point", "other", "other/point"):
+    os.mkdir(f"{work}/{name}")
+with open(folder + "/leased", "w"):
+    pass
+if of_tree:
+    full_event(False, [tree_vhost])
+    full_event(True, [tree_vhost])
+    link_above(program=[tree_mount])
+    print("A full event keeps nobody, and what is unmounted is what was mounted.")
+    sys.exit(1 if faults else 0)
+for ends_by_signal in (False, True):
+    full_event(ends_by_signal)
+    waits_for_lease(ends_by_signal)
+    waits_for_file_system(ends_by_signal)
+alone = "--sandbox=none" in words
+for sandbox in ([[]] if alone else [["--sandbox=namespace"], ["--sandbox=none"]]):
+    mount_waits("a lease", *sandbox)
+    mount_waits("a file system", *sandbox)
+    link_above(*sandbox)
+if not alone:
+    each_alone()
+print(f"What waits keeps nobody, and what is unmounted is what was mounted{', with ' if words else ''}{' '.join(words)}.")
+sys.exit(1 if faults else 0)

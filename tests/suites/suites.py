@@ -1,0 +1,720 @@
+"""Runs the suites of others in a folder each, and says where folders differ: what tests/suites/run.sh calls.
+
+Each suite is a process of its own, in namespaces of its own, which prints a line for each case: its name, a tab,
+and what came: ok, failed, skipped or something longer."""
+import argparse
+import fnmatch
+import os
+import signal
+import subprocess
+import sys
+import tempfile
+import time
+import xml.etree.ElementTree
+from collections import Counter
+from concurrent.futures import ThreadPoolExecutor
+from pathlib import Path
+
+HERE = Path(__file__).resolve().parent
+SECONDS = {"cpython": 900, "coreutils": 1200, "test_syscalls": 60, "posixtest": 120, "stress-ng": 600, "fio": 240,
+           "sqlite": 240, "pgbench": 300, "git": 300, "rsync": 180, "tar": 180, "cp": 180, "names": 600}
+ABOUT = {
+    "cpython": "CPython's tests of files, of its package libpython3-testsuite, case by case",
+    "coreutils": "the checks of GNU coreutils that make files, script by script",
+    "test_syscalls": "libfuse's test of system calls",
+    "posixtest": "go-fuse's test of what POSIX says",
+    "stress-ng": "each stressor of stress-ng's class filesystem, with --verify",
+    "fio": "fio with --verify: buffered, direct, mapped, with several jobs",
+    "sqlite": "sqlite in each journal mode, by four writers, and killed; then its integrity_check",
+    "pgbench": "PostgreSQL's pgbench; the server is killed, recovers, and its sums and checksums are checked",
+    "git": "git: clone, fsck, gc, checkout, worktree, rebase",
+    "rsync": "rsync -aHAX of files of all kinds, and what it kept",
+    "tar": "tar of the same, and what it kept",
+    "cp": "cp -a of the same, and what it kept",
+    "names": "100,000 names in a directory",
+}
+NOBODY = ["setpriv", "--reuid=65534", "--regid=65534", "--clear-groups"]
+# What is started so does not outlive this program.
+ENDS_WITH_THIS = ["setpriv", "--pdeathsig=KILL"]
+
+
+# What a suite has while it runs.
+
+class Run:
+    def __init__(self, folder, there, quick):
+        self.folder, self.there, self.quick = Path(folder), Path(there), quick
+        root = self.there / "root"
+        programs = [f"{root}/{folder}" for folder in ("usr/bin", "usr/sbin", "bin", "sbin")]
+        path = ":".join([*programs, os.environ["PATH"], "/usr/sbin", "/sbin"])
+        self.env = dict(os.environ, LC_ALL="C", TMPDIR=str(self.folder), HOME=str(self.folder), PATH=path)
+        self.env["LD_LIBRARY_PATH"] = f"{root}/usr/lib/x86_64-linux-gnu:{root}/lib/x86_64-linux-gnu"
+
+    def call(self, words, seconds=600, said=True, **more):
+        """The status and what it said of a command, or of a line of the shell. Who is late is ended."""
+        words = ["bash", "-c", words] if isinstance(words, str) else [str(word) for word in words]
+        more = {"cwd": self.folder, "env": self.env} | more
+        with subprocess.Popen(words, stdin=subprocess.DEVNULL, stdout=subprocess.PIPE, stderr=subprocess.STDOUT,
+                              start_new_session=True, **more) as process:
+            try:
+                text, _ = process.communicate(timeout=seconds)
+            except subprocess.TimeoutExpired:
+                os.killpg(process.pid, signal.SIGKILL)
+                text, _ = process.communicate()
+                text += b"\n(it did not end)"
+        text = text.decode(errors="replace")
+        if said and (process.returncode or said == "always"):
+            print(f"$ {' '.join(words)}\n{text}\n(status {process.returncode})", file=sys.stderr, flush=True)
+        return process.returncode, text
+
+    def case(self, name, came):
+        print(f"{name}\t{came}", flush=True)
+
+    def step(self, name, line, wanted=None, seconds=600, **more):
+        """A case that is right if the line succeeds, and says what is wanted."""
+        status, text = self.call(line, seconds, **more)
+        came = "ok" if status == 0 and wanted in (None, text.strip()) else "failed"
+        if came == "failed" and status == 0:
+            print(f"$ {line}\nwanted: {wanted}\ncame: {text}", file=sys.stderr, flush=True)
+        self.case(name, came)
+        return came == "ok"
+
+
+# CPython, coreutils, and the tests of libfuse and go-fuse.
+
+CPYTHON = """test_os test_posix test_shutil test_pathlib test_glob test_mmap test_fcntl test_tempfile test_tarfile
+    test_zipfile test_filecmp test_file test_fileio test_io test_stat test_genericpath test_posixpath test_mailbox
+    test_dbm test_dbm_dumb test_dbm_gnu test_dbm_ndbm test_shelve test_unicode_file test_unicode_file_functions
+    test_bz2 test_gzip test_lzma test_py_compile test_zipapp test_zipimport test_runpy
+    test_cmd_line_script test_import test_importlib test_selectors test_netrc test_fileinput test_pkgutil
+    test_modulefinder test_logging""".split()
+CPYTHON_QUICK = "test_os test_posix test_shutil test_pathlib test_mmap test_fcntl test_tempfile test_tarfile".split()
+
+
+def cpython(run):
+    python = run.there / "cpython/usr/bin/python3"
+    modules = CPYTHON_QUICK if run.quick else CPYTHON
+    cases = run.folder / "cases.xml"
+    env = dict(run.env)
+    del env["LD_LIBRARY_PATH"]
+    _, text = run.call([python, "-m", "test", "-j2", "--timeout=200", f"--tempdir={run.folder}", "-u",
+                        "all,-largefile,-network,-urlfetch,-audio,-gui,-cpu", "--ignore", "*LargeMmapTests*",
+                        f"--junit-xml={cases}", *modules],
+                       SECONDS["cpython"], said="always", env=env)
+    told = Counter()
+    worst = ["ok", "skipped", "failed"]
+    came = {}
+    for case in xml.etree.ElementTree.parse(cases).iter("testcase"):
+        parts = {part.tag for part in case}
+        is_so = "failed" if parts & {"failure", "error"} else "skipped" if "skipped" in parts else "ok"
+        name = case.get("name").split(" ")[0].removeprefix("test.")
+        came[name] = max(came.get(name, "ok"), is_so, key=worst.index)
+        if is_so == "failed":
+            told[name.split(".")[0]] += 1
+    for name, is_so in came.items():
+        run.case(name, is_so)
+    # What failed as a whole, and has no case that did.
+    for module in modules:
+        for line in text.splitlines():
+            words = line.split()
+            if module in words and ("failed" in words or "crashed" in words) and not told[module]:
+                run.case(module, "failed")
+                break
+
+
+COREUTILS = ("cp mv rm ls touch ln mkdir rmdir install du dd chmod chown chgrp misc").split()
+# Beside those of other matters, what takes minutes or wants a file system of its own.
+COREUTILS_BUT = """*big* *abuse* *capability* *selinux* *chcon* *smack* dd/no-allocate* dd/stderr* du/long-from*
+    ls/stat-free* rm/ext3-perf* rm/many-dir*""".split()
+COREUTILS_MISC = """truncate* stat-* readlink* realpath* mknod* mktemp* tee* shred* sync* split-* tac* nl* tail* head*
+    cat-* csplit* df* timeout-* sort-merge* ptx* test-N* fmt-long* coreutils*""".split()
+
+
+def coreutils(run):
+    built = run.there / "coreutils"
+    env = dict(part.split("=", 1) for part in (built / "environment").read_bytes().decode().split("\0") if "=" in part)
+    env |= {"TMPDIR": str(run.folder), "NON_ROOT_USERNAME": "nobody", "PWD": str(run.folder)}
+    env["PATH"] = f"{built}/src:{run.env['PATH']}"
+    root = run.there / "root/usr/lib/x86_64-linux-gnu"
+    env["LD_LIBRARY_PATH"] = str(root)
+    for entry in built.iterdir():
+        (run.folder / entry.name).symlink_to(entry)
+    scripts = []
+    for script in sorted((built / "tests").glob("*/*.sh")):
+        name = f"{script.parent.name}/{script.stem}"
+        if script.parent.name not in COREUTILS or any(fnmatch.fnmatch(name, but) for but in COREUTILS_BUT):
+            continue
+        if script.parent.name != "misc" or any(fnmatch.fnmatch(script.stem, of) for of in COREUTILS_MISC):
+            scripts.append((name, script))
+    if run.quick:
+        scripts = [(name, script) for name, script in scripts if name.split("/")[0] in ("cp", "mv", "rm", "mkdir")]
+
+    def check(named):
+        name, script = named
+        # 9 is where they say why they skip.
+        status, text = run.call(f"exec 9>&2; exec /bin/sh {script}", 100, said=False,
+                                env=env | {"CU_TEST_NAME": f"coreutils,{name.replace('/', '-')}"})
+        if status:
+            print(f"== {name}: {status}\n{text[-300 if status == 77 else -3000:]}", file=sys.stderr, flush=True)
+        return name, {0: "ok", 77: "skipped", -9: "did not end"}.get(status, "failed")
+
+    with ThreadPoolExecutor(2) as pool:
+        for name, came in pool.map(check, scripts):
+            run.case(name, came)
+
+
+def test_syscalls(run):
+    (run.folder / "folder").mkdir()
+    _, text = run.call([run.there / "test_syscalls", run.folder / "folder"], 50, said="always")
+    for line in text.splitlines():
+        if line[:4].strip().isdigit() and "[" in line:
+            name = line[line.index("[") + 1:line.rindex("]")]
+            run.case(name, "ok" if line.endswith("] OK") else "failed")
+
+
+def posixtest(run):
+    _, text = run.call([run.there / "posixtest", "-test.v"], 110, said="always")
+    for line in text.splitlines():
+        words = line.split()
+        if len(words) > 2 and words[0] == "---" and "/" in words[2]:
+            run.case(words[2].split("/", 1)[1], {"PASS:": "ok", "SKIP:": "skipped"}.get(words[1], "failed"))
+
+
+# Load, with what was written looked at.
+
+# What mounts by itself, or is disabled.
+STRESS_BUT = {"binderfs", "bind-mount", "ramfs", "quota"}
+
+
+def stress_ng(run):
+    _, text = run.call(["stress-ng", "--class", "filesystem?"], 20, said=False)
+    stressors = [name for name in text.split(":", 1)[1].split() if name not in STRESS_BUT]
+    for name in stressors[::4] if run.quick else stressors:
+        status, text = run.call(["stress-ng", f"--{name}", "1", "--timeout", "1s", "--verify", "--oomable",
+                                 "--temp-path", run.folder], 60, said=False)
+        came = "ok"
+        if status:
+            came = {-9: "did not end", 3: "skipped", 4: "skipped"}.get(status, "failed")
+        elif "skipped: 1" in text or "skipping" in text:
+            came = "skipped"
+        if came not in ("ok", "skipped"):
+            print(f"== {name}: {status}\n{text}", file=sys.stderr, flush=True)
+        run.case(name, came)
+
+
+def fio(run):
+    size = "8m" if run.quick else "64m"
+    jobs = {
+        "buffered, two jobs, crc32c": "--rw=randrw --bs=512-256k --numjobs=2 --verify=crc32c",
+        "direct, md5": "--rw=randwrite --bs=4k --direct=1 --verify=md5",
+        "mapped, sha1": "--ioengine=mmap --rw=randwrite --bs=4k --verify=sha1",
+        "libaio, depth 16, xxhash": "--ioengine=libaio --iodepth=16 --direct=1 --rw=randwrite --bs=16k --verify=xxhash",
+        "sequential, fsync, crc64": "--rw=write --bs=1m --fsync=8 --verify=crc64",
+        "verified while written": "--rw=randwrite --bs=8k --verify=crc32c --verify_backlog=64",
+    }
+    for name, words in jobs.items():
+        run.step(name, f"fio --name=v --directory=. --size={size} {words} --do_verify=1 --verify_fatal=1 --thread "
+                 "--group_reporting --output-format=terse && rm -f v.*")
+
+
+SQLITE = """PRAGMA journal_mode={mode}; CREATE TABLE a(i INTEGER PRIMARY KEY, t TEXT);
+WITH RECURSIVE c(x) AS (SELECT 1 UNION ALL SELECT x+1 FROM c WHERE x<{rows})
+INSERT INTO a SELECT x, hex(randomblob(20)) FROM c;
+CREATE INDEX b ON a(t); DELETE FROM a WHERE i%3=0; VACUUM; PRAGMA integrity_check; SELECT count(*) FROM a;"""
+
+
+def sqlite(run):
+    rows = 9000 if run.quick else 90000
+    for mode in ("delete", "truncate", "persist", "memory", "wal"):
+        run.step(mode, f"sqlite3 {mode}.db '{SQLITE.format(mode=mode, rows=rows)}'", f"{mode}\nok\n{rows - rows // 3}")
+    run.step("four writers, wal", """sqlite3 w.db 'PRAGMA journal_mode=WAL; CREATE TABLE q(i);' > w.mode
+        for i in 1 2 3 4; do
+            (for k in $(seq 25); do sqlite3 -cmd '.timeout 20000' w.db "INSERT INTO q VALUES($k)"; done) &
+        done
+        wait; sqlite3 w.db 'SELECT count(*) FROM q; PRAGMA integrity_check'""", "100\nok")
+    run.call(["sqlite3", "k.db", "PRAGMA journal_mode=DELETE; CREATE TABLE a(i); INSERT INTO a VALUES(1)"])
+    with subprocess.Popen(["sqlite3", "k.db"], stdin=subprocess.PIPE, cwd=run.folder, env=run.env) as writer:
+        writer.stdin.write(b"PRAGMA cache_size=10; BEGIN;")
+        writer.stdin.write(b"".join(b"INSERT INTO a VALUES(%d);\n" % i for i in range(20000)))
+        writer.stdin.flush()
+        time.sleep(1)
+        writer.kill()
+    run.step("killed in a transaction", "sqlite3 k.db 'SELECT count(*) FROM a; PRAGMA integrity_check'", "1\nok")
+
+
+def kill_all(name):
+    """Kills each process of a name, of those that the namespace of the suite has."""
+    for folder in Path("/proc").glob("[0-9]*"):
+        try:
+            if (folder / "comm").read_text().strip() == name:
+                os.kill(int(folder.name), signal.SIGKILL)
+        except (FileNotFoundError, ProcessLookupError):
+            pass
+
+
+def pgbench(run):
+    own = run.folder / "postgres"
+    own.mkdir()
+    os.chown(own, 65534, 65534)
+    # Its socket is elsewhere: a socket in the folder is a case of other suites.
+    sockets = Path(tempfile.mkdtemp(prefix="nizwarf-"))
+    os.chown(sockets, 65534, 65534)
+    bins = sorted([*Path("/usr/lib/postgresql").glob("*/bin"), *(run.there / "root/usr/lib/postgresql").glob("*/bin")])
+    run.env |= {"PATH": f"{bins[-1]}:{run.env['PATH']}", "PGHOST": str(sockets), "PGUSER": "postgres",
+                "PGDATABASE": "postgres"}
+    client = {"env": run.env, "cwd": own}
+
+    def as_nobody(name, words, wanted=None):
+        return run.step(name, " ".join([*NOBODY, words]), wanted, 120, **client)
+
+    def query(name, text, wanted):
+        run.step(name, f'psql -AtX -c "{text}"', wanted, 60, **client)
+
+    def start(name):
+        return as_nobody(name, f"pg_ctl -w -t 60 -D data -l said -o '-k {sockets} -c listen_addresses= "
+                         "-c shared_buffers=16MB -c max_connections=20' start > started")
+
+    run.step("init", " ".join([*NOBODY, "initdb -D data -U postgres -A trust --data-checksums > made"]), **client)
+    if not start("start"):
+        return
+    scale = 1 if run.quick else 3
+    run.step("pgbench -i", f"pgbench -i -q -s {scale} > filled 2>&1", **client)
+    with subprocess.Popen(["bash", "-c", f"pgbench -n -c 4 -j 2 -T {4 if run.quick else 12} > {sockets}/ran 2>&1"],
+                          stdin=subprocess.DEVNULL, **client) as load:
+        time.sleep(2 if run.quick else 8)
+        kill_all("postgres")
+        load.wait(60)
+    done = [line for line in (sockets / "ran").read_text().splitlines() if "actually processed" in line]
+    done = int(done[0].split(":")[1].split("/")[0]) if done else 0
+    time.sleep(0.5)
+    if not start("recovery"):
+        return
+    query("nothing committed is lost", f"SELECT count(*) >= {done} AND {done} > 0 FROM pgbench_history", "t")
+    for table in ("accounts", "branches", "tellers"):
+        query(f"sum of {table}", f"SELECT (SELECT sum({table[0]}balance) FROM pgbench_{table}) = "
+              "(SELECT coalesce(sum(delta), 0) FROM pgbench_history)", "t")
+    query("vacuum", "VACUUM FULL pgbench_accounts", "VACUUM")
+    as_nobody("stop", "pg_ctl -w -D data -m fast stop > stopped")
+    as_nobody("checksums", "pg_checksums --check -D data > checked")
+
+
+def git(run):
+    source = HERE.parent.parent.parent
+    status, _ = run.call(["git", "-c", "safe.directory=*", "-C", source, "rev-parse", "HEAD~5"], said=False)
+    run.env |= {f"GIT_{who}_{what}": "suites" for who in ("AUTHOR", "COMMITTER") for what in ("NAME", "EMAIL")}
+    run.env |= {"GIT_CONFIG_COUNT": "2", "GIT_CONFIG_KEY_0": "safe.directory", "GIT_CONFIG_VALUE_0": "*",
+                "GIT_CONFIG_KEY_1": "gc.auto", "GIT_CONFIG_VALUE_1": "0"}
+    if status:
+        run.call(f"git init -q made && cd made && cp -r '{source}/docs' . && git add . && git commit -qm 0 && "
+                 "for i in $(seq 20); do echo $i >> docs/n && git add . && git commit -qm $i; done")
+        source = run.folder / "made"
+    _, commits = run.call(["git", "-C", source, "rev-list", "--count", "HEAD"], said=False)
+    run.step("clone", f"git clone -q --no-hardlinks 'file://{source}' g" + (" --depth 50" if run.quick else ""))
+    inside = {"cwd": run.folder / "g"}
+    run.step("fsck", "git fsck --full 2>&1 | grep -v -e ^dangling -e ^notice; git status --short", "", **inside)
+    if not run.quick:
+        run.step("history", "git rev-list --count HEAD", commits.strip(), **inside)
+    run.step("checkout", "git checkout -q HEAD~5 && git checkout -q - && git status --short", "", **inside)
+    run.step("commit, and rebase on an earlier one", "echo x >> new && git add new && git commit -qm t && "
+             "git checkout -qb b HEAD~3 && echo y > other && git add other && git commit -qm u && git rebase -q - && "
+             "cat new other", "x\ny", **inside)
+    run.step("worktree", "git worktree add -q ../w HEAD~2 && git -C ../w status --short && "
+             "git worktree remove ../w", "", **inside)
+    run.step("gc", "git gc -q --prune=now && git fsck --full 2>&1 | grep -v -e ^dangling -e ^notice || true", "",
+             **inside)
+    run.step("repack", "git repack -qadf --depth=5 && git fsck --full && git status --short", None, **inside)
+    run.step("removed", "rm -rf g made && ls -A", "")
+
+
+# What copies, and what it keeps.
+
+def make_sample(folder):
+    """Files of all kinds and modes, the same each time."""
+    folder.mkdir(parents=True)
+    for i in range(12):
+        (folder / f"d{i}" / "below").mkdir(parents=True)
+        for j in range(60):
+            file = folder / f"d{i}" / ("below" if j % 2 else ".") / f"file {j}"
+            file.write_bytes(b"%d " % (i * j) * (j * j * (40 if j % 20 == 19 else 1)))
+            os.chown(file, j % 5, i % 7)
+            file.chmod((0o644, 0o755, 0o600, 0o4755, 0o2755, 0o444, 0, 0o6711)[j % 8])
+            if j % 7 == 0:
+                os.link(file, folder / f"d{i}" / f"link {j}")
+            if j % 9 == 0:
+                (folder / f"d{i}" / f"symbolic {j}").symlink_to(file.name * (j % 4 + 1))
+            if j % 11 == 0:
+                os.setxattr(file, "user.nizwarf", b"value %d" % j)
+    (folder / os.fsdecode(b"\xff\xfe \n\t")).write_text("an odd name")
+    (folder / ("n" * 255)).write_text("a long name")
+    with open(folder / "holes", "wb") as file:
+        file.seek(3 << 20)
+        file.write(b"end")
+    (folder / "empty").touch()
+    for i, folder_too in enumerate(sorted(folder.glob("d*"))):
+        folder_too.chmod((0o755, 0o1777, 0o2755, 0o700)[i % 4])
+    for root, folders, files in os.walk(folder):
+        for i, name in enumerate(sorted(folders + files)):
+            times = (10**18 + i, (10**9 + 86400 * i) * 10**9 + 123456789 + i)
+            os.utime(Path(root) / name, ns=times, follow_symlinks=False)
+
+
+def make_trusted(folder):
+    folder.mkdir()
+    for i in range(5):
+        (folder / f"file{i}").touch()
+        os.setxattr(folder / f"file{i}", "trusted.nizwarf", bytes(range(i * 40)))
+
+
+def make_special(folder):
+    folder.mkdir()
+    os.mkfifo(folder / "fifo")
+    os.mknod(folder / "character", 0o020640, os.makedev(1, 3))
+    os.mknod(folder / "block", 0o060640, os.makedev(7, 77))
+    os.mknod(folder / "socket", 0o140755)
+
+
+def facts(folder):
+    """Of each name below a folder what is to be kept, by kind."""
+    found = {}
+    for root, folders, files in os.walk(folder):
+        for name in folders + files:
+            path = os.path.join(root, name)
+            is_so = os.lstat(path)
+            kind = is_so.st_mode & 0o170000
+            xattrs = {}
+            if kind in (0o100000, 0o040000):
+                xattrs = {key: os.getxattr(path, key) for key in os.listxattr(path) if not key.startswith("security.")}
+            contents = b""
+            if kind == 0o100000:
+                with open(path, "rb") as file:
+                    contents = file.read()
+            found[os.path.relpath(path, folder)] = {
+                "modes": is_so.st_mode, "owners": (is_so.st_uid, is_so.st_gid), "times": is_so.st_mtime_ns,
+                "hard links": is_so.st_nlink if kind != 0o040000 else 0, "devices": is_so.st_rdev,
+                "contents": contents, "symbolic links": os.readlink(path) if kind == 0o120000 else "",
+                "attributes": xattrs}
+    return found
+
+
+def kept(run, before, after):
+    """A case for each kind of fact."""
+    before, after = facts(before), facts(after)
+    run.case("names", "ok" if before.keys() == after.keys() else "failed")
+    for kind in ("modes", "owners", "times", "hard links", "devices", "contents", "symbolic links", "attributes"):
+        differ = [name for name, has in before.items() if name in after and after[name][kind] != has[kind]]
+        for name in differ[:5]:
+            print(f"{name!r}: {kind}: {str(before[name][kind])[:60]}, {str(after[name][kind])[:60]}", file=sys.stderr)
+        run.case(kind, "ok" if not differ else f"{len(differ)} not kept")
+
+
+def copied(run, copy, again=None):
+    """Files of all kinds are copied, looked at, copied onto themselves, removed; FIFOs and the like apart."""
+    sample = run.there / "sample"
+    ok = run.step("copied", copy.format(source=sample, to="copy"))
+    if ok or (run.folder / "copy").exists():
+        kept(run, sample, run.folder / "copy")
+    if again:
+        run.step("found the same", again.format(source=sample, to="copy"), "")
+    if not run.quick:
+        line = copy.format(source="/usr/share/doc", to="doc")
+        run.step("/usr/share/doc", f"{line} && diff -r --no-dereference /usr/share/doc doc")
+    for name, what in (("special", "FIFOs, sockets, devices"), ("trusted", "trusted attributes")):
+        status, _ = run.call(copy.format(source=run.there / name, to=name))
+        before, after = facts(run.there / name), facts(run.folder / name)
+        # (tar leaves sockets out)
+        is_kept = not status and after and all(before[file] == has for file, has in after.items())
+        run.case(what, "ok" if is_kept else "failed")
+    run.step("removed", "rm -rf copy doc special trusted t.tar && ls -A", "")
+
+
+def rsync(run):
+    copied(run, "mkdir {to} && rsync -aHAX {source}/ {to}/", "rsync -aHAX --checksum --itemize-changes {source}/ {to}/")
+
+
+def tar(run):
+    copied(run, "mkdir {to} && tar --xattrs --xattrs-include='*' -cf t.tar -C {source} . && "
+           "tar --xattrs --xattrs-include='*' -xpf t.tar -C {to} && tar -df t.tar -C {to} && rm t.tar")
+
+
+def cp(run):
+    copied(run, "cp -a {source} {to}")
+
+
+def names(run):
+    count = 10000 if run.quick else 100000
+    big = run.folder / "big"
+    big.mkdir()
+    for i in range(count):
+        os.close(os.open(big / f"file{i}", os.O_CREAT | os.O_EXCL | os.O_WRONLY))
+    listed = os.listdir(big)
+    run.case("listed once each", "ok" if len(listed) == len(set(listed)) == count else "failed")
+    run.step("find", "find big -type f | wc -l", str(count))
+    run.step("ls -l", "ls -l big | wc -l", str(count + 1))
+    for i in range(0, count, 2):
+        os.rename(big / f"file{i}", big / f"name{i}")
+    run.step("half renamed", "find big -name 'name*' | wc -l", str(count // 2))
+    seen = 0
+    with os.scandir(big) as entries:
+        for entry in entries:
+            os.unlink(entry.path)
+            seen += 1
+    run.case("removed while read", "ok" if seen == count and not os.listdir(big) else "failed")
+    run.step("removed", "rmdir big && ls -A", "")
+
+
+# What the suites run on.
+
+class Column:
+    """A folder, or what mounts one: its name and kind, whether it is judged, and how it comes, with words."""
+    def __init__(self, line, number, work):
+        self.name, self.kind, judged, self.how, *self.words = line.split("\t")
+        self.is_judged = judged == "judged"
+        # (as long as the others, since a test may count on how long paths are)
+        self.home = Path(work) / f"column{number}"
+        self.word = "".join(letter if letter.isalnum() else "_" for letter in self.name)
+        self.server = None
+
+    def start(self, suite):
+        """The folder for a suite, with a server of its own if it is mounted here."""
+        if self.how == "folder":
+            folder = Path(self.words[0]) / f"nizwarf-{suite}-{os.getpid()}"
+            folder.mkdir()
+            return folder
+        self.home.mkdir(exist_ok=True)
+        at = self.home / suite
+        at.mkdir()
+        for name in ("folder", "mount"):
+            (at / name).mkdir()
+            (at / name).chmod(0o755)
+        self.at = at
+        if self.how == "tmpfs":
+            subprocess.run(["mount", "-t", "tmpfs", "-o", "mode=755", "none", at / "mount"], check=True)
+        elif self.how == "mount":
+            words = [word.replace("FOLDER", f"{at}/folder").replace("MOUNT", f"{at}/mount") for word in self.words]
+            # (a descriptor for each of its files may be more than there can be)
+            if suite == "names" and self.kind.startswith("fuse.nizwarf-share"):
+                words.insert(1, "--inode-file-handles=prefer")
+            self.log = open(at / "said", "wb")
+            self.server = subprocess.Popen([*ENDS_WITH_THIS, *words], stdin=subprocess.DEVNULL, stdout=self.log,
+                                           stderr=self.log, start_new_session=True)
+            until = time.monotonic() + 30
+            while not os.path.ismount(at / "mount"):
+                if self.server.poll() is not None or time.monotonic() > until:
+                    raise RuntimeError(f"{self.name} was not mounted: {(at / 'said').read_text()}")
+                time.sleep(0.02)
+        folder = at / "mount" / "suite"
+        folder.mkdir()
+        return folder
+
+    def end(self, suite, folder, ended):
+        """Takes away what was made, and says what is wrong with the server, if anything is."""
+        if self.how == "folder":
+            if ended:
+                subprocess.run(["rm", "-rf", folder], stderr=subprocess.DEVNULL)
+            return ""
+        wrong = ""
+        mount = self.at / "mount"
+        if self.server and ended:
+            if self.server.poll() is None:
+                # (what was removed goes before the mount does)
+                wrong = self.left(folder)
+            else:
+                wrong = f"ended meanwhile, with {self.server.returncode}"
+        subprocess.run(["umount", mount], stderr=subprocess.DEVNULL)
+        if os.path.ismount(mount):
+            subprocess.run(["umount", "-l", mount], stderr=subprocess.DEVNULL)
+        if self.server:
+            try:
+                status = self.server.wait(60)
+                if status and ended and not wrong:
+                    wrong = f"ended with {status}"
+            except subprocess.TimeoutExpired:
+                self.server.kill()
+                self.server.wait()
+                wrong = wrong or "did not end after it was unmounted"
+            self.log.close()
+            text = (self.at / "said").read_text(errors="replace")
+            if "Sanitizer" in text or "runtime error" in text:
+                wrong = "a sanitizer found something"
+            if text and self.is_judged:
+                print(f"{self.name}, {suite}, said:\n{text[-2000:]}", file=sys.stderr)
+        self.server = None
+        subprocess.run(["rm", "-rf", "--one-file-system", self.at])
+        return wrong
+
+    def left(self, folder):
+        try:
+            subprocess.run(["rm", "-rf", folder], timeout=300, stderr=subprocess.DEVNULL)
+        except subprocess.TimeoutExpired:
+            return "what was made could not be removed in five minutes"
+        return f"{folder.name} could not be removed" if folder.exists() else ""
+
+    def give_up(self):
+        """Ends a server on which something hangs, and its connection to the kernel, so that nothing does."""
+        if not self.server:
+            return
+        with open("/proc/self/mountinfo", encoding="utf-8") as mounts:
+            for line in mounts:
+                words = line.split()
+                if words[4] == str(self.at / "mount"):
+                    file = Path("/sys/fs/fuse/connections") / words[2].split(":")[1] / "abort"
+                    if file.exists():
+                        file.write_text("1")
+        self.server.kill()
+
+
+def run_one(column, suite, options):
+    """What each case came to, and a case for the server if that is wrong."""
+    limit = SECONDS[suite] // (4 if options.quick else 1)
+    began = time.monotonic()
+    try:
+        folder = column.start(suite)
+    except (OSError, RuntimeError) as error:
+        return {"the mount": f"failed: {error}"}, 0
+    logs = Path(options.logs)
+    came, log = logs / f"{suite}.{column.word}.cases", logs / f"{suite}.{column.word}.log"
+    words = [*ENDS_WITH_THIS, "unshare", "--mount", "--propagation=slave", "--pid", "--fork", "--kill-child=KILL",
+             "--mount-proc", sys.executable, "-B", __file__, "--one", suite, str(folder), "--there", options.there]
+    if options.quick:
+        words.append("--quick")
+    ended = True
+    with open(came, "wb") as out, open(log, "wb") as err:
+        process = subprocess.Popen(words, stdin=subprocess.DEVNULL, stdout=out, stderr=err, cwd="/",
+                                   start_new_session=True)
+        try:
+            process.wait(limit)
+        except subprocess.TimeoutExpired:
+            ended = False
+            os.killpg(process.pid, signal.SIGKILL)
+            column.give_up()
+            try:
+                process.wait(30)
+            except subprocess.TimeoutExpired:
+                print(f"{suite} on {column.name} can't be killed.", file=sys.stderr)
+    cases = dict(line.split("\t", 1) for line in came.read_text(errors="replace").splitlines() if "\t" in line)
+    if not ended:
+        cases["the suite"] = "did not end"
+    elif process.returncode:
+        cases["the suite"] = f"ended with {process.returncode}"
+    elif not cases:
+        cases["the suite"] = "has no case"
+    wrong = column.end(suite, folder, ended)
+    if wrong:
+        cases["the server"] = wrong
+    return cases, time.monotonic() - began
+
+
+# What is said of it.
+
+def reasons(file):
+    """(kind, suite, case, why), of each line that is no comment."""
+    with open(file, encoding="utf-8") as lines:
+        return [tuple(map(str.strip, line.split("|"))) for line in lines if line.strip() and line[0] != "#"]
+
+
+def short(cases):
+    counts = Counter(cases.values())
+    order = sorted(counts, key=lambda word: (word != "ok", word != "skipped", word))
+    shown = [f"{counts[word]} {word}" for word in order]
+    return ", ".join(shown[:4] + (["..."] if len(shown) > 4 else []))
+
+
+def compare(suite, column, cases, reference, known):
+    """The reasons for which cases of a column differ from those of the reference, and what has none."""
+    why, faults = Counter(), []
+    for case in sorted(cases.keys() | reference.keys()):
+        came, wanted = cases.get(case, "(missing)"), reference.get(case, "(missing)")
+        if came == wanted and case != "the server":
+            continue
+        for row in known:
+            if all(map(fnmatch.fnmatchcase, (column.kind, suite, case), row)):
+                why[row] += 1
+                break
+        else:
+            faults.append(f"{suite}, {case}: {column.name} {came}, {wanted} is wanted")
+    return why, faults
+
+
+def table(rows, columns, known):
+    """Prints a row for each suite. The faults come back, and the reasons that came."""
+    faults, came_of = [], set()
+    ours = [column for column in columns[1:] if column.is_judged]
+    print("| Suite | " + " | ".join(column.name for column in columns[1:] + columns[:1]) + " | Why they differ |")
+    print("|---|" + "---|" * len(columns) + "---|")
+    for suite, came in rows.items():
+        why, new = Counter(), []
+        for column in ours:
+            found, without = compare(suite, column, came[column.name], came[columns[0].name], known)
+            of = Counter()
+            for row, count in found.items():
+                of[row[3]] += count
+            why |= of
+            new += without
+            came_of |= found.keys()
+        said = [f"{count}: {reason}" for reason, count in why.items()]
+        if new:
+            said.append(f"**{len(new)} without a reason**")
+        cells = [short(came[column.name]) for column in columns[1:] + columns[:1]]
+        print(f"| {suite} | " + " | ".join(cells) + " | " + ("; ".join(said) or "equal") + " |", flush=True)
+        faults += new
+    return faults, came_of
+
+
+def reap(child):
+    """The first process of a namespace waits for those whose own parent ended. The status is that of the child."""
+    while True:
+        process, status = os.wait()
+        if process == child:
+            return os.waitstatus_to_exitcode(status)
+
+
+def main():
+    options = argparse.ArgumentParser()
+    for word in ("--there", "--columns", "--work", "--logs", "--suites", "--reasons"):
+        options.add_argument(word)
+    options.add_argument("--one", nargs=2)
+    options.add_argument("--quick", action="store_true")
+    options.add_argument("--list", action="store_true")
+    options.add_argument("--sample", action="store_true")
+    options.add_argument("--jobs", type=int, default=1)
+    options = options.parse_args()
+    if options.list:
+        for name, what in ABOUT.items():
+            print(f"{name:14} {what}")
+        return 0
+    if options.one:
+        if child := os.fork():
+            return reap(child)
+        os.umask(0o022)
+        suite, folder = options.one
+        globals()[suite.replace("-", "_")](Run(folder, options.there, options.quick))
+        return 0
+    there = Path(options.there)
+    if not (there / "trusted").exists() or not (there / "sample/made").exists():
+        subprocess.run(["rm", "-rf", there / "sample", there / "special", there / "trusted"], check=True)
+        make_sample(there / "sample")
+        make_special(there / "special")
+        make_trusted(there / "trusted")
+        (there / "sample/made").touch()
+    with open(options.columns, encoding="utf-8") as lines:
+        columns = [Column(line.rstrip("\n"), number, options.work) for number, line in enumerate(lines)]
+    known = reasons(options.reasons)
+    rows = {}
+    for suite in options.suites.split():
+        with ThreadPoolExecutor(options.jobs) as pool:
+            came = list(pool.map(lambda column: run_one(column, suite, options), columns))
+        rows[suite] = {column.name: cases for column, (cases, _) in zip(columns, came)}
+        told = [f"{column.name}: {short(cases)} ({seconds:.0f} s)" for column, (cases, seconds) in zip(columns, came)]
+        print(f"{suite}: {'; '.join(told)}", file=sys.stderr, flush=True)
+    faults, came_of = table(rows, columns, known)
+    for fault in faults:
+        print(f"FAULT  {fault}")
+    kinds = [column.kind for column in columns[1:] if column.is_judged]
+    for row in known:
+        is_asked = row[1] in rows and any(fnmatch.fnmatchcase(kind, row[0]) for kind in kinds)
+        if is_asked and row not in came_of and not options.quick:
+            print(f"This reason did not come: {' | '.join(row)}")
+    return 1 if faults else 0
+
+
+if __name__ == "__main__":
+    sys.exit(main())

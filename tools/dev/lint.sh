@@ -1,0 +1,47 @@
+#!/usr/bin/env bash
+# Holds all C against .clang-format and all Rust against rustfmt.toml, if their programs are there, and the
+# sources of nizwarf-share, nizwarf-mount and nizwarf-vhost, in programs, against clang-tidy and cppcheck: what
+# they find is printed.
+#
+# Usage: tools/dev/lint.sh
+# It wants clang-tidy and cppcheck, and libseccomp-dev for the sandbox of share.c. `clang-format -i FILE` formats.
+# Status 0: nothing is found; 1: something is; 2: a program is missing.
+set -euo pipefail
+. "$(dirname "$0")/../lib/usage.sh"
+. "$(dirname "$0")/../lib/program.sh"
+take_none "$@"
+need clang-tidy "Install it: apt-get install clang-tidy."
+need cppcheck "Install it: apt-get install cppcheck."
+
+cd "$here"
+if command -v clang-format > /dev/null; then
+    git ls-files -z '*.c' '*.h' | xargs -0 clang-format --dry-run --Werror
+else
+    echo "Missing: clang-format, so the format is not looked at: apt-get install clang-format." >&2
+fi
+if command -v rustfmt > /dev/null; then
+    # (a file at a time: some stand beside what is not here)
+    while IFS= read -r file; do
+        rustfmt --check < "$file" || { echo "$file: \`rustfmt < $file\` has its format." >&2 && exit 1; }
+    done < <(git ls-files '*.rs')
+else
+    echo "Missing: rustfmt, so the format of Rust is not looked at: apt-get install rustfmt." >&2
+fi
+
+# Left out: names that the C library asks for, as _GNU_SOURCE; arguments of one type beside each other; calls of
+# the C library that only the last words before an end make; and what a kernel's style has otherwise.
+checks='clang-analyzer-*,bugprone-*,concurrency-*,misc-*,performance-*,portability-*
+    -bugprone-reserved-identifier,-bugprone-easily-swappable-parameters,-bugprone-assignment-in-if-condition
+    -concurrency-mt-unsafe,-clang-analyzer-security.insecureAPI.DeprecatedOrUnsafeBufferHandling
+    -performance-no-int-to-ptr'
+flags=(-std=c11 -I "$here/include" -I "$here/programs/transport" -Wall -Wextra)
+if cc -include seccomp.h -fsyntax-only -x c - < /dev/null 2> /dev/null; then
+    flags+=(-DWITH_SECCOMP)
+fi
+shopt -s nullglob
+sources=("$here"/programs/*/*.c)
+clang-tidy --quiet --warnings-as-errors='*' "--checks=$(tr -s ' \n' , <<< "$checks")" "${sources[@]}" \
+    -- "${flags[@]}" 2> >(grep -v 'warnings generated' >&2)
+cppcheck --std=c11 --quiet --error-exitcode=1 --inline-suppr --enable=warning,performance,portability \
+    -I "$here/include" -I "$here/programs/transport" -DWITH_SECCOMP "${sources[@]}"
+echo "clang-tidy and cppcheck find nothing in ${#sources[@]} files."

@@ -1,0 +1,98 @@
+#!/usr/bin/env python3
+"""Holds the list of CONTRIBUTING.md, To add an opcode, against the files in which opcodes stand.
+
+Usage: tools/dev/opcode.py [--opcodes | --count | --files OPCODE]
+Of some opcodes that are there, in all spellings (LSEEK, Lseek, lseek, NIZWARF_LSEEK), each file that git knows or would
+that has one must be named in that section, and each file or pattern that is named must have one. --opcodes prints
+which opcodes, --count how many files each stands in, --files these files. Not counted are pages that a tool writes,
+recorded lines, and where the word is not the opcode.
+Status 0: the list holds; 1: it does not.
+"""
+import fnmatch
+import os
+import re
+import subprocess
+import sys
+
+HERE = os.path.dirname(os.path.dirname(os.path.dirname(os.path.abspath(__file__))))
+# Of each opcode how it is spelled, in any case.
+SPELLED = {"LSEEK": "lseek", "FALLOCATE": "fallocate", "SYNCFS": "syncfs",
+           "COPY_FILE_RANGE": r"copy_?file_?range|nizwarf_copy\b|number(::|\.)copy\b"}
+PAGE = "CONTRIBUTING.md"
+# Written by tools or recorded, and what tells of the past or of this list.
+APART = ["docs/generated/*", "crates/vfs_sessions/std*", "crates/vfs_decode/std*", "crates/vfs_demo/std*",
+         "tests/oracle/recorded/*", "tests/c/version-0.2/*", "CHANGELOG.md", PAGE, "tools/dev/opcode.py"]
+# Where the word is a call of the system or of a client, and no opcode is meant.
+ELSEWHERE = ["programs/share/passthrough_list.c", "tests/beside/get.sh", "tests/suites/get.sh",
+             "tests/mirror/calls.py", "tests/mount/session.sh", "tests/share/calls.py", "tests/share/load.py"]
+
+
+def read(path):
+    with open(os.path.join(HERE, path), encoding="utf-8", errors="replace") as file:
+        return file.read()
+
+
+def tracked():
+    said = subprocess.run(["git", "ls-files", "--cached", "--others", "--exclude-standard"], cwd=HERE, stdout=subprocess.PIPE, text=True, check=True).stdout
+    return [path for path in said.splitlines() if os.path.isfile(os.path.join(HERE, path))]
+
+
+def fits(path, patterns):
+    return any(fnmatch.fnmatchcase(path, it) for it in patterns)
+
+
+def files_of(opcode, texts):
+    spelled = re.compile(SPELLED[opcode], re.I)
+    return [path for path, text in texts.items() if spelled.search(text)]
+
+
+def listed():
+    """The files and patterns that the section names, with the line of each."""
+    before, _, section = read(PAGE).partition("## To add an opcode\n")
+    section = section.partition("\n## ")[0]
+    for number, line in enumerate(section.split("\n"), before.count("\n") + 2):
+        folder = ""
+        for code in re.findall(r"`([^` ]+)`", line) if line.startswith("| ") else []:
+            if re.search(r"/|\.\w+$", code):
+                folder = code.rpartition("/")[0] if "/" in code else folder
+                path = code if "/" in code else f"{folder}/{code}"
+                yield path if path.split("/")[0] in os.listdir(HERE) else f"crates/{path}", number
+
+
+def main():
+    if sys.argv[1:2] in (["-h"], ["--help"]):
+        print(__doc__.strip())
+        return 0
+    if sys.argv[1:] == ["--opcodes"]:
+        print(*SPELLED)
+        return 0
+    texts = {path: read(path) for path in tracked()}
+    stands = {opcode: files_of(opcode, texts) for opcode in SPELLED}
+    counted = {opcode: [it for it in paths if not fits(it, APART + ELSEWHERE)] for opcode, paths in stands.items()}
+    counts = ", ".join(f"{opcode} {len(paths)}" for opcode, paths in counted.items())
+    if sys.argv[1:] == ["--count"]:
+        print(counts)
+        return 0
+    if sys.argv[1:2] == ["--files"] and len(sys.argv) == 3 and sys.argv[2] in counted:
+        print(*counted[sys.argv[2]], sep="\n")
+        return 0
+    if len(sys.argv) > 1:
+        print("Usage: tools/dev/opcode.py [--opcodes | --count | --files OPCODE]", file=sys.stderr)
+        return 2
+    patterns = list(listed())
+    faults = []
+    for path in sorted({it for paths in counted.values() for it in paths}):
+        if not fits(path, [pattern for pattern, _ in patterns]):
+            here = ", ".join(opcode for opcode in counted if path in counted[opcode])
+            faults.append(f"{path}: {here}, and {PAGE} does not name it")
+    every = {it for paths in stands.values() for it in paths}
+    faults += [f"{PAGE}:{number}: {pattern}: none of these opcodes stands there" for pattern, number in patterns
+               if not fnmatch.filter(every, pattern)]
+    said = re.search(r"LSEEK stands in (\d+) files", read(PAGE))
+    if not said or int(said[1]) != len(counted["LSEEK"]):
+        faults.append(f"{PAGE}: it does not say that LSEEK stands in {len(counted['LSEEK'])} files")
+    print(*faults, f"Files: {counts}; {len(faults)} faults", sep="\n")
+    return 1 if faults else 0
+
+
+sys.exit(main())
