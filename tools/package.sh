@@ -247,20 +247,7 @@ page_missing() {
 
 # The prototypes that pages of functions have, as C.
 prototypes() {
-    awk '
-        /^\.Sh / { shown = $2 == "SYNOPSIS" }
-        !shown { next }
-        /^\.Ft / { type = substr($0, 5) }
-        /^\.Fo / { words = "" }
-        /^\.Fa / { words = words " " substr($0, 5) }
-        /^\.Fn / { words = substr($0, index($0, $3)) }
-        /^\.F[on] / { name = $2 }
-        /^\.F(c|n )/ {
-            gsub(/" "/, ", ", words)
-            gsub(/"/, "", words)
-            print type, name "(" words ");"
-        }
-    ' "$packaging"/man/*.3
+    awk -f "$packaging/prototypes.awk" "$packaging"/man/*.3
 }
 
 # The tree of the tarball, into a folder. The programs stand alone.

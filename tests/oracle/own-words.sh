@@ -28,31 +28,4 @@ done
 cd "$top"
 [ $# -gt 0 ] || mapfile -d '' files < <(git ls-files -z --cached --others --exclude-standard)
 [ ${#files[@]} -gt 0 ] || { echo "git has no files here: it wants git and a clone, or FILE .." >&2 && exit 2; }
-printf '%s\0' "${files[@]}" | python3 -B -c '
-import pathlib, re, sys
-sys.path.insert(0, "tests/oracle")
-import edits
-
-RUN = 12
-
-
-def runs(words):
-    return (tuple(words[at:at + RUN]) for at in range(len(words) - RUN + 1))
-
-
-theirs = set()
-for text in edits.read_source(pathlib.Path(sys.argv[1])).values():
-    theirs.update(runs(re.findall(r"\w+", text)))
-read = found = 0
-for name in sys.stdin.read().split("\0"):
-    if pathlib.Path(name).is_file() and not name.startswith("LICENSE"):
-        text = pathlib.Path(name).read_bytes().decode("latin-1")
-        for number, line in enumerate(text.split("\n"), 1):
-            read += 1
-            words = re.findall(r"\w+", line.replace("\\n", " "))
-            if any(run in theirs for run in runs(words)):
-                found += 1
-                print(f"{name}:{number}: {line.strip()[:200]}")
-print(f"{read} lines, {found} with twelve words in a row of the four files")
-sys.exit(1 if found else 0)
-' "$source"
+printf '%s\0' "${files[@]}" | python3 -B tests/oracle/own_words.py "$source"

@@ -1,0 +1,309 @@
+"""Holds the Markdown pages against the sources, for documents.sh, which says how: the toolchain is that of $kit."""
+import glob, os, re, subprocess, sys
+
+KIT = os.environ["kit"]
+COUNTED = ["README.md", *sorted(glob.glob("docs/*.md")), "CONTRIBUTING.md", "CHANGELOG.md", "NOTICE.md",
+           *sorted(glob.glob("crates/*/README.md"))]
+DOCUMENTS = [*COUNTED, "tools/README.md", "tests/README.md", "tests/oracle/README.md", "programs/README.md"]
+# Pages of which only links are looked at.
+LINKED = [*sorted(glob.glob("docs/generated/*.md")), *sorted(glob.glob("bindings/*/README.md"))]
+# Where no crate is named in PROTOCOL.md, it is this one, as that page says.
+CRATES = {"docs/PROTOCOL.md": ["vfs_grammar"]}
+CODE = re.compile(r"`([^`]+)`")
+NAMED = re.compile(r"((?:`[\w:]+`, )+)`([\w./]+\.(?:rt|antt))`")
+CLAUSED = re.compile(r"`[\w:]+`: ((?:`\w+`(?:, )?)+)")
+PLACE = re.compile(r"`([^`]+)` \(`([^`]+):(\d+)`\)")
+ENDING = re.compile(r"\.(rt|antt|edit|md|sh|rs|py|c|h|a|txt|svg|tsv)$")
+# virtiofsd's files, and the kernel's header.
+OUTSIDE = re.compile(r"(src/)?(fuse|descriptor_utils|filesystem|server)\.rs|fuse\.h")
+KEYWORDS = "fn|trait|struct|enum|const|mod|impl|abbrev pub|record|data"
+DEFINITION = re.compile(rf"\b(?:{KEYWORDS}) (?=(\w+))")
+CLAUSE = re.compile(r"\b(?:ensures|requires|ghost) (?=(\w+))")
+NUMBERS = ("no one two three four five six seven eight nine ten eleven twelve thirteen fourteen fifteen "
+           "sixteen seventeen eighteen nineteen twenty").split()
+NUMBER = rf"\b(\d[\d,]*|{'|'.join(NUMBERS)})"
+BELOW = re.compile(rf"{NUMBER} crates below (it|the program|`\w+`)")
+
+
+def read(path):
+    with open(path, encoding="utf-8") as file:
+        return file.read()
+
+
+paths = set()
+for folder, folders, files in os.walk("."):
+    folders[:] = [name for name in folders if name not in (".git", "out")]
+    paths |= {os.path.normpath(os.path.join(folder, name)) for name in folders + files}
+sources = {path: read(path) for path in paths if re.search(r"\.(rt|antt|sh|rs|py|c|h)$", path)}
+CRATE_NAMES = set(os.listdir("crates"))
+words = {word for text in [*paths, *sources.values()] for word in re.findall(r"\w+", text)}
+definitions = {path: set(DEFINITION.findall(text)) for path, text in sources.items()}
+clauses = {path: set(CLAUSE.findall(text)) for path, text in sources.items()}
+edits = {(path.split("/")[1], path.split("/")[3][:-5]) for path in paths if path.endswith(".edit")}
+# The crates of this repository that each names in crates.txt, and all that it stands on.
+named = {name: CRATE_NAMES.intersection(uses.split())
+         for name, uses in re.findall(r"^(\w+).*: (.*)", read("crates.txt"), re.M)}
+
+
+def below_of(name):
+    return named[name].union(*(below_of(it) for it in named[name]))
+
+
+below = {name: below_of(name) for name in named}
+faults = []
+
+
+def count(pattern, *files):
+    return sum(len(re.findall(pattern, sources[path], re.M)) for path in sources if path.startswith(files))
+
+
+def number_of(said):
+    return NUMBERS.index(said) if said in NUMBERS else int(said.replace(",", ""))
+
+
+OPCODES, HANDLED = (count(pattern, "crates/vfs_grammar/specs/Ask.antt")
+                    for pattern in ("^ *form_of ", "^ *form_of (?!.* = NotServed)"))
+CALLS = count(r"^    fn ", "crates/vfs_files/src/filesystem.rt")
+RECORDS, MORE_RECORDS = (count(r"impl ByteValued for [A-Z]", f"crates/{crate}/src/")
+                         for crate in ("vfs_wire", "vfs_wire_more"))
+# The stored requests: worked, generated, and what kernels asked, of which each session begins with one of the first
+# kind, which says what INIT wants.
+WORKED, GENERATED, KERNELS = (len(re.findall(r"^\d", part, re.M)) for part in re.split(
+    r"^# (?:The generated requests|What kernels asked)\..*", read("crates/vfs_sessions/stdin"), flags=re.M))
+SESSIONS = len(re.findall(r"^# (?:Linux|The same)", read("crates/vfs_sessions/stdin").split("# What kernels asked.")[1], re.M))
+# How many forms each hostile message has.
+FORMS = re.findall(r"^.*: (\d+) forms, ", read("crates/vfs_sessions/stdout"), re.M)
+# What a line counts, by the words around the number, and how many there are.
+COUNTS = [
+    (rf"{NUMBER} (?:numbers are )?opcodes", OPCODES),
+    (rf"{NUMBER} of \d+ opcodes", HANDLED),
+    (rf"Of \d+ opcodes {NUMBER}", HANDLED),
+    (rf"`FileSystem`.* with {NUMBER} calls", CALLS),
+    (rf"the {NUMBER} calls of", CALLS),
+    (rf"{NUMBER} records: headers", RECORDS),
+    (rf"{NUMBER} further records", MORE_RECORDS),
+    (rf"all {NUMBER} records", RECORDS + MORE_RECORDS),
+    (rf"worked, {NUMBER} generated", GENERATED),
+    (rf"{NUMBER} worked", WORKED + SESSIONS),
+    (rf"{NUMBER} (?:of them recorded from|of) kernels", KERNELS - SESSIONS),
+    (rf"{NUMBER} stored requests, [\d,]+ of them recorded", WORKED + GENERATED + KERNELS),
+    (rf"stored lines of `vfs_sessions` hold {NUMBER} requests", WORKED + GENERATED + KERNELS),
+    (rf"{NUMBER} messages, at least one for each opcode", len(FORMS)),
+    (rf"{NUMBER} hostile forms", sum(map(int, FORMS))),
+    (rf"folder `must-fail` has {NUMBER} edits", sum(crate == "example_tree" for crate, _ in edits)),
+]
+# What several pages count.
+SAME = [rf"{NUMBER} hostile requests", rf"{NUMBER} wrong bodies"]
+said_of = {}
+
+
+def anchors(document):
+    headings = re.findall(r"^#+ (.*)", read(document), re.M)
+    return {re.sub(r"[^\w\- ]", "", heading.lower()).replace(" ", "-") for heading in headings}
+
+
+def check_link(fault, document, target):
+    path, _, anchor = target.partition("#")
+    path = os.path.normpath(os.path.join(os.path.dirname(document), path)) if path else document
+    if path not in paths:
+        fault(f"there is no file {path}")
+    elif anchor and anchor not in anchors(path):
+        fault(f"{path} has no heading for #{anchor}")
+
+
+def check_place(fault, name, path, number):
+    """Whether the definition of a name begins in this line."""
+    name = name.split("::")[-1]
+    begins = re.compile(rf" *(pub )?({KEYWORDS}) {name}\b")
+    lines = sources.get(path, "").split("\n")
+    places = [at for at, line in enumerate(lines, 1) if begins.match(line)]
+    if number not in places:
+        fault(f"{name} does not begin at {path}:{number}, but at {places or 'no line'}")
+
+
+def check_path(fault, document, path, beside):
+    """Answers in which folders a part of a path is looked for behind this one. What is built isn't looked for."""
+    if path.startswith("out/"):
+        return beside
+    pattern = re.sub(r"\b(CRATE|NAME|my_library|my_tree)\b", "*", path).rstrip("/")
+    for full in (pattern, f"crates/{pattern}", os.path.join(os.path.dirname(document), pattern)):
+        if glob.glob(full):
+            return [os.path.dirname(full) + "/"] if "/" in path and "*" not in full else beside
+    found = [full for full in paths if full.endswith("/" + pattern)]
+    if not any(full.startswith(folder) for full in found for folder in beside):
+        fault(f"there is no {path} in {' or '.join(beside) or 'any folder'}")
+    return beside
+
+
+def check_below(fault, line):
+    for match in BELOW.finditer(line):
+        said, crate = match.groups()
+        named = [it for it in CODE.findall(line[:match.start()]) if it in below]
+        crate = {"it": (named or [""])[-1], "the program": "vfs_demo"}.get(crate, crate.strip("`"))
+        if crate not in below:
+            fault(f"no crate is named that {said} crates are below")
+        elif number_of(said) != len(below[crate]):
+            fault(f"{len(below[crate])} crates are below {crate}, and not {said}")
+
+
+def check_order(fault, items):
+    """Items of files of the grammar in reading order, each with its number."""
+    item_of = {file: number for number, files in items for file in files}
+    for file, own in item_of.items():
+        folder = "specs" if file.endswith(".antt") else "src"
+        text = sources.get(f"crates/vfs_grammar/{folder}/{file}", "")
+        if not text:
+            fault(f"there is no {file} in vfs_grammar")
+        for name in re.findall(r"Rattle\.vfs_grammar\.specs\.(?:declared\.)?(\w+)", text):
+            used = f"{name}.antt" if name[0].isupper() else f"{name}.rt"
+            if item_of.get(used, own) < own:
+                fault(f"{file}, of item {own}, names a word of {used}, of item {item_of[used]}")
+
+
+def check_line(fault, document, crates, line):
+    check_below(fault, line)
+    for pattern, there in COUNTS:
+        for match in re.finditer(pattern, line):
+            if number_of(match[1]) != there:
+                fault(f"{match[0]}: there are {there}")
+    for pattern in SAME:
+        for match in re.finditer(pattern, line):
+            before = said_of.setdefault(pattern, match[1])
+            if before != match[1]:
+                fault(f"{match[0]}: another page says {before}")
+    if document != "docs/TESTING.md" and re.search(r"`(rt ci|\.ci/run)`.*(\d min|minute|hour)", line):
+        fault("the time of the gate stands in docs/TESTING.md, and nowhere else")
+    for listed in CLAUSED.findall(line) if document.startswith("crates/") else []:
+        for name in CODE.findall(listed):
+            if not any(name in clauses[path] for path in sources if path.startswith(f"crates/{crates[0]}/src/")):
+                fault(f"{crates[0]} has no clause {name}")
+    for target in re.findall(r"\]\(([^)\s:]+)\)", line):
+        check_link(fault, document, target)
+    for listed, path in NAMED.findall(line):
+        texts = [text for full, text in sources.items() if f"/{full}".endswith(f"/{path}")]
+        for name in re.findall(r"(\w+)`", listed):
+            if not any(re.search(rf"^ *([\w()]+ )*{name}\b", text, re.M) for text in texts):
+                fault(f"{path} defines no {name}")
+    for name, path, number in PLACE.findall(line):
+        check_place(fault, name, path, int(number))
+    beside = [f"crates/{crate}/" for crate in crates] or [""]
+    for code in CODE.findall(line):
+        path = re.sub(r":\d+$", "", code)
+        if code in CRATE_NAMES:
+            beside = [f"crates/{code}/"]
+        elif re.fullmatch(r"[\w./*-]+", path) and ("/" in path or ENDING.search(path)):
+            if not OUTSIDE.fullmatch(path) and not path.endswith(".a"):
+                beside = check_path(fault, document, path, beside)
+        elif re.fullmatch(r"[A-Za-z_]\w*(::\w+)*", code) and document != "docs/DIFFERENCES.md":
+            for word in code.split("::"):
+                if word not in words and word[0] != "_":
+                    fault(f"no source has the name {word}")
+        elif document == "README.md" and code.startswith("rattle-kit") and logic_of(code) != logic_of(KIT):
+            fault(f"this toolchain is {KIT}, and the proofs were last checked with {code}")
+
+
+def logic_of(kit):
+    return kit.partition(" logic ")[2]
+
+
+def check_block(fault, language, comment, block):
+    path = (re.fullmatch(r"<!-- (\S+) -->", comment) or [None, None])[1]
+    if path and path not in paths:
+        fault(f"there is no file {path}")
+    elif path and language in ("rust", "c") and block not in read(path):
+        fault(f"{path} has no such piece of code")
+    elif path:
+        for line in set(block.splitlines()) - set(read(path).splitlines()):
+            fault(f"{path} has no line {line}")
+    elif language:
+        fault("no comment <!-- FILE --> above this block says where it stands")
+
+
+for document in DOCUMENTS:
+    crates, comment, block = CRATES.get(document, []), "", None
+    for number, line in enumerate(read(document).splitlines(), 1):
+        fault = lambda text, at=f"{document}:{number}": faults.append(f"{at}: {text}")
+        if line.startswith("```") and block is None:
+            block, opened, language = "", fault, line[3:]
+        elif line.startswith("```"):
+            check_block(opened, language, comment, block)
+            block = None
+        elif block is not None:
+            block += line + "\n"
+        elif line.startswith("    "):
+            command = line.split()[0]
+            if re.match(r"[\w.]+/", command) and not os.access(command, os.X_OK):
+                fault(f"{command} is no file that can be run")
+        else:
+            if line.startswith("#"):
+                crates = [it for it in re.findall(r"\w+", line) if it in CRATE_NAMES] or CRATES.get(document, [])
+            check_line(fault, document, crates, line)
+            comment = line
+for document in LINKED:
+    for number, line in enumerate(read(document).splitlines(), 1):
+        for target in re.findall(r"\]\(([^)\s:]+)\)", line):
+            check_link(lambda text, at=f"{document}:{number}": faults.append(f"{at}: {text}"), document, target)
+promise = "\n".join(re.findall(r"^> ?(.*)", read("docs/PROMISE.md"), re.M))
+for said in re.findall(r"^\| (?!Words )(\w[^|`]*) \|", read("docs/PROMISE.md"), re.M):
+    if said.lower() not in promise.lower():
+        faults.append(f"docs/PROMISE.md: the promise does not say '{said}'")
+items = [(int(number), re.findall(r"(\w+\.(?:antt|rt))`", files))
+         for number, files in re.findall(r"^([3-8])\. (.*)", read("docs/PROMISE.md"), re.M)]
+check_order(lambda text: faults.append(f"docs/PROMISE.md: {text}"), items)
+*reached, counted, decoded = subprocess.run(["tools/measure/statement.sh", "--files"], capture_output=True, text=True,
+                                            check=True).stdout.splitlines()
+order = read("docs/PROMISE.md").split("## Reading order")[1].split("\n## ")[0]
+for path in (line.split(":")[0] for line in reached):
+    crate, file = path.split("/")[0], path.split("/")[-1]
+    if not re.search(rf"`{crate}/specs/[^;]*`?{file}`", order):
+        faults.append(f"docs/PROMISE.md: the reading order lacks {path}")
+COUNT = r"(\d+) definitions of ([\d,]+) lines(?: in (\d+) files, and (\d+) types)?"
+for page in ("README.md", "docs/PROMISE.md"):
+    said = [it.replace(",", "") for it in re.search(COUNT, read(page)).groups() if it]
+    if said != re.findall(r"\d+(?= (?:definitions|lines|files|types))", counted)[:len(said)]:
+        faults.append(f"{page}: tools/measure/statement.sh counts otherwise: {counted}")
+families = re.findall(r"^\| ([a-z][^|]*) \| ([^|]*) \|$",
+                      read("docs/ARCHITECTURE.md").split("| Family |")[1].split("\n\n")[0], re.M)
+placed = {crate for _, crates in families for crate in CODE.findall(crates)}
+for crate in sorted(named):
+    if crate not in placed:
+        faults.append(f"docs/ARCHITECTURE.md: no family has {crate}")
+    if not os.path.exists(f"crates/{crate}/README.md"):
+        faults.append(f"crates/{crate}: it has no README.md")
+trusted = read("README.md").partition("**Trusted**")[2]
+kit_crates = {name for line in re.findall(r"^\w+.*: (.*)", read("crates.txt"), re.M) for name in line.split()}
+for name in sorted(kit_crates - CRATE_NAMES - {"core", "std_alloc"} - set(CODE.findall(trusted))):
+    faults.append(f"README.md: the crate {name} of the kit is not named as trusted")
+for pages, most in ((["README.md"], 750), (COUNTED, 15000)):
+    found = sum(len(read(page).split()) for page in pages)
+    if found > most:
+        faults.append(f"{pages[0]}{' and the others' * (len(pages) > 1)}: {found} words, and {most} are enough")
+HEADERS = "".join(text for path, text in sources.items() if path.startswith("include/"))
+# The fields of each struct, and the names of all fields and parameters.
+FIELDS = {name or short: set(re.findall(r"(\w+)(?=[,;]|\)\()", body)) for name, body, short in re.findall(
+    r"^(?:typedef )?struct (?:nizwarf_(\w+) )?\{\n(.*?)\n\}(?: nizwarf_(\w+))?;", HEADERS, re.M | re.S)}
+NAMES = set().union(*FIELDS.values(), re.findall(r"[ *](\w+)(?=[,)])", HEADERS))
+for page in sorted(glob.glob("packaging/man/*.3")):
+    for number, line in enumerate(read(page).splitlines(), 1):
+        said = re.match(r"\.Fa ([^\"]*)$", line)
+        for name in re.findall(r"\w+(?:->\w+)*", said[1] if said else ""):
+            *structs, field = name.split("->")
+            if field not in (FIELDS.get(structs[-1], ()) if structs else NAMES):
+                faults.append(f"{page}:{number}: the headers have no field {name}")
+VERSIONS = {
+    "CHANGELOG.md": r"^## (\d+\.\d+\.\d+)",
+    "include/nizwarf.h": r"^#define NIZWARF_VERSION_(?:MAJOR|MINOR|PATCH) (\d+)$",
+    "bindings/rust/Cargo.toml": r'^version = "([^"]+)"',
+}
+version = None
+for path in filter(os.path.exists, VERSIONS):
+    found = re.findall(VERSIONS[path], read(path), re.M)
+    said = ".".join(found[:3] if path.endswith(".h") else found[:1])
+    version = version or said
+    if said != version:
+        faults.append(f"{path}: the version is {said or 'not there'}, and that of CHANGELOG.md {version}")
+faults += subprocess.run(["tools/dev/pictures.sh", "--check"], stdout=subprocess.PIPE,
+                         stderr=subprocess.STDOUT, text=True).stdout.splitlines()
+
+print("\n".join([*faults, f"{len(DOCUMENTS) + len(LINKED)} documents, {len(faults)} faults"]))
+sys.exit(1 if faults else 0)

@@ -1,0 +1,133 @@
+"""Counts what a statement stands on, for statement.sh, which says how."""
+import collections, glob, re, sys
+
+USE = re.compile(r"^\s*(?:pub )?use Rattle\.([\w.]+?)(?:\.\{([^}]*)\}|( as (\w+))?)$")
+TOP = re.compile(r"^( *)(?:abbrev |unfoldable |opaque )*pub (record |data )?([\w-]+)")
+WORD = re.compile(r"\w+(?:-\w+)*")
+
+
+class Definition:
+    """One definition: where it stands, its lines without comments, and the constructors of a data type."""
+
+    def __init__(self, path, lines, kind):
+        self.path = path
+        self.lines = [it for it in lines if it.strip() and not it.lstrip().startswith("--")]
+        self.text = re.sub(r"--.*", "", "\n".join(lines))
+        self.makes = re.findall(r"^\s+(\w+)\s*:", self.text, re.M) if kind == "data " else []
+
+
+def definitions(path):
+    """The definitions of a file by their names. What is indented is one only if it says that it is one: else a field."""
+    lines = open(path, encoding="utf-8").read().split("\n")
+    tops = []
+    for at, line in enumerate(lines):
+        found = TOP.match(line)
+        if found and (not found[1] or found[2] or "abbrev" in line or "unfoldable" in line):
+            tops.append((at, found[3], found[2]))
+    ends = [at for at, _, _ in tops[1:]] + [len(lines)]
+    return {name: Definition(path, lines[at:end], kind) for (at, name, kind), end in zip(tops, ends)}
+
+
+def imports(path):
+    """What a file brings in: the module and the name of each, and the modules that it names whole."""
+    names, modules = {}, {}
+    for line in open(path, encoding="utf-8"):
+        found = USE.match(line.rstrip())
+        if found and found[2] is not None:
+            for name in re.split(r"\s*,\s*", found[2].strip()):
+                names[name.split(" as ")[-1]] = (found[1], name.split(" as ")[0])
+        elif found:
+            modules[found[4] or found[1].split(".")[-1]] = found[1]
+    return names, modules
+
+
+class Specs:
+    """The definitions of every crate, and what each names."""
+
+    def __init__(self):
+        self.of, self.brought = {}, {}
+        for path in sorted(glob.glob("crates/*/specs/**/*.antt", recursive=True)):
+            module = path[len("crates/"):-len(".antt")].replace("/", ".")
+            self.of[module], self.brought[module] = definitions(path), imports(path)
+
+    def find(self, module, name, passed=()):
+        """Where a name of a module is defined, or the type of the code that it is."""
+        here = self.of.get(module, {})
+        if name in here:
+            return module, name
+        maker = next((it for it, found in here.items() if name in found.makes), None)
+        if maker:
+            return module, maker
+        if module in passed or name not in self.brought.get(module, ({}, {}))[0]:
+            return None
+        inside, called = self.brought[module][0][name]
+        if ".declared." in inside:
+            return "declared", inside.split(".TheVariants")[0]
+        return self.find(inside, called, (*passed, module))
+
+    def named(self, module, name):
+        """The definitions that one names."""
+        text, modules = self.of[module][name].text, self.brought[module][1]
+        found = [self.find(module, it) for it in WORD.findall(text)]
+        for whole, part in re.findall(r"\b(\w+)\.(\w+)", text):
+            inside = modules.get(whole, "")
+            found.append(("declared", inside.split(".TheVariants")[0]) if ".declared." in inside else self.find(inside, part))
+        return {it for it in found if it and it != (module, name)}
+
+    def reach(self, starts):
+        """What is reached from these, with those that name each."""
+        by, todo = collections.defaultdict(set), list(starts)
+        for it in starts:
+            by[it] = set()
+        while todo:
+            at = todo.pop()
+            for it in self.named(*at):
+                if it not in by and it[0] != "declared":
+                    todo.append(it)
+                by[it].add(at)
+        return by
+
+
+def start_of(specs, word):
+    found = re.fullmatch(r"(\w+)/(\w+)\.(\w+)", word)
+    at = found and (f"{found[1]}.specs.{found[2]}", found[3])
+    if not at or at[1] not in specs.of.get(at[0], {}):
+        sys.exit(f"statement.sh: there is no definition {word}: write CRATE/FILE.NAME, as vfs_server/Session.IsSession")
+    return at
+
+
+def main():
+    words = sys.argv[1:]
+    show = words.pop(0) if words and words[0].startswith("--") else ""
+    if show not in ("", "--files", "--once", "--beside"):
+        sys.exit(f"statement.sh: {show} is no option: see tools/measure/statement.sh --help")
+    specs = Specs()
+    by = specs.reach([start_of(specs, it) for it in words or ["vfs_server/Session.IsSession"]])
+    all_reached = [it for it in by if it[0] != "declared"]
+    reached = [it for it in all_reached if not it[0].endswith(".Decoders")]
+    followed = [it for it in all_reached if it[0].endswith(".Decoders")]
+    at = lambda it: specs.of[it[0]][it[1]]
+    files = collections.Counter(at(it).path for it in reached)
+    lines = collections.Counter()
+    for it in reached:
+        lines[at(it).path] += len(at(it).lines)
+    if show == "--files":
+        for path in sorted(files):
+            print(f"{path[len('crates/'):]}: {files[path]} definitions, {lines[path]} lines")
+    elif show == "--once":
+        for it in sorted(it for it in reached if len(by[it]) == 1):
+            print(f"{it[0]}.{it[1]}: {', '.join('.'.join(user) for user in by[it])}")
+    elif show == "--beside":
+        for module in sorted({it[0] for it in reached}):
+            for name in specs.of[module]:
+                if (module, name) not in by:
+                    print(f"{module}.{name}")
+    crates = {path.split("/")[1] for path in files}
+    print(f"{len(reached)} definitions, {sum(lines.values())} lines, in {len(files)} files of {len(crates)} crates;"
+          f" {len(by) - len(all_reached)} types of the code")
+    if followed:
+        both = sum(len(at(it).lines) for it in all_reached)
+        print(f"with the {len(followed)} decoders, which a law gives: {len(all_reached)} definitions, {both} lines")
+
+
+main()
