@@ -4,8 +4,7 @@
 use crate::cuttings::{Cut, Cutting, Served, Way, serve};
 use crate::table::Message;
 use std::alloc::{AllocError, Global};
-use vfs_lines::RunError;
-use vfs_run::answer_line;
+use vfs_run::{RunError, answer_line};
 
 /// A form of a message.
 #[derive(Clone, Copy, Debug)]

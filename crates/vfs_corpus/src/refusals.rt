@@ -24,7 +24,7 @@ mod segments;
 use crate::refusals::parts::Parts;
 use std::alloc::Global;
 use std::io;
-use vfs_lines::RunError;
+use vfs_run::RunError;
 
 /// Makes all calls, with the requests of these lines at the end. The first of them has the number
 /// that comes next after `before`, which tells a bad one.

@@ -3,7 +3,7 @@
 use hex::FromHexError;
 use std::alloc::Global;
 use std::str;
-use vfs_lines::RunError;
+use vfs_run::RunError;
 
 /// An answer, read.
 #[derive(Drop)]

@@ -5,8 +5,8 @@ use bitflags::Flags;
 use std::alloc::Global;
 use std::{fmt, str};
 use vfs_flags::FsOptions;
-use vfs_lines::{RunError, lines_before_requests, lines_of, parse_line, why_bad};
 use vfs_print::{agreed_options, print_reply, print_request};
+use vfs_run::{RunError, lines_before_requests, lines_of, parse_line, why_bad};
 
 /// What stands before a decoded message.
 const INDENT: &str = "  ";

@@ -22,13 +22,10 @@ mod decode;
 use decode::{decode_text, why_bad_line};
 use std::env::FillError;
 use std::io;
-use std::io::{ErrorKind, IsTerminal, Read, Write};
+use std::io::IsTerminal;
 use std::process::ExitCode;
 use std::rt::Env;
-use vfs_lines::{RunError, exit_status};
-
-/// The status of a run that was given an argument: that of a bad line.
-const USAGE_STATUS: u8 = 2;
+use vfs_run::{RunError, USAGE_STATUS, exit_status, read_all, write_all};
 
 fn main(rt: HostRuntime) -> ExitCode {
     if !matches!(rt.arg(1, &mut []), Err(FillError::NotPresent)) {
@@ -36,11 +33,13 @@ fn main(rt: HostRuntime) -> ExitCode {
         return ExitCode::from(USAGE_STATUS);
     }
     let _ = greet_terminal(&rt, &rt.stdin());
-    let mut text = Vec::new(rt.alloc());
-    let outcome = match rt.stdin().read_to_end(&mut text) {
-        Ok(_) => run(&rt, &text),
-        Err(error) if error.kind() == ErrorKind::OutOfMemory => Err(RunError::OutOfMemory),
-        Err(_) => Err(RunError::Io),
+    let alloc = rt.alloc();
+    let (text, outcome) = match read_all(alloc, &mut rt.stdin()) {
+        Ok(text) => {
+            let outcome = run(&rt, &text);
+            (text, outcome)
+        }
+        Err(error) => (Vec::new(alloc), Err(error)),
     };
     let _ = report(&rt, &text, &outcome);
     ExitCode::from(exit_status(&outcome))
@@ -50,10 +49,8 @@ fn main(rt: HostRuntime) -> ExitCode {
 fn run(rt: &HostRuntime, text: &[u8]) -> Result<(), RunError> {
     let mut decoded = String::new(rt.alloc());
     let outcome = decode_text(rt.alloc(), text, &mut decoded);
-    match rt.stdout().write_all(decoded.as_bytes()) {
-        Ok(()) => outcome,
-        Err(_) => Err(RunError::Io),
-    }
+    write_all(&mut rt.stdout(), decoded.as_str())?;
+    outcome
 }
 
 /// Tells a person at a terminal how long the program reads.

@@ -28,9 +28,9 @@
 #![tactic(auto)]
 
 use std::process::ExitCode;
-use vfs_lines::exit_status;
 use vfs_run::{
-    Program, USAGE_STATUS, greet_terminal, read_all, refuses_arguments, report_session, run_text,
+    Program, USAGE_STATUS, exit_status, greet_terminal, read_all, refuses_arguments,
+    report_session, run_text,
 };
 
 /// What the program's usage says of it.

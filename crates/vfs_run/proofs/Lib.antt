@@ -1,1 +1,4 @@
+pub mod ValueLemmas
+mod LineLemmas
+mod SessionLemmas
 mod RunLemmas

@@ -2,9 +2,9 @@
 use Rattle.std.proofs.Common.{◌≡◌, false, true, ℕ, zero, suc, List, [], ◌∷◌, take, None, Result, Ok, Err, MatchResult, refl, ◌+◌, arith}
 use Rattle.std.specs.Prelude.{All, IsSomeAnd, slice_get}
 use Rattle.hex.specs.Hex.{decode_pairs}
-use Rattle.vfs_lines.specs.Lines.{IsRequest, EndsAs, line_of}
-use Rattle.vfs_lines.specs.declared.error.RunError.{RunError}
-use Rattle.vfs_lines.specs.declared.error.RunError.TheVariants.{BadLine, Io, OutOfMemory}
+use Rattle.vfs_run.specs.Lines.{IsRequest, EndsAs, line_of}
+use Rattle.vfs_run.specs.declared.error.RunError.{RunError}
+use Rattle.vfs_run.specs.declared.error.RunError.TheVariants.{BadLine, Io, OutOfMemory}
 
 -- `0 `, which asks something, and `16` and `17`, which don't
 abbrev pub three_lines : List (List ℕ)

@@ -1,2 +1,4 @@
+pub mod Status
+pub mod Lines
 pub mod Session
 pub mod Output

@@ -3,8 +3,8 @@ use Rattle.std.specs.Prelude.{◌≡◌, ℕ, List, map, replicate, Option, Resu
 use Rattle.vfs_files.specs.Values.{Item}
 use Rattle.vfs_files.specs.Calls.{Call, Handed}
 use Rattle.vfs_grammar.specs.declared.error.Error.{Error}
-use Rattle.vfs_lines.specs.Lines.{request}
-use Rattle.vfs_lines.specs.declared.line.Line.{Line}
+use Rattle.vfs_run.specs.Lines.{request}
+use Rattle.vfs_run.specs.declared.line.Line.{Line}
 use Rattle.vfs_segments.specs.Segments.{flat_bytes}
 use Rattle.vfs_segments.specs.Unread.{Unread}
 use Rattle.vfs_segments.specs.Written.{Written, unwritten}

@@ -1,12 +1,14 @@
 //! A whole session: the requests of an input, answered line by line to an output.
 ghost use Rattle.std.specs.Prelude.{◌≡◌, IfErr, IfSome};
-ghost use Rattle.vfs_lines.specs.Lines.{lines_in, EndsSession};
+ghost use Rattle.vfs_run.specs.Lines.{lines_in, EndsSession};
 ghost use Rattle.vfs_run.specs.Output.{Wrote};
 
-use crate::{answers_to, read_all, server_for, write_all};
+use crate::{
+    Line, RunError, answers_to, end_session, lines_of, read_all, read_session, server_for,
+    write_all,
+};
 use std::alloc::Global;
 use std::io;
-use vfs_lines::{Line, RunError, end_session, lines_of, read_session};
 use vfs_memory::MemFs;
 
 /// Reads all of `input` and answers its lines as [`run_text`] does: what the program `vfs_demo` does

@@ -2,16 +2,16 @@
 
 ghost use Rattle.std.specs.Prelude.{◌≡◌, map, IfOk, IfErr, IfSome, OnOk};
 ghost use Rattle.std.specs.Io.KnownBytes.{Appends};
-ghost use Rattle.vfs_lines.specs.Lines.{first_limit_of, or_default, IsRunFault};
+ghost use Rattle.vfs_run.specs.Lines.{first_limit_of, or_default, IsRunFault};
 ghost use Rattle.vfs_segments.specs.Segments.{segments_of, contents, flat_bytes};
 ghost use Rattle.vfs_run.specs.Session.{IsSessionOf, segments_asked, room_for, zeros};
 
 use crate::answer::answer_line;
+use crate::{Line, RunError, max_buffer_for};
 use std::alloc::{AllocError, Global};
 use std::io;
 use std::io::ErrorKind;
 use vfs_files::FileSystem;
-use vfs_lines::{Line, RunError, max_buffer_for};
 use vfs_segments::{Reader, Writer};
 use vfs_server::server::Server;
 

@@ -3,9 +3,9 @@
 ghost use Rattle.std.specs.Prelude.{◌≡◌, OnOk};
 
 use crate::session::answers_to;
+use crate::{Line, RunError};
 use std::alloc::Global;
 use vfs_files::FileSystem;
-use vfs_lines::{Line, RunError};
 use vfs_server::server::Server;
 
 /// A session keeps its server's limits.

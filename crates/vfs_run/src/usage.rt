@@ -1,10 +1,10 @@
 //! What a program over a session tells a person who starts it wrongly.
 
+use crate::{RunError, why_bad};
 use std::env::FillError;
 use std::io;
 use std::io::IsTerminal;
 use std::rt::Env;
-use vfs_lines::{RunError, why_bad};
 
 /// The status of a program that was given an argument: that of a bad line.
 pub const USAGE_STATUS: u8 = 2;

@@ -2,10 +2,10 @@
 
 ghost use Rattle.std.specs.Prelude.{◌≡◌, ℕ, MatchResult};
 
+use crate::RunError;
 use crate::input::run;
 use std::alloc::Global;
 use std::io;
-use vfs_lines::RunError;
 
 /// A run over three lines, of which the second and the third are bad: it doesn't end well, and the
 /// only line that it may name is the second.

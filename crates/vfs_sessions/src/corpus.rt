@@ -2,7 +2,7 @@
 
 use std::alloc::Global;
 use vfs_corpus::{Way, messages, try_message};
-use vfs_lines::RunError;
+use vfs_run::RunError;
 
 /// Tries each message of the corpus by `handle_message`, with servers of its own, and appends a line
 /// for each: its name, how many forms of it were tried, how many requests these were, with all

@@ -30,8 +30,9 @@ mod corpus;
 mod run;
 
 use std::process::ExitCode;
-use vfs_lines::exit_status;
-use vfs_run::{Program, USAGE_STATUS, greet_terminal, read_all, refuses_arguments, report_session};
+use vfs_run::{
+    Program, USAGE_STATUS, exit_status, greet_terminal, read_all, refuses_arguments, report_session,
+};
 
 /// What the program's usage says of it.
 const PROGRAM: Program = Program {

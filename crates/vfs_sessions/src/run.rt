@@ -6,8 +6,9 @@ use std::cell::RefCell;
 use std::collections::VecDeque;
 use std::io;
 use vfs_corpus::try_calls;
-use vfs_lines::{Line, RunError, lines_before_requests, lines_of, parse_line};
-use vfs_run::{answer_to, server_for, write_all};
+use vfs_run::{
+    Line, RunError, answer_to, lines_before_requests, lines_of, parse_line, server_for, write_all,
+};
 use vfs_seeded::{SeededFs, Told, parse_told};
 use vfs_server::server::Server;
 

@@ -3,7 +3,7 @@
 use crate::support::{are, have_texts, holds, none_is_wrong};
 use std::alloc::Global;
 use std::test::Fail;
-use vfs_lines::{RunError, parse_line};
+use vfs_run::{RunError, parse_line};
 
 /// A line, the rooms that it asks for, and the segments of its request.
 static ACCEPTED: [(&str, &[usize], &[&[u8]]); 6] = [

@@ -6,9 +6,8 @@ use std::io;
 use std::io::{ErrorKind, Read};
 use std::test::Fail;
 use vfs_bench::{Note, NoteKind, Recorder};
-use vfs_lines::{Line, RunError, exit_status, parse_line};
 use vfs_memory::MemFs;
-use vfs_run::{answers_to, run};
+use vfs_run::{Line, RunError, answers_to, exit_status, parse_line, run};
 use vfs_server::server::Server;
 
 /// A FORGET of node 2.

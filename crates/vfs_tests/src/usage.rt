@@ -8,8 +8,7 @@ use std::io;
 use std::io::ErrorKind;
 use std::test::Fail;
 use vfs_flags::{DEFAULT_MAX_BUFFER, GREATEST_MAX_BUFFER, LEAST_MAX_BUFFER};
-use vfs_lines::RunError;
-use vfs_run::{Program, report_session};
+use vfs_run::{Program, RunError, report_session};
 
 /// Keeps what is printed as an error; anything else it can't print.
 #[derive(Drop)]

@@ -5,9 +5,8 @@ use crate::refusals::parts::Parts;
 use std::alloc::{AllocError, Global};
 use std::io;
 use vfs_bench::Recorder;
-use vfs_lines::{Line, RunError, parse_line};
 use vfs_memory::MemFs;
-use vfs_run::PAGE_SIZE;
+use vfs_run::{Line, PAGE_SIZE, RunError, parse_line};
 use vfs_segments::{Reader, Writer};
 use vfs_server::server::Server;
 

@@ -5,8 +5,7 @@ use bitflags::Flags;
 use std::alloc::Global;
 use std::io;
 use vfs_flags::FsOptions;
-use vfs_lines::RunError;
-use vfs_run::write_all;
+use vfs_run::{RunError, write_all};
 
 /// The output, and the name of the part that comes next.
 #[derive(Drop)]

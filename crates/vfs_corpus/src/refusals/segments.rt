@@ -3,7 +3,7 @@
 use crate::refusals::parts::Parts;
 use std::alloc::{AllocError, Global};
 use std::io;
-use vfs_lines::RunError;
+use vfs_run::RunError;
 use vfs_segments::{Error, Reader, Writer};
 
 /// The segments of a reader: more than need no memory.

@@ -1,3 +1,0 @@
-pub mod ValueLemmas
-mod LineLemmas
-mod SessionLemmas
