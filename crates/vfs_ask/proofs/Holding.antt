@@ -24,7 +24,7 @@ use Rattle.vfs_grammar.specs.declared.error.Error.{Error}
 use Rattle.vfs_grammar.specs.declared.limits.Limits.{Limits}
 use Rattle.vfs_calls.specs.Shapes.{nothing, shape_of, unplaced}
 use Rattle.vfs_calls.specs.declared.call.CallData.{CallData}
-use Rattle.vfs_handlers.specs.Memory.{MayWantBehind}
+use Rattle.vfs_server.specs.MemoryByPieces.{MayWantBehind}
 use Rattle.vfs_ask.specs.Asked.{IsNameIn, IsTold, Stand, Tells}
 use Rattle.vfs_ask.specs.Contexts.{ContextAt, GivesTailOf, PlacesContext, StandsInBlocks, blocks_of, blocks_place, may_have_context, sum_or_most, tail_behind, with_context_at}
 use Rattle.vfs_ask.specs.Noting.{IsNoted, NotedAndTold}

@@ -8,7 +8,7 @@ use Rattle.vfs_grammar.specs.Ask.{ask_opcode}
 use Rattle.vfs_grammar.specs.declared.limits.Limits.{Limits}
 use Rattle.vfs_grammar.specs.declared.error.Error.{Error}
 use Rattle.vfs_calls.specs.declared.call.CallData.{CallData}
-use Rattle.vfs_handlers.specs.Memory.{MayWantBehind}
+use Rattle.vfs_server.specs.MemoryByPieces.{MayWantBehind}
 use Rattle.vfs_ask.specs.Noting.{IsNoted}
 
 module _ (limits : Limits) (options left room : ℕ) (h : InHeader) (rest pieces : List ℕ)

@@ -13,14 +13,14 @@ use Rattle.vfs_grammar.specs.Turn.{node_answered, IsRead}
 use Rattle.vfs_grammar.specs.Witnesses.{FollowsFor}
 use Rattle.vfs_grammar.specs.declared.limits.Limits.{Limits}
 use Rattle.vfs_grammar.specs.declared.error.Error.{Error}
-use Rattle.vfs_entries.specs.Delivery.{CallsAndGivesBack}
+use Rattle.vfs_server.specs.Delivery.{CallsAndGivesBack}
 use Rattle.vfs_calls.specs.Asked.{Notes}
 use Rattle.vfs_calls.specs.Shapes.{shape_of, shape_over, nothing, held_back, held_back_kind}
 use Rattle.vfs_calls.specs.declared.asking.Asking.{Asking}
 use Rattle.vfs_calls.specs.declared.asking.NoEntries.{NoEntries}
 use Rattle.vfs_calls.specs.declared.call.CallData.{CallData}
-use Rattle.vfs_handlers.specs.Handling.{server_tells}
-use Rattle.vfs_handlers.specs.State.{ServerState}
+use Rattle.vfs_server.specs.Handling.{server_tells}
+use Rattle.vfs_server.specs.State.{ServerState}
 use Rattle.vfs_ask.specs.Noting.{IsNoted}
 
 -- an answer that is held back names no node

@@ -10,7 +10,7 @@ use Rattle.vfs_segments.specs.Written.{Written}
 use Rattle.vfs_grammar.specs.Ask.{ask_header, ask_opcode}
 use Rattle.vfs_grammar.specs.Forms.{Ask}
 use Rattle.vfs_grammar.specs.Records.{record_of, size_of}
-use Rattle.vfs_handlers.specs.Memory.{MayWantBehind}
+use Rattle.vfs_server.specs.MemoryByPieces.{MayWantBehind}
 use Rattle.vfs_calls.specs.declared.call.CallData.{CallData}
 use Rattle.vfs_ask.specs.declared.asked.Asked.{Asked}
 use Rattle.vfs_ask.specs.declared.asked.Terms.{Terms}

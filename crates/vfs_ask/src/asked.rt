@@ -10,7 +10,7 @@ ghost use Rattle.vfs_messages.specs.Rooms.{with_behind};
 ghost use Rattle.vfs_grammar.specs.Ask.{ask, ask_header, ask_opcode};
 ghost use Rattle.vfs_grammar.specs.Limits.{AreLimits, max_len};
 ghost use Rattle.vfs_grammar.specs.Records.{record_of, size_of};
-ghost use Rattle.vfs_handlers.specs.Memory.{MayWantBehind};
+ghost use Rattle.vfs_server.specs.MemoryByPieces.{MayWantBehind};
 ghost use Rattle.vfs_calls.specs.Shapes.{nothing};
 ghost use Rattle.vfs_ask.specs.declared.asked.Asked.TheVariants.{Finished};
 ghost use Rattle.vfs_ask.specs.Contexts.{may_have_context};

@@ -5,16 +5,16 @@ ghost use Rattle.vfs_flags.specs.Flags.{fs_options_bits};
 ghost use Rattle.vfs_flags.specs.Numbers.{opcode_of};
 ghost use Rattle.vfs_grammar.specs.Ask.{ask_header};
 ghost use Rattle.vfs_grammar.specs.Limits.{AreLimits};
-ghost use Rattle.vfs_handlers.specs.Memory.{MayWantBehind};
+ghost use Rattle.vfs_server.specs.MemoryByPieces.{MayWantBehind};
 ghost use Rattle.vfs_calls.specs.Shapes.{nothing};
 ghost use Rattle.vfs_ask.specs.Noting.{IsNoted};
 
 use vfs_calls::{Asking, CallData};
 use vfs_flags::FsOptions;
 use vfs_grammar::{Limits, Result};
-use vfs_handlers::Session;
 use vfs_messages::Request;
 use vfs_segments::Writer;
+use vfs_server::handlers::Session;
 
 // Has a request handled over a file system that notes its call.
 fn handle(session: &mut Session<Asking<'_>>, q: Request<'_, '_>, w: &mut Writer) -> Result<usize>

@@ -13,7 +13,7 @@ use Rattle.vfs_grammar.specs.Forms.{Layout, Without, Record, layout_size, Form, 
 use Rattle.vfs_messages.specs.Parts.{TailIsCut, pieces_behind, MayHoldContext}
 use Rattle.vfs_grammar.specs.Records.{size_of}
 use Rattle.vfs_grammar.specs.declared.limits.Limits.{Limits}
-use Rattle.vfs_handlers.specs.Memory.{MayWantFor, MayWantBehind}
+use Rattle.vfs_server.specs.MemoryByPieces.{MayWantFor, MayWantBehind}
 use Rattle.vfs_server.specs.Memory.{TailIsTogether, WantsNone, WantsNoneBehind}
 
 -- both of two tests

@@ -16,15 +16,15 @@ use Rattle.vfs_grammar.specs.Directories.{StopsForACause, ComesWhole, TakesFew}
 use Rattle.vfs_grammar.specs.Reply.{Echo, Reply, Refusal, NoReply, Bytes, OpenBehind, reply_of}
 use Rattle.vfs_grammar.specs.Room.{IsReplied, unseen}
 use Rattle.vfs_messages.specs.Rooms.{Replies}
-use Rattle.vfs_entries.specs.Delivery.{CallsAndGivesBack}
+use Rattle.vfs_server.specs.Delivery.{CallsAndGivesBack}
 use Rattle.vfs_grammar.specs.Turn.{Turn, IsTurn, node_answered}
 use Rattle.vfs_grammar.specs.Witnesses.{Witness, IsTurnWithMemory, turn_tells, FollowsFor, follows_plainly}
 use Rattle.vfs_grammar.specs.declared.limits.Limits.{Limits}
 use Rattle.vfs_grammar.specs.declared.error.Error.{Error}
 use Rattle.vfs_grammar.specs.declared.error.Error.TheVariants.{DecodeMessage, OutOfMemory}
-use Rattle.vfs_handlers.specs.Memory.{MayWantBehind}
-use Rattle.vfs_handlers.specs.State.{ServerState}
-use Rattle.vfs_handlers.specs.Handling.{Handles, server_tells}
+use Rattle.vfs_server.specs.MemoryByPieces.{MayWantBehind}
+use Rattle.vfs_server.specs.State.{ServerState}
+use Rattle.vfs_server.specs.Handling.{Handles, server_tells}
 use Rattle.vfs_server.specs.Step.{IsStep, ReadsDirectories, turn_over}
 
 -- what came back through a writer, as a reader of the room's bytes sees it

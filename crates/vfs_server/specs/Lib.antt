@@ -1,3 +1,8 @@
+pub mod Takes
+pub mod Delivery
+pub mod MemoryByPieces
+pub mod State
+pub mod Handling
 pub mod Lending
 pub mod Memory
 pub mod Step

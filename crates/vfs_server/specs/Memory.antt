@@ -13,7 +13,7 @@ use Rattle.vfs_grammar.specs.Extensions.{has_option}
 use Rattle.vfs_grammar.specs.Forms.{Form, Layout, layout_size, by_memory}
 use Rattle.vfs_grammar.specs.Records.{size_of}
 use Rattle.vfs_grammar.specs.declared.limits.Limits.{Limits}
-use Rattle.vfs_handlers.specs.Memory.{MayWantBehind}
+use Rattle.vfs_server.specs.MemoryByPieces.{MayWantBehind}
 
 -- of a request that a reader has left: the tail behind a record of this layout is all there, and
 -- lies in one segment

@@ -11,7 +11,7 @@ use Rattle.vfs_grammar.specs.declared.error.Error.{Error}
 use Rattle.vfs_grammar.specs.declared.error.Error.TheVariants.{OutOfMemory}
 use Rattle.vfs_grammar.specs.Books.{KeepsBooks}
 use Rattle.vfs_server.specs.Memory.{WantsNoMemory}
-use Rattle.vfs_handlers.specs.State.{ServerState}
+use Rattle.vfs_server.specs.State.{ServerState}
 
 -- A request was served, by this turn, with these options before it and after it: the turn is of the
 -- bytes that its reader has left and of the room that its writer has left. A request that wants no

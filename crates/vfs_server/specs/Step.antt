@@ -11,7 +11,7 @@ use Rattle.vfs_grammar.specs.Directories.{StopsForACause, ComesWhole, TakesFew}
 use Rattle.vfs_grammar.specs.Reply.{Echo}
 use Rattle.vfs_grammar.specs.Turn.{Turn, IsTurn}
 use Rattle.vfs_grammar.specs.declared.error.Error.{Error}
-pub use Rattle.vfs_handlers.specs.State.{ServerState}
+pub use Rattle.vfs_server.specs.State.{ServerState}
 
 -- a turn of this request, with these events: what a writer had as its room, and what it has there now
 abbrev pub turn_over : (request : List ℕ) → (writer : Written) → (events : List Event)

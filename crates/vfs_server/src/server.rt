@@ -1,6 +1,6 @@
 //! The server: it reads a request's header, and has the request handled by its opcode: its call of
 //! the file system is made, and the reply put into the writer's room. The handlers stand in
-//! `vfs_handlers`.
+//! [`crate::handlers`].
 
 mod migration;
 
@@ -17,6 +17,8 @@ ghost use Rattle.vfs_server.specs.Memory.{MayWant, WantsNoMemory};
 ghost use Rattle.vfs_server.specs.Session.{IsSession};
 ghost use Rattle.vfs_server.specs.Step.{IsStep, ReadsDirectories};
 
+use crate::handlers::Session;
+pub use crate::transfers::{ZcReader, ZcWriter};
 use bitflags::Flags;
 use std::alloc::Global;
 use std::marker::Model;
@@ -24,7 +26,6 @@ use vfs_files::FileSystem;
 use vfs_files::laws::runs_join;
 use vfs_flags::{DEFAULT_MAX_BUFFER, FsOptions};
 use vfs_grammar::{Limits, Result};
-use vfs_handlers::Session;
 use vfs_laws::books::turns_keep_books;
 use vfs_laws::turns::{directories_are_read, memory_is_wanted_for_copies};
 pub use vfs_listings::add_dirent;
@@ -34,7 +35,6 @@ pub use vfs_messages::{
 };
 use vfs_segments::laws::together_behind_a_place;
 use vfs_segments::{Reader, Writer};
-pub use vfs_transfers::{ZcReader, ZcWriter};
 use vfs_wire::InHeader;
 
 /// A server of one client over a file system.

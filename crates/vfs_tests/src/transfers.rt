@@ -9,7 +9,7 @@ use std::test::Fail;
 use vfs_files::{ZeroCopyReader, ZeroCopyWriter};
 use vfs_flags::{Errno, Fault};
 use vfs_segments::Reader;
-use vfs_transfers::{ZcReader, ZcWriter};
+use vfs_server::server::{ZcReader, ZcWriter};
 use vfs_views::{PositionedFile, Slices, SlicesMut, WritevFlags};
 
 /// A file that moves at most so many bytes a call, fails with EIO at one of its calls, and notes

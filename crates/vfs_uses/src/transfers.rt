@@ -4,7 +4,7 @@ ghost use Rattle.std.specs.Prelude.{◌≡◌, ◌≤◌, ◌+◌, length, drop,
 
 use vfs_files::{ZeroCopyReader, ZeroCopyWriter};
 use vfs_flags::Fault;
-use vfs_transfers::{ZcReader, ZcWriter};
+use vfs_server::server::{ZcReader, ZcWriter};
 use vfs_views::PositionedFile;
 
 /// Where no byte is to be put the file isn't called.

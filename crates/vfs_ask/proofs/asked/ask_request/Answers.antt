@@ -2,7 +2,7 @@ use Rattle.std.proofs.Common.{rules}
 use Rattle.vfs_flags.specs.Flags.{fs_options_bits}
 use Rattle.vfs_flags.specs.Numbers.{opcode_of}
 use Rattle.vfs_grammar.specs.Ask.{ask}
-use Rattle.vfs_handlers.specs.Memory.{MayWantBehind}
+use Rattle.vfs_server.specs.MemoryByPieces.{MayWantBehind}
 use Rattle.vfs_ask.specs.Asked.{Tells, interrupted_by}
 use Rattle.vfs_ask.specs.Memory.{MayWant}
 use Rattle.vfs_ask.proofs.Memory.{read_header_is, tells_less}

@@ -1,5 +1,0 @@
-use Rattle.std.proofs.Common.{rules}
-use Rattle.vfs_handlers.proofs.session.Session.batch_forget.Goals as goal
-
-pub returns-in_err-pairs : goal.returns-in_err-pairs
-returns-in_err-pairs c = search rules

@@ -1,8 +1,0 @@
-use Rattle.std.proofs.Common.{arith}
-use Rattle.std.proofs.lemmas.Grind.{common_steps}
-use Rattle.vfs_handlers.proofs.session.Session.init.Goals as goal
-
-pub returns : goal.returns
-returns g c =
-    let told = rw c.record.ensures.header at c.init_version.ensures in
-    grind (arith, common_steps, told)
