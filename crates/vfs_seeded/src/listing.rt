@@ -15,8 +15,8 @@
 
 ghost use Rattle.std.specs.Prelude.{◌<◌, ◌≤◌, ◌^◌};
 
-use vfs_bench::ScriptEntries;
 use vfs_files::{CStr, DirEntry, DirectoryIterator};
+use vfs_mock::ScriptEntries;
 
 /// How many bytes a name has at most, with the 0 behind it.
 const NAME_ROOM: usize = 301;

@@ -5,9 +5,9 @@ use bitflags::Flags;
 use hex::FromHexError;
 use std::alloc::{AllocError, Global};
 use std::time::Duration;
-use vfs_bench::{ScriptDirectory, ScriptItem};
 use vfs_files::{CStr, CString, Context, Entry};
 use vfs_flags::{Errno, Fault, OpenOptions};
+use vfs_mock::{ScriptDirectory, ScriptItem};
 use vfs_wire::Attr;
 
 /// An answer that a line tells.

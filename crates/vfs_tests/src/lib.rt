@@ -5,8 +5,6 @@
 #![tactic(auto)]
 
 #[cfg(test)]
-mod bench;
-#[cfg(test)]
 mod files;
 #[cfg(test)]
 mod flags;
@@ -20,6 +18,8 @@ mod long_requests;
 mod messages;
 #[cfg(test)]
 mod migration;
+#[cfg(test)]
+mod mock;
 #[cfg(test)]
 mod readers;
 #[cfg(test)]

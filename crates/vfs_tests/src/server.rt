@@ -8,7 +8,7 @@ use crate::support::{
 use bitflags::Flags;
 use std::alloc::{AllocError, Global};
 use std::test::Fail;
-use vfs_bench::{Note, NoteKind, Script};
+use vfs_mock::{Note, NoteKind, Script};
 use vfs_server::Error;
 use vfs_server::descriptor_utils::Writer;
 use vfs_server::filesystem::FsOptions;

@@ -3,7 +3,7 @@
 use std::alloc::{AllocError, Global};
 use std::fmt::{Debug, Display};
 use std::test::Fail;
-use vfs_bench::{Recorder, Script};
+use vfs_mock::{Recorder, Script};
 use vfs_server::descriptor_utils::{Reader, Writer};
 use vfs_server::filesystem::FileSystem;
 use vfs_server::server::Server;

@@ -5,7 +5,6 @@
 //! them: what they hold is the clauses and definitions that they rest on.
 #![tactic(auto)]
 
-mod bench;
 mod files;
 mod flags;
 mod history;
@@ -13,6 +12,7 @@ mod laws;
 mod listings;
 mod memory;
 mod messages;
+mod mock;
 mod segments;
 mod server;
 mod transfers;
