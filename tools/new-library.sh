@@ -47,7 +47,7 @@ words_of_tree() {
 
 # Puts the tree in the place of the tree in memory.
 over_tree() {
-    sed -i -e "/^use vfs_flags::/d; s/^use vfs_tree::.*/use $tree::$type;\nuse vfs_read_only::ReadOnly;/" \
+    sed -i -e "/^use vfs_flags::/d; s/^use vfs_tree::.*/use $tree::$type;\nuse vfs_small::ReadOnly;/" \
         -e "s/^pub type Files = .*/pub type Files = ReadOnly<$type>;/" \
         -e '/^pub fn new_files/,/^}/{s/_\?alloc/_alloc/;/^{$/,/^}$/{/^[{}]$/!d}}' \
         -e '/^pub fn tell_time/,/^}/{/^{$/,/^}$/d}' "crates/$name/src/files.rt"
@@ -55,8 +55,8 @@ over_tree() {
     echo "{}" >> "crates/$name/src/files.rt"
     sed -i -e '/^use Rattle.vfs_tree.specs/d' \
         -e "s/^use Rattle.std.specs.Prelude.*/use Rattle.std.specs.Prelude.{◌≡◌, ℕ, List, Option}\n\
-use Rattle.vfs_read_only.specs.ReadOnly.{TreeHands}\n\
-use Rattle.vfs_read_only.specs.declared.read_only.ReadOnly.{ReadOnly}\n\
+use Rattle.vfs_small.specs.ReadOnly.{TreeHands}\n\
+use Rattle.vfs_small.specs.declared.read_only.ReadOnly.{ReadOnly}\n\
 use Rattle.$tree.specs.declared.$type.{$type}\n\
 use Rattle.$tree.specs.$module.{$tables}/" \
         -e "s/^State = .*/State = ReadOnly $type/" \
@@ -65,7 +65,7 @@ use Rattle.$tree.specs.$module.{$tables}/" \
         -e '/^at_time files seconds nanoseconds =$/,${/^ /d;s/=$/= files/}' \
         -e 's/^-- the state of a new one: .*/-- the state of a new one/; /^-- were set$/d' \
         "crates/$name/specs/Files.antt"
-    sed -i "/^$name staticlib:/s/ vfs_tree\\( \\|\$\\)/ vfs_read_only $tree\\1/" crates.txt
+    sed -i "/^$name staticlib:/s/ vfs_tree\\( \\|\$\\)/ vfs_small $tree\\1/" crates.txt
 }
 
 if [ -n "$tree" ]; then

@@ -2,8 +2,8 @@
 use Rattle.std.specs.Prelude.{ℕ, ◌==◌, List, [], ◌∷◌, codes, Option, Some, None, if◌then◌else◌}
 use Rattle.std.specs.Str.{bytes_eq}
 use Rattle.vfs_wire.specs.declared.attributes.Attr.{Attr}
-use Rattle.vfs_read_only.specs.Tables.{Named, Tables}
-use Rattle.vfs_read_only.specs.Makers.{directory_attr, file_attr, directory_item, file_item}
+use Rattle.vfs_small.specs.Tables.{Named, Tables}
+use Rattle.vfs_small.specs.Makers.{directory_attr, file_attr, directory_item, file_item}
 
 -- the attributes of each node
 abbrev pub attr_at : (node : ℕ) → Option Attr

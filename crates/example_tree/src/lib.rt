@@ -6,7 +6,7 @@ ghost use Rattle.example_tree.specs.Docs.{docs};
 
 mod uses;
 
-use vfs_read_only::{ReadTree, TreeItem, directory_attr, directory_item, file_attr, file_item};
+use vfs_small::{ReadTree, TreeItem, directory_attr, directory_item, file_attr, file_item};
 use vfs_wire::Attr;
 
 /// The tree. `ReadOnly { tree: Docs }` is its file system.

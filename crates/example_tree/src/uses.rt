@@ -11,7 +11,7 @@ use vfs_files::{
     ZeroCopyWriter,
 };
 use vfs_flags::Fault;
-use vfs_read_only::{ReadOnly, name_in, name_position};
+use vfs_small::{ReadOnly, name_in, name_position};
 use vfs_wire::Attr;
 
 /// A LOOKUP: `hello.txt` of the root is node 2.

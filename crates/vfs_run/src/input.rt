@@ -9,7 +9,7 @@ use crate::{
 };
 use std::alloc::Global;
 use std::io;
-use vfs_memory::MemFs;
+use vfs_small::MemFs;
 
 /// Reads all of `input` and answers its lines as [`run_text`] does: what the program `vfs_demo` does
 /// with its standard input and output.

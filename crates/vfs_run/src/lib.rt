@@ -26,4 +26,4 @@ pub use session::{PAGE_SIZE, answer_to, answers_to, read_all, server_for, write_
 pub use usage::{
     Program, USAGE_STATUS, greet_terminal, print_usage, refuses_arguments, report_session,
 };
-pub use vfs_memory::{MemFile, MemFs};
+pub use vfs_small::{MemFile, MemFs};

@@ -14,7 +14,7 @@ use crate::null::NullFs;
 use crate::probe::probe;
 use crate::round::{Side, drive};
 use std::alloc::Global;
-use vfs_memory::MemFs;
+use vfs_small::MemFs;
 
 /// Serves the requests of a batch: its setup requests once, all others `rounds` times over, in
 /// order, by one new server over a new file system.

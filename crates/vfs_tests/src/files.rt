@@ -5,7 +5,7 @@ use std::test::Fail;
 use std::time::Duration;
 use vfs_files::{CStr, CString, Context, Entry, Extensions, FileSystem, Number, SecContext};
 use vfs_flags::{Errno, Fault, FsOptions, GuestGid, GuestUid, OpenOptions};
-use vfs_read_only::Unserved;
+use vfs_small::Unserved;
 use vfs_wire::{Attr, EntryOut, InHeader, Statvfs64};
 
 /// Bytes, and the name that they are.

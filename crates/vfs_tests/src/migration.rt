@@ -4,9 +4,9 @@ use crate::support::{have_texts, holds};
 use std::alloc::Global;
 use std::test::Fail;
 use vfs_flags::Errno;
-use vfs_read_only::Unserved;
 use vfs_server::filesystem::{MigrateError, SerializableFileSystem};
 use vfs_server::server::Server;
+use vfs_small::Unserved;
 
 /// Whether a server's state is not saved, and nothing is written.
 fn saves_nothing(alloc: Global, server: &mut Server<Unserved>) -> bool {

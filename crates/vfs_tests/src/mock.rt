@@ -15,8 +15,8 @@ use std::time::Duration;
 use vfs_files::{CStr, CString, Entry, FileSystem, GetxattrReply, ListxattrReply};
 use vfs_flags::{Errno, Fault, FsOptions, OpenOptions};
 use vfs_mock::{Note, Recorder, Script, ScriptDirectory, ScriptFile, ScriptItem};
-use vfs_read_only::Unserved;
 use vfs_server::server::Server;
+use vfs_small::Unserved;
 use vfs_wire::Attr;
 
 /// An entry of this node.

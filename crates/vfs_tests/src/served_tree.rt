@@ -6,9 +6,9 @@ use example_tree::Docs;
 use std::alloc::Global;
 use std::test::Fail;
 use vfs_flags::Errno;
-use vfs_read_only::{ReadOnly, name_position};
 use vfs_server::server::Server;
 use vfs_server::transport::{ServeError, serve};
+use vfs_small::{ReadOnly, name_position};
 use vfs_wire::{AttrOut, EntryOut};
 
 /// A server of the three files.

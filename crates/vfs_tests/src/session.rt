@@ -5,10 +5,10 @@ use std::alloc::{AllocError, Global};
 use std::io;
 use std::io::{ErrorKind, Read};
 use std::test::Fail;
-use vfs_memory::MemFs;
 use vfs_mock::{Note, NoteKind, Recorder};
 use vfs_run::{Line, RunError, answers_to, exit_status, parse_line, run};
 use vfs_server::server::Server;
+use vfs_small::MemFs;
 
 /// A FORGET of node 2.
 const FORGET: &str =

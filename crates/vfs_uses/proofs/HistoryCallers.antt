@@ -35,8 +35,8 @@ use Rattle.vfs_server.specs.Memory.{WantsNoMemory}
 use Rattle.vfs_server.specs.Step.{ServerState, IsStep, turn_over}
 use Rattle.vfs_history.specs.Calls.{IsSeen}
 use Rattle.vfs_history.specs.History.{Handled, turn_of, IsHistory, GoesOn, HistoriesKeepBooks}
-use Rattle.vfs_memory.specs.MemFs.{Stored, Stock, MemFsAllows, AnswersEntry, IsEntryOf, file_attr}
-use Rattle.vfs_read_only.specs.Makers.{IsSecond}
+use Rattle.vfs_small.specs.MemFs.{Stored, Stock, MemFsAllows, AnswersEntry, IsEntryOf, file_attr}
+use Rattle.vfs_small.specs.Makers.{IsSecond}
 use Rattle.vfs_uses.proofs.Callers.{IsRun-no_events}
 use Rattle.vfs_uses.proofs.SessionCallers.{the_first}
 use Rattle.vfs_uses.specs.Files.{one_file}

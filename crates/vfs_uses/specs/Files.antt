@@ -1,6 +1,6 @@
 -- The files that the small callers of this crate begin with, and find.
 use Rattle.std.specs.Prelude.{ℕ, List, [], ◌∷◌, codes}
-use Rattle.vfs_memory.specs.MemFs.{Stock}
+use Rattle.vfs_small.specs.MemFs.{Stock}
 
 -- one file, node 2 named `a`, that has these contents
 abbrev pub one_file : List ℕ → Stock

@@ -7,7 +7,7 @@ use Rattle.vfs_grammar.specs.Samples.{four, eight}
 use Rattle.vfs_grammar.specs.Turn.{Turn, events_in}
 use Rattle.vfs_server.specs.Step.{ServerState}
 use Rattle.vfs_history.specs.History.{Handled, IsHistory}
-use Rattle.vfs_memory.specs.MemFs.{Stock, MemFsAllows}
+use Rattle.vfs_small.specs.MemFs.{Stock, MemFsAllows}
 
 -- request 9, FORGET of node 2 by 1: a header and a record, of 48 bytes
 abbrev pub forget_of_2 : List ℕ

@@ -15,7 +15,7 @@ use vfs_files::{
     MigrateError, Number, SecContext, SerializableFileSystem, ZeroCopyWriter, defaults, first_nul,
 };
 use vfs_flags::{Fault, GuestGid};
-use vfs_read_only::Unserved;
+use vfs_small::Unserved;
 use vfs_views::PositionedFile;
 use vfs_wire::{Attr, EntryOut, InHeader};
 

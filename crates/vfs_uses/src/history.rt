@@ -11,9 +11,9 @@ ghost use Rattle.vfs_uses.specs.History.{file_reply, forget_of_2, LooksUpAndForg
 use std::alloc::Global;
 use vfs_grammar::Result;
 use vfs_history::laws::{history_goes_on, history_keeps_books};
-use vfs_memory::MemFs;
 use vfs_segments::{Reader, Writer};
 use vfs_server::server::Server;
+use vfs_small::MemFs;
 
 /// Request 9, LOOKUP of `a` in node 1: a header and a name, of 42 bytes.
 const LOOKUP: [u8; 42] = [

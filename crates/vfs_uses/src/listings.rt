@@ -12,8 +12,8 @@ ghost use Rattle.vfs_listings.specs.Reading.{ReadsItems};
 use vfs_files::{CStr, DirEntry, FileSystem};
 use vfs_flags::Fault;
 use vfs_listings::{add_dirent, read_directory};
-use vfs_read_only::Unserved;
 use vfs_segments::Writer;
+use vfs_small::Unserved;
 use vfs_wire::InHeader;
 use vfs_wire_more::ReadIn;
 

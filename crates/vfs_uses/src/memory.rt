@@ -6,7 +6,7 @@ ghost use Rattle.vfs_flags.specs.Flags.{open_options_bits};
 ghost use Rattle.vfs_files.specs.Answers.{Plain, Iterator, Done, Options, attr_answer, init_answer};
 ghost use Rattle.vfs_files.specs.Calls.{Create, Getattr, Statfs, Write, default_statistics};
 ghost use Rattle.vfs_files.specs.Values.{ExtensionValues, Item, item_of, name_text};
-ghost use Rattle.vfs_memory.specs.MemFs.{Stock, MemFsAllows};
+ghost use Rattle.vfs_small.specs.MemFs.{Stock, MemFsAllows};
 ghost use Rattle.vfs_uses.specs.Files.{one_file, two_files};
 
 use std::alloc::Global;
@@ -16,7 +16,7 @@ use vfs_files::{
     ZeroCopyWriter,
 };
 use vfs_flags::{Fault, FsOptions, OpenOptions};
-use vfs_memory::MemFs;
+use vfs_small::MemFs;
 use vfs_wire::{Attr, Statvfs64};
 
 /// LOOKUP of `a` in the root of a new file system: node 2 with five bytes, for a second. Memory

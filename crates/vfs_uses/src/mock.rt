@@ -17,7 +17,7 @@ use vfs_files::{
 use vfs_flags::{Errno, Fault, Opcode};
 use vfs_mock::laws::notes_are_the_calls;
 use vfs_mock::{Note, Recorder, Script, ScriptDirectory, ScriptEntries, ScriptFile, ScriptItem};
-use vfs_read_only::Unserved;
+use vfs_small::Unserved;
 
 /// Looks a name up in node 9 of a file system that serves nothing: one note more says so.
 fn lookup_is_noted(

@@ -19,9 +19,9 @@ use std::alloc::Global;
 use std::io;
 use vfs_files::{FileSystem, MigrateError, SerializableFileSystem};
 use vfs_grammar::Result;
-use vfs_read_only::Unserved;
 use vfs_segments::{Reader, Writer};
 use vfs_server::server::Server;
+use vfs_small::Unserved;
 
 /// Request 9, STATFS of node 1: a header alone, of 40 bytes.
 const STATFS: [u8; 40] = [

@@ -4,11 +4,11 @@ use crate::cuttings::{Served, Watch, bytes_of};
 use crate::refusals::parts::Parts;
 use std::alloc::{AllocError, Global};
 use std::io;
-use vfs_memory::MemFs;
 use vfs_mock::Recorder;
 use vfs_run::{Line, PAGE_SIZE, RunError, parse_line};
 use vfs_segments::{Reader, Writer};
 use vfs_server::server::Server;
+use vfs_small::MemFs;
 
 /// How many calls can be noted.
 const PLACES: usize = 4096;

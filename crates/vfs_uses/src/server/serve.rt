@@ -12,9 +12,9 @@ use crate::server::{READDIR, STATFS};
 use std::alloc::Global;
 use vfs_files::FileSystem;
 use vfs_flags::Fault;
-use vfs_read_only::Unserved;
 use vfs_server::server::Server;
 use vfs_server::transport::{ServeError, serve};
+use vfs_small::Unserved;
 
 /// STATFS of a new server over a file system that serves nothing, with a room of ninety-six bytes:
 /// they are the reply. Memory alone can be wanting.

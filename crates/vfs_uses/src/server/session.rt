@@ -7,9 +7,9 @@ ghost use Rattle.vfs_uses.specs.Requests.{init_request, init_reply, lookup_reque
 use std::alloc::Global;
 use vfs_files::FileSystem;
 use vfs_grammar::Result;
-use vfs_read_only::Unserved;
 use vfs_segments::{Reader, Writer};
 use vfs_server::server::Server;
+use vfs_small::Unserved;
 
 /// Asks a server over a file system that serves nothing for three things in one session: INIT, a
 /// LOOKUP of `a` whose bytes lie in one segment, and STATFS. It tells what they are answered, to the

@@ -1,5 +1,0 @@
-mod FilesAt
-mod Index
-mod Indexed
-mod RootItems
-mod Searches

@@ -1,0 +1,6 @@
+mod Items
+mod FilesAt
+mod Index
+mod Indexed
+mod RootItems
+mod Searches
