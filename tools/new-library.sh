@@ -22,14 +22,19 @@ usage() {
 [[ $# = 1 || $tree =~ ^[a-z][a-z0-9_]*$ ]] || usage
 if [ -e "crates/$name" ] || [ -e "tools/lib/unproved/$name" ]; then usage; fi
 
+# Gives the copy of a crate its own name, and a line of crates.txt after that crate's.
+name_copy() {
+    grep -rl "$1" "crates/$2" | xargs sed -i "s/\b$1\b/$2/g"
+    sed -i "/^$1\b/{p;s/^$1/$2/}" crates.txt
+}
+
 # A crate with the tree of example_tree, without its callers and edits, which are of those three files.
 new_tree() {
     mkdir -p "crates/$tree"
     cp -R crates/example_tree/{src,specs} "crates/$tree/"
     rm "crates/$tree/src/uses.rt"
     sed -i '/^mod uses;$/,+1d' "crates/$tree/src/lib.rt"
-    grep -rl example_tree "crates/$tree" | xargs sed -i "s/\bexample_tree\b/$tree/g"
-    sed -i "/^example_tree:/{p;s/^example_tree/$tree/}" crates.txt
+    name_copy example_tree "$tree"
     echo "The tree is in crates/$tree/src/lib.rt, and what is there in crates/$tree/specs/Docs.antt."
 }
 
@@ -45,50 +50,33 @@ words_of_tree() {
     fi
 }
 
-# Puts the tree in the place of the tree in memory.
+# A library as vfs_c: what has `tree` in its path there, and the edits of its file system, are of the tree in memory alone.
+new_library() {
+    mkdir "crates/$name" "tools/lib/unproved/$name"
+    cp -R crates/vfs_c/{src,specs,proofs,must-fail} "crates/$name/"
+    cp tools/lib/unproved/vfs_c/* "tools/lib/unproved/$name/"
+    rm -r "crates/$name"/{src,specs,proofs}/[Tt]ree*
+    sed -i '/^\(pub \)\?mod [Tt]ree/d' "crates/$name"/{src/lib.rt,specs/Lib.antt,proofs/Lib.antt}
+    grep -l '^file: src/files.rt$' "crates/$name"/must-fail/*.edit | xargs rm
+    name_copy vfs_c "$name"
+    sed -i "/^$name\b/s/ vfs_tree_laws\b//" crates.txt
+}
+
+# Puts the tree in the place of the tree in memory, by the two files of lib/read_only_library.
 over_tree() {
-    sed -i -e "/^use vfs_flags::/d; s/^use vfs_tree::.*/use $tree::$type;\nuse vfs_small::ReadOnly;/" \
-        -e "s/^pub type Files = .*/pub type Files = ReadOnly<$type>;/" \
-        -e '/^pub fn new_files/,/^}/{s/_\?alloc/_alloc/;/^{$/,/^}$/{/^[{}]$/!d}}' \
-        -e '/^pub fn tell_time/,/^}/{/^{$/,/^}$/d}' "crates/$name/src/files.rt"
-    sed -i -e "/^pub fn new_files/,/^}/s/^{\$/{\n    Some(ReadOnly { tree: $type })/" "crates/$name/src/files.rt"
-    echo "{}" >> "crates/$name/src/files.rt"
-    sed -i -e '/^use Rattle.vfs_tree.specs/d' \
-        -e "s/^use Rattle.std.specs.Prelude.*/use Rattle.std.specs.Prelude.{◌≡◌, ℕ, List, Option}\n\
-use Rattle.vfs_small.specs.ReadOnly.{TreeHands}\n\
-use Rattle.vfs_small.specs.declared.read_only.ReadOnly.{ReadOnly}\n\
-use Rattle.$tree.specs.declared.$type.{$type}\n\
-use Rattle.$tree.specs.$module.{$tables}/" \
-        -e "s/^State = .*/State = ReadOnly $type/" \
-        -e '/^new_state set =$/,/^$/{/^ /d;s/^new_state set =/& record { tree = record {} }/}' \
-        -e "s/^Allows = .*/Allows old call handed new = TreeHands $tables call handed × (new ≡ old)/" \
-        -e '/^at_time files seconds nanoseconds =$/,${/^ /d;s/=$/= files/}' \
-        -e 's/^-- the state of a new one: .*/-- the state of a new one/; /^-- were set$/d' \
-        "crates/$name/specs/Files.antt"
-    sed -i "/^$name staticlib:/s/ vfs_tree\\( \\|\$\\)/ vfs_small $tree\\1/" crates.txt
+    local file
+    for file in src/files.rt specs/Files.antt; do
+        sed "s/\bNAME\b/$name/g; s/\bTREE\b/$tree/g; s/\bTYPE\b/$type/g; s/\bTABLES\b/$tables/g; s/\bMODULE\b/$module/g" \
+            "tools/lib/read_only_library/${file##*/}.in" > "crates/$name/$file"
+    done
+    sed -i "/^$name\b/s/ vfs_tree\b/ vfs_small $tree/" crates.txt
 }
 
 if [ -n "$tree" ]; then
     if [ ! -e "crates/$tree/src" ]; then new_tree; fi
     words_of_tree
 fi
-mkdir "crates/$name" "tools/lib/unproved/$name"
-cp -R crates/vfs_c/{src,specs,proofs,must-fail} "crates/$name/"
-cp tools/lib/unproved/vfs_c/* "tools/lib/unproved/$name/"
-grep -rl vfs_c "crates/$name" | xargs sed -i "s/\bvfs_c\b/$name/g"
-# The laws, one edit and the small callers that find no name in a new tree or take a reply are of the tree.
-rm -r "crates/$name/src/laws.rt" "crates/$name/specs/Laws.antt" "crates/$name/proofs/laws" \
-    "crates/$name/must-fail/the_root_has_the_group_of_its_user.edit" "crates/$name/specs/Uses.antt" \
-    "crates/$name/proofs/NothingFound.antt" "crates/$name/proofs/uses/nothing_is_found" \
-    "crates/$name/src/uses_taken.rt" "crates/$name/proofs/uses_taken" "crates/$name"/proofs/*Taken.antt
-sed -i '/^mod laws;$/d; /^mod uses_taken;$/d' "crates/$name/src/lib.rt"
-sed -i '/^pub mod Laws$/d; /^pub mod Uses$/d' "crates/$name/specs/Lib.antt"
-sed -i '/^mod NothingFound$/d; /^mod .*Taken$/d' "crates/$name/proofs/Lib.antt"
-sed -i -e '/^\/\/\/ Makes a server, has it look up a name/,$d' -e '/no_such_name\|lookup_of_a\|forget_of_5/d' \
-    -e '/{State}\|{ServerState}/d' -e 's/, None, length}/}/' -e 's/nizwarf_copy_at, nizwarf_end_at, //' \
-    "crates/$name/src/uses.rt"
-sed -i '${/^$/d}' "crates/$name/src/uses.rt"
-sed -i "/^vfs_c staticlib:/{p;s/^vfs_c/$name/;s/ vfs_tree_laws//}" crates.txt
+new_library
 if [ -n "$tree" ]; then
     over_tree
     if command -v rt > /dev/null; then (cd "crates/$name" && rt fmt > /dev/null); fi

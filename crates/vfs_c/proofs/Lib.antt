@@ -2,6 +2,6 @@ mod Crosses
 mod Steps
 mod Histories
 mod Calling
-mod NothingFound
-mod NothingTaken
-mod MessageTaken
+mod TreeNothingFound
+mod TreeNothingTaken
+mod TreeMessageTaken

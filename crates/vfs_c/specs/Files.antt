@@ -6,7 +6,7 @@ use Rattle.vfs_files.specs.Calls.{Call, Handed}
 use Rattle.vfs_files.specs.Listing.{GivesFirst}
 use Rattle.vfs_tree.specs.State as tree
 use Rattle.vfs_tree.specs.Tree.{TreeAllows, first_state}
-use Rattle.vfs_c.specs.declared.files.Settings.{Settings}
+use Rattle.vfs_c.specs.declared.settings.Settings.{Settings}
 
 -- its state
 abbrev pub State : Type 0

@@ -1,7 +1,7 @@
 pub mod Files
 pub mod Handle
 pub mod History
-pub mod Laws
+pub mod TreeLaws
 pub mod Served
 pub mod Taken
-pub mod Uses
+pub mod TreeUses

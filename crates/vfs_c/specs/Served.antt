@@ -4,7 +4,7 @@ use Rattle.vfs_segments.specs.Written.{Written, whole}
 use Rattle.vfs_grammar.specs.declared.error.Error.{Error}
 use Rattle.vfs_server.specs.Step.{ServerState, IsStep, ReadsDirectories}
 use Rattle.vfs_c.specs.Files.{State, new_state, at_time, Allows, Gives}
-use Rattle.vfs_c.specs.declared.files.Settings.{Settings}
+use Rattle.vfs_c.specs.declared.settings.Settings.{Settings}
 use Rattle.vfs_rooms.specs.Codes.{no_memory, too_long, number_of, length_of, shown_of}
 
 -- a new server over a new file system: no options are agreed on

@@ -7,8 +7,9 @@ ghost use Rattle.vfs_c.specs.Served.{new_server, told_time, ServedInC};
 ghost use Rattle.vfs_c.specs.Taken.{place_of};
 ghost use Rattle.vfs_rooms.specs.Parts.{part_from};
 
-use crate::files::{Files, Settings, new_files, tell_time};
+use crate::files::{Files, new_files, tell_time};
 use crate::memory::{Memory, Place};
+use crate::settings::Settings;
 use std::alloc::Global;
 use std::mem;
 use vfs_rooms::codes::{OK, OUT_OF_MEMORY, TOO_LONG, told};

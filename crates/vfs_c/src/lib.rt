@@ -13,11 +13,11 @@
 mod files;
 mod handle;
 mod instance;
-mod laws;
 mod memory;
+mod settings;
 mod taken;
+mod tree;
 mod uses;
-mod uses_taken;
 
 ghost use Rattle.std.specs.Prelude.{◌≡◌, ◌≢◌, ◌≤◌, ◌<◌, ◌⊎◌, ◌++◌, length, take, drop, min, IfSome, MatchOption};
 ghost use Rattle.std.specs.declared.option.Option.TheVariants.{None, Some};
@@ -29,10 +29,11 @@ ghost use Rattle.vfs_c.specs.Served.{new_server, told_time, ServedInC};
 ghost use Rattle.vfs_c.specs.Taken.{place_of};
 ghost use Rattle.vfs_rooms.specs.Parts.{part_from};
 
-use crate::files::{Files, Settings};
+use crate::files::Files;
 use crate::handle::Handle;
 use crate::instance::Instance;
 use crate::memory::{Memory, Place};
+use crate::settings::Settings;
 use crate::taken::Taken;
 use bitflags::Flags;
 use std::alloc::Global;

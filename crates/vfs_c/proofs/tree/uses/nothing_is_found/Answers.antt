@@ -3,8 +3,8 @@ use Rattle.vfs_rooms.specs.Codes.{ok}
 use Rattle.vfs_c.specs.History.{Told}
 use Rattle.vfs_c.specs.Served.{told_time}
 use Rattle.vfs_c.proofs.Calling.{in_a_row}
-use Rattle.vfs_c.proofs.NothingFound.{told_server, nothing_left, nothing_found, last_of}
-use Rattle.vfs_c.proofs.uses.nothing_is_found.Goals as goal
+use Rattle.vfs_c.proofs.TreeNothingFound.{told_server, nothing_left, nothing_found, last_of}
+use Rattle.vfs_c.proofs.tree.uses.nothing_is_found.Goals as goal
 
 pub returns-clause-bytes : goal.returns-clause-bytes
 returns-clause-bytes c = λ is.

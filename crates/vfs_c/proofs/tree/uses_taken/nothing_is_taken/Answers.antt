@@ -2,9 +2,9 @@ use Rattle.std.proofs.Common.{◌≡◌, drop, refl, rules}
 use Rattle.std_alloc.specs.Vec.{vec_ptr}
 use Rattle.vfs_rooms.specs.Codes.{ok}
 use Rattle.vfs_c.specs.Served.{told_time}
-use Rattle.vfs_c.proofs.NothingFound.{told_server, nothing_left}
-use Rattle.vfs_c.proofs.NothingTaken.{nothing_taken}
-use Rattle.vfs_c.proofs.uses_taken.nothing_is_taken.Goals as goal
+use Rattle.vfs_c.proofs.TreeNothingFound.{told_server, nothing_left}
+use Rattle.vfs_c.proofs.TreeNothingTaken.{nothing_taken}
+use Rattle.vfs_c.proofs.tree.uses_taken.nothing_is_taken.Goals as goal
 
 pub returns-clause-reply : goal.returns-clause-reply
 returns-clause-reply c = λ is.

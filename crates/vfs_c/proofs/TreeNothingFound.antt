@@ -22,8 +22,8 @@ use Rattle.vfs_c.specs.Files.{State, Allows, Gives, new_state, at_time}
 use Rattle.vfs_c.specs.History.{Turned, Answered, HandlesTwo}
 use Rattle.vfs_rooms.specs.Parts.{part_from}
 use Rattle.vfs_c.specs.Served.{new_server, told_time}
-use Rattle.vfs_c.specs.Uses.{no_such_name}
-use Rattle.vfs_c.specs.declared.files.Settings.{Settings}
+use Rattle.vfs_c.specs.TreeUses.{no_such_name}
+use Rattle.vfs_c.specs.declared.settings.Settings.{Settings}
 use Rattle.vfs_c.proofs.Calling.{turned}
 
 abbrev limits : Limits

@@ -7,7 +7,7 @@ use Rattle.vfs_grammar.specs.declared.error.Error.TheVariants.{DecodeMessage, En
 use Rattle.vfs_rooms.specs.Codes.{ok, no_memory, no_server, number_of, length_of, shown_of}
 use Rattle.vfs_c.specs.Files.{State}
 use Rattle.vfs_c.specs.History.{Turned, Answered}
-use Rattle.vfs_c.specs.Uses.{IsTaken}
+use Rattle.vfs_c.specs.TreeUses.{IsTaken}
 use Rattle.vfs_c.specs.declared.memory.Place.{Place}
 use Rattle.vfs_c.proofs.Calling.{turned}
 

@@ -5,11 +5,11 @@ ghost use Rattle.std_alloc.specs.Vec.{vec_ptr};
 ghost use Rattle.vfs_grammar.specs.Samples.{lookup_of_a};
 ghost use Rattle.vfs_segments.specs.Segments.{segments_of, flat_bytes};
 ghost use Rattle.vfs_rooms.specs.Codes.{ok};
-ghost use Rattle.vfs_c.specs.Uses.{no_such_name, IsTaken};
+ghost use Rattle.vfs_c.specs.TreeUses.{no_such_name, IsTaken};
 
-use crate::files::Settings;
 use crate::handle::Handle;
 use crate::memory::Place;
+use crate::settings::Settings;
 use crate::taken::Taken;
 use crate::{
     nizwarf_end_at, nizwarf_message_at, nizwarf_new_at, nizwarf_take_at, nizwarf_tell_time_at,

@@ -1,8 +1,8 @@
 use Rattle.std.proofs.Common.{◌≡◌, rules}
 use Rattle.std_alloc.specs.Vec.{vec_ptr}
 use Rattle.vfs_rooms.specs.Codes.{ok}
-use Rattle.vfs_c.proofs.MessageTaken.{message_taken}
-use Rattle.vfs_c.proofs.uses_taken.message_is_taken.Goals as goal
+use Rattle.vfs_c.proofs.TreeMessageTaken.{message_taken}
+use Rattle.vfs_c.proofs.tree.uses_taken.message_is_taken.Goals as goal
 
 pub returns : goal.returns
 returns c = λ is.

@@ -1,7 +1,7 @@
 //! What holds of the tree behind a server, in whatever calls the messages came. A library over another
 //! file system has no such file.
 
-ghost use Rattle.vfs_c.specs.Laws.{HistoriesAreKept};
+ghost use Rattle.vfs_c.specs.TreeLaws.{HistoriesAreKept};
 
 use vfs_tree_laws::history::new_trees_are_kept;
 

@@ -2,7 +2,7 @@
 use denote.RawPtr.{Ptr}
 use Rattle.std.proofs.Common.{◌≡◌, ◌∙◌, ℕ, ◌-◌, List, length, take, drop, min, Option, Some, None, IfSome, MatchOption, ap, sym}
 use Rattle.std.proofs.lemmas.List.{length-take, length-drop}
-use Rattle.vfs_c.specs.Uses.{no_such_name}
+use Rattle.vfs_c.specs.TreeUses.{no_such_name}
 use Rattle.vfs_c.specs.declared.memory.Place.{Place}
 
 module _ {A B V : Type 0} (room : A → V) (start shown : A → ℕ) (kept : B → V) (bytes : V → List ℕ)

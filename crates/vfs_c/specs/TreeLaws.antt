@@ -6,7 +6,7 @@ use Rattle.vfs_history.specs.History.{Moment, turns_in, IsHistory}
 use Rattle.vfs_tree_laws.specs.Histories.{OnlyTold, IsKept}
 use Rattle.vfs_c.specs.Files.{State, Allows, Gives}
 use Rattle.vfs_c.specs.Served.{new_server}
-use Rattle.vfs_c.specs.declared.files.Settings.{Settings}
+use Rattle.vfs_c.specs.declared.settings.Settings.{Settings}
 
 -- after all messages and tellings of the time
 abbrev pub HistoriesAreKept : Type 0

@@ -1,6 +1,6 @@
 use Rattle.std.proofs.Common.{refl}
 use Rattle.vfs_c.specs.Served.{new_server}
-use Rattle.vfs_c.proofs.laws.histories_are_kept.Goals as goal
+use Rattle.vfs_c.proofs.tree.laws.histories_are_kept.Goals as goal
 
 pub returns : goal.returns
 returns c = λ page_size max_buffer settings new moments.
