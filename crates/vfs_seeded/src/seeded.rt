@@ -47,6 +47,7 @@ use vfs_flags::{Errno, Fault, FsOptions, OpenOptions};
 use vfs_wire::{Attr, SetattrIn};
 
 mod calls;
+mod noting;
 
 /// The file system.
 #[derive(Drop)]
