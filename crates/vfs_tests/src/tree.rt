@@ -5,8 +5,8 @@ mod session;
 use crate::support::{Message, handle, none_is_wrong};
 use crate::tree::session::memory::steps;
 use crate::tree::session::rest::{fifth, fourth, sixth, special};
-use crate::tree::session::{Step, first, long, second, third};
-use std::alloc::Global;
+use crate::tree::session::{Asks, Step, first, long, second, third};
+use std::alloc::{AllocError, Global};
 use std::test::Fail;
 use vfs_flags::{GuestGid, GuestUid};
 use vfs_server::server::Server;
@@ -52,6 +52,48 @@ fn reply(
     Ok(reply)
 }
 
+/// Numbers of eight bytes each, and bytes after them.
+fn joined(alloc: Global, numbers: &[u64], data: &[u8]) -> Result<Vec<u8>, AllocError> {
+    let mut all = Vec::new(alloc);
+    for number in numbers {
+        all.extend_from_slice(&number.to_le_bytes())?;
+    }
+    all.extend_from_slice(data)?;
+    Ok(all)
+}
+
+/// The opcode, the node, and the bytes after the header of what is asked.
+fn message_of(alloc: Global, asks: Asks) -> Result<(u8, u8, Vec<u8>), AllocError> {
+    match asks {
+        Asks::Message(opcode, node, bytes) => Ok((opcode, node, joined(alloc, &[], bytes)?)),
+        Asks::Getattr(node) => Ok((3, node, joined(alloc, &[0, 0], b"")?)),
+        Asks::Size(node, size) => {
+            let record = [8, 0, size, 0, 0, 0, 0, 0, 0, 0, 0];
+            Ok((4, node, joined(alloc, &record, b"")?))
+        }
+        Asks::Mtime(node, seconds) => {
+            let record = [32, 0, 0, 0, 0, seconds, 0, 0, 0, 0, 0];
+            Ok((4, node, joined(alloc, &record, b"")?))
+        }
+        Asks::Read(node, offset, size) => {
+            Ok((15, node, joined(alloc, &[0, offset, size, 0, 0], b"")?))
+        }
+        Asks::Write(node, offset, data) => {
+            let record = [0, offset, data.len() as u64, 0, 0];
+            Ok((16, node, joined(alloc, &record, data)?))
+        }
+        Asks::Readdir(node, offset) => {
+            Ok((28, node, joined(alloc, &[0, offset, 4096, 0, 0], b"")?))
+        }
+        Asks::Fallocate(node, mode, offset, length) => {
+            Ok((43, node, joined(alloc, &[0, offset, length, mode], b"")?))
+        }
+        Asks::Lseek(node, offset, whence) => {
+            Ok((46, node, joined(alloc, &[0, offset, whence], b"")?))
+        }
+    }
+}
+
 /// Whether a reply has these bytes at a place.
 fn says(reply: &[u8], at: usize, bytes: &[u8]) -> bool {
     match reply.get(at..) {
@@ -60,9 +102,10 @@ fn says(reply: &[u8], at: usize, bytes: &[u8]) -> bool {
     }
 }
 
-/// Whether a step's message is replied to so.
+/// Whether what a step asks is replied to so.
 fn is_replied(alloc: Global, server: &mut Server<TreeFs>, step: &Step) -> Result<bool, Fail> {
-    let reply = reply(alloc, server, step.message)?;
+    let (opcode, node, bytes) = message_of(alloc, step.asks)?;
+    let reply = reply(alloc, server, (opcode, node, &bytes))?;
     if reply.len() != step.length || !says(&reply, 4, &step.error.to_le_bytes()) {
         return Ok(step.length == 0 && reply.is_empty());
     }

@@ -6,12 +6,33 @@ pub mod long;
 pub mod memory;
 pub mod rest;
 
-use crate::support::Message;
+/// What a step asks of a node, whose number comes first but in a message.
+#[derive(Clone, Copy)]
+pub enum Asks {
+    /// An opcode, a node, and the bytes after the header.
+    Message(u8, u8, &'static [u8]),
+    /// GETATTR.
+    Getattr(u8),
+    /// SETATTR of the size.
+    Size(u8, u64),
+    /// SETATTR of the time of change, in seconds.
+    Mtime(u8, u64),
+    /// READ: the offset, and how many bytes.
+    Read(u8, u64, u64),
+    /// WRITE: the offset, and the bytes.
+    Write(u8, u64, &'static [u8]),
+    /// READDIR of 4096 bytes: the offset.
+    Readdir(u8, u64),
+    /// FALLOCATE: the mode, the offset and the length.
+    Fallocate(u8, u64, u64, u64),
+    /// LSEEK: the offset, and from where it counts.
+    Lseek(u8, u64, u64),
+}
 
-/// A message, and what is replied.
+/// What is asked, and what is replied.
 pub struct Step {
     pub why: &'static str,
-    pub message: Message<'static>,
+    pub asks: Asks,
     /// The error in the reply's header, or 0.
     pub error: i32,
     /// The reply's length.
@@ -23,8 +44,8 @@ pub struct Step {
 /// A directory, and a file in it that is written and read.
 static FIRST: [Step; 15] = [
     Step {
-        why: "a new root",
-        message: (3, 1, b"\0\0\0\0\0\0\0\0\0\0\0\0\0\0\0\0"),
+        why: "A new root has two links and no byte.",
+        asks: Asks::Getattr(1),
         error: 0,
         length: 120,
         says: &[
@@ -35,8 +56,8 @@ static FIRST: [Step; 15] = [
         ],
     },
     Step {
-        why: "a directory, which the client keeps for a day",
-        message: (9, 1, b"\xed\x01\0\0\0\0\0\0d\0"),
+        why: "A directory is made, and the client may keep its entry for a day.",
+        asks: Asks::Message(9, 1, b"\xed\x01\0\0\0\0\0\0d\0"),
         error: 0,
         length: 144,
         says: &[
@@ -50,22 +71,22 @@ static FIRST: [Step; 15] = [
         ],
     },
     Step {
-        why: "the root has one link more",
-        message: (3, 1, b"\0\0\0\0\0\0\0\0\0\0\0\0\0\0\0\0"),
+        why: "The root has a link more.",
+        asks: Asks::Getattr(1),
         error: 0,
         length: 120,
         says: &[(96, b"\x03\0\0\0")],
     },
     Step {
-        why: "its name is taken",
-        message: (9, 1, b"\xed\x01\0\0\0\0\0\0d\0"),
+        why: "A directory of the same name is not made.",
+        asks: Asks::Message(9, 1, b"\xed\x01\0\0\0\0\0\0d\0"),
         error: -17,
         length: 16,
         says: &[],
     },
     Step {
-        why: "a file in it",
-        message: (35, 2, b"\0\0\0\0\xa4\x01\0\0\0\0\0\0\0\0\0\0f\0"),
+        why: "A file is made in the directory.",
+        asks: Asks::Message(35, 2, b"\0\0\0\0\xa4\x01\0\0\0\0\0\0\0\0\0\0f\0"),
         error: 0,
         length: 160,
         says: &[
@@ -77,43 +98,43 @@ static FIRST: [Step; 15] = [
         ],
     },
     Step {
-        why: "a directory that holds a name stays",
-        message: (11, 1, b"d\0"),
+        why: "A directory that holds a name is not removed.",
+        asks: Asks::Message(11, 1, b"d\0"),
         error: -39,
         length: 16,
         says: &[],
     },
     Step {
-        why: "a directory is no file",
-        message: (10, 1, b"d\0"),
+        why: "A directory is not removed as a file.",
+        asks: Asks::Message(10, 1, b"d\0"),
         error: -21,
         length: 16,
         says: &[],
     },
     Step {
-        why: "a file is no directory",
-        message: (11, 2, b"f\0"),
+        why: "A file is not removed as a directory.",
+        asks: Asks::Message(11, 2, b"f\0"),
         error: -20,
         length: 16,
         says: &[],
     },
     Step {
-        why: "nothing is below a file",
-        message: (1, 3, b"x\0"),
+        why: "Nothing is looked up below a file.",
+        asks: Asks::Message(1, 3, b"x\0"),
         error: -20,
         length: 16,
         says: &[],
     },
     Step {
-        why: "nothing of that name",
-        message: (1, 2, b"x\0"),
+        why: "A name that is not there is not found.",
+        asks: Asks::Message(1, 2, b"x\0"),
         error: -2,
         length: 16,
         says: &[],
     },
     Step {
-        why: "a name of 256 bytes",
-        message: (
+        why: "A name of 256 bytes is too long.",
+        asks: Asks::Message(
             1,
             2,
             b"nnnnnnnnnnnnnnnnnnnnnnnnnnnnnnnnnnnnnnnnnnnnnnnnnnnnnnnnnnnnnnnnnnnnnnnnnnnnnnnnnnnnnnnnnnnnnnnnnnnnnnnnnnnnnnnnnnnnnnnnnnnnnnnnnnnnnnnnnnnnnnnnnnnnnnnnnnnnnnnnnnnnnnnnnnnnnnnnnnnnnnnnnnnnnnnnnnnnnnnnnnnnnnnnnnnnnnnnnnnnnnnnnnnnnnnnnnnnnnnnnnnnnnnnnnnnnnnn\0",
@@ -123,45 +144,29 @@ static FIRST: [Step; 15] = [
         says: &[],
     },
     Step {
-        why: "bytes are written",
-        message: (
-            16,
-            3,
-            b"\0\0\0\0\0\0\0\0\0\0\0\0\0\0\0\0\x05\0\0\0\0\0\0\0\0\0\0\0\0\0\0\0\0\0\0\0\0\0\0\0hello",
-        ),
+        why: "Five bytes are written.",
+        asks: Asks::Write(3, 0, b"hello"),
         error: 0,
         length: 24,
         says: &[(16, b"\x05\0\0\0")],
     },
     Step {
-        why: "and read",
-        message: (
-            15,
-            3,
-            b"\0\0\0\0\0\0\0\0\x01\0\0\0\0\0\0\0d\0\0\0\0\0\0\0\0\0\0\0\0\0\0\0\0\0\0\0\0\0\0\0",
-        ),
+        why: "What was written is read from its second byte on.",
+        asks: Asks::Read(3, 1, 100),
         error: 0,
         length: 20,
         says: &[(16, b"ello")],
     },
     Step {
-        why: "bytes behind the end",
-        message: (
-            16,
-            3,
-            b"\0\0\0\0\0\0\0\0\x08\0\0\0\0\0\0\0\x01\0\0\0\0\0\0\0\0\0\0\0\0\0\0\0\0\0\0\0\0\0\0\0!",
-        ),
+        why: "A byte is written past the end.",
+        asks: Asks::Write(3, 8, b"!"),
         error: 0,
         length: 24,
         says: &[(16, b"\x01\0\0\0")],
     },
     Step {
-        why: "leave zeros before them",
-        message: (
-            15,
-            3,
-            b"\0\0\0\0\0\0\0\0\0\0\0\0\0\0\0\0d\0\0\0\0\0\0\0\0\0\0\0\0\0\0\0\0\0\0\0\0\0\0\0",
-        ),
+        why: "Zeros stand between the old end and that byte.",
+        asks: Asks::Read(3, 0, 100),
         error: 0,
         length: 25,
         says: &[(16, b"hello\0\0\0!")],
@@ -171,48 +176,36 @@ static FIRST: [Step; 15] = [
 /// Its length, permissions and times.
 static SECOND: [Step; 15] = [
     Step {
-        why: "its length and blocks",
-        message: (3, 3, b"\0\0\0\0\0\0\0\0\0\0\0\0\0\0\0\0"),
+        why: "The file has nine bytes in one page of eight blocks.",
+        asks: Asks::Getattr(3),
         error: 0,
         length: 120,
         says: &[(40, b"\x09\0\0\0\0\0\0\0"), (48, b"\x08\0\0\0\0\0\0\0")],
     },
     Step {
-        why: "a shorter file",
-        message: (
-            4,
-            3,
-            b"\x08\0\0\0\0\0\0\0\0\0\0\0\0\0\0\0\x02\0\0\0\0\0\0\0\0\0\0\0\0\0\0\0\0\0\0\0\0\0\0\0\0\0\0\0\0\0\0\0\0\0\0\0\0\0\0\0\0\0\0\0\0\0\0\0\0\0\0\0\0\0\0\0\0\0\0\0\0\0\0\0\0\0\0\0\0\0\0\0",
-        ),
+        why: "The file is cut to two bytes.",
+        asks: Asks::Size(3, 2),
         error: 0,
         length: 120,
         says: &[(40, b"\x02\0\0\0\0\0\0\0")],
     },
     Step {
-        why: "made longer again",
-        message: (
-            4,
-            3,
-            b"\x08\0\0\0\0\0\0\0\0\0\0\0\0\0\0\0\x04\0\0\0\0\0\0\0\0\0\0\0\0\0\0\0\0\0\0\0\0\0\0\0\0\0\0\0\0\0\0\0\0\0\0\0\0\0\0\0\0\0\0\0\0\0\0\0\0\0\0\0\0\0\0\0\0\0\0\0\0\0\0\0\0\0\0\0\0\0\0\0",
-        ),
+        why: "The file is made longer, to four bytes.",
+        asks: Asks::Size(3, 4),
         error: 0,
         length: 120,
         says: &[(40, b"\x04\0\0\0\0\0\0\0")],
     },
     Step {
-        why: "has zeros",
-        message: (
-            15,
-            3,
-            b"\0\0\0\0\0\0\0\0\0\0\0\0\0\0\0\0d\0\0\0\0\0\0\0\0\0\0\0\0\0\0\0\0\0\0\0\0\0\0\0",
-        ),
+        why: "What it was made longer by are zeros.",
+        asks: Asks::Read(3, 0, 100),
         error: 0,
         length: 20,
         says: &[(16, b"he\0\0")],
     },
     Step {
-        why: "permissions and owner",
-        message: (
+        why: "Permissions and owner are set; only the mode and the user are looked at.",
+        asks: Asks::Message(
             4,
             3,
             b"\x07\0\0\0\0\0\0\0\0\0\0\0\0\0\0\0\0\0\0\0\0\0\0\0\0\0\0\0\0\0\0\0\0\0\0\0\0\0\0\0\0\0\0\0\0\0\0\0\0\0\0\0\0\0\0\0\0\0\0\0\0\0\0\0\0\0\0\0\x80\x01\0\0\0\0\0\0\x05\0\0\0\x06\0\0\0\0\0\0\0",
@@ -222,19 +215,15 @@ static SECOND: [Step; 15] = [
         says: &[(92, b"\x80\x81\0\0"), (100, b"\x05\0\0\0")],
     },
     Step {
-        why: "a time",
-        message: (
-            4,
-            3,
-            b" \0\0\0\0\0\0\0\0\0\0\0\0\0\0\0\0\0\0\0\0\0\0\0\0\0\0\0\0\0\0\0\0\0\0\0\0\0\0\0\x03\0\0\0\0\0\0\0\0\0\0\0\0\0\0\0\0\0\0\0\0\0\0\0\0\0\0\0\0\0\0\0\0\0\0\0\0\0\0\0\0\0\0\0\0\0\0\0",
-        ),
+        why: "A time of change is set.",
+        asks: Asks::Mtime(3, 3),
         error: 0,
         length: 120,
         says: &[(64, b"\x03\0\0\0\0\0\0\0")],
     },
     Step {
-        why: "the present time",
-        message: (
+        why: "The time of change is set to the present.",
+        asks: Asks::Message(
             4,
             3,
             b" \x01\0\0\0\0\0\0\0\0\0\0\0\0\0\0\0\0\0\0\0\0\0\0\0\0\0\0\0\0\0\0\0\0\0\0\0\0\0\0\x03\0\0\0\0\0\0\0\0\0\0\0\0\0\0\0\0\0\0\0\0\0\0\0\0\0\0\0\0\0\0\0\0\0\0\0\0\0\0\0\0\0\0\0\0\0\0\0",
@@ -244,77 +233,57 @@ static SECOND: [Step; 15] = [
         says: &[(64, b"\x07\0\0\0\0\0\0\0")],
     },
     Step {
-        why: "a length of a directory",
-        message: (
-            4,
-            2,
-            b"\x08\0\0\0\0\0\0\0\0\0\0\0\0\0\0\0\x01\0\0\0\0\0\0\0\0\0\0\0\0\0\0\0\0\0\0\0\0\0\0\0\0\0\0\0\0\0\0\0\0\0\0\0\0\0\0\0\0\0\0\0\0\0\0\0\0\0\0\0\0\0\0\0\0\0\0\0\0\0\0\0\0\0\0\0\0\0\0\0",
-        ),
+        why: "A directory has no length to be set.",
+        asks: Asks::Size(2, 1),
         error: -21,
         length: 16,
         says: &[],
     },
     Step {
-        why: "a file longer than one may be",
-        message: (
-            4,
-            3,
-            b"\x08\0\0\0\0\0\0\0\0\0\0\0\0\0\0\0A\0\0\0\0\0\0\0\0\0\0\0\0\0\0\0\0\0\0\0\0\0\0\0\0\0\0\0\0\0\0\0\0\0\0\0\0\0\0\0\0\0\0\0\0\0\0\0\0\0\0\0\0\0\0\0\0\0\0\0\0\0\0\0\0\0\0\0\0\0\0\0",
-        ),
+        why: "A file is not made longer than one may be.",
+        asks: Asks::Size(3, 65),
         error: -27,
         length: 16,
         says: &[],
     },
     Step {
-        why: "opened with O_TRUNC",
-        message: (14, 3, b"\x01\x02\0\0\0\0\0\0"),
+        why: "The file is opened with O_TRUNC.",
+        asks: Asks::Message(14, 3, b"\x01\x02\0\0\0\0\0\0"),
         error: 0,
         length: 32,
         says: &[(24, b"\0\0\0\0")],
     },
     Step {
-        why: "it is empty",
-        message: (3, 3, b"\0\0\0\0\0\0\0\0\0\0\0\0\0\0\0\0"),
+        why: "A file that was opened with O_TRUNC is empty.",
+        asks: Asks::Getattr(3),
         error: 0,
         length: 120,
         says: &[(40, b"\0\0\0\0\0\0\0\0"), (48, b"\0\0\0\0\0\0\0\0")],
     },
     Step {
-        why: "place for 64 bytes",
-        message: (
-            43,
-            3,
-            b"\0\0\0\0\0\0\0\00\0\0\0\0\0\0\0\x10\0\0\0\0\0\0\0\0\0\0\0\0\0\0\0",
-        ),
+        why: "Place is allocated up to byte 64.",
+        asks: Asks::Fallocate(3, 0, 48, 16),
         error: 0,
         length: 16,
         says: &[],
     },
     Step {
-        why: "is there",
-        message: (3, 3, b"\0\0\0\0\0\0\0\0\0\0\0\0\0\0\0\0"),
+        why: "The allocated bytes count in the length.",
+        asks: Asks::Getattr(3),
         error: 0,
         length: 120,
         says: &[(40, b"@\0\0\0\0\0\0\0"), (48, b"\x08\0\0\0\0\0\0\0")],
     },
     Step {
-        why: "another way of it is not served",
-        message: (
-            43,
-            3,
-            b"\0\0\0\0\0\0\0\0\0\0\0\0\0\0\0\0\x01\0\0\0\0\0\0\0\x08\0\0\0\0\0\0\0",
-        ),
+        why: "FALLOC_FL_COLLAPSE_RANGE is not served.",
+        asks: Asks::Fallocate(3, 8, 0, 1),
         error: -95,
         length: 16,
         says: &[],
     },
     Step {
-        why: "place in a directory",
-        message: (
-            43,
-            2,
-            b"\0\0\0\0\0\0\0\0\0\0\0\0\0\0\0\0\x01\0\0\0\0\0\0\0\0\0\0\0\0\0\0\0",
-        ),
+        why: "A directory gets no place.",
+        asks: Asks::Fallocate(2, 0, 0, 1),
         error: -19,
         length: 16,
         says: &[],
@@ -324,8 +293,8 @@ static SECOND: [Step; 15] = [
 /// A link, a second name, other nodes; readings; names that move.
 static THIRD: [Step; 15] = [
     Step {
-        why: "a symbolic link",
-        message: (6, 1, b"l\0d/f\0"),
+        why: "A symbolic link is made.",
+        asks: Asks::Message(6, 1, b"l\0d/f\0"),
         error: 0,
         length: 144,
         says: &[
@@ -337,22 +306,22 @@ static THIRD: [Step; 15] = [
         ],
     },
     Step {
-        why: "its text",
-        message: (5, 4, b""),
+        why: "A symbolic link has its text.",
+        asks: Asks::Message(5, 4, b""),
         error: 0,
         length: 19,
         says: &[(16, b"d/f")],
     },
     Step {
-        why: "a file has no text",
-        message: (5, 3, b""),
+        why: "A file has no text as a link has.",
+        asks: Asks::Message(5, 3, b""),
         error: -22,
         length: 16,
         says: &[],
     },
     Step {
-        why: "a second name",
-        message: (13, 1, b"\x03\0\0\0\0\0\0\0g\0"),
+        why: "A file gets a second name, and has two links.",
+        asks: Asks::Message(13, 1, b"\x03\0\0\0\0\0\0\0g\0"),
         error: 0,
         length: 144,
         says: &[
@@ -362,15 +331,15 @@ static THIRD: [Step; 15] = [
         ],
     },
     Step {
-        why: "a directory has one",
-        message: (13, 1, b"\x02\0\0\0\0\0\0\0h\0"),
+        why: "A directory gets no second name.",
+        asks: Asks::Message(13, 1, b"\x02\0\0\0\0\0\0\0h\0"),
         error: -1,
         length: 16,
         says: &[],
     },
     Step {
-        why: "a file by MKNOD",
-        message: (8, 1, b"\xa0\x81\0\0\0\0\0\0\0\0\0\0\0\0\0\0m\0"),
+        why: "MKNOD makes a file.",
+        asks: Asks::Message(8, 1, b"\xa0\x81\0\0\0\0\0\0\0\0\0\0\0\0\0\0m\0"),
         error: 0,
         length: 144,
         says: &[
@@ -381,19 +350,15 @@ static THIRD: [Step; 15] = [
         ],
     },
     Step {
-        why: "a directory is not made by it",
-        message: (8, 1, b"\xa0A\0\0\0\0\0\0\0\0\0\0\0\0\0\0p\0"),
+        why: "MKNOD makes no directory.",
+        asks: Asks::Message(8, 1, b"\xa0A\0\0\0\0\0\0\0\0\0\0\0\0\0\0p\0"),
         error: -1,
         length: 16,
         says: &[],
     },
     Step {
-        why: "the root's names",
-        message: (
-            28,
-            1,
-            b"\0\0\0\0\0\0\0\0\0\0\0\0\0\0\0\0\0\x10\0\0\0\0\0\0\0\0\0\0\0\0\0\0\0\0\0\0\0\0\0\0",
-        ),
+        why: "The root lists its names, the latest first.",
+        asks: Asks::Readdir(1, 0),
         error: 0,
         length: 208,
         says: &[(
@@ -402,19 +367,15 @@ static THIRD: [Step; 15] = [
         )],
     },
     Step {
-        why: "a name goes",
-        message: (10, 1, b"l\0"),
+        why: "A name is removed.",
+        asks: Asks::Message(10, 1, b"l\0"),
         error: 0,
         length: 16,
         says: &[],
     },
     Step {
-        why: "a reading goes on from a place, without it",
-        message: (
-            28,
-            1,
-            b"\0\0\0\0\0\0\0\0\xfc\xff\xff\xff\xff\xff\xff\x7f\0\x10\0\0\0\0\0\0\0\0\0\0\0\0\0\0\0\0\0\0\0\0\0\0",
-        ),
+        why: "A reading goes on from a place whose name is gone.",
+        asks: Asks::Readdir(1, (1 << 63) - 4),
         error: 0,
         length: 80,
         says: &[(
@@ -423,36 +384,36 @@ static THIRD: [Step; 15] = [
         )],
     },
     Step {
-        why: "a name in another directory",
-        message: (12, 1, b"\x02\0\0\0\0\0\0\0g\0k\0"),
+        why: "A name moves to another directory.",
+        asks: Asks::Message(12, 1, b"\x02\0\0\0\0\0\0\0g\0k\0"),
         error: 0,
         length: 16,
         says: &[],
     },
     Step {
-        why: "it has left",
-        message: (1, 1, b"g\0"),
+        why: "A name that moved is not where it was.",
+        asks: Asks::Message(1, 1, b"g\0"),
         error: -2,
         length: 16,
         says: &[],
     },
     Step {
-        why: "over another name of the same file",
-        message: (12, 2, b"\x02\0\0\0\0\0\0\0k\0f\0"),
+        why: "A name is moved over another of the same file, and that changes nothing.",
+        asks: Asks::Message(12, 2, b"\x02\0\0\0\0\0\0\0k\0f\0"),
         error: 0,
         length: 16,
         says: &[],
     },
     Step {
-        why: "both names stay",
-        message: (3, 3, b"\0\0\0\0\0\0\0\0\0\0\0\0\0\0\0\0"),
+        why: "A file whose name was moved over its other name keeps both.",
+        asks: Asks::Getattr(3),
         error: 0,
         length: 120,
         says: &[(96, b"\x02\0\0\0")],
     },
     Step {
-        why: "over one that is there",
-        message: (45, 1, b"\x02\0\0\0\0\0\0\0\x01\0\0\0\0\0\0\0m\0f\0"),
+        why: "RENAME_NOREPLACE takes no name that is there.",
+        asks: Asks::Message(45, 1, b"\x02\0\0\0\0\0\0\0\x01\0\0\0\0\0\0\0m\0f\0"),
         error: -17,
         length: 16,
         says: &[],

@@ -1,91 +1,75 @@
 //! What needs no more memory than there is, in a new tree.
 
-use crate::tree::session::Step;
+use crate::tree::session::{Asks, Step};
 
 /// Room of a file from its first byte on, and an attribute without a value.
 static STEPS: [Step; 10] = [
     Step {
-        why: "a file",
-        message: (35, 1, b"\0\0\0\0\xa4\x01\0\0\0\0\0\0\0\0\0\0f\0"),
+        why: "A file is made.",
+        asks: Asks::Message(35, 1, b"\0\0\0\0\xa4\x01\0\0\0\0\0\0\0\0\0\0f\0"),
         error: 0,
         length: 160,
         says: &[(16, b"\x02\0\0\0\0\0\0\0")],
     },
     Step {
-        why: "grows to 16 bytes from its first one on",
-        message: (
-            43,
-            2,
-            b"\0\0\0\0\0\0\0\0\0\0\0\0\0\0\0\0\x10\0\0\0\0\0\0\0\0\0\0\0\0\0\0\0",
-        ),
+        why: "FALLOCATE makes an empty file longer, to 16 bytes.",
+        asks: Asks::Fallocate(2, 0, 0, 16),
         error: 0,
         length: 16,
         says: &[],
     },
     Step {
-        why: "it has them",
-        message: (3, 2, b"\0\0\0\0\0\0\0\0\0\0\0\0\0\0\0\0"),
+        why: "A file that FALLOCATE made longer has these bytes.",
+        asks: Asks::Getattr(2),
         error: 0,
         length: 120,
         says: &[(40, b"\x10\0\0\0\0\0\0\0")],
     },
     Step {
-        why: "has place for as many",
-        message: (
-            43,
-            2,
-            b"\0\0\0\0\0\0\0\0\0\0\0\0\0\0\0\0\x10\0\0\0\0\0\0\0\0\0\0\0\0\0\0\0",
-        ),
+        why: "FALLOCATE allocates as many bytes as are there.",
+        asks: Asks::Fallocate(2, 0, 0, 16),
         error: 0,
         length: 16,
         says: &[],
     },
     Step {
-        why: "and for fewer",
-        message: (
-            43,
-            2,
-            b"\0\0\0\0\0\0\0\0\0\0\0\0\0\0\0\0\x08\0\0\0\0\0\0\0\0\0\0\0\0\0\0\0",
-        ),
+        why: "FALLOCATE allocates fewer bytes than are there.",
+        asks: Asks::Fallocate(2, 0, 0, 8),
         error: 0,
         length: 16,
         says: &[],
     },
     Step {
-        why: "they are zeros, and no fewer",
-        message: (
-            15,
-            2,
-            b"\0\0\0\0\0\0\0\0\0\0\0\0\0\0\0\0d\0\0\0\0\0\0\0\0\0\0\0\0\0\0\0\0\0\0\0\0\0\0\0",
-        ),
+        why: "FALLOCATE made all 16 bytes zeros, and takes none away.",
+        asks: Asks::Read(2, 0, 100),
         error: 0,
         length: 32,
         says: &[(16, b"\0\0\0\0\0\0\0\0\0\0\0\0\0\0\0\0")],
     },
     Step {
-        why: "an attribute without a value",
-        message: (21, 2, b"\0\0\0\0\0\0\0\0user.a\0"),
+        why: "An attribute without a value is set.",
+        asks: Asks::Message(21, 2, b"\0\0\0\0\0\0\0\0user.a\0"),
         error: 0,
         length: 16,
         says: &[],
     },
     Step {
-        why: "has no byte",
-        message: (22, 2, b"\0\0\0\0\0\0\0\0user.a\0"),
+        why: "The value that was set without a byte has the length 0.",
+        asks: Asks::Message(22, 2, b"\0\0\0\0\0\0\0\0user.a\0"),
         error: 0,
         length: 24,
         says: &[(16, b"\0\0\0\0")],
     },
     Step {
-        why: "whatever room there is",
-        message: (22, 2, b"\x03\0\0\0\0\0\0\0user.a\0"),
+        why: "A value without a byte is told in any room.",
+        asks: Asks::Message(22, 2, b"\x03\0\0\0\0\0\0\0user.a\0"),
         error: 0,
         length: 16,
         says: &[],
     },
     Step {
-        why: "and is there",
-        message: (23, 2, b"d\0\0\0\0\0\0\0"),
+        why: "An attribute without a value is listed.",
+        asks: Asks::Message(23, 2, b"d\0\0\0\0\0\0\0"),
         error: 0,
         length: 23,
         says: &[(16, b"user.a\0")],
