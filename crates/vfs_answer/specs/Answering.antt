@@ -11,6 +11,7 @@ use Rattle.vfs_grammar.specs.Room.{unseen}
 use Rattle.vfs_grammar.specs.Turn.{node_answered}
 use Rattle.vfs_grammar.specs.declared.limits.Limits.{Limits}
 use Rattle.vfs_calls.specs.declared.call.CallData.{CallData}
+use Rattle.vfs_calls.specs.declared.call.number.TheConstants as number
 use Rattle.vfs_calls.specs.declared.data.AnswerData.{AnswerData}
 use Rattle.vfs_calls.specs.declared.data.ItemData.{ItemData}
 use Rattle.vfs_answer.specs.Listing.{IsListed}
@@ -25,11 +26,10 @@ echo_told call = record {
   ctx = record { uid = call.uid; gid = call.gid; pid = call.pid };
 }
 
--- the options after an answer to a call of this kind: INIT's are those agreed, and DESTROY, whose number
--- is 38, leaves none
+-- the options after an answer to a call of this kind: INIT's are those agreed, and DESTROY leaves none
 abbrev pub options_told : CallData → Kind → Answer → ℕ
 options_told call Agreements (Options want) = agreed call.count want
-options_told call Quiet answer = if call.call == 38 then 0 else call.options
+options_told call Quiet answer = if call.call == number.DESTROY then 0 else call.options
 options_told call kind answer = call.options
 
 -- what comes of this answer to a call of this kind: the reply, by the rule of rooms; the options; and the

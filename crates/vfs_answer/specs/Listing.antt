@@ -11,6 +11,7 @@ use Rattle.vfs_grammar.specs.Records.{size_of}
 use Rattle.vfs_grammar.specs.Reply.{reply_to}
 use Rattle.vfs_grammar.specs.Turn.{IsRead}
 use Rattle.vfs_calls.specs.declared.call.CallData.{CallData}
+use Rattle.vfs_calls.specs.declared.call.has.TheConstants as has
 use Rattle.vfs_calls.specs.declared.data.AnswerData.{AnswerData}
 use Rattle.vfs_calls.specs.declared.data.ItemData.{ItemData}
 use Rattle.vfs_answer.specs.Offered.{AreOffered, taken_by}
@@ -20,7 +21,7 @@ use Rattle.vfs_answer.specs.declared.answered.Answered.{Answered}
 -- the directory that is read
 abbrev pub listing_told : CallData → Listing
 listing_told call = record {
-  plus = not (bit_and call.has 512 == 0);
+  plus = not (bit_and call.has has.PLUS == 0);
   ctx = record { uid = call.uid; gid = call.gid; pid = call.pid };
   parent = call.node;
   handle = call.handle;

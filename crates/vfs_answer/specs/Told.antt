@@ -14,6 +14,7 @@ use Rattle.vfs_grammar.specs.Turn.{IsRead, node_answered}
 use Rattle.vfs_grammar.specs.declared.limits.Limits.{Limits}
 use Rattle.vfs_calls.specs.Shapes.{shape_of}
 use Rattle.vfs_calls.specs.declared.call.CallData.{CallData}
+use Rattle.vfs_calls.specs.declared.call.kind.TheConstants.{DIRECTORY}
 use Rattle.vfs_calls.specs.declared.data.AnswerData.{AnswerData}
 use Rattle.vfs_calls.specs.declared.data.ItemData.{ItemData}
 use Rattle.vfs_answer.specs.Said.{IsSaid}
@@ -41,7 +42,7 @@ pub record TellsCall (told : CallData) (call : Call) : Type 0 where
 
 -- the data tell this directory that is to be read
 pub record TellsListing (told : CallData) (listing : Listing) : Type 0 where
-  pub kind : told.answer ≡ 14
+  pub kind : told.answer ≡ DIRECTORY
   pub listing_is : listing_told told ≡ listing
 
 -- A call was answered: there is an answer which the data of it say; the reply is the grammar's, by the rule

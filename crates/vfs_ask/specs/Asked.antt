@@ -1,5 +1,7 @@
 -- What is told of a request: its call as data, or that it is finished.
 use Rattle.std.specs.Prelude.{◌≡◌, ◌≤◌, ◌<◌, ◌⊎◌, ⊤, ◌==◌, ◌+◌, ◌*◌, ℕ, List, length, take, drop, position, nat_lt, if◌then◌else◌, Option, None, Some, Result, Ok, Err, IfOk}
+use Rattle.vfs_flags.specs.Numbers.{number_of}
+use Rattle.vfs_flags.specs.declared.opcode.Opcode.TheVariants.{Interrupt}
 use Rattle.vfs_segments.specs.Written.{Written}
 use Rattle.vfs_wire.specs.Records.{in_header, out_header, init_out}
 use Rattle.vfs_wire.specs.declared.headers.InHeader.{InHeader}
@@ -17,6 +19,7 @@ use Rattle.vfs_grammar.specs.declared.error.Error.{Error}
 use Rattle.vfs_grammar.specs.declared.error.Error.TheVariants.{OutOfMemory}
 use Rattle.vfs_calls.specs.Shapes.{bit, nothing, shape_of, unplaced}
 use Rattle.vfs_calls.specs.declared.call.CallData.{CallData}
+use Rattle.vfs_calls.specs.declared.call.has.TheConstants as has
 use Rattle.vfs_calls.specs.declared.call.Range.{Range}
 use Rattle.vfs_ask.specs.declared.asked.Asked.{Asked}
 use Rattle.vfs_ask.specs.declared.asked.Asked.TheVariants as asked
@@ -51,7 +54,7 @@ told_of options room echo call = record (shape_of call) {
 abbrev pub told_of_listing : (options room : ℕ) → Echo → Listing → CallData
 told_of_listing options room echo l =
     record (told_of options room echo (Readdir l.ctx l.parent l.handle l.size l.offset)) {
-      has = bit l.plus 512;
+      has = bit l.plus has.PLUS;
     }
 
 -- a range without its place
@@ -164,7 +167,7 @@ unique_or_none (Err error) = 0
 
 -- the number of INTERRUPT
 abbrev pub interrupt_number : ℕ
-interrupt_number = 36
+interrupt_number = number_of Interrupt
 
 -- the request that one with this header interrupts, and 0 where it interrupts none
 abbrev pub interrupted_behind : Limits → InHeader → (rest : List ℕ) → ℕ

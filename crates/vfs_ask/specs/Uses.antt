@@ -3,6 +3,8 @@ use Rattle.std.specs.Prelude.{◌≡◌, ◌++◌, ℕ, List, [], ◌∷◌}
 use Rattle.vfs_grammar.specs.Samples.{eight, four, header_9, lookup_of_a, zeros}
 use Rattle.vfs_calls.specs.Shapes.{nothing}
 use Rattle.vfs_calls.specs.declared.call.CallData.{CallData}
+use Rattle.vfs_calls.specs.declared.call.number.TheConstants as number
+use Rattle.vfs_calls.specs.declared.call.kind.TheConstants as kind
 use Rattle.vfs_ask.specs.Asked.{IsNameIn, bytes_in, without_places}
 use Rattle.vfs_ask.specs.declared.asked.Asked.{Asked}
 use Rattle.vfs_ask.specs.declared.asked.Asked.TheVariants.{Call}
@@ -16,8 +18,8 @@ pub record LooksUpA (options room : ℕ) (asked : Asked) (told : CallData) : Typ
     room = room;
     node = 1;
     name = record { at = 0; len = 1 };
-    call = 1;
-    answer = 5;
+    call = number.LOOKUP;
+    answer = kind.ENTRY;
   }
   pub name : IsNameIn lookup_of_a told.name (0x61 ∷ [])
 
@@ -35,8 +37,8 @@ pub record RenamesAToB (options room : ℕ) (asked : Asked) (told : CallData) : 
     name = record { at = 0; len = 1 };
     other_node = 2;
     other_name = record { at = 0; len = 1 };
-    call = 12;
-    answer = 1;
+    call = number.RENAME;
+    answer = kind.DONE;
   }
   pub old_name : IsNameIn rename_of_a_to_b told.name (0x61 ∷ [])
   pub new_name : IsNameIn rename_of_a_to_b told.other_name (0x62 ∷ [])
@@ -51,8 +53,8 @@ pub record ReadsThree (options room : ℕ) (asked : Asked) (told : CallData) : T
     node = 1;
     size = 3;
     count = 4;
-    call = 15;
-    answer = 3;
+    call = number.READ;
+    answer = kind.DATA;
   }
 
 -- request 9: a MKDIR of `d` in node 1 with the context of name `s` and value `v`: a block of 19 bytes

@@ -10,6 +10,9 @@ use Rattle.vfs_files.specs.declared.entry.Context.{Context}
 use Rattle.vfs_calls.specs.declared.call.Range.{Range}
 use Rattle.vfs_calls.specs.declared.call.SetattrData.{SetattrData}
 use Rattle.vfs_calls.specs.declared.call.CallData.{CallData}
+use Rattle.vfs_calls.specs.declared.call.number.TheConstants as number
+use Rattle.vfs_calls.specs.declared.call.kind.TheConstants as kind
+use Rattle.vfs_calls.specs.declared.call.has.TheConstants as has
 
 -- bytes of this length, wherever they are
 abbrev pub unplaced : List ℕ → Range
@@ -123,7 +126,7 @@ context_value_of (Some context) = unplaced context.1
 
 abbrev pub context_bit : Option (List ℕ × List ℕ) → ℕ
 context_bit None = 0
-context_bit (Some context) = 4
+context_bit (Some context) = has.CONTEXT
 
 -- with these extensions
 abbrev pub extended : ExtensionValues → CallData → CallData
@@ -131,35 +134,41 @@ extended ext c = record c {
   context_name = context_name_of ext.context;
   context = context_value_of ext.context;
   group = unwrap_or ext.group 0;
-  has = c.has + (context_bit ext.context + bit_of ext.group 8);
+  has = c.has + (context_bit ext.context + bit_of ext.group has.GROUP);
 }
 
 -- a record with the numbers of each call
 abbrev pub shape_over : CallData → Call → CallData
 shape_over c (call.Lookup ctx parent name) =
-    record (made_by ctx (asks 1 5 c)) { node = parent; name = unplaced name }
+    record (made_by ctx (asks number.LOOKUP kind.ENTRY c)) { node = parent; name = unplaced name }
 shape_over c (call.Forget ctx inode count) =
-    record (made_by ctx (asks 2 0 c)) { node = inode; count = count }
+    record (made_by ctx (asks number.FORGET kind.QUIET c)) { node = inode; count = count }
 shape_over c (call.Getattr ctx inode handle) =
-    record (made_by ctx (asks 3 6 c)) { node = inode; handle = unwrap_or handle 0; has = bit_of handle 1 }
+    record (made_by ctx (asks number.GETATTR kind.ATTR c)) {
+      node = inode;
+      handle = unwrap_or handle 0;
+      has = bit_of handle has.HANDLE;
+    }
 shape_over c (call.Setattr ctx inode attr handle valid) =
-    record (made_by ctx (asks 4 6 c)) {
+    record (made_by ctx (asks number.SETATTR kind.ATTR c)) {
       node = inode;
       attr = setattr_of attr;
       handle = unwrap_or handle 0;
-      has = bit_of handle 1;
+      has = bit_of handle has.HANDLE;
       flags = valid;
     }
-shape_over c (call.Readlink ctx inode) = record (made_by ctx (asks 5 10 c)) { node = inode }
+shape_over c (call.Readlink ctx inode) = record (made_by ctx (asks number.READLINK kind.TEXT c)) {
+  node = inode;
+}
 shape_over c (call.Symlink ctx linkname parent name ext) =
-    extended ext (record (made_by ctx (asks 6 5 c)) {
+    extended ext (record (made_by ctx (asks number.SYMLINK kind.ENTRY c)) {
       node = parent;
       name = unplaced name;
       other_name = unplaced linkname;
       has = 0;
     })
 shape_over c (call.Mknod ctx inode name mode rdev umask ext) =
-    extended ext (record (made_by ctx (asks 8 5 c)) {
+    extended ext (record (made_by ctx (asks number.MKNOD kind.ENTRY c)) {
       node = inode;
       name = unplaced name;
       mode = mode;
@@ -168,7 +177,7 @@ shape_over c (call.Mknod ctx inode name mode rdev umask ext) =
       has = 0;
     })
 shape_over c (call.Mkdir ctx parent name mode umask ext) =
-    extended ext (record (made_by ctx (asks 9 5 c)) {
+    extended ext (record (made_by ctx (asks number.MKDIR kind.ENTRY c)) {
       node = parent;
       name = unplaced name;
       mode = mode;
@@ -176,11 +185,11 @@ shape_over c (call.Mkdir ctx parent name mode umask ext) =
       has = 0;
     })
 shape_over c (call.Unlink ctx parent name) =
-    record (made_by ctx (asks 10 1 c)) { node = parent; name = unplaced name }
+    record (made_by ctx (asks number.UNLINK kind.DONE c)) { node = parent; name = unplaced name }
 shape_over c (call.Rmdir ctx parent name) =
-    record (made_by ctx (asks 11 1 c)) { node = parent; name = unplaced name }
+    record (made_by ctx (asks number.RMDIR kind.DONE c)) { node = parent; name = unplaced name }
 shape_over c (call.Rename ctx olddir oldname newdir newname flags) =
-    record (made_by ctx (asks 12 1 c)) {
+    record (made_by ctx (asks number.RENAME kind.DONE c)) {
       node = olddir;
       name = unplaced oldname;
       other_node = newdir;
@@ -188,42 +197,56 @@ shape_over c (call.Rename ctx olddir oldname newdir newname flags) =
       flags = flags;
     }
 shape_over c (call.Link ctx inode newparent newname) =
-    record (made_by ctx (asks 13 5 c)) { node = inode; other_node = newparent; name = unplaced newname }
+    record (made_by ctx (asks number.LINK kind.ENTRY c)) {
+      node = inode;
+      other_node = newparent;
+      name = unplaced newname;
+    }
 shape_over c (call.Open ctx inode kill_priv flags) =
-    record (made_by ctx (asks 14 7 c)) { node = inode; has = bit kill_priv 16; flags = flags }
+    record (made_by ctx (asks number.OPEN kind.OPENED c)) {
+      node = inode;
+      has = bit kill_priv has.KILL_PRIV;
+      flags = flags;
+    }
 shape_over c (call.Read ctx inode handle room size offset lock_owner flags) =
-    record (made_by ctx (asks 15 3 c)) {
+    record (made_by ctx (asks number.READ kind.DATA c)) {
       node = inode;
       handle = handle;
       size = size;
       offset = offset;
       lock_owner = unwrap_or lock_owner 0;
-      has = bit_of lock_owner 2;
+      has = bit_of lock_owner has.OWNER;
       flags = flags;
     }
 shape_over c (call.Write ctx inode handle bytes size offset lock_owner delayed kill_priv flags) =
-    record (made_by ctx (asks 16 13 c)) {
+    record (made_by ctx (asks number.WRITE kind.WRITTEN c)) {
       node = inode;
       handle = handle;
       size = size;
       offset = offset;
       lock_owner = unwrap_or lock_owner 0;
-      has = bit_of lock_owner 2 + (bit delayed 32 + bit kill_priv 16);
+      has = bit_of lock_owner has.OWNER + (bit delayed has.DELAYED + bit kill_priv has.KILL_PRIV);
       flags = flags;
     }
-shape_over c (call.Statfs ctx inode) = record (made_by ctx (asks 17 9 c)) { node = inode }
+shape_over c (call.Statfs ctx inode) = record (made_by ctx (asks number.STATFS kind.STATISTICS c)) {
+  node = inode;
+}
 shape_over c (call.Release ctx inode flags handle flush flock_release lock_owner) =
-    record (made_by ctx (asks 18 1 c)) {
+    record (made_by ctx (asks number.RELEASE kind.DONE c)) {
       node = inode;
       flags = flags;
       handle = handle;
       lock_owner = unwrap_or lock_owner 0;
-      has = bit_of lock_owner 2 + (bit flush 128 + bit flock_release 256);
+      has = bit_of lock_owner has.OWNER + (bit flush has.FLUSHES + bit flock_release has.FLOCK_RELEASE);
     }
 shape_over c (call.Fsync ctx inode datasync handle) =
-    record (made_by ctx (asks 20 1 c)) { node = inode; has = bit datasync 64; handle = handle }
+    record (made_by ctx (asks number.FSYNC kind.DONE c)) {
+      node = inode;
+      has = bit datasync has.DATASYNC;
+      handle = handle;
+    }
 shape_over c (call.Setxattr ctx inode name value flags extra) =
-    record (made_by ctx (asks 21 1 c)) {
+    record (made_by ctx (asks number.SETXATTR kind.DONE c)) {
       node = inode;
       name = unplaced name;
       value = unplaced value;
@@ -231,45 +254,62 @@ shape_over c (call.Setxattr ctx inode name value flags extra) =
       more = extra;
     }
 shape_over c (call.Getxattr ctx inode name size) =
-    record (made_by ctx (asks 22 11 c)) { node = inode; name = unplaced name; size = size }
+    record (made_by ctx (asks number.GETXATTR kind.TEXT_OR_COUNT c)) {
+      node = inode;
+      name = unplaced name;
+      size = size;
+    }
 shape_over c (call.Listxattr ctx inode size) =
-    record (made_by ctx (asks 23 11 c)) { node = inode; size = size }
+    record (made_by ctx (asks number.LISTXATTR kind.TEXT_OR_COUNT c)) { node = inode; size = size }
 shape_over c (call.Removexattr ctx inode name) =
-    record (made_by ctx (asks 24 1 c)) { node = inode; name = unplaced name }
+    record (made_by ctx (asks number.REMOVEXATTR kind.DONE c)) { node = inode; name = unplaced name }
 shape_over c (call.Flush ctx inode handle lock_owner) =
-    record (made_by ctx (asks 25 1 c)) { node = inode; handle = handle; lock_owner = lock_owner }
-shape_over c (call.Init capable) = record (asks 26 4 c) { count = capable }
+    record (made_by ctx (asks number.FLUSH kind.DONE c)) {
+      node = inode;
+      handle = handle;
+      lock_owner = lock_owner;
+    }
+shape_over c (call.Init capable) = record (asks number.INIT kind.WANT c) { count = capable }
 shape_over c (call.Opendir ctx inode flags) =
-    record (made_by ctx (asks 27 7 c)) { node = inode; flags = flags }
+    record (made_by ctx (asks number.OPENDIR kind.OPENED c)) { node = inode; flags = flags }
 shape_over c (call.Readdir ctx inode handle size offset) =
-    record (made_by ctx (asks 28 14 c)) { node = inode; handle = handle; size = size; offset = offset }
+    record (made_by ctx (asks number.READDIR kind.DIRECTORY c)) {
+      node = inode;
+      handle = handle;
+      size = size;
+      offset = offset;
+    }
 shape_over c (call.Releasedir ctx inode flags handle) =
-    record (made_by ctx (asks 29 1 c)) { node = inode; flags = flags; handle = handle }
+    record (made_by ctx (asks number.RELEASEDIR kind.DONE c)) { node = inode; flags = flags; handle = handle }
 shape_over c (call.Fsyncdir ctx inode datasync handle) =
-    record (made_by ctx (asks 30 1 c)) { node = inode; has = bit datasync 64; handle = handle }
-shape_over c call.Getlk = asks 31 2 c
-shape_over c call.Setlk = asks 32 2 c
-shape_over c call.Setlkw = asks 33 2 c
+    record (made_by ctx (asks number.FSYNCDIR kind.DONE c)) {
+      node = inode;
+      has = bit datasync has.DATASYNC;
+      handle = handle;
+    }
+shape_over c call.Getlk = asks number.GETLK kind.FAULT_OR_SILENCE c
+shape_over c call.Setlk = asks number.SETLK kind.FAULT_OR_SILENCE c
+shape_over c call.Setlkw = asks number.SETLKW kind.FAULT_OR_SILENCE c
 shape_over c (call.Access ctx inode mask) =
-    record (made_by ctx (asks 34 1 c)) { node = inode; more = mask }
+    record (made_by ctx (asks number.ACCESS kind.DONE c)) { node = inode; more = mask }
 shape_over c (call.Create ctx parent name mode kill_priv flags umask ext) =
-    extended ext (record (made_by ctx (asks 35 8 c)) {
+    extended ext (record (made_by ctx (asks number.CREATE kind.CREATED c)) {
       node = parent;
       name = unplaced name;
       mode = mode;
-      has = bit kill_priv 16;
+      has = bit kill_priv has.KILL_PRIV;
       flags = flags;
       umask = umask;
     })
-shape_over c call.Bmap = asks 37 2 c
-shape_over c call.Destroy = asks 38 0 c
-shape_over c call.Ioctl = asks 39 2 c
-shape_over c call.Poll = asks 40 2 c
-shape_over c call.NotifyReply = asks 41 2 c
+shape_over c call.Bmap = asks number.BMAP kind.FAULT_OR_SILENCE c
+shape_over c call.Destroy = asks number.DESTROY kind.QUIET c
+shape_over c call.Ioctl = asks number.IOCTL kind.FAULT_OR_SILENCE c
+shape_over c call.Poll = asks number.POLL kind.FAULT_OR_SILENCE c
+shape_over c call.NotifyReply = asks number.NOTIFY_REPLY kind.FAULT_OR_SILENCE c
 shape_over c (call.BatchForget ctx requests) =
-    record (made_by ctx (asks 42 0 c)) { count = length requests }
+    record (made_by ctx (asks number.BATCH_FORGET kind.QUIET c)) { count = length requests }
 shape_over c (call.Fallocate ctx inode handle mode offset length) =
-    record (made_by ctx (asks 43 1 c)) {
+    record (made_by ctx (asks number.FALLOCATE kind.DONE c)) {
       node = inode;
       handle = handle;
       mode = mode;
@@ -277,9 +317,14 @@ shape_over c (call.Fallocate ctx inode handle mode offset length) =
       count = length;
     }
 shape_over c (call.Lseek ctx inode handle offset whence) =
-    record (made_by ctx (asks 46 12 c)) { node = inode; handle = handle; offset = offset; more = whence }
+    record (made_by ctx (asks number.LSEEK kind.OFFSET c)) {
+      node = inode;
+      handle = handle;
+      offset = offset;
+      more = whence;
+    }
 shape_over c (call.Copyfilerange ctx inode_in handle_in offset_in inode_out handle_out offset_out len flags) =
-    record (made_by ctx (asks 47 13 c)) {
+    record (made_by ctx (asks number.COPY kind.WRITTEN c)) {
       node = inode_in;
       handle = handle_in;
       offset = offset_in;
@@ -289,8 +334,8 @@ shape_over c (call.Copyfilerange ctx inode_in handle_in offset_in inode_out hand
       count = len;
       lock_owner = flags;
     }
-shape_over c (call.Syncfs ctx inode) = record (made_by ctx (asks 50 1 c)) { node = inode }
-shape_over c call.Tmpfile = asks 51 15 c
+shape_over c (call.Syncfs ctx inode) = record (made_by ctx (asks number.SYNCFS kind.DONE c)) { node = inode }
+shape_over c call.Tmpfile = asks number.TMPFILE kind.FAULT c
 
 -- the numbers of each call, and nothing else
 abbrev pub shape_of : Call → CallData

@@ -4,6 +4,7 @@ use Rattle.std.specs.Ordering.{int_eq}
 use Rattle.vfs_segments.specs.Written.{Written}
 use Rattle.vfs_grammar.specs.declared.limits.Limits.{Limits}
 use Rattle.vfs_calls.specs.declared.call.CallData.{CallData}
+use Rattle.vfs_calls.specs.declared.call.kind.TheConstants as kind
 use Rattle.vfs_calls.specs.declared.data.AnswerData.{AnswerData}
 use Rattle.vfs_calls.specs.declared.data.ItemData.{ItemData}
 use Rattle.vfs_answer.specs.Kinds.{kind_told}
@@ -14,15 +15,16 @@ use Rattle.vfs_rooms.specs.Codes.{no_memory, not_asked, number_of, length_of}
 use Rattle.vfs_door.specs.Shown.{AreFirst}
 use Rattle.vfs_door.specs.declared.data.ToldData.{ToldData}
 
--- Of so many bytes of a reply, or of its room, those that are put: all, but of a READ, whose kind is 3,
--- the header's 16 at most. Behind them the data are the caller's.
+-- Of so many bytes of a reply, or of its room, those that are put: all, but of a READ the header's 16 at
+-- most. Behind them the data are the caller's.
 abbrev pub put_of : CallData → (len : ℕ) → ℕ
-put_of call len = if call.answer == 3 then min len 16 else len
+put_of call len = if call.answer == kind.DATA then min len 16 else len
 
--- the node of the entry that was answered to a call of kind 5 or 8, and 0 where there is none
+-- the node of the entry that was answered to a call whose answers have one, and 0 where there is none
 abbrev pub entry_of : CallData → AnswerData → ℕ
 entry_of call a =
-    if (call.answer == 5 || call.answer == 8) && int_eq a.error (pos 0) then a.entry.node else 0
+    if (call.answer == kind.ENTRY || call.answer == kind.CREATED) && int_eq a.error (pos 0) then a.entry.node
+    else 0
 
 -- what is told of an answer: how long the reply is, the options, and what is to be given back
 abbrev pub answered : CallData → Answered → ToldData → ToldData

@@ -4,6 +4,8 @@ use Rattle.vfs_segments.specs.Written.{Written}
 use Rattle.vfs_messages.specs.Rooms.{with_behind}
 use Rattle.vfs_grammar.specs.Samples.{lookup_of_a}
 use Rattle.vfs_calls.specs.declared.call.CallData.{CallData}
+use Rattle.vfs_calls.specs.declared.call.number.TheConstants.{LOOKUP}
+use Rattle.vfs_calls.specs.declared.call.kind.TheConstants.{ENTRY}
 use Rattle.vfs_calls.specs.declared.data.AnswerData.{AnswerData}
 use Rattle.vfs_calls.specs.declared.data.ItemData.{ItemData}
 use Rattle.vfs_grammar.specs.declared.limits.Limits.{Limits}
@@ -11,15 +13,14 @@ use Rattle.vfs_ask.specs.Asked.{IsNameIn}
 use Rattle.vfs_answer.specs.declared.answered.Answered.{Answered}
 use Rattle.vfs_in_flight.specs.OneTurn.{IsAnsweredTurn}
 
--- the call that request 9 asks for, a LOOKUP of the name `a` in node 1, with 4096 bytes of room: number
--- 1, whose answers are of kind 5
+-- the call that request 9 asks for, a LOOKUP of the name `a` in node 1, with 4096 bytes of room
 pub record IsLookupOfA (call : CallData) : Type 0 where
   pub unique : call.unique ≡ 9
   pub readahead : call.readahead ≡ 0
   pub options : call.options ≡ 0
   pub room : call.room ≡ 4096
-  pub number : call.call ≡ 1
-  pub kind : call.answer ≡ 5
+  pub number : call.call ≡ LOOKUP
+  pub kind : call.answer ≡ ENTRY
   pub size : call.size ≡ 0
   pub node : call.node ≡ 1
   pub name : IsNameIn lookup_of_a call.name (0x61 ∷ [])

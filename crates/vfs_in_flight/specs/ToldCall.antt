@@ -11,6 +11,9 @@ use Rattle.vfs_grammar.specs.Forms.{pairs_of}
 use Rattle.vfs_grammar.specs.Reply.{Echo}
 use Rattle.vfs_calls.specs.declared.call.CallData.{CallData}
 use Rattle.vfs_calls.specs.declared.call.SetattrData.{SetattrData}
+use Rattle.vfs_calls.specs.declared.call.number.TheConstants as number
+use Rattle.vfs_calls.specs.declared.call.kind.TheConstants as kind
+use Rattle.vfs_calls.specs.declared.call.has.TheConstants as has
 use Rattle.vfs_ask.specs.Asked.{IsTold, bytes_in}
 
 -- the bytes of a request in the ranges that are told
@@ -36,21 +39,21 @@ caller told = record { uid = told.uid; gid = told.gid; pid = told.pid }
 
 -- the handle, where there is one
 abbrev pub handle_in : CallData → Option ℕ
-handle_in told = if_set told.has 1 told.handle
+handle_in told = if_set told.has has.HANDLE told.handle
 
 -- the owner of locks, where there is one
 abbrev pub owner_in : CallData → Option ℕ
-owner_in told = if_set told.has 2 told.lock_owner
+owner_in told = if_set told.has has.OWNER told.lock_owner
 
 -- the security context, where there is one
 abbrev pub context_in : CallData → Parts → Option (List ℕ × List ℕ)
 context_in told parts =
-    if bit_and told.has 4 == 0 then None else Some (parts.context_name, parts.context)
+    if bit_and told.has has.CONTEXT == 0 then None else Some (parts.context_name, parts.context)
 
 abbrev pub extensions_of : CallData → Parts → ExtensionValues
 extensions_of told parts = record {
   context = context_in told parts;
-  group = if_set told.has 8 told.group;
+  group = if_set told.has has.GROUP told.group;
 }
 
 -- the record of a SETATTR
@@ -94,11 +97,11 @@ rename_of told parts =
 
 abbrev pub release_of : CallData → Call
 release_of told =
-    call.Release (caller told) told.node told.flags told.handle (has_flag told.has 128) (has_flag told.has 256)
-    (owner_in told)
+    call.Release (caller told) told.node told.flags told.handle (has_flag told.has has.FLUSHES)
+    (has_flag told.has has.FLOCK_RELEASE) (owner_in told)
 
 abbrev pub fsync_of : CallData → Call
-fsync_of told = call.Fsync (caller told) told.node (has_flag told.has 64) told.handle
+fsync_of told = call.Fsync (caller told) told.node (has_flag told.has has.DATASYNC) told.handle
 
 abbrev pub setxattr_of : CallData → Parts → Call
 setxattr_of told parts =
@@ -115,7 +118,7 @@ abbrev pub releasedir_of : CallData → Call
 releasedir_of told = call.Releasedir (caller told) told.node told.flags told.handle
 
 abbrev pub fsyncdir_of : CallData → Call
-fsyncdir_of told = call.Fsyncdir (caller told) told.node (has_flag told.has 64) told.handle
+fsyncdir_of told = call.Fsyncdir (caller told) told.node (has_flag told.has has.DATASYNC) told.handle
 
 abbrev pub access_of : CallData → Call
 access_of told = call.Access (caller told) told.node told.more
@@ -156,15 +159,15 @@ setattr_of told =
     (bit_and told.flags known_setattr_valid)
 
 abbrev pub open_of : CallData → Call
-open_of told = call.Open (caller told) told.node (has_flag told.has 16) told.flags
+open_of told = call.Open (caller told) told.node (has_flag told.has has.KILL_PRIV) told.flags
 
 abbrev pub opendir_of : CallData → Call
 opendir_of told = call.Opendir (caller told) told.node told.flags
 
 abbrev pub create_of : CallData → Parts → Call
 create_of told parts =
-    call.Create (caller told) told.node parts.name told.mode (has_flag told.has 16) told.flags told.umask
-    (extensions_of told parts)
+    call.Create (caller told) told.node parts.name told.mode (has_flag told.has has.KILL_PRIV) told.flags
+    told.umask (extensions_of told parts)
 
 abbrev pub statfs_of : CallData → Call
 statfs_of told = call.Statfs (caller told) told.node
@@ -184,7 +187,7 @@ lseek_of told = call.Lseek (caller told) told.node told.handle told.offset told.
 abbrev pub write_of : CallData → Parts → Call
 write_of told parts =
     call.Write (caller told) told.node told.handle parts.value told.size told.offset (owner_in told)
-    (has_flag told.has 32) (has_flag told.has 16) told.flags
+    (has_flag told.has has.DELAYED) (has_flag told.has has.KILL_PRIV) told.flags
 
 abbrev pub copyfilerange_of : CallData → Call
 copyfilerange_of told =
@@ -197,127 +200,127 @@ read_of told =
 
 -- ---- the calls of a kind of answer, by their numbers
 
-abbrev pub data_call : (number : ℕ) → CallData → Option Call
-data_call number told =
-    if number == 15 then Some (read_of told)
+abbrev pub data_call : (n : ℕ) → CallData → Option Call
+data_call n told =
+    if n == number.READ then Some (read_of told)
     else None
 
-abbrev pub quiet_call : (number : ℕ) → CallData → Parts → Option Call
-quiet_call number told parts =
-    if number == 2 then Some (forget_of told)
-    else if number == 38 then Some call.Destroy
-    else if number == 42 then Some (batch_forget_of told parts)
+abbrev pub quiet_call : (n : ℕ) → CallData → Parts → Option Call
+quiet_call n told parts =
+    if n == number.FORGET then Some (forget_of told)
+    else if n == number.DESTROY then Some call.Destroy
+    else if n == number.BATCH_FORGET then Some (batch_forget_of told parts)
     else None
 
-abbrev pub done_call : (number : ℕ) → CallData → Parts → Option Call
-done_call number told parts =
-    if number == 10 then Some (unlink_of told parts)
-    else if number == 11 then Some (rmdir_of told parts)
-    else if number == 12 then Some (rename_of told parts)
-    else if number == 18 then Some (release_of told)
-    else if number == 20 then Some (fsync_of told)
-    else if number == 21 then Some (setxattr_of told parts)
-    else if number == 24 then Some (removexattr_of told parts)
-    else if number == 25 then Some (flush_of told)
-    else if number == 29 then Some (releasedir_of told)
-    else if number == 30 then Some (fsyncdir_of told)
-    else if number == 34 then Some (access_of told)
-    else if number == 43 then Some (fallocate_of told)
-    else if number == 50 then Some (syncfs_of told)
+abbrev pub done_call : (n : ℕ) → CallData → Parts → Option Call
+done_call n told parts =
+    if n == number.UNLINK then Some (unlink_of told parts)
+    else if n == number.RMDIR then Some (rmdir_of told parts)
+    else if n == number.RENAME then Some (rename_of told parts)
+    else if n == number.RELEASE then Some (release_of told)
+    else if n == number.FSYNC then Some (fsync_of told)
+    else if n == number.SETXATTR then Some (setxattr_of told parts)
+    else if n == number.REMOVEXATTR then Some (removexattr_of told parts)
+    else if n == number.FLUSH then Some (flush_of told)
+    else if n == number.RELEASEDIR then Some (releasedir_of told)
+    else if n == number.FSYNCDIR then Some (fsyncdir_of told)
+    else if n == number.ACCESS then Some (access_of told)
+    else if n == number.FALLOCATE then Some (fallocate_of told)
+    else if n == number.SYNCFS then Some (syncfs_of told)
     else None
 
-abbrev pub untold_call : (number : ℕ) → CallData → Option Call
-untold_call number told =
-    if number == 31 then Some call.Getlk
-    else if number == 32 then Some call.Setlk
-    else if number == 33 then Some call.Setlkw
-    else if number == 37 then Some call.Bmap
-    else if number == 39 then Some call.Ioctl
-    else if number == 40 then Some call.Poll
-    else if number == 41 then Some call.NotifyReply
+abbrev pub untold_call : (n : ℕ) → CallData → Option Call
+untold_call n told =
+    if n == number.GETLK then Some call.Getlk
+    else if n == number.SETLK then Some call.Setlk
+    else if n == number.SETLKW then Some call.Setlkw
+    else if n == number.BMAP then Some call.Bmap
+    else if n == number.IOCTL then Some call.Ioctl
+    else if n == number.POLL then Some call.Poll
+    else if n == number.NOTIFY_REPLY then Some call.NotifyReply
     else None
 
-abbrev pub want_call : (number : ℕ) → CallData → Option Call
-want_call number told =
-    if number == 26 then Some (init_of told)
+abbrev pub want_call : (n : ℕ) → CallData → Option Call
+want_call n told =
+    if n == number.INIT then Some (init_of told)
     else None
 
-abbrev pub entry_call : (number : ℕ) → CallData → Parts → Option Call
-entry_call number told parts =
-    if number == 1 then Some (lookup_of told parts)
-    else if number == 6 then Some (symlink_of told parts)
-    else if number == 8 then Some (mknod_of told parts)
-    else if number == 9 then Some (mkdir_of told parts)
-    else if number == 13 then Some (link_of told parts)
+abbrev pub entry_call : (n : ℕ) → CallData → Parts → Option Call
+entry_call n told parts =
+    if n == number.LOOKUP then Some (lookup_of told parts)
+    else if n == number.SYMLINK then Some (symlink_of told parts)
+    else if n == number.MKNOD then Some (mknod_of told parts)
+    else if n == number.MKDIR then Some (mkdir_of told parts)
+    else if n == number.LINK then Some (link_of told parts)
     else None
 
-abbrev pub attr_call : (number : ℕ) → CallData → Option Call
-attr_call number told =
-    if number == 3 then Some (getattr_of told)
-    else if number == 4 then Some (setattr_of told)
+abbrev pub attr_call : (n : ℕ) → CallData → Option Call
+attr_call n told =
+    if n == number.GETATTR then Some (getattr_of told)
+    else if n == number.SETATTR then Some (setattr_of told)
     else None
 
-abbrev pub open_call : (number : ℕ) → CallData → Option Call
-open_call number told =
-    if number == 14 then Some (open_of told)
-    else if number == 27 then Some (opendir_of told)
+abbrev pub open_call : (n : ℕ) → CallData → Option Call
+open_call n told =
+    if n == number.OPEN then Some (open_of told)
+    else if n == number.OPENDIR then Some (opendir_of told)
     else None
 
-abbrev pub create_call : (number : ℕ) → CallData → Parts → Option Call
-create_call number told parts =
-    if number == 35 then Some (create_of told parts)
+abbrev pub create_call : (n : ℕ) → CallData → Parts → Option Call
+create_call n told parts =
+    if n == number.CREATE then Some (create_of told parts)
     else None
 
-abbrev pub statistics_call : (number : ℕ) → CallData → Option Call
-statistics_call number told =
-    if number == 17 then Some (statfs_of told)
+abbrev pub statistics_call : (n : ℕ) → CallData → Option Call
+statistics_call n told =
+    if n == number.STATFS then Some (statfs_of told)
     else None
 
-abbrev pub text_call : (number : ℕ) → CallData → Option Call
-text_call number told =
-    if number == 5 then Some (readlink_of told)
+abbrev pub text_call : (n : ℕ) → CallData → Option Call
+text_call n told =
+    if n == number.READLINK then Some (readlink_of told)
     else None
 
-abbrev pub text_or_count_call : (number : ℕ) → CallData → Parts → Option Call
-text_or_count_call number told parts =
-    if number == 22 then Some (getxattr_of told parts)
-    else if number == 23 then Some (listxattr_of told)
+abbrev pub text_or_count_call : (n : ℕ) → CallData → Parts → Option Call
+text_or_count_call n told parts =
+    if n == number.GETXATTR then Some (getxattr_of told parts)
+    else if n == number.LISTXATTR then Some (listxattr_of told)
     else None
 
-abbrev pub offset_call : (number : ℕ) → CallData → Option Call
-offset_call number told =
-    if number == 46 then Some (lseek_of told)
+abbrev pub offset_call : (n : ℕ) → CallData → Option Call
+offset_call n told =
+    if n == number.LSEEK then Some (lseek_of told)
     else None
 
-abbrev pub written_call : (number : ℕ) → CallData → Parts → Option Call
-written_call number told parts =
-    if number == 16 then Some (write_of told parts)
-    else if number == 47 then Some (copyfilerange_of told)
+abbrev pub written_call : (n : ℕ) → CallData → Parts → Option Call
+written_call n told parts =
+    if n == number.WRITE then Some (write_of told parts)
+    else if n == number.COPY then Some (copyfilerange_of told)
     else None
 
-abbrev pub fault_call : (number : ℕ) → CallData → Option Call
-fault_call number told =
-    if number == 51 then Some call.Tmpfile
+abbrev pub fault_call : (n : ℕ) → CallData → Option Call
+fault_call n told =
+    if n == number.TMPFILE then Some call.Tmpfile
     else None
 
 -- the call, by the number of its kind
-unfoldable pub call_by_kind : (kind : ℕ) → CallData → Parts → Option Call
-call_by_kind kind told parts =
-    if kind == 0 then quiet_call told.call told parts
-    else if kind == 1 then done_call told.call told parts
-    else if kind == 2 then untold_call told.call told
-    else if kind == 3 then data_call told.call told
-    else if kind == 4 then want_call told.call told
-    else if kind == 5 then entry_call told.call told parts
-    else if kind == 6 then attr_call told.call told
-    else if kind == 7 then open_call told.call told
-    else if kind == 8 then create_call told.call told parts
-    else if kind == 9 then statistics_call told.call told
-    else if kind == 10 then text_call told.call told
-    else if kind == 11 then text_or_count_call told.call told parts
-    else if kind == 12 then offset_call told.call told
-    else if kind == 13 then written_call told.call told parts
-    else if kind == 15 then fault_call told.call told
+unfoldable pub call_by_kind : (n : ℕ) → CallData → Parts → Option Call
+call_by_kind n told parts =
+    if n == kind.QUIET then quiet_call told.call told parts
+    else if n == kind.DONE then done_call told.call told parts
+    else if n == kind.FAULT_OR_SILENCE then untold_call told.call told
+    else if n == kind.DATA then data_call told.call told
+    else if n == kind.WANT then want_call told.call told
+    else if n == kind.ENTRY then entry_call told.call told parts
+    else if n == kind.ATTR then attr_call told.call told
+    else if n == kind.OPENED then open_call told.call told
+    else if n == kind.CREATED then create_call told.call told parts
+    else if n == kind.STATISTICS then statistics_call told.call told
+    else if n == kind.TEXT then text_call told.call told
+    else if n == kind.TEXT_OR_COUNT then text_or_count_call told.call told parts
+    else if n == kind.OFFSET then offset_call told.call told
+    else if n == kind.WRITTEN then written_call told.call told parts
+    else if n == kind.FAULT then fault_call told.call told
     else None
 
 -- the call that is told, if one is: the reading of a directory is none
