@@ -7,6 +7,7 @@
 #
 #   documents  the pages against the sources
 #   opcode     the files in which an opcode stands, against the list of CONTRIBUTING.md
+#   numbers    opcodes, calls, kinds, bits, codes and fields, wherever they stand, against their one table
 #   shell      scripts, by shellcheck
 #   rattle     the format of Rattle's files, by `rt fmt` on a copy
 #   rust       the format of Rust's, by rustfmt
@@ -25,10 +26,11 @@ set -euo pipefail
 . "$(dirname "$0")/lib/transport.sh"
 cd "$here"
 
-parts=(documents opcode shell rattle rust python c format door crate)
+parts=(documents opcode numbers shell rattle rust python c format door crate)
 # What a part runs, by its package. The toolchain is none of Debian's.
 declare -A wanted=(
-    [documents]="rt python3" [opcode]="python3" [shell]="shellcheck" [rattle]="rt" [rust]="rustfmt" [python]="pyflakes3"
+    [documents]="rt python3" [opcode]="python3" [numbers]="python3" [shell]="shellcheck" [rattle]="rt"
+    [rust]="rustfmt" [python]="pyflakes3"
     [c]="cc" [format]="clang-format" [door]="rt cc" [crate]="cargo rt cc"
 )
 declare -A package=([cc]="gcc libc6-dev" [rt]="")
@@ -91,6 +93,7 @@ c_files() { files '*.c' '*.h'; }
 
 check_documents() { tools/dev/documents.sh; }
 check_opcode() { tools/dev/opcode.py; }
+check_numbers() { tools/dev/numbers.py; }
 check_shell() { scripts | each shellcheck; }
 # (one by one from the input: some name modules that stand elsewhere)
 # shellcheck disable=SC2016
@@ -130,6 +133,7 @@ count_of() {
     case $1 in
         documents) echo "$(files '*.md' | wc -l) pages" ;;
         opcode) echo "$(tools/dev/opcode.py --opcodes | wc -w) opcodes" ;;
+        numbers) tools/dev/numbers.py | sed 's/:.*//' ;;
         shell) echo "$(scripts | wc -l) scripts" ;;
         rattle) echo "$(files 'crates/*.rt' 'crates/*.antt' | wc -l) files" ;;
         rust) echo "$(files '*.rs' | wc -l) files" ;;

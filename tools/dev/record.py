@@ -1,0 +1,111 @@
+#!/usr/bin/env python3
+"""Writes out what the proofs want of a record of the protocol, from its struct in crates/vfs_wire or vfs_wire_more.
+
+Usage: tools/dev/record.py NAME | --check
+
+It prints, for the struct NAME, whose fields are unsigned numbers: its impl of ByteValued, which stands after it; its
+decoder, its table and its layout, for the definitions in specs. `rt fmt` lays them out. What else names a record is in
+CONTRIBUTING.md. With --check it derives those of all records, and tells how many stand as they are derived; others
+have parts, arrays or signed fields, or are put in another order for speed.
+Status 0: it was written; 1: there is no such struct, or another field; 2: it was started otherwise.
+"""
+import glob
+import os
+import re
+import sys
+
+os.chdir(os.path.join(os.path.dirname(os.path.abspath(__file__)), "../.."))
+WIDTHS = {"u8": ("One", 1), "u16": ("Two", 2), "u32": ("Four", 4), "u64": ("Eight", 8)}
+
+
+def read(path):
+    with open(path, encoding="utf-8") as file:
+        return file.read()
+
+
+SOURCES = {path: read(path) for path in sorted(glob.glob("crates/vfs_wire*/src/*.rt"))}
+
+
+def fields_of(name):
+    """The fields of a struct with their types. None: there is no such struct."""
+    for text in SOURCES.values():
+        found = re.search(rf"pub struct {name} \{{(.*?)\n\}}", text, re.S)
+        if found:
+            return re.findall(r"pub (\w+): ([^,]+),", found[1])
+    return None
+
+
+def derive(name, fields):
+    """The impl, the decoder, the table and the layout of a record of these fields."""
+    table = re.sub(r"(?<=[a-z0-9])(?=[A-Z])", "_", name).lower()
+    widths = [WIDTHS[it][1] for _, it in fields]
+    places = [sum(widths[:at]) for at in range(len(widths) + 1)]
+    size = places[-1]
+    put = ", ".join(f"{WIDTHS[it][0]}(self.{field})" for field, it in fields)
+    take = "".join(f"            {field}: {it}_at(b, {at}),\n" for (field, it), at in zip(fields, places))
+    made = "".join(f"  {field} = slice_index xs {at};\n" for at, (field, _) in enumerate(fields))
+    numbers = ["0x" + "".join(f"{it:02x}" for it in range(at + width, at, -1)) for at, width in zip(places, widths)]
+    lies = "".join(f"  {field} = {number};\n" for (field, _), number in zip(fields, numbers))
+    return (f"""impl ByteValued for {name} {{
+    const SIZE: usize = {size};
+
+    ghost SIZE = {{ {size} }};
+
+    ghost table = {{ {table} }};
+
+    fn put(&self, out: &mut [u8]) {{
+        put_fields(out, &[{put}]);
+    }}
+
+    fn take(b: &[u8]) -> {name} {{
+        {name} {{
+{take}        }}
+    }}
+
+    ghost size_is = {{ refl }};
+
+    ghost size_small = {{ lit≤ tt }};
+
+    ghost made_fields = {{ λ x h. refl }};
+
+    ghost fields_made = {{ λ b h. refl }};
+}}""", f"""abbrev pub made_{table} : List ℕ → {name}
+made_{table} xs = record {{
+{made}}}""", f"""abbrev pub {table} : Table {name}
+{table} = table ({' ∷ '.join(map(str, widths))} ∷ [])
+    (λ r. {' ∷ '.join('r.' + field for field, _ in fields)} ∷ []) made_{table}""", f"""abbrev pub {name}Lies : Type 0
+{name}Lies = LiesAs {table} {size} (record {{
+{lies}}})""")
+
+
+def plain(text):
+    """A text without its layout."""
+    return re.sub(r",(?=[}\])])", "", re.sub(r"\s+", "", text))
+
+
+def check():
+    stands = plain("".join(SOURCES.values()) + "".join(map(read, glob.glob("crates/vfs_wire*/specs/*.antt"))))
+    names = [it for text in SOURCES.values() for it in re.findall(r"impl ByteValued for ([A-Z]\w+)", text)]
+    same = 0
+    for name in names:
+        fields = fields_of(name)
+        same += all(it in WIDTHS for _, it in fields) and all(plain(it) in stands for it in derive(name, fields))
+    print(f"{same} of {len(names)} records stand as their structs say")
+
+
+def main(words):
+    if words == ["--help"] or len(words) != 1:
+        print(__doc__.strip())
+        sys.exit(0 if words == ["--help"] else 2)
+    if words == ["--check"]:
+        check()
+        return
+    fields = fields_of(words[0])
+    other = next((field for field, it in fields or [] if it not in WIDTHS), None)
+    if not fields or other:
+        sys.exit(f"record.py: {words[0]} has a field {other} that is no unsigned number" if other
+                 else f"record.py: there is no struct {words[0]}")
+    print("\n\n".join(derive(words[0], fields)))
+
+
+main(sys.argv[1:])
