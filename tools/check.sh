@@ -19,7 +19,7 @@
 #
 # A part that fails does not stop those after it. One whose programs are not installed is skipped, and which
 # packages have them is told: --missing prints these alone. Nothing is installed. What is changed is that since
-# the branch left origin/main, or main, and what is not committed. tools/lib/changes.txt has the commands.
+# the branch left origin/main, or main, and what is not committed. tools/dev/changes.txt has the commands.
 # Status 0: all passed; 1: a part failed; 2: it could not start; 3: none failed, but one was skipped.
 set -euo pipefail
 . "$(dirname "$0")/lib/usage.sh"
@@ -169,7 +169,7 @@ for part in "${parts[@]}"; do
 done
 wait
 echo "Seconds: $(printf '%s, ' "${times[@]}" | sed 's/ s, /, /g; s/, $//'); together $SECONDS."
-tools/lib/changes.py
+tools/dev/changes.py
 command -v rt > /dev/null || echo "The folder bin of the Rattle toolchain is not on the PATH."
 if [ ${#skipped[@]} != 0 ]; then
     echo "Skipped: ${skipped[*]}. apt-get install $(packages_for "${skipped[@]}" | paste -sd ' ')"

@@ -1,10 +1,9 @@
 #!/usr/bin/env bash
-# Holds all C against .clang-format and all Rust against rustfmt.toml, if their programs are there, and the
-# sources of nizwarf-share, nizwarf-mount and nizwarf-vhost, in programs, against clang-tidy and cppcheck: what
-# they find is printed.
+# Holds the sources of nizwarf-share, nizwarf-mount and nizwarf-vhost, in programs, against clang-tidy and
+# cppcheck: what they find is printed. tools/check.sh holds formats.
 #
 # Usage: tools/dev/lint.sh
-# It wants clang-tidy and cppcheck, and libseccomp-dev for the sandbox of share.c. `clang-format -i FILE` formats.
+# It wants clang-tidy and cppcheck, and libseccomp-dev for the sandbox of share.c.
 # Status 0: nothing is found; 1: something is; 2: a program is missing.
 set -euo pipefail
 . "$(dirname "$0")/../lib/usage.sh"
@@ -12,21 +11,6 @@ set -euo pipefail
 take_none "$@"
 need clang-tidy "Install it: apt-get install clang-tidy."
 need cppcheck "Install it: apt-get install cppcheck."
-
-cd "$here"
-if command -v clang-format > /dev/null; then
-    git ls-files -z '*.c' '*.h' | xargs -0 clang-format --dry-run --Werror
-else
-    echo "Missing: clang-format, so the format is not looked at: apt-get install clang-format." >&2
-fi
-if command -v rustfmt > /dev/null; then
-    # (a file at a time: some stand beside what is not here)
-    while IFS= read -r file; do
-        rustfmt --check < "$file" || { echo "$file: \`rustfmt < $file\` has its format." >&2 && exit 1; }
-    done < <(git ls-files '*.rs')
-else
-    echo "Missing: rustfmt, so the format of Rust is not looked at: apt-get install rustfmt." >&2
-fi
 
 # Left out: names that the C library asks for, as _GNU_SOURCE; arguments of one type beside each other; calls of
 # the C library that only the last words before an end make; and what a kernel's style has otherwise.

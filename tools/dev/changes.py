@@ -1,8 +1,8 @@
 #!/usr/bin/env python3
 """Prints which commands judge the files that were changed since the branch left main, beside tools/check.sh.
 
-Usage: tools/lib/changes.py [FILE..]
-tools/lib/changes.txt has the commands. With files it tells those of these.
+Usage: tools/dev/changes.py [FILE..]
+tools/dev/changes.txt has the commands. With files it tells those of these.
 """
 import fnmatch
 import os
@@ -34,7 +34,7 @@ def read(path):
 
 def rows():
     """Patterns, command and time of each line of the table."""
-    for line in read("tools/lib/changes.txt").splitlines():
+    for line in read("tools/dev/changes.txt").splitlines():
         if line and not line.startswith("#"):
             files, command, takes = (cell.strip() for cell in line.split("|"))
             yield files.split(", "), command, takes
