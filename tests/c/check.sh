@@ -69,7 +69,7 @@ run_mounted() {
         echo "Missing: root and /dev/fuse, so nothing is mounted." >&2
         return
     fi
-    compile tests/c/mounted.c "$here/programs/transport/fuse_device.c" -pthread "$@"
+    compile tests/c/mounted.c "$here"/programs/transport/fuse_{device,mount}.c -pthread "$@"
     timeout -k 5 60 "$folder/program" 2> "$folder/said" || status=$?
     if [ $status != 0 ]; then
         cat "$folder/said" >&2

@@ -1,0 +1,136 @@
+/* Mounts and unmounts over /dev/fuse: transport.h. It is known where a mount was made, so that what is unmounted is
+ * what was mounted. */
+#define _GNU_SOURCE
+#include <errno.h>
+#include <fcntl.h>
+#include <limits.h>
+#include <stdio.h>
+#include <stdlib.h>
+#include <string.h>
+#include <sys/mount.h>
+#include <sys/stat.h>
+#include <unistd.h>
+#include "transport.h"
+
+static int say(const transport *by, const char *what)
+{
+	fprintf(stderr, "%s: %s: %s\n", by->program, what, strerror(errno));
+	return -1;
+}
+
+/* Where the mount was made: the directory above, wherever that is now, the name there, and the numbers that
+ * mounts have there and above; 0: unknown. */
+static struct {
+	int directory;
+	char name[NAME_MAX + 1];
+	uint64_t own, above;
+} made = { .directory = -1 };
+
+/* The number of the mount that a path leads to; 0: unknown. Nobody is asked for it. */
+static uint64_t number_of_mount(int directory, const char *name)
+{
+#ifdef STATX_MNT_ID
+	const int how = AT_SYMLINK_NOFOLLOW | AT_NO_AUTOMOUNT | AT_STATX_DONT_SYNC | AT_EMPTY_PATH;
+	struct statx seen;
+
+	if (!statx(directory, name, how, STATX_MNT_ID, &seen) && seen.stx_mask & STATX_MNT_ID)
+		return seen.stx_mnt_id;
+#else
+	(void)directory, (void)name;
+#endif
+	return 0;
+}
+
+/* The mount point by the directory above, so that nobody's link leads elsewhere; the folder, if there is none. */
+static const char *mount_point(const char *folder, char *place, size_t size)
+{
+	if (made.directory < 0)
+		return folder;
+	snprintf(place, size, "/proc/self/fd/%d/%s", made.directory, made.name);
+	return place;
+}
+
+/* Looks where a mount is about to be made. */
+static void find_mount_point(const char *folder)
+{
+	char path[PATH_MAX], *name;
+
+	if (!realpath(folder, path) || access("/proc/self/fd", F_OK))
+		return;
+	name = strrchr(path, '/');
+	snprintf(made.name, sizeof(made.name), "%s", name[1] ? name + 1 : ".");
+	*name = 0;
+	made.directory = open(*path ? path : "/", O_PATH | O_DIRECTORY | O_CLOEXEC);
+}
+
+/* Whether what is mounted there is what was made. 0: nothing is; -1: it is another one, and said so. */
+static int is_there(const transport *by, const char *folder)
+{
+	const uint64_t there = made.own ? number_of_mount(made.directory, made.name) : 0;
+
+	if (there == made.own || !there)
+		return 1;
+	if (there == made.above)
+		return 0;
+	fprintf(stderr, "%s: %s: another file system is mounted there\n", by->program, folder);
+	return -1;
+}
+
+int fuse_device_unmount(const transport *by, const char *folder)
+{
+	char place[NAME_MAX + 40];
+	const char *point = mount_point(folder, place, sizeof(place));
+	const int found = is_there(by, folder);
+
+	if (found <= 0)
+		return found;
+	if (!umount2(point, UMOUNT_NOFOLLOW) || errno != EBUSY)
+		return 0;
+	fprintf(stderr, "%s: %s is in use, and goes with its last user\n", by->program, folder);
+	return umount2(point, MNT_DETACH | UMOUNT_NOFOLLOW) ? say(by, folder) : 0;
+}
+
+void fuse_device_detach(const transport *by, const char *folder)
+{
+	char place[NAME_MAX + 40];
+
+	if (is_there(by, folder) > 0)
+		umount2(mount_point(folder, place, sizeof(place)), MNT_DETACH | UMOUNT_NOFOLLOW);
+}
+
+int fuse_device_open(const transport *by)
+{
+	const int device = open("/dev/fuse", O_RDWR | O_CLOEXEC);
+
+	return device < 0 ? say(by, "/dev/fuse") : device;
+}
+
+int fuse_device_mount_on(const transport *by, int device, const char *source, const char *folder,
+			 unsigned long flags, const char *options)
+{
+	char words[512], place[NAME_MAX + 40];
+	const int len = snprintf(words, sizeof(words), "fd=%d,rootmode=40000,user_id=%u,group_id=%u%s",
+				 device, (unsigned)geteuid(), (unsigned)getegid(), options);
+
+	find_mount_point(folder);
+	if (made.directory >= 0)
+		made.above = number_of_mount(made.directory, made.name);
+	errno = E2BIG;
+	if (len < 0 || (size_t)len >= sizeof(words) ||
+	    mount(source, mount_point(folder, place, sizeof(place)), "fuse.nizwarf", flags, words))
+		return say(by, folder);
+	if (made.directory >= 0)
+		made.own = number_of_mount(made.directory, made.name);
+	return 0;
+}
+
+int fuse_device_mount(const transport *by, const char *source, const char *folder, unsigned long flags,
+		      const char *options)
+{
+	const int device = fuse_device_open(by);
+
+	if (device < 0 || !fuse_device_mount_on(by, device, source, folder, flags, options))
+		return device;
+	close(device);
+	return -1;
+}
